@@ -1,9 +1,9 @@
 # Builds, checks, installs and packs devdry.
 #
-# Only a proved program is built, so the first `make` proves every crate that it stands on, which
-# takes more than an hour on four processors; after a change what changed is proved again, and what stands on it.
-# Crates that don't stand on one another are proved side by side: `make JOBS=1` proves them one behind
-# another, where memory is short.
+# Only a proved program is built, so the first `make` proves every crate that the program depends on, which takes more
+# than an hour on four processors. After a change, the changed crates are proved again, and those that depend on them.
+# Crates that don't depend on one another are proved side by side: `make JOBS=1` proves them one after another, if
+# memory is short.
 
 PREFIX ?= /usr/local
 DESTDIR ?=
@@ -13,57 +13,60 @@ BASHDIR ?= $(PREFIX)/share/bash-completion/completions
 ZSHDIR ?= $(PREFIX)/share/zsh/site-functions
 FISHDIR ?= $(PREFIX)/share/fish/vendor_completions.d
 
-# Where devdry-capture looks for its second step, by the folder that it is in itself.
+# Where devdry-capture looks for its second step, relative to its own folder.
 CAPTUREDIR = $(BINDIR)/../share/devdry
 
-# The program that is installed and packed. It is built first, unless another that is there is named, by its
-# whole path.
+# The program that is installed and packed. It is built first, unless this is set to the absolute path of another
+# program that exists.
 PROGRAM ?= build/devdry
 
-# The toolchain: `rt` on PATH, or else where it is installed.
+# The toolchain: `rt` on PATH, or otherwise where it is installed.
 RT ?= $(shell command -v rt || echo /opt/rattle/bin/rt)
 
-# How many crates are proved side by side: one a processor and two that wait for those below them, as many as memory
-# holds (a proof takes 1 to 3 GB).
+# How many crates are proved side by side: one for each processor and two that wait for those below them, or as many as
+# memory allows (a proof takes 1 to 3 GB).
 JOBS ?= $(shell awk -v most=$$(($$(nproc) + 2)) '/^MemAvailable/ { fit = int($$2 / 3000000); print fit < 1 ? 1 : fit < most ? fit : most }' /proc/meminfo)
 
-# The program's crate and those that it stands on, by crates.txt (a line `name: crate crate ..` for each, lowest
+# The program's crate and those that it depends on, from crates.txt (a line `name: crate crate ..` for each, lowest
 # first), and their files.
 CRATES := $(shell tac crates.txt | awk -F '[: ]+' 'BEGIN { below["devdry"] } $$1 in below { print $$1; for (i = 2; i <= NF; i++) below[$$i] }')
 FILES := $(shell find $(wildcard $(foreach crate,$(CRATES),$(addprefix crates/$(crate)/,src specs proofs))) -type f)
 
-# What a proof rests on beside the crates' own files: the kit.
+# What a proof depends on apart from the crates' own files: the kit.
 KIT := $(wildcard $(dir $(realpath $(RT)))../KIT-ID)
 
 .PHONY: all check check-uses mutants install uninstall deb clean
 
 all: build/devdry
 
-# Proves each crate that the program stands on, where one of its files or of those below it has changed, and builds the
-# program. A line tells of each crate that is done; what was said of all stands in build/proofs.log. `rt all test` proves the
-# program as it builds it, where `rt all check` would prove it once and `rt run` once more; it then runs the program without
-# words, which ends in 2. So it is `rt run` that tells whether a proved program is there: it builds it again where not.
+# Proves each crate that the program depends on, if one of its files or of those below it has changed, and builds the
+# program. A line is printed for each crate that is done; build/proofs.log has the whole output. `rt all test` proves the
+# program while it builds it; `rt all check` would prove it once, and `rt run` once more. `rt all test` then runs the
+# program without words, which ends in 2. So `rt run` decides whether there is a proved program: if not, it builds it
+# again.
 build/devdry: $(FILES) crates.txt $(KIT) | build
 	@cd crates/devdry && $(RT) all test --jobs $(JOBS) 2>&1 | tee $(CURDIR)/build/proofs.log | \
 	    awk -v all=$(words $(CRATES)) '/^== [a-z_]+$$/ && $$2 != "summary" { print ++done " of " all ": " $$2; fflush() }'
+	@if grep -q '^rt: mend these first' build/proofs.log; then cat build/proofs.log; \
+	    echo 'make: the sources were not passed: if nothing is named above, memory ran out (that step takes up to 13 GB)'; exit 1; fi
 	@cd crates/devdry && $(RT) run -- --version || { cat $(CURDIR)/build/proofs.log; exit 1; }
 	@cp crates/devdry/out/devdry $@
 
 build:
 	@mkdir -p $@
 
-# Proves every crate from nothing, tries each edit that has to be refused, and runs the tests and the
-# program; then what a user meets beside that, over the program that was built.
+# Proves every crate from nothing, tries each edit that has to be refused, and runs the tests and the program; then
+# checks what a user meets apart from that, with the program that was built.
 check:
 	tests/all.sh $(RT)
 
-# What a user meets beside the proofs: less than a minute.
+# What a user meets apart from the proofs: about a minute.
 check-uses: $(PROGRAM)
 	tests/run.sh $(PROGRAM)
 
 # Tries the wrong bodies that the prover has to refuse and that `make check` leaves out, those in crates/*/mutants: to
-# be run for each crate that a change touches, as `make mutants NAME="text_core hwdb_core"`, of what is committed.
-# Without NAME it tries those of all crates, which takes an hour where their proofs are kept.
+# be run for each crate that a change touches, such as `make mutants NAME="text_core hwdb_core"`, on what is committed.
+# Without NAME it tries those of all crates, which takes an hour if their proofs are kept.
 mutants:
 	RT=$(RT) tests/mutants.py $(NAME)
 
@@ -77,7 +80,7 @@ install: $(PROGRAM)
 	install -D -m 644 -t $(DESTDIR)$(ZSHDIR) completions/_*
 	install -D -m 644 -t $(DESTDIR)$(FISHDIR) completions/*.fish
 
-# Takes away just what `install` puts there.
+# Removes just what `install` puts there.
 uninstall:
 	rm -f $(addprefix $(DESTDIR)$(BINDIR)/,devdry devdry-capture) $(DESTDIR)$(CAPTUREDIR)/devdry-capture.awk
 	rm -f $(patsubst man/%,$(DESTDIR)$(MANDIR)/man1/%,$(wildcard man/*.1))

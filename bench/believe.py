@@ -1,14 +1,14 @@
 #!/usr/bin/env python3
-"""How long the definitions are that a reader has to believe, and whether docs/architecture.md says so.
+"""Counts the lines of the definitions that a reader has to believe, and checks whether docs/architecture.md says so.
 
 usage: bench/believe.py [--write]
 
 The first table of the page with a column of lines names the files of specs/ to believe, crate by crate; its last
 sentence has their sum. Imports, blank lines and comments don't count. The next table names files that are used there and
-that a law or a contract compares with the files of the first. Prints the lines of each crate and their sum. A line
-`wrong: ..`, and status 1, for each count that is otherwise on the page, for each file that it names and that is not
-there, and for each file that it does not name: one that the definition of a run, crates/devdry/specs/Runs.antt, uses,
-in one step or in many. With --write the counts of the page are mended first.
+that a law or a contract compares with the files of the first. Prints the lines of each crate and their sum. Prints a line
+`wrong: ..`, and ends in status 1, for each count that differs on the page, for each file that it names and that does not
+exist, and for each file that it does not name: one that the definition of a run, crates/devdry/specs/Runs.antt, uses, in
+one step or in many. With --write the counts of the page are corrected first.
 """
 import re
 import sys
@@ -35,7 +35,7 @@ def lines_of(crate, names):
 
 
 def used_by(start):
-    """The files that a file uses, in one step or in many, and itself."""
+    """The files that a file uses, in one step or in many, and the file itself."""
     found, ahead = set(), [start]
     while ahead:
         at = ahead.pop()

@@ -2,15 +2,15 @@
 """Asks the real `udevadm test-builtin` of systemd 257 what usb_id, path_id, input_id and net_id make of devices, and prints where
 `devdry events --udev` differs from it: in a property, or in whether the import is done.
 
-Asked are the cases of tests/tables/builtin_*.py, then each device of each RECORD, in a block by `tools/devdry-capture --kernel`.
-At last `udevadm test` tells what all rules and the whole database of ROOT make of a USB disk, a serial adapter, an NVMe disk, a
-mouse, a touchpad and a PCI network card.
+It asks for the cases of tests/tables/builtin_*.py, then for each device of each RECORD, in a block by `tools/devdry-capture
+--kernel`. Last, `udevadm test` reports what all rules and the whole database of ROOT make of a USB disk, a serial adapter, an
+NVMe disk, a mouse, a touchpad and a PCI network card.
 
-Not asked: cases whose blocks lack what each machine has (`host*`, physfn), cases in which devdry is known to answer otherwise,
-and devices without a subsystem, which have no events.
+Not asked for: cases whose blocks lack what each machine has (`host*`, physfn), cases in which devdry is known to give another
+answer, and devices without a subsystem, which have no events.
 
 usage: bench/builtins.py ROOT [RECORD..]
-ROOT has udev 257 in it (bench/udev_root.sh unpacks it); chroot and unshare take root, and the helper of bench/udev_asking.py takes
+ROOT has udev 257 in it (bench/udev_root.sh unpacks it); chroot and unshare need root, and the helper of bench/udev_asking.py needs
 gcc. A RECORD is /sys or a folder like it, or a file that umockdev-record printed. The program is build/devdry, or PROGRAM.
 """
 import os
@@ -28,16 +28,16 @@ from tables.kinds.builtin_rows import devdry_lines, importing, without_empty
 
 TABLES = {"usb_id": builtin_usb, "path_id": builtin_path, "input_id": builtin_input, "net_id": builtin_net}
 WHOLE = [USB_DISK, SERIAL_ADAPTER, NVME_DISK, MOUSE, TOUCHPAD, PCI_CARD]
-# Binds a record to the root's folder sys, to be read alone, for the run of a command in the root.
+# Binds a record to the root's folder sys, read-only, while a command runs in the root.
 BOUND = 'mkdir -p "$0/sys" && mount --bind "$1" "$0/sys" && mount -o remount,bind,ro "$0/sys" && shift && exec chroot "$0" "$@"'
 
 
 def compared(lines):
-    """The lines of an answer that are compared: properties, but DRIVER, which is devdry's alone."""
+    """The lines of an answer that are compared: properties, except for DRIVER, which only devdry has."""
     return sorted(line for line in lines if line.startswith(b"env ") and not line.startswith(b"env DRIVER="))
 
 
-def told_by_udevadm(root, builtin, block, record):
+def reported_by_udevadm(root, builtin, block, record):
     """What the real builtin makes of the device of a block, over the folder of a record or one made of the block."""
     action, devices = devices_of(block) if record else make_sysfs(root, block)
     command = ["/usr/bin/udevadm", "test-builtin", f"--action={action}", builtin, "/sys" + devices[0]["P"][0]]
@@ -49,7 +49,7 @@ def told_by_udevadm(root, builtin, block, record):
     return compared(without_empty(block, devdry_lines(["failed" if done.returncode else "done", *properties])))
 
 
-def told_by_devdry(builtin, blocks):
+def reported_by_devdry(builtin, blocks):
     """The lines of the program's answers to blocks."""
     with tempfile.NamedTemporaryFile(suffix=".rules") as rules:
         rules.write(os.fsencode(importing(builtin)))
@@ -59,10 +59,10 @@ def told_by_devdry(builtin, blocks):
 
 
 def compare(root, what, builtin, blocks, record=None):
-    """How many blocks a builtin answers otherwise; each is told."""
+    """How many blocks a builtin answers differently; each is reported."""
     wrong = done = noted = 0
-    for block, ours in zip(blocks, told_by_devdry(builtin, blocks), strict=True):
-        theirs = told_by_udevadm(root, builtin, block, record)
+    for block, ours in zip(blocks, reported_by_devdry(builtin, blocks), strict=True):
+        theirs = reported_by_udevadm(root, builtin, block, record)
         done += b"env DONE=1" in theirs
         noted += any(line.startswith(b"note ") for line in ours)
         if theirs != compared(ours):

@@ -1,17 +1,17 @@
 #!/usr/bin/env python3
-"""Whether what `events --why` and `events --sources` tell of a distribution's rules is what its events come to.
+"""Checks whether what `events --why` and `events --sources` say about a distribution's rules is what its events result in.
 
-Each of some devices is asked four times: without an option, with --why of every rules file, with --sources, and with both.
-Without its lines `why` an answer has to be that without --why, byte for byte, and without its sources that without
---sources. Of each rule just one end is told. A rule that stops has a key that fails above that, one that reached its end
-has none, and a jump is one of a rule above whose end was reached. And the two options agree: what a line comes from has
-told so in its course. All that is asked over the distribution's database, and once more over none: then each line, with
-what is told and where it comes from, has to be that of a plain reading of the rules (plain_courses.py).
+Each of some devices is asked for four times: without an option, with --why of every rules file, with --sources, and with both.
+Without its `why` lines an answer has to be that without --why, byte for byte, and without its sources that without
+--sources. Just one end is reported for each rule. A rule that stops has a key that fails above that, one that reached its end
+has none, and a jump is one of a rule above whose end was reached. And the two options agree: the rule that a line comes from
+reports the line in its course. All this is asked over the distribution's database, and once more without one: then each line,
+with what is reported and where it comes from, has to be that of a plain reading of the rules (plain_courses.py).
 
-What is counted is printed, and then the time that an event takes with each option, beside that of the start.
+The counts are printed, and then the time that an event takes with each option, and the time of the start.
 
 usage: courses.py PROGRAM ROOT [COUNT]    ROOT has rules and a database, as tools that unpack packages leave them; COUNT
-devices of this machine are asked beside those of devices.py, 20 unless another number is given
+devices of this machine are asked for in addition to those of devices.py, 20 by default
 """
 import collections
 import os
@@ -27,11 +27,11 @@ from timing import Run, least
 
 TOP = os.path.dirname(os.path.dirname(os.path.realpath(__file__)))
 FOLDERS = ("etc", "run", "usr/local/lib", "usr/lib")
-# How often the events are answered anew where they are timed.
+# How often the events are answered again when they are timed.
 ROUNDS = 20
-# A text that is longer is cut where it is told.
+# A longer text is cut where it is reported.
 SHOWN = 200
-# The faults that leave their line a rule: of a label or a jump alone.
+# The faults after which their line still has a rule: one of a label or a jump alone.
 KEPT = ("V7", "V8")
 ENDS = ("stops there", "reached its end", "passed over by GOTO of ", "not read: ")
 WORDS = "name owner group mode priority watch nowatch persist label link tag env attr sysctl run".split()
@@ -41,7 +41,7 @@ Why = collections.namedtuple("Why", "file line text")
 
 
 def rules_files(root):
-    """The rules files of a root by their names, as the program takes them."""
+    """The rules files of a root by their names, as the program reads them."""
     found = {}
     for folder in FOLDERS:
         path = os.path.join(root, folder, "udev/rules.d")
@@ -52,7 +52,7 @@ def rules_files(root):
 
 
 def devices_of_this_machine(count):
-    """Blocks of so many of its devices, of as many subsystems as there are."""
+    """Blocks of so many devices of this machine, of as many subsystems as there are."""
     words = [f"{TOP}/tools/devdry-capture", "--kernel", "--all"]
     captured = subprocess.run(words, stdout=subprocess.PIPE, stderr=subprocess.DEVNULL, check=False).stdout.decode("latin-1")
     kinds = collections.defaultdict(list)
@@ -82,7 +82,7 @@ class Runs:
         return [answer.split("\n") for answer in ran.stdout.decode("latin-1").split("\n\n")[:-1]], ran.stderr.decode("latin-1")
 
     def times(self, blocks):
-        """What the start takes, and in each way an event, in milliseconds."""
+        """What the start takes, and what an event takes in each way, in milliseconds."""
         for name, rounds in (("once", 1), ("often", ROUNDS + 1)):
             with open(f"{self.folder}/{name}", "w", encoding="latin-1") as file:
                 file.write("".join(f"{block}\n\n" for block in blocks) * rounds)
@@ -94,7 +94,7 @@ class Runs:
 
 
 def read_plainly(files, messages):
-    """The rules of the files as the plain reading has them, and what is told of lines that are not read."""
+    """The rules of the files as the plain reading has them, and what is reported about lines that are not read."""
     not_read = {}
     for said in messages.splitlines():
         found = re.fullmatch(r"(.+?):(\d+): ((V\d+) .*)", said)
@@ -108,7 +108,7 @@ def read_plainly(files, messages):
 
 
 def read_why(line):
-    """A line that tells why, in its parts."""
+    """The parts of a line that says why."""
     place = re.fullmatch(r"why (.+?):(\d+): (.*)", line)
     return Why(place[1], int(place[2]), place[3])
 
@@ -137,8 +137,8 @@ def end_faults(courses, rules, counts):
         yield place, "is a rule that nothing is told of, or none"
 
 
-def told_as(item):
-    """How a course tells what a line of an answer says: one of these texts stands in it."""
+def reported_as(item):
+    """How a course reports what a line of an answer says: it contains one of these texts."""
     word, _, rest = item.partition(" ")
     name, _, value = rest.partition("=")
     if word in ("name", "owner", "group", "mode", "priority"):
@@ -155,7 +155,7 @@ def told_as(item):
 
 
 def source_faults(plain, sources, courses, counts):
-    """What is wrong with the lines of an answer behind where they come from; those that come from rules are counted."""
+    """What is wrong with the lines of an answer after their sources; those that come from rules are counted."""
     if len(sources) != len(plain):
         yield "the answer", "has more or fewer lines with --sources"
     for line, sourced in zip(plain, sources):
@@ -168,12 +168,12 @@ def source_faults(plain, sources, courses, counts):
         elif found[1]:
             counts["lines from rules"] += 1
             texts = courses[found[1], int(found[2])]
-            if not any(told in text for told in told_as(line) for text in texts):
+            if not any(reported in text for reported in reported_as(line) for text in texts):
                 yield line, f"is not told by {found[1]}:{found[2]}"
 
 
 def answer_faults(answers, rules, counts):
-    """What is wrong with the answers to one block, by the way in which they were asked."""
+    """What is wrong with the answers to one block, by the way in which they were asked for."""
     plain, why = answers["plain"], answers["why"]
     end = len([line for line in why if not line.startswith("why ")])
     if why[:end] != plain:
@@ -181,15 +181,15 @@ def answer_faults(answers, rules, counts):
     if answers["both"] != answers["sources"] + why[end:]:
         yield "the answer", "has other lines with both options"
     courses = collections.defaultdict(list)
-    for told in map(read_why, why[end:]):
-        courses[told.file, told.line].append(told.text)
+    for reported in map(read_why, why[end:]):
+        courses[reported.file, reported.line].append(reported.text)
     counts["keys"] += sum(map(len, courses.values())) - len(courses)
     yield from source_faults(plain, answers["sources"], courses, counts)
     yield from end_faults(courses, rules, counts)
 
 
 def compare(runs, blocks, files, plainly):
-    """Asks for all blocks in each way, and tells what is wrong; gives how much is, and what was counted."""
+    """Asks for all blocks in each way, and reports what is wrong; returns how much is, and what was counted."""
     answers, messages = {}, ""
     for way in runs.options:
         answers[way], messages = runs.answers(way, blocks)

@@ -1,7 +1,7 @@
-"""Runs the program over files that are damaged by a seed: no run may crash, hang or end in a status of its own, and an
-index is refused as a plain reading of its bytes says, or answers as that does.
+"""Runs the program over files that are damaged from a seed: no run may crash, hang or end in a status of its own, and an
+index is refused, or answers, as a plain reading of its bytes says.
 
-usage: damaged.py PROGRAM COUNT SEED [KIND]    COUNT files of each kind, or of rules, blocks, database or indexes alone
+usage: damaged.py PROGRAM COUNT SEED [KIND]    COUNT files of each kind, or only of rules, blocks, database or indexes
 """
 import collections
 import multiprocessing
@@ -22,7 +22,7 @@ PATIENCE = 60
 BATCH = 250
 # How many cases a processor takes at once.
 SHARE = 250
-# Of so many damaged indexes each fault has to be met.
+# Each fault has to occur among so many damaged indexes.
 MANY = 2000
 
 RULES = rb'''# Each key, and each kind of value.
@@ -132,14 +132,14 @@ class Runs:
         self.ends, self.faults, self.slowest = collections.Counter(), [], 0
 
     def write(self, name, text):
-        """Writes a file; answers its path."""
+        """Writes a file; returns its path."""
         path = os.path.join(self.folder, name)
         with open(path, "wb") as file:
             file.write(text)
         return path
 
     def spawn(self, words, source, outputs):
-        """Runs the program; answers its status and the processor time that it took."""
+        """Runs the program; returns its status and the processor time that it took."""
         child = os.posix_spawn(self.program, [self.program, *words], {}, setsigdef=[signal.SIGPIPE], file_actions=[
             (os.POSIX_SPAWN_OPEN, 0, source, os.O_RDONLY, 0),
             *((os.POSIX_SPAWN_OPEN, number, path, os.O_WRONLY | os.O_CREAT | os.O_TRUNC, 0o600)
@@ -151,10 +151,10 @@ class Runs:
         return os.waitstatus_to_exitcode(status), used.ru_utime + used.ru_stime
 
     def run(self, case, words, source=os.devnull, outputs=(os.devnull, os.devnull)):
-        """Runs the program; what it must not do is noted for the case. Answers its status."""
+        """Runs the program; what it must not do is noted for the case. Returns its status."""
         status, took = self.spawn(words, source, outputs)
         if took > SECOND:
-            # A busy machine may count what the run did not take; what is slow is slow again.
+            # A busy machine may count what the run did not take; what is really slow is slow again.
             status, took = self.spawn(words, source, outputs)
         self.slowest = max(self.slowest, took)
         if status not in STATUSES or took > SECOND:
@@ -162,7 +162,7 @@ class Runs:
         return status
 
     def answer(self, case, words, source=os.devnull):
-        """Runs the program; answers its status and what it wrote to its output and its error output."""
+        """Runs the program; returns its status and what it wrote to its output and its error output."""
         outputs = [os.path.join(self.folder, name) for name in ("output", "errors")]
         written = [self.run(case, words, source, outputs)]
         for path in outputs:
@@ -196,7 +196,7 @@ def indexes(runs, chance, case):
     damaged_indexes.compare(runs, chance, case, damaged_indexes.damaged(chance, index), chance.choice(modaliases))
 
 
-# What each kind is, who makes a case of it, and how many files that is.
+# What each kind is, the function that makes a case of it, and how many files a case has.
 KINDS = {
     "rules": ("rules files", rules, BATCH), "blocks": ("blocks, by rules of which half are damaged", blocks, 1),
     "database": ("database files", hwdb, BATCH), "indexes": ("indexes", indexes, 1),
@@ -228,8 +228,8 @@ def main(program, count, seed, kinds):
                 slowest = max(slowest, took)
             if kind == "indexes" and count >= MANY:
                 faults += damaged_indexes.missing(ends)
-            told = ", ".join(f"{ends[end]} {end}" for end in sorted(ends))
-            print(f"{count} damaged {KINDS[kind][0]}: {told}; the slowest {slowest:.2f} s; "
+            reported = ", ".join(f"{ends[end]} {end}" for end in sorted(ends))
+            print(f"{count} damaged {KINDS[kind][0]}: {reported}; the slowest {slowest:.2f} s; "
                   f"{time.monotonic() - begin:.0f} s in all", flush=True)
     for fault in faults[:20]:
         print(fault)

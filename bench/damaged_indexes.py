@@ -1,7 +1,7 @@
-"""Small indexes, damaged by a seed: each is refused as a plain reading of its bytes says, or answers as that does.
+"""Small indexes, damaged from a seed: each is refused, or answers, as a plain reading of its bytes says.
 
-Some of what is done goes together, as text that grows with the number that tells how much there is, so that many of the
-files are taken and have to answer. The plain reading (plain_index.py) shares nothing with what it judges.
+Some of the changes go together, such as text that grows along with the number that gives its length, so that many of the
+files are accepted and have to answer. The plain reading (plain_index.py) shares nothing with the program.
 """
 import functools
 import os
@@ -11,7 +11,7 @@ import tempfile
 
 import plain_index
 
-# Databases, as their files, and the modaliases that their indexes are asked: without an entry, with one, with patterns
+# Databases, as their files, and the modaliases that their indexes are asked for: without an entry, with one, with patterns
 # that fit one text in many ways, with sets, and one as distributions have it.
 SAMPLES = (
     ({"empty.hwdb": "# nothing\n"}, (b"", b"a")),
@@ -33,12 +33,12 @@ NODE, SET = 24, 32
 
 
 def number_at(data, at):
-    """The number at a place; less of one behind the end."""
+    """The number at a place; after the end of the file there are fewer bytes."""
     return int.from_bytes(data[at:at + FIELD], "little")
 
 
 def set_number(data, at, number):
-    """Sets the number at a place; behind the end nothing changes."""
+    """Sets the number at a place; after the end nothing changes."""
     if at + FIELD <= len(data):
         data[at:at + FIELD] = (number % 2 ** 32).to_bytes(FIELD, "little")
 
@@ -47,8 +47,8 @@ def tables_of(index):
     """The nodes, the values and the sets of an undamaged index: where each table begins, its records and their length."""
     version, nodes, values, sets = struct.unpack_from("<4I", index, 8)
     length = {1: 20, 2: 32}[version]
-    behind = 32 + NODE * nodes
-    return (32, nodes, NODE), (behind, values, length), (behind + length * values, sets, SET)
+    following = 32 + NODE * nodes
+    return (32, nodes, NODE), (following, values, length), (following + length * values, sets, SET)
 
 
 def some_record(chance, table):
@@ -66,7 +66,7 @@ def change_length(chance, tables, data):
 
 
 def change_text(chance, tables, data):
-    """Cuts the end of the text or lets it grow, and tells so in the header."""
+    """Cuts the end of the text or lets it grow, and says so in the header."""
     before = len(data)
     if chance.randrange(2):
         del data[before - min(before, chance.randrange(number_at(data, 24) % 100 + 1)):]
@@ -76,7 +76,7 @@ def change_text(chance, tables, data):
 
 
 def drop_record(chance, tables, data):
-    """Takes the last record out of a table, and tells so in the header."""
+    """Removes the last record of a table, and says so in the header."""
     number = chance.randrange(3)
     begin, count, length = tables[number]
     if count:
@@ -85,7 +85,7 @@ def drop_record(chance, tables, data):
 
 
 def move_records(chance, tables, data):
-    """Lets two records of a table change places, or puts a copy of the one at the other's place."""
+    """Exchanges two records of a table, or copies one to the place of the other."""
     table = chance.choice(tables)
     first, second, length = some_record(chance, table), some_record(chance, table), table[2]
     one, other = data[first:first + length], data[second:second + length]
@@ -96,7 +96,7 @@ def move_records(chance, tables, data):
 
 
 def move_between_nodes(chance, tables, data):
-    """Lets one node have a child or a value more and another one less, and mends what has to follow from it."""
+    """Lets one node have a child or a value more and another one less, and corrects what has to follow from it."""
     nodes = tables[0]
     at = chance.choice((12, 20))
     less, more = some_record(chance, nodes) + at, some_record(chance, nodes) + at
@@ -137,7 +137,7 @@ def change_number(chance, tables, data):
 
 
 def copy_number(chance, tables, data):
-    """Writes a number of a node or a value into another: two values share a text, or get one order."""
+    """Writes a number of a node or a value into another: two values share a text, or have the same order."""
     table = tables[chance.randrange(2)]
     at = chance.randrange(table[2] // FIELD) * FIELD
     set_number(data, some_record(chance, table) + at, number_at(data, some_record(chance, table) + at))
@@ -149,7 +149,7 @@ def change_byte(chance, tables, data):
         data[chance.randrange(len(data))] = chance.randrange(256)
 
 
-# What is done to an index, and how often one thing is beside the others.
+# The changes to an index, and how often each is made in comparison with the others.
 WAYS = {
     change_length: 1, change_text: 2, drop_record: 1, move_records: 4, move_between_nodes: 3, level_orders: 1,
     change_number: 3, copy_number: 4, change_byte: 3,
@@ -157,7 +157,7 @@ WAYS = {
 
 
 def damaged(chance, index):
-    """A copy of an index to which up to three things were done, or seldom none."""
+    """A copy of an index with up to three changes, or seldom none."""
     data = bytearray(index)
     for way in chance.choices(list(WAYS), WAYS.values(), k=chance.choice((0,) + (1, 2, 3) * 5)):
         way(chance, tables_of(index), data)
@@ -165,7 +165,7 @@ def damaged(chance, index):
 
 
 def in_version_1(index):
-    """An index as version 1 has it: its values end behind their orders."""
+    """An index as version 1 has it: its values end after their orders."""
     _, (begin, count, length), _ = tables_of(index)
     values = b"".join(index[at:at + 20] for at in range(begin, begin + count * length, length))
     return index[:8] + struct.pack("<I", 1) + index[12:begin] + values + index[begin + count * length:]
@@ -223,5 +223,5 @@ def compare(runs, chance, case, index, modalias):
 
 
 def missing(ends):
-    """The faults that no damaged index had: then the damage is not what it should be."""
+    """The faults that no damaged index had: if there are any, the changes are not what they should be."""
     return [f"no index was refused: {fault}" for fault in plain_index.FAULTS if not ends[f"refused: {fault}"]]

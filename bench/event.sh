@@ -1,11 +1,11 @@
 #!/usr/bin/env bash
-# How long one event takes, by the rules as they are read and by their program, both in turns. Two times are told of
-# each: evaluation alone, by one block that is read once and evaluated 2,001 times and once, and the whole event, its
-# block read each time, by 2,001 blocks and by one; the difference, divided, is what each takes. The rules are made
-# ones of which most fail at their first match, 4,600, half of them and twice as many; by each first key alone, and
-# what a rule costs where all of them stay in the processor's cache; the same rules where every tenth one changes a
-# property, so that one sees what a rule costs whose end is reached; then the rules of a distribution, once and
-# copied to about 200 files, with events as a machine has them. The program is crates/bench, which is proved first.
+# How long one event takes, by the rules as they are read and by their program, which take turns. Two times are reported
+# for each: evaluation alone, by one block that is read once and evaluated 2,001 times and once, and the whole event, with
+# its block read each time, by 2,001 blocks and by one; the difference, divided, is what each takes. The rules are made up,
+# and most fail at their first match: 4,600, half of them and twice as many; by each first key alone, with what a rule costs
+# if all of them stay in the processor's cache; the same rules with every tenth one changing a property, to show what a rule
+# costs whose end is reached; then the rules of a distribution, once and copied to about 200 files, with events as a machine
+# has them. The program is crates/bench, which is proved first.
 # usage: bench/event.sh [DIR]    DIR holds usr/lib/udev/rules.d, as tools that unpack packages leave it
 set -euo pipefail
 root=$(cd "${1:-/nonexistent}" 2> /dev/null && pwd || true)

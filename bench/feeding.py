@@ -11,19 +11,19 @@ PIPE = 65536
 
 
 def unread(pipe):
-    """How many bytes of a pipe wait for their reader."""
+    """How many bytes in a pipe wait for their reader."""
     return struct.unpack("i", fcntl.ioctl(pipe, termios.FIONREAD, b"\0\0\0\0"))[0]
 
 
 def peak_of(process):
-    """The greatest memory in MB that a process has had so far. (What `wait4` tells counts this program, too.)"""
+    """The most memory in MB that a process has had so far. (What `wait4` reports includes this program.)"""
     with open(f"/proc/{process}/status") as status:
         kb = next(line.split()[1] for line in status if line.startswith("VmHWM"))
     return int(kb) / 1024
 
 
 def feed(command, block, count, answers=os.devnull):
-    """The seconds of a run over so many of a block, and the peak memory in MB when the last was read.
+    """The seconds of a run over so many copies of a block, and the peak memory in MB when the last was read.
 
     `block` is bytes, and `answers` the path of the file for what the run prints.
     """

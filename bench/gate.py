@@ -1,12 +1,12 @@
 #!/usr/bin/env python3
-"""Runs the gate in a clean clone, and tells what each crate costs it: the processor minutes of its proof, of its tests and of
-its wrong bodies, and of all together, with the clock.
+"""Runs the gate in a clean clone, and reports what each crate costs it: the processor minutes of its proof, of its tests and of
+its wrong bodies, and of all together, with the time by the clock.
 
-While it runs, each process below it is looked at twice a second; what a process used behind the last look is missed, so that
+While the gate runs, each process below it is looked at twice a second; what a process uses after the last look is missed, so
 the sum of the crates is a little less than the whole, which the system counts. What an earlier run on this machine kept is not
 proved again, and costs nothing here: the last lines of the gate say how much was done.
 
-usage: bench/gate.py [PROCESSORS]    held to so many processors, else to those that there are
+usage: bench/gate.py [PROCESSORS]    held to so many processors, by default to all
 """
 import os
 import resource
@@ -22,7 +22,7 @@ TICKS = os.sysconf("SC_CLK_TCK")
 
 
 def processes():
-    """The processes that there are: number to parent, start, processor seconds, words and folder."""
+    """The existing processes: number to parent, start, processor seconds, words and folder."""
     found = {}
     for name in filter(str.isdigit, os.listdir("/proc")):
         try:
@@ -56,14 +56,14 @@ def purpose(words, folder, clone):
 
 
 def watched(run, clone):
-    """Waits for a run, and gives the processor seconds that were seen for each crate and purpose."""
+    """Waits for a run, and returns the processor seconds that were seen for each crate and purpose."""
     seen = {}
     while run.poll() is None:
         found = processes()
         for number in below(found, run.pid):
             _, start, used, words, folder = found[number]
             what = purpose(words, folder, clone)
-            # a process that goes on as a linker, say, still works for its crate
+            # a process that goes on as, for example, a linker still works for its crate
             if what[1] == "other" and (number, start) in seen:
                 what, _ = seen[number, start]
             seen[number, start] = (what, used)
@@ -75,7 +75,7 @@ def watched(run, clone):
 
 
 def main(words):
-    """Runs the gate, prints the table, and answers whether the gate passed."""
+    """Runs the gate, prints the table, and returns whether the gate passed."""
     held = ["taskset", "-c", f"0-{int(words[0]) - 1}"] if words else []
     with tempfile.TemporaryDirectory() as folder:
         clone = f"{folder}/devdry"

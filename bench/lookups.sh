@@ -1,8 +1,8 @@
 #!/usr/bin/env bash
-# What modaliases cost that `query -` looks up in one run: processor time, and peak memory, of 1,000, 10,000 and 100,000
-# of them, over the index of a distribution's database and over its files, and of each of them without the start. Beside
-# that, `systemd-hwdb query` for one modalias, where it is there. The modaliases are of USB and PCI devices, no two of
-# them the same, of mice and of keyboards, by turns.
+# What modaliases cost that `query -` looks up in one run: processor time and peak memory for 1,000, 10,000 and 100,000 of
+# them, over the index of a distribution's database and over its files, and for each of them without the start. For
+# comparison, `systemd-hwdb query` for one modalias, if it is installed. The modaliases are of USB and PCI devices, no two
+# of them the same, of mice and of keyboards, in turns.
 # usage: bench/lookups.sh DIR    DIR holds usr/lib/udev/hwdb.d; the program is build/devdry, or PROGRAM
 set -euo pipefail
 root=$(cd "${1:?usage: bench/lookups.sh DIR}" && pwd)

@@ -1,8 +1,8 @@
 #!/usr/bin/env bash
-# What the program does with a pipe, with a folder whose names are no text, with a folder that it may
-# not enter, and with files, inputs and outputs that fail half way: a test of a crate can make none of them. Says which
-# case goes wrong, and then ends in 1.
-# usage: bench/odd_files.sh [PROGRAM]    PROGRAM is build/devdry unless one is given; as root it needs setpriv
+# What the program does with a pipe, with a folder whose names are not text, with a folder that it may not enter, and with
+# files, inputs and outputs that fail half way: a test of a crate can make none of these. Says which case goes wrong, and
+# then ends in 1.
+# usage: bench/odd_files.sh [PROGRAM]    PROGRAM is build/devdry by default; as root it needs setpriv
 set -euo pipefail
 top=$(cd "$(dirname "$0")/.." && pwd)
 program=${1:-$top/build/devdry}
@@ -13,7 +13,7 @@ folder=$work/etc/udev/hwdb.d
 mkdir -p "$folder"
 
 failed=0
-# expect CASE STATUS OUTPUT COMMAND..: the command ends so and writes this, its errors among it
+# expect CASE STATUS OUTPUT COMMAND..: the command ends in this way and writes this, errors included
 expect() {
     local case=$1 status=$2 output=$3 got code=0
     shift 3
@@ -26,7 +26,7 @@ expect() {
     fi
 }
 
-# A pipe gives a little at a time, and tells no length.
+# A pipe gives a little at a time, and has no length.
 mkfifo "$work/pipe"
 { head -c 2097152 < <(yes '# a line that is skipped'); printf '\nm\n A=1\n'; } >"$work/pipe" &
 expect "a pipe of 2 MB" 0 "A=1" "$program" query m "$work/pipe"
@@ -48,7 +48,7 @@ chmod 755 "$folder"
 to_full() { "$@" >/dev/full; }
 expect "help to an output that is full" 3 "devdry: write failed" to_full "$program" --help
 
-# A file that can be opened and not read, a link to nothing, a folder that is none.
+# A file that can be opened but not read, a link to nothing, a folder that is not one.
 expect "a file that fails when it is read" 3 "devdry: cannot read /proc/self/mem" "$program" verify /proc/self/mem
 ln -s nothing "$folder/a.hwdb"
 expect "a link to nothing in a folder" 3 "devdry: cannot read $folder/a.hwdb" "$program" query -r "$work" m
@@ -64,7 +64,7 @@ from_nothing() { "$@" <&-; }
 from_half() { printf '%s' "${block%$'\n'}" | "$@"; }
 to_nothing() { printf '%s\n' "$block" | "$@" >&-; }
 blocks_to_full() { printf '%s\n' "$block" | "$@" >/dev/full; }
-# to_reader COMMAND..: more blocks than a pipe holds, whose answers are read up to the tenth byte
+# to_reader COMMAND..: more blocks than fit into a pipe, whose answers are read up to the tenth byte
 to_reader() {
     { for _ in {1..10000}; do printf '%s\n' "$block"; done | { "$@"; echo $? >"$work/status"; } 2>"$work/errors"; } | head -c 10 >"$work/head"
     cat "$work/errors" "$work/head"
@@ -78,7 +78,7 @@ expect "an output that is closed" 3 "devdry: write failed" to_nothing "${events[
 expect "answers to an output that is full" 3 "devdry: write failed" blocks_to_full "${events[@]}"
 expect "a reader that goes away" 3 $'devdry: write failed\nevent add ' to_reader "${events[@]}"
 
-# The same of `query -`: the lines of that block and the empty line after them, of which one is answered.
+# The same for `query -`: the lines of that block and the empty line after them, one of which is answered.
 printf 'P*\n A=1\n' >"$work/a.hwdb"
 lines=("$program" query - "$work/a.hwdb")
 expect "modaliases: an input that fails when it is read" 3 "devdry: read failed" from_folder "${lines[@]}"

@@ -1,7 +1,7 @@
-"""A plain reading of events: what one comes to, from which rule each line comes, and what each rule met.
+"""A plain reading of events: what an event results in, from which rule each line comes, and what each rule met.
 
-Written from docs/behaviour.md, for courses.py, to be compared with `devdry events`: it walks over the rules as they
-stand, keeps nothing beside what they change, and asks no database.
+Written from docs/behaviour.md, for courses.py, to be compared with `devdry events`: it goes through the rules as they
+are, keeps nothing except for what they change, and uses no database.
 """
 import re
 
@@ -17,7 +17,7 @@ SHORT = {"k": "kernel", "n": "number", "p": "devpath", "b": "id", "M": "major", 
 
 
 def safe(text, extra=""):
-    """A text made safe for links: whitespace becomes a space, every byte that has no place there `_`."""
+    """A text made safe for links: whitespace becomes a space, and every byte that is not allowed there `_`."""
     sequence = re.compile(
         r"[\xC2-\xDF][\x80-\xBF]|\xE0[\xA0-\xBF][\x80-\xBF]|[\xE1-\xEC\xEE\xEF][\x80-\xBF]{2}|\xED[\x80-\x9F][\x80-\xBF]"
         r"|\xF0[\x90-\xBF][\x80-\xBF]{2}|[\xF1-\xF3][\x80-\xBF]{3}|\xF4[\x80-\x8F][\x80-\xBF]{2}|\\(?=x)|[0-9A-Za-z#+\-.:=@_/" + re.escape(extra) + r"]")
@@ -42,7 +42,7 @@ class Device:
 
 
 class Event:
-    """What has become of an event: first as its block says, then by rules."""
+    """The state of an event: first as its block says, then as rules change it."""
 
     def __init__(self, block):
         self.chain, self.programs, self.constants = [], {}, {}
@@ -75,7 +75,7 @@ class Event:
         self.final, self.result, self.selected = {}, "", None
 
     def items(self):
-        """What stands, as the lines of an answer have it, in their order."""
+        """The current state, as the lines of an answer have it, in their order."""
         words = ("name", "owner", "group", "mode", "priority", "watch", "nowatch", "persist")
         items = {word: self.one[word] for word in words if word in self.one}
         for word, pairs in (("label", self.labels), ("link", dict.fromkeys(self.links, "")), ("tag", dict.fromkeys(self.tags, "")), ("env", self.env),
@@ -87,13 +87,13 @@ class Event:
         self.notes.append(f"note {rule.place}: {text}" + f": {escape(word[:WORD])}" * bool(word))
 
     def word(self, number):
-        """A word of the result, or all from it on."""
+        """A word of the result, or everything from it on."""
         found = list(re.finditer(r"[^ \t\n\v\f\r]+", self.result))
         at = int(number.rstrip("+")) - 1
         return "" if at >= len(found) else self.result[found[at].start():] if number.endswith("+") else found[at][0]
 
     def piece(self, found):
-        """What stands in place of a substitution, and whether it is a result."""
+        """What replaces a substitution, and whether it is a result."""
         device, selected = self.chain[0], self.chain[self.selected] if self.selected is not None else None
         if found[0] in ("$$", "%%"):
             return found[0][0], True
@@ -117,7 +117,7 @@ class Event:
         }[found[4] or SHORT[found[8]]](), False
 
     def render(self, template, as_link=False):
-        """A template with its substitutions made; None where that is too long."""
+        """A template with its substitutions made; None if that is too long."""
         def text(found):
             value, raw = self.piece(found)
             return value if raw or not as_link else re.sub(r"[ \t\n\v\f\r]+", "_", value.strip(WHITESPACE))
@@ -127,7 +127,7 @@ class Event:
     # Matches.
 
     def looked(self, token, at=0):
-        """What a match looks at: a kind of subject, and what stands there."""
+        """What a match looks at: a kind of subject, and its values."""
         device, key = self.chain[at], token.key.removesuffix("S") if token.key in UPWARD else token.key
         match key:
             case "ACTION": return "one", self.action
@@ -155,8 +155,8 @@ class Event:
             texts = [text.rstrip(WHITESPACE) for text in texts]
         return any(fits(token.value, text, token.blind) for text in texts) == (token.operator == "==")
 
-    def told(self, token, at=0):
-        """What a match looked at, as it is told."""
+    def reported(self, token, at=0):
+        """What a match looked at, as it is reported."""
         kind, what = self.looked(token, at)
         if kind in ("unknown", "not read"):
             return kind
@@ -168,7 +168,7 @@ class Event:
         """The search for one device, and whether it finds one."""
         table = [[self.holds(token, at) for token in rule.up] for at in range(len(self.chain))]
         for column, token in enumerate(rule.up):
-            seen = ["holds" if table[at][column] else "has none" if self.looked(token, at) == ("attribute", None) else f"fails, {self.told(token, at)}"
+            seen = ["holds" if table[at][column] else "has none" if self.looked(token, at) == ("attribute", None) else f"fails, {self.reported(token, at)}"
                     for at in range(len(self.chain))]
             course.append(f"{match_text(token)}: " + ", ".join(f"{shown(device.kernel)} {it}" for device, it in zip(self.chain, seen)))
         self.selected = next((at for at, row in enumerate(table) if all(row)), None)
@@ -191,7 +191,7 @@ class Event:
             self.note(rule, "builtin not run", words[0] if words else "")
 
     def act(self, rule, token):
-        """An act: whether it was done, and what it looked at, as it is told."""
+        """An act: whether it was done, and what it looked at, as it is reported."""
         before, done, kind = dict(self.env), False, token.attribute if token.key == "IMPORT" else token.key
         if kind in ("program", "file", "cmdline", "db"):
             self.note(rule, "import not run", kind)
@@ -224,7 +224,7 @@ class Event:
 
     # Assignments.
 
-    # What OPTIONS, the lists and single texts come to.
+    # What OPTIONS, the lists and single texts result in.
 
     def set_one(self, word, text, others=()):
         for other in others:
@@ -250,7 +250,7 @@ class Event:
         return [*now, *(it for it in given if it not in now)] if operator == "+=" else given
 
     def assign(self, rule, token, string_escape):
-        """An assignment that is not too late; gives the note that it left, if any."""
+        """An assignment that is not too late; returns the note that it left, if any."""
         key, name, operator = token.key, token.attribute, token.operator
         if key == "OPTIONS":
             return self.option(token.value)
@@ -285,7 +285,7 @@ class Event:
         return None
 
     def effect(self, rule, token, string_escape):
-        """An assignment, and what it did, as it is told."""
+        """An assignment, and what it did, as it is reported."""
         option = token.value.split("=")[0] if token.key == "OPTIONS" else None
         key = token.key if token.key in FINAL else {"link_priority": "link_priority", "watch": "watch", "nowatch": "watch"}.get(option)
         if key in self.final:
@@ -310,13 +310,13 @@ class Event:
         return ", ".join(did) or f"{key_text(token)} changes nothing"
 
     def run(self, rule):
-        """One rule over what has become of the event: what is told of it, and whether its end was reached."""
+        """One rule over the state of the event: what is reported about it, and whether its end was reached."""
         course, stop = [], "stops there"
         for token in rule.plain:
             if token.key == "SYSCTL":
                 self.note(rule, "sysctl not read", token.attribute)
             held = self.holds(token)
-            course.append(f"{match_text(token)}: {'holds' if held else 'fails'}, {self.told(token)}")
+            course.append(f"{match_text(token)}: {'holds' if held else 'fails'}, {self.reported(token)}")
             if not held:
                 return [*course, stop], False
         if rule.up and not self.search(rule, course):
@@ -329,7 +329,7 @@ class Event:
                 return [*course, stop], False
         for token in rule.results:
             held = self.holds(token)
-            course.append(f"{match_text(token)}: {'holds' if held else 'fails'}, {self.told(token)}")
+            course.append(f"{match_text(token)}: {'holds' if held else 'fails'}, {self.reported(token)}")
             if not held:
                 return [*course, stop], False
         escapes = [it.value.split("=")[1] for it in rule.sets if it.key == "OPTIONS" and it.value.startswith("string_escape=")]
@@ -346,9 +346,9 @@ def line_of(name, value):
 
 
 def answers(rules, block, not_read=()):
-    """An answer as its lines, each a source and a text, and the lines that tell of all rules, those that are not read first."""
+    """An answer as its lines, each a source and a text, and the lines about all rules, those that are not read first."""
     event = Event(block)
-    # the rule since which each item stands as it does
+    # the rule since which each item is unchanged
     since, sought, whys = {name: (value, None) for name, value in event.items().items()}, None, [f"why {line}" for line in not_read]
     for rule in rules:
         if sought and (rule.file != sought[0].file or rule.label != sought[1]):

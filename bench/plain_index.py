@@ -22,7 +22,7 @@ class Refused(Exception):
 
 
 class Plain:
-    """The tables of a file, of which the checks before `shape` hold."""
+    """The tables of a file that passes the checks before `shape`."""
 
     def __init__(self, data):
         if len(data) < HEADER:
@@ -44,7 +44,7 @@ class Plain:
         self.text = parts[3]
 
     def has_shape(self):
-        """Whether the children of all nodes follow one another behind the root, and so do their values."""
+        """Whether the children of all nodes follow one another after the root, and whether their values do."""
         children = values = 0
         for number, node in enumerate(self.nodes):
             if node.first_child != 1 + children or node.first_child <= number or node.first_value != values:
@@ -61,7 +61,7 @@ class Plain:
             for number, node in enumerate(self.nodes))
 
     def has_texts(self):
-        """Whether each key, value and name of a file lies in the text, and no key is empty."""
+        """Whether each key, value and name of a file is within the text, and no key is empty."""
         return all(
             value.key_len > 0 and value.key + value.key_len <= len(self.text)
             and value.value + value.value_len <= len(self.text) and value.file + value.file_len <= len(self.text)
@@ -101,7 +101,7 @@ class Plain:
 
 
 def read(data):
-    """The entries of a file; `Refused` where it is none."""
+    """The entries of a file; `Refused` if it has none."""
     plain = Plain(data)
     for fault, holds in (
         ("shape", plain.has_shape), ("label", plain.has_labels), ("text", plain.has_texts), ("order", plain.has_orders)):

@@ -24,7 +24,7 @@ def escape(text):
 
 
 def shown(text):
-    """A text as lines that tell why show it."""
+    """A text as lines that say why show it."""
     return '""' if not text else escape(text) if len(text) <= SHOWN else f"{escape(text[:SHOWN])}.. ({len(text)} bytes)"
 
 
@@ -44,7 +44,7 @@ def escaped_mark(found):
 
 
 def fits(choice, text, blind=False):
-    """Whether one of the patterns between bars takes the text."""
+    """Whether one of the patterns between bars fits the text."""
     found = ""
     at = 0
     while at < len(choice):
@@ -53,8 +53,8 @@ def fits(choice, text, blind=False):
         end = choice.find("]", end + 1) if c == "[" and "]" in choice[end + 1:] else 0
         bar = choice.find("|", at) if c == "[" else -1
         if end and not 0 <= bar < end:
-            turned = choice[at] in "!^"
-            found += f"[{'^' * turned}{re.sub(MARKS, escaped_mark, choice[at + turned:end])}]"
+            inverted = choice[at] in "!^"
+            found += f"[{'^' * inverted}{re.sub(MARKS, escaped_mark, choice[at + inverted:end])}]"
             at = end + 1
         else:
             found += {"*": ".*", "?": ".", "|": "|"}.get(c) or re.escape(c)
@@ -80,7 +80,7 @@ class Rule:
 
 
 def rules_of(file, text, dropped=()):
-    """The rules of a file, but for the dropped lines, with the jumps that have no later label taken away."""
+    """The rules of a file, except for the dropped lines, with the jumps that have no later label removed."""
     rules, begun, joined, continued = [], None, "", False
     for number, line in enumerate(text.split("\n"), 1):
         line = line.lstrip(" \t")

@@ -1,15 +1,16 @@
 #!/usr/bin/env python3
-"""What the program takes beside systemd 257's over the same files, and how it grows with its input, each with its aim.
+"""Compares what the program takes with what systemd 257 takes over the same files, and how it grows with its input, each with
+its aim.
 
 Each row is the least of several runs that take turns with those that it is compared with: processor time and peak memory.
 The growth rows give what one, ten and a hundred times as much of one thing takes; ten times as much should take ten times
 as long. With --instructions valgrind counts instructions in place of time, which does not depend on what else the machine
-does; the system's own are not among them, so that there is no ratio to a program that only reads. Memory is measured in a
-run of its own, as ever; it is at least what this script holds, some 16 MB.
+does; the kernel's own are not among them, so there is no ratio to a program that only reads. Memory is measured in a run
+of its own, as always; it is at least what this script holds, some 16 MB.
 
 usage: bench/ratios.py ROOT UDEV [--instructions] [WORD]
            ROOT is the root of a distribution's files: usr/lib/udev/hwdb.d and rules.d; UDEV is what bench/udev_root.sh
-           unpacked; WORD: only the rows whose names have it. The program is build/devdry, or PROGRAM. It takes cc.
+           unpacked; WORD: only the rows whose names have it. The program is build/devdry, or PROGRAM. It needs cc.
 """
 import os
 import shutil
@@ -26,7 +27,7 @@ from worst_inputs import Case, each, events, prepared, verify
 TOP = Path(__file__).resolve().parent.parent
 PROGRAM = os.path.realpath(os.environ.get("PROGRAM", TOP / "build/devdry"))
 
-# What is compared: its name; the names of the runs that it takes and of those to leave off, such as the start; how many
+# What is compared: its name; the names of the runs that it takes and of those to subtract, such as the start; how many
 # things a run is over, to give what each takes, or None for the whole run; the runs of the other program and how many
 # things these are over; and the aims, as a ratio, as time or speed, and as MB.
 Row = namedtuple("Row", "name runs start things unit beside aim most", defaults=((), None, "", (), "", None))
@@ -49,10 +50,10 @@ MODALIASES = (
     "evdev:name:AT Translated Set 2 keyboard:dmi:bvnLENOVO:bvrN1MET64W(1.49):bd11/09/2021:svnLENOVO:pn20K3S0XX00:",
     "evdev:atkbd:dmi:bvnDellInc.:bvr1.13.0:bd05/20/2021:br1.13:svnDellInc.:pnXPS139310:pvr:rvnDellInc.:rn0DXP1F:",
 )
-# How many times all of these are asked in one run, and looked up in events.
+# How many times all of these are asked for in one run, and looked up in events.
 TIMES, LOOKED = 8334, 100
 
-# A program that reads a file whole.
+# A program that reads a whole file.
 READER = r"""
 #include <fcntl.h>
 #include <stdlib.h>
@@ -69,7 +70,7 @@ int main(int count, char **words) {
 }
 """
 
-# What grows, from how many on.
+# What grows, and how many there are at first.
 GROWTH = (
     Case("entries of a database", 1_000, lambda n: (["update", "t.hwdb"], {"t.hwdb": each("m#*\n A=#\n\n", n)}, "")),
     Case("entries, in a query", 1_000, lambda n: (["query", "m7x", "t.hwdb"], {"t.hwdb": each("m#*\n A=#\n\n", n)}, "")),
@@ -83,7 +84,7 @@ GROWTH = (
 
 
 class Bench:
-    """The inputs of all rows, in a folder that goes again, and the runs over them."""
+    """The inputs of all rows, in a folder that is deleted at the end, and the runs over them."""
 
     def __init__(self, root, udev, work):
         self.root, self.work = root, work
@@ -93,7 +94,7 @@ class Bench:
         self.runs = {}
 
     def put(self, name, data, times=1):
-        """Writes a file of some bytes, so many times; answers its path. (What this script holds counts as a run's peak.)"""
+        """Writes a file of some bytes, repeated so many times; returns its path. (What this script holds counts as a run's peak.)"""
         path = os.path.join(self.work, name)
         os.makedirs(os.path.dirname(path), exist_ok=True)
         with open(path, "wb") as file:
@@ -102,7 +103,7 @@ class Bench:
         return path
 
     def other(self, name, *words, statuses=(0,)):
-        """A run of systemd's program of a name."""
+        """A run of a systemd program with a name."""
         return Run([*self.loader, f"{self.udev}/usr/bin/{name}", *words], statuses=statuses)
 
     def own(self, *words, source=os.devnull, answer=os.devnull, statuses=(0,)):
@@ -189,7 +190,7 @@ class Bench:
 
 
 def shown(row, cost, unit):
-    """What a row comes to, in words."""
+    """The result of a row, in words."""
     if row.things is None:
         return f"{cost * 1000:.1f} ms" if unit == "s" else f"{cost:.1f} M"
     if row.unit == "MB/s":
@@ -223,8 +224,8 @@ def growth(word, unit):
                 costs.append(min(take(run) for _ in range(3)).seconds if unit == "s" else counted(run))
         once, ten, hundred = (cost - costs[0] for cost in costs[1:])
         once, ten = max(once, 1e-4), max(ten, 1e-4)
-        told = (f"{cost * 1000:.1f} ms" if unit == "s" else f"{cost:.1f} M" for cost in (once, ten, hundred))
-        print(f"| {case.count:,} {case.name} | {' | '.join(told)} | {ten / once:.1f} | {hundred / ten:.1f} |", flush=True)
+        reported = (f"{cost * 1000:.1f} ms" if unit == "s" else f"{cost:.1f} M" for cost in (once, ten, hundred))
+        print(f"| {case.count:,} {case.name} | {' | '.join(reported)} | {ten / once:.1f} | {hundred / ten:.1f} |", flush=True)
 
 
 def main(words):

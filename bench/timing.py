@@ -1,5 +1,5 @@
-"""What runs take, for the scripts beside this file: the processor's time, the least of some runs that take turns, so that
-all of them meet the same machine."""
+"""What runs take, for the scripts beside this file: processor time, the least of some runs that take turns, so that they
+all have the same conditions."""
 import os
 import re
 import sys
@@ -11,7 +11,7 @@ TURNS = 5
 
 # The words of a command, the path of its input, that of the file for what it prints, and how it may end.
 Run = namedtuple("Run", "words source answer statuses", defaults=(os.devnull, os.devnull, (0,)))
-# Seconds, and the peak memory in MB (that of the script at least).
+# Seconds, and the peak memory in MB (at least that of the script).
 Taken = namedtuple("Taken", "seconds peak")
 
 

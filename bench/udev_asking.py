@@ -1,7 +1,7 @@
-"""Asks the real `udevadm test` of systemd 257 what an event comes to, over a folder for sysfs that is made of a block.
+"""Asks the real `udevadm test` of systemd 257 for the result of an event, over a sysfs folder that is made from a block.
 
-With SYSTEMD_DEVICE_VERIFY_SYSFS=0 any folder is taken for sysfs. In test mode udevadm runs no program but those whose
-command begins with one of six names; one of them, `ata_id`, is replaced by a helper of our own, so that PROGRAM is seen.
+With SYSTEMD_DEVICE_VERIFY_SYSFS=0 udevadm accepts any folder as sysfs. In test mode udevadm runs no program except for those
+whose command begins with one of six names; one of them, `ata_id`, is replaced by a helper of our own, so that PROGRAM is seen.
 """
 import os
 import re
@@ -39,10 +39,10 @@ GROUPS = {"root": 0, "daemon": 1, "tty": 5, "disk": 6, "lp": 7, "kmem": 15, "dia
           "video": 44, "input": 101, "sgx": 102, "clock": 103, "kvm": 104, "render": 105}
 GROUP = "".join(f"{name}:x:{number}:\n" for name, number in GROUPS.items())
 BUSES = {"usb", "pci", "scsi", "hid", "platform"}
-# Classes whose devices stand below the device that they tell of; its attributes in a block are theirs.
+# Classes whose devices are below the device that they describe; its attributes in a block are theirs.
 TRANSPORTS = {"ata_port", "fc_transport", "sas_device", "sas_port", "iscsi_session", "iscsi_connection"}
 ENVIRONMENT = {"SYSTEMD_DEVICE_VERIFY_SYSFS": "0", "PATH": os.environ["PATH"], "SYSTEMD_COLORS": "0"}
-# Properties that udev adds by itself at the end of an event, or beside links and tags.
+# Properties that udev adds by itself at the end of an event, or for links and tags.
 OWN = {"DEVLINKS", "TAGS", "CURRENT_TAGS", "USEC_INITIALIZED", "ID_PROCESSING"}
 
 
@@ -61,12 +61,12 @@ def devices_of(block):
 
 
 def make_database(root, files):
-    """Makes the database of a root anew, of files that are told by their names."""
+    """Makes the database of a root anew, of files that are given by their names."""
     shutil.rmtree(root / "etc/udev/hwdb.d", ignore_errors=True)
     (root / "etc/udev/hwdb.d").mkdir(parents=True)
     for name, text in files.items():
         (root / "etc/udev/hwdb.d" / name).write_bytes(text)
-    # (without /proc an index that is there can't be replaced)
+    # (without /proc an existing index can't be replaced)
     (root / "etc/udev/hwdb.bin").unlink(missing_ok=True)
     subprocess.run(["chroot", str(root), "/usr/bin/systemd-hwdb", "update"], check=True)
 
@@ -102,7 +102,7 @@ def uevent_of(device, is_event):
     """The text of a device's file `uevent`."""
     lines = list(device.get("E", []))
     if is_event and "U" in device:
-        # (an event of the kernel tells its subsystem, the file does not)
+        # (an event of the kernel has its subsystem, the file does not)
         lines.append(f'SUBSYSTEM={device["U"][0]}')
     if "D" in device:
         major, minor = device["D"][0].split(":")
@@ -183,15 +183,15 @@ def plain(link):
     return os.path.normpath(path).removeprefix("/dev/")
 
 
-def links_told(told, err):
+def links_reported(reported, err):
     """The links that are left, in the order in which they were added: udev keeps them without an order."""
     added = [plain(link) for link in re.findall(r"Added SYMLINK '(.*)'$", err, re.M)]
     places = {link: place for place, link in enumerate(added)}
-    return ["link " + link for link in sorted(map(plain, told.get("Device node symlinks", [])), key=lambda link: places.get(link, 0))]
+    return ["link " + link for link in sorted(map(plain, reported.get("Device node symlinks", [])), key=lambda link: places.get(link, 0))]
 
 
 def written(path, devices):
-    """The name of an attribute that is written, by its path: as a rule names it."""
+    """The name of an attribute that is written, from its path: as a rule names it."""
     for device in devices:
         begin = "/sys" + device["P"][0] + "/"
         if path.startswith(begin):
@@ -200,27 +200,27 @@ def written(path, devices):
     return path
 
 
-def node_told(told):
+def node_reported(reported):
     """The lines on the node of a device."""
-    lines = ["name " + name for name in told.get("Network interface name", [])]
+    lines = ["name " + name for name in reported.get("Network interface name", [])]
     for key, heading in (("owner", "Device node owner"), ("group", "Device node group")):
         lines += [f"{key} " + (name if name[:4] != "n/a " else name.split("=")[1].rstrip(")")).split(" (")[0]
-                  for name in told.get(heading, [])]
-    lines += ["mode " + mode for mode in told.get("Device node permission", [])]
-    lines += ["priority " + number for number in told.get("priority", []) if number != "0"]
-    lines += ["watch" for state in told.get("Inotify watch", []) if state == "enabled"]
-    return lines + ["label " + "=".join(label.split(" : ", 1)) for label in told.get("Device node security label", [])]
+                  for name in reported.get(heading, [])]
+    lines += ["mode " + mode for mode in reported.get("Device node permission", [])]
+    lines += ["priority " + number for number in reported.get("priority", []) if number != "0"]
+    lines += ["watch" for state in reported.get("Inotify watch", []) if state == "enabled"]
+    return lines + ["label " + "=".join(label.split(" : ", 1)) for label in reported.get("Device node security label", [])]
 
 
-def properties_told(told):
+def properties_reported(reported):
     """The lines of tags and properties."""
-    properties = dict(text.split("=", 1) for text in told.get("Properties", []) if "=" in text)
-    tags = ["tag " + tag for tag in properties.get("CURRENT_TAGS", "").split(":") if tag and "Tags" in told]
+    properties = dict(text.split("=", 1) for text in reported.get("Properties", []) if "=" in text)
+    tags = ["tag " + tag for tag in properties.get("CURRENT_TAGS", "").split(":") if tag and "Tags" in reported]
     return tags + [f"env {name}={properties[name]}" for name in sorted(properties, key=os.fsencode)
                    if name not in OWN and not name.startswith(".")]
 
 
-def written_told(err, devices):
+def written_reported(err, devices):
     """The lines of what is written: of several texts for one name the last, as an answer has it."""
     lines = []
     for key in ("ATTR", "SYSCTL"):
@@ -231,14 +231,14 @@ def written_told(err, devices):
     return lines
 
 
-def commands_told(told):
-    """The lines of commands. One without a word is queued, and refused when it is to be run."""
-    commands = [command.split(" : ", 1) for command in told.get("Queued commands", [])]
+def commands_reported(reported):
+    """The lines of commands. One without a word is queued, and refused when it is about to be run."""
+    commands = [command.split(" : ", 1) for command in reported.get("Queued commands", [])]
     return [f"run {kind[4:-1]} {text}" for kind, text in commands if text.strip(" \t\n\r")]
 
 
 def make_file(sys, path, value):
-    """Makes the file, folder or link that a line `K: PATH=VALUE` of a block tells of (docs/behaviour.md)."""
+    """Makes the file, folder or link that a line `K: PATH=VALUE` of a block describes (docs/behaviour.md)."""
     file = Path(f"{sys}{path}")
     file.parent.mkdir(parents=True, exist_ok=True)
     if file.name in ("slots", "aliases"):
@@ -254,7 +254,7 @@ def make_file(sys, path, value):
 
 
 def make_sysfs(root, block):
-    """Makes a root's folder /sys of a block, and gives the block's action and devices."""
+    """Makes a root's folder /sys from a block, and returns the block's action and devices."""
     action, devices = devices_of(block)
     for below in ("sys", "run/udev/data"):
         shutil.rmtree(root / below, ignore_errors=True)
@@ -269,7 +269,7 @@ def make_sysfs(root, block):
 
 
 def ask(root, rules, block):
-    """What udevadm test tells of a block by rules files, which are told by their names: the lines of an answer without notes."""
+    """What udevadm test reports about a block by rules files, which are given by their names: the lines of an answer without notes."""
     action, devices = make_sysfs(root, block)
     shutil.rmtree(root / "etc/udev/rules.d")
     (root / "etc/udev/rules.d").mkdir()
@@ -278,9 +278,9 @@ def ask(root, rules, block):
     # (no interface of this machine answers)
     done = subprocess.run(["unshare", "--net", "chroot", str(root), "/usr/bin/udevadm", "test", f"--action={action}", "/sys" + devices[0]["P"][0]],
                           env=ENVIRONMENT, stdin=subprocess.DEVNULL, capture_output=True, check=False)
-    err, told = os.fsdecode(done.stderr), sections_of(os.fsdecode(done.stdout))
+    err, reported = os.fsdecode(done.stderr), sections_of(os.fsdecode(done.stdout))
     first = [f'event {action} {devices[0]["P"][0]}']
-    return first + node_told(told) + links_told(told, err) + properties_told(told) + written_told(err, devices) + commands_told(told)
+    return first + node_reported(reported) + links_reported(reported, err) + properties_reported(reported) + written_reported(err, devices) + commands_reported(reported)
 
 
 class Asking:

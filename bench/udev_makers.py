@@ -1,9 +1,10 @@
 """Makers of rules files for trials of `verify --udev`: of tokens, of real rules with changes, and of lines.
 
-Not made, because devdry reads them otherwise on purpose:
+Not made, because devdry reads them differently on purpose:
 - `\\u` and `\\U` in e values with a surrogate, with FDD0 to FDEF, or ending in FFFE or FFFF;
-- vertical tabs and form feeds in numbers, which udev passes over in front of them;
-- 16,383 joined bytes that go on with nothing but empty pieces, and two backslashes at the end of a line with an empty line behind;
+- vertical tabs and form feeds in numbers, which udev skips in front of them;
+- 16,383 joined bytes that continue with nothing but empty pieces, and two backslashes at the end of a line followed by an empty
+  line;
 - 0 as owner or group, which for devdry is root, but not for a udevadm that resolves no names.
 """
 import re
@@ -66,7 +67,7 @@ TOKEN = re.compile(r'([A-Z]+)(\{[^}"]*\})?([ \t]*)([-=!+:]+)([ \t]*[ei]*)"((?:[^
 
 
 def odd(chance, often):
-    """Whether something is done that is done so often."""
+    """Whether something is done that is done with this frequency."""
     return chance.random() < often
 
 
@@ -121,14 +122,14 @@ def value_of(chance, key, attribute, operator):
 
 
 def escaped(chance, value):
-    """A value as it stands behind the prefix e, with some escapes put into it."""
+    """A value as it is written after the prefix e, with some escapes inserted."""
     at = chance.randint(0, len(value))
-    front, back = (half.replace("\\", "\\\\").replace('"', '\\"') for half in (value[:at], value[at:]))
-    return front + "".join(chance.choice(BAD_ESCAPES if odd(chance, 0.05) else ESCAPES) for _ in range(chance.randint(0, 4))) + back
+    beginning, back = (half.replace("\\", "\\\\").replace('"', '\\"') for half in (value[:at], value[at:]))
+    return beginning + "".join(chance.choice(BAD_ESCAPES if odd(chance, 0.05) else ESCAPES) for _ in range(chance.randint(0, 4))) + back
 
 
 def quoted(chance, value, compared):
-    """A value in quotes, with a prefix or not."""
+    """A value in quotes, with a prefix or without."""
     if odd(chance, 0.05):
         return chance.choice(["e", "ei", "ie"] if compared else ["e"]) + f'"{escaped(chance, value)}"'
     prefix = "i" if odd(chance, 0.05 if compared else 0.005) else chance.choice(["ee", "I", "u", "'"]) if odd(chance, 0.005) else ""
@@ -136,7 +137,7 @@ def quoted(chance, value, compared):
 
 
 def token(chance, key=None):
-    """A token: key, attribute, operator and value, each of them now and then one that does not go with the others."""
+    """A token: key, attribute, operator and value, each of them sometimes one that does not go with the others."""
     key = key or chance.choice(list(KEYS))
     attributes, operators = KEYS[key]
     if odd(chance, 0.12):
@@ -144,9 +145,9 @@ def token(chance, key=None):
     attribute = chance.choice(attributes)
     operator = chance.choice(OPERATORS if odd(chance, 0.04) else operators)
     value = quoted(chance, value_of(chance, key, attribute, operator), operator in MATCH)
-    before, behind = (chance.choice(" \t") if odd(chance, 0.02) else "" for _ in range(2))
+    before, following = (chance.choice(" \t") if odd(chance, 0.02) else "" for _ in range(2))
     shown = chance.choice(ODD_KEYS) if odd(chance, 0.005) else key
-    return shown + ("" if attribute is None else f"{{{attribute}}}") + before + operator + behind + value
+    return shown + ("" if attribute is None else f"{{{attribute}}}") + before + operator + following + value
 
 
 def related(chance, other):
@@ -177,7 +178,7 @@ def alike(chance):
 
 
 def separator(chance):
-    """What stands between two tokens."""
+    """What comes between two tokens."""
     if odd(chance, 0.95):
         return chance.choice([", ", ", ", ", ", ",\t", ",  ", ", \\\n  "])
     return "".join(chance.choice(" \t,,") for _ in range(chance.randint(0, 3)))
@@ -192,9 +193,9 @@ def rule(chance):
         tokens += [token(chance, chance.choice(["PROGRAM", "RESULT"])) for _ in range(2)]
     if odd(chance, 0.7):
         tokens.append(chance.choice(EFFECTS))
-    front = chance.choice([",", " ,", ", ", ",,", "\\\n, "]) if odd(chance, 0.015) else ""
+    beginning = chance.choice([",", " ,", ", ", ",,", "\\\n, "]) if odd(chance, 0.015) else ""
     back = chance.choice([",", ", ", " ", " ,", "\\", "#"]) if odd(chance, 0.015) else ""
-    return front + tokens[0] + "".join(separator(chance) + each for each in tokens[1:]) + back
+    return beginning + tokens[0] + "".join(separator(chance) + each for each in tokens[1:]) + back
 
 
 def made_rules(chance, _):
@@ -210,7 +211,7 @@ def made_rules(chance, _):
 
 
 def change_token(chance, rules):
-    """Rules with one token taken away, doubled, replaced or put elsewhere."""
+    """Rules with one token removed, doubled, replaced or moved."""
     found = list(TOKEN.finditer(rules))
     if not found:
         return rules
@@ -220,7 +221,7 @@ def change_token(chance, rules):
 
 
 def change_bytes(chance, rules):
-    """Rules with at most three bytes taken away, doubled or replaced, or with a byte more."""
+    """Rules with at most three bytes removed, doubled or replaced, or with one byte more."""
     at, size = chance.randint(0, len(rules)), chance.randint(1, 3)
     new = chance.choice(["", rules[at:at + size] * 2, chance.choice('"{}\\,=+-!:$%|*?[]#ei \t\n\r\0aZ09_\x01\x7f\xc3\xff')])
     return rules[:at] + new + rules[at + (size if odd(chance, 0.5) else 0):]
@@ -247,7 +248,7 @@ def filled(chance, size):
 
 
 def continued(chance, end):
-    """A rule over some lines, whose last one says something; now and then its bytes come to about 16,384."""
+    """A rule over some lines, the last of which has a message; sometimes its bytes are about 16,384."""
     size = chance.choice([5461, 8192, 8192]) if odd(chance, 0.3) else 16
     pieces = chance.choice([['TAG+="a", '], [], [], ["", ""], ["# between \\", "# between"], [" \t", 'TAG+="c", '], ['RING="1", ']])
     lines = []
@@ -258,7 +259,7 @@ def continued(chance, end):
 
 
 def line(chance, end):
-    """What stands in a file of lines in front of an end."""
+    """What a file of lines has before an end."""
     what = chance.randrange(24)
     if what < 2:
         return filled(chance, chance.choice([8192, 16384]) + chance.randint(-3, 2 if odd(chance, 0.4) else -1))

@@ -1,23 +1,23 @@
 #!/usr/bin/env python3
-"""Makes rules files by a seed, asks the real `udevadm verify` of systemd 257 and `devdry verify --udev` of each, and prints
-where they differ: in the verdict, in the lines that something is told of, in the worst class of what is told of a line (error,
-warning, style), or in whether the file is given up (V26).
+"""Makes rules files from a seed, asks the real `udevadm verify` of systemd 257 and `devdry verify --udev` about each, and prints
+where they differ: in the verdict, in the lines that something is reported about, in the worst class of what is reported about a
+line (error, warning, style), or in whether the file is abandoned (V26).
 
-The makers of bench/udev_makers.py take turns. A file depends on the seed and its number alone, and one of real rules on the
-folders, too.
+The makers of bench/udev_makers.py take turns. A file depends only on the seed and its number, and one of real rules also on
+the folders.
 
 Not compared, and why:
-- which messages of a class are told of a line, and how many: of a rule that is dropped devdry tells the fault alone, of a lost jump
-  nothing else, and remarks on a gap are counted otherwise;
-- the lines of a file that is given up: devdry tells that alone;
-- names of users and groups, which are the machine's: udevadm is asked with `--resolve-names=never`.
-What is not made stands in bench/udev_makers.py. What a pattern fits is not seen, because no verdict depends on it.
+- which messages of a class are reported about a line, and how many: about a rule that is dropped devdry reports only the fault,
+  about a lost jump nothing else, and remarks on a gap are counted differently;
+- the lines of a file that is abandoned: devdry reports only that;
+- names of users and groups, which are the machine's: udevadm is run with `--resolve-names=never`.
+bench/udev_makers.py says what is not made. What a pattern fits is not seen, because no verdict depends on it.
 
-usage: bench/udev_random.py ROOT [SEED] [COUNT]    1 and 3,000 where they are not given. ROOT has udev 257 in it
-                                                   (bench/udev_root.sh unpacks it); chroot takes root. The program is
-                                                   build/devdry, or PROGRAM. Real rules are those below RULES, folders with
-                                                   `:` between, else those of ROOT. Files that differ are put into the
-                                                   folder KEEP, if that is given.
+usage: bench/udev_random.py ROOT [SEED] [COUNT]    1 and 3,000 by default. ROOT has udev 257 in it (bench/udev_root.sh
+                                                   unpacks it); chroot needs root. The program is build/devdry, or PROGRAM.
+                                                   Real rules are those below RULES, folders with `:` between, by default
+                                                   those of ROOT. Files that differ are put into the folder KEEP, if that
+                                                   is given.
 """
 import collections
 import os
@@ -34,10 +34,10 @@ SHARE = 600
 WARNINGS = ["V5", "V8", "V17", "V18", "V19", "V22", "V23", "V24"]
 
 
-def worst(told):
-    """The worst class that is told of each line: an error (0), a warning (1), or a remark on style (2)."""
+def worst(reported):
+    """The worst class that is reported about each line: an error (0), a warning (1), or a remark on style (2)."""
     grades = {}
-    for line, grade in told:
+    for line, grade in reported:
         grades[line] = min(grade, grades.get(line, grade))
     return grades
 
@@ -45,24 +45,24 @@ def worst(told):
 def grade_of(code):
     """The class of a code of devdry. V5, which is a warning for unknown options and an error for other values, is 1.
 
-    So is V18, before which udevadm may have told of an error in the same line."""
+    So is V18, before which udevadm may have reported an error in the same line."""
     return 2 if code[0] == "S" else int(code in WARNINGS)
 
 
 def differ(their, our):
     """Whether two answers differ in what is compared."""
-    given_up = "filee" in their[1]
-    if their[0] != our[0] or given_up != any(code == "V26" for _, code in our[1]):
+    abandoned = "filee" in their[1]
+    if their[0] != our[0] or abandoned != any(code == "V26" for _, code in our[1]):
         return True
-    wanted = worst([(int(told[:-1]), "ewn".index(told[-1])) for told in their[1].split() if told != "filee"])
+    wanted = worst([(int(reported[:-1]), "ewn".index(reported[-1])) for reported in their[1].split() if reported != "filee"])
     found = worst([(line, grade_of(code)) for line, code in our[1]])
     open_class = {line for line, code in our[1] if code in ("V5", "V18")}
     same = wanted.keys() == found.keys() and all(found[line] == wanted[line] or (line in open_class and not wanted[line]) for line in wanted)
-    return not given_up and not same
+    return not abandoned and not same
 
 
 def compare(root, seed, numbers, real, count):
-    """Asks both of the files with these numbers, counts, and prints where they differ."""
+    """Asks both about the files with these numbers, counts, and prints where they differ."""
     made = [(number, MAKERS[number % len(MAKERS)]) for number in numbers]
     texts = [maker(random.Random(f"{seed} {number}"), real).encode("latin-1") for number, maker in made]
     theirs, ours = udev_verify.asked_of_udevadm(root, texts, ["--resolve-names=never"]), udev_verify.asked_of_devdry(texts)
@@ -78,7 +78,7 @@ def compare(root, seed, numbers, real, count):
 
 
 def main(source, seed=1, files=3000):
-    """How many files differ, which is told."""
+    """How many files differ; each is reported."""
     folders = os.environ.get("RULES", f"{source}/usr/lib/udev/rules.d").split(":")
     real = [path.read_bytes().decode("latin-1") for folder in folders for path in udev_verify.rules_in(folder)]
     count = collections.Counter()

@@ -1,6 +1,6 @@
 """The most expensive inputs of each kind that were found: what each takes, and what ten times as much of one thing in it
-takes. That has to be ten times as much, more or less: a case that takes more than fifteen times as much goes wrong. Where
-the definition itself compares all with all, its square is let through, and the case says so.
+takes. That should be ten times as much, more or less: a case that takes more than fifteen times as much fails. If the
+definition itself compares everything with everything, its square is allowed, and the case says so.
 
 usage: worst_inputs.py PROGRAM [WORD]    WORD: only the cases whose names have it
 """
@@ -17,7 +17,7 @@ from timing import Run, take
 # as much may take. A run is the words of a command, its files by name, and its input.
 Case = namedtuple("Case", "name count make most", defaults=(15,))
 
-# Below so many seconds a run is all start and end.
+# A run below so many seconds is only start and end.
 SHORT = 0.2
 
 DEVICE = "C: add\nP: /a\n"
@@ -43,12 +43,12 @@ def query(text, modalias="m"):
 
 
 def line(token):
-    """A rule of as many of a token as a line holds."""
+    """A rule with as many copies of a token as fit into a line."""
     return ", ".join([token] * (16_384 // (len(token) + 2))) + "\n"
 
 
 def text_of(piece):
-    """A property that is set to as many of a substitution as a line holds."""
+    """A property that is set to as many copies of a substitution as fit into a line."""
     return 'ENV{X}="' + piece * (16_300 // len(piece)) + '"\n'
 
 
@@ -74,7 +74,7 @@ def interface_of(count):
 
 
 def printing(count):
-    """An answer that sets as many properties, and then removes them, the first first."""
+    """An answer that sets as many properties, and then removes them, starting with the first."""
     return f"{DEVICE}Q: /p\nR: 0 " + each("a#=1\r", count) + each('a#=""\r', count) + "\n"
 
 
@@ -119,7 +119,7 @@ RULES = [
     Case("bytes of a pattern that nearly fits", 800, lambda n: events(f'ATTR{{x}}=="*{"a" * n}b"\n', f"{DEVICE}A: x={LONG}\n")),
     Case("stars in a pattern", 800, lambda n: events(f'ATTR{{x}}=="{"*a" * n}*b"\n' * 10, f"{DEVICE}A: x={LONG}\n")),
     Case("parts of a choice", 800, lambda n: events(f'ATTR{{x}}=="{"|" * n}b"\n' * 100, f"{DEVICE}A: x=a\n")),
-    # all that stand behind a link that goes are moved up
+    # all links after one that is removed are moved up
     Case("links that are added and removed again", 2_000,
          lambda n: events(each('SYMLINK+="l#"\n', n) + each('SYMLINK-="l#"\n', n)), 150),
 ]
@@ -131,7 +131,7 @@ UDEV = [
          lambda n: as_udev(each('SYMLINK+="l#"\n', 100) + f'ATTRS{{{"%L" * 8_000}}}=="x", TAG+="t"\n' * n, chain("", "D: 8:0\n"))),
     Case("devices that are described by their paths, and components of a path", 160,
          lambda n: as_udev('IMPORT{builtin}="net_id"\n' * 20, interface_of(n))),
-    # as of links, all that stand behind a property that goes are moved up
+    # as with links, all properties after one that is removed are moved up
     Case("properties that are printed and removed again", 300, lambda n: as_udev('IMPORT{program}="/p"\n' * 100, printing(n)), 150),
 ]
 
@@ -191,7 +191,7 @@ def taken(program, case, count):
 
 
 def is_right(program, case):
-    """Tells what a case takes, and answers whether ten times as much takes no more than it may."""
+    """Reports what a case takes, and returns whether ten times as much takes no more than it may."""
     once, tenfold = taken(program, case, case.count), taken(program, case, 10 * case.count)
     times = tenfold.seconds / max(once.seconds, 0.001)
     right = tenfold.seconds < SHORT or times <= case.most

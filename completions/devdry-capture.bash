@@ -1,4 +1,4 @@
-# Completion of devdry-capture(1) for bash. It stands alone: nothing of the package bash-completion is called.
+# Completion of devdry-capture(1) for bash. It needs nothing else, not even the package bash-completion.
 
 _devdry_capture() {
     local word=${COMP_WORDS[COMP_CWORD]} offered

@@ -1,4 +1,4 @@
-# Completion of devdry(1) for bash. It stands alone: nothing of the package bash-completion is called.
+# Completion of devdry(1) for bash. It needs nothing else, not even the package bash-completion.
 
 # _devdry_files SUFFIX: what the current word may become: folders, and files with that suffix.
 _devdry_files() {
@@ -12,7 +12,7 @@ _devdry_any_files() {
     mapfile -t COMPREPLY < <(compgen -f -- "$word")
 }
 
-# _devdry_words WORD..: those of the words that the current one begins.
+# _devdry_words WORD..: those of the words that begin with the current one.
 _devdry_words() {
     mapfile -t COMPREPLY < <(compgen -W "$*" -- "$word")
 }
@@ -26,8 +26,8 @@ _devdry_code_list() {
     mapfile -t COMPREPLY < <(compgen -P "$front" -W "$_devdry_codes comments" -- "${word##*,}")
 }
 
-# Whether query takes a database file as the current word: behind a modalias, a word that is neither an option nor the
-# folder of one, and not beside an index.
+# Whether query takes a database file as the current word: after a modalias, a word that is neither an option nor the
+# folder of one, and not if there is an index.
 _devdry_takes_database() {
     local at takes=1
     for ((at = 2; at < COMP_CWORD; at++)); do
@@ -41,7 +41,7 @@ _devdry_takes_database() {
     return $takes
 }
 
-# _devdry_arguments: the current word is no option of the command, nor the value of one.
+# _devdry_arguments: the current word is neither an option of the command nor the value of one.
 _devdry_arguments() {
     case $command in
         files) ;;

@@ -1,9 +1,9 @@
 #!/usr/bin/env bash
 # Packs the program, its pages and its completions for Debian: DIR/devdry_VERSION_ARCHITECTURE.deb. The same files give
-# the same package, byte by byte. It wants dpkg-deb; with dpkg-shlibdeps (package dpkg-dev) it knows which libc.
+# the same package, byte by byte. It needs dpkg-deb; with dpkg-shlibdeps (package dpkg-dev) it knows which libc.
 # usage: packaging/deb.sh PROGRAM DIR
 #   DEBFULLNAME, DEBEMAIL     who makes the package, as Debian's other tools take it
-#   SOURCE_DATE_EPOCH         the time of its files; unless it is given that of the last commit, or of CHANGELOG.md
+#   SOURCE_DATE_EPOCH         the time of its files; by default that of the last commit, or of CHANGELOG.md
 set -euo pipefail
 top=$(cd "$(dirname "$0")/.." && pwd)
 program=$(realpath "$1")

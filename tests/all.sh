@@ -1,14 +1,14 @@
 #!/usr/bin/env bash
-# The gate: every proof, edit, test and run of `rt ci`, then tests/run.sh over the program that it built. Near its end stands
-# what it cost; the last line is `N passed, M failed`, over both.
-# usage: tests/all.sh [RT]    RT is the toolchain's command, rt unless one is given
+# The gate: every proof, edit, test and run of `rt ci`, then tests/run.sh over the program that it built. It prints what it
+# cost near its end; the last line is `N passed, M failed`, over both.
+# usage: tests/all.sh [RT]    RT is the toolchain's command, rt by default
 set -uo pipefail
 cd "$(dirname "$0")/.." || exit 1
 work=$(mktemp -d)
 trap 'rm -rf "$work"' EXIT
 
-# As many crates side by side as there are processors, each by one job: a second job at a crate reads all that its
-# proof stands on once more. Where memory is shorter than 4 GB for each, the toolchain itself shares it out.
+# As many crates side by side as there are processors, each with one job: a second job for a crate reads everything that
+# its proof depends on once more. If there is less than 4 GB for each, the toolchain itself divides the memory.
 if awk -v most="$(nproc)" '/^MemAvailable/ { exit $2 < most * 4000000 }' /proc/meminfo; then
     RT_JOBS=$(nproc)
     export RT_JOBS
@@ -25,12 +25,12 @@ status=$((status | PIPESTATUS[0]))
 passed=0 failed=0
 for log in proofs uses; do
     read -r p f < <(tail -n 1 "$work/$log" | sed -nE 's/^([0-9]+) passed, ([0-9]+) failed$/\1 \2/p')
-    # a run that was cut off tells no count, and is a failure
+    # a run that was cut off gives no count, and is a failure
     passed=$((passed + ${p:-0})) failed=$((failed + ${f:-1}))
 done
 [ "$status" = 0 ] || [ "$failed" != 0 ] || failed=1
 
-# What the gate cost, by what the shell counts of the processes that it waited for.
+# What the gate cost, by what the shell counts for the processes that it waited for.
 times > "$work/times"
 awk -v clock="$SECONDS" -v processors="$(nproc)" '
     function seconds(told) { split(told, part, /[ms]/); return 60 * part[1] + part[2] }

@@ -1,6 +1,6 @@
 #!/usr/bin/env python3
-"""What holds of the wrong bodies in crates/*/must-fail and crates/*/mutants, without a prover: a line `ok CASE` for
-each case, or `not ok CASE` with what was found below it.
+"""Checks the wrong bodies in crates/*/must-fail and crates/*/mutants without a prover: a line `ok CASE` for each case, or
+`not ok CASE` followed by what was found.
 usage: tests/edits.py [TOP]"""
 
 import pathlib
@@ -9,12 +9,12 @@ import sys
 # The most edits that the gate tries.
 MAX_EDITS = 100
 
-# How a line of an edit begins; no other line is read.
+# How a line of an edit begins; other lines are ignored.
 MARKS = ("file: ", "old: ", "new:")
 
 
 def applied(edit):
-    """What keeps an edit from being applied: its pairs in turn, each to what the pairs before it have made."""
+    """What prevents an edit from being applied. Its pairs are applied in turn, each to the result of those before it."""
     crate = edit.parent.parent
     path, old, pairs, texts = None, None, 0, {}
     for line in edit.read_text(encoding="utf-8").splitlines():
@@ -46,11 +46,11 @@ def applied(edit):
 
 
 def strays(folder):
-    """Files of a folder of edits that are none, nor notes beside them."""
+    """Files in a folder of edits that are neither edits nor notes about them."""
     return [f"{path}: no edit" for path in folder.iterdir() if path.suffix not in (".edit", ".md")]
 
 
-def tell(case, found):
+def report(case, found):
     print(f"not ok {case}" if found else f"ok {case}")
     for line in found:
         print(f"    {line}")
@@ -64,14 +64,14 @@ def main(top):
     folders = [path for crate in crates for path in (crate / "must-fail", crate / "mutants") if path.is_dir()]
     count = sum(len(found) for found in edits.values())
 
-    tell(
+    report(
         "each old text of a wrong body stands just once in its file",
         [line for edit in every for line in applied(edit)],
     )
-    tell("wrong bodies are files .edit", [line for folder in folders for line in strays(folder)])
-    tell(f"at most {MAX_EDITS} wrong bodies are the gate's", [f"there are {count}"] if count > MAX_EDITS else [])
-    tell("no crate has one wrong body alone in the gate", [str(crate) for crate in crates if len(edits[crate]) == 1])
-    tell(
+    report("wrong bodies are files .edit", [line for folder in folders for line in strays(folder)])
+    report(f"at most {MAX_EDITS} wrong bodies are the gate's", [f"there are {count}"] if count > MAX_EDITS else [])
+    report("no crate has one wrong body alone in the gate", [str(crate) for crate in crates if len(edits[crate]) == 1])
+    report(
         "no crate has two wrong bodies of one name",
         [
             str(mutant)

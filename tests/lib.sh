@@ -1,5 +1,5 @@
-# What the test scripts share; to be sourced. Each case is told in one line: `ok CASE`, `not ok CASE` with what was
-# seen below it, or `skipped CASE` where this machine lacks what it takes. tests/run.sh counts the lines.
+# What the test scripts share; to be sourced. Each case is reported in one line: `ok CASE`, `not ok CASE` followed by what
+# was seen, or `skipped CASE` if this machine lacks what the case needs. tests/run.sh counts the lines.
 # shellcheck shell=bash disable=SC2034
 
 top=$(cd "$(dirname "${BASH_SOURCE[0]}")/.." && pwd)
@@ -9,7 +9,7 @@ trap 'rm -rf "$work"' EXIT
 
 ok() { echo "ok $1"; }
 
-# not_ok CASE TEXT: with the text, indented, below it
+# not_ok CASE TEXT: followed by the text, indented
 not_ok() {
     echo "not ok $1"
     printf '%s\n' "$2" | sed 's/^/    /'
@@ -22,7 +22,7 @@ same() {
     if [ "$2" = "$3" ]; then ok "$1"; else not_ok "$1" "$(diff <(printf '%s\n' "$2") <(printf '%s\n' "$3"))"; fi
 }
 
-# goes_well CASE COMMAND..: the command ends in 0; what it says is told only where it doesn't
+# goes_well CASE COMMAND..: the command ends in 0; its output is shown only if it doesn't
 goes_well() {
     local case=$1 said
     shift

@@ -1,13 +1,13 @@
 #!/usr/bin/env python3
-"""Tries the mutants of the crates named, or of all that have some: wrong bodies that the prover has to refuse, and that
-the gate leaves to this. It works in a clone of what is committed, which is thrown away, and begins with what the
-crates' own checks have kept, so only what an edit changes is proved again.
+"""Tries the mutants of the named crates, or of all that have some: wrong bodies that the prover has to refuse, and that
+the gate leaves to this script. It works in a clone of what is committed, which is deleted at the end, and begins with
+what the crates' own checks have kept, so only what an edit changes is proved again.
 
-Edits of different functions are tried in one check, where each function that was changed has to be refused for its own
-body, not for one that it calls. An edit that was not refused so, and one that changes more than bodies, is tried alone,
-as the gate tries those in must-fail/. A line tells of each edit, and the last line is `N refused, M not refused`; what
-could not be tried counts as not refused.
-usage: tests/mutants.py [CRATE..]    RT is the toolchain's command, rt unless it is set"""
+Edits of different functions are tried in one check, in which each changed function has to be refused for its own body,
+not for one that it calls. An edit that was not refused that way, and one that changes more than bodies, is tried alone,
+as the gate tries those in must-fail/. Each edit is reported in a line, and the last line is `N refused, M not refused`;
+an edit that could not be tried counts as not refused.
+usage: tests/mutants.py [CRATE..]    RT is the toolchain's command, rt by default"""
 
 import os
 import pathlib
@@ -24,11 +24,11 @@ FUNCTION = re.compile(r"( *)(?:pub(?:\([a-z]+\))? )?(?:const )?(?:unsafe )?fn (\
 IMPL = re.compile(r"impl(?:<.*?>)? (?:(.+) for )?(\w+).* \{")
 TYPE = re.compile(r"(?m)^(?:pub(?:\([a-z]+\))? )?(?:struct|enum) (\w+)")
 
-# What a check says of a function that is refused for its own body. Where only what it calls is refused, it says
+# What a check says of a function that is refused for its own body. If only what it calls is refused, the check says
 # `no proof: it calls ..`.
 REFUSED = re.compile(r"fn (\S+): (?:not proved|no proof: expected answers)")
 
-# What a proof file is told that names what the edit takes away.
+# What is said of a proof file that names something that the edit removes.
 LOST_NAME = re.compile(r"has no field|is not in scope|has no `|was not admitted")
 
 
@@ -38,7 +38,7 @@ class Source:
     def __init__(self, folder):
         self.crate = folder.name
         self.texts = {str(path.relative_to(folder)): path.read_text() for path in (folder / "src").rglob("*.rt")}
-        # the module that a type is declared in, by which its methods are named wherever they stand
+        # the module that a type is declared in, by which its methods are named wherever they are
         self.home = {name: self.module(path) for path, text in self.texts.items() for name in TYPE.findall(text)}
 
     def module(self, path):
@@ -46,9 +46,9 @@ class Source:
         return [self.crate, *(part for part in parts if part not in ("lib", "main", "mod"))]
 
     def split(self, path, text):
-        """The functions of a file, as a check names them, and its text in pieces: what stands before the first body,
-        that body, what stands before the next, and so on. The toolchain lays files out, so what opens an item and what
-        closes it have one indent."""
+        """The functions of a file, as a check names them, and its text in pieces: what comes before the first body, that
+        body, what comes before the next, and so on. The toolchain formats files, so an item's opening and closing lines
+        have the same indent."""
         names, pieces = [], [""]
         module, owner, head, is_inside = self.module(path), [], None, False
         for line in text.splitlines(keepends=True):
@@ -71,9 +71,9 @@ class Source:
                 head = None
             elif head and (line == head[1] + "{\n" or " {" in line and line.startswith((head[0], head[1] + ")"))):
                 names.append(Name(module, owner, head[2]))
-                behind = line.partition("{")[2]
-                pieces[-1] = pieces[-1].removesuffix(behind)
-                pieces.append(behind)
+                following = line.partition("{")[2]
+                pieces[-1] = pieces[-1].removesuffix(following)
+                pieces.append(following)
                 is_inside = True
         return names, pieces
 
@@ -86,22 +86,22 @@ class Name:
         self.closures = "::".join([*module, "fn", *owner, name, ""])
 
     def refusal(self, lines):
-        """For what reason a check refuses the function for its own body, or None."""
+        """Why a check refuses the function for its own body, or None."""
         for line in lines:
             found = REFUSED.match(line)
             if found and (found[1] == self.whole or found[1].startswith(self.closures)):
                 proofs = re.escape(f"proofs/{'/'.join(found[1].split('::')[1:])}/")
-                told = [it for it in lines if re.match(rf"(\./)?{proofs}\S+ error: ", it)]
-                wrong = [it for it in told if not LOST_NAME.search(it)]
-                if told and not wrong:
-                    return f"only because a proof file names what it takes away: {told[0]}"
+                reported = [it for it in lines if re.match(rf"(\./)?{proofs}\S+ error: ", it)]
+                wrong = [it for it in reported if not LOST_NAME.search(it)]
+                if reported and not wrong:
+                    return f"only because a proof file names what it takes away: {reported[0]}"
                 return (wrong or [line.removeprefix(f"fn {found[1]}: ")])[0]
         return None
 
 
 class Mutant:
-    """An edit of a crate: the texts that it makes, or none if it cannot be applied, and the bodies that it changes,
-    by file and place, or none if it changes anything else."""
+    """An edit of a crate: the texts that it makes, empty if it cannot be applied, and the bodies that it changes, by file
+    and place, empty if it changes anything else."""
 
     def __init__(self, edit, source):
         self.edit, self.bodies, self.names = edit, {}, []
@@ -119,7 +119,7 @@ class Mutant:
 
 
 def edited(edit, texts):
-    """The texts of a crate's source with an edit, or None where an old text of it does not stand there just once."""
+    """The texts of a crate's source after an edit, or None if an old text of the edit does not occur there exactly once."""
     texts, path, old = dict(texts), "", ""
     for line in edit.read_text(encoding="utf-8").splitlines():
         if line.startswith("file: "):
@@ -134,7 +134,7 @@ def edited(edit, texts):
 
 
 def run(folder, *words):
-    """How a command of the toolchain ends in a folder, and what it says, in lines."""
+    """How a command of the toolchain ends in a folder, and what it prints, in lines."""
     ended = subprocess.run(
         [RT, *words],
         cwd=folder,
@@ -155,13 +155,13 @@ class Crate:
         self.folder, self.source = folder, Source(folder)
         self.refused = self.others = 0
 
-    def tell(self, mutant, found, is_refused=False):
+    def report(self, mutant, found, is_refused=False):
         print(f"{self.folder.name}/{mutant.edit.name}: {found[:240]}", flush=True)
         self.refused += is_refused
         self.others += not is_refused
 
     def write(self, bodies):
-        """Writes the source with these bodies in the place of its own."""
+        """Writes the source with these bodies in place of its own."""
         for path, text in self.source.texts.items():
             _, pieces = self.source.split(path, text)
             for (changed, at), body in bodies.items():
@@ -170,8 +170,8 @@ class Crate:
             (self.folder / path).write_text("".join(pieces), encoding="utf-8")
 
     def try_bodies(self, mutants):
-        """Tries mutants that change bodies, each check as many as are of different functions, and gives back those
-        that were not refused so."""
+        """Tries mutants that change bodies, as many in each check as are of different functions, and returns those that were
+        not refused that way."""
         left = []
         while mutants:
             chosen, bodies = [], {}
@@ -189,14 +189,14 @@ class Crate:
         _, lines = run(self.folder, "check", "--jobs", "1", *(word for name in names for word in ("--only", name)))
         self.write({})
         if not any(re.match(r"only=\d+ proved=\d+", line) for line in lines):
-            # one of them does not compile, say
+            # for example because one of them does not compile
             half = len(mutants) // 2
             return self.try_together(mutants[:half]) + self.try_together(mutants[half:]) if half else mutants
         left = []
         for mutant in mutants:
             why = next((why for name in mutant.names if (why := name.refusal(lines))), None)
             if why:
-                self.tell(mutant, f"refused: {why}", True)
+                self.report(mutant, f"refused: {why}", True)
             else:
                 left.append(mutant)
         return left
@@ -211,10 +211,10 @@ class Crate:
         _, lines = run(self.folder, "must-fail", self.folder.name)
         for mutant in mutants:
             label = f"must-fail {self.folder.name}/{mutant.edit.name}: "
-            told = [it.partition(label)[2] for it in lines if label in it]
-            if not told:
+            reported = [it.partition(label)[2] for it in lines if label in it]
+            if not reported:
                 print(*lines, sep="\n")
-            self.tell(mutant, *(told or ["NOT TRIED"])[:1], bool(told) and told[0].startswith("refused,"))
+            self.report(mutant, *(reported or ["NOT TRIED"])[:1], bool(reported) and reported[0].startswith("refused,"))
 
     def try_all(self, edits):
         mutants = [Mutant(it, self.source) for it in edits]
@@ -223,7 +223,7 @@ class Crate:
         if status:
             print(*lines, sep="\n")
             for mutant in mutants:
-                self.tell(mutant, "NOT TRIED: the crate itself is not proved")
+                self.report(mutant, "NOT TRIED: the crate itself is not proved")
             return
         left = self.try_bodies([it for it in mutants if it.bodies])
         left += [it for it in mutants if not it.bodies]

@@ -1,6 +1,6 @@
-"""A plain reading of rules files: each message with its place, as docs/behaviour.md tells them.
+"""A plain reading of rules files: each message with its place, as docs/behaviour.md describes them.
 
-It knows nothing of the program. It is written to be read, not to be quick, and says no more of a value than the pieces
+It knows nothing of the program. It is written to be read, not to be quick, and says no more about a value than the pieces
 of tests/read_formats.py need: what sets, options and substitutions are.
 """
 import re
@@ -10,8 +10,8 @@ LONGEST = 16_384
 COMPARES, ADDS = {"==", "!="}, {"=", "+=", ":="}
 ACTS = COMPARES | ADDS
 
-# Each key: the attributes that it takes (None: none, a pattern else), its operators, those that are read as `=` with a
-# remark, and how a value is read behind `==` and `!=`, and behind the others.
+# Each key: the attributes that it takes (None: none, otherwise a pattern), its operators, those that are read as `=` with a
+# remark, and how a value is read after `==` and `!=`, and after the others.
 ANY = ".+"
 KEYS = {
     **{key: (None, COMPARES, set(), "choice", None) for key in
@@ -31,7 +31,7 @@ KEYS = {
     "OPTIONS": (None, ADDS, set(), None, "option"),
     **{key: (None, {"="}, set(), None, "name") for key in ("LABEL", "GOTO")},
 }
-# `TEST` and `RUN` may stand without braces.
+# `TEST` and `RUN` need no braces.
 WITHOUT = {"TEST", "RUN"}
 NO_CASE = {"TEST", "PROGRAM", "IMPORT"}
 
@@ -51,7 +51,7 @@ class Fault(Exception):
 
 
 def joined_lines(text):
-    """Each joined line: its number, its text, the place of each of its bytes, and of the backslash where it stays open."""
+    """Each joined line: its number, its text, the place of each of its bytes, and of the backslash if it stays open."""
     found, number, line, places, begins, last = [], 0, "", [], None, None
     for number, physical in enumerate(text.split("\n"), 1):
         if number > text.count("\n") and not physical:
@@ -60,12 +60,12 @@ def joined_lines(text):
         if physical[indent:indent + 1] == "#":
             continue
         begins = begins or number
-        goes_on = physical.endswith("\\")
-        kept = physical[indent:len(physical) - goes_on]
+        continues = physical.endswith("\\")
+        kept = physical[indent:len(physical) - continues]
         line += kept
         places += [(number, indent + at + 1) for at in range(len(kept))]
         last = (number, len(physical))
-        if not goes_on:
+        if not continues:
             found.append((begins, line, places, None))
             line, places, begins = "", [], None
     if begins:
@@ -74,7 +74,7 @@ def joined_lines(text):
 
 
 def escaped_value(line, at):
-    """What a value with escapes means, and where its quote stands; none where it is no value."""
+    """What a value with escapes means, and where its quote is; None if it is not a value."""
     value = ""
     while at < len(line) and line[at] != '"':
         if line[at] != "\\":
@@ -108,7 +108,7 @@ def read_token(line, at):
 
 
 def check_token(token, value, place):
-    """Raises the fault of a token; else tells whether its operator is read as `=`."""
+    """Raises the fault of a token; otherwise returns whether its operator is read as `=`."""
     key, operator, letters = token["key"], token["operator"], token["prefix"]
     if key not in KEYS:
         raise Fault("V2", token.span("key"), key)
@@ -135,7 +135,7 @@ def check_token(token, value, place):
 
 
 def has_bad_sign(value):
-    """Whether a sign stands there that is no substitution."""
+    """Whether there is a sign that is not part of a substitution."""
     at = 0
     while at < len(value):
         if value[at] in "$%":
@@ -173,39 +173,39 @@ def read_line(line):
 
 
 def findings(raw):
-    """Each message about a file, in their order: code, first line of the rule, line, columns of the place, word."""
+    """All messages about a file, in order: code, first line of the rule, line, columns of the place, word."""
     found, rules = [], []
     for begins, line, places, still_open in joined_lines(raw.decode("latin-1")):
-        def tell(code, span, word, begins=begins, places=places, line=line):
+        def report(code, span, word, begins=begins, places=places, line=line):
             number, column = places[span[0]] if span[0] < len(places) else (places[-1][0], places[-1][1] + 1)
             end = max([it[1] + 1 for it in places[span[0]:span[1]] if it[0] == number], default=column)
             found.append((code, begins, number, column, end, word.encode("latin-1")))
         if still_open:
             found.append(("V12", begins, *still_open, still_open[1] + 1, b""))
         elif len(line) > LONGEST:
-            tell("V9", (0, len(line)), "")
+            report("V9", (0, len(line)), "")
         elif line:
             try:
                 labels, jumps, remarks = read_line(line)
             except Fault as fault:
-                tell(*fault.args)
+                report(*fault.args)
                 continue
             for code, span, word in remarks:
-                tell(code, span, word)
+                report(code, span, word)
             for name, span in labels[1:] + jumps[1:]:
-                tell("V8", span, name)
-            rules.append((labels[:1], jumps[:1], tell))
+                report("V8", span, name)
+            rules.append((labels[:1], jumps[:1], report))
     used = set()
-    for at, (_, jumps, tell) in enumerate(rules):
+    for at, (_, jumps, report) in enumerate(rules):
         for name, span in jumps:
             later = next((place for place in range(at + 1, len(rules)) if rules[place][0] and rules[place][0][0][0] == name), None)
             if later is None:
-                tell("V7", span, name)
+                report("V7", span, name)
             used.add(later)
-    for at, (labels, _, tell) in enumerate(rules):
+    for at, (labels, _, report) in enumerate(rules):
         for name, span in labels:
             if at not in used:
-                tell("S4", span, name)
+                report("S4", span, name)
     return sorted(found, key=turn)
 
 

@@ -1,15 +1,15 @@
 #!/usr/bin/env python3
-"""Reads docs/proved.md and docs/architecture.md, and tells of what they name that the source does not have.
+"""Reads docs/proved.md and docs/architecture.md, and reports what they name that the source does not have.
 
 usage: tests/proved.py
 
 - Each `crate::function` or `crate::Type::function` in them is a function of that crate, of that type or trait, and has a
-  contract. Names in brackets behind it, (`one`, `two`), are clauses of that contract.
-- docs/proved.md names each law: each public function of an empty body and without parameters in the crates of crates.txt, but for
-  examples, which begin with `some_`.
-- Each block of code in it behind ```text PATH is a part of the file PATH as it stands there.
+  contract. Names in brackets after it, (`one`, `two`), are clauses of that contract.
+- docs/proved.md names each law: each public function with an empty body and without parameters in the crates of crates.txt,
+  except for examples, which begin with `some_`.
+- Each block of code in it after ```text PATH is a part of the file PATH, unchanged.
 
-For each of these a line `ok CASE`, or `not ok CASE` with what is missing.
+Prints a line `ok CASE` for each of these, or `not ok CASE` with what is missing.
 """
 import re
 import sys
@@ -20,7 +20,7 @@ HEAD = re.compile(r"^(?:pub )?(?:impl(?:<[^>]*>)? (?:[\w]+(?:<[^{]*?>)? for )?(\
 
 
 def functions(crate):
-    """The functions of a crate: of each name with its type before it, if it has one, the texts of its heads."""
+    """The functions of a crate: for each name, with its type before it if it has one, the texts of its heads."""
     found = {}
     for path in sorted((TOP / "crates" / crate / "src").rglob("*.rt")):
         text = path.read_text(encoding="utf-8")
@@ -37,7 +37,7 @@ def functions(crate):
     return found
 
 
-def tell(case, missing):
+def report(case, missing):
     print(f"ok {case}" if not missing else f"not ok {case}")
     for it in missing:
         print(f"    {it}")
@@ -59,7 +59,7 @@ def named_functions(page, crates):
 
 
 def laws(crates):
-    """The laws of all crates, but for examples."""
+    """The laws of all crates, except for examples."""
     for crate, found in crates.items():
         for name, heads in found.items():
             law = re.compile(r"pub fn \w+(?:<[^>]*>)?\(\)\s+ensures\b.*^\{\}", re.M | re.S)
@@ -74,13 +74,13 @@ def main():
         if not line.startswith("#"):
             crates[line.split(":")[0]] = functions(line.split(":")[0])
     wrong, names = named_functions((TOP / "docs/architecture.md").read_text(encoding="utf-8"), crates)
-    well = tell("docs/architecture.md names functions that have a contract", wrong or ([] if names else ["it names none"]))
+    well = report("docs/architecture.md names functions that have a contract", wrong or ([] if names else ["it names none"]))
     wrong, names = named_functions(page, crates)
-    well &= tell("docs/proved.md names functions that have a contract", wrong or ([] if names else ["it names none"]))
-    told = {f"{crate}::{name}" for crate, name, _ in names}
-    well &= tell("docs/proved.md names each law", [it for it in laws(crates) if it not in told])
+    well &= report("docs/proved.md names functions that have a contract", wrong or ([] if names else ["it names none"]))
+    reported = {f"{crate}::{name}" for crate, name, _ in names}
+    well &= report("docs/proved.md names each law", [it for it in laws(crates) if it not in reported])
     quoted = re.findall(r"^```text (\S+)\n(.*?)^```$", page, re.M | re.S)
-    well &= tell("docs/proved.md quotes the source as it stands", [
+    well &= report("docs/proved.md quotes the source as it stands", [
         f"{path} has no such text:\n{text}" for path, text in quoted
         if not (TOP / path).is_file() or text not in (TOP / path).read_text(encoding="utf-8")] or ([] if quoted else ["it quotes none"]))
     return well

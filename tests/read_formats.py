@@ -3,11 +3,11 @@
 
 usage: tests/read_formats.py PROGRAM
 
-`json` and `gitlab` are read by python's json, `github` as GitHub's runner takes a workflow command apart, `gcc` by the
-regular expression of a problem matcher, `human` line by line, with the part of the line that it shows. Over files with faults, some made by a seed, all of them
-have to say the messages of `plain`, the place of each has to hold what its message is about, and messages and places
-have to be those of a plain reading of the rules (placed_rules.py). A line `ok CASE`, or `not ok CASE` with what differs
-below it, tells of each case.
+`json` and `gitlab` are read by Python's json, `github` as GitHub's runner parses a workflow command, `gcc` by the regular
+expression of a problem matcher, `human` line by line, with the part of the line that it shows. Over files with faults,
+some of them made from a seed, all formats have to give the messages of `plain`, the place of each has to contain what its
+message is about, and messages and places have to be those of a plain reading of the rules (placed_rules.py). Each case is
+reported in a line `ok CASE`, or `not ok CASE` followed by what differs.
 """
 import json
 import os
@@ -28,7 +28,7 @@ GCC = re.compile(r"^(.*):(\d+):(\d+):\s+(warning|error):\s+(.*)\s+\[(.*)\]$")
 PLAIN = re.compile(r"^(.*):(\d+): ([VSHIW]\d+) (.*)$")
 CARET = re.compile(r"^ *\^~*$")
 
-# The lints whose place is a value, and those whose place is a key and whose word is the name in braces behind it.
+# The lints whose place is a value, and those whose place is a key and whose word is the name in braces after it.
 LINTS_OF_VALUES = ("W1", "W2", "W3", "W4", "W8", "W9", "W11")
 LINTS_OF_NAMES = ("W5", "W6", "W7", "W10")
 
@@ -43,7 +43,7 @@ def escaped(text):
 
 
 def text_of(raw):
-    """Bytes as a reader of UTF-8 has them."""
+    """Bytes as a reader of UTF-8 decodes them."""
     return raw.decode("utf-8", "replace")
 
 
@@ -62,9 +62,9 @@ def workflow_command(line):
     return name, properties, said
 
 
-# Each reader gives of each message: path, line, column, end column, code, severity, and what is said. What a format
-# does not tell is None. Paths and words are escaped, so that they can be compared: those of `json`, whole there, by its
-# reader, and the path of `github`, which is as it was opened.
+# Each reader returns for each message: path, line, column, end column, code, severity, and the text. What a format does
+# not contain is None. Paths and words are escaped so that they can be compared: those of `json`, which are complete there,
+# by its reader, and the path of `github`, which is as it was opened.
 
 
 def said(text, word):
@@ -88,20 +88,20 @@ def read_gitlab(text):
     severities = {"major": "error", "minor": "warning"}
     found = []
     for it in report:
-        code, _, told = it["description"].partition(" ")
+        code, _, reported = it["description"].partition(" ")
         if code != it["check_name"]:
             raise ValueError(f"the description {it['description']!r}")
-        found.append((escaped(it["location"]["path"]), it["location"]["lines"]["begin"], None, None, code, severities[it["severity"]], told))
+        found.append((escaped(it["location"]["path"]), it["location"]["lines"]["begin"], None, None, code, severities[it["severity"]], reported))
     return found
 
 
 def read_github(text):
     found = []
     for line in text_of(text).split("\n")[:-1]:
-        name, own, told = workflow_command(line)
+        name, own, reported = workflow_command(line)
         if list(own) != ["file", "line", "col", "endColumn", "title"]:
             raise ValueError(f"properties {own}")
-        found.append((escaped(own["file"]), int(own["line"]), int(own["col"]), int(own["endColumn"]), own["title"], name, told))
+        found.append((escaped(own["file"]), int(own["line"]), int(own["col"]), int(own["endColumn"]), own["title"], name, reported))
     return found
 
 
@@ -132,7 +132,7 @@ def run(program, folder, *words):
 
 
 def first_difference(one, other):
-    """The first place where two lists differ, as text; empty where they are the same."""
+    """The first place where two lists differ, as text; empty if they are the same."""
     for at, (left, right) in enumerate(zip(one, other)):
         if left != right:
             return f"message {at + 1}: {left} and {right}"
@@ -140,9 +140,9 @@ def first_difference(one, other):
 
 
 def beside_json(form, whole, read):
-    """Where what a format says is not what `json` says, as far as the format tells it."""
+    """Where what a format says differs from what `json` says, as far as the format says it."""
     def kept(it):
-        return [None if told is None else mine for mine, told in zip(it[0], it[1])]
+        return [None if reported is None else mine for mine, reported in zip(it[0], it[1])]
     wanted = [tuple(kept(pair)) for pair in zip(whole, read)] if len(whole) == len(read) else whole
     if form == "human":
         read = [(*it[:-1], it[-1][0]) for it in read]
@@ -151,18 +151,18 @@ def beside_json(form, whole, read):
 
 
 def beside_plain(whole, plain, name_of):
-    """Where `json` does not say what `plain` says: the name, the code and the front of the word."""
-    told = []
+    """Where `json` does not say what `plain` says: the name, the code and the beginning of the word."""
+    reported = []
     for path, _, _, _, code, _, text in whole:
-        told.append((name_of(path), code, text))
+        reported.append((name_of(path), code, text))
     lines = [PLAIN.match(line) for line in plain.split("\n")[:-1]]
-    # a word is cut in `plain`, and perhaps inside of a character
-    short = [(it[1], it[3], text if text.startswith(it[4].rstrip("\ufffd")) else it[4]) for it, (_, _, text) in zip(lines, told)]
-    return first_difference(told, short) or ("" if len(lines) == len(told) else f"{len(lines)} lines and {len(told)}")
+    # a word is cut in `plain`, possibly inside a character
+    short = [(it[1], it[3], text if text.startswith(it[4].rstrip("\ufffd")) else it[4]) for it, (_, _, text) in zip(lines, reported)]
+    return first_difference(reported, short) or ("" if len(lines) == len(reported) else f"{len(lines)} lines and {len(reported)}")
 
 
 def plain_value(line, column):
-    """Whether the value around a column is written without escapes, so that it means what it says."""
+    """Whether the value around a column is written without escapes, so that its meaning is its text."""
     return "\\" not in line and not re.search(r'\be?ie?"|e"', line[:column])
 
 
@@ -178,7 +178,7 @@ def wrong_place(folder, it):
     place = line[column - 1:end - 1]
     word = text.partition(": ")[2]
     whole = escaped(text_of(place))
-    goes_on = line.endswith(b"\\") and end == len(line)
+    continues = line.endswith(b"\\") and end == len(line)
     if code == "V12":
         good = place == b"\\" and end == len(line) + 1
     elif code == "V9":
@@ -192,17 +192,17 @@ def wrong_place(folder, it):
     elif code == "W13":
         good = place.isalpha() and not line[:column - 1].strip(b" \t")
     else:
-        good = word.startswith(whole) if goes_on else word == whole
+        good = word.startswith(whole) if continues else word == whole
     return "" if good else f"{it}: the place has {place!r}"
 
 
-def goes_on(byte):
-    """Whether a byte goes on a character of UTF-8, and so takes no column of its own."""
+def continues(byte):
+    """Whether a byte continues a character of UTF-8, and so has no column of its own."""
     return 0x80 <= byte < 0xC0
 
 
 def columns(text):
-    return sum(not goes_on(byte) for byte in text)
+    return sum(not continues(byte) for byte in text)
 
 
 def shown_bytes(text):
@@ -211,7 +211,7 @@ def shown_bytes(text):
 
 
 def window_of(line, column):
-    """Where the part of a line begins that is shown: in no character of UTF-8."""
+    """Where the part of a line that is shown begins: not inside a character of UTF-8."""
     begins = max(0, min(column - 1 - BEFORE, len(line) - SHOWN))
     return begins + len(re.match(rb"[\x80-\xBF]{0,3}", line[begins:])[0]) if begins else 0
 
@@ -232,7 +232,7 @@ def wrong_caret(folder, whole, it):
 
 def beside_a_reading(folder, words, whole):
     """Where `json` does not say what a plain reading of the rules says, file by file in the order in which they are named.
-    Of lints the plain reading knows nothing."""
+    The plain reading knows nothing of lints."""
     wanted = []
     for path in [it for it in words if (folder / it).is_file()] or dict.fromkeys(it[0] for it in whole):
         wanted += [(path, line, column, end, code, escaped(text_of(word)))
@@ -241,12 +241,12 @@ def beside_a_reading(folder, words, whole):
 
 
 def first_sentence(code):
-    """The first sentence of a section of docs/messages.md, without the marks of code."""
+    """The first sentence of a section of docs/messages.md, without the backquotes."""
     section = re.search(rf"^### {code} .*\n\n([^#]*)", (TOP / "docs/messages.md").read_text(), re.M)[1]
     return re.match(r"(.*?[.?])(?:\s|$)", section.split("\n\n")[0], re.S)[1].replace("`", "")
 
 
-def told(case, wrong):
+def reported(case, wrong):
     print(f"not ok {case}\n    {wrong[:2000]}" if wrong else f"ok {case}")
 
 
@@ -260,27 +260,27 @@ def check(case, program, folder, words, name_of=lambda path: path):
         try:
             read[form] = reader(came[2])
         except (AttributeError, IndexError, KeyError, TypeError, ValueError) as fault:
-            told(f"{case}: {form} is read", f"{fault!r} of {came[2][:1000]!r}")
+            reported(f"{case}: {form} is read", f"{fault!r} of {came[2][:1000]!r}")
             continue
-        told(f"{case}: {form} is read, with {len(read[form])} messages", "" if came[:2] == (status, output) else f"{came[:2]} and {(status, output)}")
+        reported(f"{case}: {form} is read, with {len(read[form])} messages", "" if came[:2] == (status, output) else f"{came[:2]} and {(status, output)}")
     same_plain = run(program, folder, *words, "--format=plain")
-    told(f"{case}: plain is what is written without a format", "" if same_plain == (status, output, plain) else f"{same_plain}")
+    reported(f"{case}: plain is what is written without a format", "" if same_plain == (status, output, plain) else f"{same_plain}")
     whole = read.get("json")
     if whole is None:
         return
-    told(f"{case}: json says what plain says", beside_plain(whole, plain_lines, name_of))
+    reported(f"{case}: json says what plain says", beside_plain(whole, plain_lines, name_of))
     for form in READERS:
         if form != "json" and form in read:
-            told(f"{case}: {form} says what json says", beside_json(form, whole, read[form]))
-    told(f"{case}: each place has what the message is about", next(filter(None, (wrong_place(folder, it) for it in whole)), ""))
+            reported(f"{case}: {form} says what json says", beside_json(form, whole, read[form]))
+    reported(f"{case}: each place has what the message is about", next(filter(None, (wrong_place(folder, it) for it in whole)), ""))
     if words[0] == "verify" and "--no-style" not in words:
-        told(f"{case}: messages and places are those of a plain reading", beside_a_reading(folder, words, whole))
+        reported(f"{case}: messages and places are those of a plain reading", beside_a_reading(folder, words, whole))
     if "human" in read:
-        told(f"{case}: the caret stands below it, and the page says how to mend it",
+        reported(f"{case}: the caret stands below it, and the page says how to mend it",
              next(filter(None, (wrong_caret(folder, *pair) for pair in zip(whole, read["human"]))), ""))
 
 
-# Pieces of rules, good and bad, and what may stand between and behind them.
+# Pieces of rules, good and bad, and what may be between and after them.
 PIECES = [
     'KERNEL=="sd*"', 'SUBSYSTEM!="block"', 'ATTR{size}=="0"', 'ATTRS{idVendor}=="04[[:x:]]"', 'ENV{A}:="1"', 'ENV{B}="$nope"', 'ENV{C}="a %% %"',
     'FOO="x"', 'TAG-="t"', 'TAG:="t"', 'ACTION-="y"', 'ATTR=="x"', 'IMPORT{x}="y"', 'RUN{shell}+="a"', 'OPTIONS="link_priority=x"', 'LABEL="one"',
@@ -291,7 +291,7 @@ GAPS = [", ", ", ", ", ", ",", " ", "", ",,", " , ", ",\t", ", \\\n  ", " \\\n",
 ENDS = ["", "", "", ",", " ", " \t", ", \\\n", ", \\\n# between\n  TAG+=\"t\""]
 # What makes lines long, with characters of two, three and four bytes.
 LONG_PIECES = ['ENV{D}="' + "ä" * 30 + '"', 'ENV{E}="' + "a€" * 20 + '"', 'ENV{F}="' + "\U0001f600 " * 20 + '"', 'ENV{G}="' + "long " * 20 + '"']
-# What lints are told of, and what they are not told of.
+# What lints report, and what they do not.
 LINT_PIECES = [
     'MODE="0888"', 'MODE="0660"', 'RUN+="touch /run/a; b"', 'RUN+="/bin/sh -c \'a | b\'"', 'PROGRAM=="/bin/a && b"', 'ATTRS{idVendor}=="1D6B"',
     'ATTRS{idProduct}=="0002"', 'ATTRS{bInterfaceNumber}=="0A"', 'ENV{MODALIAS}=="usb:v1d6b*"', 'ENV{ID_FS_TYPE}=="ext4"', 'IMPORT{builtin}="blkid"',
@@ -302,7 +302,7 @@ STARTS = ["", "", "", " ", "\t", " \t ", "# a comment\n", "\n"]
 
 
 def made_file(seed, pieces_of=PIECES, most=6):
-    """A file of some rules that are put together by a seed, each of fewer pieces than `most`."""
+    """A file of some rules that are assembled from a seed, each of fewer pieces than `most`."""
     pick = random.Random(seed)
     lines = []
     for _ in range(pick.randrange(1, 12)):
@@ -348,7 +348,7 @@ def main(program):
             (folder / path).write_text('FOO="x"\nTAG="a",TAG="b",TAG="c"\n')
         check("odd names", program, folder, ["verify", *(path for path in NAMES if "\n" not in path)])
         status, _, text = run(program, folder, "verify", "--format=json", NAMES[-1])
-        told("a name with a newline is whole in json",
+        reported("a name with a newline is whole in json",
              "" if [json.loads(line)["path"] for line in text.decode().split("\n")[:-1]] == [NAMES[-1]] * 3 else text_of(text))
 
         words = [f'LABEL="{word}"' for word in ODD_WORDS if '"' not in word] + ODD_WORDS
@@ -374,6 +374,6 @@ if __name__ == "__main__":
     try:
         main(os.path.realpath(sys.argv[1]))
     except Exception as fault:
-        # (whoever counts the lines sees a run that was cut off, too)
+        # (so that whoever counts the lines also sees a run that was cut off)
         print(f"not ok the formats are all read: {fault!r}")
         raise

@@ -1,24 +1,24 @@
 #!/usr/bin/env python3
-"""Runs the program where what it asks of its system is refused.
+"""Runs the program while its system refuses what it asks for.
 
 usage: tests/refusals.py PROGRAM LIBRARY
 
 LIBRARY is tests/refusing.c, built. Each row is run with its Nth growth of memory refused, for N = 1, 2, .. until a run
-meets no refusal; the first growths are those for its words. A run that met one has to end in status 4, with the
-beginning of what its row writes, and with the beginning of the row's messages and then the line on memory. Each is made
-again with all growths from the Nth on refused, so that what a failed run still does is seen to take no memory.
+meets no refusal; the first growths are those for its words. A run that met one has to end in status 4, with the beginning
+of the row's output, and with the beginning of the row's messages followed by the line about memory. Each run is repeated
+with all growths from the Nth on refused, to show that what a failed run still does takes no memory.
 
-A list that is collected asks for room ahead of its need; where that is refused, it asks at once for what it needs. A
-run that goes on so has to do all that the row does, and is made again with that second growth refused, too, which has
-to end in status 4.
+A list that is collected asks for more room than it needs; if that is refused, it asks at once for just what it needs. A
+run that continues that way has to do everything that the row does, and is repeated with that second growth refused, too,
+which has to end in status 4.
 
-Likewise with the Nth call that opens, looks at, lists, reads or writes, alone and with all from there on: status 3, the
-beginning of the output, and the beginning of the messages with a line on what failed, as far as the error output takes
-it. A name in a folder that can't be looked at is read as a file. Where the system lacks memory for such a call, the
-status is 4, but for the input and the outputs, which have failed. Last, each read and write moves a single byte, which
-changes nothing.
+The same is done with the Nth call that opens, looks at, lists, reads or writes, alone and with all calls from there on:
+status 3, the beginning of the output, and the beginning of the messages with a line about what failed, as far as the error
+output accepts it. A name in a folder that can't be looked at is read as a file. If the system lacks memory for such a
+call, the status is 4, except for the input and the outputs, which have failed. Last, each read and write moves a single
+byte, which changes nothing.
 
-For each row a line `ok ROW`, with how many growths were refused, how many of them were ahead of need, and how many
+Prints for each row a line `ok ROW`, with how many growths were refused, how many of them were ahead of need, and how many
 calls; or `not ok ROW` with the first run that does otherwise.
 """
 import errno
@@ -95,18 +95,18 @@ note p.rules:1: no answer for program: /bin/id sda
 """
 
 # a rule that finds no device, one that asks a program and jumps, one that is jumped over, one that looks up the parent
-# and comes too late with an owner, and a line that is not read
-TOLD_RULES = """\
+# and sets an owner too late, and a line that is not read
+REPORTED_RULES = """\
 SUBSYSTEM=="block", SUBSYSTEMS=="usb", ATTRS{serial}=="7", OWNER="a"
 PROGRAM=="/bin/id %k", RESULT=="ab*", SYMLINK+="by/$result{1}", OWNER:="root", RUN+="/bin/log %k", GOTO="end"
 TAG+="never"
 LABEL="end", IMPORT{builtin}="hwdb --subsystem=usb", ENV{B}+="b", OWNER="b"
 ENV{C}="$nope"
 """
-TOLD_FILES = {"w.rules": TOLD_RULES, f"{SECOND}/usb.hwdb": "usb:v1D6B*\n ID_VENDOR=Linux\n"}
-TOLD = "C: add\nP: /a/sda\nU: block\nQ: /bin/id sda\nR: 0 ab cd\nP: /a\nU: usb\nE: MODALIAS=usb:v1D6Bp0002\n"
-TOLD_MESSAGE = "w.rules:5: V6 bad substitution: $nope\n"
-TOLD_ANSWER = """\
+REPORTED_FILES = {"w.rules": REPORTED_RULES, f"{SECOND}/usb.hwdb": "usb:v1D6B*\n ID_VENDOR=Linux\n"}
+REPORTED = "C: add\nP: /a/sda\nU: block\nQ: /bin/id sda\nR: 0 ab cd\nP: /a\nU: usb\nE: MODALIAS=usb:v1D6Bp0002\n"
+REPORTED_MESSAGE = "w.rules:5: V6 bad substitution: $nope\n"
+REPORTED_ANSWER = """\
 event add /a/sda
 owner root
 link by/ab
@@ -117,7 +117,7 @@ env ID_VENDOR=Linux
 env SUBSYSTEM=block
 run program /bin/log sda
 """
-TOLD_SOURCES = """\
+REPORTED_SOURCES = """\
 event add /a/sda
 w.rules:2: owner root
 w.rules:2: link by/ab
@@ -128,7 +128,7 @@ w.rules:4: env ID_VENDOR=Linux
 -: env SUBSYSTEM=block
 w.rules:2: run program /bin/log sda
 """
-TOLD_WHY = """\
+REPORTED_WHY = """\
 why w.rules:5: not read: V6 bad substitution: $nope
 why w.rules:1: SUBSYSTEM=="block": holds, block
 why w.rules:1: SUBSYSTEMS=="usb": sda fails, block, a holds
@@ -152,7 +152,7 @@ KERNEL=="[[:alpha:]]"
 ENV{B}="$nope"
 ATTR=="x"
 """
-FAULTY_RULES_TOLD = """\
+FAULTY_RULES_REPORTED = """\
 v.rules:1: V2 unknown key: FOO
 v.rules:2: V3 operator not allowed: ACTION
 v.rules:3: S3 operator read as =: ENV
@@ -163,7 +163,7 @@ v.rules:6: V6 bad substitution: $nope
 v.rules:7: V4 attribute missing or not allowed: ATTR
 """
 
-# a rule with most lints, among rules that it earns some by
+# a rule with most lints, among rules that cause some of its lints
 LINTED_RULES = """\
 GOTO="end"
 SUBSYSTEM=="block", KERNEL=="*", ATTRS{idVendor}=="1D6B", ATTRS{busnum}=="^1", ATTRS{bInterfaceNumber}=="01", ENV{A}="1", \\
@@ -173,7 +173,7 @@ ENV{A}=="1"
 # devdry: ignore W1
 LABEL="end", MODE="8"
 """
-LINTED_RULES_TOLD = """\
+LINTED_RULES_REPORTED = """\
 l.rules:2: W1 mode is no octal number: x
 l.rules:2: W2 sign of the shell, and no shell: cp > b
 l.rules:2: W3 program without a path: cp > b
@@ -190,7 +190,7 @@ l.rules:2: W13 rule never reached: end
 """
 
 FAULTY_SOURCE = " A=1\n\nm1\n\nm2\n =x\n B\nm3\n C=1\n\n[[.a.]]\n D=1\n"
-FAULTY_SOURCE_TOLD = """\
+FAULTY_SOURCE_REPORTED = """\
 s.hwdb:1: H1 property without a match: A=1
 s.hwdb:3: H2 match without a property: m1
 s.hwdb:6: H5 empty key: =x
@@ -216,9 +216,9 @@ def as_bytes(text):
 
 
 class Row:
-    """A run: its words, the files that stand around it, its input, and what it comes to with ample memory.
+    """A run: its words, the files that it finds, its input, and its result if memory is ample.
 
-    `line` is what the error output ends in where the run fails. An output or a line of None is that of the run itself.
+    `line` is the last line of the error output if the run fails. An output or a line of None is that of the run itself.
     """
 
     def __init__(self, name, words, files=(), events="", output="", messages="", line="", status=0):
@@ -238,7 +238,7 @@ ROWS = [
             f"{FIRST}/60-a.hwdb": "m*\n A=1\n",
             f"{FIRST}/70-b.hwdb": "m*\n A=2\n",
             f"{SECOND}/70-b.hwdb": "z\n A=2\n",
-            # a folder whose name counts is passed over, and is no file that can't be read
+            # a folder whose name matters is skipped, and is not a file that can't be read
             f"{SECOND}/75-c.hwdb/inner": "",
         },
         output="60-a.hwdb:2: A=1\n"),
@@ -264,28 +264,28 @@ ROWS = [
         "C: add\nP: /a\n\nC: add\nP: /a\nP: /b\n", "event add /a\nenv ACTION=add\nenv DEVPATH=/a\n\n",
         "v.rules:1: V2 unknown key: FOO\n", "block 2, line 3: path\n", 1),
     Row(
-        "where lines come from", ["events", "-r", ".", "--sources", "w.rules"], TOLD_FILES, TOLD, TOLD_SOURCES + "\n", TOLD_MESSAGE),
+        "where lines come from", ["events", "-r", ".", "--sources", "w.rules"], REPORTED_FILES, REPORTED, REPORTED_SOURCES + "\n", REPORTED_MESSAGE),
     Row(
-        "what rules met", ["events", "-r", ".", "--why", "w.rules", "w.rules"], TOLD_FILES, TOLD,
-        TOLD_ANSWER + TOLD_WHY + "\n", TOLD_MESSAGE),
+        "what rules met", ["events", "-r", ".", "--why", "w.rules", "w.rules"], REPORTED_FILES, REPORTED,
+        REPORTED_ANSWER + REPORTED_WHY + "\n", REPORTED_MESSAGE),
     Row(
-        "both, over two blocks", ["events", "-r", ".", "--why", "w.rules", "--sources", "w.rules"], TOLD_FILES, TOLD + "\n" + TOLD,
-        (TOLD_SOURCES + TOLD_WHY + "\n") * 2, TOLD_MESSAGE),
+        "both, over two blocks", ["events", "-r", ".", "--why", "w.rules", "--sources", "w.rules"], REPORTED_FILES, REPORTED + "\n" + REPORTED,
+        (REPORTED_SOURCES + REPORTED_WHY + "\n") * 2, REPORTED_MESSAGE),
     Row(
-        "what rules ask", ["events", "-r", ".", "--questions", "w.rules"], TOLD_FILES, TOLD.replace("Q: /bin/id sda\nR: 0 ab cd\n", "") + "\n" + TOLD,
-        "event add /a/sda\nQ: /bin/id sda\n\nevent add /a/sda\n\n", TOLD_MESSAGE),
+        "what rules ask", ["events", "-r", ".", "--questions", "w.rules"], REPORTED_FILES, REPORTED.replace("Q: /bin/id sda\nR: 0 ab cd\n", "") + "\n" + REPORTED,
+        "event add /a/sda\nQ: /bin/id sda\n\nevent add /a/sda\n\n", REPORTED_MESSAGE),
     Row(
-        "a line that no rule has", ["events", "-r", ".", "--why", "w.rules:9", "w.rules"], TOLD_FILES, TOLD, "", TOLD_MESSAGE,
+        "a line that no rule has", ["events", "-r", ".", "--why", "w.rules:9", "w.rules"], REPORTED_FILES, REPORTED, "", REPORTED_MESSAGE,
         "devdry: --why w.rules:9: no such rule, the nearest is w.rules:5\n", 2),
     Row(
         "faulty rules", ["verify", "v.rules"], {"v.rules": FAULTY_RULES},
-        output="1 files checked, 0 good, 1 bad\n", messages=FAULTY_RULES_TOLD, status=1),
+        output="1 files checked, 0 good, 1 bad\n", messages=FAULTY_RULES_REPORTED, status=1),
     Row(
         "rules with lints", ["verify", "--lint", "--ignore", "comments", "l.rules"], {"l.rules": LINTED_RULES},
-        output="1 files checked, 0 good, 1 bad\n", messages=LINTED_RULES_TOLD, status=1),
+        output="1 files checked, 0 good, 1 bad\n", messages=LINTED_RULES_REPORTED, status=1),
     Row(
         "a faulty source", ["update", "-s", "s.hwdb"], {"s.hwdb": FAULTY_SOURCE},
-        output=EMPTY_INDEX, messages=FAULTY_SOURCE_TOLD, status=1),
+        output=EMPTY_INDEX, messages=FAULTY_SOURCE_REPORTED, status=1),
     Row("an index written", ["update", "t.hwdb"], {"t.hwdb": "a*\n K=V\n"}, output=INDEX),
     Row("an index", ["query", "--index", "a.index", "abc"], {"a.index": INDEX}, output="K=V\n"),
     Row("an index, line by line", ["query", "--index", "a.index", "-"], {"a.index": INDEX}, "abc\nb\na", "K=V\n\n\nK=V\n\n"),
@@ -313,7 +313,7 @@ class Runs:
         self.environment = {"LD_PRELOAD": library, "REFUSED": f"{folder}/refused"}
 
     def run(self, **refused):
-        """A run with this refused, and the name of the first call that was, or nothing."""
+        """A run with this refused, and the name of the first call that was refused, or nothing."""
         environment = {**self.environment, **{name: str(at) for name, at in refused.items()}}
         done = subprocess.run(
             [self.program, *self.row.words], cwd=f"{self.folder}/here", env=environment, input=self.row.events,
@@ -333,11 +333,11 @@ class Runs:
 
 
 class Wrong(Exception):
-    """What a run did otherwise."""
+    """What a run did that it should not have done."""
 
 
 def is_whole(done, row):
-    """Whether a run came to all that its row does."""
+    """Whether a run did everything that its row does."""
     return (done.returncode, done.stdout, done.stderr) == (row.status, row.output, row.messages + row.line)
 
 
@@ -347,22 +347,22 @@ def check(which, done, is_right, what):
 
 
 def check_refused(which, done, row):
-    """Looks at a run that was refused memory."""
+    """Checks a run that was refused memory."""
     check(which, done, done.returncode == 4, "another status than 4")
     check(which, done, row.output.startswith(done.stdout), "the output is no beginning of the row's")
     check(which, done, done.stderr.endswith(OUT_OF_MEMORY), "nothing is said of memory")
-    told = done.stderr.removesuffix(OUT_OF_MEMORY)
-    check(which, done, row.messages.startswith(told), "the messages are no beginning of the row's")
+    reported = done.stderr.removesuffix(OUT_OF_MEMORY)
+    check(which, done, row.messages.startswith(reported), "the messages are no beginning of the row's")
 
 
 def check_failed(which, done, row, call):
-    """Looks at a run in which a call failed."""
+    """Checks a run in which a call failed."""
     check(which, done, done.returncode == 3, "another status than 3")
     check(which, done, row.output.startswith(done.stdout), "the output is no beginning of the row's")
     line = FAILED.search(done.stderr)
     check(which, done, line or call == "write", "nothing is said of a failure")
-    told = done.stderr[:line.start()] if line else done.stderr
-    check(which, done, (row.messages + row.line).startswith(told), "the messages are no beginning of the row's")
+    reported = done.stderr[:line.start()] if line else done.stderr
+    check(which, done, (row.messages + row.line).startswith(reported), "the messages are no beginning of the row's")
 
 
 def refuse_growths(runs, row):

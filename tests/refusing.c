@@ -1,8 +1,8 @@
 /* Refuses what a program asks of its system. Loaded before the C library (LD_PRELOAD), it counts the growths of memory
- * that the program's own code asks for, from 1 on, and refuses those from GROWTHS_FROM to GROWTHS_TO; likewise its
- * calls that open, look at, list, read and write, from CALLS_FROM to CALLS_TO, by the fault of the number CALLS_FAULT.
- * The name of the first that it refuses goes into the file REFUSED. Where SHORT is set, each read and write moves a byte. What the C library does on its own
- * account is neither counted nor refused: a call counts where it returns into the program.
+ * that the program's own code asks for, from 1 on, and refuses those from GROWTHS_FROM to GROWTHS_TO; and also its calls
+ * that open, look at, list, read and write, from CALLS_FROM to CALLS_TO, with the error number CALLS_FAULT. The name of
+ * the first call that it refuses is written to the file REFUSED. If SHORT is set, each read and write moves one byte.
+ * What the C library does for itself is neither counted nor refused: a call counts if it returns into the program.
  * Built by: cc -shared -fPIC -O2 -o refusing.so refusing.c -ldl */
 #define _GNU_SOURCE
 #include <dirent.h>
@@ -25,7 +25,7 @@ static struct kind growths = {.fault = ENOMEM}, calls;
 static int moves_a_byte;
 static uintptr_t begin, end;
 
-/* The first object that is told of is the program. */
+/* The first object that is reported is the program. */
 static int note_program(struct dl_phdr_info *info, size_t size, void *data) {
     (void)size, (void)data;
     for (int i = 0; i < info->dlpi_phnum; i++) {
@@ -99,7 +99,7 @@ int posix_memalign(void **block, size_t alignment, size_t size) {
     return REFUSED(growths, "posix_memalign") ? ENOMEM : real(block, alignment, size);
 }
 
-/* The mode stands behind the flags, where they ask for one. */
+/* The mode follows the flags, if they need one. */
 #define MODE(flags) \
     mode_t mode = 0; \
     if ((flags) & (O_CREAT | __O_TMPFILE)) { \

@@ -1,12 +1,11 @@
 #!/usr/bin/env python3
 """Runs the program as the tables in tests/tables/ say, each row in a folder of its own, and compares what it wrote.
 
-Each table is a file of tests/tables/ with a list ROWS; what tables share stands in tests/tables/kinds/. A row is told in
-one line, `ok TABLE: NAME`, or `not ok TABLE: NAME` with what differs below it.
+Each table is a file of tests/tables/ with a list ROWS; what tables share is in tests/tables/kinds/. A row is reported in
+one line, `ok TABLE: NAME`, or `not ok TABLE: NAME` followed by what differs.
 
 usage: tests/rows.py PROGRAM [TABLE..]    without TABLE all of them
 """
-import contextlib
 import importlib
 import os
 import shutil
@@ -22,12 +21,12 @@ from tables.kinds.row import FOLDER, PIPE, Begins, Link, Moded, Read, as_bytes  
 
 SECONDS = 60
 
-# a user for whom permissions count, where the rows are root's
+# a user for whom permissions count, for rows that root would run
 PLAIN_USER = ["setpriv", "--reuid=65534", "--regid=65534", "--clear-groups"]
 
 
 def make_files(folder, files):
-    """Writes the files of a row below a folder; their permissions last, so that none is in the way of another."""
+    """Writes the files of a row below a folder, with their permissions last, so that none prevents writing another."""
     moded = []
     for name, text in files.items():
         path = Path(folder, os.fsdecode(name))
@@ -47,22 +46,18 @@ def make_files(folder, files):
         path.chmod(mode)
 
 
-@contextlib.contextmanager
-def as_plain_user(program, folder):
-    """How the program is started by a user for whom permissions count, who has to reach it; None where it can't be."""
+def as_plain_user(program, reached):
+    """How the program is started by a user for whom permissions count, in a copy below a folder; None if that is impossible."""
     if os.geteuid() != 0:
-        yield [program]
-    elif not shutil.which(PLAIN_USER[0]):
-        yield None
-    else:
-        os.chmod(folder, 0o755)
-        with tempfile.TemporaryDirectory() as reached:
-            os.chmod(reached, 0o755)
-            yield [*PLAIN_USER, shutil.copy(program, reached)]
+        return [program]
+    if not shutil.which(PLAIN_USER[0]):
+        return None
+    os.chmod(reached, 0o755)
+    return [*PLAIN_USER, shutil.copy(program, reached)]
 
 
 def differences(what, wanted, got):
-    """The lines that tell where an output is not the wanted one; none where it is."""
+    """The lines that say where an output differs from the wanted one; empty if it does not."""
     if isinstance(wanted, Read):
         try:
             read = wanted.reader(got)
@@ -75,20 +70,21 @@ def differences(what, wanted, got):
     return [f"    {what} wanted: {wanted[:2000]!r}", f"    {what} got:    {got[:2000]!r}"]
 
 
-def run(program, row, folder):
-    """What comes of the run of a row in a folder that has its files; None where no plain user can be had for it."""
+def run(started, row, folder):
+    """The result of running a row in a folder that has its files, by how the program is started; None if it can't be."""
     words = row.words.split() if isinstance(row.words, str) else row.words
-    with as_plain_user(program, folder) if row.plain else contextlib.nullcontext([program]) as started:
-        return started and subprocess.run(
-            [*started, *words], input=as_bytes(row.input), capture_output=True, cwd=folder, timeout=SECONDS)
+    if row.plain:
+        os.chmod(folder, 0o755)
+    return started and subprocess.run(
+        [*started, *words], input=as_bytes(row.input), capture_output=True, cwd=folder, timeout=SECONDS)
 
 
-def run_row(program, table, row):
-    """Runs one row, and gives the lines that tell how it went."""
+def run_row(started, table, row):
+    """Runs one row, and returns the lines that report it."""
     with tempfile.TemporaryDirectory() as folder:
         make_files(folder, row.files)
         try:
-            came = run(program, row, folder)
+            came = run(started, row, folder)
         except subprocess.TimeoutExpired:
             return [f"not ok {table}: {row.name}", f"    no end within {SECONDS} seconds"]
     if came is None:
@@ -100,18 +96,20 @@ def run_row(program, table, row):
 
 
 def main(program, tables):
-    """Runs all rows of the tables, and answers whether each went as it says."""
+    """Runs all rows of the tables, and returns whether each did what it should."""
     tables = tables or sorted(path.stem for path in (HERE / "tables").glob("*.py"))
     rows = [(table, row) for table in tables for row in importlib.import_module(f"tables.{table}").ROWS]
     names = [(table, row.name) for table, row in rows]
     twice = sorted({name for name in names if names.count(name) > 1})
     for table, name in twice:
         print(f"not ok {table}: two rows are called {name}")
-    with ThreadPoolExecutor(os.cpu_count()) as pool:
-        told = list(pool.map(lambda pair: run_row(program, *pair), rows))
-    for lines in told:
+    with tempfile.TemporaryDirectory() as reached, ThreadPoolExecutor(os.cpu_count()) as pool:
+        # (copied once, before any row runs: a process that starts while the copy is being written would keep it busy)
+        plain = as_plain_user(program, reached)
+        reported = list(pool.map(lambda pair: run_row(plain if pair[1].plain else [program], *pair), rows))
+    for lines in reported:
         print("\n".join(lines))
-    return not twice and not any(lines[0].startswith("not ok ") for lines in told)
+    return not twice and not any(lines[0].startswith("not ok ") for lines in reported)
 
 
 if __name__ == "__main__":
@@ -120,6 +118,6 @@ if __name__ == "__main__":
     try:
         sys.exit(not main(os.path.realpath(sys.argv[1]), sys.argv[2:]))
     except Exception as fault:
-        # (whoever counts the lines sees a table that can't be read, too)
+        # (so that whoever counts the lines also sees a table that can't be read)
         print(f"not ok the rows are all run: {fault!r}")
         raise

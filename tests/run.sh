@@ -1,13 +1,13 @@
 #!/usr/bin/env bash
-# What a user meets beside the proofs: the runs of tests/tables/, options in the pages and completions, installing, what
-# docs/ and README.md show, the recipes, devdry-capture, terminals, damaged indexes, and the program where its system
-# refuses something; and that each wrong body still fits its file. About a minute. The last line is `N passed, M failed`.
-# usage: tests/run.sh [PROGRAM]    PROGRAM is build/devdry unless one is given
+# What a user meets apart from the proofs: the runs of tests/tables/, options in the pages and completions, installing, what
+# docs/ and README.md show, the recipes, devdry-capture, terminals, damaged indexes, and the program when its system refuses
+# something; and that each wrong body still fits its file. About a minute. The last line is `N passed, M failed`.
+# usage: tests/run.sh [PROGRAM]    PROGRAM is build/devdry by default
 set -uo pipefail
 cd "$(dirname "$0")/.." || exit 1
 PROGRAM=$(realpath "${1:-build/devdry}")
 export PROGRAM
-# (run by make, it hands nothing of that on to those that the tests run)
+# (if it is run by make, it passes nothing of that on to the programs that the tests run)
 unset MAKEFLAGS MFLAGS
 log=$(mktemp)
 trap 'rm -f "$log"' EXIT

@@ -1,12 +1,12 @@
-# What the tests of tools/devdry-capture share; to be sourced behind lib.sh. It makes a tree like /sys below the temporary
-# folder, `$sys`, with a disk, a keyboard and a network card, and what udevadm prints of some of them, `$work/db`.
+# What the tests of tools/devdry-capture share; to be sourced after lib.sh. It makes a tree like /sys below the temporary
+# folder, `$sys`, with a disk, a keyboard and a network card, and what udevadm prints about some of them, `$work/db`.
 # shellcheck shell=bash disable=SC2034,SC2154
 
 capture=$top/tools/devdry-capture
 sys=$work/sys
 bus=$work/sys/bus
 
-# device PATH SUBSYSTEM DRIVER LINE..: a device below the tree, its driver `-` for none, and the lines of its uevent
+# device PATH SUBSYSTEM DRIVER LINE..: a device below the tree, with `-` for no driver, and the lines of its uevent
 device() {
     local folder=$sys$1
     mkdir -p "$folder" "$bus/$2"
@@ -52,7 +52,7 @@ device $card/net/eth0 net - INTERFACE=eth0 IFINDEX=2
 printf '52:54:00:12:34:56\n' > "$sys$card/net/eth0/address"
 mkdir -p "$sys/class/net" && ln -s "$sys$card/net/eth0" "$sys/class/net/eth0"
 
-# What `udevadm info --export-db` prints, of two editions of it.
+# What `udevadm info --export-db` prints, in two versions.
 cat > "$work/db" << END
 P: $card
 M: 0000:00:03.0
@@ -91,5 +91,5 @@ E: INTERFACE=eth0
 E: SUBSYSTEM=net
 END
 
-# ends COMMAND..: its status, and below it all that it says
+# ends COMMAND..: its status, followed by all that it prints
 ends() { said=$("$@" 2>&1); printf '%s\n%s' $? "$said"; }

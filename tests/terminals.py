@@ -1,10 +1,10 @@
 #!/usr/bin/env python3
-"""Runs the program at terminals: what is written in colors, and what is said before event blocks are awaited.
+"""Runs the program at terminals: what is written in colors, and what is said before it waits for event blocks.
 
 usage: tests/terminals.py PROGRAM
 
-Each terminal is one that python makes. A line `ok CASE`, or `not ok CASE` with what was wanted and what came below it,
-tells of each case.
+Each terminal is a pseudoterminal that Python makes. Each case is reported in a line `ok CASE`, or `not ok CASE` followed
+by what was wanted and what came.
 """
 import os
 import pty
@@ -15,7 +15,7 @@ import tempfile
 import tty
 from pathlib import Path
 
-from read_formats import first_sentence, told
+from read_formats import first_sentence, reported
 
 SECONDS = 10
 
@@ -39,17 +39,17 @@ BLOCK = "C: add\nP: /devices/x\n\n"
 
 
 def differs(case, wanted, came):
-    told(case, "" if wanted == came else f"wanted: {wanted!r}\n    came:   {came!r}")
+    reported(case, "" if wanted == came else f"wanted: {wanted!r}\n    came:   {came!r}")
 
 
 def environment(no_color):
-    """The environment of a run, with NO_COLOR as it is given, or without it."""
+    """The environment of a run, with NO_COLOR as given, or without it."""
     own = {key: value for key, value in os.environ.items() if key != "NO_COLOR"}
     return own if no_color is None else {**own, "NO_COLOR": no_color}
 
 
 def terminal():
-    """The two ends of a terminal: that of who sits at it, and the program's, which hands bytes on as they come."""
+    """The two ends of a terminal: that of the user, and the program's, which passes bytes on unchanged."""
     ours, its = pty.openpty()
     tty.setraw(its)
     return ours, its
@@ -70,7 +70,7 @@ def all_of(ours):
 
 
 def at_terminals(program, folder, words, places, no_color=None):
-    """What a run writes to its standard output and its standard error, of which those that are named are terminals."""
+    """What a run writes to its standard output and its standard error, of which the named ones are terminals."""
     ends = {place: terminal() for place in places}
     files = {place: ends[place][1] if place in ends else subprocess.PIPE for place in ("stdout", "stderr")}
     with subprocess.Popen([program, *words.split()], cwd=folder, env=environment(no_color), stdin=subprocess.DEVNULL, **files) as run:
@@ -105,7 +105,7 @@ def check_colors(program, folder):
 
 
 def line_of(file):
-    """The next line of an output, or what came of it in ten seconds."""
+    """The next line of an output, or what it had after ten seconds."""
     said = b""
     while not said.endswith(b"\n") and select.select([file], [], [], SECONDS)[0]:
         byte = os.read(file.fileno(), 1)
@@ -116,7 +116,7 @@ def line_of(file):
 
 
 def check_waiting(program, folder, words, answer):
-    """Types a block at a terminal that is the standard input, once the line on waiting is there, and then ends the input."""
+    """Types a block at a terminal that is the standard input, once the line about waiting is there, and then ends the input."""
     ours, its = pty.openpty()
     with subprocess.Popen([program, *words.split()], cwd=folder, stdin=its, stdout=subprocess.PIPE, stderr=subprocess.PIPE) as run:
         os.close(its)
@@ -130,12 +130,12 @@ def check_waiting(program, folder, words, answer):
             run.kill()
             output, messages = b"no end in ten seconds", b""
         differs(f"{words}: nothing else is told", b"", messages)
-        told(f"{words}: it ends", "" if run.returncode in (0, 1) else f"status {run.returncode}, {output!r}")
+        reported(f"{words}: it ends", "" if run.returncode in (0, 1) else f"status {run.returncode}, {output!r}")
     os.close(ours)
 
 
 def check_silence(program, folder, words, at_terminal):
-    """A run that takes no blocks, or takes them from no terminal, says nothing of waiting."""
+    """A run that takes no blocks, or takes them from something other than a terminal, says nothing about waiting."""
     ours, its = pty.openpty()
     came = subprocess.run([program, *words.split()], cwd=folder, stdin=its if at_terminal else subprocess.DEVNULL, capture_output=True,
                           timeout=SECONDS)
@@ -169,6 +169,6 @@ if __name__ == "__main__":
     try:
         main(os.path.realpath(sys.argv[1]))
     except Exception as fault:
-        # (whoever counts the lines sees a run that was cut off, too)
+        # (so that whoever counts the lines also sees a run that was cut off)
         print(f"not ok the program at terminals: {fault!r}")
         raise

@@ -1,5 +1,5 @@
 #!/usr/bin/env bash
-# The lines that docs/architecture.md counts of what a reader has to believe are those of the files, and no file is left out.
+# The lines of what a reader has to believe, as docs/architecture.md counts them, are those of the files, and no file is left out.
 set -uo pipefail
 # shellcheck source=lib.sh
 . "$(dirname "$0")/lib.sh"

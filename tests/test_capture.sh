@@ -109,7 +109,7 @@ E: DEVNAME=/dev/bus/usb/001/002
 E: DEVTYPE=usb_device
 E: DRIVER=usb" "$("$capture" --sysfs "$sys" "$sys$keyboard/1-1:1.0/input/input7/event3")"
 
-# Devices by their nodes. /dev/null is there on every machine, with the numbers 1:3; of others there are links here.
+# Devices by their nodes. /dev/null exists on every machine, with the numbers 1:3; for others there are links here.
 device /devices/virtual/mem/null mem - MAJOR=1 MINOR=3 DEVNAME=null DEVMODE=0666
 mkdir -p "$sys/dev/char" "$sys/dev/block"
 ln -s ../../devices/virtual/mem/null "$sys/dev/char/1:3"
@@ -166,7 +166,7 @@ for awk in mawk gawk 'busybox awk' original-awk; do
     fi
 done
 
-# What udev has kept, by an udevadm of one's own.
+# What udev has stored, as an udevadm of our own reports it.
 mkdir "$work/own"
 cat > "$work/own/udevadm" << END
 #!/bin/sh
@@ -177,7 +177,7 @@ case \$* in
 esac
 END
 chmod +x "$work/own/udevadm"
-# (the real /sys is the only tree that udevadm is asked of: here the tree stands in its place)
+# (udevadm is asked only about the real /sys: here the tree takes its place)
 sed "s|sysfs=/sys udevadm|sysfs=$sys udevadm|" "$capture" > "$work/own/capture" && cp "$capture.awk" "$work/own"
 own() { PATH=$work/own:$PATH sh "$work/own/capture" "$@"; }
 same "with what udev has kept" "${of_card%%"$of_pci_card"}E: DEVPATH=$card/net/eth0
@@ -211,7 +211,7 @@ devdry-capture: ${deep%/d}: its block has over 65,536 bytes, and is left out" \
 same "no device" "1
 devdry-capture: $sys/class: no device" "$(said=$("$capture" --sysfs "$sys" "$sys/class" 2>&1); printf '%s\n%s' $? "$said")"
 
-# A file that is no record, one that can't be read, and a tree without a device.
+# A file that is not a record, one that can't be read, and a tree without a device.
 echo "looking at device '/devices/x':" > "$work/walk"
 same "--from of what is no record" "1
 devdry-capture: $work/walk: it has no device" "$(ends "$capture" --from "$work/walk")"

@@ -7,7 +7,7 @@ set -uo pipefail
 # shellcheck source=sys_tree.sh
 . "$(dirname "$0")/sys_tree.sh"
 
-# The attributes of `cciss!c0d1` are what can go wrong in a value.
+# The attributes of `cciss!c0d1` have everything that can go wrong in a value.
 odd=$card/cciss0/block/cciss!c0d1
 device "$odd" block - MAJOR=104 MINOR=16 'DEVNAME=cciss!c0d1'
 # value NAME TEXT: an attribute
@@ -83,8 +83,8 @@ same "the keys of several devices" "$walk_of_disk
 
 $of_odd" "$("$capture" --walk --sysfs "$sys" "$sys$disk/block/sda" "$sys$odd" 2> /dev/null)"
 
-# met DEVICE: its keys that are no rule, and those that a device other than their own meets, by devdry. Each stands in a
-# rule beside the name of its device, which leaves it as a property.
+# met DEVICE: those of its keys that are not a rule, and those that hold for a device other than their own, by devdry.
+# Each is in a rule with the name of its device, which sets that name as a property.
 met() {
     local walk block
     walk=$("$capture" --walk --sysfs "$sys" "$sys$1" 2> /dev/null)
@@ -100,7 +100,7 @@ met() {
 for path in "$odd" "$disk/block/sda" "$disk/block/sda/sda1" "$keyboard/1-1:1.0/input/input7/event3" "$card/net/eth0"; do
     same "devdry takes each key of ${path##*/}, and each holds for its device" "" "$(met "$path")"
 done
-# The same by the reading of a value and by the patterns that udev takes, those of the C library.
+# The same by udev's reading of a value and by its patterns, which are those of the C library.
 if has python3; then
     said=$("$capture" --walk --sysfs "$sys" "$sys$odd" | python3 -c '
 import ctypes, re, sys

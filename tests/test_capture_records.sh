@@ -200,7 +200,7 @@ G: systemd
 S: net/first
 P: $card" "$("$capture" --from "$work/added" $card/net/eth0 | head -n 14)"
 
-# A version of rules that gives a link no more is told from one that does.
+# Rules that no longer give a link can be distinguished from rules that do.
 echo 'SUBSYSTEM=="net", SYMLINK+="net/first", TAG+="systemd", ENV{ID_NET_NAME}="lan0"' > "$work/old.rules"
 echo 'SUBSYSTEM=="net", TAG+="systemd"' > "$work/new.rules"
 # answer RULES OPTION..: what the rules make of the card, captured with these options

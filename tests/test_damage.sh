@@ -1,6 +1,6 @@
 #!/usr/bin/env bash
-# Small indexes that are damaged by a seed: each is refused as a plain reading of its bytes says, or answers as that
-# does. bench/hostile.sh tries as many more as it is asked for.
+# Small indexes that are damaged from a seed: each is refused, or answers, as a plain reading of its bytes says.
+# bench/hostile.sh tries as many more as it is asked for.
 set -uo pipefail
 # shellcheck source=lib.sh
 . "$(dirname "$0")/lib.sh"

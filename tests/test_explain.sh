@@ -1,11 +1,11 @@
 #!/usr/bin/env bash
-# What `devdry explain` prints of a code is the section of docs/messages.md on it, byte for byte, without the signs of its
+# What `devdry explain` prints about a code is its section in docs/messages.md, byte for byte, without the signs of the
 # heading.
 set -uo pipefail
 # shellcheck source=lib.sh
 . "$(dirname "$0")/lib.sh"
 
-# section CODE: the section on it, without the empty lines behind it
+# section CODE: its section, without the empty lines after it
 section() {
     awk -v code="$1" '
         /^##+ / { inside = ($1 == "###" && $2 == code); sub(/^### /, "") }

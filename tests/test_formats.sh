@@ -1,5 +1,5 @@
 #!/usr/bin/env bash
-# What readers of other programs have of each format: python's json, GitHub's runner, a problem matcher.
+# What readers of other programs make of each format: Python's json, GitHub's runner, a problem matcher.
 set -uo pipefail
 # shellcheck source=lib.sh
 . "$(dirname "$0")/lib.sh"

@@ -1,5 +1,5 @@
 #!/usr/bin/env bash
-# `make install` puts its files where they belong, `make uninstall` takes just these away, and the Debian package can be
+# `make install` puts its files where they belong, `make uninstall` removes just these, and the Debian package can be
 # installed, run and removed, in a root folder of its own.
 set -uo pipefail
 # shellcheck source=lib.sh
@@ -9,7 +9,7 @@ make_in() { make --silent -C "$top" "$@" PROGRAM="$program"; }
 sorted() { LC_ALL=C sort; }
 files_of() { (cd "$1" && find . ! -type d | sed 's/^\.//' | sorted); }
 
-# wanted PREFIX ZSHDIR END: what `make install` puts there, the pages with that end
+# wanted PREFIX ZSHDIR END: what `make install` puts there, with this ending for the pages
 wanted() {
     printf '%s\n' "$1"/bin/devdry{,-capture} "$1/share/devdry/devdry-capture.awk" "$2"/_devdry{,-capture} \
         "$1"/share/bash-completion/completions/devdry{,-capture} "$1"/share/fish/vendor_completions.d/devdry{,-capture}.fish
@@ -62,7 +62,7 @@ fi
 machine=$work/machine
 mkdir -p "$machine"/var/lib/dpkg/{info,updates,triggers}
 touch "$machine/var/lib/dpkg/status"
-# (a root folder of its own has no libc6 that dpkg would know of)
+# (in a root folder of its own dpkg knows no libc6)
 in_machine() { "${as_root[@]}" dpkg --root="$machine" --log=/dev/null --force-depends --force-script-chrootless "$@"; }
 goes_well "dpkg -i" in_machine -i "$deb"
 same "the program that it installed runs" "$("$program" --version)" "$(env -i "$machine/usr/bin/devdry" --version)"

@@ -14,7 +14,7 @@ helps() {
 commands=$("$program" --help | sed -n '/^Commands:/,/^$/s/^  \([a-z]*\) .*/\1/p' | sort)
 verbs=$(grep -vx help <<< "$commands")
 
-# The codes, by what is said of another.
+# The codes, by what is said about an unknown one.
 codes=$("$program" explain none 2>&1 | sed -n 's/.*possible values: \(.*\)\]$/\1/p' | tr -d , | tr ' ' '\n' | LC_ALL=C sort)
 
 # The options that the section OPTIONS of a page lists.
@@ -53,7 +53,7 @@ same "the synopsis of devdry-capture(1) has all of them but help and version" \
     "$(grep -vxE -e '-h|--help|-V|--version' <<< "$captures")" \
     "$(sed -n '/^\.Sh SYNOPSIS/,/^\.Sh DESC/p' "$top/man/devdry-capture.1" | grep -oE 'Fl Fl [a-z-]+' | sed 's/^Fl Fl /--/' | sort -u)"
 
-# What bash offers behind these words, of which the first is the program.
+# What bash offers after these words, the first of which is the program.
 bash_offers() {
     (
         complete() { completing=$2; }
@@ -96,7 +96,7 @@ same "bash offers the options of devdry-capture" "$captures" "$(bash_offers devd
 same "bash offers actions behind --action" "change" "$(bash_offers devdry-capture --action c)"
 
 if has zsh; then
-    # What the function of a program hands to _arguments for a command, whose first words of each spec are options.
+    # What the function of a program passes to _arguments for a command; the first words of each spec are options.
     zsh_offers() {
         zsh -f -c '
             _arguments() { if [ "$1" = -C ]; then state=argument; else print -l -- "${@#\*}"; fi; }

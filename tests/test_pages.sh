@@ -1,5 +1,5 @@
 #!/usr/bin/env bash
-# The man pages pass what checks man pages, where it is there.
+# The man pages pass what checks man pages, if that is installed.
 set -uo pipefail
 # shellcheck source=lib.sh
 . "$(dirname "$0")/lib.sh"
@@ -7,7 +7,7 @@ cd "$top/man" || exit 1
 
 for page in *.1; do
     if has mandoc; then
-        # (which other pages this machine has is no matter of this page)
+        # (which other pages this machine has does not matter here)
         same "$page by mandoc -T lint" "" \
             "$(mandoc -T lint "$page" 2>&1 | grep -F "$page:" | grep -v 'referenced manual not found')"
     else

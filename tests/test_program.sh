@@ -1,13 +1,13 @@
 #!/usr/bin/env bash
 # The statuses and the two outputs over the examples, answers before the next block, and outputs that fail: what a row of
-# tests/tables/ can't ask, which gives the program its whole input and takes its whole output.
+# tests/tables/ can't check, since it gives the program its whole input and takes its whole output.
 set -uo pipefail
 # shellcheck source=lib.sh
 . "$(dirname "$0")/lib.sh"
 cd "$work" || exit 1
 cp "$top"/examples/*.rules "$top"/examples/*.hwdb .
 
-# ends CASE STATUS OUTPUT ERRORS WORD..: the program ends so; of each text the first line is looked at
+# ends CASE STATUS OUTPUT ERRORS WORD..: the program ends in this way; only the first line of each text is compared
 ends() {
     local case=$1 status=$2 output=$3 errors=$4 got=0
     shift 4
@@ -20,7 +20,7 @@ ends "a bad file" 1 "1 files checked, 0 good, 1 bad" "mistakes.rules:2: V2 unkno
 ends "messages of the database" 0 "" "mistakes.hwdb:1: H1 property without a match: A=1" query none mistakes.hwdb
 ends "a query without a match" 0 "" "" query none trackball.hwdb
 
-# With --all, /dev/stdin is read where it is a file, and not behind a pipe.
+# With --all, /dev/stdin is read if it is a file, but not if it is a pipe.
 status=0
 "$program" verify --all /dev/stdin < disk.rules > out 2> err || status=$?
 same "--all and /dev/stdin that is a file" "0|1 files checked, 1 good, 0 bad|" "$status|$(cat out)|$(cat err)"
@@ -79,7 +79,7 @@ status=0
 same "an error output that is full" "3|" "$status|$(cat out)"
 
 if [ "$(id -u)" != 0 ] || has setpriv; then
-    # (a user without rights has to reach the program)
+    # (a user without rights must be able to reach the program)
     chmod 755 "$work" && cp "$program" "$work/devdry" && program=$work/devdry
     goes_well "pipes, odd names, a full output (bench/odd_files.sh)" "$top/bench/odd_files.sh" "$program"
 else

@@ -1,5 +1,5 @@
 #!/usr/bin/env bash
-# The recipes of examples/ci, each over a project with good files and over one with mistakes, by the tools that this
+# The recipes of examples/ci, each over a project with good files and over one with mistakes, with the tools that this
 # machine has.
 set -uo pipefail
 # shellcheck source=lib.sh
@@ -18,7 +18,7 @@ project() {
 project good disk.rules trackball.hwdb
 project bad mistakes.rules mistakes.hwdb
 
-# refused CASE TEXT COMMAND..: the command fails, and says the text
+# refused CASE TEXT COMMAND..: the command fails, and prints the text
 refused() {
     local case=$1 text=$2 said
     shift 2
@@ -79,7 +79,7 @@ udev/60-mine.hwdb'
 same "the hook takes udev's files alone" "$taken" \
     "$(printf '%s\n' "$taken" "$others" | grep -E "$(sed -n 's/^  files: \(.*rules.*\)/\1/p' "$top/.pre-commit-hooks.yaml")")"
 if has pre-commit && has git; then
-    # hooked PROJECT FOLDER: the hooks over a project whose rules lie in that folder, beside a file that ends in .rules and
+    # hooked PROJECT FOLDER: the hooks over a project whose rules are in that folder, with a file that ends in .rules and
     # is not udev's
     hooked() {
         (
@@ -119,7 +119,7 @@ hwdb/60-mine.hwdb 7 H4 error no =: B
 hwdb/60-mine.hwdb 8 H3 error unindented line after properties: m3
 hwdb/60-mine.hwdb 11 H6 error pattern not supported: [[.a.]]'
 if has python3; then
-    # reads FORMAT: what is read of messages in this format, as tests/read_formats.py reads them
+    # reads FORMAT: what is read from messages in this format, as tests/read_formats.py reads them
     reads() {
         PYTHONDONTWRITEBYTECODE=1 PYTHONPATH=$top/tests python3 -c '
 import sys
@@ -133,7 +133,7 @@ for path, line, _, _, code, severity, said in READERS[sys.argv[1]](sys.stdin.buf
     if has jq; then
         goes_well "GitLab's job: good files" runs_job good
         same "GitLab's report without a message" "[]" "$(jq --compact-output . "$work/good/report.json")"
-        # job_ends CASE PROJECT STATUS MESSAGES TEXT [LINES]: the job ends so, says the text, and its report has the messages
+        # job_ends CASE PROJECT STATUS MESSAGES TEXT [LINES]: the job ends in this way, prints the text, and its report has the messages
         job_ends() {
             local said status=0
             rm -f "$work/$2/report.json"
@@ -173,7 +173,7 @@ goes_well "image.sh: good files" "$ci/image.sh" "$work/good/root"
 refused "image.sh: mistakes" "root/usr/lib/udev/rules.d/60-mine.rules:2:1: error: unknown key: SUBSYSTEMM [V2]" "$ci/image.sh" "$work/bad/root"
 refused "image.sh: no file at all" "rules.d: absent" "$ci/image.sh" "$work/none"
 refused "image.sh: no root" "1" "$ci/image.sh" ""
-# image_ends CASE STATUS COMMAND..: image.sh ends so over a copy of the good image, in whose /usr/lib/udev the command was run
+# image_ends CASE STATUS COMMAND..: image.sh ends in this way over a copy of the good image, in whose /usr/lib/udev the command was run
 image_ends() {
     local case=$1 wanted=$2 status=0
     shift 2

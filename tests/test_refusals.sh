@@ -8,7 +8,7 @@ if ! { has cc && has python3 && has ldd; }; then
     skipped "each growth and each call refused" "it takes cc, python3 and ldd"
     exit
 fi
-# A program that is linked for good asks no library for memory.
+# A statically linked program asks no library for memory.
 goes_well "the program asks the C library for memory" grep -q 'libc\.so' <(ldd "$program")
 goes_well "the refusing library is built" cc -shared -fPIC -O2 -o "$work/refusing.so" "$top/tests/refusing.c" -ldl
 python3 "$top/tests/refusals.py" "$program" "$work/refusing.so"

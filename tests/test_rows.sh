@@ -1,5 +1,5 @@
 #!/usr/bin/env bash
-# What the program says to the rows of the tables in tests/tables/.
+# What the program answers to the rows of the tables in tests/tables/.
 set -uo pipefail
 # shellcheck source=lib.sh
 . "$(dirname "$0")/lib.sh"

@@ -1,5 +1,5 @@
 #!/usr/bin/env bash
-# What the program does where its standard input or its standard error is a terminal.
+# What the program does if its standard input or its standard error is a terminal.
 set -uo pipefail
 # shellcheck source=lib.sh
 . "$(dirname "$0")/lib.sh"

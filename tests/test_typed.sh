@@ -1,5 +1,5 @@
 #!/usr/bin/env bash
-# All that the documents show is typed, and comes out as they show it.
+# Everything that the documents show is typed, and prints what they show.
 set -uo pipefail
 # shellcheck source=lib.sh
 . "$(dirname "$0")/lib.sh"
@@ -11,7 +11,7 @@ else
     skipped "what the documents show" "there is no python3"
 fi
 
-# Each code with its text stands in the reference and in the examples, and in each page those of its command: V and S of
+# Each code with its text is in the reference and in the examples, and each page has those of its command: V and S of
 # rules, W of rules by --lint, H of the database, I of comments in both.
 codes() { grep -oE '[VSHIW][0-9]+ [a-z][^|]*' | sed 's/ *$//' | LC_ALL=C sort; }
 reference=$(sed -nE 's/^\| ([VSHIW][0-9]+) \| ([^|]*[^| ]) *\|.*/\1 \2/p' docs/behaviour.md | codes)

@@ -1,16 +1,16 @@
 #!/usr/bin/env python3
-"""Types what documents show, and tells where something else comes out.
+"""Types what documents show, and reports where something else is printed.
 
 usage: tests/typed.py PROGRAM DOCUMENT..
 
 A block of code, indented by four spaces or between lines of three backticks, whose first line begins with `$ ` is a
-session: each such line is a command, and what stands below it is what it prints, errors among it. The sessions of a
-document are typed one behind another in one folder of their own, which has `build/devdry`, the programs on its path and
-a copy of examples/. Two commands have a meaning of their own: `cat NAME`, of a file that no command has made, makes the
-file of the text that is shown, so that a document shows each file that it speaks of; and behind `echo $?` stands the
+session: each such line is a command, and the lines below it are what it prints, including errors. The sessions of a
+document are typed one after another in one folder of their own, which has `build/devdry`, the programs on its path and
+a copy of examples/. Two commands have a meaning of their own: `cat NAME`, of a file that no command has made, creates the
+file with the text that is shown, so that a document shows each file that it uses; and the line after `echo $?` is the
 status of the command before it.
 
-For each block a line `ok DOCUMENT:LINE`, or `not ok DOCUMENT:LINE` with what differs.
+Prints for each block a line `ok DOCUMENT:LINE`, or `not ok DOCUMENT:LINE` with what differs.
 """
 import difflib
 import os
@@ -64,7 +64,7 @@ def commands(lines):
 
 
 def typed(lines, folder, environment, made):
-    """What is printed where the session is typed, with the commands between, as it should stand in the document."""
+    """What is printed when the session is typed, with the commands between, as it should be in the document."""
     out, status = [], 0
     for command, shown in commands(lines):
         out += [f"{'> ' if at else '$ '}{it}" for at, it in enumerate(command.split("\n"))]

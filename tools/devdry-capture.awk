@@ -1,14 +1,14 @@
 # The second step of devdry-capture: reads records, a letter and a text in each line, and prints the devices that are
-# asked for, each with its parents, as event blocks or as keys of rules. devdry-capture says what the letters mean. It
-# hands these variables over, each empty where nothing is said:
+# asked for, each with its parents, as event blocks or as keys of rules. devdry-capture says what the letters mean. It sets
+# these variables, each empty if nothing is said:
 #   action    the action of the events
 #   all       print each device that has a record, not only those of the `w:` lines
-#   kernel    of the device itself print only what the kernel tells
+#   kernel    of the device itself print only what the kernel reports
 #   recorded  the records are those of a file
 #   walk      print keys, not blocks
-# The status is 1 where a device is not printed, 4 where there is none.
+# The status is 1 if a device is not printed, 4 if there is none.
 
-# Says what is left out, which the status tells then.
+# Says what is left out, and sets the status accordingly.
 function complain(text) { printf "devdry-capture: %s\n", text | "cat 1>&2"; failed = 1 }
 
 # Cuts NAME=VALUE into `name` and `value`.
@@ -18,8 +18,8 @@ function cut(text,    at) {
     value = substr(text, at + 1)
 }
 
-# A line of the device, each letter and name once: what comes later takes the place of the earlier. With --kernel what
-# udev has added does not count.
+# A line of the device, each letter and name once: a later one replaces an earlier one. With --kernel, what udev has added
+# does not count.
 function add(letter, name, text, from_udev,    key) {
     key = path SUBSEP letter SUBSEP name
     if (name == "") {
@@ -38,15 +38,15 @@ function set(letter, text) {
     if (letter == "N") nodes["/dev/" text] = path
 }
 
-# Whether udev has added a property that is no `e:`. What udevadm says of this machine counts as added, as /sys told the
-# rest before. Records don't tell: `udevadm info` prints what udev added behind USEC_INITIALIZED, and in those that are
-# sorted it is known by the names that the rules of udev and of others give.
+# Whether udev has added a property that is not an `e:`. What udevadm says about this machine counts as added, as /sys has
+# given the rest before. Records don't say: `udevadm info` prints what udev added after USEC_INITIALIZED, and in sorted
+# records it is recognized by the names that the rules of udev and of others set.
 function is_added(name) {
     if (name == "USEC_INITIALIZED") initialized[path] = 1
     return !recorded || path in initialized || name ~ added
 }
 
-# A property: the name of the node is told in full, as udev does.
+# A property: the name of the node is given in full, as udev does.
 function property(text, from_udev) {
     cut(text)
     if (name == "DEVNAME") {
@@ -64,7 +64,7 @@ function property(text, from_udev) {
     else if (name != "DEVLINKS" && name != "CURRENT_TAGS") add("E", name, text, from_udev)
 }
 
-# The tags of the property TAGS, with a colon before and behind each.
+# The tags of the property TAGS, with a colon before and after each.
 function tags(text,    i, n, names) {
     n = split(text, names, ":")
     for (i = 1; i <= n; i++) if (names[i] != "") add("G", names[i], names[i], 1)
@@ -83,7 +83,7 @@ function unescaped(text,    out, c) {
     return out text
 }
 
-# An attribute as umockdev-record tells it: one line of text stays.
+# An attribute as umockdev-record prints it: it is kept if it is one line of text.
 function attribute(text) {
     cut(text)
     value = unescaped(value)
@@ -91,7 +91,7 @@ function attribute(text) {
     if (value !~ /[\001-\010\012-\037\177]/) add("A", name, name "=" value, 0)
 }
 
-# What a link says in such a record: where its last name counts.
+# A link in such a record: for some links the last name counts.
 function link(text) {
     cut(text)
     sub(/.*\//, "", value)
@@ -99,7 +99,7 @@ function link(text) {
     if (name ~ /^(driver|subsystem|module)$/) add("A", name, name "=" value, 0)
 }
 
-# Of a record: the folder of a host is told to the device in whose folder it lies.
+# In a record: the folder of a host is added to the device in whose folder it is.
 function host(    parent, name) {
     parent = name = path
     sub(/\/[^\/]*$/, "", parent)
@@ -110,13 +110,13 @@ function host(    parent, name) {
     lines[key] = kernels[key] = "A: " name "/uevent=DEVTYPE=scsi_host"
 }
 
-# Whether it is a path as blocks have it.
+# Whether a text is a path as blocks have it.
 function is_path(text) { return text ~ /^\/./ && text !~ /\/\// && text !~ /\/$/ }
 
 BEGIN {
     escapes["n"] = "\n"; escapes["t"] = "\t"; escapes["r"] = "\r"
     escapes["b"] = "\b"; escapes["f"] = "\f"; escapes["v"] = "\v"
-    # attributes that are no keys: these stand in keys above, change with each boot, or count and measure
+    # attributes that are not keys: these are in keys above, change with each boot, or count and measure
     passing = "^(subsystem|driver|dev|stat|inflight|statistics/.*|power/runtime_.*_time)$"
     added = "^(ID|SYSTEMD|UDISKS|UPOWER|LIBINPUT|DM|MD|LVM|SCSI|ACCEL|EVDEV|IEEE1394|KEYBOARD|MOUSE|POINTINGSTICK|SOUND|XKB)_"
 }
@@ -147,8 +147,8 @@ letter == "H:" && text ~ /^(descriptors|config)=/ {
 letter == "A:" { attribute(text) }
 letter == "L:" && text ~ /=/ { link(text) }
 
-# A value that is met by this text. What patterns are made of stands in sets, and so do a backslash in a pattern and one
-# that would hide the quote behind the value; `|` can stand in none, and is the `?` that any byte meets.
+# A value that this text matches. What patterns are made of is put into sets, and so are a backslash in a pattern and one
+# that would hide the quote after the value; `|` can't be in a set, and becomes the `?` that any byte matches.
 function quoted(text,    out, i, c, pattern) {
     pattern = text ~ /[*?[|]|\\$/
     out = ""
@@ -163,8 +163,8 @@ function quoted(text,    out, i, c, pattern) {
     return "\"" out "\""
 }
 
-# The line of a key that the text meets, or a comment where no rule can say so: in the name of an attribute udev
-# replaces `$` and `%`, looks for another device behind `[` and for any folder at `*`.
+# The line of a key that the text matches, or a comment if no rule can say so: in the name of an attribute udev replaces `$`
+# and `%`, looks for another device after `[` and for any folder at `*`.
 function compared(key, braced, text,    line) {
     if (braced != "") key = key "{" braced "}"
     if (braced ~ /[$%}]|^\[|\/\*\//) return "# " key ": no rule can hold this name\n"
@@ -187,7 +187,7 @@ function as_key(line, s,    letter, text) {
     return letter == "A" && name !~ passing ? compared("ATTR" s, name, value) : ""
 }
 
-# The lines of a device, each with its newline. As `first` it is the event device.
+# The lines of a device, each with its newline. With `first` it is the event device.
 function device(path, first,    of, i, line, letter) {
     for (i = 1; i <= count[path]; i++) {
         line = first && kernel ? kernels[keys[path, i]] : lines[keys[path, i]]

@@ -12,7 +12,7 @@ spec.loader.exec_module(asking)
 
 
 def otherwise(rules, block, lines):
-    """What the page answers, if it is something else than a case has."""
+    """The page's answer, if it is not that of a case."""
     told = asking.comparable([asking.escaped(os.fsencode(line)) for line in answer(rules, block, [b'daemon'], [b'daemon', b'disk', b'audio'])])
     return told if told != asking.comparable(asking.answer_lines(block, lines)) else None
 

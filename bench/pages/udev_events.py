@@ -1,6 +1,6 @@
 """What udev 257 makes of an event, as docs/udev/EVENTS.md has it: written from that page, for trials against the real udevadm test.
 
-It answers in the lines of an answer of devdry, without notes. What is left out there is followed here, where it is short.
+It answers in the lines of an answer of devdry, without notes. What is left out there is followed here if it is short.
 """
 import os
 import re
@@ -84,7 +84,7 @@ class Event(Known):
                                   'RESULT': self.result, 'ENV': self.property(token['data'] or b'')}[kind])
 
     def starred(self, name):
-        """a name whose first `*/` is a folder; None where none fits"""
+        """a name whose first `*/` is a folder; None if none fits"""
         before, star, behind = (b'/' + name).partition(b'/*/')
         if not star:
             return name
@@ -205,7 +205,7 @@ class Event(Known):
                 setattr(self, what.lower(), None if known == -1 else known)
 
     def known(self, text, names):
-        """what a text came to: a number, a name that is known, or None"""
+        """the result of a text: a number, a name that is known, or None"""
         return int(text) if re.fullmatch(rb'0|[1-9][0-9]{0,8}', text) else self.identity(text) if text in names else None
 
     def assign(self, token, escape):
@@ -318,7 +318,7 @@ class Event(Known):
 
 
 def answers_in(block):
-    """what a block answers to commands of PROGRAM: of each the status and the text"""
+    """what a block answers to commands of PROGRAM: for each the status and the text"""
     lines = [os.fsencode(line) for line in block.split('\n')]
     found = {}
     for asked, told in zip(lines, lines[1:]):

@@ -1,4 +1,4 @@
-"""What udev 257 says of a rules file, as docs/udev/READING.md has it: written from that page, for trials against the real udevadm."""
+"""What udev 257 says about a rules file, as docs/udev/READING.md has it: written from that page, for trials against the real udevadm."""
 import re
 
 BLANKS = b' \t'
@@ -23,11 +23,11 @@ NAMED = {'ENV', 'CONST', 'ATTR', 'SYSCTL', 'ATTRS', 'set SECLABEL', 'set ENV', '
 
 
 class Wrong(Exception):
-    """a token that costs its rule"""
+    """a token that drops its rule"""
 
 
 def lines_of(data):
-    """the texts of lines: an end is LF, CR or both in either order, and perhaps a NUL behind; or a NUL alone"""
+    """the texts of lines: an end is LF, CR or both in either order, perhaps followed by a NUL; or a NUL alone"""
     ends = re.compile(rb'(?:\n\r?|\r\n?)\0?|\0')
     texts, at = [], 0
     for end in ends.finditer(data):
@@ -37,7 +37,7 @@ def lines_of(data):
 
 
 def number(text, signed):
-    """a number as the C library reads it with base 0, and 0b and 0o before that; None where it is none"""
+    """a number as the C library reads it with base 0, and 0b and 0o before that; None if it is not one"""
     text = text.lstrip(SPACES)
     base = 0
     if text[:2] in (b'0b', b'0B'):
@@ -79,7 +79,7 @@ def mode_number(text):
 
 
 def owner_number(text):
-    """a decimal number that is no -1 of 16 or 32 bits"""
+    """a decimal number that is not -1 of 16 or 32 bits"""
     if text[:1] in (b'', b' ', b'\t', b'\n', b'\r', b'+', b'-') or (text[:1] == b'0' and text != b'0'):
         return None
     value = library_number(text, 10, False, 2 ** 32)
@@ -162,7 +162,7 @@ def unescape(text):
 
 
 def token_at(line, at):
-    """a token at a place of a line, and the place behind it; None where only commas and blanks are left"""
+    """a token at a place of a line, and the place after it; None if only commas and blanks are left"""
     while at < len(line) and line[at:at + 1] in b' \t,':
         at += 1
     if at == len(line):
@@ -222,7 +222,7 @@ class Reader:
                 self.say(line, 'e', f'value {fault[0]}')
 
     def token(self, n, rule, token):
-        """a token of a rule: what is added, told, or wrong"""
+        """a token of a rule: what is added, reported, or wrong"""
         raw, attribute, operator, blind, value = token
         key = raw.decode('latin-1')
         match = operator in (b'==', b'!=')
@@ -423,7 +423,7 @@ class Reader:
         return rule
 
     def file(self, data):
-        """the verdict on a file, True for good; what is told is in told"""
+        """the verdict on a file, True for good; what is reported is in `told`"""
         rules, held, long, n = [], None, False, 0
         for text in lines_of(data):
             if len(text) >= LIMIT:
@@ -512,7 +512,7 @@ def make(kind, operator, value, data, blind):
 
 
 def has_effect(kind):
-    """whether a token does something beside comparing"""
+    """whether a token does something other than comparing"""
     return kind in ACTS or ORDER.index(kind) > ORDER.index('RESULT')
 
 
@@ -540,7 +540,7 @@ def exclude(a, b):
 
 
 def relation(a, b):
-    """what is to be told of two tokens"""
+    """what is to be reported about two tokens"""
     if alike(a, b):
         if a['operator'] == b['operator']:
             return ['same']
@@ -549,7 +549,7 @@ def relation(a, b):
 
 
 def read(data, **names):
-    """the verdict on a file and what is told"""
+    """the verdict on a file and what is reported"""
     reader = Reader(**names)
     good = reader.file(data)
     return good, reader.told

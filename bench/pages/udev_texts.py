@@ -45,7 +45,7 @@ def sequence(text, at):
 
 
 def safe(text, allowed):
-    """letters, digits, marks, hex escapes and UTF-8 stay; with a space among what is allowed other white space is one; else `_`"""
+    """letters, digits, marks, hex escapes and UTF-8 stay; if a space is allowed, other white space becomes one; all else is `_`"""
     out, at = bytearray(text), 0
     while at < len(out):
         if out[at] in LETTERS or out[at] in MARKS or out[at] in allowed:
@@ -66,7 +66,7 @@ def underscored(text):
 
 
 def plain_link(word):
-    """a link as it is kept, below /dev; None where it is refused"""
+    """a link as it is kept, below /dev; None if it is refused"""
     parts = [p for p in word.split(b'/') if p not in (b'', b'.')]
     if b'..' in parts or any(len(p) > 255 for p in parts):
         return None
@@ -93,7 +93,7 @@ class Device:
         self.kernel = self.path.rsplit(b'/', 1)[1].replace(b'!', b'/')
 
     def names(self):
-        """files and folders of the device, which a block tells"""
+        """files and folders of the device, which a block describes"""
         found = {b'uevent', b''} | ({b'dev'} if self.number else set())
         found |= ({b'subsystem'} if self.subsystem else set()) | ({b'driver'} if self.driver else set())
         for name in self.attrs:
@@ -109,7 +109,7 @@ class Device:
         return self.attrs.get(name, {b'subsystem': self.subsystem, b'driver': self.driver}.get(name))
 
     def told(self):
-        """what a device's own properties are"""
+        """a device's own properties"""
         env = {b'DEVPATH': self.path}
         env |= {b'SUBSYSTEM': self.subsystem} if self.subsystem else {}
         env |= {b'DEVNAME': b'/dev/' + self.node} if self.node else {}
@@ -139,7 +139,7 @@ class Known(Reader):
         return self.env.get(name)
 
     def named_device(self, text):
-        """the device of `[subsystem/kernel]`, and what stands behind; None where it is of no such form or not in the chain"""
+        """the device of `[subsystem/kernel]`, and what follows it; None if it is not of this form or not in the chain"""
         form = re.match(rb'\[([^/]*)/([^]]*)\]/?(.*)', text, re.S)
         if not form:
             return None

@@ -3,18 +3,18 @@ from tables.kinds.row import Row
 
 EVENTS = "events -r none"
 
-# An event of no rule, as it is answered.
+# An event without rules, and its answer.
 ANSWER = "event add /d\nenv ACTION=add\nenv DEVPATH=/d\n\n"
 
 
-def fault(text, line, told, name=None):
+def fault(text, line, reported, name=None):
     """A block that is refused at a line."""
-    return Row(name or f"{text!r} has {told}", EVENTS, input=text, messages=f"block 1, line {line}: {told}\n", status=1)
+    return Row(name or f"{text!r} has {reported}", EVENTS, input=text, messages=f"block 1, line {line}: {reported}\n", status=1)
 
 
-def below(lines, line, told):
-    """The same of lines below an action and a device, which are lines 1 and 2."""
-    return fault(b"C: add\nP: /d\n" + lines, line, told, f"below a device, {lines!r} has {told}")
+def below(lines, line, reported):
+    """The same for lines after an action and a device, which are lines 1 and 2."""
+    return fault(b"C: add\nP: /d\n" + lines, line, reported, f"below a device, {lines!r} has {reported}")
 
 
 FIRST_LINES = [
@@ -145,7 +145,7 @@ run program pci0 is above
 
 """
 
-# The event's own properties are set over those of the block, and kernel names have slashes where paths have none.
+# The event's own properties override those of the block, and kernel names have slashes where paths have none.
 DISK = (
     "C: add\nP: /devices/x/cciss!c0d1\nN: cciss/c0d1\nA: a=a \t\nE: ACTION=old\nE: DEVNAME=old\nE: MAJOR=9\n"
     "P: /devices/x\n"
@@ -187,12 +187,12 @@ READ = [
 
 
 def letters(count):
-    """A block with a property of so many letters; with 65,509 of them it has 65,536 bytes."""
+    """A block with a property of so many letters; with 65,509 of them the block has 65,536 bytes."""
     return "C: add\nP: /devices/x\nE: X=" + "v" * count + "\n"
 
 
 def chain(count):
-    """A block of so many devices, of which the path of the last is `/a`."""
+    """A block of so many devices, with the path `/a` for the last."""
     return "C: add\n" + "".join(f"P: {'/a' * length}\n" for length in range(count, 0, -1))
 
 

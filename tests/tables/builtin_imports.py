@@ -8,7 +8,7 @@ from tables.kinds.builtin_blocks import PCI_CARD, capabilities, device, event, h
 from tables.kinds.row import Row
 from tables.kinds.udev_blocks import answer_lines
 
-# A device right below one of PCI, and its path.
+# A device directly below one of PCI, and its path.
 CARD = '/devices/pci0000:00/0000:00:1f.0'
 BELOW_CARD = event(device(f'{CARD}/thing', 'misc'), device(CARD, 'pci'))
 PATH = ('env ID_PATH=pci-0000:00:1f.0', 'env ID_PATH_TAG=pci-0000_00_1f_0')
@@ -16,7 +16,7 @@ PATH = ('env ID_PATH=pci-0000:00:1f.0', 'env ID_PATH_TAG=pci-0000_00_1f_0')
 # A device alone, for which path_id fails.
 ALONE = event(device('/devices/star', 'misc'))
 
-# An input device that has nothing.
+# An input device without any capabilities.
 INPUT = event(device('/devices/platform/pad/input/input5', 'input', *capabilities()), device('/devices/platform/pad', 'platform'))
 
 # A USB device whose encoded name has four times as many bytes as its name: 80,000.
@@ -26,7 +26,7 @@ NAMES = ('env ID_NET_NAMING_SCHEME=v257', 'env ID_NET_NAME_MAC=enx54e1ad9c4d18',
 
 
 def imported(name, rules, block, *lines, database=''):
-    """What rules come to over a block and a database: the lines besides those of the block alone."""
+    """The result of rules over a block and a database: the lines that the block alone does not give."""
     return Row(
         name,
         'events --udev -r r r.rules',
@@ -52,4 +52,9 @@ ROWS = [
              'env B=1', 'note r.rules:1: text too long: usb_id'),
     imported('net_id sets what the database has for the address', 'ENV{ID_X}="old"\nIMPORT{builtin}="net_id", ENV{A}="1"\n', PCI_CARD,
              *NAMES, 'env ID_OUI_FROM_DATABASE=Maker', 'env A=1', database='OUI:54E1AD*\n ID_OUI_FROM_DATABASE=Maker\n ID_X=\n'),
+    imported('what the database has replaces the scheme and the name by the address, and the other names replace it', 'IMPORT{builtin}="net_id", ENV{A}="1"\n', PCI_CARD,
+             'env ID_NET_NAMING_SCHEME=db', 'env ID_NET_NAME_MAC=db', *NAMES[2:], 'env A=1',
+             database='OUI:54E1AD*\n ID_NET_NAMING_SCHEME=db\n ID_NET_NAME_MAC=db\n ID_NET_NAME_PATH=db\n ID_NET_NAME_SLOT=db\n'),
+    imported('a name that the database takes away', 'IMPORT{builtin}="net_id", ENV{A}="1"\n', PCI_CARD,
+             NAMES[0], *NAMES[2:], 'env A=1', database='OUI:54E1AD*\n ID_NET_NAME_MAC=\n ID_NET_NAME_SLOT=\n'),
 ]

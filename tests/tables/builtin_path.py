@@ -81,7 +81,7 @@ MULTI = '/devices/virtual/nvme-subsystem/nvme-subsys0'
 
 
 def several_ways(name='nvme0n1', link='nvme0', target=f'{NVME_CARD}/nvme/nvme0', beside=True):
-    """an NVMe disk of several ways, below its subsystem; the way to it is a device outside of the chain"""
+    """an NVMe disk with several ways to it, below its subsystem; the way to it is a device outside the chain"""
     other = outside(target, 'nvme') + (outside(NVME_CARD, 'pci') + outside(NVME_CARD.rsplit('/', 1)[0], 'pci') if target.startswith(NVME_CARD) else '')
     return event(device(f'{MULTI}/{name}', 'block', 'A: nsid=1', 'E: DEVTYPE=disk'), device(MULTI, 'nvme-subsystem', *([f'K: {MULTI}/{link}={target}'] if beside else [])),
                  other if beside else '')

@@ -10,13 +10,13 @@ BELOW_DEVICE = (
     "P: /devices/h\nU: usb\nE: MODALIAS=usb:v1D6Bp0002\n"
 )
 
-# A device with a modalias of its own below a hub.
+# A device with its own modalias below a hub.
 BELOW_UNKNOWN = (
     "C: add\nP: /devices/h/p\nU: tty\nE: MODALIAS=tty:unknown\n"
     "P: /devices/h\nU: usb\nE: MODALIAS=usb:v1D6Bp0002\n"
 )
 
-# A device of which nothing but its path is known.
+# A device about which only the path is known.
 ALONE = "C: add\nP: /devices/d\n"
 
 
@@ -26,7 +26,7 @@ def beginning(lines, word):
 
 
 def asked(name, rule, block, *lines, database=HUBS):
-    """What a rules file h.rules comes to over a block and a database: the lines that are not those of the event."""
+    """The result of a rules file h.rules over a block and a database: the lines that are not those of the event."""
     path = block.splitlines()[1][3:]
     env = sorted(["env ACTION=add", f"env DEVPATH={path}", *beginning(lines, "env ")])
     answer = [f"event add {path}", *beginning(lines, "tag "), *env, *beginning(lines, "note ")]

@@ -1,19 +1,19 @@
-"""Choices of patterns, as the values of rules have them, with and without a prefix that lets case be ignored."""
+"""Alternative patterns, as the values of rules have them, with and without a prefix that ignores case."""
 from tables.kinds.answered import answer, block
 from tables.kinds.verified import verified
 from tables.kinds.row import Row, as_bytes
 
-# the value as it is written, with what stands before its quote; kernel's names that fit; names that don't
+# the value as it is written, with the prefix before its quote; kernel's names that fit; names that don't
 OF_NAMES = [
     ('"sd[a-z]|nvme?"', ["sda", "nvme0"], ["sdA", "nvme", "sda|nvme0"]),
     ('"SDA"', ["SDA"], ["sda", "SdA"]),
-    # the cases of a letter, and of a member of a set before it is made the set of the others
+    # both cases of a letter, and of a member of a set before the set is negated
     ('i"SDA"', ["sda", "SdA", "SDA"], ["sdb"]),
     ('i"[!a]"', ["b"], ["a", "A"]),
     ('i"x|[Y-Z]1"', ["x", "X", "Y1", "z1"], ["w1", "[1"]),
     ('i"@[`{"', ["@[`{"], ["`{@["]),
     (b'i"\xC4"', [b"\xC4"], [b"\xE4"]),
-    # escapes are read by the prefix e, in either place beside i
+    # escapes are read with the prefix e, before or after i
     ('ie"\\x41"', ["a", "A"], ["\\x41"]),
     ('ei"\\x41"', ["a", "A"], ["\\x41"]),
     ('e"\\x41"', ["A"], ["a", "\\x41"]),
@@ -27,14 +27,14 @@ OF_PROPERTIES = [
     ('"|x"', ["", "x"], ["|x", "|"]),
     ('"x|"', ["", "x"], ["x|"]),
     ('""', [""], ["x"]),
-    # a bar cuts a set, too
+    # a bar splits a set, too
     ('"[a|b]"', ["[a", "b]"], ["a", "b", "|", "[a|b]"]),
     ('i"|X"', ["", "x"], ["|x"]),
 ]
 
 
 def asked(key, value, fitting, others, where):
-    """Which texts a match by `==` takes, and that one by `!=` takes the others. `where` makes a path and lines of a text."""
+    """Which texts a match by `==` accepts, and that one by `!=` accepts the others. `where` makes a path and lines of a text."""
     rules = b"".join(
         key.encode() + operator + as_bytes(value) + b', TAG+="' + tag + b'"\n'
         for operator, tag in [(b"==", b"equal"), (b"!=", b"unequal")]
@@ -57,7 +57,7 @@ ROWS = [
         ('KERNEL=="ab|[[:x]|[[=]"', "V11 set not supported: ab|[[:x]|[[=]"),
         ('KERNEL==i"ab|[[:x]|[[=]"', "V11 set not supported: ab|[[:x]|[[=]"),
         ('KERNEL=="[[:alpha:]]"', "V11 set not supported: [[:alpha:]]"),
-        # the bar cuts the set before its end, so that there is no class
+        # the bar splits the set before its end, so there is no class
         'KERNEL=="[[:|alpha:]"',
     ),
     verified(

@@ -1,4 +1,4 @@
-"""`compare`: per event the lines that the answers of two roots don't share.
+"""`compare`: for each event the lines that the answers of two roots don't share.
 
 What is wanted follows from the answers that docs/behaviour.md gives for each of the two; nothing here was taken from the
 program.
@@ -11,7 +11,7 @@ from tables.kinds.row import FOLDER, Begins, Row
 D = "/devices/d"
 START = f"event add {D}\n"
 
-# One of each line of an answer, and another of each.
+# One of each kind of line of an answer, and another of each.
 EACH_OLD = [
     'OWNER="a", GROUP="g", MODE="0600"', 'OPTIONS="link_priority=5"', 'OPTIONS="watch"', 'SECLABEL{smack}="u"',
     'SYMLINK+="one"', 'TAG+="t"',
@@ -31,7 +31,7 @@ EACH = [
     "+sysctl s=2", "+run program /bin/b", "+run builtin kmod",
 ]
 
-# Three commands that are written differently, of which two read the same.
+# Three commands that are written differently, two of which read the same.
 TWINS = ['RUN+="/bin/%k"', 'RUN+="/bin/b"', 'RUN+="/bin/$kernel"']
 
 DATABASES = {"old/usr/lib/udev/hwdb.d/a.hwdb": "m\n A=1\n B=1\n", "new/etc/udev/hwdb.d/a.hwdb": "m\n A=2\n B=1\n"}

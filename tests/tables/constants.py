@@ -1,4 +1,4 @@
-"""Whitespace at the end of a text: a constant is compared with it, an attribute by its own rule, all else with it."""
+"""Whitespace at the end of a text: a constant is compared with it, an attribute by its own rule, everything else with it."""
 from tables.kinds.row import Row
 
 DEVICE = "C: add\nP: /devices/x\n"
@@ -6,9 +6,9 @@ ANSWER = "event add /devices/x\nenv ACTION=add\nenv DEVPATH=/devices/x\n"
 
 
 def compared(name, holds, fails, block=DEVICE, answer=ANSWER):
-    """Each match is asked by a rule of its own, which has a command to run: those that hold are numbered from 1.
+    """Each match is in a rule of its own, which has a command to run: those that hold are numbered from 1.
 
-    The block is that of the device and what is said of it; the answer is what stands above the commands.
+    The block is that of the device and what is known about it; the answer is what comes before the commands.
     """
     rules = "".join(f'{match}, RUN+="{number}"\n' for number, match in enumerate(holds + fails, 1))
     commands = "".join(f"run program {number}\n" for number, _ in enumerate(holds, 1))
@@ -150,13 +150,13 @@ PADDED = [
     ("==", 'i"DISK "', False),
     ("==", 'i"DISK  "', True),
     ("!=", 'i"DISK"', False),
-    # the last item is a byte, and no set or `?` that takes whitespace
+    # the last item is a byte, not a set or `?` that accepts whitespace
     ("==", '"Disk?"', False),
     ("==", '"Disk[ ]"', False),
     ("==", '"Disk [ ]"', False),
     ("==", '"Disk*"', True),
     ("==", '"* "', True),
-    # of several patterns the last one tells
+    # of several patterns the last one decides
     ("==", '"x|Disk"', True),
     ("==", '"Disk  |x"', False),
     ("==", '"Disk|x "', False),
@@ -165,7 +165,7 @@ PADDED = [
     ("==", 'e"x|Disk\\s\\s"', True),
 ]
 
-# An attribute `n` with none there.
+# An attribute `n` without whitespace at its end.
 BARE = [
     ("==", '"Disk"', True),
     ("==", '"Disk "', False),
@@ -177,7 +177,7 @@ BARE = [
     ("==", '"Disk?"', False),
 ]
 
-# Attributes of whitespace alone, with other whitespace at the end, and of a name that is not given.
+# Attributes of whitespace alone, with other whitespace at the end, and of a name that the device does not have.
 OTHERS = [
     ("{blank}", "==", '""', True),
     ("{blank}", "==", '" "', True),

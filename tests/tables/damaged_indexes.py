@@ -1,10 +1,10 @@
-"""Indexes that are cut off, that go on behind their end, and that have one field changed.
+"""Indexes that are cut off, that continue after their end, and that have one field changed.
 
-What each is answered was worked out by hand from the eight checks of docs/format.md, the first that fails. The header's
+The answer to each was worked out by hand from the eight checks of docs/format.md: the first that fails. The header's
 numbers have to give the length of the file (`size`). Each node says where its children and its values begin, which
-follows from the nodes before it, so that a wrong count is seen at the next node or at the end (`shape`). What a label
-does not use is 0, and only the root has kind 0 (`label`). A place and a length lie within the text, and a key is not
-empty (`text`). What passes all of them changes what is answered, or nothing.
+follows from the nodes before it, so a wrong count shows at the next node or at the end (`shape`). What a label does not
+use is 0, and only the root has kind 0 (`label`). A place and a length are within the text, and a key is not empty
+(`text`). An index that passes all checks gives other answers, or the same.
 """
 from tables.kinds.index_bytes import BYTE, MANY, ROOT, WITH_FILE, WITHOUT_FILE, index, node, with_bytes
 from tables.kinds.row import Row, as_bytes
@@ -30,11 +30,11 @@ def cut():
         yield asked(f"one byte more than {version}", whole + b"\0", "size")
 
 
-# The fields: their place, their length, and what is answered to `abc` with the field's first byte raised by one, with
-# all its bytes 0, and with all its bytes 255.
+# The fields: their place, their length, and the answer to `abc` with the field's first byte raised by one, with all its
+# bytes 0, and with all its bytes 255.
 NAME = [(at, 1, "magic", "magic", "magic") for at in range(8)]
 
-# How many nodes, values, sets and bytes of text there are, and the number that is 0.
+# How many nodes, values, sets and bytes of text there are, and the number that has to be 0.
 COUNTS = [
     (12, 4, "size", "size", "size"),
     (16, 4, "size", "size", "size"),
@@ -56,7 +56,7 @@ ROOT_FIELDS = [
     (52, 4, "shape", "K=V", "shape"),
 ]
 
-# The node behind `a`, which has one child and no value. Raised, its kind takes no byte, and its byte is `b`.
+# The node after `a`, which has one child and no value. Raised, its kind takes no byte, and its byte is `b`.
 BYTE_FIELDS = [
     (56, 1, "label", "label", "label"),
     (57, 1, "", "", ""),
@@ -69,7 +69,7 @@ BYTE_FIELDS = [
     (76, 4, "shape", "K=V", "shape"),
 ]
 
-# The node behind `*`, which has no child and one value. Raised, its kind takes a set, and there is none.
+# The node after `*`, which has no child and one value. Raised, its kind takes a set, and there is none.
 STAR_FIELDS = [
     (80, 1, "label", "label", "label"),
     (81, 1, "label", "K=V", "label"),
@@ -89,14 +89,14 @@ KEY = [
     (120, 4, "K=V", "K=V", "K=V"),
 ]
 
-# The version, and the value's text, in version 1, which has 20 bytes for a value and a text that ends behind `V`.
+# The version, and the value's text, in version 1, which has 20 bytes for a value and a text that ends after `V`.
 FIRST_VERSION = [
     (8, 4, "size", "version", "version"),
     (112, 4, "text", "K=K", "text"),
     (116, 4, "text", "K=", "text"),
 ]
 
-# The same in version 2, where the text goes on; then the place and the length of the file's name, which ends where the
+# The same in version 2, where the text continues; then the place and the length of the file's name, which ends where the
 # text does, and the line.
 SECOND_VERSION = [
     (8, 4, "version", "version", "version"),
@@ -136,7 +136,7 @@ BYTES = [
     ),
 ]
 
-# Where a property comes from is told as it stands: the file's place and its length, and the line.
+# The source of a property is reported as stored: the file's place and its length, and the line.
 SOURCES = [
     asked(f"version 2, {name}", with_bytes(WITH_FILE, at, there), answer, sources=True)
     for name, at, there, answer in [

@@ -25,13 +25,13 @@ def sources(name, files, modalias, output):
 
 
 def update(name, text, *messages, strict=False):
-    """`update` over s.hwdb, which has no entry, and what it tells of each line, with the number in front."""
+    """`update` over s.hwdb, which has no entry, and what it reports about each line, with the line's number first."""
     words = ["update", *(["-s"] if strict else []), "s.hwdb"]
-    told = "".join(f"s.hwdb:{message}\n" for message in messages)
-    return Row(name, words, {"s.hwdb": text}, output=EMPTY, messages=told, status=1 if strict and messages else 0)
+    reported = "".join(f"s.hwdb:{message}\n" for message in messages)
+    return Row(name, words, {"s.hwdb": text}, output=EMPTY, messages=reported, status=1 if strict and messages else 0)
 
 
-# Two records, of which the later has the better A for abc.
+# Two records, the later of which has the better A for abc.
 RECORDS = "ab*\n A=1\n B=2\n\na?c\n A=3\n"
 
 TRACKBALL = "mouse:*:name:*[tT]rack[bB]all*:*\n ID_INPUT_TRACKBALL=1\n"
@@ -53,7 +53,7 @@ FAULTS = (
     "11: H6 pattern not supported: [[.a.]]",
 )
 
-# Files of folders: 70-b.hwdb of the lower rank stands for that of the higher, and no text file is read.
+# Files of folders: 70-b.hwdb of the lower rank replaces that of the higher, and no text file is read.
 FOLDERS = {
     "r/usr/lib/udev/hwdb.d/60-a.hwdb": "m*\n A=1\n",
     "r/usr/lib/udev/hwdb.d/70-b.hwdb": "m*\n A=2\n",
@@ -152,7 +152,7 @@ MESSAGES = [
         "a message of each kind, by query",
         "query m2 s.hwdb",
         {"s.hwdb": FAULTY},
-        messages="".join(f"s.hwdb:{told}\n" for told in FAULTS),
+        messages="".join(f"s.hwdb:{reported}\n" for reported in FAULTS),
     ),
     update("no message, strictly", "# none\n", strict=True),
     query("comments", COMMENTS, "m1", "A=1\n", "t.hwdb:5: H1 property without a match: B=2\n"),

@@ -1,4 +1,4 @@
-"""Faults of a rule: the one message of its line, which of several it is, and the word that it bears."""
+"""Faults of a rule: the one message of its line, which of several faults it reports, and its word."""
 from tables.kinds.answered import answered
 from tables.kinds.verified import verified
 from tables.kinds.row import Row
@@ -23,13 +23,13 @@ ROWS = [
         ('KERNEL=="[[:x:]]", FOO="b"', "V11 set not supported: [[:x:]]"),
         ('OWNER="$nope", KERNEL==x"a"', "V6 bad substitution: $nope"),
         ('KERNEL==x"a", FOO="b"', "V10 bad quote prefix: x"),
-        # neither what is written badly before it, nor a name that is given twice
+        # neither a point of style before it, nor a name that is given twice
         ('ENV{A}:="1",TAG+="t" , FOO="b"', "V2 unknown key: FOO"),
         ('LABEL="a", LABEL="b", GOTO="c", FOO="b"', "V2 unknown key: FOO"),
     ),
     verified(
         "of one token the first fault",
-        # no token, letters before its quote, its key, its attribute, its operator, its value
+        # not a token, letters before its quote, its key, its attribute, its operator, its value
         ('FOO{}-=x"[[:x:]]', "V10 bad quote prefix: x"),
         ('FOO{}-="[[:x:]]"', "V2 unknown key: FOO"),
         ('ATTR-="$nope"', "V4 attribute missing or not allowed: ATTR"),
@@ -37,7 +37,7 @@ ROWS = [
         ('KERNEL-="[[:x:]]"', "V3 operator not allowed: KERNEL"),
         ('TEST-="$nope"', "V3 operator not allowed: TEST"),
         ('IMPORT{x}==i"$nope"', "V4 attribute missing or not allowed: IMPORT"),
-        # letters that let case be ignored are refused behind `-=` before the operator is
+        # letters that ignore case are refused after `-=` before the operator is
         ('TEST-=i"x"', "V10 bad quote prefix: i"),
     ),
     verified(
@@ -46,7 +46,7 @@ ROWS = [
         ('TEST!=i"x"', "V5 bad value: x"),
         ('PROGRAM==i"x"', "V5 bad value: x"),
         *((f'IMPORT{{{name}}}==i"x"', "V5 bad value: x") for name in ["program", "builtin", "file", "parent", "cmdline", "db"]),
-        # this is looked for before what the value says
+        # this is checked before what the value says
         ('IMPORT{parent}==i"[[:x:]]"', "V5 bad value: [[:x:]]"),
         ('TEST==ie"$nope\\x41"', "V5 bad value: $nopeA"),
         ('PROGRAM!=ei"\\x41"', "V5 bad value: A"),

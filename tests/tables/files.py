@@ -7,7 +7,7 @@ RULE = 'TAG="t"\n'
 
 def listed(name, files, *lines, messages="", status=0, plain=False):
     """A run over mnt with these files, and each line of the output: the path, and what becomes of it."""
-    return Row(name, "files -r mnt", files, output="".join(f"{path}: {told}\n" for path, told in lines), messages=messages,
+    return Row(name, "files -r mnt", files, output="".join(f"{path}: {reported}\n" for path, reported in lines), messages=messages,
     status=status, plain=plain)
 
 
@@ -19,7 +19,7 @@ def over(reason):
     return f"passed over: {reason}"
 
 
-# An image as distributions have it: two files of one name, a mask, a file of another suffix, and a database.
+# An image as distributions have it: two files with one name, a mask, a file with another suffix, and a database.
 IMAGE = {
     f"{ETC}/60-a.rules": RULE,
     f"{ETC}/80-c.rules": Link("/dev/null"),
@@ -30,7 +30,7 @@ IMAGE = {
     f"{LIB_HWDB}/20-usb.hwdb": "m\n A=1\n",
     f"{ETC_HWDB}/90-mine.hwdb": "m\n A=2\n",
 }
-IMAGE_TOLD = """\
+IMAGE_REPORTED = """\
 mnt/etc/udev/rules.d/60-a.rules: used
 mnt/usr/lib/udev/rules.d/60-a.rules: hidden by mnt/etc/udev/rules.d/60-a.rules
 mnt/usr/lib/udev/rules.d/70-b.rules: used
@@ -42,8 +42,8 @@ mnt/etc/udev/hwdb.d/90-mine.hwdb: used
 """
 
 ORDER = [
-    Row("an image", "files -r mnt", IMAGE, output=IMAGE_TOLD),
-    Row("an image by --root", "files --root=mnt", IMAGE, output=IMAGE_TOLD),
+    Row("an image", "files -r mnt", IMAGE, output=IMAGE_REPORTED),
+    Row("an image by --root", "files --root=mnt", IMAGE, output=IMAGE_REPORTED),
     listed("by name, byte by byte, wherever they lie", {f"{LIB}/9.rules": RULE, f"{ETC}/10.rules": RULE, f"{RUN}/A.rules": RULE,
         f"{LOCAL}/a.rules": RULE,
                                                       f"{ETC}/.b.rules": RULE},
@@ -77,7 +77,7 @@ MASKS = [
     listed("a file of one newline is none", {f"{LIB}/a.rules": "\n"}, (f"{LIB}/a.rules", "used")),
 ]
 
-PASSED_OVER = [
+SKIPPED = [
     listed("names that don't end in the suffix", {f"{ETC}/a.rules.rpmnew": RULE, f"{ETC}/arules": RULE, f"{ETC}/b.RULES": RULE,
         f"{ETC}/c.rules": RULE,
                                                  f"{LIB_HWDB}/d.rules": ""},
@@ -134,7 +134,7 @@ NOTHING = [
 ROWS = [
     *ORDER,
     *MASKS,
-    *PASSED_OVER,
+    *SKIPPED,
     *NOTHING,
     Row("files takes no file", "files a.rules", IMAGE, messages=Begins(b"error: unexpected argument 'a.rules' found\n"),
         status=2),

@@ -1,7 +1,7 @@
-"""Which files and folders of the disk are read, in which order, and what is told where one can't be read.
+"""Which files and folders of the disk are read, in which order, and what is reported if one can't be read.
 
-The run of a row may be root's, whom no permission stops. So what can't be read is a link that leads to itself, and what
-can't be listed is a file in place of a folder; bench/odd_files.sh shows a folder without permission to another user.
+A row may be run by root, whom no permission stops. So what can't be read is a link that leads to itself, and what can't
+be listed is a file in place of a folder; bench/odd_files.sh tries a folder without permission for another user.
 """
 from tables.kinds.row import FOLDER, Link, Row
 from tables.words import EMPTY_INDEX, FIRST_VERSION
@@ -18,7 +18,7 @@ def record(value, match="m"):
 
 
 def cannot_read(path):
-    """The line on a file, a folder or an index that can't be read, the path as it is escaped."""
+    """The line about a file, a folder or an index that can't be read, with the path escaped."""
     return f"devdry: cannot read {path}\n"
 
 
@@ -90,7 +90,7 @@ UNREAD = [
     ("a named file is not looked for below the root", "verify a.rules -r mnt", {"mnt/a.rules": ""}, "a.rules"),
 ]
 
-# (words, files of which several can't be read, the path that is read first: of the others nothing is told)
+# (words, files several of which can't be read, the path that is read first: nothing is reported about the others)
 ENDLESS = Link("b.rules")
 BROKEN = [
     ("verify x b.rules", {"b.rules": ENDLESS}, "x"),

@@ -7,7 +7,7 @@ from tables.kinds.index_bytes import EMPTY
 from tables.kinds.marked import FORMATS, gitlab_report, in_formats, messages, read_marks, sentence, summary
 from tables.kinds.row import Begins, Read, Row, as_bytes
 
-# The example of README.md, and what each format says of it.
+# The example of README.md, and what each format says about it.
 MISTAKES = """\
 # A key that is misspelled.
 SUBSYSTEMM=="block", TAG+="disk"
@@ -57,7 +57,7 @@ r.rules:6:15: warning: blank after a comma expected [S2]
         ("r.rules", 6, "minor", "S2", "S2 blank after a comma expected: TAG"),
     ]),
 }
-# The same of a file of the database.
+# The same for a file of the database.
 DATABASE = " A=1\n\nm1\n\nm2\n =x\n   B\nm3\n C=1\n\n[[.a.]]\n D=1\n"
 DATABASE_SAID = {
     "plain": """\
@@ -102,7 +102,7 @@ t.hwdb:11:1: error: pattern not supported: [[.a.]] [H6]
     ]),
 }
 
-# Of each message lines that earn it, each with its place.
+# For each message lines that cause it, each with its place.
 EACH = [
     *in_formats("V1, up to the line's end", '<V1|KERNEL=="sd*>', 'KERNEL=="sd*, TAG+="<V1|disk">', 'TAG+="x" <V1|# b>',
         "<V1|A  >"),
@@ -155,7 +155,7 @@ PLACES = [
         "github", "json", "gitlab"]),
 ]
 
-# What the formats have a meaning for.
+# Texts that have a meaning in the formats.
 SIGNS = [
     *in_formats("signs in a word", 'SYMLINK+="<V6|%25,a:b;c::d>"',
                 '<V1|"quoted", {\'it\': 50%}>', 'LABEL="<S4|a::b,c=d%0Ae>"'),
@@ -180,21 +180,21 @@ GITHUB_PATH = b"a\\b,c:d%25\n\re\t\x1b \xC3\xA4.rules"
 
 
 def padded(length):
-    """A text in which each four digits tell where they stand in it."""
+    """A text in which each group of four digits is its own place."""
     return "".join(f"{at:04}" for at in range(0, length, 4))[:length].encode()
 
 
-def long_line(at, length, character=b"", stands=8):
-    """A line of so many bytes with a blank missing before its second token, which begins behind `at` bytes; a character
-    stands behind `stands` bytes."""
+def long_line(at, length, character=b"", is_present=8):
+    """A line of so many bytes with a blank missing before its second token, which begins after `at` bytes; a character comes
+    after `is_present` bytes."""
     line = bytearray(padded(length))
     line[:5], line[at - 2:at + 5], line[length - 1:] = b'TAG="', b'",TAG="', b'"'
-    line[stands:stands + len(character)] = character
+    line[is_present:is_present + len(character)] = character
     return bytes(line)
 
 
 def in_window(name, line, said, shown, marks):
-    """A run of `human` over a line of which this part is shown, with these marks behind its indent."""
+    """A run of `human` over a line, showing this part of it, with these marks after its indent."""
     place, text, code = said
     return Row(f"{name}, human", "verify --format=human r.rules", {"r.rules": line + b"\n"}, output=summary([("", "", [1])]), status=1,
                messages=b"r.rules:1:%d: %s [%s]\n  %s\n  %s\n  = %s\n" % (
@@ -202,12 +202,12 @@ def in_window(name, line, said, shown, marks):
 
 
 def blank_missing(column):
-    """What is said of the second token of `long_line`."""
+    """What is said about the second token of `long_line`."""
     return column, "warning: blank after a comma expected", "S2"
 
 
-# What `human` shows of lines of more than 160 bytes: where the place stands, the line, and what is shown of it, from
-# and to which byte. Before a place stand 40 bytes, more where the line ends.
+# What `human` shows of lines of more than 160 bytes: where the place is, the line, and which bytes of it are shown, from
+# and to. 40 bytes come before a place, more if the line ends.
 FAR = long_line(200, 400)
 WINDOWS = [
     in_window("a place at the front of a long line", b'FOO="' + padded(394) + b'"', (1, "error: unknown key", "V2"),
@@ -234,7 +234,7 @@ WINDOWS = [
 
 
 def in_image(form):
-    """A run over an image whose folders have files, of which the names alone stand in `plain`."""
+    """A run over an image whose folders have files; `plain` has only their names."""
     places = ["etc/udev/rules.d", "run/udev/rules.d", "usr/local/lib/udev/rules.d", "usr/lib/udev/rules.d"]
     files, read = {}, []
     for folder, name in zip(places, ["d", "c", "b", "a"]):

@@ -1,9 +1,9 @@
-"""`--ignore`: messages that are neither told nor counted, comments in files, and what they say in vain."""
+"""`--ignore`: messages that are neither reported nor counted, comments in files, and those that ignore nothing."""
 from tables.kinds.index_bytes import EMPTY
 from tables.kinds.row import Row
 from tables.kinds.verified import verified
 
-# A file with four messages, the last two of one line.
+# A file with four messages, the last two about one line.
 UNKNOWN = ('FOO=="x", TAG+="t"', "V2 unknown key: FOO")
 LOST = ('KERNEL=="sd*", GOTO="end"', "V7 no later label: end")
 STYLE = ('ENV{A}:="1",TAG+="t"', "S3 operator read as =: ENV", "S2 blank after a comma expected: TAG")
@@ -12,7 +12,7 @@ TEXT = "".join(f"{line[0]}\n" for line in EVERY)
 
 
 def silent(line, *codes):
-    """A line with the messages that are left where these codes are ignored."""
+    """A line with the messages that are left if these codes are ignored."""
     return (line[0], *(said for said in line[1:] if said.split()[0] not in codes))
 
 
@@ -52,7 +52,7 @@ CODES = [
     Row("in a format", "verify --ignore V2,S3 --format=gcc r.rules", {"r.rules": TEXT},
         output="1 files checked, 0 good, 1 bad\n",
         messages="r.rules:2:22: error: no later label: end [V7]\nr.rules:3:13: warning: blank after a comma expected: TAG [S2]\n", status=1),
-    # what is dropped stays dropped: its label is none
+    # what is dropped stays dropped: it has no label
     verified("an ignored fault still drops its rule", ('GOTO="x"', "V7 no later label: x"), 'LABEL="x", FOO="1"',
         words="verify --ignore V2"),
 ]
@@ -63,7 +63,7 @@ H1, H2, H5 = "t.hwdb:1: H1 property without a match: A=1\n", "t.hwdb:3: H2 match
 
 
 def updated(name, words, messages, status=0, text=H):
-    """A run of `update` over a file of no entry."""
+    """A run of `update` over a file without an entry."""
     return Row(name, f"update {words} t.hwdb", {"t.hwdb": text}, output=EMPTY, messages=messages, status=status)
 
 
@@ -130,7 +130,7 @@ COMMENTS = [
 """, status=1),
 ]
 
-# what is said of a part of `--ignore` that is neither a code nor `comments`, before any file is looked at
+# what is said about a part of `--ignore` that is neither a code nor `comments`, before any file is looked at
 NO_SUCH_CODE = """\
 error: invalid value '{}' for '--ignore <CODES>'
   [possible values: V1, V2, V3, V4, V5, V6, V7, V8, V9, V10, V11, V12, V13, V14, V15, V16, V17, V18, V19, V20, V21, V22, V23, V24, V25, V26, S1, S2, S3, S4, S5, S6, H1, H2, H3, H4, H5, H6, W1, W2, W3, W4, W5, W6, W7, W8, W9, W10, W11, W12, W13, I1, I2, comments]
@@ -138,7 +138,7 @@ error: invalid value '{}' for '--ignore <CODES>'
 For more information, try '--help'.
 """
 
-# (words, the code that there is not)
+# (words, the code that does not exist)
 UNKNOWN_CODES = [
     ("verify --ignore X6 r.rules", "X6"),
     ("verify --ignore V6,X6 r.rules", "X6"),

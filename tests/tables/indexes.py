@@ -23,8 +23,8 @@ def queries(name, whole, *asked):
 # Two patterns with a set, one of them with two entries, of two files.
 FOUR_FILES = {"z.hwdb": "b[xy]\n K=1\n\na?\n K=2\n", "y.hwdb": "b[xy]\n K=3\n\nb?\n K=4\n"}
 
-# Level by level: the root; a and b; a? behind a, b? and b[xy] behind b. The text is key and value by value, then the
-# files, sorted: y.hwdb at 8 and z.hwdb at 14.
+# Level by level: the root; a and b; a? below a, b? and b[xy] below b. The text is key and value by value, then the files,
+# sorted: y.hwdb at 8 and z.hwdb at 14.
 FOUR = index(
     2,
     [
@@ -70,8 +70,8 @@ PAIRS = index(
 )
 
 # The labels below one node: bytes by their number, then ?, then *, then the sets by their bytes. Here [a] is a 2 and [b]
-# a 4 in byte 12 behind zeros, and [!a] begins with 255. A pattern that stands twice is one node with two values, and a
-# set that stands twice is written once.
+# a 4 in byte 12 after zeros, and [!a] begins with 255. A pattern that occurs twice is one node with two values, and a set
+# that occurs twice is written once.
 LABELS_FILES = {
     "l.hwdb": b"[!a]\n A=1\n\n*\n A=2\n\n?\n A=3\n\n\xff\n A=4\n\n[b]\n A=5\n\n"
     b"[a]\n A=6\n\nz\n A=7\n\n?[b]\n A=8\n\nz\n B=9\n"
@@ -116,7 +116,7 @@ def numbered(count):
     return chain + digits
 
 
-# 10,000 patterns of four digits: 11,116 nodes. The file's name stands behind the 20,000 bytes of keys and values.
+# 10,000 patterns of four digits: 11,116 nodes. The file's name comes after the 20,000 bytes of keys and values.
 NUMBERS_FILES = {"t.hwdb": "".join(f"usb:v{number:04}\n K=V\n\n" for number in range(10_000))}
 NUMBERS = index(
     2,
@@ -149,7 +149,7 @@ LONG = index(
     b"A1" * 10_000 + b"s.hwdb",
 )
 
-# Files of the folders, in the order of their names: 70-b.hwdb is read once, where the rank is the least.
+# Files of the folders, in the order of their names: 70-b.hwdb is read once, from the folder of the lowest rank.
 FOLDERS_FILES = {
     "r/usr/lib/udev/hwdb.d/60-a.hwdb": "m*\n A=1\n",
     "r/usr/lib/udev/hwdb.d/70-b.hwdb": "m*\n A=2\n",
@@ -178,7 +178,7 @@ STARS = index(
     b"KVt.hwdb",
 )
 
-# A chain of 16,001 nodes, each but the root behind a and with K=V of order 0, in version 1: 704,058 bytes.
+# A chain of 16,001 nodes, each except the root labeled a and with K=V of order 0, in version 1: 704,058 bytes.
 CHAIN = index(
     1,
     [node(ROOT, children=1), *[node(BYTE, "a", children=1, values=1)] * 15_999, node(BYTE, "a", values=1)],
@@ -187,7 +187,7 @@ CHAIN = index(
 )
 assert len(CHAIN) == 704_058
 
-# What `update` never writes: labels in no order and twice below one node, texts that share bytes, an empty text at the
+# What `update` never writes: labels out of order and twice below one node, texts that share bytes, an empty text at the
 # end, a node that leads nowhere, orders that fall from node to node, and equal ones.
 FOREIGN = index(
     2,
@@ -269,7 +269,7 @@ READ = [
         # the empty pattern and `*`
         ("", "-: K=V\nVW:7: KV=\nK:1: V=K\n"),
         ("b", "-: K=V\nK:1: V=K\n"),
-        # `*` and the second `a` have K of order 5: the one that stands later counts; `a*` has V of a lower order than `*`
+        # `*` and the second `a` have K of order 5: the later one counts; `a*` has V of a lower order than `*`
         ("a", "W:2: K=W\nK:1: V=K\n"),
         # `ab` has K of a lower order than `*`
         ("ab", "-: K=V\nK:1: V=K\n"),
@@ -301,7 +301,7 @@ WRITTEN = [
     Row("a file in the place of another", "update -r r", MASKED_FILES, output=MASKED),
 ]
 
-# A rule that asks the database for the device of USB at or above the event's, and such an event.
+# A rule that asks the database for the USB device at or above the event's, and such an event.
 ASKS = 'IMPORT{builtin}="hwdb --subsystem=usb"\n'
 BELOW_USB = "C: add\nP: /a/b\nP: /a\nU: usb\nE: MODALIAS=usb:v1D6Bp0002\n"
 

@@ -14,15 +14,15 @@ def unused(name):
     return f"S4 label unused: {name}"
 
 
-# A jump over a label of its name that stands before it.
+# A jump past a label of its name that is before it.
 LABELS = ['LABEL="x", ENV{A}="1"', 'GOTO="x"', 'ENV{B}="1"', 'LABEL="x", ENV{C}="1"']
 
-# A jump to a jump, and between them a label that stands twice, of no jump.
+# A jump to a jump, and between them a label that occurs twice, to which no jump goes.
 JUMP_BY_JUMP = ['GOTO="e"', 'LABEL="m", ENV{A}="1"', 'LABEL="e", GOTO="f"', 'LABEL="m", ENV{B}="1"', 'LABEL="f", ENV{C}="1"']
 
 NAMES = [f"n{number}" for number in range(1000)]
 
-# A thousand jumps over one another, and where the first label is that is reached.
+# A thousand jumps over one another, and the case that the first label is reached.
 THOUSAND = [
     f'KERNEL=="{name}", GOTO="{name}"' for name in NAMES
 ] + [f'LABEL="{name}", ENV{{L}}=="", ENV{{L}}="{name}"' for name in NAMES]

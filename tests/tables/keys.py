@@ -1,4 +1,4 @@
-"""Keys of rules: with which operators and attributes each may stand, and how its value is read."""
+"""Keys of rules: which operators and attributes each may have, and how its value is read."""
 from tables.kinds.answered import answered
 from tables.kinds.verified import verified
 
@@ -7,8 +7,8 @@ OPERATORS = ["==", "!=", "=", "+=", "-=", ":="]
 MATCH = "== !="
 ACT = "== != = += :="
 
-# keys; an attribute with which they may stand, and whether they need it, may have it or have none; the operators that they
-# take; of these the ones that are read as `=`; how a value is read that is matched, and one that is assigned
+# keys; an attribute that they may have, and whether they need it, may have it or have none; the operators that they take;
+# those of them that are read as `=`; how a value is read that is matched, and one that is assigned
 KEYS = [
     ("ACTION DEVPATH KERNEL SUBSYSTEM DRIVER KERNELS SUBSYSTEMS DRIVERS TAGS RESULT", "", "none", MATCH, "", "choice", ""),
     ("ATTRS CONST", "{a}", "needed", MATCH, "", "choice", ""),
@@ -32,7 +32,7 @@ KEYS = [
     ("OPTIONS", "", "none", "= += :=", "", "", "option"),
 ]
 
-# each way in which a value is read: a value that it takes, and what it says of a class and of an unknown substitution
+# each way in which a value is read: a value that it accepts, and what it says about a class and an unknown substitution
 VALUES = {
     "choice": ("v", "V11 set not supported: [[:x:]]", None),
     "template": ("v", None, "V6 bad substitution: $nope"),
@@ -48,7 +48,7 @@ EACH = [(key, *row) for keys, *row in KEYS for key in keys.split()]
 
 
 def said(line, *messages):
-    """A line with the messages that there are."""
+    """A line with its messages."""
     return (line, *(message for message in messages if message))
 
 
@@ -76,7 +76,7 @@ def attributes_of(key, attribute, need, taken, value):
         said(f"{key}{tail}", wrong if need == "needed" else None),
         said(f"{key}{{}}{tail}", wrong),
         said(f"{key}{{x y}}{tail}", wrong if need == "none" or key in ("TEST", "RUN", "IMPORT") else None),
-        # an attribute that is wrong is seen before an operator that is
+        # a wrong attribute is reported before a wrong operator
         said(f'{key}{{}}-="{value}"', wrong),
     ]
 
@@ -130,7 +130,7 @@ ROWS = [
         ('_=="b"', "V2 unknown key: _"),
         ('1=="b"', "V2 unknown key: 1"),
         ('KEY_KEY_KEY_KEY_KEY_KEY_KEY_KEY_KEY="b"', "V2 unknown key: KEY_KEY_KEY_KEY_KEY_KEY_KEY_KEY_"),
-        # an unknown key is seen before its attribute and its operator
+        # an unknown key is reported before its attribute and its operator
         ('FOO{}-="b"', "V2 unknown key: FOO"),
     ),
     verified(

@@ -6,7 +6,7 @@ from tables.kinds.verified import verified
 
 
 def bad(text):
-    """The message that a line is no tokens."""
+    """The message that a line has bad syntax."""
     return f"V1 bad syntax: {text}"
 
 
@@ -21,7 +21,7 @@ ROWS = [
         "indents are dropped, blanks at the end are not",
         (" \t a ", bad("a ")),
         (" \t", ),
-        # a carriage return is no blank
+        # a carriage return is not a blank
         ("\ra", bad("\\x0Da")),
         ("\va", bad("\\x0Ba")),
         # nor is it dropped at the end

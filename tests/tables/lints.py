@@ -1,22 +1,22 @@
-"""`verify --lint`: rules that are rules, and most likely not the ones that were meant; each lint alone.
+"""`verify --lint`: rules that are valid, and most likely not the ones that were meant; each lint alone.
 
-What is wanted was written by hand, by the tables of docs/behaviour.md. tables/lints_of_files.py has what concerns all of
+What is wanted was written by hand, from the tables of docs/behaviour.md. tables/lints_of_files.py has what concerns all of
 them.
 """
-from tables.kinds.linted import lint, linted, told
+from tables.kinds.linted import lint, linted, reported
 
 
 def each_value(number, key, values):
-    """A line for each value of a key, which each earn a lint of this number with the value as its word."""
-    return told(number, *((f'{key}"{value}"', value) for value in values))
+    """A line for each value of a key, which each cause a lint of this number with the value as its word."""
+    return reported(number, *((f'{key}"{value}"', value) for value in values))
 
 
 W1 = [
     linted("W1", *each_value(1, "MODE=", ["0888", "rw", "rw-rw----", "10000", "017777", "777777777777777777777777", "0o660", "0x1B0", "-1",
         "+7", " 660", "660 ", "06 60", "6,6", "8"])),
-    linted("W1 of an empty value", *told(1, ('MODE=""', ""))),
-    linted("W1 by each operator", *told(1, ('MODE:="9"', "9")), ('MODE+="9"', "S3 operator read as =: MODE", lint(1, "9"))),
-    linted("W1 of a value with escapes", *told(1, ('MODE=e"\\x38"', "8")), 'MODE=e"\\x37"'),
+    linted("W1 of an empty value", *reported(1, ('MODE=""', ""))),
+    linted("W1 by each operator", *reported(1, ('MODE:="9"', "9")), ('MODE+="9"', "S3 operator read as =: MODE", lint(1, "9"))),
+    linted("W1 of a value with escapes", *reported(1, ('MODE=e"\\x38"', "8")), 'MODE=e"\\x37"'),
     linted("no W1", *(f'MODE="{value}"' for value in ["0660", "660", "0", "7", "7777", "07777", "00000000000000000000000000000660"])),
     linted("no W1 of a template", 'MODE="%c"', 'MODE="0$env{MODE}"', 'MODE="x$$"', 'MODE="9%%"', 'MODE="%c{2}8"'),
     linted("no W1 of other keys", 'OWNER="0888"', 'GROUP="rw"', 'ENV{MODE}="rw"'),
@@ -26,11 +26,11 @@ SHELLS = ["sh", "ash", "bash", "dash", "ksh", "zsh"]
 W2 = [
     linted("W2 of RUN", *each_value(2, "RUN+=", ["/bin/a > /run/b", "/bin/a | /bin/b", "/bin/a; /bin/b", "/bin/a && /bin/b", "/bin/a >> b",
         "/bin/a || /bin/b", "/bin/a;", "%c > b", "$env{A} | b", " /bin/a > b", "/bin/a >/run/b", "/bin/a 2>&1", "/bin/a>>b", "/bin/a |"])),
-    linted("W2 of other commands", *told(2, ('RUN{program}+="/bin/a > b"', "/bin/a > b"), ('RUN="/bin/a > b"', "/bin/a > b"),
+    linted("W2 of other commands", *reported(2, ('RUN{program}+="/bin/a > b"', "/bin/a > b"), ('RUN="/bin/a > b"', "/bin/a > b"),
         ('RUN:="/bin/a > b"', "/bin/a > b"), ('PROGRAM=="/bin/a | b"', "/bin/a | b"), ('PROGRAM!="a | b"', "a | b"), ('PROGRAM="a | b"', "a | b"),
         ('IMPORT{program}=="a; b"', "a; b"), ('IMPORT{program}="a && b"', "a && b"))),
     linted("W2 behind quotes", *each_value(2, "RUN+=", ["/bin/a 'b' > c", "/bin/a 'b'>/run/c", "/bin/a '>' | 'x'"]),
-        *told(2, ('RUN+=e"/bin/a \\"b\\" > c"', '/bin/a "b" > c'), ('RUN+=e"/bin/a \'\\"\' > c"', "/bin/a '\"' > c"))),
+        *reported(2, ('RUN+=e"/bin/a \\"b\\" > c"', '/bin/a "b" > c'), ('RUN+=e"/bin/a \'\\"\' > c"', "/bin/a '\"' > c"))),
     linted("W2 of programs that only look like a shell", *each_value(2, "RUN+=", ["/bin/shx -c a >b > c", "/bin/xsh -c a > b", "/bin/sh/a > b",
         "/bin/fish -c a > b", "/bin/SH -c a > b", "/bin/a /bin/sh > b"])),
     linted("W2 before W3", ('RUN+="cp > b"', lint(2, "cp > b"), lint(3, "cp > b")),
@@ -52,8 +52,8 @@ sleep su sudo systemctl systemd-run sysctl tee touch udevadm umount""".split()
 W3 = [
     linted("W3 of each command", *each_value(3, "RUN+=", [f"{command} /run/a" for command in COMMANDS])),
     linted("W3 of a command alone", *each_value(3, "RUN+=", ["touch", " ln", "cp ", "  rm $env{A}", "mv %k"])),
-    linted("W3 by each operator and type", *told(3, ('RUN="touch"', "touch"), ('RUN:="ln a"', "ln a"), ('RUN{program}+="rm"', "rm"))),
-    linted("W3 behind a tab", *told(3, ('RUN+="\ttouch\ta"', "\\x09touch\\x09a"))),
+    linted("W3 by each operator and type", *reported(3, ('RUN="touch"', "touch"), ('RUN:="ln a"', "ln a"), ('RUN{program}+="rm"', "rm"))),
+    linted("W3 behind a tab", *reported(3, ('RUN+="\ttouch\ta"', "\\x09touch\\x09a"))),
     linted("no W3", *(f'RUN+="{value}"' for value in ["/bin/touch a", "helper %k", "hdparm", "a", "./touch a", "bin/touch", "Touch a", "touchx", "xtouch",
         "'touch' a", "touch,a", "a touch", "$env{A} touch", "%c", "", "  ", "sync"])),
     linted("no W3 of other commands", 'RUN{builtin}+="kmod load a"', 'RUN{builtin}+="touch"', 'PROGRAM=="touch a"', 'PROGRAM="touch"',
@@ -65,11 +65,11 @@ SMALL = ["idVendor", "idProduct", "bcdDevice", "bDeviceClass", "bDeviceSubClass"
     "subsystem_device"]
 MODALIASES = ["ENV{MODALIAS}", "ATTR{modalias}", "ATTRS{modalias}"]
 W4 = [
-    linted("W4 of each attribute", *told(4, *((f'{key}{{{name}}}=="0A*"', "0A*") for name in SMALL for key in ["ATTR", "ATTRS"]))),
-    linted("W4 of attributes that begin with 0x", *told(4, *((f'{key}{{{name}}}=="{value}"', value) for key in ["ATTR", "ATTRS"]
+    linted("W4 of each attribute", *reported(4, *((f'{key}{{{name}}}=="0A*"', "0A*") for name in SMALL for key in ["ATTR", "ATTRS"]))),
+    linted("W4 of attributes that begin with 0x", *reported(4, *((f'{key}{{{name}}}=="{value}"', value) for key in ["ATTR", "ATTRS"]
         for name, value in [("vendor", "0x10DE"), ("device", "0X10de"), ("class", "0x0C03*"), ("vendor", "Generic|0x10DE"), ("device", "0x*A")]))),
     linted("W4 in one of several alternatives", *each_value(4, "ATTRS{idVendor}==", ["1d6b|1D6B", "|0A", "?[A]A"])),
-    linted("W4 by !=", *told(4, ('ATTRS{idVendor}!="1D6B"', "1D6B"), ('ENV{MODALIAS}!="usb:v1d6b*"', "usb:v1d6b*"))),
+    linted("W4 by !=", *reported(4, ('ATTRS{idVendor}!="1D6B"', "1D6B"), ('ENV{MODALIAS}!="usb:v1d6b*"', "usb:v1d6b*"))),
     linted("W4 of a modalias", *(line for key in MODALIASES for line in each_value(4, f"{key}==", ["usb:v1d6bp0002*", "usb:v1D6Bp000a*",
         "usb:va", "pci:v0000104cd*", "pci:v0000104Cd0000803a*", "input:*|usb:v1D6bp*"]))),
     linted("no W4", *(f'ATTRS{{{name}}}=="0a*"' for name in SMALL), 'ATTRS{vendor}=="0x10de"', 'ATTRS{idVendor}=="[0-9A-F]*"',
@@ -85,14 +85,14 @@ W4 = [
 ]
 
 W5 = [
-    linted("W5", *told(5,
+    linted("W5", *reported(5,
         ('ATTRS{idVendor}=="1d6b", ATTRS{bInterfaceNumber}=="01"', "bInterfaceNumber"),
         ('ATTRS{bInterfaceClass}=="03", ATTRS{idProduct}=="0002"', "idProduct"),
         ('ATTRS{busnum}=="1", ATTRS{bAlternateSetting}==" 0"', "bAlternateSetting"),
         ('ATTRS{id/vendor}=="1d6b", ATTRS{idVendor}=="1d6b"', "idVendor"),
         ('ATTRS{subsystem_vendor}=="0x1d6b", ATTRS{id/bustype}=="0003"', "id/bustype"),
         ('ATTRS{devnum}=="2", ATTRS{subsystem_device}=="0x1"', "subsystem_device"))),
-    linted("W5 once a rule, by the first that is known", *told(5, ('ATTRS{serial}=="1", ATTRS{id/vendor}=="0001", ATTRS{id/product}=="2", '
+    linted("W5 once a rule, by the first that is known", *reported(5, ('ATTRS{serial}=="1", ATTRS{id/vendor}=="0001", ATTRS{id/product}=="2", '
         'ATTRS{idVendor}=="1d6b", ATTRS{bNumEndpoints}=="02"', "idVendor"))),
     linted("no W5", 'ATTRS{idVendor}=="1d6b", ATTRS{idProduct}=="0002", ATTRS{serial}=="x", ATTRS{bNumInterfaces}==" 1"',
         'ATTRS{bInterfaceNumber}=="01", ATTRS{bNumEndpoints}=="02"', 'ATTRS{id/vendor}=="1", ATTRS{id/version}=="2"',
@@ -105,9 +105,9 @@ W5 = [
 
 
 def below(name, key, *imports):
-    """Runs over a match of a property and imports below it, which is told of; and the same in the other order, which is not."""
+    """Runs over a match of a property and imports below it, which is reported; and the same in the other order, which is not."""
     match = f'ENV{{{key}}}=="x"'
-    return [linted(f"W6, {name}", *told(6, (match, key)), *imports), linted(f"no W6, {name} above", *imports, match)]
+    return [linted(f"W6, {name}", *reported(6, (match, key)), *imports), linted(f"no W6, {name} above", *imports, match)]
 
 
 # Each builtin with properties that it sets.
@@ -120,20 +120,20 @@ W6 = [
     *below("a builtin by !=", "ID_FS_TYPE", 'IMPORT{builtin}!="blkid", TAG+="t"'),
     *below("the command line of the kernel", "mine", 'IMPORT{cmdline}="mine"'),
     *below("other rules between", "mine", 'TAG+="t"', 'IMPORT{cmdline}="other"', 'ENV{other}=="x"', 'IMPORT{cmdline}="mine"'),
-    linted("W6 in the rule of the import", *told(6, ('ENV{mine}=="x", IMPORT{cmdline}="mine"', "mine"))),
-    linted("W6 in a rule that may have it itself", *told(6, ('ENV{mine}=="x", IMPORT{db}="mine", IMPORT{parent}="*", IMPORT{file}="/a"', "mine")), 'IMPORT{cmdline}="mine"'),
+    linted("W6 in the rule of the import", *reported(6, ('ENV{mine}=="x", IMPORT{cmdline}="mine"', "mine"))),
+    linted("W6 in a rule that may have it itself", *reported(6, ('ENV{mine}=="x", IMPORT{db}="mine", IMPORT{parent}="*", IMPORT{file}="/a"', "mine")), 'IMPORT{cmdline}="mine"'),
     linted("W6 of each match", ('ENV{ID_PATH}=="x", ENV{ID_PATH_TAG}=="?*"', lint(6, "ID_PATH"), lint(6, "ID_PATH_TAG")),
-        *told(6, ('ENV{ID_PATH}=="y"', "ID_PATH")), 'IMPORT{builtin}="path_id"', 'ENV{ID_PATH}=="z"'),
-    linted("W6 in a rule that assigns it", *told(6, ('ENV{mine}=="?*", ENV{mine}+="x"', "mine")), 'IMPORT{cmdline}="mine"'),
+        *reported(6, ('ENV{ID_PATH}=="y"', "ID_PATH")), 'IMPORT{builtin}="path_id"', 'ENV{ID_PATH}=="z"'),
+    linted("W6 in a rule that assigns it", *reported(6, ('ENV{mine}=="?*", ENV{mine}+="x"', "mine")), 'IMPORT{cmdline}="mine"'),
     linted("W6 below imports of other properties", 'IMPORT{db}="ID_PATH_TAG"', 'IMPORT{parent}="ID_PAT"', 'IMPORT{builtin}="blkid"', 'ENV{ID_PAT}="x"',
-        *told(6, ('ENV{ID_PATH}=="x"', "ID_PATH")), 'IMPORT{builtin}="path_id"'),
+        *reported(6, ('ENV{ID_PATH}=="x"', "ID_PATH")), 'IMPORT{builtin}="path_id"'),
     *(linted(f"no W6 of what a rule above may have by {line}", line, 'ENV{ID_PATH}=="x"', 'IMPORT{builtin}="path_id"')
       for line in ['ENV{ID_PATH}="x"', 'ENV{ID_PATH}+="x"', 'IMPORT{db}="ID_PATH"', 'IMPORT{parent}="ID_PATH"', 'IMPORT{parent}="ID_*"', 'IMPORT{parent}="A*"',
                    'IMPORT{parent}="?"', 'IMPORT{parent}="[A]"', 'IMPORT{parent}="A|B"', 'IMPORT{program}="/bin/a"', 'IMPORT{file}="/run/a"',
                    'IMPORT{builtin}="hwdb"', 'IMPORT{builtin}=="net_setup_link"']),
     linted("no W6 where nothing imports it", 'ENV{ID_FS_TYPE}=="x"', 'ENV{mine}=="x"', 'IMPORT{cmdline}="mine_too"', 'IMPORT{db}="mine"',
         'IMPORT{builtin}="path_id"'),
-    linted("no W6 of the empty text", 'ENV{mine}==""', 'ENV{mine}=="|x"', *told(12, ('ENV{mine}=="*"', "ENV")), 'IMPORT{cmdline}="mine"'),
+    linted("no W6 of the empty text", 'ENV{mine}==""', 'ENV{mine}=="|x"', *reported(12, ('ENV{mine}=="*"', "ENV")), 'IMPORT{cmdline}="mine"'),
     linted("no W6 by !=", 'ENV{mine}!="x"', 'IMPORT{cmdline}="mine"'),
     linted("no W6 of names beside those of builtins", *(f'ENV{{{name}}}=="x"' for name in ["ID_FS", "ID_PAR", "ID_USB", "ID_NET_NAME", "XID_PATH"]),
         *(f'IMPORT{{builtin}}="{builtin}"' for builtin in ["blkid", "usb_id", "path_id", "net_id", "input_id"])),
@@ -144,19 +144,19 @@ W6 = [
 ]
 
 W7 = [
-    linted("W7 of a property", 'ENV{A}=="1"', *told(7, ('ENV{A}="1", KERNEL=="sd*"', "A"))),
-    linted("W7 of an attribute", 'ATTR{power/control}=="auto"', *told(7, ('ATTR{power/control}="auto", KERNEL=="sd*"', "power/control"))),
-    linted("W7 above the match that compares", *told(7, ('ENV{A}="1", KERNEL=="sd*"', "A")), 'ENV{A}=="1", TAG+="t"'),
-    *(linted(f"W7 in {line}", 'ENV{A}=="1"', *told(7, (line, "A"))) for line in ['ENV{A}="1", KERNELS=="sd*"', 'ENV{A}="1", PROGRAM=="/a", RESULT=="b"',
+    linted("W7 of a property", 'ENV{A}=="1"', *reported(7, ('ENV{A}="1", KERNEL=="sd*"', "A"))),
+    linted("W7 of an attribute", 'ATTR{power/control}=="auto"', *reported(7, ('ATTR{power/control}="auto", KERNEL=="sd*"', "power/control"))),
+    linted("W7 above the match that compares", *reported(7, ('ENV{A}="1", KERNEL=="sd*"', "A")), 'ENV{A}=="1", TAG+="t"'),
+    *(linted(f"W7 in {line}", 'ENV{A}=="1"', *reported(7, (line, "A"))) for line in ['ENV{A}="1", KERNELS=="sd*"', 'ENV{A}="1", PROGRAM=="/a", RESULT=="b"',
         'ENV{A}="1", TAG+="t", ENV{B}!="2"', 'TAG=="t", ENV{A}="1", ATTRS{c}!="2", TAG+="t"']),
-    linted("W7 of a value with escapes", 'ENV{A}==e"\\x31"', *told(7, ('ENV{A}="1", KERNEL=="sd*"', "A"))),
+    linted("W7 of a value with escapes", 'ENV{A}==e"\\x31"', *reported(7, ('ENV{A}="1", KERNEL=="sd*"', "A"))),
     linted("W7 of each assignment", 'ENV{A}=="1"', 'ENV{B}=="2"', ('ENV{B}="2", ENV{A}="1", KERNEL=="sd*"', lint(7, "B"), lint(7, "A"))),
-    linted("W7 of a pattern", 'ENV{A}=="a|b*"', *told(7, ('ENV{A}="a|b*", KERNEL=="sd*"', "A"))),
+    linted("W7 of a pattern", 'ENV{A}=="a|b*"', *reported(7, ('ENV{A}="a|b*", KERNEL=="sd*"', "A"))),
     *(linted(f"no W7 behind the matches, in {line}", 'ENV{A}=="1"', line) for line in ['KERNEL=="sd*", ENV{A}="1"', 'KERNEL=="sd*", ENV{A}="1", TAG+="t"',
         'ENV{A}="1"']),
     *(linted(f"no W7 before an act alone, in {line}", 'ENV{A}=="1"', line) for line in ['ENV{A}="1", TEST=="b"', 'ENV{A}="1", PROGRAM=="/b"',
         'ENV{A}="1", IMPORT{db}=="C"']),
-    linted("W7 beside other assignments", 'ENV{A}=="1"', *told(7, ('ENV{A}="1", KERNEL=="sd*"', "A")), 'ENV{A}="2"', 'ENV{B}="1"', 'ATTR{A}="1"',
+    linted("W7 beside other assignments", 'ENV{A}=="1"', *reported(7, ('ENV{A}="1", KERNEL=="sd*"', "A")), 'ENV{A}="2"', 'ENV{B}="1"', 'ATTR{A}="1"',
         ('ENV{A}="1", FOO="x"', "V2 unknown key: FOO")),
     linted("no W7 by other operators", 'ENV{A}=="1"', 'ENV{B}!="1"', 'ENV{A}+="1", KERNEL=="sd*"', 'ENV{B}="1", KERNEL=="sd*"'),
     linted("no W7 of other values, names and keys", 'ENV{A}=="1"', 'ENV{A}="2", KERNEL=="a"', 'ENV{B}="1", KERNEL=="a"', 'ATTR{A}="1", KERNEL=="a"',
@@ -165,7 +165,7 @@ W7 = [
 ]
 
 W8 = [
-    linted("W8", *told(8, ('SUBSYSTEM=="block", NAME="disk"', "disk"), ('NAME="a b", SUBSYSTEM!="net"', "a b"),
+    linted("W8", *reported(8, ('SUBSYSTEM=="block", NAME="disk"', "disk"), ('NAME="a b", SUBSYSTEM!="net"', "a b"),
         ('SUBSYSTEM=="usb|block", NAME:="%k"', "%k"), ('SUBSYSTEM=="net?", NAME="x"', "x"), ('SUBSYSTEM=="NET", NAME="x"', "x"),
         ('SUBSYSTEM=="", NAME="x"', "x"), ('SUBSYSTEM!="n*", KERNEL=="a", NAME=""', ""), ('SUBSYSTEM=="net", SUBSYSTEM=="block", NAME="x"', "x"))),
     linted("W8 by +=", ('SUBSYSTEM=="block", NAME+="x"', "S3 operator read as =: NAME", lint(8, "x"))),
@@ -174,14 +174,14 @@ W8 = [
 ]
 
 W9 = [
-    linted("W9", *told(9, ('SYMLINK+="/dev/a"', "/dev/a"), ('SYMLINK="a /dev/b"', "a /dev/b"), ('SYMLINK-="/dev/a"', "/dev/a"),
+    linted("W9", *reported(9, ('SYMLINK+="/dev/a"', "/dev/a"), ('SYMLINK="a /dev/b"', "a /dev/b"), ('SYMLINK-="/dev/a"', "/dev/a"),
         ('SYMLINK:="  /dev/"', "  /dev/"), ('SYMLINK+="/dev/$kernel"', "/dev/$kernel"), ('SYMLINK+=e"a\\t/dev/b"', "a\\x09/dev/b"))),
     linted("no W9", *(f'SYMLINK+="{value}"' for value in ["dev/a", "a/dev/b", "/dev", "/devices/a", "a,/dev/b"]), 'SYMLINK=="/dev/a"',
         'SYMLINK!="/dev/a"', 'ENV{A}="/dev/a"', 'TAG+="/dev/a"'),
 ]
 
 W10 = [
-    linted("W10", *told(10, ('ATTR{"a"}=="1"', '"a"'), ('ENV{"A"}="1"', '"A"'), ('ATTRS{a"b}=="1"', 'a"b'), ('SYSCTL{"a/b"}="1"', '"a/b"'),
+    linted("W10", *reported(10, ('ATTR{"a"}=="1"', '"a"'), ('ENV{"A"}="1"', '"A"'), ('ATTRS{a"b}=="1"', 'a"b'), ('SYSCTL{"a/b"}="1"', '"a/b"'),
         ('SECLABEL{"}="1"', '"'), ('ENV{\\"A\\"}+="1"', '\\x5C"A\\x5C"'))),
     linted("W10 of each token", ('ATTR{"a"}=="1", TAG+="t", ENV{"b"}="2"', lint(10, '"a"'), lint(10, '"b"'))),
     linted("no W10", "ATTR{'a'}==\"1\"", 'ATTR{a}==e"\\"1\\""', ('IMPORT{"program"}="/a"', "V4 attribute missing or not allowed: IMPORT")),
@@ -190,12 +190,12 @@ W10 = [
 W11 = [
     linted("W11", *each_value(11, "KERNEL==", ["^sd*", ".*", ".*a", "sd.*$", "sd[0-9]$", "$", "^", "(sd|sr)*", "a|b(c|d|e)", "sda|^sdb",
         "sd$|sr", "sd{a,b}", "{,}", "a{b{c,d}e"])),
-    linted("W11 of classes", *told(11, *((f'KERNEL=="sd\\{letter}"', f"sd\\x5C{letter}") for letter in "dws"))),
-    linted("W11 by each kind of match", *told(11, ('KERNEL!="^a"', "^a"), ('ATTR{a}=="b$"', "b$"), ('ENV{A}=="^b"', "^b"), ('TAG!="a$"', "a$"),
+    linted("W11 of classes", *reported(11, *((f'KERNEL=="sd\\{letter}"', f"sd\\x5C{letter}") for letter in "dws"))),
+    linted("W11 by each kind of match", *reported(11, ('KERNEL!="^a"', "^a"), ('ATTR{a}=="b$"', "b$"), ('ENV{A}=="^b"', "^b"), ('TAG!="a$"', "a$"),
         ('KERNELS=="^a"', "^a"), ('ATTRS{a}!="b$"', "b$"), ('TAGS=="^a"', "^a"), ('RESULT=="^a"', "^a"), ('NAME=="^a"', "^a"),
         ('SYMLINK=="a$"', "a$"), ('CONST{virt}=="^a"', "^a"))),
-    linted("W11 where case does not count", *told(11, ('KERNEL==i"^A"', "^A"))),
-    linted("W11 of a value with escapes", *told(11, ('KERNEL==e"\\x5Ea"', "^a"), ('KERNEL==e"sd\\\\d"', "sd\\x5Cd")), 'KERNEL=="\\x5Ea"'),
+    linted("W11 where case does not count", *reported(11, ('KERNEL==i"^A"', "^A"))),
+    linted("W11 of a value with escapes", *reported(11, ('KERNEL==e"\\x5Ea"', "^a"), ('KERNEL==e"sd\\\\d"', "sd\\x5Cd")), 'KERNEL=="\\x5Ea"'),
     linted("no W11", *(f'KERNEL=="{value}"' for value in ["a^b", "$a", "a$b", "sd.*", "a.*b", "*.*", ".", "a.", ".a*", "Disk (1)", "()", ")",
         "a(b", "a(b|c", "a|b)", "(a)|(b)", "a)b(c)", "{a}", "a,b", "}a,b{", "{a}b,c", "[$]", "a+", "a?", "[^a]b", "[!a]*", "a|b", "\\D", "a\\b"])),
     linted("no W11 of what is no match", 'TEST=="^a"', 'PROGRAM=="/a ^b$$"', 'ENV{A}="^a"', 'RUN+="/a {b,c}"', 'SYMLINK+="a{b,c}"',
@@ -204,8 +204,8 @@ W11 = [
 
 ALWAYS = ["ACTION", "DEVPATH", "KERNEL", "SUBSYSTEM", "DRIVER", "ENV{A}"]
 W12 = [
-    linted("W12 of each key", *told(12, *((f'{key}=="*"', key.partition("{")[0]) for key in ALWAYS))),
-    linted("W12 of other patterns", *told(12, *((f'KERNEL=={value}', "KERNEL") for value in ['"**"', '"a|*"', '"*|a"', '"|***"', 'i"*"']))),
+    linted("W12 of each key", *reported(12, *((f'{key}=="*"', key.partition("{")[0]) for key in ALWAYS))),
+    linted("W12 of other patterns", *reported(12, *((f'KERNEL=={value}', "KERNEL") for value in ['"**"', '"a|*"', '"*|a"', '"|***"', 'i"*"']))),
     linted("W12 of each match", ('KERNEL=="*", ENV{A}=="*"', lint(12, "KERNEL"), lint(12, "ENV"))),
     linted("no W12", 'KERNEL!="*"', *(f'KERNEL=="{value}"' for value in ["?*", "*?", "*a", "[*]", "", "|"]), 'ENV{A}=="?*"'),
     linted("no W12 of other keys", *(f'{key}=="*"' for key in ["KERNELS", "SUBSYSTEMS", "DRIVERS", "NAME", "SYMLINK", "ATTR{a}", "ATTRS{a}", "SYSCTL{a}", "CONST{virt}", "TAG", "TAGS",
@@ -213,11 +213,11 @@ W12 = [
 ]
 
 W13 = [
-    linted("W13", 'GOTO="end"', *told(13, ('KERNEL=="sda", TAG+="t"', "end")), 'KERNEL=="sdb"', 'LABEL="end"'),
-    linted("W13 behind assignments", 'TAG+="t", GOTO="end", ENV{A}="1"', *told(13, ('TAG+="u"', "end")), 'LABEL="end"'),
-    linted("W13 behind what is no rule", 'GOTO="end"', "# a comment", "", ('FOO="x"', "V2 unknown key: FOO"), *told(13, ('TAG+="u"', "end")),
+    linted("W13", 'GOTO="end"', *reported(13, ('KERNEL=="sda", TAG+="t"', "end")), 'KERNEL=="sdb"', 'LABEL="end"'),
+    linted("W13 behind assignments", 'TAG+="t", GOTO="end", ENV{A}="1"', *reported(13, ('TAG+="u"', "end")), 'LABEL="end"'),
+    linted("W13 behind what is no rule", 'GOTO="end"', "# a comment", "", ('FOO="x"', "V2 unknown key: FOO"), *reported(13, ('TAG+="u"', "end")),
         'LABEL="end"'),
-    linted("W13 of a rule that jumps itself", 'GOTO="end"', *told(13, ('GOTO="far"', "end"), ('TAG+="t"', "far")), 'LABEL="end"', 'LABEL="far"'),
+    linted("W13 of a rule that jumps itself", 'GOTO="end"', *reported(13, ('GOTO="far"', "end"), ('TAG+="t"', "far")), 'LABEL="end"', 'LABEL="far"'),
     *(linted(f"no W13 behind {match}", f'{match}, GOTO="end"', 'TAG+="t"', 'LABEL="end"') for match in ['KERNEL=="a"', 'ENV{A}!="1"',
         'ATTRS{a}=="1"', 'TEST=="a"', 'PROGRAM=="/a"', 'IMPORT{db}="A"', 'RESULT=="a"', 'TAG=="a"']),
     linted("no W13 of a label that is used", 'GOTO="end"', 'LABEL="end"'),

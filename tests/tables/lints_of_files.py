@@ -1,13 +1,13 @@
 """`verify --lint`: what concerns all lints: their order, their places in each format, and how they are left out.
 
-Beside the files that are marked by hand (tables/kinds/marked.py) what is wanted was written by hand.
+Apart from the files that are marked by hand (tables/kinds/marked.py), what is wanted was written by hand.
 """
 from tables.kinds.linted import lint, linted
 from tables.kinds.marked import in_formats
 from tables.kinds.row import Row
 from tables.kinds.verified import verified
 
-# A rule with most of them, and its lints in their order, among rules that it earns some by.
+# A rule with most of them, and its lints in their order, among rules that cause some of its lints.
 MANY = ('SUBSYSTEM=="block", KERNEL=="*", ATTRS{idVendor}=="1D6B", ATTRS{bInterfaceNumber}=="^0", ENV{A}="1", NAME="a", MODE="x", '
         'RUN+="cp > b", SYMLINK+="/dev/b", ATTR{"c"}=="1", DRIVER=="*", ENV{ID_PATH}=="x"',
         lint(1, "x"), lint(2, "cp > b"), lint(3, "cp > b"), lint(4, "1D6B"), lint(5, "bInterfaceNumber"), lint(8, "a"), lint(9, "/dev/b"),
@@ -20,16 +20,16 @@ BAD = "1 files checked, 0 good, 1 bad\n"
 
 
 def without(lines, *codes):
-    """Lines with what is left of what is said of each where these codes are ignored."""
+    """Lines with what is left of what is said about each if these codes are ignored."""
     return [line if isinstance(line, str) else (line[0], *(said for said in line[1:] if said.split()[0] not in codes)) for line in lines]
 
 
 def written(lines):
-    """Lines without what is said of them."""
+    """Lines without what is said about them."""
     return [line if isinstance(line, str) else line[0] for line in lines]
 
 
-# Rules as they are written, of which nothing is told.
+# Correctly written rules, about which nothing is reported.
 GOOD = [
     'ACTION!="add|change", GOTO="end"',
     'SUBSYSTEM=="net", KERNEL=="eth[0-9]*", NAME="lan%n"',
@@ -86,7 +86,7 @@ IGNORED = [
     linted("a code that there is not", ("# devdry: ignore W14", "I2 unknown code: W14"), TWO, words="verify --lint --ignore comments"),
 ]
 
-# Of each lint files that earn it, with its places.
+# For each lint files that cause it, with its places.
 EACH = {
     "W1": ['KERNEL=="a", MODE="<W1|rw>"', 'MODE = "<W1|>"', 'MODE=e"<W1=8|\\x38>"'],
     "W2": ['RUN+="<W2|/bin/a; b>"', "  PROGRAM==\"<W2|/bin/a && 'b'>\", TAG+=\"t\""],

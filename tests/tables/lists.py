@@ -4,7 +4,7 @@ from tables.kinds.row import Row
 
 
 def refused(name, line, text, *lines):
-    """A block of these lines behind its path that is faulty in one of its lines."""
+    """A block of these lines after its path that is faulty in one of its lines."""
     return Row(
         name,
         "events -r none r.rules",

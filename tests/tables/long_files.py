@@ -6,13 +6,13 @@ from tables.kinds.row import Row
 COUNT = 17_000
 COMMENTS = ("#" + "-" * 998 + "\n") * COUNT
 
-# an index of a pattern `m` with ` K=V`, which stands behind as many bytes that are no value's
-FRONT = bytes(COUNT * 1_000)
+# an index of a pattern `m` with ` K=V`, after as many bytes that belong to no value
+BEGINNING = bytes(COUNT * 1_000)
 INDEX = index(
     1,
     [node(ROOT, children=1), node(BYTE, b"m", values=1)],
-    [(len(FRONT), 1, len(FRONT) + 1, 1, 0)],
-    FRONT + b"KV",
+    [(len(BEGINNING), 1, len(BEGINNING) + 1, 1, 0)],
+    BEGINNING + b"KV",
 )
 
 ROWS = [

@@ -2,13 +2,13 @@
 from tables.kinds.index_bytes import BYTE, MANY, ROOT, WITHOUT_FILE, index, node
 from tables.kinds.row import Begins, Row
 
-# Two records, of which the later has the better A for abc.
+# Two records, the later of which has the better A for abc.
 RECORDS = "ab*\n A=1\n B=2\n\na?c\n A=3\n"
 ABC = "A=3\nB=2\n\n"
 AB = "A=1\nB=2\n\n"
 NONE = "\n"
 
-# Something fits each text, the empty one too.
+# Something fits each text, even the empty one.
 ANY = "*\n A=1\n\n?\n B=2\n"
 
 # The index of `*` with A=1 and `m` with B=2 of a file t.hwdb, as docs/format.md has it.

@@ -1,10 +1,10 @@
-"""Numbers as rules and blocks have them: leading zeros, the greatest that counts, and what is no number."""
+"""Numbers as rules and blocks have them: leading zeros, the greatest that counts, and what is not a number."""
 from tables.kinds.answered import answer, answered, block
 from tables.kinds.row import Row
 
 
 def refused(line, *lines):
-    """A block of these lines behind its path, with a number that is none in one of them."""
+    """A block of these lines after its path, one of which has a number that is not one."""
     return Row(
         f"no number: {lines[-1]}",
         "events -r none r.rules",

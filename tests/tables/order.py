@@ -1,9 +1,9 @@
-"""The order in which the keys of one rule are looked at, whatever the order is in which they are written."""
+"""The order in which the keys of one rule are looked at, whatever the order in which they are written."""
 from tables.kinds.answered import answered
 from tables.kinds.verified import verified
 
 # A match of the event, one of a device, a test, a program, an import, a match of the result and two assignments; written so
-# that none stands in its turn.
+# that none is in its turn.
 RULE = 'RUN+="r", IMPORT{parent}="x", PROGRAM=="p", RESULT=="q", TEST=="f", ENV{B}="1", ATTRS{a}=="b", ENV{C}=="2"'
 
 NO_ANSWER = "note r.rules:1: no answer for program: p"
@@ -11,7 +11,7 @@ NO_ANSWER = "note r.rules:1: no answer for program: p"
 # what each key of it asks for
 C, A, F, P, Q, X = "E: C=2", "A: a=b", "A: f=", ["Q: p", "R: 0 q"], ["Q: p", "R: 0 z"], ["P: /p", "E: x=1"]
 
-# a text that is too long where it stands twice
+# a text that is too long if it occurs twice
 LONG = "l" * 8193
 TWICE = "$env{L}$env{L}"
 

@@ -28,7 +28,7 @@ PATTERNS = [
     ("a", ["a"], ["", "A", "aa"]),
 ]
 
-# 40 times a star and a letter, and two texts of 200 letters: what goes through all ways one by one does not end.
+# 40 times a star and a letter, and two texts of 200 letters: trying all ways one by one would not end.
 MANY_STARS = "*a" * 40
 ENDED = "a" * 200
 NOT_ENDED = "a" * 200 + "b"
@@ -42,7 +42,7 @@ def name_of(text):
 
 
 def queried(pattern, text, fits):
-    """Whether a text fits, as `query` answers it. A hyphen alone can be asked for only in a line of the input."""
+    """Whether a text fits, as `query` answers it. A lone hyphen can be asked for only in a line of the input."""
     is_line = text == "-"
     return Row(
         f"query: {name_of(text)} {'fits' if fits else 'does not fit'} {name_of(pattern)}",
@@ -66,7 +66,7 @@ def matched(pattern, fitting, others):
 
 
 def matched_by_bytes(pattern, fits):
-    """Which of all bytes that may stand in a block fit, as a match of a property answers it."""
+    """Which of all bytes that a block may contain fit, as a match of a property answers it."""
     bytes_asked = [byte for byte in range(1, 256) if byte != ord("\n")]
     return Row(
         f"match: which bytes fit {pattern}",
@@ -107,7 +107,7 @@ ROWS = [
     matched_by_bytes("?", lambda byte: True),
     matched_by_bytes("[--a]", lambda byte: ord("-") <= byte <= ord("a")),
     matched_by_bytes("[!--a]", lambda byte: not ord("-") <= byte <= ord("a")),
-    # a newline stands in no block, but it may in a word
+    # a block can't contain a newline, but a word may
     queried("[b-a]", "\n", False),
     queried("[--a]", "\n", False),
     queried("?", "\n", True),

@@ -9,7 +9,7 @@ BARE = "C: add\nP: /d\n"
 
 
 def asks(name, rules, *commands, block=BARE, options=""):
-    """What these rules ask of an event."""
+    """What these rules ask about an event."""
     lines = b"".join(b"Q: " + as_bytes(command) + b"\n" for command in commands)
     return Row(name, f"events -r none --questions {options} r.rules", {"r.rules": rules}, block, b"event add /d\n" + lines + b"\n")
 

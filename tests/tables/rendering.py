@@ -24,13 +24,13 @@ def events(name, rules, block, *output):
 
 
 def commands(pairs):
-    """Rules that render templates, and what comes of them: RUN takes a text as it is, and keeps an empty one too."""
+    """Rules that render templates, and their results: RUN takes a text as it is, and keeps an empty one, too."""
     rules = [b'RUN+="' + as_bytes(template) + b'"' for template, _text in pairs]
     return rules, b"".join(b"run program " + as_bytes(text) + b"\n" for _template, text in pairs)
 
 
 def of_disk(name, first, *pairs):
-    """What templates stand for at the disk, behind a first rule."""
+    """What templates stand for at the disk, after a first rule."""
     rules, runs = commands(pairs)
     return events(name, [first, *rules], DISK, DISK_EVENT, DISK_ENV, runs)
 
@@ -42,7 +42,7 @@ def of_network(name, *pairs):
 
 
 def safe(name, *pairs, program=b"p"):
-    """Templates as the name of a device that is no network device: the note tells the text, its spaces not yet turned."""
+    """Templates as the name of a device that is not a network device: the note has the text, with its spaces unchanged."""
     rules = [b'PROGRAM=="' + program + b'"', *(b'NAME="' + template + b'"' for template, _text in pairs)]
     notes = [b"note r.rules:%d: name ignored: %b\n" % (line, text) for line, (_template, text) in enumerate(pairs, 2)]
     return events(name, rules, DISK, DISK_EVENT, DISK_ENV, *notes)
@@ -50,8 +50,8 @@ def safe(name, *pairs, program=b"p"):
 
 def links(rule, *names):
     """The links that a rule gives the disk."""
-    told = [b"link " + link + b"\n" for link in names]
-    return events(f"links of {rule!r}", [b'PROGRAM=="p"', rule], DISK, DISK_EVENT, *told, DISK_ENV)
+    reported = [b"link " + link + b"\n" for link in names]
+    return events(f"links of {rule!r}", [b'PROGRAM=="p"', rule], DISK, DISK_EVENT, *reported, DISK_ENV)
 
 
 def network_name(rule, text):
@@ -166,7 +166,7 @@ LINKS = [
 
 
 def length(letters, *ends):
-    """A text of a property of so many letters, and a digit behind it."""
+    """A text of a property of so many letters, followed by a digit."""
     block = b"C: add\nP: /d1\nE: L=" + b"a" * letters + b"\n"
     own = b"env ACTION=add\nenv DEVPATH=/d1\nenv L=" + b"a" * letters + b"\n"
     return events(f"a text of {letters + 1} bytes", [b'ENV{X}="$env{L}%n"'], block, b"event add /d1\n", own, *ends)

@@ -1,7 +1,7 @@
 """Whole runs: an event by rules and a database, faulty blocks, and texts as long as they may be.
 
-What rows of the other tables ask of one part is asked here of an answer as a whole. The lines of an answer stand in this
-order: event, name, owner, group, mode, priority, watch, persist, label, link, tag, env by key, attr, sysctl, run, note.
+Rows of the other tables check one part; here an answer is checked as a whole. The lines of an answer are in this order:
+event, name, owner, group, mode, priority, watch, persist, label, link, tag, env by key, attr, sysctl, run, note.
 """
 from tables.kinds.row import Row
 
@@ -13,13 +13,13 @@ LINKED = "C: add\nP: /x\nK: arch=x86-64\nK: x=1\nS: one\nS: two\n"
 
 
 def bare(before="", env="", after=""):
-    """The answer to a device of which nothing is known but its path: lines before its properties, those whose keys
-    come behind its own, and lines behind them."""
+    """The answer to a device of which only the path is known: lines before its properties, those whose keys come after its
+    own, and lines after them."""
     return f"event add /x\n{before}env ACTION=add\nenv DEVPATH=/x\n{env}{after}\n"
 
 
 def disk(before="", env="", after=""):
-    """The answer to a disk, with lines before its properties, those whose keys come before its own, and lines behind."""
+    """The answer to a disk, with lines before its properties, those whose keys come before its own, and lines after them."""
     return (
         f"event add /devices/pci0/block/sda\n{before}{env}env ACTION=add\nenv DEVNAME=/dev/sda\n"
         f"env DEVPATH=/devices/pci0/block/sda\nenv MAJOR=8\nenv MINOR=0\nenv SUBSYSTEM=block\n{after}\n"
@@ -62,7 +62,7 @@ ENV{X}=="", ENV{Y4}="1"
 ENV{X}!="", ENV{N5}="1"
 """
 
-# a jump to a label of its file, and one whose label stands above it alone; and the same label in the file behind it
+# a jump to a label of its file, and one whose label is only above it; and the same label in the file after it
 JUMPS_DOWN_AND_UP = 'GOTO="x"\nENV{A}="1"\nLABEL="x", ENV{E}="1"\nGOTO="x"\nENV{F}="1"\n'
 RULE_AND_JUMP = 'ENV{G}="1"\nGOTO="x"\nENV{H}="1"\nLABEL="x", ENV{I}="1"\n'
 
@@ -80,7 +80,7 @@ ANSWERED = [
     ("empty lines around blocks", 'TAG+="x"\n', "\n\n" + BARE + "\n\n\n" + BARE + "\n\n", bare("tag x\n") * 2),
 ]
 
-# (text that is told, the block's lines behind C: add and P: /x, the line)
+# (text that is reported, the block's lines after C: add and P: /x, the line)
 FAULTY = [
     ("unknown line", "X: 1\n", 3),
     ("number", "D: x\n", 3),
@@ -92,12 +92,12 @@ FAULTY = [
 
 
 def block_with(letter, count):
-    """A block of 27 bytes and of so many times this letter, as the value of its property X."""
+    """A block of 27 bytes and of so many of this letter, as the value of its property X."""
     return "C: add\nP: /devices/x\nE: X=" + letter * count + "\n"
 
 
 def answer_with(before, x, env, after):
-    """The answer to it, where X ends as this text."""
+    """The answer to it, with X ending in this text."""
     return f"event add /devices/x\n{before}env ACTION=add\nenv DEVPATH=/devices/x\nenv X={x}\n{env}{after}\n"
 
 
@@ -130,7 +130,7 @@ THOUSAND_MATCHES = "".join(f'ENV{{P{number:03}}}=="1", ' for number in range(100
 
 
 def thousand(last, hit=""):
-    """A block with a thousand properties, of which the last is this one, and its answer with this line."""
+    """A block with a thousand properties, of which this is the last, and its answer with this line."""
     ones = [f"P{number:03}=1" for number in range(999)] + last
     block = BARE + "".join(f"E: {one}\n" for one in ones)
     return block, bare(env=hit + "".join(f"env {one}\n" for one in ones))
@@ -154,9 +154,10 @@ LARGE = [
     ("a rule adds 4,000 links", LINKS_RULE, BARE, bare("".join(f"link {link}\n" for link in LINKS))),
 ]
 
-# An answer weighs what its texts have, each with one more. It weighs at most four times its block and 128, and for each
-# part of a rule 32,896, the length of its attribute and that of its file's name, and for an IMPORT besides twice the block
-# and all keys and values, each with one more. It is at most eight times its weight, four times its block and 64 bytes long.
+# The weight of an answer is the length of its texts, plus one for each. It is at most four times its block plus 128, and
+# for each part of a rule 32,896, the length of its attribute and that of its file's name, and for an IMPORT also twice the
+# block and all keys and values, plus one for each. The answer is at most eight times its weight, plus four times its block,
+# plus 64 bytes long.
 #
 # (answer, its block's length, its weight, the most that it may weigh)
 WEIGHED = [
@@ -170,12 +171,12 @@ WEIGHED = [
 for answer, block, weight, most in WEIGHED:
     assert weight <= most and len(answer) <= 8 * weight + 4 * block + 64
 
-# A word of a message is its first 32 bytes: the backslash is the 32nd, then the next.
+# A word of a message is its first 32 bytes: the backslash is the 32nd, then the next byte is.
 ODD_NAME = "mnt/etc/udev/hwdb.d/a\1b.hwdb"
 LATE_MATCH = "m\n A=1\n{}yyyyyyy\n B=1\n"
-LATE_MATCH_TOLD = "a\\x01b.hwdb:3: H3 unindented line after properties: {}\n"
+LATE_MATCH_REPORTED = "a\\x01b.hwdb:3: H3 unindented line after properties: {}\n"
 LONG_MATCH = "m\n{}\n A=1\n"
-LONG_MATCH_TOLD = "t.hwdb:2: H6 pattern not supported: " + "x" * 32 + "\n"
+LONG_MATCH_REPORTED = "t.hwdb:2: H6 pattern not supported: " + "x" * 32 + "\n"
 
 
 def of_rules(name, rules, block, output):
@@ -201,10 +202,10 @@ ROWS = [
         {"r.rules": 'KERNEL=="a" TAG+="t"\nFOO\n', "mnt/usr/lib/udev/hwdb.d/a.hwdb": " A=1\n"}, BARE, bare(),
         "r.rules:2: V1 bad syntax: FOO\na.hwdb:1: H1 property without a match: A=1\n"),
     Row("a name in a message is escaped, and a word cut behind 32 bytes", ["query", "-r", "mnt", ""],
-        {ODD_NAME: LATE_MATCH.format("x" * 31 + "\\y")}, messages=LATE_MATCH_TOLD.format("x" * 31 + "\\x5C")),
+        {ODD_NAME: LATE_MATCH.format("x" * 31 + "\\y")}, messages=LATE_MATCH_REPORTED.format("x" * 31 + "\\x5C")),
     Row("a word is cut before its 33rd byte", ["query", "-r", "mnt", ""],
-        {ODD_NAME: LATE_MATCH.format("x" * 32 + "\\")}, messages=LATE_MATCH_TOLD.format("x" * 32)),
+        {ODD_NAME: LATE_MATCH.format("x" * 32 + "\\")}, messages=LATE_MATCH_REPORTED.format("x" * 32)),
     Row("a match of 16,384 bytes", "query m t.hwdb", {"t.hwdb": LONG_MATCH.format("x" * LONGEST)}, output="A=1\n"),
     Row("a match of 16,385 bytes is told beside a good one", "query m t.hwdb",
-        {"t.hwdb": LONG_MATCH.format("x" * (LONGEST + 1))}, output="A=1\n", messages=LONG_MATCH_TOLD),
+        {"t.hwdb": LONG_MATCH.format("x" * (LONGEST + 1))}, output="A=1\n", messages=LONG_MATCH_REPORTED),
 ]

@@ -1,16 +1,16 @@
 """Texts made safe for links and names, attributes in texts, and words that are joined."""
 from tables.kinds.answered import answered
 
-# a text that paths may have, but for what becomes `_`; written with its escapes and with `$$` for a dollar
+# a text with what paths may have and with what becomes `_`; written with its escapes, and with `$$` for a dollar
 PATH = 'by-id/a.b_c:d=e@f#g+h \\t!$$\\\\x2F\\\\y'
 
-# a first byte alone, an overlong sequence, a surrogate, and a rest of a sequence, bars between them
+# a first byte alone, an overlong sequence, a surrogate, and the rest of a sequence, with bars between them
 NOT_UTF_8 = b"\xC3|\xC0\xAF|\xED\xA0\x80|\xA4"
 
 UTF_8 = "\u00E4\u20AC\U0001F600"
 
 ROWS = [
-    # spaces part links, so that the two bytes behind the space and the tab begin a link
+    # spaces separate links, so the two bytes after the space and the tab begin a link
     answered(
         "a link keeps what paths may have",
         [f'SYMLINK+=e"{PATH}"'],
@@ -52,7 +52,7 @@ ROWS = [
         [b'SYMLINK+="\xC1\xBF|\xE0\x9F\xBF|\xF0\x8F\xBF\xBF|\xF4\x90\x80\x80|\xF5\x80"'],
         ([], ["link " + "_" * 19]),
     ),
-    # an attribute keeps four bytes more, and a substitution is not cut at its spaces, but for a link
+    # an attribute keeps four bytes more, and a substitution is not split at its spaces, except for a link
     answered(
         "an attribute in a text keeps more",
         ['ENV{X}="$attr{a}"'],

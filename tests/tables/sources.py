@@ -1,7 +1,7 @@
 """`events --sources`: the rule that each line of an answer comes from.
 
-What is wanted follows the reference, docs/behaviour.md: an item comes from the first rule from behind which on it stands
-as it stands in the end, and from none where it stood so from the start. Nothing here was taken from the program.
+What is wanted follows the reference, docs/behaviour.md: an item comes from the first rule after which it never changes
+again, and from no rule if it was never changed. Nothing here was taken from the program.
 """
 from tables.kinds.row import Row
 from tables.kinds.why import LONG, TWICE
@@ -11,7 +11,7 @@ STARTED = "-: env ACTION=add\n-: env DEVPATH=/d\n"
 
 
 def sources(name, rules, lines, output, path="/d", messages="", files=(), root="none"):
-    """A run over r.rules of these rules, over a block with these lines behind its path, and all that stands behind the
+    """A run over r.rules of these rules, over a block with these lines after its path, and everything that follows the
     answer's first line."""
     return Row(
         name,
@@ -24,11 +24,11 @@ def sources(name, rules, lines, output, path="/d", messages="", files=(), root="
 
 
 def comes(name, rules, lines, *wanted):
-    """The same of lines that stand before the properties, or are properties whose names come before ACTION."""
+    """The same for lines that come before the properties, or are properties whose names come before ACTION."""
     return sources(name, rules, lines, "".join(f"{line}\n" for line in wanted) + STARTED)
 
 
-# A link of one file and a property of another; the second also takes the property DEVPATH away.
+# A link of one file and a property of another; the second also removes the property DEVPATH.
 EXAMPLE = {
     "60-disk.rules": '# Disks.\n\nSUBSYSTEM!="tty", SYMLINK+="disk/%k"\n',
     "70-mine.rules": 'ENV{MINE}="1", ENV{DEVPATH}=""\n',
@@ -77,7 +77,7 @@ note r.rules:19: import not run: db
 note r.rules:20: no answer for program: none
 """
 
-# what the block says of its device, a property of rules with an empty value, and what a rule sets to what it was
+# what the block says about its device, a property of rules with an empty value, and what a rule sets to what it was
 FROM_THE_START = ["N: sda", "D: 8:0", "U: block", "S: one", "S: two", "G: t", "E: A=1", "E: B=", "E: MAJOR=9"]
 STAYS = [
     'ENV{A}="1", ENV{DEVNAME}="/dev/sda", SYMLINK+="one", TAG+="t"', 'SYMLINK="one two", TAG="t"', 'ENV{A}="2", ENV{A}="1"',
@@ -137,6 +137,10 @@ CHANGES = [
     comes("what stays in the database", ['OPTIONS="db_persist"', 'OPTIONS="db_persist"'], [], "r.rules:1: persist"),
     comes("labels of which one is made anew", ['SECLABEL{a}="x"', 'SECLABEL{b}="y"', 'SECLABEL{a}+="x"'], [],
           "r.rules:2: label b=y", "r.rules:3: label a=x"),
+    Row("labels of one module with --udev", "events --udev -r none --sources r.rules",
+        {"r.rules": 'SECLABEL{a}+="x"\nSECLABEL{a}+="y"\nSECLABEL{b}+="x"\nSECLABEL{a}+="x"\n'}, BARE + "N: d\nD: 1:1\n",
+        "event add /d\nr.rules:1: label a=x\nr.rules:2: label a=y\nr.rules:3: label b=x\nr.rules:1: label a=x\n"
+        "-: env ACTION=add\n-: env DEVNAME=/dev/d\n-: env DEVPATH=/d\n-: env MAJOR=1\n-: env MINOR=1\n\n"),
     sources("attributes and kernel parameters, empty ones too", ['ATTR{a}="1", SYSCTL{s}="1"', 'ATTR{a}="", SYSCTL{s}="1"', 'ATTR{a}=""'],
             [], STARTED + "r.rules:2: attr a=\nr.rules:1: sysctl s=1\n"),
     comes("a rule that stops sets nothing", ['ENV{A}="1"', 'KERNEL=="x", ENV{A}="2"', 'KERNEL=="d", ENV{A}="1"'], [], "r.rules:1: env A=1"),

@@ -1,11 +1,11 @@
-"""What `verify` says of rules that mean something, but are not written well."""
+"""What `verify` says about rules that have a meaning, but are not written well."""
 from tables.kinds.answered import answered
 from tables.kinds.verified import verified
 from tables.kinds.row import Row
 
 
 def comma(key=""):
-    """A gap has not exactly one comma."""
+    """A gap does not have exactly one comma."""
     return f"S1 one comma expected: {key}" if key else "S1 one comma expected"
 
 
@@ -75,7 +75,7 @@ ROWS = [
         ('MODE+="1"', read_as("MODE")),
         'MODE:="1"',
     ),
-    # names that are given twice come before what is said of the writing, the label that no jump reaches behind it
+    # names that are given twice come before points of style, and the label that no jump reaches comes after them
     verified(
         "labels and jumps of one line",
         'GOTO="a"',

@@ -1,4 +1,4 @@
-"""Values with substitutions: which there are, what each gives, and what is none."""
+"""Values with substitutions: which there are, what each gives, and what is not one."""
 from tables.kinds.answered import answered
 from tables.kinds.verified import verified
 
@@ -14,7 +14,7 @@ BARE_PATH = "/p/sda1"
 
 
 def rendered(name, *values):
-    """A run over a disk, of which a device and the result of a program are known: values, each with the text that it gives."""
+    """A run over a disk, for which a device and the result of a program are known: values, each with the text that it gives."""
     rules = [
         'SUBSYSTEMS=="block", PROGRAM=="p"',
         *(f'ENV{{T{number}}}="{value}"' for number, (value, _) in enumerate(values, 10)),
@@ -28,7 +28,7 @@ def rendered(name, *values):
 
 
 def unknown(*values):
-    """Lines with values that are no templates."""
+    """Lines with values that are not templates."""
     return [(f'ENV{{B}}="{value}"', f"V6 bad substitution: {value}") for value in values]
 
 

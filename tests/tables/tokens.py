@@ -5,12 +5,12 @@ from tables.kinds.row import as_bytes
 
 
 def bad(line, at=0, shown=None):
-    """A line that is faulty from a token on. What is shown of it is the rest of it, where nothing of it is escaped."""
+    """A line that is faulty from a token on. The rest of it is shown, with nothing escaped."""
     return (line, b"V1 bad syntax: " + as_bytes(shown if shown is not None else line[at:])[:32])
 
 
 def prefix(line, letters):
-    """A line with a value whose quote has letters before it that it can't have."""
+    """A value with letters before its quote that it can't have."""
     return (line, f"V10 bad quote prefix: {letters}")
 
 
@@ -20,7 +20,7 @@ ROWS = [
         bad('KERNEL=="sd*'),
         bad('KERNEL=="a'),
         bad('KERNEL=="a\\\\ b', shown='KERNEL=="a\\x5C\\x5C b'),
-        # a plain value ends at the first quote that no backslash stands directly before
+        # a plain value ends at the first quote that has no backslash directly before it
         bad('KERNEL=="a\\\\"', shown='KERNEL=="a\\x5C\\x5C"'),
         bad('KERNEL=="a\\"', shown='KERNEL=="a\\x5C"'),
         bad(',A="x"'),
@@ -43,7 +43,7 @@ ROWS = [
         bad(b'A="a\0b"', shown='A="a\\x00b"'),
         bad(b"A{\0}=\"a\"", shown='A{\\x00}="a"'),
         bad(b'KERNEL=="a", A="\0"', shown='A="\\x00"'),
-        # a comment is no token
+        # a comment is not a token
         b"# \0",
     ),
     verified(
@@ -62,13 +62,13 @@ ROWS = [
         prefix('KERNEL==iei"x"', "iei"),
         prefix('KERNEL==E"x"', "E"),
         prefix('KERNEL==I"x"', "I"),
-        # letters that let case be ignored stand behind operators that compare alone
+        # letters that ignore case come after operators that only compare
         prefix('SYMLINK=i"x"', "i"),
         prefix('SYMLINK+= ei"x"', "ei"),
         prefix('SYMLINK-=ie"x"', "ie"),
         prefix('SYMLINK:=i"x"', "i"),
         prefix('PROGRAM=i"x"', "i"),
-        # they are looked for before the key, and the value's end is not looked for
+        # they are checked before the key, and the end of the value is not looked for
         prefix('FOO=i"x"', "i"),
         prefix('FOO=abcdefghijklmnopqrstuvwxyzABCDEFGHIJ"x', "abcdefghijklmnopqrstuvwxyzABCDEF"),
         bad('KERNEL==1"x"'),

@@ -3,7 +3,7 @@ from tables.kinds.marked import in_formats
 from tables.kinds.row import Row
 from tables.kinds.udev import as_udev
 
-# users and groups that the cases know beside those that udev knows by itself
+# users and groups that the cases know in addition to those that udev itself knows
 KNOWN = {"passwd": "root:x:0:0::/root:/bin/sh\ndaemon:x:1:1::/:/bin/sh\n", "group": "root:x:0:\ndisk:x:6:\n"}
 LISTS = ["--users", "passwd", "--groups=group"]
 
@@ -50,7 +50,7 @@ CASES = [
     ('names: by number and by name', 'OWNER="daemon", OWNER="1"\n', 'bad', '1w', '1:V17'),
 ]
 
-# Lines of such files as the C library 2.36 reads them, which was asked by getent, but for 00, which that takes as a number.
+# Lines of such files as the C library 2.36 reads them, which getent was asked, except for 00, which getent takes as a number.
 PASSWD = """\
 # comment:x:2:2::/:/bin/sh
  \tblank:x:3:3::/:/bin/sh
@@ -86,7 +86,7 @@ last:x:7:"""
 
 
 def unknown(kind, key, text, known, others):
-    """A run over assignments of names to a key, of which these are known in a file of this text and the others are not."""
+    """A run over assignments of names to a key, some of which are known, from a file with this text, and the others are not."""
     names = [*known, *others]
     return Row(
         f"{kind} that a file lists",
@@ -111,7 +111,7 @@ OTHERS = [
 LOST = 'OWNER="missing", GROUP="missing"\n'
 GOOD = "1 files checked, 1 good, 0 bad\n"
 BAD = "1 files checked, 0 good, 1 bad\n"
-TOLD = "a.rules:1: V25 unknown user or group: missing\n"
+REPORTED = "a.rules:1: V25 unknown user or group: missing\n"
 
 # (what is asked, words, files, output, messages, status)
 LISTED = [
@@ -120,7 +120,7 @@ LISTED = [
      "a.rules:1: V25 unknown user or group: a\n", 1),
     ("a list of groups alone", "verify --udev --groups l a.rules", {"l": "", "a.rules": 'OWNER="a", GROUP="b"\n'}, BAD,
      "a.rules:1: V25 unknown user or group: b\n", 1),
-    ("users are no groups", "verify --udev --users l --groups=l a.rules", {"l": "missing:x:1:\n", "a.rules": LOST}, BAD, TOLD, 1),
+    ("users are no groups", "verify --udev --users l --groups=l a.rules", {"l": "missing:x:1:\n", "a.rules": LOST}, BAD, REPORTED, 1),
     ("an empty list knows root and nobody alone", "verify --udev --users=/dev/null --groups /dev/null a.rules",
      {"a.rules": 'OWNER="root", GROUP="root"\nOWNER="nobody", GROUP="nogroup"\n'}, GOOD, "", 0),
     ("V25 may be left out", "verify --udev --users /dev/null --ignore V25 a.rules", {"a.rules": LOST}, GOOD, "", 0),
@@ -129,7 +129,7 @@ LISTED = [
     ("without a list such a comment is in vain", "verify --udev --ignore comments a.rules",
      {"a.rules": "# devdry: ignore V25\n" + LOST}, BAD, "a.rules:1: I1 nothing to ignore: V25\n", 1),
     ("a list is named as it stands, also with a root", "verify --udev -r mnt --users l",
-     {"l": "", "mnt/etc/udev/rules.d/a.rules": LOST}, BAD, TOLD, 1),
+     {"l": "", "mnt/etc/udev/rules.d/a.rules": LOST}, BAD, REPORTED, 1),
     ("users that can't be read", "verify --udev --users none a.rules", {"a.rules": LOST}, "", "devdry: cannot read none\n", 3),
     ("groups that can't be read", "verify --udev --groups none a.rules", {"a.rules": LOST}, "", "devdry: cannot read none\n", 3),
     ("users are read before groups", "verify --udev --groups g --users u a.rules", {"a.rules": LOST}, "",

@@ -1,5 +1,5 @@
 """`events --udev`: programs, imports, tests, commands and attributes that are assigned, as udevadm 257 answers it."""
-from tables.kinds.udev_blocks import CAMERA, DISK, NET, STAR, THING, answering, plugged, printing
+from tables.kinds.udev_blocks import CAMERA, DISK, FOLDERS, NET, STAR, THING, answering, plugged, printing
 from tables.kinds.udev_events import answered_as_udev
 
 # What programs print for an import.
@@ -15,6 +15,12 @@ OWN = printing('ACTION=x', 'DEVPATH=/y', 'DEVNAME=/dev/zz')
 TYPE = printing('DEVTYPE=usb_device')
 NO_TYPE = printing('DEVTYPE=none')
 FAILS = ('ata_id exit 3 A=3d1', 3, 'A=1')
+
+def words_of_hwdb(name, block, reported, *commands):
+    """A case of a file with a rule for each command of hwdb: if something is found, it sets the property of its number."""
+    rules = ''.join(f'IMPORT{{builtin}}="{command}", ENV{{A{place}}}="1"\n' for place, (command, _) in enumerate(commands))
+    return name, rules, block, [f'env A{place}=1' for place, (_, is_found) in enumerate(commands) if is_found] + reported
+
 
 # A device of USB with a vendor and a product.
 NUMBERS = ('A: idVendor=0012', 'A: idProduct=00ff')
@@ -287,6 +293,29 @@ CASES = [
       f'IMPORT{{program}}!="ata_id exit 5 {"$env{L}" * 33}", ENV{{Z}}="1"\n'),
      DISK,
      ['env L=' + 'x' * 500, 'note r.rules:2: text too long: IMPORT{program}', 'note r.rules:3: text too long: IMPORT{program}']),
+    words_of_hwdb('words of hwdb', THING, ['env ID_X=1'],
+                  ('hwdb --nosuch usb:v1', True), ('hwdb -p usb: v1', True), ('hwdb --lookup-prefix usb: v1', True),
+                  ("hwdb 'usb:v1", True), ('hwdb usb:v1 other', True), ('hwdb --lookup=usb: v1', True)),
+    words_of_hwdb('letters of hwdb', THING, ['env ID_X=1'],
+                  ('hwdb -pusb: v1', True), ('hwdb -xpusb: v1', True), ('hwdb -xp usb: v1', True), ('hwdb -p=usb: v1', False),
+                  ('hwdb -x usb:v1', True), ('hwdb -pusb: -f ID_X v1', True), ('hwdb -fID_N usb:v1', False), ('hwdb - usb:v1', False),
+                  ('hwdb -f ID_N -f ID_X usb:v1', True)),
+    words_of_hwdb('the end of options of hwdb, and options without a value', THING, ['env ID_X=1'],
+                  ('hwdb -- usb:v1', True), ('hwdb -- -p', False), ('hwdb usb:v1 -f ID_N', False), ('hwdb usb:v1 -- -f ID_N', True),
+                  ('hwdb -p -- v1', False), ('hwdb -p', False), ('hwdb usb:v1 -f', True), ('hwdb usb:v1 --filter', True),
+                  ('hwdb other usb:v1', False)),
+    words_of_hwdb('names of options of hwdb', THING, ['env ID_X=1'],
+                  ('hwdb --l=usb: v1', True), ('hwdb --l usb: v1', True), ('hwdb --look= usb:v1', True), ('hwdb --lookup-prefixes=usb: v1', False),
+                  ('hwdb --=usb: usb:v1', True), ('hwdb --filter=ID_N --fil ID_X usb:v1', True), ('hwdb --f= usb:v1', False)),
+    words_of_hwdb('blanks and quotes of hwdb', THING, ['env ID_X=1'],
+                  ('hwdb \tusb:v1', True), ("hwdb --filter='ID_X' usb:v1", True), ("hwdb usb:'v1' 'a b", True),
+                  ("hwdb --filter='ID_X usb:v1", False), ("hwdb '' usb:v1", False)),
+    words_of_hwdb('subsystems of hwdb', CAMERA, ['env ID_Z=1'],
+                  ('hwdb -s usb', True), ('hwdb -susb', True), ('hwdb --sub usb', True), ('hwdb -s pci', False), ('hwdb -s', True), ('hwdb -s= ', False)),
+    ('hwdb of another device',
+     'IMPORT{builtin}="hwdb -d +usb:usb1", ENV{A}="1"\n',
+     THING,
+     ['note r.rules:1: bad hwdb arguments: hwdb -d +usb:usb1']),
     ('a USB device without a modalias',
      LOOKS_UP,
      CAMERA,
@@ -366,6 +395,31 @@ CASES = [
      LOOKS_UP,
      plugged(*NUMBERS, 'A: product=' + 'n' * 2031),
      []),
+    ('a program with ?*',
+     ('PROGRAM=="?*", ENV{A}="1"\n' +
+      'PROGRAM!="?*", ENV{B}="1"\n' +
+      'PROGRAM="?*", ENV{C}="1"\n' +
+      'PROGRAM=="?* x", ENV{D}="1"\n'),
+     answering(DISK, ("?*", 0, ""), ("?* x", 0, "")),
+     ['env B=1', 'env D=1']),
+    ('TEST with ?*',
+     ('TEST=="?*", ENV{R}="1"\n' +
+      'TEST!="?*", ENV{S}="1"\n' +
+      'TEST{0644}=="?*", ENV{T}="1"\n' +
+      'TEST==e"\\x3f*", ENV{U}="1"\n' +
+      'TEST=="?*|", ENV{V}="1"\n'),
+     STAR,
+     ['env R=1', 'env T=1', 'env U=1', 'note r.rules:3: test not made: ?*']),
+    ('imports with ?*',
+     ('IMPORT{db}=="?*", ENV{A}="1"\n' +
+      'IMPORT{db}!="?*", ENV{B}="1"\n' +
+      'IMPORT{program}="?*", ENV{C}="1"\n' +
+      'IMPORT{program}!="?*", ENV{D}="1"\n' +
+      'IMPORT{file}="?*", ENV{E}="1"\n' +
+      'IMPORT{file}!="?*", ENV{F}="1"\n'),
+     answering(DISK, ("?*", 0, "")),
+     ['env A=1', 'env D=1', 'env E=1', 'note r.rules:1: import not run: db', 'note r.rules:2: import not run: db',
+      'note r.rules:5: import not run: file', 'note r.rules:6: import not run: file']),
     ('IMPORT{db} of a device that is new',
      ('IMPORT{db}=="ID_A", ENV{A}="1"\n' +
       'IMPORT{db}!="ID_A", ENV{B}="1"\n'),
@@ -421,6 +475,28 @@ CASES = [
      'ATTR{[usb/usb1]serial}="8"\n',
      DISK,
      ['attr [usb/usb1]serial=8']),
+    ('an attribute of another device is assigned in a folder of any name',
+     ('ATTR{[usb/usb1]q/*/x}="2"\n' +
+      'ATTR{[usb/usb1]*/a/b/y}="3"\n' +
+      'ATTR{[usb/usb1]q/*}="4"\n'),
+     FOLDERS,
+     ['attr [usb/usb1]q/a/x=2', 'attr [usb/usb1]r/a/b/y=3', 'attr [usb/usb1]q/*=4']),
+    ('an attribute of another device is assigned twice, once by its folder',
+     'ATTR{[usb/usb1]q/a/x}="2", ATTR{[usb/usb1]q/*/x}="3"\n',
+     FOLDERS,
+     ['attr [usb/usb1]q/a/x=3']),
+    ('no folder of another device fits for an attribute',
+     ('ATTR{[usb/usb1]q/*/none}="1"\n' +
+      'ATTR{[pci/pci0]q/*/x}="2"\n' +
+      'ATTR{[usb/none]q/*/x}="3"\n' +
+      'ATTR{[usb/none]x}="4"\n'),
+     FOLDERS,
+     ['attr [usb/none]x=4', 'note r.rules:1: attribute not found: [usb/usb1]q/*/none',
+      'note r.rules:2: attribute not found: [pci/pci0]q/*/x', 'note r.rules:3: attribute not found: [usb/none]q/*/x']),
+    ('a folder of any name of the device itself, which is named',
+     'ATTR{[misc/star]*/x}="5"\n',
+     STAR,
+     ['attr r/x=5']),
     ('an attribute is assigned twice',
      ('ATTR{model}="a", ATTR{model}="b"\n' +
       'ATTR{size}=""\n' +

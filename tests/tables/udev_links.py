@@ -1,4 +1,4 @@
-"""`events --udev`: links, and what is for devices with a number alone, as udevadm 257 answers it."""
+"""`events --udev`: links, and what is only for devices with a number, as udevadm 257 answers it."""
 from tables.kinds.udev_blocks import BOTH, DISK, NET, THING, answering, removed
 from tables.kinds.udev_events import answered_as_udev
 
@@ -219,6 +219,22 @@ CASES = [
       'ENV{A}="%c"\n'),
      answering(DISK, ("ata_id one", 0, "one")),
      ['link x', 'env A=one']),
+    ('a rule with nothing but a level of the log is evaluated',
+     ('SUBSYSTEMS=="usb", OPTIONS="log_level=debug"\n' +
+      'ENV{A}="[$id]"\n'),
+     THING,
+     ['env A=[usb1]']),
+    ('a level of the log counts beside a static node',
+     ('SUBSYSTEMS=="usb", OPTIONS="static_node=x", OPTIONS+="log_level=6"\n' +
+      'ENV{A}="[$id]"\n'),
+     THING,
+     ['env A=[usb1]']),
+    ('an option that udev does not know has no part in events',
+     ('SUBSYSTEMS=="usb", OPTIONS="nonsense"\n' +
+      'ENV{A}="[$id]"\n'),
+     THING,
+     ['env A=[]'],
+     '1:V18'),
     ('static_node has no part in events',
      ('SUBSYSTEMS=="usb", OPTIONS="static_node=x"\n' +
       'ENV{G}="[$id]"\n'),

@@ -1,4 +1,4 @@
-"""`verify --udev`: the facts that systemd's own test of `udevadm verify` asks, in files of our own."""
+"""`verify --udev`: the facts that systemd's own test of `udevadm verify` checks, in files of our own."""
 from tables.kinds.udev import as_udev
 
 CASES = [

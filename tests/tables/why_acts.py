@@ -1,4 +1,4 @@
-"""`events --why`: what is told of TEST, PROGRAM and IMPORT: what each looked at, whether it is answered, what it set.
+"""`events --why`: what is reported about TEST, PROGRAM and IMPORT: what each looked at, whether it is answered, what it set.
 
 What is wanted follows the reference, docs/behaviour.md, and udev(7); nothing here was taken from the program.
 """
@@ -9,11 +9,11 @@ WORD = 32
 
 
 def note(number, text, word):
-    """A note of the rule in one line."""
+    """A note about the rule in one line."""
     return f"note r.rules:{number}: {text}: {word[:WORD]}"
 
 
-# Tests: of an attribute that is there, of others, and those that a dry run does not make.
+# Tests: of an attribute that exists, of others, and those that a dry run does not make.
 TESTS = [
     why(
         "tests of attributes",
@@ -134,7 +134,7 @@ PROGRAMS = [
 ]
 
 PARENT = ["P: /devices/h", "E: ID_A=1", "E: X=2"]
-# what stood before keeps its place among the properties: X of the device stands before those that are new
+# existing properties keep their places: X of the device comes before the new ones
 ODD_PARENT = ["E: X=0", "P: /devices/h", "E: N=", "E: X=1", "E: .P=p", "E: L=" + "l" * 300]
 
 IMPORTS = [
@@ -199,9 +199,9 @@ IMPORTS = [
     ),
 ]
 
-# What programs print for an import of udev's: two lines, with a carriage return between them.
+# What programs print for an IMPORT{program} of udev: two lines, with a carriage return between them.
 PRINTED = ["Q: /bin/ask p", 'R: 0 A=1\rB="2 3"', "Q: /bin/fail", "R: 2 A=9", "Q: /bin/quiet", "R: 0", "Q: " + LONG_COMMAND, "R: 0 L=" + "l" * SHOWN]
-TOLD = '/bin/ask p answers 0 A=1\\x0DB="2 3"'
+REPORTED = '/bin/ask p answers 0 A=1\\x0DB="2 3"'
 
 AS_UDEV = [
     why(
@@ -212,9 +212,9 @@ AS_UDEV = [
         ],
         PRINTED,
         ["tag t", "env A=1", "env B=2 3", note(5, "no answer for program", "/bin/none p")],
-        of(1, f'IMPORT{{program}}=="/bin/ask %k": holds, {TOLD}, sets A=1, B=2 3', "reached its end: tag t added"),
-        of(2, f'IMPORT{{program}}=="/bin/ask $kernel": holds, {TOLD}, sets nothing', "reached its end"),
-        of(3, f'IMPORT{{program}}!="/bin/ask p": fails, {TOLD}, sets nothing', "stops there"),
+        of(1, f'IMPORT{{program}}=="/bin/ask %k": holds, {REPORTED}, sets A=1, B=2 3', "reached its end: tag t added"),
+        of(2, f'IMPORT{{program}}=="/bin/ask $kernel": holds, {REPORTED}, sets nothing', "reached its end"),
+        of(3, f'IMPORT{{program}}!="/bin/ask p": fails, {REPORTED}, sets nothing', "stops there"),
         of(4, 'IMPORT{program}!="/bin/fail": holds, /bin/fail answers 2 A=9, sets nothing', "reached its end"),
         of(5, 'IMPORT{program}=="/bin/none %k": fails, no answer for /bin/none p', "stops there"),
         of(6, 'IMPORT{program}=="/bin/quiet": holds, /bin/quiet answers 0, sets nothing', "reached its end"),
@@ -236,6 +236,17 @@ AS_UDEV = [
         [note(1, "text too long", "IMPORT{program}"), note(2, "text too long", "IMPORT{program}")],
         of(1, f'IMPORT{{program}}=="{TWICE}": fails, too long', "stops there"),
         of(2, f'IMPORT{{program}}!="{TWICE}": fails, too long', "stops there"),
+        udev=True,
+    ),
+    why(
+        "the value ?* reverses an operator with --udev",
+        ['TEST=="?*", TAG+="t"', 'TEST!="?*", TAG+="never"', 'PROGRAM="?*", TAG+="never"'],
+        ["Q: ?*", "R: 0"],
+        ["tag t"],
+        of(1, 'TEST!="?*": holds, ?*', "reached its end: tag t added"),
+        of(2, 'TEST=="?*": fails, ?*', "stops there"),
+        of(3, 'PROGRAM!="?*": fails, ?* answers 0', "stops there"),
+        path="/devices/p",
         udev=True,
     ),
     why(

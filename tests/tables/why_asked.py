@@ -1,4 +1,4 @@
-"""`events --why`: which rules are asked, and what is said where a text asks for none.
+"""`events --why`: which rules are asked about, and what is said if a text selects none.
 
 What is wanted follows the reference, docs/behaviour.md; nothing here was taken from the program.
 """
@@ -8,7 +8,7 @@ BARE = "C: add\nP: /d\n"
 START = "event add /d\n"
 STARTED = "env ACTION=add\nenv DEVPATH=/d\n"
 
-# A serial adapter that is asked by attributes of two of its parents: no rule can find it so.
+# A serial adapter that is matched by attributes of two of its parents: no rule can find it that way.
 MINE = {
     "99-mine.rules": '# My adapter.\nSUBSYSTEM=="tty", ATTRS{idVendor}=="0421", ATTRS{bInterfaceNumber}=="00", SYMLINK+="ttyMINE"\n'
 }
@@ -40,7 +40,7 @@ FILES = {
     "a.rules": 'ENV{A}="1"\n\nKERNEL=="x", ENV{A}="2"\nENV{A}+="3"\n',
     "b.rules": 'ENV{AB}="1"\nFOO="1"\nENV{AC}="$env{A}"\n',
 }
-TOLD_OF_B = "b.rules:2: V2 unknown key: FOO\n"
+REPORTED_OF_B = "b.rules:2: V2 unknown key: FOO\n"
 ANSWER = START + "env A=1 3\nenv AB=1\nenv AC=1 3\n" + STARTED
 SOURCED = START + "a.rules:4: env A=1 3\nb.rules:1: env AB=1\nb.rules:3: env AC=1 3\n-: env ACTION=add\n-: env DEVPATH=/d\n"
 A1, A4 = "why a.rules:1: reached its end: env A=1 set\n", "why a.rules:4: reached its end: env A=1 3 set\n"
@@ -49,9 +49,9 @@ B1, B3 = "why b.rules:1: reached its end: env AB=1 set\n", "why b.rules:3: reach
 B2 = "why b.rules:2: not read: V2 unknown key: FOO\n"
 
 
-def asked(name, options, *told, answer=ANSWER):
-    """What is told over the two files, with these options."""
-    return Row(name, f"events -r none {options} a.rules b.rules", FILES, BARE, answer + "".join(told) + "\n", TOLD_OF_B)
+def asked(name, options, *reported, answer=ANSWER):
+    """What is reported about the two files, with these options."""
+    return Row(name, f"events -r none {options} a.rules b.rules", FILES, BARE, answer + "".join(reported) + "\n", REPORTED_OF_B)
 
 
 ASKED = [
@@ -64,7 +64,7 @@ ASKED = [
     asked("a rule that is asked twice is told once", "--why a.rules:3 --why a.rules --why a.rules:3", A1, A3, A4),
     asked("with where the lines come from", "--sources --why a.rules:4 --why b.rules", B2, A4, B1, B3, answer=SOURCED),
     Row("options behind the files", "events a.rules b.rules --why a.rules:1 --sources -r none", FILES, BARE,
-        SOURCED + A1 + "\n", TOLD_OF_B),
+        SOURCED + A1 + "\n", REPORTED_OF_B),
     Row("each answer has its own", "events -r none --why r.rules r.rules", {"r.rules": 'KERNEL=="d", TAG+="t"\nFOO\n'},
         BARE + "\nC: change\nP: /x\n",
         START + "tag t\n" + STARTED + "why r.rules:2: not read: V1 bad syntax: FOO\n"
@@ -98,7 +98,7 @@ ASKED = [
     Row("no block, no line", "events -r none --why r.rules r.rules", {"r.rules": 'TAG+="t"\n'}),
 ]
 
-# Rules in the lines 2, 4 and 8, a line 12 that is not read, and a file of comments alone.
+# Rules in lines 2, 4 and 8, a line 12 that is not read, and a file that has only comments.
 LINES = {
     "r.rules": '\nTAG+="a"\n\nTAG+="b"\n\n\n\nTAG+="c"\n\n\n\nFOO="1"\n',
     "none.rules": "# no rule\n",
@@ -108,7 +108,7 @@ MESSAGES = "r.rules:12: V2 unknown key: FOO\nbad.rules:3: V2 unknown key: FOO\n"
 
 
 def nearest(*texts, place=None):
-    """A run that is asked for these texts, of which the last asks for no rule, and the nearest one where there is one."""
+    """A run that is asked about these texts, the last of which selects no rule, and the nearest rule, if there is one."""
     *known, text = texts
     words = [word for known_text in texts for word in ("--why", known_text)]
     said = f"no such rule, the nearest is {place}" if place else "no such rules file"

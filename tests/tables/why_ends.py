@@ -24,7 +24,7 @@ EACH_KEY_DID = (
     "attr mtu=1400 set, sysctl net/x=0 set, run program /bin/ip link show $name added, run builtin kmod load added"
 )
 
-# (a rule, what it did over what the rules before it left), over a device with two links, a tag and a property
+# (a rule, what it did to what the rules before it left), over a device with two links, a tag and a property
 DID = [
     ('SYMLINK-="one"', "link one removed"),
     ('SYMLINK+="two"', "SYMLINK changes nothing"),
@@ -104,6 +104,27 @@ EFFECTS = [
     why("commands of which one stays", ['RUN+="/bin/a", RUN{builtin}+="b", RUN+="/bin/c"', 'RUN="/bin/a"'], [], ["run program /bin/a"],
         of(1, "reached its end: run program /bin/a added, run builtin b added, run program /bin/c added"),
         of(2, "reached its end: run builtin b removed, run program /bin/c removed")),
+    why(
+        "labels of one module with --udev: each is told, but one that is there changes nothing",
+        ['SECLABEL{a}+="x", SECLABEL{a}+="y"', 'SECLABEL{a}+="x"', 'SECLABEL{b}="z"'],
+        ["N: d", "D: 1:1"],
+        ["label b=z", "env DEVNAME=/dev/d", "env MAJOR=1", "env MINOR=1"],
+        of(1, "reached its end: label a=x added, label a=y added"),
+        of(2, "reached its end: SECLABEL{a} changes nothing"),
+        of(3, "reached its end: label b=z added, label a=x removed, label a=y removed, label a=x removed"),
+        udev=True,
+    ),
+    why(
+        "a name that comes to nothing with --udev is not told, but looked at",
+        ['NAME="lan0"', 'NAME="$env{NONE}"', 'NAME=="", ENV{A}="[$name]"', 'NAME="lan1"'],
+        [NET, "E: IFINDEX=2"],
+        ["name lan1", "env A=[]", "env IFINDEX=2", "env SUBSYSTEM=net"],
+        of(1, "reached its end: name=lan0 set"),
+        of(2, "reached its end: name removed"),
+        of(3, 'NAME=="": holds, ""', "reached its end: env A=[] set"),
+        of(4, "reached its end: name=lan1 set"),
+        udev=True,
+    ),
     why("a rule without an assignment", ['KERNEL=="d"', 'KERNEL=="x"'], [], [], of(1, 'KERNEL=="d": holds, d', "reached its end"),
         of(2, 'KERNEL=="x": fails, d', "stops there")),
 ]
@@ -123,7 +144,7 @@ FINAL_ANSWER = [
     "name lan0", "owner root", "group g", "mode 0600", "priority 1", "nowatch", "link l", "tag t", "env SUBSYSTEM=net",
     "run builtin kmod",
 ]
-FINAL_TOLD = """\
+FINAL_REPORTED = """\
 why 10-a.rules:3: reached its end: owner=root set, mode=0600 set
 why 10-a.rules:4: reached its end: priority=1 set, OWNER is final since 10-a.rules:3
 why 10-a.rules:5: reached its end: name=lan0 set, SYMLINK changes nothing, run builtin kmod added
@@ -138,7 +159,7 @@ FINALS_WORDS = (
 
 FINALS = [
     Row("keys that an earlier file made final", FINALS_WORDS, {"10-a.rules": FIRST, "99-b.rules": LAST}, block("/d", NET),
-        answer("/d", FINAL_ANSWER)[:-1] + FINAL_TOLD.encode() + b"\n"),
+        answer("/d", FINAL_ANSWER)[:-1] + FINAL_REPORTED.encode() + b"\n"),
     why("a key that the very rule made final", ['OWNER:="a", OWNER="b", OWNER:="c"', 'OWNER=""'], [], ["owner a"],
         of(1, "reached its end: owner=a set, OWNER is final since r.rules:1, OWNER is final since r.rules:1"),
         of(2, "reached its end: OWNER is final since r.rules:1")),

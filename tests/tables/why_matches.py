@@ -1,10 +1,10 @@
-"""`events --why`: what is told of the matches of the event, of one device, and of the result of a program.
+"""`events --why`: what is reported about the matches of the event, of one device, and of the result of a program.
 
 What is wanted follows the reference, docs/behaviour.md, and udev(7); nothing here was taken from the program.
 """
 from tables.kinds.why import LONGEST, SHOWN, cut, of, why
 
-# A device of which each match of the event finds something.
+# A device in which each match of the event finds something.
 DEVICE = [
     "U: tty", "V: simple", "A: model=Disk  ", "S: one", "S: two", "G: g", "E: X=1", "K: arch=x86-64",
 ]
@@ -40,7 +40,7 @@ BARE_HOLDS = [
     ('DRIVER==""', '""'),
 ]
 
-# (a key as a rule has it, the key as it is told)
+# (a key as a rule has it, the key as it is reported)
 WRITTEN = [
     ('KERNEL==i"D"', 'KERNEL==i"D"'),
     ('KERNEL!=i"E"', 'KERNEL!=i"E"'),
@@ -70,9 +70,9 @@ CHAIN = [
 OF_VENDOR = "5-2:1.0 has none, 5-2 holds, usb5 fails, 1d6b"
 
 
-def upward(name, rule, wanted, *told):
-    """A rule in line 2 over the three devices, behind one that adds the tag `now`."""
-    return why(name, ['TAG+="now"', rule], CHAIN, ["tag now", "env SUBSYSTEM=tty", *wanted], of(2, *told), path=PORT,
+def upward(name, rule, wanted, *reported):
+    """A rule in line 2 over the three devices, after one that adds the tag `now`."""
+    return why(name, ['TAG+="now"', rule], CHAIN, ["tag now", "env SUBSYSTEM=tty", *wanted], of(2, *reported), path=PORT,
                asked=["r.rules:2"])
 
 
@@ -287,7 +287,7 @@ ROWS = [
         of(1, 'ENV{C}=="2": holds, 2', 'ATTRS{a}=="b": d holds', "d meets all", 'TEST=="f": holds, f',
            'RESULT=="": holds, ""', "reached its end: run program r added")),
     why("keys as they were written", [rule for rule, _ in WRITTEN], [], [],
-        *(of(at, f"{told}: holds, d", "reached its end") for at, (_, told) in enumerate(WRITTEN, 1))),
+        *(of(at, f"{reported}: holds, d", "reached its end") for at, (_, reported) in enumerate(WRITTEN, 1))),
     why("what is looked at by a name that udev renders",
         ['ATTR{%k}=="x", ENV{A}="1"', 'ATTRS{x%b}=="1", ENV{B}="1"', 'ATTR{$kernel}!="x", ENV{C}="1"', 'ATTR{y%k}!="x", ENV{D}="1"'],
         ["A: d=x", "A: xd=1"], ["env A=1", "env B=1"],

@@ -1,6 +1,6 @@
 """The words of the command line: help, what is not understood, and what each option does.
 
-The texts of usage begin as clap writes them; what stands behind their first lines is clap's own.
+The texts of usage begin as clap writes them; what follows their first lines is clap's own.
 """
 from tables.kinds.row import Begins, Row
 
@@ -16,7 +16,7 @@ Commands:
   events   Answers the event blocks of the standard input
   files    Lists the files of the folders, and says which of them are read
   compare  Tells where two systems answer the event blocks of the standard input differently
-  explain  Explains a message by its code, with a faulty file and the mended one
+  explain  Explains a message by its code, with a faulty file and the fixed one
   help     Print this message or the help of the given subcommand(s)
 
 Options:
@@ -30,7 +30,7 @@ Status:
      line of query - is too long, or there are too many rules
      or entries, or the index is refused, or compare found a
      difference, or files or --all no file
-  2  the words of the command are not understood
+  2  the command line is wrong
   3  a file, a folder, the input or an output failed
   4  out of memory
 
@@ -149,7 +149,7 @@ Options:
 """
 
 EXPLAIN_HELP = """\
-Explains a message by its code, with a faulty file and the mended one
+Explains a message by its code, with a faulty file and the fixed one
 
 Usage: devdry explain <CODE>
 
@@ -161,7 +161,7 @@ Options:
   -V, --version  Print version
 """
 
-# what is said of S2; tests/test_explain.sh has the others
+# what is said about S2; tests/test_explain.sh has the others
 EXPLAINED = """\
 S2 blank after a comma expected
 
@@ -172,9 +172,9 @@ Put a space after the comma.
     $ devdry verify s2.rules
     s2.rules:1: S2 blank after a comma expected: TAG
     1 files checked, 0 good, 1 bad
-    $ cat s2-mended.rules
+    $ cat s2-fixed.rules
     KERNEL=="sda", TAG+="disk"
-    $ devdry verify s2-mended.rules
+    $ devdry verify s2-fixed.rules
     1 files checked, 1 good, 0 bad
 """
 
@@ -242,7 +242,7 @@ error: invalid value 'V27' for '<CODE>'
 For more information, try '--help'.
 """
 
-# (words, what is answered)
+# (words, the answer)
 ASKED = [
     ("--help", HELP),
     ("-h", HELP),
@@ -264,7 +264,7 @@ ASKED = [
     ("query --version", "devdry-query 0.1.0\n"),
 ]
 
-# (words, how the text begins that tells what is wrong with them)
+# (words, how the text begins that says what is wrong with them)
 NOT_UNDERSTOOD = [
     ("", HELP),
     ("none", "error: unrecognized subcommand 'none'\n\nUsage: devdry <COMMAND>\n"),
@@ -334,7 +334,7 @@ def begins(text):
     return Begins(text.encode())
 
 
-# The index of ` K=V` behind `a*` in version 1, and in version 2 as of line 2 of t.hwdb; and the one of no entry.
+# The index of ` K=V` after `a*` in version 1, and in version 2 as of line 2 of t.hwdb; and the one of no entry.
 FIRST_VERSION = bytes.fromhex("""\
 6465766472796877 01000000 03000000 01000000 00000000 02000000 00000000
 00000000 00000000 01000000 01000000 00000000 00000000
@@ -353,11 +353,11 @@ EMPTY_INDEX = bytes.fromhex("""\
 6465766472796877 02000000 01000000 00000000 00000000 00000000 00000000
 00000000 00000000 01000000 00000000 00000000 00000000""")
 
-# two rules files: the first has a mistake and a point of style, the second a point of style alone
+# two rules files: the first has a mistake and a point of style, the second only a point of style
 RULES = {"b.rules": 'FOO=="x"\nKERNEL=="a",TAG+="t"\n', "a.rules": 'KERNEL=="a" TAG+="t"\n'}
 MISTAKE = "b.rules:1: V2 unknown key: FOO\n"
 STYLE = "b.rules:2: S2 blank after a comma expected: TAG\na.rules:1: S1 one comma expected: TAG\n"
-# two whose order is seen in what they answer
+# two whose order shows in their answers
 ADDING = {"b.rules": 'ENV{A}+="b"\n', "a.rules": 'ENV{A}+="a"\nIMPORT{builtin}="hwdb abc"\n'}
 BLOCK = "C: add\nP: /x\n"
 ADDED = "event add /x\nenv A=b a\nenv ACTION=add\nenv DEVPATH=/x\n\n"

@@ -18,9 +18,9 @@ fn feed_in_pieces(
 ) -> Result<(), SessionFault> {
     let mut rest = input;
     for _piece in 0..input.len() {
-        let (piece, behind) = rest.split_at(size.min(rest.len()));
+        let (piece, following) = rest.split_at(size.min(rest.len()));
         take_all(alloc, session, piece, text)?;
-        rest = behind;
+        rest = following;
     }
     Ok(())
 }
@@ -147,25 +147,25 @@ fn assert_chain(
     rt: &(impl Abort + AllocGlobal),
     count: usize,
     written: usize,
-    told: &str,
+    reported: &str,
     status: u8,
 ) -> Result<(), Fail> {
     let chain = chain_of(rt.alloc(), count)?;
     let events = line(rt.alloc(), Verb::Events, "");
     let done = run_by(rt.alloc(), &events, &[], None, &chain)?;
     assert_eq!(rt; done.output.len(), written);
-    assert_eq!(rt; done.messages.as_slice(), told.as_bytes());
+    assert_eq!(rt; done.messages.as_slice(), reported.as_bytes());
     assert_eq!(rt; done.status, status);
     Ok(())
 }
 
 #[test]
 fn a_chain_has_at_most_64_devices(rt: HostRuntime) -> Result<(), Fail> {
-    for (count, written, told, status) in [
+    for (count, written, reported, status) in [
         (64, 10 + 128 + 1 + 15 + 12 + 128 + 1 + 1, "", 0),
         (65, 0, "block 1, line 66: too deep\n", 1),
     ] {
-        assert_chain(&rt, count, written, told, status)?;
+        assert_chain(&rt, count, written, reported, status)?;
     }
     Ok(())
 }

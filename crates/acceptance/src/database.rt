@@ -84,7 +84,7 @@ fn sources_say_where_a_property_comes_from(rt: HostRuntime) -> Result<(), Fail> 
 }
 
 #[test]
-fn messages_stand_on_the_error_output(rt: HostRuntime) -> Result<(), Fail> {
+fn messages_are_on_the_error_output(rt: HostRuntime) -> Result<(), Fail> {
     let given = [(FileKind::Hwdb, 1, "s.hwdb", FAULTY)];
     assert_query(&rt, &given, "m2", "", MESSAGES)?;
     for (strict, status) in [(true, 1), (false, 0)] {

@@ -98,13 +98,13 @@ fn lines_with(answer: &[u8], first: &[u8]) -> usize {
 }
 
 /// Whether the answer by the rules of a file has a line.
-fn tells(alloc: Global, name: &str, rules: &str, block: &str, line: &str) -> Result<bool, Fail> {
+fn reports(alloc: Global, name: &str, rules: &str, block: &str, line: &str) -> Result<bool, Fail> {
     let answer = answer_by(alloc, name, rules, block)?;
     Ok(has_line(&answer, line))
 }
 
 /// How many lines of the answer by the rules of a file begin with a text.
-fn lines_told(alloc: Global, rules: &str, block: &str, first: &str) -> Result<usize, Fail> {
+fn lines_reported(alloc: Global, rules: &str, block: &str, first: &str) -> Result<usize, Fail> {
     let answer = answer_by(alloc, "r.rules", rules, block)?;
     Ok(lines_with(&answer, first.as_bytes()))
 }
@@ -165,7 +165,7 @@ fn rules_change_an_event(rt: HostRuntime) -> Result<(), Fail> {
             "env HIT=1",
         ),
     ] {
-        assert!(rt; tells(rt.alloc(), name, rules, block, line)?);
+        assert!(rt; reports(rt.alloc(), name, rules, block, line)?);
     }
     Ok(())
 }
@@ -213,7 +213,7 @@ fn acts_are_done(rt: HostRuntime) -> Result<(), Fail> {
             "note h.rules:1: builtin not run: kmod",
         ),
     ] {
-        assert!(rt; tells(rt.alloc(), name, rules, block, line)?);
+        assert!(rt; reports(rt.alloc(), name, rules, block, line)?);
     }
     Ok(())
 }
@@ -238,7 +238,7 @@ fn nothing_else_is_changed(rt: HostRuntime) -> Result<(), Fail> {
         (FILTERED_AWAY, BARE, "env Z="),
         (FILTERED_BADLY, BARE, "env ID_VENDOR="),
     ] {
-        assert_eq!(rt; lines_told(rt.alloc(), rules, block, first)?, 0);
+        assert_eq!(rt; lines_reported(rt.alloc(), rules, block, first)?, 0);
     }
     Ok(())
 }

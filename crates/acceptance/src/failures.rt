@@ -1,6 +1,6 @@
 //! Outputs that fail at once, in each command.
 use crate::running::{
-    AMPLE, Expected, Outcome, Room, assert_outcome, files_of, input_of, line, room_for, run_in,
+    AMPLE, Expected, Ran, Room, assert_outcome, files_of, input_of, line, room_for, run_in,
 };
 use engine_core::Verb;
 use std::alloc::Global;
@@ -22,7 +22,7 @@ const UNFLUSHED: Room = Room {
 };
 
 /// Runs a command over both files and outputs of so much room.
-fn run_over(alloc: Global, verb: Verb, room: Room, error_room: Room) -> Result<Outcome, Fail> {
+fn run_over(alloc: Global, verb: Verb, room: Room, error_room: Room) -> Result<Ran, Fail> {
     let asked = line(alloc, verb, "m");
     let given = [
         (FileKind::Rules, 0, "60-x.rules", RULES),
@@ -39,12 +39,12 @@ fn assert_failed(
     verb: Verb,
     room: Room,
     error_room: Room,
-    told: &str,
+    reported: &str,
 ) -> Result<(), Fail> {
     let done = run_over(rt.alloc(), verb, room, error_room)?;
     let wanted = Expected {
         output: b"",
-        messages: told.as_bytes(),
+        messages: reported.as_bytes(),
         status: 3,
     };
     assert_outcome(rt, &done, wanted);
@@ -57,16 +57,16 @@ fn each_command_ends_where_an_output_fails(rt: HostRuntime) -> Result<(), Fail> 
     let about_source = "s.hwdb:4: H1 property without a match: A=1\n";
     let about_both = "60-x.rules:1: V1 bad syntax: KERNEL==\"sd*\n\
 s.hwdb:4: H1 property without a match: A=1\n";
-    for (verb, told) in [
+    for (verb, reported) in [
         (Verb::Query, about_source),
         (Verb::Update, about_source),
         (Verb::Verify, about_rules),
         (Verb::Events, about_both),
     ] {
-        let told_and_failed = format!(in rt.alloc(); "{told}devdry: write failed\n")?;
-        assert_failed(&rt, verb, room_for(0), AMPLE, told_and_failed.as_str())?;
+        let reported_and_failed = format!(in rt.alloc(); "{told}devdry: write failed\n")?;
+        assert_failed(&rt, verb, room_for(0), AMPLE, reported_and_failed.as_str())?;
         assert_failed(&rt, verb, AMPLE, room_for(0), "")?;
-        assert_failed(&rt, verb, AMPLE, UNFLUSHED, told)?;
+        assert_failed(&rt, verb, AMPLE, UNFLUSHED, reported)?;
     }
     Ok(())
 }

@@ -1,6 +1,6 @@
 //! Inputs of `events` that come in pieces, that are faulty, or over devices that fail.
 use crate::running::{
-    AMPLE, Expected, Outcome, Room, assert_outcome, files_of, input_of, line, output_of, room_for,
+    AMPLE, Expected, Ran, Room, assert_outcome, files_of, input_of, line, output_of, room_for,
     run_by, run_in, wanted,
 };
 use crate::sessions::{block_with, has_ended, tables_of};
@@ -68,7 +68,7 @@ fn run_over(
     input: &mut MemorySource,
     room: Room,
     error_room: Room,
-) -> Result<Outcome, Fail> {
+) -> Result<Ran, Fail> {
     let events = line(alloc, Verb::Events, "");
     let files = files_of(alloc, &[(FileKind::Rules, 0, "r.rules", RULE)])?;
     Ok(run_in(alloc, &events, files, None, input, (room, error_room))?)
@@ -156,10 +156,10 @@ fn is_answer(answer: &Option<Bytes>, wanted: Option<&[u8]>) -> bool {
 /// Whether three blocks in one piece are answered in three calls, and nothing is left for the end.
 fn each_block_is_answered(alloc: Global, tables: &Tables<PlainDb>) -> Result<bool, Fail> {
     let mut session = Session::new(alloc, tables)?;
-    let (_, behind) = THREE_BLOCKS.split_at(58);
+    let (_, following) = THREE_BLOCKS.split_at(58);
     let (_, last) = THREE_BLOCKS.split_at(116);
     let answered = takes(alloc, &mut session, THREE_BLOCKS, 58, Some(ANSWER))
-        && takes(alloc, &mut session, behind, 58, Some(ANSWER))
+        && takes(alloc, &mut session, following, 58, Some(ANSWER))
         && takes(alloc, &mut session, last, 58, Some(ANSWER))
         && ends(alloc, &mut session, None)
         && has_ended(alloc, &mut session);
@@ -187,9 +187,9 @@ fn is_stopped(alloc: Global, session: &mut Session<'_, Tables<PlainDb>>, piece: 
 /// Whether the block before a faulty one is answered, and the one after it is not.
 fn a_faulty_block_is_the_last(alloc: Global, tables: &Tables<PlainDb>) -> Result<bool, Fail> {
     let mut session = Session::new(alloc, tables)?;
-    let (_, behind) = FAULTY.split_at(58);
+    let (_, following) = FAULTY.split_at(58);
     let ended = takes(alloc, &mut session, FAULTY, 58, Some(ANSWER))
-        && is_stopped(alloc, &mut session, behind)
+        && is_stopped(alloc, &mut session, following)
         && has_ended(alloc, &mut session);
     drop(session);
     Ok(ended)
@@ -231,7 +231,7 @@ fn is_held_back(
 }
 
 /// Whether the answer goes out, and is flushed, in the next turn.
-fn goes_out_now(
+fn is_sent_now(
     alloc: Global,
     session: &mut Session<'_, Tables<PlainDb>>,
     input: &mut MemorySource,
@@ -245,27 +245,27 @@ fn goes_out_now(
 
 /// Whether an answer goes out in the turn that reads the last byte of its block, and nothing before, if the input
 /// gives a byte at a time.
-fn goes_out_at_its_end(alloc: Global, tables: &Tables<PlainDb>) -> Result<bool, Fail> {
+fn is_sent_at_its_end(alloc: Global, tables: &Tables<PlainDb>) -> Result<bool, Fail> {
     let mut input = input_of(alloc, BLOCK, 1)?;
     let mut output = output_of(alloc, AMPLE)?;
     let mut session = Session::new(alloc, tables)?;
-    let goes_out = is_held_back(
+    let advance_out = is_held_back(
         alloc,
         &mut session,
         &mut input,
         &mut output,
         BLOCK.len() - 1,
-    ) && goes_out_now(alloc, &mut session, &mut input, &mut output);
+    ) && is_sent_now(alloc, &mut session, &mut input, &mut output);
     drop(session);
-    Ok(goes_out)
+    Ok(advance_out)
 }
 
 #[test]
-fn an_answer_goes_out_in_the_turn_of_its_last_byte(rt: HostRuntime) -> Result<(), Fail> {
+fn an_answer_is_sent_in_the_turn_of_its_last_byte(rt: HostRuntime) -> Result<(), Fail> {
     let tables = tables(rt.alloc())?;
-    let goes_out = goes_out_at_its_end(rt.alloc(), &tables);
+    let advance_out = is_sent_at_its_end(rt.alloc(), &tables);
     drop(tables);
-    assert!(rt; goes_out?);
+    assert!(rt; advance_out?);
     Ok(())
 }
 

@@ -43,7 +43,7 @@ v.rules:4: V5 bad value: link_priority=x\nv.rules:5: V11 set not supported: [[:a
 v.rules:6: V6 bad substitution: $nope\nv.rules:7: V4 attribute missing or not allowed: ATTR\n";
 
 #[test]
-fn bad_files_are_told(rt: HostRuntime) -> Result<(), Fail> {
+fn bad_files_are_reported(rt: HostRuntime) -> Result<(), Fail> {
     for (name, text, messages) in [
         ("v.rules", FAULTS, MESSAGES),
         (

@@ -40,7 +40,7 @@ pub(crate) fn room_for(bytes: usize) -> Room {
 
 /// What a run wrote and returned.
 #[derive(Drop)]
-pub(crate) struct Outcome {
+pub(crate) struct Ran {
     pub(crate) output: Vec<u8>,
     pub(crate) messages: Vec<u8>,
     pub(crate) status: u8,
@@ -66,7 +66,7 @@ pub(crate) fn wanted<'a>(output: &'a str, messages: &'a str, status: u8) -> Expe
 }
 
 /// Asserts what a run wrote and returned, and that all of it was flushed if no device failed.
-pub(crate) fn assert_outcome(rt: &impl Abort, done: &Outcome, wanted: Expected<'_>) {
+pub(crate) fn assert_outcome(rt: &impl Abort, done: &Ran, wanted: Expected<'_>) {
     assert_eq!(rt; done.output.as_slice(), wanted.output);
     assert_eq!(rt; done.messages.as_slice(), wanted.messages);
     assert_eq!(rt; done.status, wanted.status);
@@ -137,13 +137,13 @@ fn outcome_of(
     output: &MemorySink,
     error: &MemorySink,
     status: u8,
-) -> Result<Outcome, AllocError> {
-    let (written, told) = (output.bytes_taken(), error.bytes_taken());
+) -> Result<Ran, AllocError> {
+    let (written, reported) = (output.bytes_taken(), error.bytes_taken());
     let is_flushed = written.len() == output.bytes_flushed().len()
-        && told.len() == error.bytes_flushed().len();
-    Ok(Outcome {
+        && reported.len() == error.bytes_flushed().len();
+    Ok(Ran {
         output: Vec::from_slice(alloc, written)?,
-        messages: Vec::from_slice(alloc, told)?,
+        messages: Vec::from_slice(alloc, reported)?,
         status,
         is_flushed,
     })
@@ -160,7 +160,7 @@ pub(crate) fn run_in(
     index: Option<&[u8]>,
     input: &mut MemorySource,
     rooms: (Room, Room),
-) -> Result<Outcome, AllocError> {
+) -> Result<Ran, AllocError> {
     let (room, error_room) = rooms;
     let mut output = output_of(alloc, room)?;
     let mut error = output_of(alloc, error_room)?;
@@ -175,14 +175,14 @@ pub(crate) fn run_by(
     given: &[Given<'_>],
     index: Option<&[u8]>,
     text: &[u8],
-) -> Result<Outcome, Fail> {
+) -> Result<Ran, Fail> {
     let files = files_of(alloc, given)?;
     let mut input = input_of(alloc, text, 4096)?;
     Ok(run_in(alloc, line, files, index, &mut input, (AMPLE, AMPLE))?)
 }
 
 /// Runs a line with room enough, over no input.
-pub(crate) fn run(alloc: Global, line: &Line<'_>, given: &[Given<'_>]) -> Result<Outcome, Fail> {
+pub(crate) fn run(alloc: Global, line: &Line<'_>, given: &[Given<'_>]) -> Result<Ran, Fail> {
     run_by(alloc, line, given, None, b"")
 }
 

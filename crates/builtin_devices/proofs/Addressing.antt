@@ -38,16 +38,16 @@ one text h = by (position is_colon text) refl h
     by (Some n) e q = cc
 
 -- a text with a colon is the number before it and those after it
-more : (text front rest : Text) → split_once colon text ≡ Some (front, rest) → numbers text ≡ number front ∷ numbers rest
+more : (text prefix rest : Text) → split_once colon text ≡ Some (prefix, rest) → numbers text ≡ number prefix ∷ numbers rest
 unfolding split_once
-more text front rest h = by (position is_colon text) refl h
+more text prefix rest h = by (position is_colon text) refl h
   where
-    by : (p : Option ℕ) → position is_colon text ≡ p → cut_at text p ≡ Some (front, rest) → numbers text ≡ number front ∷ numbers rest
+    by : (p : Option ℕ) → position is_colon text ≡ p → cut_at text p ≡ Some (prefix, rest) → numbers text ≡ number prefix ∷ numbers rest
     by None e q = cc
     by (Some n) e q =
         ap (map number) (split_some is_colon text n e)
         ∙ ap (λ (t : Text). number t ∷ numbers (drop (n + 1) text)) (ap (λ (o : Option (Text × Text)). (unwrap_or o ([], [])).0) q)
-        ∙ ap (λ (t : Text). number front ∷ numbers t) (ap (λ (o : Option (Text × Text)). (unwrap_or o ([], [])).1) q)
+        ∙ ap (λ (t : Text). number prefix ∷ numbers t) (ap (λ (o : Option (Text × Text)). (unwrap_or o ([], [])).1) q)
 
 digit_no_colon : (b : ℕ) → is_digit b ≡ true → (b == colon) ≡ false
 digit_no_colon b h = grind (arith, nat_tests)
@@ -62,17 +62,17 @@ no_colon (b ∷ text) h = by (is_digit b) refl h (no_colon text)
   where
     by : (v : Bool) → is_digit b ≡ v → (v && list_all is_digit text) ≡ true → (list_all is_digit text ≡ true → position_or_len is_colon text ≡ length text)
         → cond (not (b == colon)) (1 + position_or_len is_colon text) 0 ≡ suc (length text)
-    by false e q behind = cc
-    by true e q behind = ap (λ (v : Bool). cond (not v) (1 + position_or_len is_colon text) 0) (digit_no_colon b e) ∙ ap (λ (n : ℕ). 1 + n) (behind q) ∙ one_more (length text)
+    by false e q following = cc
+    by true e q following = ap (λ (v : Bool). cond (not v) (1 + position_or_len is_colon text) 0) (digit_no_colon b e) ∙ ap (λ (n : ℕ). 1 + n) (following q) ∙ one_more (length text)
 
 second_false : (a b : Bool) (n : ℕ) → cond ((a && false) && b) (Some n) None ≡ None
 second_false true b n = refl
 second_false false b n = refl
 
--- a text with a colon is no number
-no_number : (text front rest : Text) → split_once colon text ≡ Some (front, rest) → number text ≡ None
+-- a text with a colon is not a number
+no_number : (text prefix rest : Text) → split_once colon text ≡ Some (prefix, rest) → number text ≡ None
 unfolding split_once decimal_below
-no_number text front rest h = by (list_all is_digit text) refl
+no_number text prefix rest h = by (list_all is_digit text) refl
   where
     by : (v : Bool) → list_all is_digit text ≡ v → number text ≡ None
     by true e = at (position is_colon text) refl h
@@ -80,7 +80,7 @@ no_number text front rest h = by (list_all is_digit text) refl
         none : position is_colon text ≡ None
         none = ap (λ (n : ℕ). cond (ltb n (length text)) (Some n) None) (no_colon text e) ∙ ap (λ (b : Bool). cond b (Some (length text)) None) (le-ltb (length text) (length text) (omega arith))
 
-        at : (p : Option ℕ) → position is_colon text ≡ p → cut_at text p ≡ Some (front, rest) → number text ≡ None
+        at : (p : Option ℕ) → position is_colon text ≡ p → cut_at text p ≡ Some (prefix, rest) → number text ≡ None
         at None f q = cc
         at (Some n) f q = let both : Some n ≡ None = sym f ∙ none in cc
     by false e =
@@ -98,9 +98,9 @@ level F G alone none some text = by (split_once colon text) refl
 
     by : (o : Option (Text × Text)) → split_once colon text ≡ o → F (numbers text) ≡ option_and_then G (before_colon text)
     by None e = ap F (one text e) ∙ alone (number text) ∙ sym (ap (λ (o : Option (Text × Text)). option_and_then G (option_and_then with_number o)) e)
-    by (Some (front, rest)) e =
-        ap F (more text front rest e)
-        ∙ here rest (number front)
+    by (Some (prefix, rest)) e =
+        ap F (more text prefix rest e)
+        ∙ here rest (number prefix)
         ∙ sym (ap (λ (o : Option (Text × Text)). option_and_then G (option_and_then with_number o)) e)
 
 five : (host bus target : ℕ) (x y : Option ℕ) (ys : List (Option ℕ)) → of_numbers (Some host ∷ Some bus ∷ Some target ∷ x ∷ y ∷ ys) ≡ None
@@ -117,15 +117,15 @@ last host bus target text = by (split_once colon text) refl
 
     crowded : (x : Option ℕ) (rest : Text) (o : Option (Text × Text)) → split_once colon rest ≡ o → of_numbers (Some host ∷ Some bus ∷ Some target ∷ x ∷ numbers rest) ≡ None
     crowded x rest None e = ap (λ (ns : List (Option ℕ)). of_numbers (Some host ∷ Some bus ∷ Some target ∷ x ∷ ns)) (one rest e) ∙ five host bus target x (number rest) []
-    crowded x rest (Some (front, behind)) e =
-        ap (λ (ns : List (Option ℕ)). of_numbers (Some host ∷ Some bus ∷ Some target ∷ x ∷ ns)) (more rest front behind e) ∙ five host bus target x (number front) (numbers behind)
+    crowded x rest (Some (prefix, following)) e =
+        ap (λ (ns : List (Option ℕ)). of_numbers (Some host ∷ Some bus ∷ Some target ∷ x ∷ ns)) (more rest prefix following e) ∙ five host bus target x (number prefix) (numbers following)
 
     by : (o : Option (Text × Text)) → split_once colon text ≡ o → of_numbers (Some host ∷ Some bus ∷ Some target ∷ numbers text) ≡ with_unit host bus target text
     by None e = ap (λ (ns : List (Option ℕ)). of_numbers (Some host ∷ Some bus ∷ Some target ∷ ns)) (one text e) ∙ alone (number text)
-    by (Some (front, rest)) e =
-        ap (λ (ns : List (Option ℕ)). of_numbers (Some host ∷ Some bus ∷ Some target ∷ ns)) (more text front rest e)
-        ∙ crowded (number front) rest (split_once colon rest) refl
-        ∙ sym (ap (option_map {U = Address} (λ (unit : ℕ). record { host = host; bus = bus; target = target; unit = unit })) (no_number text front rest e))
+    by (Some (prefix, rest)) e =
+        ap (λ (ns : List (Option ℕ)). of_numbers (Some host ∷ Some bus ∷ Some target ∷ ns)) (more text prefix rest e)
+        ∙ crowded (number prefix) rest (split_once colon rest) refl
+        ∙ sym (ap (option_map {U = Address} (λ (unit : ℕ). record { host = host; bus = bus; target = target; unit = unit })) (no_number text prefix rest e))
 
 none_1 : (x : Option ℕ) → of_numbers (x ∷ []) ≡ None
 none_1 None = refl

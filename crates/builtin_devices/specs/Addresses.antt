@@ -6,7 +6,7 @@ use Rattle.text_bytes.specs.Numbers.{decimal_below}
 use Rattle.text_tables.specs.Texts.{Text}
 use Rattle.builtin_devices.specs.declared.addresses.Address.{Address}
 
--- the address of numbers, where there are four and each of them is one
+-- the address of numbers, if there are four and none is missing
 abbrev pub of_numbers : List (Option ℕ) → Option Address
 of_numbers (Some host ∷ Some bus ∷ Some target ∷ Some unit ∷ []) = Some (record { host = host; bus = bus; target = target; unit = unit })
 of_numbers _ = None

@@ -7,7 +7,7 @@ use Rattle.text_tables.specs.Texts.{Text, same_text}
 use Rattle.text_tables.specs.Pairs.{value_of}
 use Rattle.device_core.specs.Values.{DeviceValue, EventValue, chain}
 use Rattle.text_links.specs.Kernels.{kernel_name}
-use Rattle.builtin_devices.specs.Files.{told_devices}
+use Rattle.builtin_devices.specs.Files.{described_devices}
 
 -- the kernel's name of a device
 abbrev pub kernel_of : DeviceValue → Text
@@ -19,7 +19,7 @@ is_at path device = same_text path device.path
 
 -- a device that is not of the chain, and that the block describes by its path
 abbrev pub outside : EventValue → (path : Text) → Option DeviceValue
-outside event path = find (is_at path) (told_devices event)
+outside event path = find (is_at path) (described_devices event)
 
 -- the device with a path: of the chain, or else one outside of it
 abbrev pub device_by : EventValue → (path : Text) → Option DeviceValue

@@ -30,14 +30,14 @@ abbrev pub is_digit_in : (base : ℕ) → ℕ → Bool
 is_digit_in base b = nat_lt (digit_value b) base
 
 -- the number that digits write after those of n
-abbrev pub number_behind : (base n : ℕ) → Text → ℕ
-number_behind base n [] = n
-number_behind base n (b ∷ text) = number_behind base (base * n + digit_value b) text
+abbrev pub number_after : (base n : ℕ) → Text → ℕ
+number_after base n [] = n
+number_after base n (b ∷ text) = number_after base (base * n + digit_value b) text
 
 -- the number that one digit of a base or more write, if it is at most `most`
 unfoldable pub digits_in : (base most : ℕ) → Text → Option ℕ
 digits_in base most text =
-    if not (is_empty text) && list_all (is_digit_in base) text && nat_le (number_behind base 0 text) most then Some (number_behind base 0 text)
+    if not (is_empty text) && list_all (is_digit_in base) text && nat_le (number_after base 0 text) most then Some (number_after base 0 text)
     else None
 
 -- whether a text begins with `0` and one of two bytes

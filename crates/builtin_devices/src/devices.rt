@@ -1,11 +1,13 @@
 //! The devices of a block, and what is above one.
-ghost use Rattle.std.specs.Prelude.{◌≡◌, ◌<◌, IfOk, length, map, option_copied, option_map};
+ghost use Rattle.std.specs.Prelude.{◌≡◌, ◌<◌, ℕ, IfOk, length, map, option_copied, option_map};
 ghost use Rattle.std.specs.List.{find};
-ghost use Rattle.device_core.specs.Values.{chain};
 ghost use Rattle.builtin_devices.specs.Devices.{above, attribute, device_before, device_by, has_type, is_at, is_of, is_text, parents_of, type_of};
+ghost use Rattle.builtin_devices.specs.Upward.{device_at};
 
-use crate::files::told_devices;
+use crate::files::described_devices;
+use crate::upward::{add_device, add_devices};
 use device_core::{Device, Event};
+use indexmap::IndexMap;
 use std::alloc::{AllocError, Global};
 use std::marker::Model;
 
@@ -13,19 +15,19 @@ use std::marker::Model;
 #[derive(Drop)]
 pub struct Devices<'a> {
     event: &'a Event<'a>,
-    told: Vec<Device<'a>>,
+    described: Vec<Device<'a>>,
 }
 
 impl<'a> Model for Devices<'a> {
     ghost use Rattle.std.specs.Prelude.{◌≡◌};
     ghost use Rattle.device_core.specs.Values.{EventValue};
-    ghost use Rattle.builtin_devices.specs.Files.{told_devices};
+    ghost use Rattle.builtin_devices.specs.Files.{described_devices};
 
     ghost Value = { EventValue };
 
     ghost view = { λ d. d.event.now };
 
-    ghost invariant = { λ d. d.told.items ≡ told_devices d.event.now };
+    ghost invariant = { λ d. d.described.items ≡ described_devices d.event.now };
 }
 
 /// The device among others that has a path.
@@ -42,7 +44,7 @@ impl<'a> Devices<'a> {
     {
         Ok(Devices {
             event,
-            told: told_devices(alloc, event)?,
+            described: described_devices(alloc, event)?,
         })
     }
 
@@ -64,20 +66,22 @@ impl<'a> Devices<'a> {
         if let Some(parent) = find_at(self.event.parents(), path) {
             return Some(parent);
         }
-        find_at(&self.told, path)
+        find_at(&self.described, path)
     }
 
-    /// The device whose path ends before a slash at a place of a path.
-    #[tactic(auto, unfolding(crate::specs::Devices::device_before))]
-    fn device_before(&self, path: &[u8], place: usize) -> Option<&Device<'a>>
-        requires { place < length path.now }
-        ensures { option_copied result ≡ device_before self.now path.now place }
+    /// The devices above a path, each under the length of its own path; where two have one path, the first.
+    fn devices_above<'d>(
+        &'d self,
+        alloc: Global,
+        path: &[u8],
+    ) -> Result<IndexMap<usize, &'d Device<'a>>, AllocError>
+        ensures { IfOk result (λ above. (place : ℕ) → place < length path.now → device_at above place ≡ device_before self.now path.now place) }
     {
-        if place > 0 && path[place] == b'/' {
-            self.device_by(path.split_at(place).0)
-        } else {
-            None
-        }
+        let mut above = IndexMap::new(alloc);
+        add_device(path, self.event.device(), &mut above)?;
+        add_devices(path, self.event.parents(), &mut above)?;
+        add_devices(path, &self.described, &mut above)?;
+        Ok(above)
     }
 
     /// The devices above a path, the nearest first.
@@ -85,10 +89,11 @@ impl<'a> Devices<'a> {
     pub fn parents_of(&self, alloc: Global, path: &[u8]) -> Result<Vec<&Device<'a>>, AllocError>
         ensures { IfOk result (λ parents. map (λ device. device.now) parents.items ≡ parents_of self.now path.now) }
     {
+        let above = self.devices_above(alloc, path)?;
         let mut parents = Vec::new(alloc);
         for place in (0..path.len()).rev() {
-            if let Some(device) = self.device_before(path, place) {
-                parents.push(device)?;
+            if let Some(device) = above.get(&place) {
+                parents.push(*device)?;
             }
         }
         Ok(parents)

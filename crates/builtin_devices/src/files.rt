@@ -3,7 +3,7 @@ ghost use Rattle.std.specs.Prelude.{◌≡◌, ◌∷◌, ◌++◌, ◌≤◌, �
 ghost use Rattle.std.specs.List.{starts_with, ends_with};
 ghost use Rattle.text_bytes.specs.Names.{slash};
 ghost use Rattle.text_tables.specs.Pairs.{with_values};
-ghost use Rattle.builtin_devices.specs.Files.{file_at, file_below, files_below, name_below, subsystem_file, told_by, told_devices};
+ghost use Rattle.builtin_devices.specs.Files.{described_by, described_devices, file_at, file_below, files_below, name_below, subsystem_file};
 
 use device_core::{Device, Event, Pairs};
 use std::alloc::{AllocError, Global};
@@ -66,33 +66,33 @@ fn attributes_below<'a>(
 }
 
 /// The device whose subsystem a constant gives.
-fn told_by<'a>(
+fn described_by<'a>(
     alloc: Global,
     event: &Event<'a>,
     name: &'a [u8],
     text: &'a [u8],
 ) -> Result<Option<Device<'a>>, AllocError>
-    ensures { IfOk result (λ device. device ≡ told_by event.now (name.now, text.now)) }
+    ensures { IfOk result (λ device. device ≡ described_by event.now (name.now, text.now)) }
 {
     if !name.ends_with(SUBSYSTEM_FILE) {
         return Ok(None);
     }
     let (path, _) = name.split_at(name.len() - SUBSYSTEM_FILE.len());
     let attrs = attributes_below(alloc, event, path)?;
-    Ok(Some(Device::told(alloc, path, text, attrs)))
+    Ok(Some(Device::described(alloc, path, text, attrs)))
 }
 
 /// The devices that a block describes by paths, in its order.
-#[tactic(auto, unfolding(crate::specs::Files::told_devices))]
-pub(crate) fn told_devices<'a>(
+#[tactic(auto, unfolding(crate::specs::Files::described_devices))]
+pub(crate) fn described_devices<'a>(
     alloc: Global,
     event: &Event<'a>,
 ) -> Result<Vec<Device<'a>>, AllocError>
-    ensures { IfOk result (λ devices. devices.items ≡ told_devices event.now) }
+    ensures { IfOk result (λ devices. devices.items ≡ described_devices event.now) }
 {
     let mut devices = Vec::new(alloc);
     for (name, text) in event.constants().as_map().iter() {
-        if let Some(device) = told_by(alloc, event, name, text)? {
+        if let Some(device) = described_by(alloc, event, name, text)? {
             devices.push(device)?;
         }
     }

@@ -7,13 +7,12 @@
 mod addresses;
 mod devices;
 mod files;
-mod fronts;
 mod numbers;
 mod outcomes;
+mod upward;
 
 pub use addresses::{Address, address_of};
 pub use devices::{Devices, attribute, is_of, is_text, type_of};
 pub use files::{file_at, files_below};
-pub use fronts::behind;
 pub use numbers::{Base, bytes_of, digits_in, is_below_zero, is_number, name_number, number_in};
-pub use outcomes::{Outcome, add_property, need_attribute};
+pub use outcomes::{BuiltinOutcome, add_property, need_attribute};

@@ -12,13 +12,13 @@ use text_tables::OwnedTexts;
 /// The outcome of a builtin of udev: whether it succeeds, the properties in the order in which it sets them, where
 /// an empty value removes one, and names for what the block would have to report for it, each once.
 #[derive(Drop)]
-pub struct Outcome {
+pub struct BuiltinOutcome {
     is_done: bool,
     properties: Vec<(Bytes, Bytes)>,
     needs: OwnedTexts,
 }
 
-impl Model for Outcome {
+impl Model for BuiltinOutcome {
     ghost use Rattle.builtin_devices.specs.Outcomes.{OutcomeValue};
 
     ghost Value = { OutcomeValue };
@@ -26,12 +26,12 @@ impl Model for Outcome {
     ghost view = { λ o. record { is_done = o.is_done; properties = o.properties.items; needs = o.needs } };
 }
 
-impl Outcome {
+impl BuiltinOutcome {
     /// A builtin that succeeds, with the properties that it sets.
-    pub fn succeeding(properties: Vec<(Bytes, Bytes)>, needs: OwnedTexts) -> Outcome
+    pub fn succeeding(properties: Vec<(Bytes, Bytes)>, needs: OwnedTexts) -> BuiltinOutcome
         ensures { result ≡ succeeding properties.items needs }
     {
-        Outcome {
+        BuiltinOutcome {
             is_done: true,
             properties,
             needs,
@@ -39,10 +39,10 @@ impl Outcome {
     }
 
     /// A builtin that fails, and sets nothing.
-    pub fn failing(alloc: Global, needs: OwnedTexts) -> Outcome
+    pub fn failing(alloc: Global, needs: OwnedTexts) -> BuiltinOutcome
         ensures { result ≡ failing needs }
     {
-        Outcome {
+        BuiltinOutcome {
             is_done: false,
             properties: Vec::new(alloc),
             needs,

@@ -12,7 +12,7 @@ use Rattle.builtin_input.specs.Kinds.{has_keys, is_accelerometer, is_joystick, i
 use Rattle.builtin_input.specs.declared.groups.Group.TheVariants as group
 use Rattle.builtin_input.specs.declared.kinds.Kind.TheVariants as kind
 
--- a mouse, by its buttons or because it tells places, may be no joystick
+-- a mouse, by its buttons or because it reports positions, is not a possible joystick
 apart : (some place pen finger buttons touched aside others : Bool) → (buttons && not (aside || some && not (place && (pen || finger || buttons || touched))) && others || place && buttons && not pen && not finger) ≡ true → (some && not (place && (pen || finger || buttons || touched))) ≡ false
 apart some place pen finger buttons touched aside others h = grind (arith, common_steps)
 
@@ -24,7 +24,7 @@ pub mouse_apart : (c : CapabilitiesValue) → is_of kind.Mouse c ≡ true → is
 unfolding is_of is_joystick
 mouse_apart c h = rw (may_be_none c h) (and_right (not (is_accelerometer c)) false refl)
 
--- what takes a finger is no touchscreen, and no mouse by its buttons
+-- what takes a finger is neither a touchscreen nor a mouse by its buttons
 fingered : (c : CapabilitiesValue) → is_of kind.Touchpad c ≡ true → is_touchpad c ≡ true
 unfolding is_of
 fingered c h = (and_parts (not (is_accelerometer c)) (is_touchpad c) h).1
@@ -96,7 +96,7 @@ pub alone : (c : CapabilitiesValue) → is_of kind.Accelerometer c ≡ true → 
 unfolding is_of
 alone c h = rw h refl
 
--- a device that tells nothing of itself is of no kind
+-- a device that reports nothing about itself is of no kind
 pub no_kind : (bus : ℕ) → kinds (nothing bus) ≡ []
 unfolding kinds is_of has count_of is_accelerometer is_pointing_stick is_mouse is_plain_mouse is_touchpad is_touchscreen is_joystick may_be_joystick is_tablet is_tablet_pad is_pointer has_keys is_keyboard has_position has_multitouch has_motion has_wheel takes_pen takes_finger takes_touch has_mouse_buttons has_pad_buttons joystick_buttons joystick_parts has_usual_keys
 no_kind bus = refl

@@ -42,13 +42,13 @@ unfolding bitmap
 last_word most text last h = rw (split-append is_space text space last refl, uncut is_space last h, map-append word (slice_split is_space text) (last ∷ []), reverse-append (map word (slice_split is_space text)) (word last ∷ [])) refl
 
 -- a word that is 0 after all others has no number
-zero_behind : (most : ℕ) (words : List ℕ) (place : ℕ) → slice_index (take most (words ++ 0 ∷ [])) place ≡ slice_index (take most words) place
-zero_behind zero words place = refl
-zero_behind (suc most) [] zero = refl
-zero_behind (suc zero) [] (suc place) = refl
-zero_behind (suc (suc most)) [] (suc place) = refl
-zero_behind (suc most) (word ∷ words) zero = refl
-zero_behind (suc most) (word ∷ words) (suc place) = zero_behind most words place
+zero_after : (most : ℕ) (words : List ℕ) (place : ℕ) → slice_index (take most (words ++ 0 ∷ [])) place ≡ slice_index (take most words) place
+zero_after zero words place = refl
+zero_after (suc most) [] zero = refl
+zero_after (suc zero) [] (suc place) = refl
+zero_after (suc (suc most)) [] (suc place) = refl
+zero_after (suc most) (word ∷ words) zero = refl
+zero_after (suc most) (word ∷ words) (suc place) = zero_after most words place
 
 no_number : word (digit_zero ∷ []) ≡ 0
 unfolding word number_in written digits_in
@@ -56,4 +56,4 @@ no_number = refl
 
 pub zeros : (most : ℕ) (text : Text) (number : ℕ) → has (bitmap most (digit_zero ∷ space ∷ text)) number ≡ has (bitmap most text) number
 unfolding bitmap has
-zeros most text number = rw (no_number, reverse-append (0 ∷ []) (map word (slice_split is_space text)), zero_behind most (reverse (map word (slice_split is_space text))) (number / 64)) refl
+zeros most text number = rw (no_number, reverse-append (0 ∷ []) (map word (slice_split is_space text)), zero_after most (reverse (map word (slice_split is_space text))) (number / 64)) refl

@@ -14,8 +14,8 @@ use Rattle.builtin_input.specs.Signs.{has_position}
 use Rattle.builtin_input.specs.Kinds.{kinds, property_of}
 
 -- whether a device reports which kinds of events it has
-abbrev pub tells : DeviceValue → Bool
-tells device = is_some (value_of device.attrs (codes "capabilities/ev"))
+abbrev pub reports : DeviceValue → Bool
+reports device = is_some (value_of device.attrs (codes "capabilities/ev"))
 
 -- whether a device is of the subsystem of input devices
 abbrev pub is_input : DeviceValue → Bool
@@ -23,7 +23,7 @@ is_input device = is_text (codes "input") device.subsystem
 
 -- the device that reports about itself: the event device, or else its nearest parent of the subsystem that does
 abbrev pub input_device : EventValue → Option DeviceValue
-input_device event = if tells event.device then Some event.device else find (λ device. is_input device && tells device) event.parents
+input_device event = if reports event.device then Some event.device else find (λ device. is_input device && reports device) event.parents
 
 -- a property that is set
 abbrev pub set : Text → Pair

@@ -11,7 +11,7 @@ pub(crate) enum Group {
     JoystickButton,
     /// The absolute axes of a joystick except the first three.
     JoystickAxis,
-    /// Keys that keyboards have, which tell them from joysticks.
+    /// Keys that keyboards have, which distinguish them from joysticks.
     UsualKey,
     /// The keys from 1 to 31.
     FirstKey,

@@ -4,13 +4,13 @@ ghost use Rattle.std.specs.List.{find, list_any};
 ghost use Rattle.text_tables.specs.Texts.{with_texts};
 ghost use Rattle.device_core.specs.Values.{chain};
 ghost use Rattle.builtin_devices.specs.Outcomes.{needs_of};
-ghost use Rattle.builtin_input.specs.Input.{attribute_needs, chain_needs, device_needs, input_device, input_id, is_input, is_input_device, is_input_path, kind_properties, outcome_of, set, size_needs, tells};
+ghost use Rattle.builtin_input.specs.Input.{attribute_needs, chain_needs, device_needs, input_device, input_id, is_input, is_input_device, is_input_path, kind_properties, outcome_of, reports, set, size_needs};
 ghost use Rattle.builtin_input.specs.Kinds.{property_of};
 ghost use Rattle.builtin_input.specs.Capabilities.{capabilities};
 
 use crate::capabilities::Capabilities;
 use crate::kinds::Kind;
-use builtin_devices::{Outcome, add_property, is_text, need_attribute};
+use builtin_devices::{BuiltinOutcome, add_property, is_text, need_attribute};
 use device_core::{Device, Event};
 use std::alloc::{AllocError, Global};
 use text_bytes::Bytes;
@@ -27,8 +27,8 @@ const EXPECTED: [&[u8]; 5] = [
 ];
 
 /// Whether a device reports which kinds of events it has.
-fn tells(device: &Device<'_>) -> bool
-    ensures { result ≡ tells device.now }
+fn reports(device: &Device<'_>) -> bool
+    ensures { result ≡ reports device.now }
 {
     device.attrs().get(b"capabilities/ev").is_some()
 }
@@ -42,18 +42,18 @@ fn is_input(device: &Device<'_>) -> bool
 
 /// The nearest of these devices that is of the subsystem and reports about itself.
 fn nearest<'d, 'a>(devices: &'d [Device<'a>]) -> Option<&'d Device<'a>>
-    ensures { option_copied result ≡ find (λ device. is_input device && tells device) devices.now }
+    ensures { option_copied result ≡ find (λ device. is_input device && reports device) devices.now }
 {
     devices
         .iter()
-        .find(|device| is_input(device) && tells(device))
+        .find(|device| is_input(device) && reports(device))
 }
 
 /// The device that reports about itself.
 fn input_device<'d, 'a>(event: &'d Event<'a>) -> Option<&'d Device<'a>>
     ensures { option_copied result ≡ input_device event.now }
 {
-    if tells(event.device()) {
+    if reports(event.device()) {
         Some(event.device())
     } else {
         nearest(event.parents())
@@ -90,13 +90,13 @@ fn kind_properties(alloc: Global, device: &Capabilities) -> Result<Vec<(Bytes, B
 fn add_size(
     alloc: Global,
     event: &Event<'_>,
-    told: &Capabilities,
+    reported: &Capabilities,
     needs: &mut OwnedTexts,
 ) -> Result<(), AllocError>
-    ensures { OnOk result (needs.new ≡ with_texts needs.old (size_needs event.now told.now)) }
+    ensures { OnOk result (needs.new ≡ with_texts needs.old (size_needs event.now reported.now)) }
 {
     let kernel = kernel_name(alloc, event.device().path())?;
-    if kernel.as_slice().starts_with(b"event") && told.has_position() {
+    if kernel.as_slice().starts_with(b"event") && reported.has_position() {
         needs.add(alloc, b"absolute axes")?;
     }
     Ok(())
@@ -123,14 +123,14 @@ fn device_needs(
     alloc: Global,
     event: &Event<'_>,
     device: &Device<'_>,
-    told: &Capabilities,
+    reported: &Capabilities,
 ) -> Result<OwnedTexts, AllocError>
-    requires { told.now ≡ capabilities device.now }
+    requires { reported.now ≡ capabilities device.now }
     ensures { IfOk result (λ needs. needs ≡ needs_of (device_needs event.now device.now)) }
 {
     let mut needs = OwnedTexts::new(alloc);
     add_lacking(alloc, device, &EXPECTED, &mut needs)?;
-    add_size(alloc, event, told, &mut needs)?;
+    add_size(alloc, event, reported, &mut needs)?;
     Ok(needs)
 }
 
@@ -177,14 +177,18 @@ fn chain_needs(alloc: Global, event: &Event<'_>) -> Result<OwnedTexts, AllocErro
 }
 
 /// The outcome for a device that reports about itself.
-fn outcome_of(alloc: Global, event: &Event<'_>, device: &Device<'_>) -> Result<Outcome, AllocError>
+fn outcome_of(
+    alloc: Global,
+    event: &Event<'_>,
+    device: &Device<'_>,
+) -> Result<BuiltinOutcome, AllocError>
     ensures { IfOk result (λ outcome. outcome ≡ outcome_of event.now (Some device.now)) }
 {
-    let told = Capabilities::read(alloc, device)?;
-    let needs = device_needs(alloc, event, device, &told)?;
-    let properties = kind_properties(alloc, &told)?;
-    drop(told);
-    Ok(Outcome::succeeding(properties, needs))
+    let reported = Capabilities::read(alloc, device)?;
+    let needs = device_needs(alloc, event, device, &reported)?;
+    let properties = kind_properties(alloc, &reported)?;
+    drop(reported);
+    Ok(BuiltinOutcome::succeeding(properties, needs))
 }
 
 /// The outcome of input_id of udev (systemd 257) over an event: `ID_INPUT=1`, then a property for each kind of
@@ -195,11 +199,11 @@ fn outcome_of(alloc: Global, event: &Event<'_>, device: &Device<'_>) -> Result<O
 /// sets nothing if no device has them. What is needed are the attributes that an input device lacks, and `absolute
 /// axes` if udev would ask the node of a touchpad or a screen for its size, which is never set here.
 #[tactic(auto, unfolding(crate::specs::Input::input_id))]
-pub fn input_id(alloc: Global, event: &Event<'_>) -> Result<Outcome, AllocError>
+pub fn input_id(alloc: Global, event: &Event<'_>) -> Result<BuiltinOutcome, AllocError>
     ensures { IfOk result (λ outcome. outcome ≡ input_id event.now) }
 {
     match input_device(event) {
         Some(device) => outcome_of(alloc, event, device),
-        None => Ok(Outcome::succeeding(Vec::new(alloc), chain_needs(alloc, event)?)),
+        None => Ok(BuiltinOutcome::succeeding(Vec::new(alloc), chain_needs(alloc, event)?)),
     }
 }

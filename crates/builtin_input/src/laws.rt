@@ -17,7 +17,7 @@ pub fn the_last_word_is_the_lowest()
 {}
 
 /// A word that is 0 in front of a bitmap changes nothing.
-pub fn zeros_in_front_change_nothing()
+pub fn leading_zeros_change_nothing()
     ensures { (most : ℕ) (text : Text) (number : ℕ) → has (bitmap most (digit_zero ∷ space ∷ text)) number ≡ has (bitmap most text) number }
 {}
 

@@ -13,7 +13,7 @@ mod signs;
 
 pub use input::input_id;
 pub use laws::{
-    accelerometers_are_nothing_else, devices_with_nothing_have_no_kind, mice_are_not_joysticks,
-    some_kinds_imply_others, the_last_word_is_the_lowest, touchpads_are_not_touchscreens,
-    zeros_in_front_change_nothing,
+    accelerometers_are_nothing_else, devices_with_nothing_have_no_kind,
+    leading_zeros_change_nothing, mice_are_not_joysticks, some_kinds_imply_others,
+    the_last_word_is_the_lowest, touchpads_are_not_touchscreens,
 };

@@ -4,7 +4,7 @@ use Rattle.std.specs.Prelude.{option_and_then}
 use Rattle.std.specs.List.{list_all}
 use Rattle.text_bytes.specs.Names.{minus, is_whitespace}
 use Rattle.text_bytes.specs.Texts.{begins_with, is_empty, skip_while}
-use Rattle.builtin_devices.specs.Numbers.{digits_in, is_digit_in, natural, number_behind, number_in, size_in, unsigned, written}
+use Rattle.builtin_devices.specs.Numbers.{digits_in, is_digit_in, natural, number_after, number_in, size_in, unsigned, written}
 use Rattle.builtin_devices.specs.declared.numbers.Base.{Base}
 use Rattle.std.proofs.lemmas.Bool.{leb-true}
 
@@ -18,7 +18,7 @@ held false v most = tt
 
 digits_below : (base most : ℕ) (text : List ℕ) → IfSome (digits_in base most text) (λ n. n ≤ most)
 unfolding digits_in
-digits_below base most text = held (not (is_empty text) && list_all (is_digit_in base) text) (number_behind base 0 text) most
+digits_below base most text = held (not (is_empty text) && list_all (is_digit_in base) text) (number_after base 0 text) most
 
 picked : (n most : ℕ) (b : Bool) → n ≤ most → IfSome (cond b None (Some n)) (λ m. m ≤ most)
 picked n most true h = tt

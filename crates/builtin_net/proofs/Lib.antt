@@ -1,7 +1,7 @@
 mod Utf8
 mod Seen
-mod LentFiles
+mod BorrowedFiles
 mod Bounds
 mod ShortNames
-mod Standing
+mod Placement
 mod Fields

@@ -12,7 +12,7 @@ use Rattle.builtin_net.specs.Allowed.{interface}
 use Rattle.builtin_net.specs.Buses.{by_ccw, by_netdevsim, by_platform, by_vio, by_xen}
 use Rattle.builtin_net.specs.Function.{function}
 use Rattle.builtin_net.specs.Identity.{is_identified, naming}
-use Rattle.builtin_net.specs.Names.{bcma_end, bcma_function, board_text, by_address, by_bcma, by_buses, by_function, by_kernels, by_pci, by_tree, by_usb, given, label_of, names, of_bcma, of_function, of_own, of_usb, own_function, path_text, slot_text, tail, usb_end, usb_function, with_tail}
+use Rattle.builtin_net.specs.Names.{bcma_end, bcma_function, board_text, by_address, by_bcma, by_buses, by_function, by_kernels, by_pci, by_tree, by_usb, label_of, name_properties, of_bcma, of_function, of_own, of_usb, own_function, path_text, prefixed, slot_text, tail, usb_end, usb_function, with_tail}
 use Rattle.builtin_net.specs.Needs.{needs}
 use Rattle.builtin_net.specs.NetId.{net_id, properties}
 use Rattle.builtin_net.specs.Prefixes.{prefix_text}
@@ -37,8 +37,8 @@ kept : (key name : Text) (b : Bool) → nat_le (length name) 127 ≡ b → AreSh
 kept key name true e = record { each = All-cons Short (key, name) [] (leb-true (length name) 127 e) (All-nil Short) }
 kept key name false e = none
 
-of_given : (key prefix : Text) (text : Option Text) → AreShort (given key prefix text)
-unfolding given
+of_given : (key prefix : Text) (text : Option Text) → AreShort (prefixed key prefix text)
+unfolding prefixed
 of_given key prefix None = none
 of_given key prefix (Some text) = kept key (prefix ++ text) (nat_le (length (prefix ++ text)) 127) refl
 
@@ -107,8 +107,8 @@ of_by_buses event prefix interface =
 scheme : AreShort ((codes "ID_NET_NAMING_SCHEME", codes "v257") ∷ [])
 scheme = record { each = All-cons Short (codes "ID_NET_NAMING_SCHEME", codes "v257") [] (lit≤ tt) (All-nil Short) }
 
-of_names : (event : EventValue) (prefix : Prefix) (interface : DeviceValue) → AreShort (names event prefix interface)
-unfolding names
+of_names : (event : EventValue) (prefix : Prefix) (interface : DeviceValue) → AreShort (name_properties event prefix interface)
+unfolding name_properties
 of_names event prefix interface =
     joined
     (joined
@@ -121,7 +121,7 @@ of_names event prefix interface =
     (of_by_usb event prefix interface))
     (of_by_bcma event prefix interface)
 
-of_naming : (event : EventValue) (interface : DeviceValue) (prefix : Option Prefix) → AreShort (option_map_or (λ p. names event p interface) prefix [])
+of_naming : (event : EventValue) (interface : DeviceValue) (prefix : Option Prefix) → AreShort (option_map_or (λ p. name_properties event p interface) prefix [])
 of_naming event interface None = none
 of_naming event interface (Some prefix) = of_names event prefix interface
 

@@ -7,7 +7,7 @@ not_true : (b : Bool) → ((b ≡ true) → ⊥) → false ≡ b
 not_true true h = absurd (h refl)
 not_true false h = refl
 
--- what a reading of a text has told of it
+-- what reading a text has shown about it
 pub read_is : {X E : Type 0} (P : X → Type 0) (Q : E → Type 0) (r : Result X E) (text : List ℕ)
     → MatchResult r (λ x. P x × IsUtf8 text) (λ e. ¬ (IsUtf8 text) × Q e) → is_ok r ≡ is_utf8 text
 read_is P Q (Ok x) text h = sym (is_utf8-from_IsUtf8 text h.1)

@@ -5,16 +5,15 @@ use Rattle.std.specs.Char.{is_ascii_digit, is_ascii_hexdigit, is_ascii_uppercase
 use Rattle.std.specs.List.{before_first, list_all, prefix_len}
 use Rattle.text_bytes.specs.Names.{colon, dot, digit_zero, slash}
 use Rattle.text_bytes.specs.Numbers.{decimal_below}
-use Rattle.text_bytes.specs.Texts.{begins_with, split_once}
+use Rattle.text_bytes.specs.Texts.{begins_with, following, split_once}
 use Rattle.text_tables.specs.Texts.{Text, same_text}
 use Rattle.device_core.specs.Values.{DeviceValue, EventValue}
 use Rattle.builtin_devices.specs.Devices.{above, is_of, kernel_of, parents_of}
-use Rattle.builtin_devices.specs.Fronts.{behind}
 use Rattle.builtin_devices.specs.Numbers.{name_number, number_in}
 use Rattle.builtin_devices.specs.declared.numbers.Base.TheVariants.{AsWritten, Hexadecimal}
 use Rattle.builtin_net.specs.Allowed.{read}
 use Rattle.builtin_net.specs.Port.{some_text}
-use Rattle.builtin_net.specs.Words.{is_plain, most_number}
+use Rattle.builtin_net.specs.Words.{is_printable, most_number}
 use Rattle.builtin_net.specs.declared.allowed.Attribute.TheVariants.{PhysPortName}
 
 -- the device right above the event device
@@ -22,8 +21,8 @@ abbrev pub parent : EventValue → Option DeviceValue
 parent event = slice_get (parents_of event event.device.path) 0
 
 -- the nearest device above the event device that is not of virtio
-abbrev pub parent_behind_virtio : EventValue → Option DeviceValue
-parent_behind_virtio event = find (λ device. not (is_of (codes "virtio") None device)) (parents_of event event.device.path)
+abbrev pub parent_after_virtio : EventValue → Option DeviceValue
+parent_after_virtio event = find (λ device. not (is_of (codes "virtio") None device)) (parents_of event event.device.path)
 
 -- whether there is a device, of this subsystem
 abbrev pub is_there : (subsystem : Text) → Option DeviceValue → Bool
@@ -32,7 +31,7 @@ is_there subsystem (Some device) = is_of subsystem None device
 
 -- the component of a path after a folder
 unfoldable pub component : (folder path : Text) → Option Text
-component folder path = option_map (before_first (λ b. b == slash)) (behind folder path)
+component folder path = option_map (before_first (λ b. b == slash)) (following folder path)
 
 -- a text without so many bytes at its start; if these are all, the last one stays
 abbrev pub without_start : ℕ → Text → Text
@@ -79,8 +78,8 @@ with_instance vendor model instance =
     if is_acpi vendor model instance then option_map (acpi_text vendor model) (number_in Hexadecimal most_number instance) else None
 
 -- the same by what comes before the colon, which ends in the model, and what comes after it
-abbrev pub platform_parts : (front instance : Text) → Option Text
-platform_parts front instance = with_instance (take (length front - 4) front) (drop (length front - 4) front) instance
+abbrev pub platform_parts : (beginning instance : Text) → Option Text
+platform_parts beginning instance = with_instance (take (length beginning - 4) beginning) (drop (length beginning - 4) beginning) instance
 
 -- the same by the whole name
 unfoldable pub platform_text : Text → Option Text
@@ -92,11 +91,11 @@ is_written_number text = is_some (decimal_below (2 ^ 32) text) && (same_text tex
 
 -- Xen: `vif-N`
 unfoldable pub xen_text : Text → Option Text
-xen_text name = option_and_then (λ n. then_some (is_written_number n) (codes "X" ++ n)) (behind (codes "vif-") name)
+xen_text name = option_and_then (λ n. then_some (is_written_number n) (codes "X" ++ n)) (following (codes "vif-") name)
 
 -- netdevsim: the number of the device, and the name of the port
 abbrev pub simulated : (number : Option ℕ) → (port : Option Text) → Option Text
-simulated (Some n) (Some port) = then_some (is_plain port) (codes "i" ++ decimal n ++ codes "n" ++ port)
+simulated (Some n) (Some port) = then_some (is_printable port) (codes "i" ++ decimal n ++ codes "n" ++ port)
 simulated _ _ = None
 
 -- the number of a kernel's name
@@ -115,7 +114,7 @@ of_ccw (Some device) = if is_of (codes "ccwgroup") None device || is_of (codes "
 
 -- the text of an interface by ccw
 unfoldable pub by_ccw : EventValue → Option Text
-by_ccw event = of_ccw (parent_behind_virtio event)
+by_ccw event = of_ccw (parent_after_virtio event)
 
 -- the text of an interface by vio, if the device right above is of it
 unfoldable pub by_vio : EventValue → Option Text

@@ -9,7 +9,7 @@ use Rattle.builtin_devices.specs.Devices.{above, kernel_of}
 use Rattle.builtin_devices.specs.Numbers.{is_number}
 use Rattle.builtin_net.specs.Address.{address_digits}
 use Rattle.builtin_net.specs.Allowed.{number, read}
-use Rattle.builtin_net.specs.Buses.{by_ccw, by_netdevsim, by_platform, by_vio, by_xen, is_there, parent_behind_virtio}
+use Rattle.builtin_net.specs.Buses.{by_ccw, by_netdevsim, by_platform, by_vio, by_xen, is_there, parent_after_virtio}
 use Rattle.builtin_net.specs.Function.{domain_text, function, function_text, is_several, place_text}
 use Rattle.builtin_net.specs.OnBoard.{board_number, label}
 use Rattle.builtin_net.specs.Port.{port_text}
@@ -24,9 +24,9 @@ use Rattle.builtin_net.specs.declared.prefixes.Prefix.{Prefix}
 use Rattle.builtin_net.specs.declared.slots.Slot.{Slot}
 
 -- a property of a prefix and the text after it, if there is one, and both together have at most 127 bytes
-unfoldable pub given : (key prefix : Text) → Option Text → List Pair
-given key prefix None = []
-given key prefix (Some text) = if nat_le (length (prefix ++ text)) 127 then (key, prefix ++ text) ∷ [] else []
+unfoldable pub prefixed : (key prefix : Text) → Option Text → List Pair
+prefixed key prefix None = []
+prefixed key prefix (Some text) = if nat_le (length (prefix ++ text)) 127 then (key, prefix ++ text) ∷ [] else []
 
 -- the digits of an address that stays, for an interface that is not of InfiniBand
 unfoldable pub lasting_address : Prefix → (interface : DeviceValue) → Option Text
@@ -58,8 +58,8 @@ slot_text f tail slot = (if slot.drops_domain then [] else domain_text f) ++ cod
 abbrev pub with_tail : EventValue → Prefix → (pci : DeviceValue) → Function → (tail : Option Text) → List Pair
 with_tail event prefix pci f None = []
 with_tail event prefix pci f (Some tail) =
-    given (codes "ID_NET_NAME_PATH") (prefix_text prefix) (Some (path_text f tail))
-    ++ given (codes "ID_NET_NAME_SLOT") (prefix_text prefix) (option_map (slot_text f tail) (slot_of event pci))
+    prefixed (codes "ID_NET_NAME_PATH") (prefix_text prefix) (Some (path_text f tail))
+    ++ prefixed (codes "ID_NET_NAME_SLOT") (prefix_text prefix) (option_map (slot_text f tail) (slot_of event pci))
 
 -- both names of a device, if it is a function
 abbrev pub of_function : EventValue → Prefix → (interface pci : DeviceValue) → (suffix : Text) → Option Function → List Pair
@@ -82,7 +82,7 @@ if_pci (Some device) = if is_there (codes "pci") (Some device) then Some device 
 
 -- the function by which an interface of PCI is named
 unfoldable pub own_function : EventValue → Option Named
-own_function event = option_and_then (named_function event) (if_pci (parent_behind_virtio event))
+own_function event = option_and_then (named_function event) (if_pci (parent_after_virtio event))
 
 -- the label of a function, unless it is a virtual one
 abbrev pub label_of : (pci : DeviceValue) → (suffix : Text) → Option Text
@@ -92,8 +92,8 @@ label_of pci suffix = if is_empty suffix then label pci else None
 abbrev pub of_own : EventValue → Prefix → (interface : DeviceValue) → Option Named → List Pair
 of_own event prefix interface None = []
 of_own event prefix interface (Some own) =
-    given (codes "ID_NET_LABEL_ONBOARD") [] (label_of own.0 own.1)
-    ++ given (codes "ID_NET_NAME_ONBOARD") (prefix_text prefix) (board_text prefix interface own.0 own.1)
+    prefixed (codes "ID_NET_LABEL_ONBOARD") [] (label_of own.0 own.1)
+    ++ prefixed (codes "ID_NET_NAME_ONBOARD") (prefix_text prefix) (board_text prefix interface own.0 own.1)
     ++ by_function event prefix interface own.0 own.1
 
 -- the same by the function above the interface
@@ -103,7 +103,7 @@ by_pci event prefix interface = of_own event prefix interface (own_function even
 -- the names of an interface with this suffix: of the function above it, or else by the suffix alone
 abbrev pub of_usb : EventValue → Prefix → (interface : DeviceValue) → Option DeviceValue → (suffix : Option Text) → List Pair
 of_usb event prefix interface pci None = []
-of_usb event prefix interface None (Some suffix) = given (codes "ID_NET_NAME_PATH") (prefix_text prefix) (Some suffix)
+of_usb event prefix interface None (Some suffix) = prefixed (codes "ID_NET_NAME_PATH") (prefix_text prefix) (Some suffix)
 of_usb event prefix interface (Some pci) (Some suffix) = by_function event prefix interface pci suffix
 
 -- the interface of USB above the event device
@@ -146,24 +146,24 @@ by_bcma event prefix interface = of_bcma event prefix interface (bcma_function e
 -- the names by the name of the device above
 unfoldable pub by_kernels : EventValue → (prefix : Text) → List Pair
 by_kernels event prefix =
-    given (codes "ID_NET_NAME_PATH") prefix (by_ccw event)
-    ++ given (codes "ID_NET_NAME_SLOT") prefix (by_vio event)
-    ++ given (codes "ID_NET_NAME_PATH") prefix (by_platform event)
+    prefixed (codes "ID_NET_NAME_PATH") prefix (by_ccw event)
+    ++ prefixed (codes "ID_NET_NAME_SLOT") prefix (by_vio event)
+    ++ prefixed (codes "ID_NET_NAME_PATH") prefix (by_platform event)
 
 -- the names by buses whose devices have no functions of PCI
 unfoldable pub by_buses : EventValue → (prefix : Text) → (interface : DeviceValue) → List Pair
 by_buses event prefix interface =
     by_kernels event prefix
-    ++ given (codes "ID_NET_NAME_PATH") prefix (by_netdevsim event interface)
-    ++ given (codes "ID_NET_NAME_SLOT") prefix (by_xen event)
+    ++ prefixed (codes "ID_NET_NAME_PATH") prefix (by_netdevsim event interface)
+    ++ prefixed (codes "ID_NET_NAME_SLOT") prefix (by_xen event)
 
 -- All names in the order in which they are set, with what they are made from. If a name is given twice, the later one
 -- counts.
-unfoldable pub names : EventValue → Prefix → (interface : DeviceValue) → List Pair
-names event prefix interface =
+unfoldable pub name_properties : EventValue → Prefix → (interface : DeviceValue) → List Pair
+name_properties event prefix interface =
     (codes "ID_NET_NAMING_SCHEME", codes "v257") ∷ []
-    ++ given (codes "ID_NET_NAME_MAC") (prefix_text prefix) (by_address prefix interface)
-    ++ given (codes "ID_NET_NAME_ONBOARD") (prefix_text prefix) (by_tree event prefix)
+    ++ prefixed (codes "ID_NET_NAME_MAC") (prefix_text prefix) (by_address prefix interface)
+    ++ prefixed (codes "ID_NET_NAME_ONBOARD") (prefix_text prefix) (by_tree event prefix)
     ++ by_buses event (prefix_text prefix) interface
     ++ by_pci event prefix interface
     ++ by_usb event prefix interface

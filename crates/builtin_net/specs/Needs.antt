@@ -8,14 +8,14 @@ use Rattle.builtin_devices.specs.Devices.{is_of, kernel_of}
 use Rattle.builtin_devices.specs.Numbers.{is_number}
 use Rattle.builtin_devices.specs.Outcomes.{needs_of}
 use Rattle.builtin_net.specs.Allowed.{lacks, number, read}
-use Rattle.builtin_net.specs.Buses.{is_there, parent_behind_virtio}
+use Rattle.builtin_net.specs.Buses.{is_there, parent_after_virtio}
 use Rattle.builtin_net.specs.Function.{config, function, is_several}
 use Rattle.builtin_net.specs.Identity.{index, is_alone, naming}
 use Rattle.builtin_net.specs.Names.{bcma_end, bcma_function, own_function, usb_end, usb_function}
 use Rattle.builtin_net.specs.OnBoard.{board_number}
 use Rattle.builtin_net.specs.Port.{port_text, some_text}
 use Rattle.builtin_net.specs.Prefixes.{is_ethernet, is_infiniband}
-use Rattle.builtin_net.specs.Slots.{firmware_number, is_bridge, is_told, number_by_firmware, pci_above, search_end, slots_folder}
+use Rattle.builtin_net.specs.Slots.{firmware_number, is_bridge, is_described, number_by_firmware, pci_above, search_end, slots_folder}
 use Rattle.builtin_net.specs.Trees.{aliases_folder, node_link}
 use Rattle.builtin_net.specs.Virtual.{Named}
 use Rattle.builtin_net.specs.declared.allowed.Attribute.TheVariants.{Iflink, Hardware, AddrAssignType, Address, PhysPortName, DevPort, DevId, FunctionId, Modalias}
@@ -41,7 +41,7 @@ address_needs prefix interface =
 
 -- for the aliases
 abbrev pub tree_needs : EventValue → Prefix → List Text
-tree_needs event prefix = when (is_ethernet prefix && is_some (node_link event) && not (is_told event aliases_folder)) (codes "aliases")
+tree_needs event prefix = when (is_ethernet prefix && is_some (node_link event) && not (is_described event aliases_folder)) (codes "aliases")
 
 -- for the port
 abbrev pub port_needs : Prefix → (interface : DeviceValue) → (by_id : Bool) → List Text
@@ -79,7 +79,7 @@ lacks_a_modalias event pci =
 abbrev pub slot_needs : EventValue → (pci : DeviceValue) → List Text
 slot_needs event pci =
     when (lacks_a_modalias event pci) (codes "modalias")
-    ++ when (not (is_some (number_by_firmware event pci)) && not (is_told event slots_folder)) (codes "slots")
+    ++ when (not (is_some (number_by_firmware event pci)) && not (is_described event slots_folder)) (codes "slots")
 
 -- for a function
 abbrev pub of_function : EventValue → Prefix → (interface pci : DeviceValue) → Option Function → List Text
@@ -94,7 +94,7 @@ function_needs event prefix interface pci = of_function event prefix interface p
 
 -- for the function by which an interface of PCI is named
 abbrev pub of_own : EventValue → Prefix → (interface : DeviceValue) → Option Named → List Text
-of_own event prefix interface None = when (is_there (codes "pci") (parent_behind_virtio event)) (codes "physfn")
+of_own event prefix interface None = when (is_there (codes "pci") (parent_after_virtio event)) (codes "physfn")
 of_own event prefix interface (Some own) =
     (if is_some (board_number own.0) then port_needs prefix interface false else []) ++ function_needs event prefix interface own.0
 

@@ -11,12 +11,12 @@ use Rattle.builtin_devices.specs.declared.numbers.Base.TheVariants.{AsWritten}
 use Rattle.builtin_net.specs.Address.{maker_lookup}
 use Rattle.builtin_net.specs.Allowed.{interface, number, read}
 use Rattle.builtin_net.specs.Identity.{index, is_identified, naming}
-use Rattle.builtin_net.specs.Names.{lasting_address, names}
+use Rattle.builtin_net.specs.Names.{lasting_address, name_properties}
 use Rattle.builtin_net.specs.Needs.{needs}
 
 -- the names of an interface that has some
 abbrev pub properties : EventValue → (interface : DeviceValue) → List Pair
-properties event interface = option_map_or (λ prefix. names event prefix interface) (naming event interface) []
+properties event interface = option_map_or (λ prefix. name_properties event prefix interface) (naming event interface) []
 
 -- Whether it succeeds, what it sets and what it would have to know. The current properties of the event device say what names may use of it.
 unfoldable pub net_id : EventValue → (env : List Pair) → OutcomeValue

@@ -5,12 +5,12 @@ use Rattle.std.specs.Option.{option_or}
 use Rattle.text_tables.specs.Texts.{Text}
 use Rattle.device_core.specs.Values.{DeviceValue}
 use Rattle.builtin_net.specs.Allowed.{number, read}
-use Rattle.builtin_net.specs.Words.{is_plain}
+use Rattle.builtin_net.specs.Words.{is_printable}
 use Rattle.builtin_net.specs.declared.allowed.Attribute.TheVariants.{Label, AcpiIndex, Index}
 
 -- the label of a function, if it may be part of a name
 unfoldable pub label : DeviceValue → Option Text
-label pci = option_and_then (λ text. then_some (is_plain text) text) (read pci Label)
+label pci = option_and_then (λ text. then_some (is_printable text) text) (read pci Label)
 
 -- the number of a function on board: by ACPI, else by the table of the firmware; it has 16 bits
 unfoldable pub board_number : DeviceValue → Option ℕ

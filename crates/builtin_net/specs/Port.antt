@@ -2,27 +2,26 @@
 use Rattle.std.specs.Prelude.{ℕ, ◌==◌, ◌&&◌, Bool, [], ◌++◌, codes, decimal, Option, Some, None, option_map, option_and_then, if◌then◌else◌}
 use Rattle.std.specs.Bool.{then_some}
 use Rattle.std.specs.Option.{option_or}
-use Rattle.text_bytes.specs.Texts.{is_empty}
+use Rattle.text_bytes.specs.Texts.{following, is_empty}
 use Rattle.text_tables.specs.Texts.{Text}
 use Rattle.device_core.specs.Values.{DeviceValue}
-use Rattle.builtin_devices.specs.Fronts.{behind}
 use Rattle.builtin_net.specs.Allowed.{number, read}
 use Rattle.builtin_net.specs.Prefixes.{is_infiniband}
-use Rattle.builtin_net.specs.Words.{behind_digits, leading_number, is_plain}
+use Rattle.builtin_net.specs.Words.{after_digits, leading_number, is_printable}
 use Rattle.builtin_net.specs.declared.allowed.Attribute.TheVariants.{PhysPortName, DevPort, DevId}
 use Rattle.builtin_net.specs.declared.prefixes.Prefix.{Prefix}
 
 -- the number of the virtual function after that of a physical one, such as in `0vf3`
 unfoldable pub virtual_of : Text → Option ℕ
-virtual_of text = option_and_then (λ physical. option_and_then leading_number (behind (codes "vf") (behind_digits text))) (leading_number text)
+virtual_of text = option_and_then (λ physical. option_and_then leading_number (following (codes "vf") (after_digits text))) (leading_number text)
 
 -- the virtual function that the interface of a switch stands for, such as 3 if its port is called `pf0vf3`
 unfoldable pub represented : Text → Option ℕ
-represented name = option_and_then virtual_of (behind (codes "pf") name)
+represented name = option_and_then virtual_of (following (codes "pf") name)
 
 -- a port by its name, if that may be part of an interface's name
 unfoldable pub named_port : Text → Option Text
-named_port name = option_or (option_map (λ n. codes "r" ++ decimal n) (represented name)) (then_some (is_plain name) (codes "n" ++ name))
+named_port name = option_or (option_map (λ n. codes "r" ++ decimal n) (represented name)) (then_some (is_printable name) (codes "n" ++ name))
 
 -- a port by its number, the first of which is not reported
 abbrev pub numbered_port : ℕ → Text

@@ -54,8 +54,8 @@ abbrev pub slot_files : EventValue → List Pair
 slot_files event = files_below event slots_folder
 
 -- whether a block describes a folder, perhaps as empty
-unfoldable pub is_told : EventValue → (folder : Text) → Bool
-is_told event folder = is_some (file_at event folder) || not (is_empty (files_below event folder))
+unfoldable pub is_described : EventValue → (folder : Text) → Bool
+is_described event folder = is_some (file_at event folder) || not (is_empty (files_below event folder))
 
 -- what comes before a slash, if `address` comes after it
 abbrev pub addressed : Option Pair → Option Text

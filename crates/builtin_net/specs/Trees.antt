@@ -1,12 +1,11 @@
 -- Names by the aliases of a device tree.
 use Rattle.std.specs.Prelude.{ℕ, ◌==◌, ◌&&◌, Bool, ◌++◌, codes, decimal, find, Option, Some, None, option_map, option_and_then, unwrap_or, is_some, if◌then◌else◌}
 use Rattle.std.specs.Option.{option_or}
-use Rattle.text_bytes.specs.Texts.{is_empty}
+use Rattle.text_bytes.specs.Texts.{following, is_empty}
 use Rattle.text_tables.specs.Texts.{Text, same_text}
 use Rattle.text_tables.specs.Pairs.{Pair}
 use Rattle.device_core.specs.Values.{DeviceValue, EventValue}
 use Rattle.builtin_devices.specs.Files.{file_at, files_below}
-use Rattle.builtin_devices.specs.Fronts.{behind}
 use Rattle.builtin_devices.specs.Numbers.{number_in}
 use Rattle.builtin_devices.specs.declared.numbers.Base.TheVariants.{AsWritten}
 use Rattle.builtin_net.specs.Buses.{parent}
@@ -30,28 +29,28 @@ node_link event = option_or (node_of event event.device) (option_and_then (node_
 
 -- the path of a node within the tree
 abbrev pub node_path : Text → Text
-node_path link = unwrap_or (behind tree_root link) link
+node_path link = unwrap_or (following tree_root link) link
 
 -- what follows `ethernet` in the name of an alias
 abbrev pub alias_end : Pair → Option Text
-alias_end file = behind (codes "ethernet") file.0
+alias_end file = following (codes "ethernet") file.0
 
 -- whether a file is such an alias of a node
 unfoldable pub is_alias : (node : Text) → Pair → Bool
 is_alias node file = is_some (alias_end file) && same_text file.1 node
 
 -- the other alias with the same number, 0
-abbrev pub other_alias : (behind : Text) → Text
-other_alias behind = if is_empty behind then codes "/firmware/devicetree/base/aliases/ethernet0" else codes "/firmware/devicetree/base/aliases/ethernet"
+abbrev pub other_alias : (following : Text) → Text
+other_alias following = if is_empty following then codes "/firmware/devicetree/base/aliases/ethernet0" else codes "/firmware/devicetree/base/aliases/ethernet"
 
 -- the number of an alias, 0 if it has none
-abbrev pub alias_number : (behind : Text) → Option ℕ
-alias_number behind = if is_empty behind then Some 0 else number_in AsWritten most_number behind
+abbrev pub alias_number : (following : Text) → Option ℕ
+alias_number following = if is_empty following then Some 0 else number_in AsWritten most_number following
 
 -- the number of an alias, unless it is 0 and another has the same
-unfoldable pub clear_number : EventValue → (behind : Text) → Option ℕ
-clear_number event behind =
-    option_and_then (λ n. if n == 0 && is_some (file_at event (other_alias behind)) then None else Some n) (alias_number behind)
+unfoldable pub clear_number : EventValue → (following : Text) → Option ℕ
+clear_number event following =
+    option_and_then (λ n. if n == 0 && is_some (file_at event (other_alias following)) then None else Some n) (alias_number following)
 
 -- what follows `ethernet` in the name of the first alias of a node
 abbrev pub first_alias : EventValue → (node : Text) → Option Text

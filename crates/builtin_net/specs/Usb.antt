@@ -1,9 +1,8 @@
 -- What names say about interfaces of USB and of cores of bcma, by their names.
 use Rattle.std.specs.Prelude.{ℕ, ◌==◌, [], ◌++◌, codes, decimal, map, Option, option_map, option_and_then, if◌then◌else◌}
 use Rattle.text_bytes.specs.Names.{colon, dot, minus}
-use Rattle.text_bytes.specs.Texts.{split_once}
+use Rattle.text_bytes.specs.Texts.{following, split_once}
 use Rattle.text_tables.specs.Texts.{Text, same_text}
-use Rattle.builtin_devices.specs.Fronts.{behind}
 use Rattle.builtin_devices.specs.Numbers.{number_in}
 use Rattle.builtin_devices.specs.declared.numbers.Base.TheVariants.{Decimal}
 use Rattle.builtin_net.specs.Words.{most_number}
@@ -43,7 +42,7 @@ core_of bus core = option_and_then (λ n. number_in Decimal most_number core) (n
 
 -- the core that a name `bcmaBUS:CORE` gives
 abbrev pub core_in : Text → Option ℕ
-core_in name = option_and_then (λ parts. core_of parts.0 parts.1) (option_and_then (split_once colon) (behind (codes "bcma") name))
+core_in name = option_and_then (λ parts. core_of parts.0 parts.1) (option_and_then (split_once colon) (following (codes "bcma") name))
 
 -- a core, the first of which is not reported
 abbrev pub core_text : ℕ → Text

@@ -7,7 +7,7 @@ use Rattle.text_tables.specs.Pairs.{Pair}
 use Rattle.device_core.specs.Values.{DeviceValue, EventValue}
 use Rattle.builtin_devices.specs.Devices.{device_by}
 use Rattle.builtin_devices.specs.Files.{file_at, files_below}
-use Rattle.builtin_devices.specs.Fronts.{behind}
+use Rattle.text_bytes.specs.Texts.{following}
 
 -- a function by which an interface is named, and what follows them: the number of the virtual function
 abbrev pub Named : Type 0
@@ -19,7 +19,7 @@ physical_path event pci = file_at event (pci.path ++ codes "/physfn")
 
 -- what follows `virtfn` in the name of a link
 abbrev pub virtual_digits : Pair → Option Text
-virtual_digits file = behind (codes "virtfn") file.0
+virtual_digits file = following (codes "virtfn") file.0
 
 -- whether a link of a physical function leads to a virtual one
 unfoldable pub leads_to : (path : Text) → Pair → Bool

@@ -15,16 +15,16 @@ abbrev pub leading_digits : Text → Text
 leading_digits text = take (prefix_len is_digit text) text
 
 -- what follows the digits that a text begins with
-abbrev pub behind_digits : Text → Text
-behind_digits text = drop (prefix_len is_digit text) text
+abbrev pub after_digits : Text → Text
+after_digits text = drop (prefix_len is_digit text) text
 
 -- the number of 32 bits that these digits write
 unfoldable pub leading_number : Text → Option ℕ
 leading_number text = decimal_below (2 ^ 32) (leading_digits text)
 
 -- whether a text may be part of a name: UTF-8 without control characters
-unfoldable pub is_plain : Text → Bool
-is_plain text = is_utf8 text && not (list_any is_control text)
+unfoldable pub is_printable : Text → Bool
+is_printable text = is_utf8 text && not (list_any is_control text)
 
 -- a number above 0
 abbrev pub positive : Option ℕ → Option ℕ

@@ -12,7 +12,7 @@ use text_tables::{OwnedPairs, Pairs};
 
 /// An attribute that names are made from.
 #[derive(Clone, Copy)]
-pub enum Attribute {
+pub(crate) enum Attribute {
     /// `iflink`, the index of the interface that this one is stacked on.
     Iflink,
     /// `type`, the number of the hardware.
@@ -93,7 +93,7 @@ impl Attribute {
 }
 
 /// Whether a word is another, regardless of case.
-fn is_word(word: &[u8], other: &[u8]) -> bool
+fn is_same_word(word: &[u8], other: &[u8]) -> bool
     ensures { result ≡ same_text (map to_ascii_lowercase word.now) (map to_ascii_lowercase other.now) }
 {
     word.eq_ignore_ascii_case(other)
@@ -104,12 +104,12 @@ fn is_word(word: &[u8], other: &[u8]) -> bool
 pub(crate) fn is_yes(word: &[u8]) -> bool
     ensures { result ≡ is_yes word.now }
 {
-    is_word(word, b"1")
-        || is_word(word, b"yes")
-        || is_word(word, b"y")
-        || is_word(word, b"true")
-        || is_word(word, b"t")
-        || is_word(word, b"on")
+    is_same_word(word, b"1")
+        || is_same_word(word, b"yes")
+        || is_same_word(word, b"y")
+        || is_same_word(word, b"true")
+        || is_same_word(word, b"t")
+        || is_same_word(word, b"on")
 }
 
 /// Whether names may use an attribute, by a word for it alone, or else by one for all attributes.

@@ -5,9 +5,9 @@ ghost use Rattle.builtin_net.specs.NetId.{lookup, net_id, properties};
 
 use crate::address::maker_lookup;
 use crate::identity::{is_identified, naming};
-use crate::names::{lasting_address, names};
+use crate::names::{lasting_address, name_properties};
 use crate::needs::needs;
-use builtin_devices::{Devices, Outcome};
+use builtin_devices::{BuiltinOutcome, Devices};
 use device_core::Event;
 use std::alloc::{AllocError, Global};
 use text_bytes::Bytes;
@@ -17,9 +17,9 @@ use text_tables::OwnedPairs;
 #[derive(Drop)]
 pub struct NetNames {
     /// Whether it succeeds, the names, and what the block would have to report.
-    pub outcome: Outcome,
-    /// What the hardware database is asked: who made the interface. Its properties are set before those of the
-    /// outcome.
+    pub outcome: BuiltinOutcome,
+    /// What the hardware database is asked: who made the interface. Its properties are set right after the outcome's
+    /// ID_NET_NAME_MAC.
     pub lookup: Option<Bytes>,
 }
 
@@ -49,21 +49,25 @@ fn properties(
     ensures { IfOk result (λ given. given.items ≡ properties devices.now (interface devices.now env.now)) }
 {
     match naming(devices.event(), env) {
-        Some(prefix) => names(alloc, devices, prefix, env),
+        Some(prefix) => name_properties(alloc, devices, prefix, env),
         None => Ok(Vec::new(alloc)),
     }
 }
 
 /// The outcome of net_id.
 #[tactic(auto, unfolding(crate::specs::NetId::net_id))]
-fn outcome(alloc: Global, devices: &Devices<'_>, env: &OwnedPairs) -> Result<Outcome, AllocError>
+fn outcome(
+    alloc: Global,
+    devices: &Devices<'_>,
+    env: &OwnedPairs,
+) -> Result<BuiltinOutcome, AllocError>
     ensures { IfOk result (λ outcome. outcome ≡ net_id devices.now env.now) }
 {
     let needs = needs(alloc, devices, env)?;
     if !is_identified(devices.event(), env) {
-        return Ok(Outcome::failing(alloc, needs));
+        return Ok(BuiltinOutcome::failing(alloc, needs));
     }
-    Ok(Outcome::succeeding(properties(alloc, devices, env)?, needs))
+    Ok(BuiltinOutcome::succeeding(properties(alloc, devices, env)?, needs))
 }
 
 /// The names of the network interface that the event device is, as the builtin net_id of udev of systemd 257 gives

@@ -3,15 +3,15 @@ ghost use Rattle.std.specs.Prelude.{◌≡◌, ◌==◌, ◌||◌, ◌≤◌, le
 ghost use Rattle.std.specs.List.{list_all, prefix_len};
 ghost use Rattle.text_bytes.specs.Names.{digit_zero, dot, slash};
 ghost use Rattle.builtin_net.specs.Allowed.{interface};
-ghost use Rattle.builtin_net.specs.Buses.{acpi_text, by_ccw, by_netdevsim, by_platform, by_vio, by_xen, ccw_text, component, is_acpi, is_there, is_vendor, is_vendor_byte, is_written_number, netdevsim_text, number_of_name, parent, parent_behind_virtio, platform_parts, platform_text, simulated, vio_text, with_instance, without_start, xen_text};
+ghost use Rattle.builtin_net.specs.Buses.{acpi_text, by_ccw, by_netdevsim, by_platform, by_vio, by_xen, ccw_text, component, is_acpi, is_there, is_vendor, is_vendor_byte, is_written_number, netdevsim_text, number_of_name, parent, parent_after_virtio, platform_parts, platform_text, simulated, vio_text, with_instance, without_start, xen_text};
 
 use crate::allowed::{Attribute, read_own};
 use crate::ports::some_text;
-use crate::words::{MAX_NUMBER, is_hexadecimal, is_plain, joined, push_number, small};
-use builtin_devices::{Base, Devices, behind, is_of, name_number, number_in};
+use crate::words::{MAX_NUMBER, is_hexadecimal, is_printable, joined, push_number, small};
+use builtin_devices::{Base, Devices, is_of, name_number, number_in};
 use device_core::{Device, Event};
 use std::alloc::{AllocError, Global};
-use text_bytes::{begins_with, decimal_below, split_once};
+use text_bytes::{begins_with, decimal_below, following, split_once};
 use text_links::kernel_name;
 use text_tables::OwnedPairs;
 
@@ -27,11 +27,11 @@ pub(crate) fn parent<'d, 'a>(
 }
 
 /// The nearest device above the event device that is not of virtio.
-pub(crate) fn parent_behind_virtio<'d, 'a>(
+pub(crate) fn parent_after_virtio<'d, 'a>(
     alloc: Global,
     devices: &'d Devices<'a>,
 ) -> Result<Option<&'d Device<'a>>, AllocError>
-    ensures { IfOk result (λ found. option_copied found ≡ parent_behind_virtio devices.now) }
+    ensures { IfOk result (λ found. option_copied found ≡ parent_after_virtio devices.now) }
 {
     for device in devices.parents_of(alloc, devices.event().device().path())? {
         if !is_of(b"virtio", None, device) {
@@ -56,7 +56,7 @@ pub(crate) fn is_there(subsystem: &[u8], device: Option<&Device<'_>>) -> bool
 fn component<'a>(folder: &[u8], path: &'a [u8]) -> Option<&'a [u8]>
     ensures { option_map (λ t. t.now) result ≡ component folder.now path.now }
 {
-    let rest = behind(folder, path)?;
+    let rest = following(folder, path)?;
     Some(rest.split_at(slash_place(rest)).0)
 }
 
@@ -196,12 +196,12 @@ fn with_instance(
 /// What comes before and after the colon in the name of a platform device.
 fn platform_parts(
     alloc: Global,
-    front: &[u8],
+    beginning: &[u8],
     instance: &[u8],
 ) -> Result<Option<Vec<u8>>, AllocError>
-    ensures { IfOk result (λ text. option_map (λ t. t.items) text ≡ platform_parts front.now instance.now) }
+    ensures { IfOk result (λ text. option_map (λ t. t.items) text ≡ platform_parts beginning.now instance.now) }
 {
-    let (vendor, model) = front.split_at(front.len().saturating_sub(4));
+    let (vendor, model) = beginning.split_at(beginning.len().saturating_sub(4));
     with_instance(alloc, vendor, model, instance)
 }
 
@@ -211,7 +211,7 @@ fn platform_text(alloc: Global, name: &[u8]) -> Result<Option<Vec<u8>>, AllocErr
     ensures { IfOk result (λ text. option_map (λ t. t.items) text ≡ platform_text name.now) }
 {
     match split_once(b':', name) {
-        Some((front, instance)) => platform_parts(alloc, front, instance),
+        Some((beginning, instance)) => platform_parts(alloc, beginning, instance),
         None => Ok(None),
     }
 }
@@ -228,7 +228,7 @@ fn is_written_number(text: &[u8]) -> bool
 fn xen_text(alloc: Global, name: &[u8]) -> Result<Option<Vec<u8>>, AllocError>
     ensures { IfOk result (λ text. option_map (λ t. t.items) text ≡ xen_text name.now) }
 {
-    match behind(b"vif-", name) {
+    match following(b"vif-", name) {
         Some(number) if is_written_number(number) => Ok(Some(joined(alloc, b"X", number)?)),
         _ => Ok(None),
     }
@@ -248,7 +248,7 @@ fn simulated(
     let Some(port) = port else {
         return Ok(None);
     };
-    if !is_plain(port) {
+    if !is_printable(port) {
         return Ok(None);
     }
     let mut text = Vec::new(alloc);
@@ -286,7 +286,7 @@ fn netdevsim_text(
 pub(crate) fn by_ccw(alloc: Global, devices: &Devices<'_>) -> Result<Option<Vec<u8>>, AllocError>
     ensures { IfOk result (λ text. option_map (λ t. t.items) text ≡ by_ccw devices.now) }
 {
-    let Some(device) = parent_behind_virtio(alloc, devices)? else {
+    let Some(device) = parent_after_virtio(alloc, devices)? else {
         return Ok(None);
     };
     if !is_of(b"ccwgroup", None, device) && !is_of(b"ccw", None, device) {

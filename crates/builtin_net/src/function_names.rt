@@ -1,7 +1,7 @@
 //! The names by the place and the slot of a function of PCI.
 ghost use Rattle.std.specs.Prelude.{◌≡◌, ◌++◌, codes, option_map, IfOk, OnOk, Some};
 ghost use Rattle.builtin_net.specs.Allowed.{interface};
-ghost use Rattle.builtin_net.specs.Names.{by_function, given, path_text, slot_text, tail, with_tail};
+ghost use Rattle.builtin_net.specs.Names.{by_function, path_text, prefixed, slot_text, tail, with_tail};
 ghost use Rattle.builtin_net.specs.Prefixes.{prefix_text};
 ghost use Rattle.builtin_net.specs.Slots.{slot_of};
 
@@ -90,7 +90,7 @@ fn give_slot<'a>(
     f: Function,
     tail: &[u8],
 ) -> Result<(), AllocError>
-    ensures { OnOk result (names.new.items ≡ names.old.items ++ given (codes "ID_NET_NAME_SLOT") (prefix_text prefix) (option_map (slot_text f tail.now) (slot_of devices.now pci.now))) }
+    ensures { OnOk result (names.new.items ≡ names.old.items ++ prefixed (codes "ID_NET_NAME_SLOT") (prefix_text prefix) (option_map (slot_text f tail.now) (slot_of devices.now pci.now))) }
 {
     let slot = by_slot(alloc, devices, pci, f, tail)?;
     give(alloc, names, b"ID_NET_NAME_SLOT", prefix.text(), slot)

@@ -14,7 +14,7 @@ use text_links::kernel_name;
 
 /// A function of a card in a slot of a bus; each domain has buses of its own.
 #[derive(Clone, Copy)]
-pub struct Function {
+pub(crate) struct Function {
     /// The domain.
     pub domain: u64,
     /// The bus.

@@ -1,6 +1,6 @@
 //! A name that is given, if it is not too long.
 ghost use Rattle.std.specs.Prelude.{◌≡◌, ◌++◌, codes, option_map, OnOk, Some};
-ghost use Rattle.builtin_net.specs.Names.{given};
+ghost use Rattle.builtin_net.specs.Names.{prefixed};
 ghost use Rattle.builtin_net.specs.Prefixes.{prefix_text};
 
 use crate::prefixes::Prefix;
@@ -13,7 +13,7 @@ use text_bytes::Bytes;
 const MAX_NAME: usize = 127;
 
 /// Adds a property of a prefix and the text after it, if there is one and both together are not too long.
-#[tactic(auto, unfolding(crate::specs::Names::given))]
+#[tactic(auto, unfolding(crate::specs::Names::prefixed))]
 pub(crate) fn give(
     alloc: Global,
     names: &mut Vec<(Bytes, Bytes)>,
@@ -21,7 +21,7 @@ pub(crate) fn give(
     prefix: &[u8],
     text: Option<Vec<u8>>,
 ) -> Result<(), AllocError>
-    ensures { OnOk result (names.new.items ≡ names.old.items ++ given key.now prefix.now (option_map (λ t. t.items) text)) }
+    ensures { OnOk result (names.new.items ≡ names.old.items ++ prefixed key.now prefix.now (option_map (λ t. t.items) text)) }
 {
     let Some(text) = text else {
         return Ok(());
@@ -40,7 +40,7 @@ pub(crate) fn give_path(
     prefix: Prefix,
     text: Vec<u8>,
 ) -> Result<(), AllocError>
-    ensures { OnOk result (names.new.items ≡ names.old.items ++ given (codes "ID_NET_NAME_PATH") (prefix_text prefix) (Some text.items)) }
+    ensures { OnOk result (names.new.items ≡ names.old.items ++ prefixed (codes "ID_NET_NAME_PATH") (prefix_text prefix) (Some text.items)) }
 {
     give(alloc, names, b"ID_NET_NAME_PATH", prefix.text(), Some(text))
 }

@@ -1,7 +1,7 @@
 //! All names of an interface, in the order in which they are set.
 ghost use Rattle.std.specs.Prelude.{◌≡◌, option_map, IfOk};
 ghost use Rattle.builtin_net.specs.Allowed.{interface};
-ghost use Rattle.builtin_net.specs.Names.{by_address, by_tree, lasting_address, names};
+ghost use Rattle.builtin_net.specs.Names.{by_address, by_tree, lasting_address, name_properties};
 
 use crate::address::address_digits;
 use crate::allowed::{Attribute, own_number, read_own};
@@ -67,14 +67,14 @@ fn by_tree(
 }
 
 /// All names in the order in which they are set.
-#[tactic(auto, unfolding(crate::specs::Names::names))]
-pub(crate) fn names(
+#[tactic(auto, unfolding(crate::specs::Names::name_properties))]
+pub(crate) fn name_properties(
     alloc: Global,
     devices: &Devices<'_>,
     prefix: Prefix,
     env: &OwnedPairs,
 ) -> Result<Vec<(Bytes, Bytes)>, AllocError>
-    ensures { IfOk result (λ given. given.items ≡ names devices.now prefix (interface devices.now env.now)) }
+    ensures { IfOk result (λ given. given.items ≡ name_properties devices.now prefix (interface devices.now env.now)) }
 {
     let mut names = Vec::new(alloc);
     add_property(alloc, b"ID_NET_NAMING_SCHEME", b"v257", &mut names)?;

@@ -7,7 +7,7 @@ ghost use Rattle.builtin_net.specs.Needs.{address_needs, config_needs, function_
 
 use crate::allowed::{Attribute, lacks, lacks_own, own_number, read, read_own};
 use crate::bus_names::{bcma_end, bcma_function, usb_end, usb_function};
-use crate::buses::{is_there, parent_behind_virtio};
+use crate::buses::{is_there, parent_after_virtio};
 use crate::functions::{Function, config, function_at};
 use crate::identity::{index, is_alone, naming};
 use crate::on_board::board_number;
@@ -15,7 +15,8 @@ use crate::pci_names::own_function;
 use crate::ports::{port_text, some_text};
 use crate::prefixes::Prefix;
 use crate::slots::{
-    SLOTS_FOLDER, firmware_number, is_bridge, is_told, number_by_firmware, pci_above, search_end,
+    SLOTS_FOLDER, firmware_number, is_bridge, is_described, number_by_firmware, pci_above,
+    search_end,
 };
 use crate::trees::{ALIASES_FOLDER, node_link};
 use crate::virtual_functions::NamedFunction;
@@ -83,11 +84,11 @@ fn need_tree(
     ensures { OnOk result (needs.new ≡ with_texts needs.old (tree_needs devices.now prefix)) }
 {
     let has_node = node_link(alloc, devices)?.is_some();
-    let is_told = is_told(alloc, devices.event(), ALIASES_FOLDER)?;
+    let is_described = is_described(alloc, devices.event(), ALIASES_FOLDER)?;
     need(
         alloc,
         needs,
-        prefix.is_ethernet() && has_node && !is_told,
+        prefix.is_ethernet() && has_node && !is_described,
         b"aliases",
     )
 }
@@ -141,8 +142,8 @@ fn need_config(
 {
     let below_bridge = is_bridge_there(pci_above(alloc, devices, pci)?);
     let asks = f.function == 0 || has_port && firmware_number(pci).is_none() && below_bridge;
-    let is_told = config(alloc, devices.event(), pci)?.is_some();
-    need(alloc, needs, asks && !is_told, b"config")
+    let is_described = config(alloc, devices.event(), pci)?.is_some();
+    need(alloc, needs, asks && !is_described, b"config")
 }
 
 /// Whether there is a device, and it lacks its modalias.
@@ -193,8 +194,8 @@ fn need_slot<'a>(
     let lacks_modalias = lacks_a_modalias(alloc, devices, pci)?;
     need(alloc, needs, lacks_modalias, b"modalias")?;
     let number = number_by_firmware(alloc, devices, pci)?;
-    let is_told = is_told(alloc, devices.event(), SLOTS_FOLDER)?;
-    need(alloc, needs, number.is_none() && !is_told, b"slots")
+    let is_described = is_described(alloc, devices.event(), SLOTS_FOLDER)?;
+    need(alloc, needs, number.is_none() && !is_described, b"slots")
 }
 
 /// Adds what is needed for a function.
@@ -233,7 +234,7 @@ fn need_pci(
     ensures { OnOk result (needs.new ≡ with_texts needs.old (of_own devices.now prefix (interface devices.now env.now) (own_function devices.now))) }
 {
     let Some(own) = own_function(alloc, devices)? else {
-        let is_pci = is_there(b"pci", parent_behind_virtio(alloc, devices)?);
+        let is_pci = is_there(b"pci", parent_after_virtio(alloc, devices)?);
         return need(alloc, needs, is_pci, b"physfn");
     };
     let NamedFunction {

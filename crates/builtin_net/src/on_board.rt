@@ -3,7 +3,7 @@ ghost use Rattle.std.specs.Prelude.{◌≡◌, option_map};
 ghost use Rattle.builtin_net.specs.OnBoard.{board_number, label};
 
 use crate::allowed::{Attribute, number, read};
-use crate::words::is_plain;
+use crate::words::is_printable;
 use device_core::Device;
 
 /// The label of a function, if it may be part of a name.
@@ -12,7 +12,7 @@ pub(crate) fn label<'a>(pci: &Device<'a>) -> Option<&'a [u8]>
     ensures { option_map (λ t. t.now) result ≡ label pci.now }
 {
     let text = read(pci, Attribute::Label)?;
-    if !is_plain(text) {
+    if !is_printable(text) {
         return None;
     }
     Some(text)

@@ -1,10 +1,10 @@
 //! The names and the label of an interface of PCI.
 ghost use Rattle.std.specs.Prelude.{◌≡◌, ◌++◌, [], codes, option_map, IfOk, OnOk};
 ghost use Rattle.builtin_net.specs.Allowed.{interface};
-ghost use Rattle.builtin_net.specs.Names.{board_text, by_pci, given, label_of, own_function};
+ghost use Rattle.builtin_net.specs.Names.{board_text, by_pci, label_of, own_function, prefixed};
 ghost use Rattle.builtin_net.specs.Prefixes.{prefix_text};
 
-use crate::buses::{is_there, parent_behind_virtio};
+use crate::buses::{is_there, parent_after_virtio};
 use crate::function_names::give_by_function;
 use crate::given::give;
 use crate::on_board::{board_number, label};
@@ -51,7 +51,7 @@ pub(crate) fn own_function<'d, 'a>(
 ) -> Result<Option<NamedFunction<'d, 'a>>, AllocError>
     ensures { IfOk result (λ own. own ≡ own_function devices.now) }
 {
-    match parent_behind_virtio(alloc, devices)? {
+    match parent_after_virtio(alloc, devices)? {
         Some(pci) if is_there(b"pci", Some(pci)) => named_function(alloc, devices, pci),
         _ => Ok(None),
     }
@@ -77,7 +77,7 @@ fn give_label(
     pci: &Device<'_>,
     suffix: &[u8],
 ) -> Result<(), AllocError>
-    ensures { OnOk result (names.new.items ≡ names.old.items ++ given (codes "ID_NET_LABEL_ONBOARD") [] (label_of pci.now suffix.now)) }
+    ensures { OnOk result (names.new.items ≡ names.old.items ++ prefixed (codes "ID_NET_LABEL_ONBOARD") [] (label_of pci.now suffix.now)) }
 {
     let label = label_of(alloc, pci, suffix)?;
     give(alloc, names, b"ID_NET_LABEL_ONBOARD", b"", label)
@@ -93,7 +93,7 @@ fn give_board(
     pci: &Device<'_>,
     suffix: &[u8],
 ) -> Result<(), AllocError>
-    ensures { OnOk result (names.new.items ≡ names.old.items ++ given (codes "ID_NET_NAME_ONBOARD") (prefix_text prefix) (board_text prefix (interface event.now env.now) pci.now suffix.now)) }
+    ensures { OnOk result (names.new.items ≡ names.old.items ++ prefixed (codes "ID_NET_NAME_ONBOARD") (prefix_text prefix) (board_text prefix (interface event.now env.now) pci.now suffix.now)) }
 {
     let board = board_text(alloc, prefix, event, env, pci, suffix)?;
     give(alloc, names, b"ID_NET_NAME_ONBOARD", prefix.text(), board)

@@ -5,10 +5,10 @@ ghost use Rattle.builtin_net.specs.Port.{named_port, numbered_port, port_number,
 
 use crate::allowed::{Attribute, own_number, read_own};
 use crate::prefixes::Prefix;
-use crate::words::{behind_digits, is_plain, joined, leading_number, push_number};
-use builtin_devices::behind;
+use crate::words::{after_digits, is_printable, joined, leading_number, push_number};
 use device_core::Event;
 use std::alloc::{AllocError, Global};
+use text_bytes::following;
 use text_tables::OwnedPairs;
 
 /// The number of the virtual function after that of a physical one.
@@ -17,7 +17,7 @@ fn virtual_of(text: &[u8]) -> Option<u64>
     ensures { result ≡ virtual_of text.now }
 {
     leading_number(text)?;
-    let digits = behind(b"vf", behind_digits(text))?;
+    let digits = following(b"vf", after_digits(text))?;
     leading_number(digits)
 }
 
@@ -26,7 +26,7 @@ fn virtual_of(text: &[u8]) -> Option<u64>
 fn represented(name: &[u8]) -> Option<u64>
     ensures { result ≡ represented name.now }
 {
-    virtual_of(behind(b"pf", name)?)
+    virtual_of(following(b"pf", name)?)
 }
 
 /// A port by its name, if that may be part of an interface's name.
@@ -39,7 +39,7 @@ fn named_port(alloc: Global, name: &[u8]) -> Result<Option<Vec<u8>>, AllocError>
         push_number(&mut text, b"r", number)?;
         return Ok(Some(text));
     }
-    if !is_plain(name) {
+    if !is_printable(name) {
         return Ok(None);
     }
     Ok(Some(joined(alloc, b"n", name)?))

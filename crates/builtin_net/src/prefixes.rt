@@ -4,7 +4,7 @@ ghost use Rattle.builtin_net.specs.Prefixes.{ethernet_prefix, is_ethernet, is_in
 
 /// A kind of interface, by which its names begin.
 #[derive(Clone, Copy)]
-pub enum Prefix {
+pub(crate) enum Prefix {
     /// Ethernet, `en`.
     Ethernet,
     /// Wireless Ethernet, `wl`.

@@ -5,7 +5,7 @@ ghost use Rattle.std.specs.List.{after_last, list_any, suffix_len};
 ghost use Rattle.std.specs.Option.{option_map_or};
 ghost use Rattle.builtin_devices.specs.Devices.{parents_of};
 ghost use Rattle.builtin_net.specs.Allowed.{read};
-ghost use Rattle.builtin_net.specs.Slots.{ends_search, ends_search_in_pci, firmware_number, holds, is_bridge, is_bridge_alias, is_identity, is_slot_of, is_told, number_by_firmware, number_by_place, number_of_above, pci_above, search_end, slot_at_end, slot_by_bus, slot_by_identity, slot_files, slot_name, slot_number, slot_of};
+ghost use Rattle.builtin_net.specs.Slots.{ends_search, ends_search_in_pci, firmware_number, holds, is_bridge, is_bridge_alias, is_described, is_identity, is_slot_of, number_by_firmware, number_by_place, number_of_above, pci_above, search_end, slot_at_end, slot_by_bus, slot_by_identity, slot_files, slot_name, slot_number, slot_of};
 
 use crate::allowed::{Attribute, number, read};
 use crate::functions::is_several;
@@ -21,7 +21,7 @@ pub(crate) const SLOTS_FOLDER: &[u8] = b"/bus/pci/slots";
 
 /// A slot by its number, and whether names by it leave the domain out.
 #[derive(Clone, Copy)]
-pub struct Slot {
+pub(crate) struct Slot {
     /// The number.
     pub number: u64,
     /// Whether the domain is left out.
@@ -36,7 +36,7 @@ pub(crate) fn firmware_number(pci: &Device<'_>) -> Option<u64>
 }
 
 /// How many bytes follow the last `s` of a text, all if it has none.
-fn bytes_behind_s(text: &[u8]) -> usize
+fn bytes_after_s(text: &[u8]) -> usize
     ensures value { result ≡ suffix_len (λ b. not (b == 115)) text.now }
     ensures within { result ≤ length text.now }
 {
@@ -44,10 +44,10 @@ fn bytes_behind_s(text: &[u8]) -> usize
 }
 
 /// What follows the last `s` of a text, or the whole text.
-fn behind_last_s(text: &[u8]) -> &[u8]
+fn after_last_s(text: &[u8]) -> &[u8]
     ensures { result.now ≡ after_last (λ b. b == 115) text.now }
 {
-    text.split_at(text.len() - bytes_behind_s(text)).1
+    text.split_at(text.len() - bytes_after_s(text)).1
 }
 
 /// Whether a modalias is that of a bridge.
@@ -55,7 +55,7 @@ fn behind_last_s(text: &[u8]) -> &[u8]
 fn is_bridge_alias(alias: &[u8]) -> bool
     ensures { result ≡ is_bridge_alias alias.now }
 {
-    alias.starts_with(b"pci:") && behind_last_s(alias).starts_with(b"c04")
+    alias.starts_with(b"pci:") && after_last_s(alias).starts_with(b"c04")
 }
 
 /// Whether a device is a bridge.
@@ -109,9 +109,13 @@ pub(crate) fn number_by_firmware(
 }
 
 /// Whether a block describes a folder, perhaps as empty.
-#[tactic(auto, unfolding(crate::specs::Slots::is_told))]
-pub(crate) fn is_told(alloc: Global, event: &Event<'_>, folder: &[u8]) -> Result<bool, AllocError>
-    ensures { IfOk result (λ told. told ≡ is_told event.now folder.now) }
+#[tactic(auto, unfolding(crate::specs::Slots::is_described))]
+pub(crate) fn is_described(
+    alloc: Global,
+    event: &Event<'_>,
+    folder: &[u8],
+) -> Result<bool, AllocError>
+    ensures { IfOk result (λ described. described ≡ is_described event.now folder.now) }
 {
     let files = files_below(alloc, event, folder)?;
     Ok(file_at(event, folder).is_some() || !files.is_empty())

@@ -4,9 +4,10 @@ ghost use Rattle.builtin_net.specs.Trees.{alias_end, alias_number, clear_number,
 
 use crate::buses::parent;
 use crate::words::{MAX_NUMBER, joined, push_number};
-use builtin_devices::{Base, Devices, behind, file_at, files_below, number_in};
+use builtin_devices::{Base, Devices, file_at, files_below, number_in};
 use device_core::{Device, Event};
 use std::alloc::{AllocError, Global};
+use text_bytes::following;
 
 /// The folder of the aliases of a device tree.
 pub(crate) const ALIASES_FOLDER: &[u8] = b"/firmware/devicetree/base/aliases";
@@ -45,7 +46,7 @@ pub(crate) fn node_link<'a>(
 fn node_path(link: &[u8]) -> &[u8]
     ensures { result.now ≡ node_path link.now }
 {
-    match behind(b"/firmware/devicetree/base", link) {
+    match following(b"/firmware/devicetree/base", link) {
         Some(path) => path,
         None => link,
     }
@@ -56,14 +57,14 @@ fn node_path(link: &[u8]) -> &[u8]
 fn is_alias(node: &[u8], file: (&[u8], &[u8])) -> bool
     ensures { result ≡ is_alias node.now (file.entry.0.now, file.entry.1.now) }
 {
-    behind(b"ethernet", file.0).is_some() && file.1 == node
+    following(b"ethernet", file.0).is_some() && file.1 == node
 }
 
 /// The other alias with the same number, 0.
-fn other_alias(behind: &[u8]) -> &'static [u8]
-    ensures { result.now ≡ other_alias behind.now }
+fn other_alias(following: &[u8]) -> &'static [u8]
+    ensures { result.now ≡ other_alias following.now }
 {
-    if behind.is_empty() {
+    if following.is_empty() {
         b"/firmware/devicetree/base/aliases/ethernet0"
     } else {
         b"/firmware/devicetree/base/aliases/ethernet"
@@ -71,22 +72,22 @@ fn other_alias(behind: &[u8]) -> &'static [u8]
 }
 
 /// The number of an alias, 0 if it has none.
-fn alias_number(behind: &[u8]) -> Option<u64>
-    ensures { result ≡ alias_number behind.now }
+fn alias_number(following: &[u8]) -> Option<u64>
+    ensures { result ≡ alias_number following.now }
 {
-    if behind.is_empty() {
+    if following.is_empty() {
         return Some(0);
     }
-    number_in(Base::AsWritten, MAX_NUMBER, behind)
+    number_in(Base::AsWritten, MAX_NUMBER, following)
 }
 
 /// The number of an alias, unless it is 0 and another has the same.
 #[tactic(auto, unfolding(crate::specs::Trees::clear_number))]
-fn clear_number(event: &Event<'_>, behind: &[u8]) -> Option<u64>
-    ensures { result ≡ clear_number event.now behind.now }
+fn clear_number(event: &Event<'_>, following: &[u8]) -> Option<u64>
+    ensures { result ≡ clear_number event.now following.now }
 {
-    let number = alias_number(behind)?;
-    if number == 0 && file_at(event, other_alias(behind)).is_some() {
+    let number = alias_number(following)?;
+    if number == 0 && file_at(event, other_alias(following)).is_some() {
         return None;
     }
     Some(number)
@@ -107,7 +108,7 @@ fn alias_among<'a>(node: &[u8], files: &[(&'a [u8], &'a [u8])]) -> Option<&'a [u
     ensures { option_map (λ t. t.now) result ≡ option_and_then (λ file. alias_end (file.0.now, file.1.now)) (find (λ file. is_alias node.now (file.0.now, file.1.now)) files.now) }
 {
     match calling(node, files) {
-        Some(file) => behind(b"ethernet", file.0),
+        Some(file) => following(b"ethernet", file.0),
         None => None,
     }
 }
@@ -118,7 +119,7 @@ fn first_alias<'a>(
     event: &Event<'a>,
     node: &[u8],
 ) -> Result<Option<&'a [u8]>, AllocError>
-    ensures { IfOk result (λ behind. option_map (λ t. t.now) behind ≡ first_alias event.now node.now) }
+    ensures { IfOk result (λ following. option_map (λ t. t.now) following ≡ first_alias event.now node.now) }
 {
     let files = files_below(alloc, event, ALIASES_FOLDER)?;
     Ok(alias_among(node, &files))
@@ -130,7 +131,7 @@ fn node_number(alloc: Global, event: &Event<'_>, node: &[u8]) -> Result<Option<u
     ensures { IfOk result (λ number. number ≡ node_number event.now node.now) }
 {
     match first_alias(alloc, event, node)? {
-        Some(behind) => Ok(clear_number(event, behind)),
+        Some(following) => Ok(clear_number(event, following)),
         None => Ok(None),
     }
 }

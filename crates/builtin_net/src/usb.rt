@@ -3,9 +3,9 @@ ghost use Rattle.std.specs.Prelude.{◌≡◌, ◌++◌, IfOk, OnOk, option_map}
 ghost use Rattle.builtin_net.specs.Usb.{bcma_suffix, core_in, core_of, port_byte, ports_text, unless_usual, usb_numbers, usb_ports, usb_suffix, usb_text};
 
 use crate::words::{MAX_NUMBER, push_number};
-use builtin_devices::{Base, behind, number_in};
+use builtin_devices::{Base, number_in};
 use std::alloc::{AllocError, Global};
-use text_bytes::split_once;
+use text_bytes::{following, split_once};
 
 /// A byte of ports, with `u` for a dot.
 fn port_byte(byte: u8) -> u8
@@ -98,7 +98,7 @@ fn core_of(bus: &[u8], core: &[u8]) -> Option<u64>
 fn core_in(name: &[u8]) -> Option<u64>
     ensures { result ≡ core_in name.now }
 {
-    let rest = behind(b"bcma", name)?;
+    let rest = following(b"bcma", name)?;
     let (bus, core) = split_once(b':', rest)?;
     core_of(bus, core)
 }

@@ -5,11 +5,11 @@ ghost use Rattle.text_bytes.specs.Numbers.{is_decimal, is_digit};
 ghost use Rattle.builtin_net.specs.Virtual.{leads_to, named_function, physical_path, virtual_digits, virtual_number};
 
 use crate::words::joined;
-use builtin_devices::{Devices, behind, file_at, files_below};
+use builtin_devices::{Devices, file_at, files_below};
 use device_core::{Device, Event};
 use std::alloc::{AllocError, Global};
 use std::marker::Model;
-use text_bytes::is_digit;
+use text_bytes::{following, is_digit};
 
 /// A function by which an interface is named.
 #[derive(Drop)]
@@ -59,7 +59,7 @@ fn is_decimal(text: &[u8]) -> bool
 fn leads_to(path: &[u8], file: (&[u8], &[u8])) -> bool
     ensures { result ≡ leads_to path.now (file.entry.0.now, file.entry.1.now) }
 {
-    match behind(b"virtfn", file.0) {
+    match following(b"virtfn", file.0) {
         Some(digits) => is_decimal(digits) && file.1 == path,
         None => false,
     }
@@ -80,7 +80,7 @@ fn number_among<'a>(path: &[u8], links: &[(&'a [u8], &'a [u8])]) -> Option<&'a [
     ensures { option_map (λ t. t.now) result ≡ option_and_then (λ link. virtual_digits (link.0.now, link.1.now)) (find (λ link. leads_to path.now (link.0.now, link.1.now)) links.now) }
 {
     match leading(path, links) {
-        Some(link) => behind(b"virtfn", link.0),
+        Some(link) => following(b"virtfn", link.0),
         None => None,
     }
 }

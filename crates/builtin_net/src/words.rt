@@ -5,7 +5,7 @@ ghost use Rattle.std.specs.List.{list_all, list_any, prefix_len};
 ghost use Rattle.std.specs.Str.{is_utf8};
 ghost use Rattle.text_bytes.specs.Escapes.{is_control};
 ghost use Rattle.text_bytes.specs.Numbers.{is_digit};
-ghost use Rattle.builtin_net.specs.Words.{behind_digits, is_plain, leading_number, positive};
+ghost use Rattle.builtin_net.specs.Words.{after_digits, is_printable, leading_number, positive};
 
 use itoa::Buffer;
 use std::alloc::{AllocError, Global};
@@ -23,11 +23,11 @@ fn digit_count(text: &[u8]) -> usize
 }
 
 /// What follows the digits that a text begins with.
-pub(crate) fn behind_digits(text: &[u8]) -> &[u8]
-    ensures { result.now ≡ behind_digits text.now }
+pub(crate) fn after_digits(text: &[u8]) -> &[u8]
+    ensures { result.now ≡ after_digits text.now }
 {
-    let (_, behind) = text.split_at(digit_count(text));
-    behind
+    let (_, following) = text.split_at(digit_count(text));
+    following
 }
 
 /// The number of 32 bits that the digits at the start of a text write.
@@ -87,9 +87,9 @@ fn is_utf8(text: &[u8]) -> bool
 }
 
 /// Whether a text may be part of a name: UTF-8 without control characters.
-#[tactic(auto, unfolding(crate::specs::Words::is_plain))]
-pub(crate) fn is_plain(text: &[u8]) -> bool
-    ensures { result ≡ is_plain text.now }
+#[tactic(auto, unfolding(crate::specs::Words::is_printable))]
+pub(crate) fn is_printable(text: &[u8]) -> bool
+    ensures { result ≡ is_printable text.now }
 {
     is_utf8(text) && !has_control(text)
 }
@@ -114,10 +114,14 @@ pub(crate) fn positive(number: Option<u64>) -> Option<u64>
 }
 
 /// A text with another after it.
-pub(crate) fn joined(alloc: Global, front: &[u8], behind: &[u8]) -> Result<Vec<u8>, AllocError>
-    ensures { IfOk result (λ text. text.items ≡ front.now ++ behind.now) }
+pub(crate) fn joined(
+    alloc: Global,
+    beginning: &[u8],
+    following: &[u8],
+) -> Result<Vec<u8>, AllocError>
+    ensures { IfOk result (λ text. text.items ≡ beginning.now ++ following.now) }
 {
-    let mut text = Vec::from_slice(alloc, front)?;
-    text.extend_from_slice(behind)?;
+    let mut text = Vec::from_slice(alloc, beginning)?;
+    text.extend_from_slice(following)?;
     Ok(text)
 }

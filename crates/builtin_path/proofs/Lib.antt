@@ -1,4 +1,4 @@
 pub mod Joining
 pub mod PathLaws
 pub mod Skipping
-pub mod Turning
+pub mod Reversing

@@ -14,18 +14,18 @@ use Rattle.builtin_path.specs.Path.{is_whole, needs, path_id, properties_of, tag
 use Rattle.builtin_path.specs.Way.{members_of, stops_of}
 
 -- a text after another one and the byte is reported by the whole
-behind_byte : (c : ℕ) (text : List ℕ) (rest others : List ℕ) → text ++ c ∷ rest ≡ text ++ c ∷ others → rest ≡ others
-behind_byte c text rest others h = append_cancel_left (c ∷ []) rest others (append_cancel_left text (c ∷ rest) (c ∷ others) h)
+after_byte : (c : ℕ) (text : List ℕ) (rest others : List ℕ) → text ++ c ∷ rest ≡ text ++ c ∷ others → rest ≡ others
+after_byte c text rest others h = append_cancel_left (c ∷ []) rest others (append_cancel_left text (c ∷ rest) (c ∷ others) h)
 
--- where all texts but one are the same, the whole is the same only where that one is
-pub told_apart : (c : ℕ) (front back : List (List ℕ)) (part other : List ℕ)
-    → join_with_byte c (front ++ part ∷ back) ≡ join_with_byte c (front ++ other ∷ back) → part ≡ other
-told_apart c [] [] part other h = h
-told_apart c [] (b ∷ back) part other h = append_cancel_right part other (c ∷ join_with_byte c (b ∷ back)) h
-told_apart c (f ∷ []) back part other h =
-    told_apart c [] back part other (behind_byte c f (join_with_byte c (part ∷ back)) (join_with_byte c (other ∷ back)) h)
-told_apart c (f ∷ g ∷ front) back part other h =
-    told_apart c (g ∷ front) back part other (behind_byte c f (join_with_byte c (g ∷ front ++ part ∷ back)) (join_with_byte c (g ∷ front ++ other ∷ back)) h)
+-- if all texts but one are the same, the whole is the same only if that one is
+pub distinguished : (c : ℕ) (prefix back : List (List ℕ)) (part other : List ℕ)
+    → join_with_byte c (prefix ++ part ∷ back) ≡ join_with_byte c (prefix ++ other ∷ back) → part ≡ other
+distinguished c [] [] part other h = h
+distinguished c [] (b ∷ back) part other h = append_cancel_right part other (c ∷ join_with_byte c (b ∷ back)) h
+distinguished c (f ∷ []) back part other h =
+    distinguished c [] back part other (after_byte c f (join_with_byte c (part ∷ back)) (join_with_byte c (other ∷ back)) h)
+distinguished c (f ∷ g ∷ prefix) back part other h =
+    distinguished c (g ∷ prefix) back part other (after_byte c f (join_with_byte c (g ∷ prefix ++ part ∷ back)) (join_with_byte c (g ∷ prefix ++ other ∷ back)) h)
 
 -- what fails sets nothing
 set_by : (is_path : Bool) (properties : List Pair) (missing : List Text)

@@ -24,14 +24,14 @@ unfoldable pub controller_name : Text → Option Text
 controller_name name = if begins (codes "nvme") name then Some (take (4 + prefix_len is_digit (drop 4 name)) name) else None
 
 -- where a link of a device leads, which a constant gives
-abbrev pub link_told : EventValue → (path name : Text) → Option Text
-link_told event path name = file_at event (concat (path ∷ codes "/" ∷ name ∷ []))
+abbrev pub described_link : EventValue → (path name : Text) → Option Text
+described_link event path name = file_at event (concat (path ∷ codes "/" ∷ name ∷ []))
 
 -- the controller of the disk among the links of its NVMe subsystem, if it is also reported
-unfoldable pub controller_told : EventValue → DeviceValue → Option DeviceValue
-controller_told event subsystem =
+unfoldable pub described_controller : EventValue → DeviceValue → Option DeviceValue
+described_controller event subsystem =
     option_and_then (device_by event)
-    (option_and_then (link_told event subsystem.path) (controller_name (last_component event.device.path)))
+    (option_and_then (described_link event subsystem.path) (controller_name (last_component event.device.path)))
 
 -- a device that is not virtual
 abbrev pub if_real : DeviceValue → Option DeviceValue
@@ -39,7 +39,7 @@ if_real device = if begins (codes "/devices/virtual/") device.path then None els
 
 -- the controller, if it is reported and is not a virtual device
 abbrev pub controller : EventValue → DeviceValue → Option DeviceValue
-controller event subsystem = option_and_then if_real (controller_told event subsystem)
+controller event subsystem = option_and_then if_real (described_controller event subsystem)
 
 -- a name that a block would have to report, if there is one
 abbrev pub name_needed : Option Text → List Text
@@ -48,7 +48,7 @@ name_needed (Some name) = name ∷ []
 
 -- the name of the controller, if the block does not describe it
 abbrev pub controller_needs : EventValue → DeviceValue → List Text
-controller_needs event subsystem = if is_some (controller_told event subsystem) then [] else name_needed (controller_name (last_component event.device.path))
+controller_needs event subsystem = if is_some (described_controller event subsystem) then [] else name_needed (controller_name (last_component event.device.path))
 
 -- whether the event device is a whole disk; one of NVMe has a namespace
 abbrev pub is_bare_disk : EventValue → Bool

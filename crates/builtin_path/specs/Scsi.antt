@@ -33,13 +33,13 @@ transports =
     ∷ []
 
 -- the transport that a path shows: that of the first of these texts that is in it
-abbrev pub told_by : List (Text × Transport) → (path : Text) → Option Transport
-told_by [] path = None
-told_by (r ∷ rows) path = if contains r.0 path then Some r.1 else told_by rows path
+abbrev pub described_by : List (Text × Transport) → (path : Text) → Option Transport
+described_by [] path = None
+described_by (r ∷ rows) path = if contains r.0 path then Some r.1 else described_by rows path
 
 -- the transport that a path shows, by the texts above
 unfoldable pub transport_of : (path : Text) → Option Transport
-transport_of path = told_by transports path
+transport_of path = described_by transports path
 
 -- the address of a device
 abbrev pub address : DeviceValue → Option Address
@@ -174,7 +174,7 @@ is_session m = begins (codes "session") (last_component m.path)
 unfoldable pub iscsi_stop : DeviceValue → List DeviceValue → Stop
 iscsi_stop m above = iscsi_by m (find is_session above)
 
--- the place at a port of ATA: the target, or behind a multiplier, where the bus is not 0, the bus
+-- the place at a port of ATA: the target; or the bus, if it is not 0, as it is after a multiplier
 abbrev pub ata_place : Address → Text
 ata_place place = if place.bus == 0 then decimal place.target else concat (decimal place.bus ∷ codes ".0" ∷ [])
 

@@ -7,7 +7,7 @@ use Rattle.text_tables.specs.Texts.{Text, is_among, same_text}
 use Rattle.text_links.specs.Kernels.{kernel_name, last_component}
 use Rattle.device_core.specs.Values.{DeviceValue, EventValue}
 use Rattle.builtin_devices.specs.Devices.{attribute}
-use Rattle.builtin_devices.specs.Fronts.{behind}
+use Rattle.text_bytes.specs.Texts.{following}
 use Rattle.builtin_devices.specs.Numbers.{name_number}
 use Rattle.builtin_path.specs.Members.{begins, row}
 use Rattle.builtin_path.specs.Nvme.{nvme_stop, ways_stop}
@@ -92,9 +92,9 @@ second_number start mark name =
     option_and_then (λ text.
     option_and_then (λ first.
     option_and_then (λ rest. option_map (λ second. second.0) (leading_number rest))
-    (behind mark first.1))
+    (following mark first.1))
     (leading_number text))
-    (behind start name)
+    (following start name)
 
 -- a device by that number; at one with another name the way ends
 abbrev pub second_by : (start : Text) → Option ℕ → ℕ → Stop

@@ -9,12 +9,12 @@ ghost use Rattle.builtin_path.specs.Usb.{port_start};
 ghost use Rattle.builtin_path.specs.declared.usb.Revision.{Revision};
 
 /// Paths whose parts are the same except for one are the same only if that one is.
-pub fn each_part_tells_paths_apart()
-    ensures { (front back : List Text) (part other : Text) → join_with_byte minus (front ++ part ∷ back) ≡ join_with_byte minus (front ++ other ∷ back) → part ≡ other }
+pub fn each_part_distinguishes_paths()
+    ensures { (prefix back : List Text) (part other : Text) → join_with_byte minus (prefix ++ part ∷ back) ≡ join_with_byte minus (prefix ++ other ∷ back) → part ≡ other }
 {}
 
 /// Parts of ports below root hubs of one revision are the same only if the ports are.
-pub fn parts_tell_ports_apart()
+pub fn parts_distinguish_ports()
     ensures { (revision : Option Revision) (port other : Text) → port_start revision ++ port ≡ port_start revision ++ other → port ≡ other }
 {}
 

@@ -20,7 +20,7 @@ mod usb;
 mod way;
 
 pub use laws::{
-    each_part_tells_paths_apart, nothing_is_set_without_a_path, parts_tell_ports_apart,
+    each_part_distinguishes_paths, nothing_is_set_without_a_path, parts_distinguish_ports,
     tags_are_short,
 };
 pub use path::path_id;

@@ -15,7 +15,7 @@ use text_bytes::Bytes;
 
 /// A device of the way.
 #[derive(Drop)]
-pub struct Member<'d> {
+pub(crate) struct Member<'d> {
     /// The device, borrowed.
     pub device: &'d Device<'d>,
 }

@@ -2,7 +2,7 @@
 ghost use Rattle.std.specs.Prelude.{◌≡◌, ◌∷◌, [], IfOk, codes, Some, None, option_copied, option_map, length, ◌≤◌, drop};
 ghost use Rattle.std.specs.List.{prefix_len};
 ghost use Rattle.text_bytes.specs.Numbers.{is_digit};
-ghost use Rattle.builtin_path.specs.Nvme.{controller, controller_name, controller_needs, controller_told, if_real, is_bare_disk, link_told, name_needed, namespace, namespace_needs, namespace_stop, nvme_by, nvme_stop, ways_by, ways_stop};
+ghost use Rattle.builtin_path.specs.Nvme.{controller, controller_name, controller_needs, described_controller, described_link, if_real, is_bare_disk, name_needed, namespace, namespace_needs, namespace_stop, nvme_by, nvme_stop, ways_by, ways_stop};
 
 use crate::members::{Member, last_component, row};
 use crate::stops::{Next, Stop, needed};
@@ -38,32 +38,32 @@ fn controller_name(name: &[u8]) -> Option<&[u8]>
 }
 
 /// Where a link of a device leads.
-fn link_told<'a>(
+fn described_link<'a>(
     alloc: Global,
     event: &Event<'a>,
     path: &[u8],
     name: &[u8],
 ) -> Result<Option<&'a [u8]>, AllocError>
-    ensures { IfOk result (λ target. option_map (λ t. t.now) target ≡ link_told event.now path.now name.now) }
+    ensures { IfOk result (λ target. option_map (λ t. t.now) target ≡ described_link event.now path.now name.now) }
 {
     let link = concatenated(alloc, &[path, b"/", name])?;
     Ok(file_at(event, link.as_slice()))
 }
 
 /// The controller of the disk among the links of its NVMe subsystem, if it is reported.
-#[tactic(auto, unfolding(crate::specs::Nvme::controller_told))]
-fn controller_told<'d>(
+#[tactic(auto, unfolding(crate::specs::Nvme::described_controller))]
+fn described_controller<'d>(
     alloc: Global,
     devices: &'d Devices<'d>,
     subsystem: &Member<'_>,
 ) -> Result<Option<&'d Device<'d>>, AllocError>
-    ensures { IfOk result (λ device. option_copied device ≡ controller_told devices.now subsystem.now) }
+    ensures { IfOk result (λ device. option_copied device ≡ described_controller devices.now subsystem.now) }
 {
     let event = devices.event();
     let Some(name) = controller_name(last_component(event.device().path())) else {
         return Ok(None);
     };
-    match link_told(alloc, event, subsystem.device.path(), name)? {
+    match described_link(alloc, event, subsystem.device.path(), name)? {
         Some(target) => Ok(devices.device_by(target)),
         None => Ok(None),
     }
@@ -77,7 +77,7 @@ pub(crate) fn controller<'d>(
 ) -> Result<Option<&'d Device<'d>>, AllocError>
     ensures { IfOk result (λ device. option_copied device ≡ controller devices.now subsystem.now) }
 {
-    match controller_told(alloc, devices, subsystem)? {
+    match described_controller(alloc, devices, subsystem)? {
         Some(device) => Ok(if_real(device)),
         None => Ok(None),
     }
@@ -112,7 +112,7 @@ fn controller_needs(
 ) -> Result<OwnedTexts, AllocError>
     ensures { IfOk result (λ needs. needs ≡ controller_needs devices.now subsystem.now) }
 {
-    if controller_told(alloc, devices, subsystem)?.is_some() {
+    if described_controller(alloc, devices, subsystem)?.is_some() {
         return Ok(OwnedTexts::new(alloc));
     }
     name_needed(

@@ -11,7 +11,7 @@ use crate::stops::{Next, Share, Stop, needed};
 use crate::tags::tag;
 use crate::texts::joined;
 use crate::way::{members_of, stops_from};
-use builtin_devices::{Devices, Outcome, add_property, is_text, type_of};
+use builtin_devices::{BuiltinOutcome, Devices, add_property, is_text, type_of};
 use device_core::Event;
 use std::alloc::{AllocError, Global};
 use text_bytes::Bytes;
@@ -76,8 +76,8 @@ fn shares_up(alloc: Global, stops: &[Stop]) -> Result<Vec<&[u8]>, AllocError>
 }
 
 /// Texts in reverse order.
-#[tactic(auto, using(crate::proofs::Turning::turned))]
-fn turned<'t>(mut texts: Vec<&'t [u8]>) -> Vec<&'t [u8]>
+#[tactic(auto, using(crate::proofs::Reversing::reversed))]
+fn reversed<'t>(mut texts: Vec<&'t [u8]>) -> Vec<&'t [u8]>
     ensures { map (λ t. t.now) result.items ≡ reverse (map (λ t. t.now) texts.entry.items) }
 {
     texts.reverse();
@@ -88,7 +88,7 @@ fn turned<'t>(mut texts: Vec<&'t [u8]>) -> Vec<&'t [u8]>
 fn parts(alloc: Global, stops: &[Stop]) -> Result<Vec<&[u8]>, AllocError>
     ensures { IfOk result (λ found. map (λ t. t.now) found.items ≡ parts stops.now) }
 {
-    Ok(turned(parts_up(alloc, stops)?))
+    Ok(reversed(parts_up(alloc, stops)?))
 }
 
 /// How many stops a list begins with that are not a port of ATA.
@@ -104,7 +104,7 @@ fn compatible_parts(alloc: Global, stops: &[Stop]) -> Result<Vec<&[u8]>, AllocEr
     ensures { IfOk result (λ found. map (λ t. t.now) found.items ≡ compatible_parts stops.now) }
 {
     let (_, begun) = stops.split_at(below_ata(stops));
-    Ok(turned(shares_up(alloc, begun)?))
+    Ok(reversed(shares_up(alloc, begun)?))
 }
 
 /// Whether path_id fails if the way goes on so.
@@ -293,9 +293,9 @@ fn add_needs(alloc: Global, more: &[Vec<u8>], needs: &mut OwnedTexts) -> Result<
 /// a block device has no known transport, if the block does not say which hosts are beside a SCSI host, and if the
 /// controller of an NVMe disk with several paths is virtual or not in the block.
 ///
-/// `ID_PATH_WITH_USB_REVISION` is set where a port of USB tells its revision, then `ID_PATH` and `ID_PATH_TAG`, and
-/// `ID_PATH_ATA_COMPAT` after a port of ATA.
-pub fn path_id(alloc: Global, event: &Event<'_>) -> Result<Outcome, AllocError>
+/// `ID_PATH_WITH_USB_REVISION` is set if a USB port reports its revision, then `ID_PATH` and `ID_PATH_TAG`, and
+/// `ID_PATH_ATA_COMPAT` if there is a port of ATA.
+pub fn path_id(alloc: Global, event: &Event<'_>) -> Result<BuiltinOutcome, AllocError>
     ensures { IfOk result (λ outcome. outcome ≡ path_id event.now) }
 {
     let devices = Devices::new(alloc, event)?;
@@ -304,14 +304,14 @@ pub fn path_id(alloc: Global, event: &Event<'_>) -> Result<Outcome, AllocError>
 
 /// The outcome of path_id over the devices of an event.
 #[tactic(auto, unfolding(crate::specs::Path::path_id, crate::specs::Way::stops_of))]
-fn outcome_of(alloc: Global, devices: &Devices<'_>) -> Result<Outcome, AllocError>
+fn outcome_of(alloc: Global, devices: &Devices<'_>) -> Result<BuiltinOutcome, AllocError>
     ensures { IfOk result (λ outcome. outcome ≡ path_id devices.now) }
 {
     let members = members_of(alloc, devices)?;
     let stops = stops_from(alloc, devices, &members)?;
     let missing = needs(alloc, &members, &stops)?;
     if !is_whole(devices.event(), &stops) {
-        return Ok(Outcome::failing(alloc, missing));
+        return Ok(BuiltinOutcome::failing(alloc, missing));
     }
-    Ok(Outcome::succeeding(properties_of(alloc, &stops)?, missing))
+    Ok(BuiltinOutcome::succeeding(properties_of(alloc, &stops)?, missing))
 }

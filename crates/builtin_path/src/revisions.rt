@@ -2,7 +2,7 @@
 ghost use Rattle.std.specs.Prelude.{◌≡◌, ◌<◌, IfOk, IfSome, length};
 ghost use Rattle.builtin_path.specs.Path.{is_revision, revision_place, without_revision};
 
-use crate::texts::{behind_first, first_bytes, first_place};
+use crate::texts::{after_first, first_bytes, first_place};
 use std::alloc::{AllocError, Global};
 use text_bytes::{Bytes, is_digit};
 
@@ -42,6 +42,6 @@ pub(crate) fn without_revision(
     ensures { IfOk result (λ plain. plain ≡ without_revision text.now place) }
 {
     let mut plain = Vec::from_slice(alloc, first_bytes(place + 4, text))?;
-    plain.extend_from_slice(behind_first(place + 6, text))?;
+    plain.extend_from_slice(after_first(place + 6, text))?;
     Ok(Bytes::new(plain))
 }

@@ -2,7 +2,7 @@
 ghost use Rattle.std.specs.Prelude.{◌≡◌, ◌∷◌, ◌<◌, ◌^◌, [], codes, decimal, IfOk, IfSome, length, map, option_map};
 ghost use Rattle.std.specs.List.{concat};
 ghost use Rattle.builtin_devices.specs.Devices.{attribute};
-ghost use Rattle.builtin_path.specs.Scsi.{address, firewire_stop, four_digits, hex_digit, numbered_unit, scsi_stop, told_by, transport_of, transport_stop, unit_number, unit_text};
+ghost use Rattle.builtin_path.specs.Scsi.{address, described_by, firewire_stop, four_digits, hex_digit, numbered_unit, scsi_stop, transport_of, transport_stop, unit_number, unit_text};
 
 use crate::members::{Member, row};
 use crate::sas::sas_stop;
@@ -17,7 +17,7 @@ use text_bytes::Bytes;
 
 /// The transport by which a device of SCSI is reached, as its path shows.
 #[derive(Clone, Copy)]
-pub enum Transport {
+pub(crate) enum Transport {
     /// Fibre Channel.
     FibreChannel,
     /// SAS.
@@ -46,8 +46,8 @@ const TRANSPORTS: [(&[u8], Transport); 6] = [
 const HEX_DIGITS: [u8; 16] = *b"0123456789abcdef";
 
 /// What a table has beside the first of its texts that is in a path.
-fn told_by(rows: &[(&[u8], Transport)], path: &[u8]) -> Option<Transport>
-    ensures { result ≡ told_by (map (λ row. (row.0.now, row.1)) rows.now) path.now }
+fn described_by(rows: &[(&[u8], Transport)], path: &[u8]) -> Option<Transport>
+    ensures { result ≡ described_by (map (λ row. (row.0.now, row.1)) rows.now) path.now }
 {
     for row in rows {
         if contains(row.0, path) {
@@ -62,7 +62,7 @@ fn told_by(rows: &[(&[u8], Transport)], path: &[u8]) -> Option<Transport>
 fn transport_of(path: &[u8]) -> Option<Transport>
     ensures { result ≡ transport_of path.now }
 {
-    told_by(&TRANSPORTS, path)
+    described_by(&TRANSPORTS, path)
 }
 
 /// The address of a device.

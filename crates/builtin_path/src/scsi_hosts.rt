@@ -7,7 +7,7 @@ ghost use Rattle.builtin_path.specs.Scsi.{beside_host, host_name, host_names, ho
 use crate::members::{Member, below_first, folder};
 use crate::scsi::place_of;
 use crate::stops::{Next, Stop, needed};
-use crate::texts::{behind_first, concatenated, is_among};
+use crate::texts::{after_first, concatenated, is_among};
 use builtin_devices::{Address, Base, number_in};
 use itoa::Buffer;
 use std::alloc::{AllocError, Global};
@@ -44,7 +44,7 @@ fn host_names<'d>(alloc: Global, member: &Member<'d>) -> Result<Vec<&'d [u8]>, A
 fn host_number(name: &[u8]) -> Option<u64>
     ensures { result ≡ host_number name.now }
 {
-    number_in(Base::Decimal, (1 << 32) - 1, behind_first(4, name))
+    number_in(Base::Decimal, (1 << 32) - 1, after_first(4, name))
 }
 
 /// The lower of two numbers, the first of which may be absent.

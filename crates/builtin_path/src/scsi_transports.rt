@@ -7,7 +7,7 @@ ghost use Rattle.builtin_path.specs.Scsi.{ata_by, ata_place, ata_port_stop, ata_
 use crate::members::{Member, attribute_at, class_attribute_at, from_first};
 use crate::scsi::{place_of, unit_text};
 use crate::stops::{Share, Stop, lost};
-use crate::texts::{behind_first, concatenated, first_bytes};
+use crate::texts::{after_first, concatenated, first_bytes};
 use builtin_devices::{Address, name_number};
 use itoa::Buffer;
 use std::alloc::{AllocError, Global};
@@ -229,7 +229,7 @@ fn has_braces(size: usize, text: &[u8]) -> bool
 fn braced(alloc: Global, size: usize, text: &[u8]) -> Result<Bytes, AllocError>
     ensures { IfOk result (λ bytes. bytes ≡ braced size text.now) }
 {
-    let inner = first_bytes(size.saturating_sub(2), behind_first(1, text));
+    let inner = first_bytes(size.saturating_sub(2), after_first(1, text));
     let bytes = inner
         .iter()
         .copied()

@@ -9,7 +9,7 @@ use text_tables::OwnedTexts;
 
 /// Where the way goes on.
 #[derive(Clone, Copy)]
-pub enum Next {
+pub(crate) enum Next {
     /// Above so many of the devices above.
     On(usize),
     /// Nowhere; what is below stays.
@@ -20,7 +20,7 @@ pub enum Next {
 
 /// What a device adds to the compatible path.
 #[derive(Drop)]
-pub enum Share {
+pub(crate) enum Share {
     /// Nothing.
     Apart,
     /// The same as to the path, if the compatible path has begun.
@@ -31,7 +31,7 @@ pub enum Share {
 
 /// What one device adds.
 #[derive(Drop)]
-pub struct Stop {
+pub(crate) struct Stop {
     /// The part of the path, if there is one.
     pub part: Option<Bytes>,
     /// What it adds to the compatible path.
@@ -142,7 +142,7 @@ impl Stop {
 }
 
 /// Of the devices above a device, those from where the way goes on.
-pub(crate) fn behind<'m, 'd>(next: Next, above: &'m [Member<'d>]) -> &'m [Member<'d>]
+pub(crate) fn following<'m, 'd>(next: Next, above: &'m [Member<'d>]) -> &'m [Member<'d>]
     ensures { result.now ≡ drop (passed next above.now) above.now }
 {
     match next {

@@ -12,16 +12,16 @@ use crate::scsi::scsi_stop;
 use crate::stops::{Next, Stop};
 use crate::texts::{concatenated, is_among};
 use crate::usb::usb_stop;
-use builtin_devices::{Devices, behind, name_number};
+use builtin_devices::{Devices, name_number};
 use itoa::Buffer;
 use std::alloc::{AllocError, Global};
-use text_bytes::{Bytes, decimal_below, is_digit};
+use text_bytes::{Bytes, decimal_below, following, is_digit};
 use text_links::kernel_name;
 use text_tables::OwnedTexts;
 
 /// How devices of a subsystem add to a path.
 #[derive(Clone, Copy)]
-pub enum Manner {
+pub(crate) enum Manner {
     /// A known parent, by its name.
     Parent,
     /// A known parent and transport, by its name.
@@ -185,8 +185,8 @@ fn leading_digits(text: &[u8]) -> usize
 fn leading_number(text: &[u8]) -> Option<(u64, &[u8])>
     ensures { option_map (λ p. (p.0, p.1.now)) result ≡ leading_number text.now }
 {
-    let (digits, behind) = text.split_at(leading_digits(text));
-    Some((decimal_below(NUMBERS, digits)?, behind))
+    let (digits, following) = text.split_at(leading_digits(text));
+    Some((decimal_below(NUMBERS, digits)?, following))
 }
 
 /// The second number of a name that is a start, a number, a mark, and a number.
@@ -194,8 +194,8 @@ fn leading_number(text: &[u8]) -> Option<(u64, &[u8])>
 fn second_number(start: &[u8], mark: &[u8], name: &[u8]) -> Option<u64>
     ensures { result ≡ second_number start.now mark.now name.now }
 {
-    let (_, rest) = leading_number(behind(start, name)?)?;
-    let (number, _) = leading_number(behind(mark, rest)?)?;
+    let (_, rest) = leading_number(following(start, name)?)?;
+    let (number, _) = leading_number(following(mark, rest)?)?;
     Some(number)
 }
 

@@ -3,13 +3,13 @@ ghost use Rattle.std.specs.Prelude.{◌≡◌, ◌<◌, IfOk, IfSome, drop, leng
 ghost use Rattle.std.specs.List.{concat, join_with_byte};
 ghost use Rattle.text_bytes.specs.Names.{minus};
 ghost use Rattle.text_tables.specs.Texts.{is_among};
-ghost use Rattle.builtin_path.specs.Texts.{contains, first_place, stands_at};
+ghost use Rattle.builtin_path.specs.Texts.{contains, first_place, is_at};
 
 use std::alloc::{AllocError, Global};
 use text_bytes::Bytes;
 
 /// A text without its first bytes, so many of them.
-pub(crate) fn behind_first(count: usize, text: &[u8]) -> &[u8]
+pub(crate) fn after_first(count: usize, text: &[u8]) -> &[u8]
     ensures { result.now ≡ drop count text.now }
 {
     text.get(count..).unwrap_or(b"")
@@ -23,10 +23,10 @@ pub(crate) fn first_bytes(count: usize, text: &[u8]) -> &[u8]
 }
 
 /// Whether a text is at a place of another.
-fn stands_at(wanted: &[u8], text: &[u8], place: usize) -> bool
-    ensures { result ≡ stands_at wanted.now text.now place }
+fn is_at(wanted: &[u8], text: &[u8], place: usize) -> bool
+    ensures { result ≡ is_at wanted.now text.now place }
 {
-    behind_first(place, text).starts_with(wanted)
+    after_first(place, text).starts_with(wanted)
 }
 
 /// The first place of a text where another one is.
@@ -35,7 +35,7 @@ pub(crate) fn first_place(wanted: &[u8], text: &[u8]) -> Option<usize>
     ensures value { result ≡ first_place wanted.now text.now }
     ensures within { IfSome result (λ place. place < length text.now) }
 {
-    (0..text.len()).position(|place| stands_at(wanted, text, place))
+    (0..text.len()).position(|place| is_at(wanted, text, place))
 }
 
 /// Whether a text is in another.
@@ -43,7 +43,7 @@ pub(crate) fn first_place(wanted: &[u8], text: &[u8]) -> Option<usize>
 pub(crate) fn contains(wanted: &[u8], text: &[u8]) -> bool
     ensures { result ≡ contains wanted.now text.now }
 {
-    (0..text.len()).any(|place| stands_at(wanted, text, place))
+    (0..text.len()).any(|place| is_at(wanted, text, place))
 }
 
 /// Whether a text is one of these.

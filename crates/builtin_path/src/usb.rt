@@ -16,7 +16,7 @@ use text_tables::OwnedTexts;
 
 /// The revision of USB that a root hub has.
 #[derive(Clone, Copy)]
-pub enum Revision {
+pub(crate) enum Revision {
     /// 1 and 1.1.
     One,
     /// 2.
@@ -34,7 +34,7 @@ fn is_at_port(member: &Member<'_>) -> bool
 }
 
 /// What follows the first `-` of a name.
-fn behind_bus(alloc: Global, name: &[u8]) -> Result<Option<Bytes>, AllocError>
+fn after_bus(alloc: Global, name: &[u8]) -> Result<Option<Bytes>, AllocError>
     ensures { IfOk result (λ port. port ≡ option_map (λ cut. cut.1) (split_once minus name.now)) }
 {
     match split_once(b'-', name) {
@@ -51,7 +51,7 @@ fn port_of(alloc: Global, member: &Member<'_>) -> Result<Option<Bytes>, AllocErr
         return Ok(None);
     }
     let name = kernel_name(alloc, member.device.path())?;
-    behind_bus(alloc, name.as_slice())
+    after_bus(alloc, name.as_slice())
 }
 
 /// The last of the devices of USB above one another, the first of which is given: the root hub.

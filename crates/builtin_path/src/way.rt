@@ -7,7 +7,7 @@ ghost use Rattle.builtin_path.specs.Way.{below_subsystem, from_device, members_o
 
 use crate::members::Member;
 use crate::nvme::{controller, namespace};
-use crate::stops::{Stop, behind};
+use crate::stops::{Stop, following};
 use crate::table::stop;
 use builtin_devices::Devices;
 use device_core::Device;
@@ -58,7 +58,7 @@ fn way_by<'d>(
 }
 
 /// The devices up to the first NVMe subsystem, and others after them.
-fn going_on<'d>(
+fn proceeding<'d>(
     mut members: Vec<Member<'d>>,
     others: Vec<Member<'d>>,
 ) -> Result<Vec<Member<'d>>, AllocError>
@@ -82,7 +82,7 @@ pub(crate) fn members_of<'d>(
 {
     let members = from_device(alloc, devices, devices.event().device())?;
     match way_by(alloc, devices, &members)? {
-        Some(controller) => going_on(members, from_device(alloc, devices, controller)?),
+        Some(controller) => proceeding(members, from_device(alloc, devices, controller)?),
         None => Ok(members),
     }
 }
@@ -109,7 +109,7 @@ pub(crate) fn stops_from(
     while let Some((member, above)) = left.split_first() {
         let here = stop(alloc, devices, is_begun, member, above)?;
         is_begun = is_begun_above(is_begun, &here);
-        left = behind(here.next, above);
+        left = following(here.next, above);
         stops.push(here)?;
     }
     Ok(stops)

@@ -17,7 +17,7 @@ use Rattle.builtin_usb.specs.Identities.{IdentityValue, all_texts, full_serial, 
 use Rattle.builtin_usb.specs.UsbId.{bus_properties, known, outcome, own_rows, properties, usb_id}
 use Rattle.builtin_usb.specs.Subjects.{device_of, interface_of as interface_above, unit_of}
 use Rattle.builtin_usb.specs.Units.{unit_texts}
-use Rattle.builtin_usb.specs.Laws.{BusDoesNotMatter, StandsInColons, ToldTwice, as_usb, is_usb}
+use Rattle.builtin_usb.specs.Laws.{BusDoesNotMatter, IsBetweenColons, ReportedTwice, as_usb, is_usb}
 
 pub short : (i : IdentityValue) → length (full_serial i) ≤ 255
 unfolding full_serial
@@ -30,8 +30,8 @@ few_more : (more found : List Interface) → length found ≤ 72 → length (fol
 few_more [] found few = few
 few_more (i ∷ more) found few = few_more more (with_interface found i) (few_by found i (list_any (same_interface i) found) few)
 
-pub few_told : (file : List ℕ) → length (interfaces file) ≤ 72
-few_told file = few_more (filter_map interface_of (descriptors_of file).from) [] (omega arith)
+pub few_reported : (file : List ℕ) → length (interfaces file) ≤ 72
+few_reported file = few_more (filter_map interface_of (descriptors_of file).from) [] (omega arith)
 
 -- a text ends in a colon that follows it
 ends_so : (xs : List ℕ) → ends_in colon (xs ++ colon ∷ []) ≡ true
@@ -53,9 +53,9 @@ within : (is_short : Bool) (found : List Interface) (is_closed : Bool) → (cond
 within true found is_closed some closed = absurd (some refl)
 within false found is_closed some closed = in_colons found is_closed some closed
 
-pub stands_in_colons : (file : List ℕ) → StandsInColons file
+pub is_between_colons : (file : List ℕ) → IsBetweenColons file
 unfolding packed
-stands_in_colons file = within (nat_lt (length file) 18) (interfaces file) (descriptors_of file).is_closed
+is_between_colons file = within (nat_lt (length file) 18) (interfaces file) (descriptors_of file).is_closed
 
 -- the same properties after both prefixes, by rows
 twice_row : (name : Text) (value : Option Text) (usb own : List Pair) → usb ≡ map as_usb own
@@ -67,8 +67,8 @@ twice : (pairs : List (Text × Option Text)) → named (codes "ID_USB_") pairs �
 twice [] = refl
 twice (row ∷ pairs) = twice_row row.0 row.1 (named (codes "ID_USB_") pairs) (named (codes "ID_") pairs) (twice pairs)
 
-pub told_twice : (i : IdentityValue) → ToldTwice i
-told_twice i = twice (rows i)
+pub reported_twice : (i : IdentityValue) → ReportedTwice i
+reported_twice i = twice (rows i)
 
 -- a name that after ID_ does not begin with ID_USB_
 abbrev other_name : Text × Option Text → Bool
@@ -87,7 +87,7 @@ none_row : (name : Text) (value : Option Text) (own : List Pair) → not (starts
 none_row name None own other e = e
 none_row name (Some v) own other e = passed (starts_with nat_eq (codes "ID_" ++ name) (codes "ID_USB_")) (codes "ID_" ++ name, v) (filter is_usb own) other e
 
--- rows with other names tell nothing after ID_USB_
+-- rows with other names give nothing after ID_USB_
 none_usb : (pairs : List (Text × Option Text)) → list_all other_name pairs ≡ true → filter is_usb (named (codes "ID_") pairs) ≡ []
 none_usb [] h = refl
 none_usb (row ∷ pairs) h =

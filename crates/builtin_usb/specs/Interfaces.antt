@@ -29,8 +29,8 @@ abbrev pub ending : Bool → Descriptors
 ending is_closed = record { from = []; is_closed = is_closed }
 
 -- one more descriptor in front
-abbrev pub in_front : Text → Descriptors → Descriptors
-in_front text others = record { from = text ∷ others.from; is_closed = others.is_closed }
+abbrev pub prepended : Text → Descriptors → Descriptors
+prepended text others = record { from = text ∷ others.from; is_closed = others.is_closed }
 
 -- The descriptors of a text after so many bytes to be skipped. The first byte of a descriptor is its length. A
 -- descriptor counts if more bytes are left, from its start on, than an interface has. A length below 3 ends them, and
@@ -41,7 +41,7 @@ descriptors longest (suc passed) (b ∷ text) = descriptors longest passed text
 descriptors longest zero (b ∷ text) =
     if nat_lt (length text) interface_bytes || nat_lt b 3 then ending true
     else if nat_lt longest b then ending false
-    else in_front (b ∷ text) (descriptors longest (b - 1) text)
+    else prepended (b ∷ text) (descriptors longest (b - 1) text)
 
 -- the descriptors of a whole file, of which none may be longer than the file without the bytes of an interface
 abbrev pub descriptors_of : Text → Descriptors

@@ -83,7 +83,7 @@ interface_kind interface =
 
 -- what ID_TYPE says: by the type of the SCSI device if it is reported, else by the interface; empty if there is
 -- neither
-abbrev pub told_kind : (interface : Option DeviceValue) → (unit_type : Option Text) → Text
-told_kind interface (Some text) = kind_in unit_kinds (number_in AsWritten (2 ^ 32 - 1) text)
-told_kind None None = []
-told_kind (Some interface) None = interface_kind interface
+abbrev pub reported_kind : (interface : Option DeviceValue) → (unit_type : Option Text) → Text
+reported_kind interface (Some text) = kind_in unit_kinds (number_in AsWritten (2 ^ 32 - 1) text)
+reported_kind None None = []
+reported_kind (Some interface) None = interface_kind interface

@@ -18,8 +18,8 @@ abbrev pub is_usb : Pair → Bool
 is_usb pair = starts_with nat_eq pair.0 (codes "ID_USB_")
 
 -- what is reported after ID_ is also reported after ID_USB_, with the same values in the same order
-abbrev pub ToldTwice : IdentityValue → Type 0
-ToldTwice i = named (codes "ID_USB_") (rows i) ≡ map as_usb (named (codes "ID_") (rows i))
+abbrev pub ReportedTwice : IdentityValue → Type 0
+ReportedTwice i = named (codes "ID_USB_") (rows i) ≡ map as_usb (named (codes "ID_") (rows i))
 
 -- whether ID_BUS was set before decides neither whether the builtin succeeds, nor which ID_USB_ properties it sets,
 -- nor what is needed
@@ -29,6 +29,6 @@ pub record BusDoesNotMatter (event : EventValue) : Type 0 where
   pub needs : (usb_id event true).needs ≡ (usb_id event false).needs
 
 -- if the descriptors end as they should, a text of interfaces begins with a colon and ends in one
-abbrev pub StandsInColons : (file : List ℕ) → Type 0
-StandsInColons file =
+abbrev pub IsBetweenColons : (file : List ℕ) → Type 0
+IsBetweenColons file =
     packed file ≢ [] → (descriptors_of file).is_closed ≡ true → (begins_with colon (packed file) ≡ true) × (ends_in colon (packed file) ≡ true)

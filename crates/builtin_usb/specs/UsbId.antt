@@ -7,7 +7,7 @@ use Rattle.device_core.specs.Values.{DeviceValue, EventValue}
 use Rattle.builtin_devices.specs.Devices.{attribute}
 use Rattle.builtin_devices.specs.Outcomes.{OutcomeValue, failing, succeeding, needs_of}
 use Rattle.builtin_usb.specs.Interfaces.{packed}
-use Rattle.builtin_usb.specs.Kinds.{told_kind}
+use Rattle.builtin_usb.specs.Kinds.{reported_kind}
 use Rattle.builtin_usb.specs.Subjects.{device_of, interface_of, unit_of}
 use Rattle.builtin_usb.specs.Units.{UnitValue, unit_texts}
 use Rattle.builtin_usb.specs.Identities.{IdentityValue, identity_of, named, rows, unless_empty}
@@ -16,7 +16,7 @@ use Rattle.builtin_usb.specs.Needs.{descriptors_at, words}
 -- what is known about the USB device, if there is one
 abbrev pub known : (interface device : Option DeviceValue) → UnitValue → Option IdentityValue
 known interface None texts = None
-known interface (Some device) texts = identity_of device texts (told_kind interface texts.kind)
+known interface (Some device) texts = identity_of device texts (reported_kind interface texts.kind)
 
 -- the interfaces of a USB device, if there is one
 abbrev pub interfaces_text : EventValue → (device : Option DeviceValue) → Text

@@ -51,7 +51,7 @@ fn interface_of(descriptor: &[u8]) -> Option<Interface>
 }
 
 /// Adds the interface that a descriptor describes, if it is of that kind.
-fn push_told(interfaces: &mut Vec<Interface>, descriptor: &[u8]) -> Result<(), AllocError>
+fn push_reported(interfaces: &mut Vec<Interface>, descriptor: &[u8]) -> Result<(), AllocError>
     requires { 8 ≤ length descriptor.now }
     ensures { OnOk result (interfaces.new.items ≡ interfaces.old.items ++ option_to_list (interface_of descriptor.now)) }
 {
@@ -63,7 +63,7 @@ fn push_told(interfaces: &mut Vec<Interface>, descriptor: &[u8]) -> Result<(), A
 
 /// What follows so many bytes of a text, nothing if it has no more.
 #[tactic(auto, using(std::proofs::lemmas::List::drop_min))]
-fn behind(text: &[u8], size: usize) -> &[u8]
+fn following(text: &[u8], size: usize) -> &[u8]
     ensures { result.now ≡ drop size text.now }
 {
     text.split_at(size.min(text.len())).1
@@ -89,8 +89,8 @@ fn read(alloc: Global, file: &[u8]) -> Result<Found, AllocError>
                 is_closed: false,
             });
         }
-        push_told(&mut interfaces, rest)?;
-        rest = behind(rest, size);
+        push_reported(&mut interfaces, rest)?;
+        rest = following(rest, size);
     }
     Ok(Found {
         interfaces,

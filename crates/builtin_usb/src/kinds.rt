@@ -1,6 +1,6 @@
 //! What ID_TYPE says, by numbers that the kernel reports.
 ghost use Rattle.std.specs.Prelude.{◌≡◌, map, option_copied, option_map};
-ghost use Rattle.builtin_usb.specs.Kinds.{class_of, interface_kind, is_storage, kind_beside, kind_in, storage_kind, subclass_number, subclass_of, takes_scsi, told_kind};
+ghost use Rattle.builtin_usb.specs.Kinds.{class_of, interface_kind, is_storage, kind_beside, kind_in, reported_kind, storage_kind, subclass_number, subclass_of, takes_scsi};
 
 use builtin_devices::{Base, attribute, is_number, number_in};
 use device_core::Device;
@@ -128,8 +128,11 @@ fn interface_kind(interface: &Device<'_>) -> &'static [u8]
 }
 
 /// What ID_TYPE says, empty if nothing determines it: the type of the SCSI device counts before the interface.
-pub(crate) fn told_kind(interface: Option<&Device<'_>>, unit_type: Option<&[u8]>) -> &'static [u8]
-    ensures { result.now ≡ told_kind (option_copied interface.entry) (option_map (λ t. t.now) unit_type.entry) }
+pub(crate) fn reported_kind(
+    interface: Option<&Device<'_>>,
+    unit_type: Option<&[u8]>,
+) -> &'static [u8]
+    ensures { result.now ≡ reported_kind (option_copied interface.entry) (option_map (λ t. t.now) unit_type.entry) }
 {
     if let Some(text) = unit_type {
         return kind_in(

@@ -5,7 +5,7 @@ ghost use Rattle.std.specs.Prelude.{◌≤◌, List, ℕ, length};
 ghost use Rattle.device_core.specs.Values.{EventValue};
 ghost use Rattle.builtin_usb.specs.Identities.{IdentityValue, full_serial};
 ghost use Rattle.builtin_usb.specs.Interfaces.{interfaces, most_interfaces};
-ghost use Rattle.builtin_usb.specs.Laws.{BusDoesNotMatter, StandsInColons, ToldTwice};
+ghost use Rattle.builtin_usb.specs.Laws.{BusDoesNotMatter, IsBetweenColons, ReportedTwice};
 
 /// ID_SERIAL has at most 255 bytes.
 pub fn serials_are_short()
@@ -18,13 +18,13 @@ pub fn interfaces_are_few()
 {}
 
 /// If the descriptors end as they should, a text of interfaces begins with a colon and ends in one.
-pub fn interfaces_stand_in_colons()
-    ensures { (file : List ℕ) → StandsInColons file }
+pub fn interfaces_are_between_colons()
+    ensures { (file : List ℕ) → IsBetweenColons file }
 {}
 
 /// What is reported after `ID_` is also reported after `ID_USB_`, with the same values in the same order.
-pub fn properties_are_told_twice()
-    ensures { (i : IdentityValue) → ToldTwice i }
+pub fn properties_are_reported_twice()
+    ensures { (i : IdentityValue) → ReportedTwice i }
 {}
 
 /// Whether ID_BUS was set before decides neither whether the builtin succeeds, nor which `ID_USB_` properties it

@@ -14,7 +14,7 @@ mod subjects;
 mod units;
 
 pub use laws::{
-    bus_does_not_matter, interfaces_are_few, interfaces_stand_in_colons, properties_are_told_twice,
-    serials_are_short,
+    bus_does_not_matter, interfaces_are_between_colons, interfaces_are_few,
+    properties_are_reported_twice, serials_are_short,
 };
 pub use running::usb_id;

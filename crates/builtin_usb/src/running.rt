@@ -3,12 +3,12 @@ ghost use Rattle.std.specs.Prelude.{◌≡◌, IfOk, option_copied};
 ghost use Rattle.builtin_usb.specs.UsbId.{known, usb_id};
 
 use crate::identities::{Identity, identity_of};
-use crate::kinds::told_kind;
+use crate::kinds::reported_kind;
 use crate::needs::needs_by;
 use crate::properties::properties_of;
 use crate::subjects::{device_of, interface_of, unit_of};
 use crate::units::{Unit, unit_texts};
-use builtin_devices::{Devices, Outcome};
+use builtin_devices::{BuiltinOutcome, Devices};
 use device_core::{Device, Event};
 use std::alloc::{AllocError, Global};
 
@@ -24,7 +24,7 @@ fn known<'a>(
     let Some(device) = device else {
         return Ok(None);
     };
-    let kind = told_kind(interface, texts.kind);
+    let kind = reported_kind(interface, texts.kind);
     identity_of(alloc, device, texts, kind)
 }
 
@@ -35,7 +35,11 @@ fn known<'a>(
 /// The builtin fails if there is no USB device, if the class of its interface is not a number, or if its vendor or
 /// its product has no number.
 #[tactic(auto, unfolding(crate::specs::UsbId::usb_id))]
-pub fn usb_id(alloc: Global, event: &Event<'_>, is_bus_set: bool) -> Result<Outcome, AllocError>
+pub fn usb_id(
+    alloc: Global,
+    event: &Event<'_>,
+    is_bus_set: bool,
+) -> Result<BuiltinOutcome, AllocError>
     ensures { IfOk result (λ outcome. outcome ≡ usb_id event.now is_bus_set) }
 {
     let devices = Devices::new(alloc, event)?;
@@ -47,8 +51,8 @@ pub fn usb_id(alloc: Global, event: &Event<'_>, is_bus_set: bool) -> Result<Outc
     match known(alloc, interface, device, &texts)? {
         Some(identity) => {
             let properties = properties_of(alloc, event, interface, device, &identity, is_bus_set)?;
-            Ok(Outcome::succeeding(properties, needs))
+            Ok(BuiltinOutcome::succeeding(properties, needs))
         }
-        None => Ok(Outcome::failing(alloc, needs)),
+        None => Ok(BuiltinOutcome::failing(alloc, needs)),
     }
 }

@@ -1,7 +1,7 @@
-pub mod GoingOn
+pub mod PartialRuns
 pub mod Reading
 pub mod Knowing
 pub mod Comparing
 pub mod Terminals
 pub mod Runs
-pub mod Telling
+pub mod Reporting

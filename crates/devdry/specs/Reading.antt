@@ -10,7 +10,7 @@ use Rattle.devdry_files.specs.Places.{Wants}
 use Rattle.devdry_files.specs.declared.fault.ReadFault.{ReadFault}
 use Rattle.devdry_files.specs.declared.fault.ReadFault.TheVariants.{Memory}
 use Rattle.devdry_files.specs.declared.places.Wanted.{Wanted}
-use Rattle.devdry.specs.Telling.{TellsReadFault}
+use Rattle.devdry.specs.Reporting.{ReportsReadFault}
 
 -- the files and the bytes of the index are those that the line asks for
 pub record AreReadFor (may : Answer → Type 0) (line : Line) (files : List SourceFile) (index : Option (List ℕ)) : Type 0 where
@@ -39,7 +39,7 @@ IsFaultOf may line fault = (fault ≡ Memory)
 pub record FailsAt (IsFault : ReadFault → Type 0) (status : ℕ) (before now : Streams) : Type 0 where
   pub fault : ReadFault
   pub is_fault : IsFault fault
-  pub tells : TellsReadFault fault status before.err now.err
+  pub reports : ReportsReadFault fault status before.err now.err
   pub unread : now.input ≡ before.input
   pub untouched : now.out ≡ before.out
 

@@ -16,10 +16,10 @@ use Rattle.devdry_words.specs.Commands.{devdry}
 use Rattle.devdry_words.specs.Answers.{AnswersWords}
 use Rattle.devdry_words.specs.Requests.{IsRequestOf}
 use Rattle.devdry.specs.Comparing.{ComparesLines}
-use Rattle.devdry.specs.GoingOn.{FailsAtTold, ListsFiles, RunsSome}
+use Rattle.devdry.specs.PartialRuns.{FailsAtReport, ListsFiles, RunsSome}
 use Rattle.devdry.specs.Knowing.{IsFaultOfAccounts, KnowsAccounts}
 use Rattle.devdry.specs.Reading.{AreReadFor, FailsAt, FailsToRead}
-use Rattle.devdry.specs.Telling.{TellsLineFault}
+use Rattle.devdry.specs.Reporting.{ReportsLineFault}
 use Rattle.devdry.specs.Terminals.{shown_request}
 use Rattle.devdry.specs.declared.terminals.Terminals.{Terminals}
 
@@ -74,14 +74,14 @@ pub record DoesWaiting (may : Answer → Type 0) (request : Request) (status : �
   pub does : DoesRequest may request status (record { input = before.input; out = before.out; err = err }) now
 
 -- what a request does, after the line on waiting or without it
-abbrev pub DoesBehind : Bool → (Answer → Type 0) → Request → ℕ → Streams → Streams → Type 0
-DoesBehind true may request status before now = DoesWaiting may request status before now ⊎ FailsAtTold waiting status before now
-DoesBehind false may request status before now = DoesRequest may request status before now
+abbrev pub DoesAfter : Bool → (Answer → Type 0) → Request → ℕ → Streams → Streams → Type 0
+DoesAfter true may request status before now = DoesWaiting may request status before now ⊎ FailsAtReport waiting status before now
+DoesAfter false may request status before now = DoesRequest may request status before now
 
 -- what a request does, given whether the input is a terminal
 abbrev pub RunsRequest : Bool → (Answer → Type 0) → Request → ℕ → Streams → Streams → Type 0
 RunsRequest from_terminal may request status before now =
-    DoesBehind (from_terminal && takes_blocks request) may request status before now
+    DoesAfter (from_terminal && takes_blocks request) may request status before now
 
 -- The files of users and groups that a request names were read, and the request is run with what they list.
 pub record RunsOverAccounts (from_terminal : Bool) (may : Answer → Type 0) (named : Request) (status : ℕ) (before now : Streams) : Type 0 where
@@ -105,7 +105,7 @@ pub record RunsWords (terminals : Terminals) (may : Answer → Type 0) (words : 
 pub record RefusesWords (words : List (List ℕ)) (status : ℕ) (before now : Streams) : Type 0 where
   pub fault : LineFault
   pub answers : AnswersWords (fault_of devdry words) (subcommand_of devdry words) fault
-  pub tells : TellsLineFault fault status (outputs before) (outputs now)
+  pub reports : ReportsLineFault fault status (outputs before) (outputs now)
   pub unread : now.input ≡ before.input
 
 -- what words do, given which streams are terminals

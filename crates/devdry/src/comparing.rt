@@ -2,8 +2,8 @@
 ghost use Rattle.std.specs.Prelude.{IfErr, IfOk};
 ghost use Rattle.devdry.specs.Comparing.{AreFilesFor, AreReadForBoth, ComparesLines, IsFaultOfBoth, IsFileFault};
 
+use crate::reporting::report_read_fault;
 use crate::running::{Inputs, read_wanted};
-use crate::telling::tell_read_fault;
 use devdry_files::{Disk, ReadFault, read_all, wanted};
 use engine_compare::serve_compare;
 use engine_ends::{Line, Sink, Source};
@@ -42,7 +42,7 @@ pub(crate) fn run_compare<D: Disk, I: Source, W: Sink, E: Sink>(
                 alloc, old, new, both.old, files, index, input, output, error,
             )
         }
-        Err(fault) => tell_read_fault(&fault, error),
+        Err(fault) => report_read_fault(&fault, error),
     }
 }
 

@@ -3,8 +3,8 @@ ghost use Rattle.std.specs.Prelude.{IfErr, IfOk};
 ghost use Rattle.devdry.specs.Knowing.{IsFaultOfAccounts, KnowsAccounts};
 ghost use Rattle.devdry.specs.Runs.{RunsKnowing};
 
+use crate::reporting::report_read_fault;
 use crate::running::run_request;
-use crate::telling::tell_read_fault;
 use devdry_files::{Disk, ReadFault, read_account_files};
 use engine_ends::{Request, Sink, Source};
 use std::alloc::Global;
@@ -26,7 +26,7 @@ pub(crate) fn run_knowing<D: Disk, I: Source, W: Sink, E: Sink>(
 {
     match read_accounts(alloc, disk, &mut request) {
         Ok(()) => run_request(alloc, disk, &request, from_terminal, input, output, error),
-        Err(fault) => tell_read_fault(&fault, error),
+        Err(fault) => report_read_fault(&fault, error),
     }
 }
 

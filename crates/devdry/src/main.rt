@@ -8,14 +8,14 @@
 ghost use Rattle.std.specs.Prelude.{◌≡◌, drop};
 
 mod comparing;
-mod going_on;
 mod knowing;
+mod partial_runs;
+mod reporting;
 mod running;
-mod telling;
 mod terminals;
 
+use crate::reporting::report_arguments_fault;
 use crate::running::run_words;
-use crate::telling::tell_arguments_fault;
 use crate::terminals::Terminals;
 use devdry_files::RealDisk;
 use engine_ends::{SinkOver, SourceOver};
@@ -67,7 +67,7 @@ fn main(rt: HostRuntime) -> ExitCode {
             &mut output,
             &mut error,
         ),
-        Err(fault) => tell_arguments_fault(&fault, &mut error),
+        Err(fault) => report_arguments_fault(&fault, &mut error),
     };
     ExitCode::from(status)
 }

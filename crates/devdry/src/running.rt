@@ -4,9 +4,9 @@ ghost use Rattle.devdry.specs.Reading.{AreReadFor, IsFaultOf};
 ghost use Rattle.devdry.specs.Runs.{DoesRequest, Runs, RunsLine, RunsRequest, RunsWanted, takes_blocks};
 
 use crate::comparing::run_compare;
-use crate::going_on::{run_files, run_some};
 use crate::knowing::run_knowing;
-use crate::telling::{tell_line_fault, tell_read_fault};
+use crate::partial_runs::{run_files, run_some};
+use crate::reporting::{report_line_fault, report_read_fault};
 use crate::terminals::{Terminals, shown_request};
 use devdry_files::{Disk, ReadFault, read_all, read_index, wanted};
 use devdry_words::parse_line;
@@ -50,7 +50,7 @@ pub(crate) fn run_words<D: Disk, I: Source, W: Sink, E: Sink>(
             let request = shown_request(request, terminals.colors);
             run_knowing(alloc, disk, request, terminals.input, input, output, error)
         }
-        Err(fault) => tell_line_fault(&fault, output, error),
+        Err(fault) => report_line_fault(&fault, output, error),
     }
 }
 
@@ -149,7 +149,7 @@ fn run_wanted<D: Disk, I: Source, W: Sink, E: Sink>(
             let index = index.as_ref().map(Bytes::as_slice);
             serve(alloc, line, files, index, input, output, error)
         }
-        Err(fault) => tell_read_fault(&fault, error),
+        Err(fault) => report_read_fault(&fault, error),
     }
 }
 

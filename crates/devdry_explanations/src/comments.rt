@@ -5,7 +5,7 @@
 /// Nothing to ignore.
 pub(crate) const I1: &str = r#"I1 nothing to ignore
 
-Take the code out of the comment, which silences nothing.
+Remove the code from the comment, which silences nothing.
 
     $ cat i1.rules
     # devdry: ignore V6,S2
@@ -13,17 +13,17 @@ Take the code out of the comment, which silences nothing.
     $ devdry verify --ignore comments i1.rules
     i1.rules:1: I1 nothing to ignore: V6
     1 files checked, 0 good, 1 bad
-    $ cat i1-mended.rules
+    $ cat i1-fixed.rules
     # devdry: ignore S2
     KERNEL=="sda",TAG+="disk"
-    $ devdry verify --ignore comments i1-mended.rules
+    $ devdry verify --ignore comments i1-fixed.rules
     1 files checked, 1 good, 0 bad
 "#;
 
 /// Unknown code.
 pub(crate) const I2: &str = r#"I2 unknown code
 
-Write "ignore" or "ignore-file", a space, and codes such as V6,S2. A comment that begins with `# devdry:` and goes on in another way is I2, too, with what stands behind the colon.
+Write "ignore" or "ignore-file", a space, and codes such as V6,S2. A comment that begins with `# devdry:` and goes on in another way is I2, too, with what follows the colon.
 
     $ cat i2.rules
     # devdry: ignore X2
@@ -32,9 +32,9 @@ Write "ignore" or "ignore-file", a space, and codes such as V6,S2. A comment tha
     i2.rules:1: I2 unknown code: X2
     i2.rules:2: S2 blank after a comma expected: TAG
     1 files checked, 0 good, 1 bad
-    $ cat i2-mended.rules
+    $ cat i2-fixed.rules
     # devdry: ignore S2
     KERNEL=="sda",TAG+="disk"
-    $ devdry verify --ignore comments i2-mended.rules
+    $ devdry verify --ignore comments i2-fixed.rules
     1 files checked, 1 good, 0 bad
 "#;

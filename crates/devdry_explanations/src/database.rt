@@ -5,7 +5,7 @@
 /// Property without a match.
 pub(crate) const H1: &str = r#"H1 property without a match
 
-Put the match above its properties. No empty line stands between them.
+Put the match above its properties. There is no empty line between them.
 
     $ cat h1.hwdb
      ID_VENDOR=Linux
@@ -14,11 +14,11 @@ Put the match above its properties. No empty line stands between them.
     $ devdry query usb:v1D6Bp0002 h1.hwdb
     h1.hwdb:1: H1 property without a match: ID_VENDOR=Linux
     ID_AUTOSUSPEND=1
-    $ cat h1-mended.hwdb
+    $ cat h1-fixed.hwdb
     usb:v1D6B*
      ID_VENDOR=Linux
      ID_AUTOSUSPEND=1
-    $ devdry query usb:v1D6Bp0002 h1-mended.hwdb
+    $ devdry query usb:v1D6Bp0002 h1-fixed.hwdb
     ID_AUTOSUSPEND=1
     ID_VENDOR=Linux
 "#;
@@ -33,10 +33,10 @@ Put the properties below the match, each after a space. Most often that space is
     ID_VENDOR=Linux
     $ devdry query usb:v1D6Bp0002 h2.hwdb
     h2.hwdb:1: H2 match without a property: usb:v1D6B*
-    $ cat h2-mended.hwdb
+    $ cat h2-fixed.hwdb
     usb:v1D6B*
      ID_VENDOR=Linux
-    $ devdry query usb:v1D6Bp0002 h2-mended.hwdb
+    $ devdry query usb:v1D6Bp0002 h2-fixed.hwdb
     ID_VENDOR=Linux
 "#;
 
@@ -52,13 +52,13 @@ Put an empty line between two records. The unindented line and the rest of its r
      ID_MODEL=hub 2
     $ devdry query usb:v1D6Bp0002 h3.hwdb
     h3.hwdb:3: H3 unindented line after properties: usb:v1D6Bp0002*
-    $ cat h3-mended.hwdb
+    $ cat h3-fixed.hwdb
     usb:v1D6Bp0001*
      ID_MODEL=hub 1
 
     usb:v1D6Bp0002*
      ID_MODEL=hub 2
-    $ devdry query usb:v1D6Bp0002 h3-mended.hwdb
+    $ devdry query usb:v1D6Bp0002 h3-fixed.hwdb
     ID_MODEL=hub 2
 "#;
 
@@ -74,11 +74,11 @@ A property is written `KEY=VALUE`.
     $ devdry query usb:v1D6Bp0002 h4.hwdb
     h4.hwdb:2: H4 no =: ID_VENDOR Linux
     ID_AUTOSUSPEND=1
-    $ cat h4-mended.hwdb
+    $ cat h4-fixed.hwdb
     usb:v1D6B*
      ID_VENDOR=Linux
      ID_AUTOSUSPEND=1
-    $ devdry query usb:v1D6Bp0002 h4-mended.hwdb
+    $ devdry query usb:v1D6Bp0002 h4-fixed.hwdb
     ID_AUTOSUSPEND=1
     ID_VENDOR=Linux
 "#;
@@ -86,7 +86,7 @@ A property is written `KEY=VALUE`.
 /// Empty key.
 pub(crate) const H5: &str = r#"H5 empty key
 
-Before the `=` of a property stands its key.
+Write the property's key before the `=`.
 
     $ cat h5.hwdb
     usb:v1D6B*
@@ -95,11 +95,11 @@ Before the `=` of a property stands its key.
     $ devdry query usb:v1D6Bp0002 h5.hwdb
     h5.hwdb:2: H5 empty key: =Linux
     ID_AUTOSUSPEND=1
-    $ cat h5-mended.hwdb
+    $ cat h5-fixed.hwdb
     usb:v1D6B*
      ID_VENDOR=Linux
      ID_AUTOSUSPEND=1
-    $ devdry query usb:v1D6Bp0002 h5-mended.hwdb
+    $ devdry query usb:v1D6Bp0002 h5-fixed.hwdb
     ID_AUTOSUSPEND=1
     ID_VENDOR=Linux
 "#;
@@ -114,9 +114,9 @@ A class of the C library depends on the locale: write its members out.
      ID_VENDOR=Linux
     $ devdry query usb:v1D6Bp0002 h6.hwdb
     h6.hwdb:1: H6 pattern not supported: usb:v1D6Bp000[[:digit:]]*
-    $ cat h6-mended.hwdb
+    $ cat h6-fixed.hwdb
     usb:v1D6Bp000[0-9]*
      ID_VENDOR=Linux
-    $ devdry query usb:v1D6Bp0002 h6-mended.hwdb
+    $ devdry query usb:v1D6Bp0002 h6-fixed.hwdb
     ID_VENDOR=Linux
 "#;

@@ -5,7 +5,7 @@
 /// Bad syntax.
 pub(crate) const V1: &str = r#"V1 bad syntax
 
-From here on there is no `KEY{attribute} operator "value"`: most often a quote is missing. In the example it is the one behind `sd*`: the value then ends at the next quote, and what follows makes no sense.
+No `KEY{attribute} operator "value"` begins here: most often a quote is missing. In the example it is the one after `sd*`: the value then ends at the next quote, and the rest makes no sense.
 
     $ cat v1.rules
     KERNEL=="sd*, TAG+="disk"
@@ -14,10 +14,10 @@ From here on there is no `KEY{attribute} operator "value"`: most often a quote i
     v1.rules:1: V1 bad syntax: disk"
     v1.rules:2: V1 bad syntax: SUBSYSTEM==block, TAG+="disk"
     1 files checked, 0 good, 1 bad
-    $ cat v1-mended.rules
+    $ cat v1-fixed.rules
     KERNEL=="sd*", TAG+="disk"
     SUBSYSTEM=="block", TAG+="disk"
-    $ devdry verify v1-mended.rules
+    $ devdry verify v1-fixed.rules
     1 files checked, 1 good, 0 bad
 
 A word that begins with `\x0D` is the carriage return of a file with the line ends of another system.
@@ -25,8 +25,8 @@ A word that begins with `\x0D` is the carriage return of a file with the line en
     $ printf 'KERNEL=="sd*", TAG+="disk"\r\n' > v1-ends.rules
     $ devdry verify --no-summary v1-ends.rules
     v1-ends.rules:1: V1 bad syntax: \x0D
-    $ tr -d '\r' < v1-ends.rules > v1-ends-mended.rules
-    $ devdry verify v1-ends-mended.rules
+    $ tr -d '\r' < v1-ends.rules > v1-ends-fixed.rules
+    $ devdry verify v1-ends-fixed.rules
     1 files checked, 1 good, 0 bad
 "#;
 
@@ -42,17 +42,17 @@ Keys are written in capitals, and those that look at a parent end in `S`.
     v2.rules:1: V2 unknown key: subsystem
     v2.rules:2: V2 unknown key: SUBSYSTEMM
     1 files checked, 0 good, 1 bad
-    $ cat v2-mended.rules
+    $ cat v2-fixed.rules
     SUBSYSTEM=="block", KERNEL=="sd*", TAG+="disk"
     SUBSYSTEM=="block", TAG+="disk"
-    $ devdry verify v2-mended.rules
+    $ devdry verify v2-fixed.rules
     1 files checked, 1 good, 0 bad
 "#;
 
 /// Operator not allowed.
 pub(crate) const V3: &str = r#"V3 operator not allowed
 
-Use `==` or `!=` to compare, another operator to assign: this key takes only some of them. A key that looks at the device can't be assigned; OWNER, GROUP, MODE and RUN can't be compared.
+Use `==` or `!=` to compare, and another operator to assign: this key takes only some of them. A key that looks at the device can't be assigned; OWNER, GROUP, MODE and RUN can't be compared.
 
     $ cat v3.rules
     KERNEL="sd*", TAG+="disk"
@@ -61,17 +61,17 @@ Use `==` or `!=` to compare, another operator to assign: this key takes only som
     v3.rules:1: V3 operator not allowed: KERNEL
     v3.rules:2: V3 operator not allowed: GROUP
     1 files checked, 0 good, 1 bad
-    $ cat v3-mended.rules
+    $ cat v3-fixed.rules
     KERNEL=="sd*", TAG+="disk"
     KERNEL=="sd*", GROUP="disk"
-    $ devdry verify v3-mended.rules
+    $ devdry verify v3-fixed.rules
     1 files checked, 1 good, 0 bad
 "#;
 
 /// Attribute missing or not allowed.
 pub(crate) const V4: &str = r#"V4 attribute missing or not allowed
 
-ATTR, ENV and a few more need a name in braces, most other keys have none. The few are ATTRS, SYSCTL, SECLABEL, CONST and IMPORT. RUN and TEST may have one of a few. With `--udev` CONST has `arch` or `virt` alone, and TEST any mode up to 7777.
+ATTR, ENV and a few more need a name in braces; most other keys take none. The few are ATTRS, SYSCTL, SECLABEL, CONST and IMPORT. RUN and TEST take only certain names. With `--udev` CONST takes only `arch` and `virt`, and TEST any mode up to 7777.
 
     $ cat v4.rules
     ATTR=="1", TAG+="x"
@@ -84,19 +84,19 @@ ATTR, ENV and a few more need a name in braces, most other keys have none. The f
     v4.rules:3: V4 attribute missing or not allowed: RUN
     v4.rules:4: V4 attribute missing or not allowed: TEST
     1 files checked, 0 good, 1 bad
-    $ cat v4-mended.rules
+    $ cat v4-fixed.rules
     ATTR{removable}=="1", TAG+="x"
     KERNEL=="sda", TAG+="x"
     KERNEL=="sda", RUN{program}+="/bin/true"
     TEST{0444}=="/run/x", TAG+="x"
-    $ devdry verify v4-mended.rules
+    $ devdry verify v4-fixed.rules
     1 files checked, 1 good, 0 bad
 "#;
 
 /// Bad value.
 pub(crate) const V5: &str = r#"V5 bad value
 
-Use one of the values that this key takes. The value is an option of OPTIONS that there is not, an empty name of LABEL or GOTO, or `i"..."` where it has no meaning. `last_rule`, which old udevs had, has no successor; a jump to the end of the file leaves at least the rules of this file. With `--udev` a rule with an unknown option is kept, an empty name is a name like others, and the value of `log_level` is looked at, too.
+Use one of the values that this key takes. The value is an unknown option of OPTIONS, an empty name of LABEL or GOTO, or `i"..."` where it has no meaning. `last_rule` of old versions of udev has no replacement; a jump to the end of the file at least skips the other rules of this file. With `--udev` a rule with an unknown option is kept, an empty name is a name like any other, and the value of `log_level` is checked, too.
 
     $ cat v5.rules
     KERNEL=="sda", OPTIONS+="last_rule"
@@ -107,19 +107,19 @@ Use one of the values that this key takes. The value is an option of OPTIONS tha
     v5.rules:2: V5 bad value: link_priority=high
     v5.rules:3: V5 bad value: /bin/id
     1 files checked, 0 good, 1 bad
-    $ cat v5-mended.rules
+    $ cat v5-fixed.rules
     KERNEL=="sda", GOTO="end"
     KERNEL=="sdb", OPTIONS+="link_priority=100"
     PROGRAM=="/bin/id", TAG+="x"
     LABEL="end"
-    $ devdry verify v5-mended.rules
+    $ devdry verify v5-fixed.rules
     1 files checked, 1 good, 0 bad
 "#;
 
 /// Bad substitution.
 pub(crate) const V6: &str = r#"V6 bad substitution
 
-Behind `$` and `%` stands one of udev's names or letters; the signs themselves are `$$` and `%%`. They are listed in behaviour.md. Of those that udev still takes, write `$devnode` for `$tempnode` and `$attr{..}` for `$sysfs{..}`; for `%d`, `%D` and `%L` see differences.md. With `--udev` all of these are substitutions, and a rule with a bad one is kept.
+Write one of udev's names or letters after `$` and `%`; the signs themselves are `$$` and `%%`. They are listed in behaviour.md. Of those that udev still accepts, write `$devnode` for `$tempnode` and `$attr{..}` for `$sysfs{..}`; for `%d`, `%D` and `%L` see differences.md. With `--udev` all of these are substitutions, and a rule with a bad one is kept.
 
     $ cat v6.rules
     KERNEL=="sda", SYMLINK+="disk/$device"
@@ -130,11 +130,11 @@ Behind `$` and `%` stands one of udev's names or letters; the signs themselves a
     v6.rules:2: V6 bad substitution: 100%
     v6.rules:3: V6 bad substitution: $attr
     1 files checked, 0 good, 1 bad
-    $ cat v6-mended.rules
+    $ cat v6-fixed.rules
     KERNEL=="sda", SYMLINK+="disk/$kernel"
     KERNEL=="sda", ENV{LABEL}="100%%"
     KERNEL=="sda", ENV{VENDOR}="$attr{vendor}"
-    $ devdry verify v6-mended.rules
+    $ devdry verify v6-fixed.rules
     1 files checked, 1 good, 0 bad
 "#;
 
@@ -153,11 +153,11 @@ A jump goes forward only, and stays in its file: give a later rule this label. T
     v7.rules:2: V7 no later label: end_of_disks
     v7.rules:4: S4 label unused: disks_end
     1 files checked, 0 good, 1 bad
-    $ cat v7-mended.rules
+    $ cat v7-fixed.rules
     SUBSYSTEM!="block", GOTO="disks_end"
     KERNEL=="sd*", TAG+="disk"
     LABEL="disks_end"
-    $ devdry verify v7-mended.rules
+    $ devdry verify v7-fixed.rules
     1 files checked, 1 good, 0 bad
 "#;
 
@@ -174,10 +174,10 @@ A rule has one label and one jump; the later ones are dropped. With `--udev` the
     v8.rules:2: V7 no later label: optical
     v8.rules:3: V8 label or goto given twice: optical
     1 files checked, 0 good, 1 bad
-    $ cat v8-mended.rules
+    $ cat v8-fixed.rules
     KERNEL=="sd*|sr*", GOTO="disk"
     LABEL="disk", TAG+="x"
-    $ devdry verify v8-mended.rules
+    $ devdry verify v8-fixed.rules
     1 files checked, 1 good, 0 bad
 "#;
 
@@ -190,15 +190,15 @@ A rule has at most 16,384 bytes, its continued lines together. With `--udev` con
     $ devdry verify v9.rules
     v9.rules:1: V9 line too long
     1 files checked, 0 good, 1 bad
-    $ for i in $(seq 1000); do echo "KERNEL==\"sda\", ENV{NUMBER_$i}=\"1\""; done > v9-mended.rules
-    $ devdry verify v9-mended.rules
+    $ for i in $(seq 1000); do echo "KERNEL==\"sda\", ENV{NUMBER_$i}=\"1\""; done > v9-fixed.rules
+    $ devdry verify v9-fixed.rules
     1 files checked, 1 good, 0 bad
 "#;
 
 /// Bad quote prefix.
 pub(crate) const V10: &str = r#"V10 bad quote prefix
 
-Before a value may stand `e`, for escapes, and behind `==` and `!=` also `i`, to ignore case.
+Only `e`, for escapes, may come before the quotes, and after `==` and `!=` also `i`, to ignore case.
 
     $ cat v10.rules
     KERNEL=="sda", SYMLINK+=i"disk"
@@ -207,10 +207,10 @@ Before a value may stand `e`, for escapes, and behind `==` and `!=` also `i`, to
     v10.rules:1: V10 bad quote prefix: i
     v10.rules:2: V10 bad quote prefix: r
     1 files checked, 0 good, 1 bad
-    $ cat v10-mended.rules
+    $ cat v10-fixed.rules
     KERNEL==i"sda", SYMLINK+="disk"
     KERNEL==e"sd\x61", TAG+="disk"
-    $ devdry verify v10-mended.rules
+    $ devdry verify v10-fixed.rules
     1 files checked, 1 good, 0 bad
 "#;
 
@@ -224,16 +224,16 @@ A class of the C library depends on the locale: write its members out. With `--u
     $ devdry verify v11.rules
     v11.rules:1: V11 set not supported: sd[[:alpha:]]
     1 files checked, 0 good, 1 bad
-    $ cat v11-mended.rules
+    $ cat v11-fixed.rules
     KERNEL=="sd[a-zA-Z]", TAG+="disk"
-    $ devdry verify v11-mended.rules
+    $ devdry verify v11-fixed.rules
     1 files checked, 1 good, 0 bad
 "#;
 
 /// Line continuation at the file's end.
 pub(crate) const V12: &str = r#"V12 line continuation at the file's end
 
-Take the backslash away, or write the line that is to follow. A backslash at the end says that the rule goes on, and nothing follows: half of a rule could do the wrong thing, so it is none. With `--udev` the number is that of the file's last line.
+Remove the backslash, or add the line that should follow. A backslash at the end means that the rule goes on, but nothing follows: half a rule could do the wrong thing, so it is dropped. With `--udev` the number is that of the file's last line.
 
     $ cat v12.rules
     KERNEL=="sd*", \
@@ -241,9 +241,9 @@ Take the backslash away, or write the line that is to follow. A backslash at the
     $ devdry verify v12.rules
     v12.rules:1: V12 line continuation at the file's end
     1 files checked, 0 good, 1 bad
-    $ cat v12-mended.rules
+    $ cat v12-fixed.rules
     KERNEL=="sd*", \
       TAG+="disk"
-    $ devdry verify v12-mended.rules
+    $ devdry verify v12-fixed.rules
     1 files checked, 1 good, 0 bad
 "#;

@@ -48,7 +48,7 @@ fn section_on_kind(kind: MessageKind) -> &'static str
         MessageKind::OldSubsystemName => udev::V23,
         MessageKind::AssignExpected => udev::V24,
         MessageKind::UnknownAccount => udev::V25,
-        MessageKind::FileGivenUp => udev::V26,
+        MessageKind::FileAbandoned => udev::V26,
         MessageKind::CommaExpected => style::S1,
         MessageKind::BlankExpected => style::S2,
         MessageKind::ReadAsAssign => style::S3,

@@ -16,11 +16,11 @@ Put one comma between two tokens, and none after the last. The word is the secon
     s1.rules:2: S1 one comma expected: TAG
     s1.rules:3: S1 one comma expected
     1 files checked, 0 good, 1 bad
-    $ cat s1-mended.rules
+    $ cat s1-fixed.rules
     KERNEL=="sda", TAG+="disk"
     KERNEL=="sdb", TAG+="disk"
     KERNEL=="sdc", TAG+="disk"
-    $ devdry verify s1-mended.rules
+    $ devdry verify s1-fixed.rules
     1 files checked, 1 good, 0 bad
 "#;
 
@@ -34,9 +34,9 @@ Put a space after the comma.
     $ devdry verify s2.rules
     s2.rules:1: S2 blank after a comma expected: TAG
     1 files checked, 0 good, 1 bad
-    $ cat s2-mended.rules
+    $ cat s2-fixed.rules
     KERNEL=="sda", TAG+="disk"
-    $ devdry verify s2-mended.rules
+    $ devdry verify s2-fixed.rules
     1 files checked, 1 good, 0 bad
 "#;
 
@@ -52,17 +52,17 @@ The key has no `:=` or `+=` of its own: write `=`. With `--udev` this is V24.
     s3.rules:1: S3 operator read as =: ENV
     s3.rules:2: S3 operator read as =: MODE
     1 files checked, 0 good, 1 bad
-    $ cat s3-mended.rules
+    $ cat s3-fixed.rules
     KERNEL=="sda", ENV{ID_MINE}="1"
     KERNEL=="sda", MODE="0660"
-    $ devdry verify s3-mended.rules
+    $ devdry verify s3-fixed.rules
     1 files checked, 1 good, 0 bad
 "#;
 
 /// Label unused.
 pub(crate) const S4: &str = r#"S4 label unused
 
-Remove the label, or correct the GOTO that should go to it. No jump of this file goes to the label. After a rename the jump is told of too, as V7.
+Remove the label, or correct the GOTO that should go to it. No jump of this file goes to the label. After a rename the jump is reported too, as V7.
 
     $ cat s4.rules
     SUBSYSTEM=="block", TAG+="disk"
@@ -70,10 +70,10 @@ Remove the label, or correct the GOTO that should go to it. No jump of this file
     $ devdry verify s4.rules
     s4.rules:2: S4 label unused: disks_end
     1 files checked, 0 good, 1 bad
-    $ cat s4-mended.rules
+    $ cat s4-fixed.rules
     SUBSYSTEM!="block", GOTO="disks_end"
     TAG+="disk"
     LABEL="disks_end"
-    $ devdry verify s4-mended.rules
+    $ devdry verify s4-fixed.rules
     1 files checked, 1 good, 0 bad
 "#;

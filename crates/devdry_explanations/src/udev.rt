@@ -5,199 +5,199 @@
 /// Reserved property.
 pub(crate) const V13: &str = r#"V13 reserved property
 
-Only udev itself sets this property: assign another one, or use NAME or SYMLINK. `--udev` alone tells of it, and the rule is dropped. The properties are ACTION, DEVLINKS, DEVNAME, DEVPATH, DEVTYPE, DRIVER, IFINDEX, MAJOR, MINOR, SEQNUM, SUBSYSTEM and TAGS.
+Only udev itself sets this property: assign another one, or use NAME or SYMLINK. Only `--udev` reports it, and the rule is dropped. The properties are ACTION, DEVLINKS, DEVNAME, DEVPATH, DEVTYPE, DRIVER, IFINDEX, MAJOR, MINOR, SEQNUM, SUBSYSTEM and TAGS.
 
     $ cat v13.rules
     SUBSYSTEM=="net", ENV{DEVNAME}="lan0"
     $ devdry verify --udev v13.rules
     v13.rules:1: V13 reserved property: DEVNAME
     1 files checked, 0 good, 1 bad
-    $ cat v13-mended.rules
+    $ cat v13-fixed.rules
     SUBSYSTEM=="net", NAME="lan0"
-    $ devdry verify --udev v13-mended.rules
+    $ devdry verify --udev v13-fixed.rules
     1 files checked, 1 good, 0 bad
 "#;
 
 /// Name without effect.
 pub(crate) const V14: &str = r#"V14 name without effect
 
-Write another name than the kernel's, or take NAME away. `--udev` alone tells of it, and the rule is dropped. The value is empty, or it is `%k` and no more.
+Write a name other than the kernel's, or remove NAME. Only `--udev` reports it, and the rule is dropped. The value is empty, or just `%k`.
 
     $ cat v14.rules
     SUBSYSTEM=="net", NAME="%k"
     $ devdry verify --udev v14.rules
     v14.rules:1: V14 name without effect: %k
     1 files checked, 0 good, 1 bad
-    $ cat v14-mended.rules
+    $ cat v14-fixed.rules
     SUBSYSTEM=="net", NAME="lan%n"
-    $ devdry verify --udev v14-mended.rules
+    $ devdry verify --udev v14-fixed.rules
     1 files checked, 1 good, 0 bad
 "#;
 
 /// Unknown builtin.
 pub(crate) const V15: &str = r#"V15 unknown builtin
 
-Begin the value with the name of one of udev's builtins, as `usb_id`. `--udev` alone tells of it, and the rule is dropped. The builtins are blkid, btrfs, hwdb, input_id, keyboard, kmod, net_driver, net_id, net_setup_link, path_id, usb_id and uaccess. The beginning of a name will do.
+Begin the value with the name of one of udev's builtins, such as `usb_id`. Only `--udev` reports it, and the rule is dropped. The builtins are blkid, btrfs, hwdb, input_id, keyboard, kmod, net_driver, net_id, net_setup_link, path_id, usb_id and uaccess. The beginning of a name is enough.
 
     $ cat v15.rules
     SUBSYSTEM=="usb", IMPORT{builtin}="usb-id"
     $ devdry verify --udev v15.rules
     v15.rules:1: V15 unknown builtin: usb-id
     1 files checked, 0 good, 1 bad
-    $ cat v15-mended.rules
+    $ cat v15-fixed.rules
     SUBSYSTEM=="usb", IMPORT{builtin}="usb_id"
-    $ devdry verify --udev v15-mended.rules
+    $ devdry verify --udev v15-fixed.rules
     1 files checked, 1 good, 0 bad
 "#;
 
 /// Matches exclude each other.
 pub(crate) const V16: &str = r#"V16 matches exclude each other
 
-Write the two values as one with `|` between them, or take one of the matches away. `--udev` alone tells of it, and the rule is kept. Two tags are told of, too, though a device may have both. The word is the key of the later match.
+Write the two values as one with `|` between them, or remove one of the matches. Only `--udev` reports it, and the rule is kept. Two tags are reported, too, though a device may have both. The word is the key of the later match.
 
     $ cat v16.rules
     KERNEL=="sda", KERNEL=="sdb", TAG+="disk"
     $ devdry verify --udev v16.rules
     v16.rules:1: V16 matches exclude each other: KERNEL
     1 files checked, 0 good, 1 bad
-    $ cat v16-mended.rules
+    $ cat v16-fixed.rules
     KERNEL=="sda|sdb", TAG+="disk"
-    $ devdry verify --udev v16-mended.rules
+    $ devdry verify --udev v16-fixed.rules
     1 files checked, 1 good, 0 bad
 "#;
 
 /// Said twice.
 pub(crate) const V17: &str = r#"V17 said twice
 
-Take one of the two away. `--udev` alone tells of it, and the rule is kept. The two need not stand side by side.
+Remove one of the two. Only `--udev` reports it, and the rule is kept. The two need not be next to each other.
 
     $ cat v17.rules
     KERNEL=="sda", SUBSYSTEM=="block", KERNEL=="sda", TAG+="disk"
     $ devdry verify --udev v17.rules
     v17.rules:1: V17 said twice: KERNEL
     1 files checked, 0 good, 1 bad
-    $ cat v17-mended.rules
+    $ cat v17-fixed.rules
     KERNEL=="sda", SUBSYSTEM=="block", TAG+="disk"
-    $ devdry verify --udev v17-mended.rules
+    $ devdry verify --udev v17-fixed.rules
     1 files checked, 1 good, 0 bad
 "#;
 
 /// Rule without effect.
 pub(crate) const V18: &str = r#"V18 rule without effect
 
-Let the rule assign something, or take it away. `--udev` alone tells of it, and the rule is dropped. Each assignment counts, and so do PROGRAM, IMPORT, LABEL and GOTO.
+Make the rule assign something, or remove it. Only `--udev` reports it, and the rule is dropped. Each assignment counts, and so do PROGRAM, IMPORT, LABEL and GOTO.
 
     $ cat v18.rules
     KERNEL=="sda", SUBSYSTEM=="block"
     $ devdry verify --udev v18.rules
     v18.rules:1: V18 rule without effect
     1 files checked, 0 good, 1 bad
-    $ cat v18-mended.rules
+    $ cat v18-fixed.rules
     KERNEL=="sda", SUBSYSTEM=="block", TAG+="disk"
-    $ devdry verify --udev v18-mended.rules
+    $ devdry verify --udev v18-fixed.rules
     1 files checked, 1 good, 0 bad
 "#;
 
 /// RESULT before PROGRAM.
 pub(crate) const V19: &str = r#"V19 RESULT before PROGRAM
 
-Put PROGRAM before RESULT. `--udev` alone tells of it, and the rule is kept. PROGRAM is run first, wherever it stands.
+Put PROGRAM before RESULT. Only `--udev` reports it, and the rule is kept. PROGRAM is run first, wherever it is in the rule.
 
     $ cat v19.rules
     RESULT=="disk", PROGRAM="/usr/lib/udev/kind %k", TAG+="disk"
     $ devdry verify --udev v19.rules
     v19.rules:1: V19 RESULT before PROGRAM: PROGRAM
     1 files checked, 0 good, 1 bad
-    $ cat v19-mended.rules
+    $ cat v19-fixed.rules
     PROGRAM="/usr/lib/udev/kind %k", RESULT=="disk", TAG+="disk"
-    $ devdry verify --udev v19-mended.rules
+    $ devdry verify --udev v19-fixed.rules
     1 files checked, 1 good, 0 bad
 "#;
 
 /// Empty value.
 pub(crate) const V20: &str = r#"V20 empty value
 
-Write a value, or take the key away. `--udev` alone tells of it, and the rule is kept. The key is TEST, PROGRAM or IMPORT, or an assignment of TAG, SECLABEL, RUN, OWNER, GROUP or MODE.
+Write a value, or remove the key. Only `--udev` reports it, and the rule is kept. The key is TEST, PROGRAM or IMPORT, or an assignment of TAG, SECLABEL, RUN, OWNER, GROUP or MODE.
 
     $ cat v20.rules
     KERNEL=="sda", RUN+=""
     $ devdry verify --udev v20.rules
     v20.rules:1: V20 empty value: RUN
     1 files checked, 0 good, 1 bad
-    $ cat v20-mended.rules
+    $ cat v20-fixed.rules
     KERNEL=="sda", RUN+="/usr/bin/logger %k"
-    $ devdry verify --udev v20-mended.rules
+    $ devdry verify --udev v20-fixed.rules
     1 files checked, 1 good, 0 bad
 "#;
 
 /// Bad substitution in an attribute.
 pub(crate) const V21: &str = r#"V21 bad substitution in an attribute
 
-In the name of an attribute, too, one of udev's names or letters stands behind `$` and `%`. `--udev` alone tells of it, and the rule is kept. The attribute is one of ATTR, ATTRS or SYSCTL.
+In an attribute's name, too, write one of udev's names or letters after `$` and `%`. Only `--udev` reports it, and the rule is kept. The attribute is one of ATTR, ATTRS or SYSCTL.
 
     $ cat v21.rules
     ATTR{$disk/size}=="0", TAG+="empty"
     $ devdry verify --udev v21.rules
     v21.rules:1: V21 bad substitution in an attribute: $disk/size
     1 files checked, 0 good, 1 bad
-    $ cat v21-mended.rules
+    $ cat v21-fixed.rules
     ATTR{$kernel/size}=="0", TAG+="empty"
-    $ devdry verify --udev v21-mended.rules
+    $ devdry verify --udev v21-fixed.rules
     1 files checked, 1 good, 0 bad
 "#;
 
 /// Attribute of another device.
 pub(crate) const V22: &str = r#"V22 attribute of another device
 
-Leave `device/` and `../` out: ATTRS looks at each parent. `--udev` alone tells of it, and the rule is kept.
+Leave `device/` and `../` out: ATTRS looks at each parent. Only `--udev` reports it, and the rule is kept.
 
     $ cat v22.rules
     KERNEL=="sda", ATTRS{device/model}=="Mine", TAG+="disk"
     $ devdry verify --udev v22.rules
     v22.rules:1: V22 attribute of another device: device/model
     1 files checked, 0 good, 1 bad
-    $ cat v22-mended.rules
+    $ cat v22-fixed.rules
     KERNEL=="sda", ATTRS{model}=="Mine", TAG+="disk"
-    $ devdry verify --udev v22-mended.rules
+    $ devdry verify --udev v22-fixed.rules
     1 files checked, 1 good, 0 bad
 "#;
 
 /// Old name of a subsystem.
 pub(crate) const V23: &str = r#"V23 old name of a subsystem
 
-Write `subsystem`, which fits the same devices. `--udev` alone tells of it, and the rule is kept. A SUBSYSTEM that is compared with `subsystem`, `bus` or `class` fits each of the three.
+Write `subsystem`, which fits the same devices. Only `--udev` reports it, and the rule is kept. A SUBSYSTEM that is compared with `subsystem`, `bus` or `class` fits each of the three.
 
     $ cat v23.rules
     SUBSYSTEM=="bus", TAG+="x"
     $ devdry verify --udev v23.rules
     v23.rules:1: V23 old name of a subsystem: bus
     1 files checked, 0 good, 1 bad
-    $ cat v23-mended.rules
+    $ cat v23-fixed.rules
     SUBSYSTEM=="subsystem", TAG+="x"
-    $ devdry verify --udev v23-mended.rules
+    $ devdry verify --udev v23-fixed.rules
     1 files checked, 1 good, 0 bad
 "#;
 
 /// Operator read as =.
 pub(crate) const V24: &str = r#"V24 operator read as =
 
-The key has no `:=` or `+=` of its own: write `=`. `--udev` alone tells of it, in place of S3, and also with `--no-style`. The rule is kept.
+The key has no `:=` or `+=` of its own: write `=`. Only `--udev` reports it, in place of S3, and also with `--no-style`. The rule is kept.
 
     $ cat v24.rules
     KERNEL=="sda", ENV{DISK}:="1"
     $ devdry verify --udev v24.rules
     v24.rules:1: V24 operator read as =: ENV
     1 files checked, 0 good, 1 bad
-    $ cat v24-mended.rules
+    $ cat v24-fixed.rules
     KERNEL=="sda", ENV{DISK}="1"
-    $ devdry verify --udev v24-mended.rules
+    $ devdry verify --udev v24-fixed.rules
     1 files checked, 1 good, 0 bad
 "#;
 
 /// Unknown user or group.
 pub(crate) const V25: &str = r#"V25 unknown user or group
 
-Write the name of a user or a group that there is, or a number. `--udev` alone tells of it, and the rule is kept. Names are looked up in the lists that `--users` and `--groups` name, in the form of /etc/passwd and /etc/group, and where no list is given not at all: which there are depends on the machine that the rules are for. `udevadm verify` looks into the accounts of its own machine.
+Write the name of an existing user or group, or a number. Only `--udev` reports it, and the rule is kept. Names are looked up in the files that `--users` and `--groups` name, which have the form of /etc/passwd and /etc/group, and not at all where no file is given: which names exist depends on the machine that the rules are for. `udevadm verify` looks at the accounts of its own machine.
 
     $ cat group
     root:x:0:
@@ -207,54 +207,54 @@ Write the name of a user or a group that there is, or a number. `--udev` alone t
     $ devdry verify --udev --groups group v25.rules
     v25.rules:1: V25 unknown user or group: disks
     1 files checked, 0 good, 1 bad
-    $ cat v25-mended.rules
+    $ cat v25-fixed.rules
     KERNEL=="sda", GROUP="disk"
-    $ devdry verify --udev --groups group v25-mended.rules
+    $ devdry verify --udev --groups group v25-fixed.rules
     1 files checked, 1 good, 0 bad
 "#;
 
 /// File with a line too long.
 pub(crate) const V26: &str = r#"V26 file with a line too long
 
-Break the line up: udev reads nothing of a file with a line of 16,384 bytes or more. `--udev` alone tells of it. The bytes are those of a line as it stands in the file, those of a comment, too, and the rules above the line are dropped as well.
+Split the line: udev reads nothing of a file with a line of 16,384 bytes or more. Only `--udev` reports it. The length is that of the line as it is in the file, a comment included, and the rules above the line are dropped as well.
 
     $ printf '#%16383s\n' | tr ' ' - > v26.rules
     $ devdry verify --udev v26.rules
     v26.rules:1: V26 file with a line too long
     1 files checked, 0 good, 1 bad
-    $ printf '#%99s\n' | tr ' ' - > v26-mended.rules
-    $ devdry verify --udev v26-mended.rules
+    $ printf '#%99s\n' | tr ' ' - > v26-fixed.rules
+    $ devdry verify --udev v26-fixed.rules
     1 files checked, 1 good, 0 bad
 "#;
 
 /// Comma before the first token.
 pub(crate) const S5: &str = r#"S5 comma before the first token
 
-Take the comma before the first token away. `--udev` alone tells of it; without that option such a line is V1.
+Remove the comma before the first token. Only `--udev` reports it; without that option such a line is V1.
 
     $ cat s5.rules
     , KERNEL=="sda", TAG+="disk"
     $ devdry verify --udev s5.rules
     s5.rules:1: S5 comma before the first token
     1 files checked, 0 good, 1 bad
-    $ cat s5-mended.rules
+    $ cat s5-fixed.rules
     KERNEL=="sda", TAG+="disk"
-    $ devdry verify --udev s5-mended.rules
+    $ devdry verify --udev s5-fixed.rules
     1 files checked, 1 good, 0 bad
 "#;
 
 /// Blank before a comma.
 pub(crate) const S6: &str = r#"S6 blank before a comma
 
-Take the blank before the comma away. `--udev` alone tells of it. The word is the token behind the comma.
+Remove the blank before the comma. Only `--udev` reports it. The word is the token after the comma.
 
     $ cat s6.rules
     KERNEL=="sda" , TAG+="disk"
     $ devdry verify --udev s6.rules
     s6.rules:1: S6 blank before a comma: TAG
     1 files checked, 0 good, 1 bad
-    $ cat s6-mended.rules
+    $ cat s6-fixed.rules
     KERNEL=="sda", TAG+="disk"
-    $ devdry verify --udev s6-mended.rules
+    $ devdry verify --udev s6-fixed.rules
     1 files checked, 1 good, 0 bad
 "#;

@@ -17,20 +17,20 @@ pub folders_more : (may : Answer → Type 0) (folders : List Folder) (files : Li
     → AreInFolders may (folders ++ folder ∷ []) (files ++ own)
 folders_more may [] files folder own h here = record {
   own = own;
-  behind = [];
+  following = [];
   cut = rw (h, append-nil) refl;
   in_folder = here;
   others = refl;
 }
 folders_more may (g ∷ gs) files folder own h here = record {
   own = h.own;
-  behind = h.behind ++ own;
+  following = h.following ++ own;
   cut = rw (h.cut, append_assoc) refl;
   in_folder = h.in_folder;
-  others = folders_more may gs h.behind folder own h.others here;
+  others = folders_more may gs h.following folder own h.others here;
 }
 
--- a fault at the named file of this place, where those before it were read
+-- a fault at the named file of this place, if those before it were read
 pub at_named : (d : Bor (List ℕ)) (may : Answer → Type 0) (kind : FileKind) (paths : List (Bor (List ℕ))) (place : ℕ) (files : List SourceFile) (fault : ReadFault) → place < length paths → AreNamed may kind (map (λ p. p.now) (take place paths)) files
     → HasPath (λ p. (p ≡ (get_or paths place d).now) × IsUnread may p) fault → HasPath (IsFaultyNamed may kind (map (λ p. p.now) paths)) fault
 at_named d may kind paths place files (Path text) within were h =
@@ -38,7 +38,7 @@ at_named d may kind paths place files (Path text) within were h =
     ap (map (λ (p : Bor (List ℕ)). p.now)) (split_at paths place d within) ∙ map-append (λ (p : Bor (List ℕ)). p.now) (take place paths) (get_or paths place d ∷ drop (suc place) paths) in
     record {
       before = map (λ p. p.now) (take place paths);
-      behind = map (λ p. p.now) (drop (suc place) paths);
+      following = map (λ p. p.now) (drop (suc place) paths);
       cut = subst (λ p. map (λ p. p.now) paths ≡ map (λ p. p.now) (take place paths) ++ p ∷ map (λ p. p.now) (drop (suc place) paths)) (sym h.0) cut;
       files = files;
       were_read = were;
@@ -46,18 +46,18 @@ at_named d may kind paths place files (Path text) within were h =
     }
 at_named d may kind paths place files Memory within were h = tt
 
--- a fault at a file of the folder, where those before it were read
-pub at_file : (may : Answer → Type 0) (folder : Folder) (names before : List (String Global)) (name : String Global) (behind : List (String Global)) (files : List SourceFile) (fault : ReadFault) → AreNamesIn may folder names → names ≡ before ++ name ∷ behind → AreFilesAt may folder.kind folder.rank (path_in folder) (map string_bytes before) files
+-- a fault at a file of the folder, if those before it were read
+pub at_file : (may : Answer → Type 0) (folder : Folder) (names before : List (String Global)) (name : String Global) (following : List (String Global)) (files : List SourceFile) (fault : ReadFault) → AreNamesIn may folder names → names ≡ before ++ name ∷ following → AreFilesAt may folder.kind folder.rank (path_in folder) (map string_bytes before) files
     → HasPath (λ p. (p ≡ path_in folder (string_bytes name)) × IsUnread may p) fault → HasPath (IsFaultyIn may folder) fault
-at_file may folder names before name behind files (Path path) are cut were h =
-    inr (record { names = names; are_names = are; before = before; name = name; behind = behind; cut = cut; files = files; were_read = were; path_is = h.0; unread = h.1 })
-at_file may folder names before name behind files Memory are cut were h = tt
+at_file may folder names before name following files (Path path) are cut were h =
+    inr (record { names = names; are_names = are; before = before; name = name; following = following; cut = cut; files = files; were_read = were; path_is = h.0; unread = h.1 })
+at_file may folder names before name following files Memory are cut were h = tt
 
--- a fault at a folder among others, where those before it were read
-pub among : (may : Answer → Type 0) (folders before : List Folder) (folder : Folder) (behind : List Folder) (files : List SourceFile) (fault : ReadFault) → folders ≡ before ++ folder ∷ behind → AreInFolders may before files → HasPath (IsFaultyIn may folder) fault
+-- a fault at a folder among others, if those before it were read
+pub among : (may : Answer → Type 0) (folders before : List Folder) (folder : Folder) (following : List Folder) (files : List SourceFile) (fault : ReadFault) → folders ≡ before ++ folder ∷ following → AreInFolders may before files → HasPath (IsFaultyIn may folder) fault
     → HasPath (IsFaultyInOneOf may folders) fault
-among may folders before folder behind files (Path path) cut were h = record { before = before; folder = folder; behind = behind; cut = cut; files = files; were_read = were; faulty = h }
-among may folders before folder behind files Memory cut were h = tt
+among may folders before folder following files (Path path) cut were h = record { before = before; folder = folder; following = following; cut = cut; files = files; were_read = were; faulty = h }
+among may folders before folder following files Memory cut were h = tt
 
 -- what `?` hands on is the fault itself
 pub handed_on : {T : Type 0} (P : List ℕ → Type 0) (r : Result T ReadFault) (fault : ReadFault) → IsErrAnd r (λ e. e ≡ fault) → HasPath P fault → IfErr r (HasPath P)

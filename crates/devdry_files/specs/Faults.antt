@@ -37,8 +37,8 @@ IsUnread may path = may (NoContent path Absent) ⊎ (may (NoContent path Unreada
 -- the path is that of a named file, which the disk may say that it can't read; those named before it were read
 pub record IsFaultyNamed (may : Answer → Type 0) (kind : FileKind) (paths : List (List ℕ)) (path : List ℕ) : Type 0 where
   pub before : List (List ℕ)
-  pub behind : List (List ℕ)
-  pub cut : paths ≡ before ++ path ∷ behind
+  pub following : List (List ℕ)
+  pub cut : paths ≡ before ++ path ∷ following
   pub files : List SourceFile
   pub were_read : AreNamed may kind before files
   pub unread : IsUnread may path
@@ -49,8 +49,8 @@ pub record IsFaultyFileIn (may : Answer → Type 0) (folder : Folder) (path : Li
   pub are_names : AreNamesIn may folder names
   pub before : List (String Global)
   pub name : String Global
-  pub behind : List (String Global)
-  pub cut : names ≡ before ++ name ∷ behind
+  pub following : List (String Global)
+  pub cut : names ≡ before ++ name ∷ following
   pub files : List SourceFile
   pub were_read : AreFilesAt may folder.kind folder.rank (path_in folder) (map string_bytes before) files
   pub path_is : path ≡ path_in folder (string_bytes name)
@@ -65,8 +65,8 @@ IsFaultyIn may folder path = ((path ≡ string_bytes folder.path) × IsUnlisted 
 pub record IsFaultyInOneOf (may : Answer → Type 0) (folders : List Folder) (path : List ℕ) : Type 0 where
   pub before : List Folder
   pub folder : Folder
-  pub behind : List Folder
-  pub cut : folders ≡ before ++ folder ∷ behind
+  pub following : List Folder
+  pub cut : folders ≡ before ++ folder ∷ following
   pub files : List SourceFile
   pub were_read : AreInFolders may before files
   pub faulty : IsFaultyIn may folder path

@@ -42,12 +42,12 @@ pub record IsFileAt (may : Answer → Type 0) (kind : FileKind) (rank : ℕ) (pa
   pub read : may (Content path file.bytes)
 
 -- the names of files
-abbrev pub names : List SourceFile → List (List ℕ)
-names files = map (λ file. file.name) files
+abbrev pub file_names : List SourceFile → List (List ℕ)
+file_names files = map (λ file. file.name) files
 
 -- files with these names, of one kind and rank, each with the bytes at the path of its name
 pub record AreFilesAt (may : Answer → Type 0) (kind : FileKind) (rank : ℕ) (path_of : List ℕ → List ℕ) (given : List (List ℕ)) (files : List SourceFile) : Type 0 where
-  pub named_so : names files ≡ given
+  pub named_so : file_names files ≡ given
   pub each : All (λ file. IsFileAt may kind rank (path_of file.name) file) files
 
 -- the files of a folder: one for each of its names, in their order, with the bytes at that name in it
@@ -59,10 +59,10 @@ pub record AreInFolder (may : Answer → Type 0) (folder : Folder) (files : List
 -- the files of a folder, and after them others
 pub record AreInFolderAnd (may : Answer → Type 0) (folder : Folder) (Others : List SourceFile → Type 0) (files : List SourceFile) : Type 0 where
   pub own : List SourceFile
-  pub behind : List SourceFile
-  pub cut : files ≡ own ++ behind
+  pub following : List SourceFile
+  pub cut : files ≡ own ++ following
   pub in_folder : AreInFolder may folder own
-  pub others : Others behind
+  pub others : Others following
 
 -- the files of the folders, one folder after another
 abbrev pub AreInFolders : (Answer → Type 0) → List Folder → List SourceFile → Type 0

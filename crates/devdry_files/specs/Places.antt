@@ -17,8 +17,8 @@ pub record Place : Type 0 where
   pub path : List ℕ
 
 -- the place of this kind and rank: the folder's path after the text that comes before it
-abbrev pub place : FileKind → ℕ → List ℕ → Place
-place kind rank root = record { kind = kind; rank = rank; path = root ++ folder_path kind rank }
+abbrev pub folder_place : FileKind → ℕ → List ℕ → Place
+folder_place kind rank root = record { kind = kind; rank = rank; path = root ++ folder_path kind rank }
 
 -- what a contract sees of a folder
 abbrev pub place_of : Folder → Place
@@ -30,8 +30,8 @@ places_of folders = map place_of folders
 
 -- the folders of a kind by rank, each after the text that comes before it
 abbrev pub folders_of : FileKind → List ℕ → List Place
-folders_of Hwdb root = place Hwdb 0 root ∷ place Hwdb 1 root ∷ []
-folders_of Rules root = place Rules 0 root ∷ place Rules 1 root ∷ place Rules 2 root ∷ place Rules 3 root ∷ []
+folders_of Hwdb root = folder_place Hwdb 0 root ∷ folder_place Hwdb 1 root ∷ []
+folders_of Rules root = folder_place Rules 0 root ∷ folder_place Rules 1 root ∷ folder_place Rules 2 root ∷ folder_place Rules 3 root ∷ []
 
 -- the folders of a kind that a line asks for: none if it names what replaces them
 abbrev pub folders_of_kind : Line → FileKind → List Place

@@ -1,14 +1,15 @@
 //! The files, the folders and the index that a line asks for.
 ghost use Rattle.std.specs.Prelude.{◌≡◌, IfOk};
-ghost use Rattle.devdry_files.specs.Places.{Wants, folders_for, folders_of, place, place_of, places_of};
+ghost use Rattle.devdry_files.specs.Places.{Wants, folder_place, folders_for, folders_of, place_of, places_of};
 
 use crate::places::{Folder, Wanted};
 use engine_ends::{Line, folder_path};
 use std::alloc::{AllocError, Global};
 use text_bytes::FileKind;
 
+/// The folder of a kind and a rank, below a root.
 fn folder(alloc: Global, kind: FileKind, rank: u8, root: &str) -> Result<Folder, AllocError>
-    ensures { IfOk result (λ f. place_of f ≡ place kind rank root.now) }
+    ensures { IfOk result (λ f. place_of f ≡ folder_place kind rank root.now) }
 {
     let mut whole = String::from_str(alloc, root)?;
     whole.push_str(folder_path(kind, rank))?;
@@ -19,6 +20,7 @@ fn folder(alloc: Global, kind: FileKind, rank: u8, root: &str) -> Result<Folder,
     })
 }
 
+/// The folders of the hardware database below a root, by rank.
 fn hwdb_folders(alloc: Global, root: &str) -> Result<Vec<Folder>, AllocError>
     ensures { IfOk result (λ folders. places_of folders.items ≡ folders_of FileKind.Hwdb root.now) }
 {
@@ -29,6 +31,7 @@ fn hwdb_folders(alloc: Global, root: &str) -> Result<Vec<Folder>, AllocError>
     Ok(folders)
 }
 
+/// The folders of rules below a root, by rank.
 fn rules_folders(alloc: Global, root: &str) -> Result<Vec<Folder>, AllocError>
     ensures { IfOk result (λ folders. places_of folders.items ≡ folders_of FileKind.Rules root.now) }
 {
@@ -41,7 +44,7 @@ fn rules_folders(alloc: Global, root: &str) -> Result<Vec<Folder>, AllocError>
     Ok(folders)
 }
 
-// The folders of a kind, by rank.
+/// The folders of a kind, by rank.
 fn folders_of_kind(alloc: Global, kind: FileKind, root: &str) -> Result<Vec<Folder>, AllocError>
     ensures { IfOk result (λ folders. places_of folders.items ≡ folders_of kind root.now) }
 {
@@ -51,7 +54,7 @@ fn folders_of_kind(alloc: Global, kind: FileKind, root: &str) -> Result<Vec<Fold
     }
 }
 
-// The folders of the kinds that the line reads from folders.
+/// The folders of the kinds that the line reads from folders.
 fn asked_folders(alloc: Global, line: &Line<'_>) -> Result<Vec<Folder>, AllocError>
     ensures { IfOk result (λ folders. places_of folders.items ≡ folders_for line.now) }
 {
@@ -71,7 +74,7 @@ fn asked_folders(alloc: Global, line: &Line<'_>) -> Result<Vec<Folder>, AllocErr
 /// `/etc/udev/hwdb.d` with rank 0 and `/usr/lib/udev/hwdb.d` with rank 1. `verify` asks for files of rules, and its
 /// folders are those of udev(7): `/etc/udev/rules.d` with rank 0, `/run/udev/rules.d` with 1,
 /// `/usr/local/lib/udev/rules.d` with 2 and `/usr/lib/udev/rules.d` with 3. Each is prefixed with the line's root,
-/// unchanged. `Err` means out of memory.
+/// unchanged.
 pub fn wanted<'b, 'a>(alloc: Global, line: &'b Line<'a>) -> Result<Wanted<'b, 'a>, AllocError>
     ensures { IfOk result (Wants line.now) }
 {

@@ -24,7 +24,7 @@ pub use disk::{Disk, DiskFault, Entry};
 pub use fault::ReadFault;
 pub use listing::counts;
 pub use look::Look;
-pub use memory_disk::{MemoryDisk, MemoryEntry, MemoryPlace, Stands};
+pub use memory_disk::{DiskNode, MemoryDisk, MemoryEntry, MemoryPlace};
 pub use places::{Folder, Wanted};
 pub use reading::{read_all, read_index};
 pub use real_disk::RealDisk;

@@ -18,7 +18,7 @@ pub fn counts(kind: FileKind, entry: &Entry) -> bool
     is_named_so & !entry.is_folder
 }
 
-// The entries of the folder at a path. An absent folder is empty.
+/// The entries of the folder at a path. An absent folder is empty.
 fn entries_at<D: Disk>(alloc: Global, disk: &D, path: String) -> Result<Vec<Entry>, ReadFault>
     ensures entries { IfOk result (λ entries.
         IsListing (D.may_answer disk.now) (string_bytes path) entries.items) }
@@ -34,7 +34,7 @@ fn entries_at<D: Disk>(alloc: Global, disk: &D, path: String) -> Result<Vec<Entr
     }
 }
 
-// The names of the entries that are files of the kind.
+/// The names of the entries that are files of the kind.
 fn names_of(alloc: Global, kind: FileKind, entries: Vec<Entry>) -> Result<Vec<String>, AllocError>
     ensures { IfOk result (λ names.
         names.items ≡ map (λ e. e.name) (filter (counts kind) entries.items)) }
@@ -49,7 +49,11 @@ fn names_of(alloc: Global, kind: FileKind, entries: Vec<Entry>) -> Result<Vec<St
 /// The names of a folder's files of its kind, sorted byte by byte.
 ///
 /// Folders in it are skipped, and an absent folder is empty. A fault has the folder's path.
-pub fn names_in<D: Disk>(alloc: Global, disk: &D, folder: &Folder) -> Result<Vec<String>, ReadFault>
+pub(crate) fn names_in<D: Disk>(
+    alloc: Global,
+    disk: &D,
+    folder: &Folder,
+) -> Result<Vec<String>, ReadFault>
     ensures names { IfOk result (λ names.
         AreNamesIn (D.may_answer disk.now) folder.now names.items) }
     ensures fault { IfErr result (HasPath (λ p. (p ≡ string_bytes folder.now.path)

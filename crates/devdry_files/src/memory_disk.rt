@@ -2,7 +2,7 @@
 //!
 //! It shows that the contract of `Disk` can be met, and serves tests that need odd folders.
 ghost use Rattle.std.specs.Prelude.{◌≡◌, IfOk, map};
-ghost use Rattle.devdry_files.specs.Memory.{MayAnswer, look_of, seen, seen_in_memory, stands_at};
+ghost use Rattle.devdry_files.specs.Memory.{MayAnswer, look_of, node_at, seen_entry, seen_in_memory};
 
 use crate::disk::{Disk, DiskFault, Entry};
 use crate::look::Look;
@@ -20,7 +20,7 @@ pub struct MemoryEntry<'a> {
 
 /// What is at a path.
 #[derive(Clone, Copy, Debug)]
-pub enum Stands<'a> {
+pub enum DiskNode<'a> {
     /// A folder with these entries.
     Folder(&'a [MemoryEntry<'a>]),
     /// A file of these bytes.
@@ -35,7 +35,7 @@ pub struct MemoryPlace<'a> {
     /// The path, with which a request has to agree byte by byte.
     pub path: &'a str,
     /// What is there.
-    pub stands: Stands<'a>,
+    pub disk_node: DiskNode<'a>,
 }
 
 /// A disk over memory. Of places with the same path the first counts; at any other path there is nothing. It has
@@ -46,28 +46,29 @@ pub struct MemoryDisk<'a> {
     pub places: &'a [MemoryPlace<'a>],
 }
 
-// What is at a path.
-fn stands_at<'a>(disk: &MemoryDisk<'a>, path: &str) -> Option<Stands<'a>>
-    ensures { result ≡ stands_at disk.now path.now }
+/// What is at a path.
+fn node_at<'a>(disk: &MemoryDisk<'a>, path: &str) -> Option<DiskNode<'a>>
+    ensures { result ≡ node_at disk.now path.now }
 {
     let place = disk.places.iter().find(|place| place.path == path)?;
-    Some(place.stands)
+    Some(place.disk_node)
 }
 
-// What a look at what is at a path shows.
-fn look_of(stands: Option<Stands<'_>>) -> Look
-    ensures { result ≡ look_of stands.entry }
+/// What a look at what is at a path shows.
+fn look_of(disk_node: Option<DiskNode<'_>>) -> Look
+    ensures { result ≡ look_of disk_node.entry }
 {
-    match stands {
-        Some(Stands::Folder(_)) => Look::Folder,
-        Some(Stands::File(_)) => Look::File,
-        Some(Stands::Unreadable) => Look::Failed,
+    match disk_node {
+        Some(DiskNode::Folder(_)) => Look::Folder,
+        Some(DiskNode::File(_)) => Look::File,
+        Some(DiskNode::Unreadable) => Look::Failed,
         None => Look::Absent,
     }
 }
 
+/// A copy of an entry.
 fn copy_of(alloc: Global, entry: &MemoryEntry<'_>) -> Result<Entry, AllocError>
-    ensures { IfOk result (λ copy. seen copy ≡ seen_in_memory entry.now) }
+    ensures { IfOk result (λ copy. seen_entry copy ≡ seen_in_memory entry.now) }
 {
     Ok(Entry {
         name: String::from_str(alloc, entry.name)?,
@@ -75,9 +76,9 @@ fn copy_of(alloc: Global, entry: &MemoryEntry<'_>) -> Result<Entry, AllocError>
     })
 }
 
-// The entries, copied.
+/// The entries, copied.
 fn copies_of(alloc: Global, entries: &[MemoryEntry<'_>]) -> Result<Vec<Entry>, AllocError>
-    ensures { IfOk result (λ copies. map seen copies.items ≡ map seen_in_memory entries.now) }
+    ensures { IfOk result (λ copies. map seen_entry copies.items ≡ map seen_in_memory entries.now) }
 {
     let mut copies = Vec::new(alloc);
     for entry in entries {
@@ -90,23 +91,23 @@ impl Disk for MemoryDisk<'_> {
     ghost may_answer = { MayAnswer };
 
     fn list(&self, alloc: Global, path: &str) -> Result<Vec<Entry>, DiskFault> {
-        match stands_at(self, path) {
-            Some(Stands::Folder(entries)) => Ok(copies_of(alloc, entries)?),
+        match node_at(self, path) {
+            Some(DiskNode::Folder(entries)) => Ok(copies_of(alloc, entries)?),
             Some(_) => Err(DiskFault::Unreadable),
             None => Err(DiskFault::Absent),
         }
     }
 
     fn read(&self, alloc: Global, path: &str) -> Result<Bytes, DiskFault> {
-        match stands_at(self, path) {
-            Some(Stands::File(bytes)) => Ok(Bytes::copy_of(alloc, bytes)?),
+        match node_at(self, path) {
+            Some(DiskNode::File(bytes)) => Ok(Bytes::copy_of(alloc, bytes)?),
             Some(_) => Err(DiskFault::Unreadable),
             None => Err(DiskFault::Absent),
         }
     }
 
     fn look(&self, path: &str) -> Result<Look, AllocError> {
-        Ok(look_of(stands_at(self, path)))
+        Ok(look_of(node_at(self, path)))
     }
 
     fn target(&self, _alloc: Global, _path: &str) -> Result<Option<Bytes>, AllocError> {

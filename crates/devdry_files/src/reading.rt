@@ -12,7 +12,7 @@ use crate::places::{Folder, Wanted};
 use std::alloc::{AllocError, Global};
 use text_bytes::{Bytes, FileKind, SourceFile};
 
-// The bytes of the file at a path.
+/// The bytes of the file at a path.
 pub(crate) fn bytes_at<D: Disk>(alloc: Global, disk: &D, path: String) -> Result<Bytes, ReadFault>
     ensures bytes { IfOk result (λ bytes.
         D.may_answer disk.now (Content (string_bytes path) bytes)) }
@@ -27,7 +27,7 @@ pub(crate) fn bytes_at<D: Disk>(alloc: Global, disk: &D, path: String) -> Result
     }
 }
 
-// The file at a path, with a name by which it is reported.
+/// The file at a path, with a name by which it is reported.
 fn file_at<D: Disk>(
     alloc: Global,
     disk: &D,
@@ -52,7 +52,7 @@ fn file_at<D: Disk>(
     })
 }
 
-// The path of a name in a folder.
+/// The path of a name in a folder.
 fn path_in(alloc: Global, folder: &Folder, name: &str) -> Result<String, AllocError>
     ensures { IfOk result (λ path. string_bytes path ≡ path_in folder.now name.now) }
 {
@@ -62,7 +62,7 @@ fn path_in(alloc: Global, folder: &Folder, name: &str) -> Result<String, AllocEr
     Ok(path)
 }
 
-// The file with a name in a folder.
+/// The file with a name in a folder.
 fn file_in<D: Disk>(
     alloc: Global,
     disk: &D,
@@ -80,7 +80,7 @@ fn file_in<D: Disk>(
     file_at(alloc, disk, path, folder.kind, folder.rank, name)
 }
 
-// The files of a folder.
+/// The files of a folder.
 fn files_in<D: Disk>(alloc: Global, disk: &D, folder: &Folder) -> Result<Vec<SourceFile>, ReadFault>
     ensures files { IfOk result (λ files.
         AreInFolder (D.may_answer disk.now) folder.now files.items) }
@@ -94,7 +94,7 @@ fn files_in<D: Disk>(alloc: Global, disk: &D, folder: &Folder) -> Result<Vec<Sou
     Ok(files)
 }
 
-// The files of the folders, one folder after another.
+/// The files of the folders, one folder after another.
 fn files_of_folders<D: Disk>(
     alloc: Global,
     disk: &D,
@@ -111,7 +111,7 @@ fn files_of_folders<D: Disk>(
     Ok(files)
 }
 
-// A named file.
+/// A named file.
 fn named_file<D: Disk>(
     alloc: Global,
     disk: &D,
@@ -128,7 +128,7 @@ fn named_file<D: Disk>(
     file_at(alloc, disk, path, kind, 0, name)
 }
 
-// The named files, in their order.
+/// The named files, in their order.
 fn named_files<D: Disk>(
     alloc: Global,
     disk: &D,

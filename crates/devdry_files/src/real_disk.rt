@@ -36,8 +36,8 @@ impl<'r, R> RealDisk<'r, R> {
     }
 }
 
-// Whether there is a folder at a path, by the look at it. What can't be looked at is not one, so that reading it
-// says why; but running out of memory in the look itself is reported.
+/// Whether there is a folder at a path, by the look at it. What can't be looked at is not one, so that reading it
+/// says why; but running out of memory in the look itself is reported.
 fn folder_by(looked: Result<bool, DiskFault>) -> Result<bool, DiskFault>
     ensures { MatchResult looked (λ is. result ≡ Ok is)
         (λ fault. (fault ≡ OutOfMemory → result ≡ Err OutOfMemory)
@@ -50,13 +50,13 @@ fn folder_by(looked: Result<bool, DiskFault>) -> Result<bool, DiskFault>
     }
 }
 
-// Whether there is a folder at the path, or a symlink to one.
+/// Whether there is a folder at the path, or a symlink to one.
 fn is_folder<R: Files>(rt: &R, path: Path<'_>) -> Result<bool, DiskFault> {
     let looked = fs::metadata(rt, path).map(|metadata| metadata.is_dir());
     folder_by(looked.map_err(DiskFault::from))
 }
 
-// An entry of a listing, looked at.
+/// An entry of a listing, looked at.
 fn entry_of<R: Files>(alloc: Global, rt: &R, found: &DirEntry<R>) -> Result<Entry, DiskFault>
     ensures { IfOk result (λ e. string_bytes e.name ≡ dir_entry_name found.now) }
 {
@@ -66,7 +66,7 @@ fn entry_of<R: Files>(alloc: Global, rt: &R, found: &DirEntry<R>) -> Result<Entr
     })
 }
 
-// Why an entry could not be taken from a listing.
+/// Why an entry could not be taken from a listing.
 fn entry_fault(error: io::Error) -> DiskFault
     ensures { result ≡ entry_fault_from (error_kind error) }
 {
@@ -76,7 +76,7 @@ fn entry_fault(error: io::Error) -> DiskFault
     }
 }
 
-// An entry, or why it could not be taken from a listing.
+/// An entry, or why it could not be taken from a listing.
 fn entry_from<R: Files + Drop>(
     alloc: Global,
     rt: &R,
@@ -92,7 +92,7 @@ fn entry_from<R: Files + Drop>(
     }
 }
 
-// All entries of a listing, in its order, if none of them failed.
+/// All entries of a listing, in its order, if none of them failed.
 fn entries_of<R: Files + Drop, I: Iterator<Item = io::Result<DirEntry<R>>> + Drop>(
     alloc: Global,
     rt: &R,
@@ -111,7 +111,7 @@ fn entries_of<R: Files + Drop, I: Iterator<Item = io::Result<DirEntry<R>>> + Dro
     Ok(entries)
 }
 
-// The entries of a listing, or why it could not be opened.
+/// The entries of a listing, or why it could not be opened.
 fn entries_from<R: Files + Drop, I: Iterator<Item = io::Result<DirEntry<R>>> + Drop>(
     alloc: Global,
     rt: &R,
@@ -131,7 +131,7 @@ fn entries_from<R: Files + Drop, I: Iterator<Item = io::Result<DirEntry<R>>> + D
     }
 }
 
-// All that a reader has left.
+/// All that a reader has left.
 pub(crate) fn bytes_of<F: Read + Drop>(alloc: Global, mut file: F) -> io::Result<Bytes>
     ensures { IfOk result (λ read. IfSome (F.remaining file) (λ bytes. read ≡ bytes)) }
 {
@@ -140,7 +140,7 @@ pub(crate) fn bytes_of<F: Read + Drop>(alloc: Global, mut file: F) -> io::Result
     Ok(Bytes::new(bytes))
 }
 
-// The bytes of a file, or why it could not be opened.
+/// The bytes of a file, or why it could not be opened.
 fn bytes_from<F: Read + Drop>(alloc: Global, opened: io::Result<F>) -> Result<Bytes, DiskFault>
     ensures { MatchResult opened
         (λ file. IfOk result (λ read. IfSome (F.remaining file) (λ bytes. read ≡ bytes)))

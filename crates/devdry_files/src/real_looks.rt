@@ -20,7 +20,7 @@ use text_bytes::Bytes;
 /// The number of the null device, 1:3 as the system writes it.
 const NULL_DEVICE: u64 = 0x103;
 
-// What a look that failed shows, or nothing if it ran out of memory.
+/// What a look that failed shows, or nothing if it ran out of memory.
 fn failed_look(error: &io::Error) -> Option<Look>
     ensures { result ≡ look_from (error_kind error.now) }
 {
@@ -33,16 +33,16 @@ fn failed_look(error: &io::Error) -> Option<Look>
     }
 }
 
-// Whether a device is the null device, which hides a file if a link leads to it: a character device with that
-// number.
+/// Whether a device is the null device, which hides a file if a link leads to it: a character device with that
+/// number.
 fn is_null(is_char_device: bool, number: u64) -> bool
     ensures { result ≡ (is_char_device && number == NULL_DEVICE) }
 {
     is_char_device & (number == NULL_DEVICE)
 }
 
-// What is at a path, by what the system says about it, and whether it is the null device. All else that is neither
-// a folder nor a regular file, such as a FIFO, is kept apart, since it must not be opened.
+/// What is at a path, by what the system says about it, and whether it is the null device. All else that is neither
+/// a folder nor a regular file, such as a FIFO, is kept apart, since it must not be opened.
 fn look_of(metadata: &Metadata, is_null: bool) -> Look
     ensures folder { IsDir (file_type metadata.now) → result ≡ Look.Folder }
     ensures file { IsFile (file_type metadata.now) → result ≡ Look.File }
@@ -58,7 +58,7 @@ fn look_of(metadata: &Metadata, is_null: bool) -> Look
     }
 }
 
-// What a look shows, by whether what it saw could be opened.
+/// What a look shows, by whether what it saw could be opened.
 fn opened_look<F: Drop>(look: Look, opened: io::Result<F>) -> Result<Look, AllocError>
     ensures { MatchResult opened (λ _. result ≡ Ok look)
         (λ error. result ≡ ok_or (look_from (error_kind error)) alloc_error) }
@@ -69,7 +69,8 @@ fn opened_look<F: Drop>(look: Look, opened: io::Result<F>) -> Result<Look, Alloc
     }
 }
 
-// The same at a path. What is neither a folder nor a file is not opened.
+/// What a look at a path shows, by whether what it saw there can be opened. What is neither a folder nor a file is
+/// not opened.
 fn tried_look<R: Files>(rt: &R, path: &str, look: Look) -> Result<Look, AllocError>
     ensures { look ≡ Look.Other → result ≡ Ok look }
 {
@@ -105,10 +106,10 @@ pub(crate) fn target_from(
     }
 }
 
-// What is reported for a symlink that can't be read, or out of memory.
+/// What is reported for a symlink that can't be read, or out of memory.
 fn untargeted(alloc: Global, error: &io::Error) -> Result<Option<Bytes>, AllocError>
-    ensures told { IfOk result (λ target. target_unread (error_kind error.now) ≡ Ok target) }
-    ensures untold { (error_kind error.now ≢ ErrorKind.InvalidFilename)
+    ensures reported { IfOk result (λ target. target_unread (error_kind error.now) ≡ Ok target) }
+    ensures unreported { (error_kind error.now ≢ ErrorKind.InvalidFilename)
         → result ≡ target_unread (error_kind error.now) }
 {
     match error.kind() {

@@ -2,7 +2,7 @@
 use Rattle.std.proofs.Common.{◌≡◌, ◌∙◌, ◌++◌, ◌∷◌, ◌==◌, ◌||◌, [], ap, arith, Bool, false, flat_map, length, List, not, refl, sym, true, ℕ}
 use Rattle.text_bytes.specs.declared.source_file.FileKind.{FileKind}
 use Rattle.text_bytes.specs.declared.source_file.SourceFile.{SourceFile}
-use Rattle.devdry_folders.specs.Unread.{file_of_met, file_of_sight, files_of, files_of_visit, has_file, has_files, is_file, name_told}
+use Rattle.devdry_folders.specs.Unread.{file_of_met, file_of_sight, files_of, files_of_visit, has_file, has_files, is_file, name_reported}
 use Rattle.devdry_folders.specs.declared.sights.Met.{Met}
 use Rattle.devdry_folders.specs.declared.sights.Met.TheVariants as met
 use Rattle.devdry_folders.specs.declared.sights.Sight.{Sight}
@@ -30,7 +30,7 @@ some_met kind rank name (met.Unread reason) = refl
 some_sights : (kind : FileKind) (rank : ℕ) (named : Bool) (sights : List Sight) → has_file sights ≡ any (flat_map (file_of_sight kind rank named) sights)
 some_sights kind rank named [] = refl
 some_sights kind rank named (s ∷ sights) =
-    ap (λ b. b || has_file sights) (some_met kind rank (name_told named s) s.met)
+    ap (λ b. b || has_file sights) (some_met kind rank (name_reported named s) s.met)
     ∙ ap (λ b. any (file_of_sight kind rank named s) || b) (some_sights kind rank named sights)
     ∙ sym (joined (file_of_sight kind rank named s) (flat_map (file_of_sight kind rank named) sights))
 
@@ -41,6 +41,6 @@ some_visits (v ∷ visits) =
     ∙ ap (λ b. any (files_of_visit v) || b) (some_visits visits)
     ∙ sym (joined (files_of_visit v) (files_of visits))
 
--- any file was read exactly where one is passed on
+-- any file was read exactly if one is passed on
 pub some_files : (visits : List Visit) → has_files visits ≡ not (length (files_of visits) == 0)
 some_files visits = some_visits visits ∙ counted (files_of visits)

@@ -3,5 +3,5 @@ pub mod Meetings
 pub mod Visits
 pub mod Unread
 pub mod Nothing
-pub mod Standing
+pub mod SightStatus
 pub mod Surveys

@@ -5,7 +5,7 @@ use Rattle.devdry_files.specs.Answers.{Answer}
 use Rattle.devdry_files.specs.Places.{Wants}
 use Rattle.devdry_files.specs.declared.places.Wanted.{Wanted}
 use Rattle.devdry_folders.specs.Nothing.{AreElsewhere, nothing_lines}
-use Rattle.devdry_folders.specs.Standing.{AreListed}
+use Rattle.devdry_folders.specs.SightStatus.{AreListed}
 use Rattle.devdry_folders.specs.Unread.{files_of, has_files, least_status, unread_lines}
 use Rattle.devdry_folders.specs.Visits.{AreVisits}
 use Rattle.devdry_folders.specs.declared.elsewhere.Elsewhere.{Elsewhere}
@@ -20,16 +20,16 @@ pub record AreVisitsFor (may : Answer → Type 0) (line : Line) (visits : List V
   pub are_visits : AreVisits may wanted visits
 
 -- What is reported if no file was read: what was looked at; and nothing if some file was.
-pub record TellsNothing (may : Answer → Type 0) (line : Line) (visits : List Visit) (some : Bool) (lines : List ℕ) : Type 0 where
+pub record ReportsNothing (may : Answer → Type 0) (line : Line) (visits : List Visit) (some : Bool) (lines : List ℕ) : Type 0 where
   pub others : List Elsewhere
   pub elsewhere : some ≡ false → AreElsewhere may line others
-  pub told : lines ≡ (if some then [] else nothing_lines line.root.now visits others)
+  pub reported : lines ≡ (if some then [] else nothing_lines line.root.now visits others)
 
 -- What is reported for visits before the run: what can't be read, and what was looked at if no file was read.
-pub record IsTold (may : Answer → Type 0) (line : Line) (visits : List Visit) (told : List ℕ) : Type 0 where
+pub record IsReported (may : Answer → Type 0) (line : Line) (visits : List Visit) (reported : List ℕ) : Type 0 where
   pub nothing : List ℕ
-  pub tells : TellsNothing may line visits (has_files visits) nothing
-  pub told_is : told ≡ unread_lines visits ++ nothing
+  pub reports : ReportsNothing may line visits (has_files visits) nothing
+  pub reported_is : reported ≡ unread_lines visits ++ nothing
 
 -- What the line asks for was visited; the files that were read, what is reported and the least status follow from
 -- that.
@@ -37,7 +37,7 @@ pub record IsReadSome (may : Answer → Type 0) (line : Line) (some : ReadSome) 
   pub visits : List Visit
   pub are_visits : AreVisitsFor may line visits
   pub files : some.files.items ≡ files_of visits
-  pub told : IsTold may line visits some.told.items
+  pub reported : IsReported may line visits some.reported.items
   pub least : some.least ≡ least_status visits
 
 -- What the line asks for was visited; the lines on all that was met, what is reported and the least status follow
@@ -46,5 +46,5 @@ pub record IsListed (may : Answer → Type 0) (line : Line) (listed : Listed) : 
   pub visits : List Visit
   pub are_visits : AreVisitsFor may line visits
   pub lines : AreListed visits listed.lines.items
-  pub told : IsTold may line visits listed.told.items
+  pub reported : IsReported may line visits listed.reported.items
   pub least : listed.least ≡ least_status visits

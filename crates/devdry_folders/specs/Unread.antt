@@ -59,12 +59,12 @@ file_of_met kind rank name (met.File bytes) = record { kind = kind; rank = rank;
 file_of_met kind rank name _ = []
 
 -- the name of a file: in a folder of the system its name there, else its path
-abbrev pub name_told : Bool → Sight → List ℕ
-name_told named s = if named then s.path else s.name
+abbrev pub name_reported : Bool → Sight → List ℕ
+name_reported named s = if named then s.path else s.name
 
 -- the file of a sight, if it is one, by its kind, its rank and whether it is named
 abbrev pub file_of_sight : FileKind → ℕ → Bool → Sight → List SourceFile
-file_of_sight kind rank named s = file_of_met kind rank (name_told named s) s.met
+file_of_sight kind rank named s = file_of_met kind rank (name_reported named s) s.met
 
 -- the files of a visit
 abbrev pub files_of_visit : Visit → List SourceFile

@@ -12,7 +12,7 @@ use text_bytes::{Bytes, FileKind};
 
 /// A folder that is not read, and how many files of a kind it has.
 #[derive(Debug, Drop)]
-pub struct Elsewhere {
+pub(crate) struct Elsewhere {
     /// The kind.
     pub kind: FileKind,
     /// The folder's path.
@@ -21,7 +21,7 @@ pub struct Elsewhere {
     pub count: usize,
 }
 
-// Where an image whose `/lib` is not a link to `/usr/lib` keeps the files of a kind.
+/// Where an image whose `/lib` is not a link to `/usr/lib` keeps the files of a kind.
 fn unmerged_folder(kind: FileKind) -> &'static str
     ensures { result.now ≡ unmerged_folder kind }
 {
@@ -31,7 +31,7 @@ fn unmerged_folder(kind: FileKind) -> &'static str
     }
 }
 
-// The entries of the folder at a path, and none if it can't be listed.
+/// The entries of the folder at a path, and none if it can't be listed.
 fn entries_at<D: Disk>(alloc: Global, disk: &D, path: &str) -> Result<Vec<Entry>, AllocError>
     ensures { IfOk result (λ entries. D.may_answer disk.now (Listing path.now entries.items)
         ⊎ ((entries.items ≡ []) × (D.may_answer disk.now (NoListing path.now faults.Absent)
@@ -45,7 +45,7 @@ fn entries_at<D: Disk>(alloc: Global, disk: &D, path: &str) -> Result<Vec<Entry>
     }
 }
 
-// How many files of a kind are in the folder at a path.
+/// How many files of a kind are in the folder at a path.
 fn count_at<D: Disk>(
     alloc: Global,
     disk: &D,
@@ -58,7 +58,7 @@ fn count_at<D: Disk>(
     Ok(entries.iter().filter(|entry| counts(kind, entry)).count())
 }
 
-// The files of a kind that are elsewhere, after a root.
+/// The files of a kind that are elsewhere, after a root.
 fn elsewhere_of<D: Disk>(
     alloc: Global,
     disk: &D,
@@ -77,7 +77,7 @@ fn elsewhere_of<D: Disk>(
     })
 }
 
-// The kinds that a line reads from folders.
+/// The kinds that a line reads from folders.
 fn kinds_in_folders(alloc: Global, line: &Line<'_>) -> Result<Vec<FileKind>, AllocError>
     ensures { IfOk result (λ kinds.
         kinds.items ≡ filter (reads_folders_of line.now) (kinds_read line.now.verb)) }
@@ -88,7 +88,7 @@ fn kinds_in_folders(alloc: Global, line: &Line<'_>) -> Result<Vec<FileKind>, All
         .collect(alloc)
 }
 
-// The files of kinds that are elsewhere, after a root.
+/// The files of kinds that are elsewhere, after a root.
 fn elsewhere_of_kinds<D: Disk>(
     alloc: Global,
     disk: &D,
@@ -105,7 +105,7 @@ fn elsewhere_of_kinds<D: Disk>(
     Ok(others)
 }
 
-// Where the symlink at `/lib` after a root leads, if there is one.
+/// Where the symlink at `/lib` after a root leads, if there is one.
 fn lib_target<D: Disk>(alloc: Global, disk: &D, root: &str) -> Result<Option<Bytes>, AllocError>
     ensures { IfOk result (λ target. D.may_answer disk.now (Target (lib_of root.now) target)) }
 {
@@ -116,7 +116,7 @@ fn lib_target<D: Disk>(alloc: Global, disk: &D, root: &str) -> Result<Option<Byt
 
 /// The files that are elsewhere, for each kind that the line reads from folders; none if `/lib` is a symlink, since
 /// the files below it are those of the folder that it leads to.
-pub fn files_elsewhere<D: Disk>(
+pub(crate) fn files_elsewhere<D: Disk>(
     alloc: Global,
     disk: &D,
     line: &Line<'_>,

@@ -6,7 +6,7 @@ use crate::sights::{Met, Sight, Visit};
 use std::alloc::{AllocError, Global};
 use text_bytes::{FileKind, SourceFile};
 
-// Adds the file of a sight, if it is one.
+/// Adds the file of a sight, if it is one.
 fn push_file(
     files: &mut Vec<SourceFile>,
     kind: FileKind,
@@ -29,7 +29,7 @@ fn push_file(
     Ok(())
 }
 
-// Adds the files of a visit.
+/// Adds the files of a visit.
 fn push_files(files: &mut Vec<SourceFile>, visit: Visit) -> Result<(), AllocError>
     ensures { OnOk result (files.new.items ≡ files.old.items ++ files_of_visit visit) }
 {
@@ -50,7 +50,7 @@ fn push_files(files: &mut Vec<SourceFile>, visit: Visit) -> Result<(), AllocErro
 ///
 /// A file of a folder of the system has its name there and the folder's rank; one that is named, or that is in a
 /// named folder, has its path as its name, and rank 0.
-pub fn files_of(alloc: Global, visits: Vec<Visit>) -> Result<Vec<SourceFile>, AllocError>
+pub(crate) fn files_of(alloc: Global, visits: Vec<Visit>) -> Result<Vec<SourceFile>, AllocError>
     ensures { IfOk result (λ files. files.items ≡ files_of visits.items) }
 {
     let mut files = Vec::new(alloc);

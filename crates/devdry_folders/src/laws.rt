@@ -5,6 +5,6 @@ ghost use Rattle.devdry_folders.specs.declared.sights.Visit as visited;
 
 /// A run reports that no file was read if and only if it is passed none.
 #[tactic(auto, using(crate::proofs::HandedOn::some_files))]
-pub fn no_file_is_told_where_none_is_handed_on()
+pub fn no_file_is_reported_where_none_is_handed_on()
     ensures { (visits : List visited.Visit) → has_files visits ≡ not (length (files_of visits) == 0) }
 {}

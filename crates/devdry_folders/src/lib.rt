@@ -14,10 +14,10 @@ mod meetings;
 mod nothing;
 mod reading;
 mod reasons;
+mod sight_status;
 mod sights;
-mod standing;
 mod unread;
 mod visiting;
 
-pub use laws::no_file_is_told_where_none_is_handed_on;
+pub use laws::no_file_is_reported_where_none_is_handed_on;
 pub use reading::{Listed, ReadSome, list_files, read_what_can};

@@ -7,7 +7,7 @@ use crate::sights::Met;
 use devdry_files::{Disk, DiskFault, Look};
 use std::alloc::{AllocError, Global};
 
-// The outcome of reading the file at a path.
+/// The outcome of reading the file at a path.
 fn read_at<D: Disk>(alloc: Global, disk: &D, path: &str) -> Result<Met, AllocError>
     ensures { IfOk result (IsReadSo (D.may_answer disk.now) path.now) }
 {
@@ -20,7 +20,7 @@ fn read_at<D: Disk>(alloc: Global, disk: &D, path: &str) -> Result<Met, AllocErr
     }
 }
 
-// What is met at a path if nothing is there, or a symlink to nothing.
+/// What is met at a path if nothing is there, or a symlink to nothing.
 fn missing_at<D: Disk>(alloc: Global, disk: &D, path: &str) -> Result<Met, AllocError>
     ensures { IfOk result (IsMissing (D.may_answer disk.now) path.now) }
 {
@@ -31,7 +31,12 @@ fn missing_at<D: Disk>(alloc: Global, disk: &D, path: &str) -> Result<Met, Alloc
 }
 
 /// What is met at a path, by a look at it.
-pub fn met_by<D: Disk>(alloc: Global, disk: &D, path: &str, look: Look) -> Result<Met, AllocError>
+pub(crate) fn met_by<D: Disk>(
+    alloc: Global,
+    disk: &D,
+    path: &str,
+    look: Look,
+) -> Result<Met, AllocError>
     ensures { IfOk result (IsMetBy (D.may_answer disk.now) path.now look) }
 {
     match look {
@@ -45,7 +50,7 @@ pub fn met_by<D: Disk>(alloc: Global, disk: &D, path: &str, look: Look) -> Resul
 }
 
 /// What is met at a path: it is looked at, and read if a file is there.
-pub fn met_at<D: Disk>(alloc: Global, disk: &D, path: &str) -> Result<Met, AllocError>
+pub(crate) fn met_at<D: Disk>(alloc: Global, disk: &D, path: &str) -> Result<Met, AllocError>
     ensures { IfOk result (IsMet (D.may_answer disk.now) path.now) }
 {
     let look = disk.look(path)?;

@@ -13,7 +13,7 @@ use itoa::Buffer;
 use std::alloc::{AllocError, Global};
 use text_bytes::{Bytes, FileKind};
 
-// Adds a line on a place.
+/// Adds a line on a place.
 fn push_line(alloc: Global, lines: &mut Vec<u8>, path: &[u8], text: &[u8]) -> Result<(), AllocError>
     ensures { OnOk result (lines.new.items ≡ lines.old.items ++ line_on path.now text.now) }
 {
@@ -23,21 +23,21 @@ fn push_line(alloc: Global, lines: &mut Vec<u8>, path: &[u8], text: &[u8]) -> Re
     Ok(())
 }
 
-// Whether what was met can't be read.
+/// Whether what was met can't be read.
 fn is_unread(met: &Met) -> bool
     ensures { result ≡ is_unread met.now }
 {
     matches!(met, Met::Unread(_))
 }
 
-// Whether one of the sights can't be read.
+/// Whether one of the sights can't be read.
 fn has_unread(sights: &[Sight]) -> bool
     ensures { result ≡ has_unread sights.now }
 {
     sights.iter().any(|sight| is_unread(&sight.met))
 }
 
-// Why a folder gave no file.
+/// Why a folder gave no file.
 fn why_no_file(alloc: Global, kind: FileKind, sights: &[Sight]) -> Result<Vec<u8>, AllocError>
     ensures { IfOk result (λ text. text.items ≡ why_no_file kind sights.now) }
 {
@@ -50,7 +50,7 @@ fn why_no_file(alloc: Global, kind: FileKind, sights: &[Sight]) -> Result<Vec<u8
     Ok(text)
 }
 
-// Adds the line on a folder that was listed, unless what is in it is already reported.
+/// Adds the line on a folder that was listed, unless what is in it is already reported.
 fn push_listed(
     alloc: Global,
     lines: &mut Vec<u8>,
@@ -67,7 +67,7 @@ fn push_listed(
     push_line(alloc, lines, path, &why_no_file(alloc, kind, sights)?)
 }
 
-// Adds the line on a place that was looked at.
+/// Adds the line on a place that was looked at.
 fn push_folder(alloc: Global, lines: &mut Vec<u8>, visit: &Visit) -> Result<(), AllocError>
     ensures { OnOk result (lines.new.items ≡ lines.old.items
         ++ folder_line visit.now.kind visit.now.path visit.now.scan.spot visit.now.scan.sights.items) }
@@ -80,7 +80,7 @@ fn push_folder(alloc: Global, lines: &mut Vec<u8>, visit: &Visit) -> Result<(), 
     }
 }
 
-// Adds the line on a link to an absolute path.
+/// Adds the line on a link to an absolute path.
 fn push_target(
     alloc: Global,
     lines: &mut Vec<u8>,
@@ -97,14 +97,14 @@ fn push_target(
     push_line(alloc, lines, path, &text)
 }
 
-// Whether a root is that of the running system: it is empty, or only slashes.
+/// Whether a root is that of the running system: it is empty, or only slashes.
 fn is_own_root(root: &str) -> bool
     ensures { result ≡ list_all (λ b. b == slash) root.now }
 {
     root.bytes().all(|byte| byte == b'/')
 }
 
-// Adds the line on a link at a path, if it is an absolute one in an image.
+/// Adds the line on a link at a path, if it is an absolute one in an image.
 fn push_link(
     alloc: Global,
     lines: &mut Vec<u8>,
@@ -121,7 +121,7 @@ fn push_link(
     }
 }
 
-// Adds the lines on a place that was looked at.
+/// Adds the lines on a place that was looked at.
 fn push_place(
     alloc: Global,
     lines: &mut Vec<u8>,
@@ -140,14 +140,14 @@ fn push_place(
     )
 }
 
-// The word after a number of files.
+/// The word after a number of files.
 fn files_word(count: usize) -> &'static [u8]
     ensures { result.now ≡ files_word count }
 {
     if count == 1 { b" file" } else { b" files" }
 }
 
-// Adds the line on files that are elsewhere, if there are any.
+/// Adds the line on files that are elsewhere, if there are any.
 fn push_elsewhere(alloc: Global, lines: &mut Vec<u8>, other: &Elsewhere) -> Result<(), AllocError>
     ensures { OnOk result (lines.new.items ≡ lines.old.items ++ line_elsewhere other.now) }
 {
@@ -160,7 +160,7 @@ fn push_elsewhere(alloc: Global, lines: &mut Vec<u8>, other: &Elsewhere) -> Resu
     push_line(alloc, lines, other.path.as_slice(), &text)
 }
 
-// Adds the lines on all places that were looked at.
+/// Adds the lines on all places that were looked at.
 fn push_places(
     alloc: Global,
     lines: &mut Vec<u8>,
@@ -180,7 +180,7 @@ fn push_places(
 /// PATH: absent`, `empty` or `has no .rules files`, with `devdry: PATH: link out of the root: TARGET` after it if
 /// it is an absolute link and the root is not that of the running system, and `devdry: PATH has 12 files` (`1
 /// file`) for files that are elsewhere. What can't be read has no line here.
-pub fn nothing_lines(
+pub(crate) fn nothing_lines(
     alloc: Global,
     root: &str,
     visits: &[Visit],

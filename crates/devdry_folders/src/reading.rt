@@ -1,13 +1,13 @@
 //! The outcome of a line whose reading goes on after what can't be read.
 ghost use Rattle.std.specs.Prelude.{◌≡◌, ◌≤◌, IfOk};
-ghost use Rattle.devdry_folders.specs.Surveys.{AreVisitsFor, IsListed, IsReadSome, IsTold, TellsNothing};
+ghost use Rattle.devdry_folders.specs.Surveys.{AreVisitsFor, IsListed, IsReadSome, IsReported, ReportsNothing};
 ghost use Rattle.devdry_folders.specs.Unread.{least_of, least_status};
 
 use crate::elsewhere::files_elsewhere;
 use crate::files::files_of;
 use crate::nothing::nothing_lines;
+use crate::sight_status::status_lines;
 use crate::sights::Visit;
-use crate::standing::standing_lines;
 use crate::unread::{has_files, unread_lines};
 use crate::visiting::visits;
 use devdry_files::{Disk, wanted};
@@ -21,7 +21,7 @@ pub struct ReadSome {
     /// The files that were read, in the order of reading.
     pub files: Vec<SourceFile>,
     /// What is reported on the error output before the run.
-    pub told: Vec<u8>,
+    pub reported: Vec<u8>,
     /// The least status of the run.
     pub least: u8,
 }
@@ -32,12 +32,12 @@ pub struct Listed {
     /// The lines for the output.
     pub lines: Vec<u8>,
     /// What is reported on the error output before them.
-    pub told: Vec<u8>,
+    pub reported: Vec<u8>,
     /// The least status of the run.
     pub least: u8,
 }
 
-// Visits of all that a line asks for.
+/// Visits of all that a line asks for.
 fn visits_for<D: Disk>(alloc: Global, disk: &D, line: &Line<'_>) -> Result<Vec<Visit>, AllocError>
     ensures { IfOk result (λ visits. AreVisitsFor (D.may_answer disk.now) line.now visits.items) }
 {
@@ -45,14 +45,14 @@ fn visits_for<D: Disk>(alloc: Global, disk: &D, line: &Line<'_>) -> Result<Vec<V
     visits(alloc, disk, &wanted)
 }
 
-// What is reported for visits before the run, and the least status of the run.
+/// What is reported for visits before the run, and the least status of the run.
 #[derive(Drop)]
-struct Told {
+struct Reported {
     lines: Vec<u8>,
     least: u8,
 }
 
-// The least status of a run, by the lines on what can't be read and whether any file was read.
+/// The least status of a run, by the lines on what can't be read and whether any file was read.
 fn least_of(unread: &[u8], some: bool) -> u8
     ensures { result ≡ least_of unread.now some }
 {
@@ -65,15 +65,15 @@ fn least_of(unread: &[u8], some: bool) -> u8
     }
 }
 
-// What is reported if no file was read, and nothing otherwise.
-fn told_of_nothing<D: Disk>(
+/// What is reported if no file was read, and nothing otherwise.
+fn reported_for_nothing<D: Disk>(
     alloc: Global,
     disk: &D,
     line: &Line<'_>,
     visits: &[Visit],
     some: bool,
 ) -> Result<Vec<u8>, AllocError>
-    ensures { IfOk result (λ lines. TellsNothing (D.may_answer disk.now) line.now visits.now some lines.items) }
+    ensures { IfOk result (λ lines. ReportsNothing (D.may_answer disk.now) line.now visits.now some lines.items) }
 {
     if some {
         return Ok(Vec::new(alloc));
@@ -82,21 +82,21 @@ fn told_of_nothing<D: Disk>(
     nothing_lines(alloc, line.root, visits, &others)
 }
 
-// What is reported for visits before the run, and the least status of the run.
-fn told_of<D: Disk>(
+/// What is reported for visits before the run, and the least status of the run.
+fn reported_for<D: Disk>(
     alloc: Global,
     disk: &D,
     line: &Line<'_>,
     visits: &[Visit],
-) -> Result<Told, AllocError>
-    ensures told { IfOk result (λ t. IsTold (D.may_answer disk.now) line.now visits.now t.lines.items) }
+) -> Result<Reported, AllocError>
+    ensures reported { IfOk result (λ t. IsReported (D.may_answer disk.now) line.now visits.now t.lines.items) }
     ensures least { IfOk result (λ t. t.least ≡ least_status visits.now) }
 {
     let mut lines = unread_lines(alloc, visits)?;
     let some = has_files(visits);
     let least = least_of(&lines, some);
-    lines.append(&mut told_of_nothing(alloc, disk, line, visits, some)?)?;
-    Ok(Told { lines, least })
+    lines.append(&mut reported_for_nothing(alloc, disk, line, visits, some)?)?;
+    Ok(Reported { lines, least })
 }
 
 /// Reads what can be read of all that a line asks for: the files that it names in the order given, then the
@@ -116,11 +116,11 @@ pub fn read_what_can<D: Disk>(
     ensures least { IfOk result (λ some. some.least ≤ 3) }
 {
     let visits = visits_for(alloc, disk, line)?;
-    let told = told_of(alloc, disk, line, &visits)?;
+    let reported = reported_for(alloc, disk, line, &visits)?;
     Ok(ReadSome {
         files: files_of(alloc, visits)?,
-        told: told.lines,
-        least: told.least,
+        reported: reported.lines,
+        least: reported.least,
     })
 }
 
@@ -132,10 +132,10 @@ pub fn list_files<D: Disk>(alloc: Global, disk: &D, line: &Line<'_>) -> Result<L
     ensures least { IfOk result (λ listed. listed.least ≤ 3) }
 {
     let visits = visits_for(alloc, disk, line)?;
-    let told = told_of(alloc, disk, line, &visits)?;
+    let reported = reported_for(alloc, disk, line, &visits)?;
     Ok(Listed {
-        lines: standing_lines(alloc, visits)?,
-        told: told.lines,
-        least: told.least,
+        lines: status_lines(alloc, visits)?,
+        reported: reported.lines,
+        least: reported.least,
     })
 }

@@ -8,7 +8,7 @@ use text_bytes::{Bytes, escape};
 
 /// Why something can't be read.
 #[derive(Debug, Drop)]
-pub enum Reason {
+pub(crate) enum Reason {
     /// 1: nothing is there.
     Absent,
     /// 2: whoever runs the program may not read it.
@@ -26,20 +26,24 @@ pub enum Reason {
 }
 
 /// Appends a front and a word, with the word escaped.
-pub fn push_escaped(
+pub(crate) fn push_escaped(
     alloc: Global,
     text: &mut Vec<u8>,
-    front: &[u8],
+    prefix: &[u8],
     word: &[u8],
 ) -> Result<(), AllocError>
-    ensures { OnOk result (text.new.items ≡ text.old.items ++ (front.now ++ escape_text word.now)) }
+    ensures { OnOk result (text.new.items ≡ text.old.items ++ (prefix.now ++ escape_text word.now)) }
 {
-    text.extend_from_slice(front)?;
+    text.extend_from_slice(prefix)?;
     text.extend_from_slice(&escape(alloc, word)?)
 }
 
 /// Appends a reason, in words.
-pub fn push_reason(alloc: Global, text: &mut Vec<u8>, reason: &Reason) -> Result<(), AllocError>
+pub(crate) fn push_reason(
+    alloc: Global,
+    text: &mut Vec<u8>,
+    reason: &Reason,
+) -> Result<(), AllocError>
     ensures { OnOk result (text.new.items ≡ text.old.items ++ reason_text reason.now) }
 {
     match reason {

@@ -5,7 +5,7 @@ use text_bytes::{Bytes, FileKind};
 
 /// What is met at a name in a folder, or at the path of a named file.
 #[derive(Debug, Drop)]
-pub enum Met {
+pub(crate) enum Met {
     /// A file, which was read: all its bytes.
     File(Bytes),
     /// Something whose name does not end like those of the kind; it is not looked at.
@@ -18,7 +18,7 @@ pub enum Met {
 
 /// A name, its path, and what is met there.
 #[derive(Debug, Drop)]
-pub struct Sight {
+pub(crate) struct Sight {
     /// The name without its folder; for a named file the path.
     pub name: Bytes,
     /// The path.
@@ -29,7 +29,7 @@ pub struct Sight {
 
 /// What is at the path of a folder that is wanted, or of a named file.
 #[derive(Debug, Drop)]
-pub enum Spot {
+pub(crate) enum Spot {
     /// Nothing, which is not a fault for a folder.
     Absent,
     /// A folder, which was listed.
@@ -42,7 +42,7 @@ pub enum Spot {
 
 /// What is at a path, and what is met in it.
 #[derive(Debug, Drop)]
-pub struct Scan {
+pub(crate) struct Scan {
     /// What is there.
     pub spot: Spot,
     /// What is met in a folder, sorted by name, or the file alone.
@@ -51,7 +51,7 @@ pub struct Scan {
 
 /// A folder or a file that a line asks for, and the outcome of visiting it.
 #[derive(Debug, Drop)]
-pub struct Visit {
+pub(crate) struct Visit {
     /// What files there hold.
     pub kind: FileKind,
     /// The place among the folders of the kind; 0 if the line names it.

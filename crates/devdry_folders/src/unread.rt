@@ -6,7 +6,7 @@ use crate::reasons::{Reason, push_escaped, push_reason};
 use crate::sights::{Met, Sight, Spot, Visit};
 use std::alloc::{AllocError, Global};
 
-// Adds the line on what can't be read.
+/// Adds the line on what can't be read.
 fn push_unread(
     alloc: Global,
     lines: &mut Vec<u8>,
@@ -22,7 +22,7 @@ fn push_unread(
     Ok(())
 }
 
-// Adds the line on what is met at a path, if it can't be read.
+/// Adds the line on what is met at a path, if it can't be read.
 fn push_on_met(alloc: Global, lines: &mut Vec<u8>, path: &[u8], met: &Met) -> Result<(), AllocError>
     ensures { OnOk result (lines.new.items ≡ lines.old.items ++ line_on_met path.now met.now) }
 {
@@ -32,7 +32,7 @@ fn push_on_met(alloc: Global, lines: &mut Vec<u8>, path: &[u8], met: &Met) -> Re
     }
 }
 
-// Adds the line on what is at a path, if it can't be listed.
+/// Adds the line on what is at a path, if it can't be listed.
 fn push_on_spot(
     alloc: Global,
     lines: &mut Vec<u8>,
@@ -47,7 +47,7 @@ fn push_on_spot(
     }
 }
 
-// Adds the lines on a visit.
+/// Adds the lines on a visit.
 fn push_on_visit(alloc: Global, lines: &mut Vec<u8>, visit: &Visit) -> Result<(), AllocError>
     ensures { OnOk result (lines.new.items ≡ lines.old.items ++ lines_on_visit visit.now) }
 {
@@ -60,7 +60,7 @@ fn push_on_visit(alloc: Global, lines: &mut Vec<u8>, visit: &Visit) -> Result<()
 
 /// The lines on all that can't be read, in the order of the visits: `devdry: cannot read PATH: REASON`, with the
 /// path escaped.
-pub fn unread_lines(alloc: Global, visits: &[Visit]) -> Result<Vec<u8>, AllocError>
+pub(crate) fn unread_lines(alloc: Global, visits: &[Visit]) -> Result<Vec<u8>, AllocError>
     ensures { IfOk result (λ lines. lines.items ≡ unread_lines visits.now) }
 {
     let mut lines = Vec::new(alloc);
@@ -71,13 +71,13 @@ pub fn unread_lines(alloc: Global, visits: &[Visit]) -> Result<Vec<u8>, AllocErr
 }
 
 /// Whether a file was read.
-pub fn is_file(met: &Met) -> bool
+pub(crate) fn is_file(met: &Met) -> bool
     ensures { result ≡ is_file met.now }
 {
     matches!(met, Met::File(_))
 }
 
-// Whether one of the sights is a file that was read.
+/// Whether one of the sights is a file that was read.
 fn has_file(sights: &[Sight]) -> bool
     ensures { result ≡ has_file sights.now }
 {
@@ -85,7 +85,7 @@ fn has_file(sights: &[Sight]) -> bool
 }
 
 /// Whether any file was read.
-pub fn has_files(visits: &[Visit]) -> bool
+pub(crate) fn has_files(visits: &[Visit]) -> bool
     ensures { result ≡ has_files visits.now }
 {
     visits.iter().any(|visit| has_file(&visit.scan.sights))

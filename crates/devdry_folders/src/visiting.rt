@@ -15,7 +15,7 @@ use devdry_files::{Disk, DiskFault, Entry, Folder, Look, Wanted};
 use std::alloc::{AllocError, Global};
 use text_bytes::{Bytes, FileKind};
 
-// The path of a name in the folder at a path, whose own path may end in a slash.
+/// The path of a name in the folder at a path, whose own path may end in a slash.
 fn path_below(alloc: Global, folder: &str, name: &str) -> Result<String, AllocError>
     ensures { IfOk result (λ path. string_bytes path ≡ below folder.now name.now) }
 {
@@ -27,7 +27,7 @@ fn path_below(alloc: Global, folder: &str, name: &str) -> Result<String, AllocEr
     Ok(path)
 }
 
-// The names of entries, sorted byte by byte.
+/// The names of entries, sorted byte by byte.
 fn names_of(alloc: Global, entries: Vec<Entry>) -> Result<Vec<String>, AllocError>
     ensures once { IfOk result (λ names. IsPermutation (map (λ e. e.name) entries.items) names.items) }
     ensures rise { IfOk result (λ names. IsSorted string_cmp names.items) }
@@ -37,7 +37,7 @@ fn names_of(alloc: Global, entries: Vec<Entry>) -> Result<Vec<String>, AllocErro
     Ok(names)
 }
 
-// What is met at a name in a folder of files of a kind.
+/// What is met at a name in a folder of files of a kind.
 fn met_in<D: Disk>(
     alloc: Global,
     disk: &D,
@@ -57,7 +57,7 @@ fn met_in<D: Disk>(
     }
 }
 
-// The sight of a name in a folder of files of a kind.
+/// The sight of a name in a folder of files of a kind.
 fn sight_in<D: Disk>(
     alloc: Global,
     disk: &D,
@@ -77,7 +77,7 @@ fn sight_in<D: Disk>(
     })
 }
 
-// The sights of names in a folder of files of a kind, in their order.
+/// The sights of names in a folder of files of a kind, in their order.
 fn sights_of_names<D: Disk>(
     alloc: Global,
     disk: &D,
@@ -95,7 +95,7 @@ fn sights_of_names<D: Disk>(
     Ok(sights)
 }
 
-// The sights in a folder with these entries.
+/// The sights in a folder with these entries.
 fn sights_in<D: Disk>(
     alloc: Global,
     disk: &D,
@@ -111,7 +111,7 @@ fn sights_in<D: Disk>(
     sights_of_names(alloc, disk, kind, folder, &names)
 }
 
-// The scan of a path that is not listed.
+/// The scan of a path that is not listed.
 fn unlisted(alloc: Global, spot: Spot) -> Scan
     ensures { IsUnlisted spot result }
 {
@@ -121,7 +121,7 @@ fn unlisted(alloc: Global, spot: Spot) -> Scan
     }
 }
 
-// The outcome of listing the folder at a path.
+/// The outcome of listing the folder at a path.
 fn scan_listed<D: Disk>(
     alloc: Global,
     disk: &D,
@@ -143,7 +143,7 @@ fn scan_listed<D: Disk>(
     }
 }
 
-// What it means that nothing is at a folder's path, by the symlink there, if there is one.
+/// What it means that nothing is at a folder's path, by the symlink there, if there is one.
 fn missing_folder(alloc: Global, link: Option<&Bytes>) -> Result<Spot, AllocError>
     ensures { IfOk result (λ it. it ≡ missing_folder (option_map (λ t. t.now) link.entry)) }
 {
@@ -156,7 +156,7 @@ fn missing_folder(alloc: Global, link: Option<&Bytes>) -> Result<Spot, AllocErro
     }
 }
 
-// The outcome for a folder that is wanted, by a look at it.
+/// The outcome for a folder that is wanted, by a look at it.
 fn scan_by<D: Disk>(
     alloc: Global,
     disk: &D,
@@ -177,7 +177,7 @@ fn scan_by<D: Disk>(
     }
 }
 
-// A visit of a folder that is wanted.
+/// A visit of a folder that is wanted.
 fn visit_folder<D: Disk>(alloc: Global, disk: &D, folder: &Folder) -> Result<Visit, AllocError>
     ensures place { IfOk result (λ v. place_of_visit v ≡ place_of folder.now) }
     ensures visit { IfOk result (IsFolderVisit (D.may_answer disk.now)) }
@@ -196,7 +196,7 @@ fn visit_folder<D: Disk>(alloc: Global, disk: &D, folder: &Folder) -> Result<Vis
     })
 }
 
-// The outcome for a named file, by a look at it.
+/// The outcome for a named file, by a look at it.
 fn scan_file<D: Disk>(alloc: Global, disk: &D, path: &str, look: Look) -> Result<Scan, AllocError>
     ensures { IfOk result (IsOneFile (D.may_answer disk.now) path.now look) }
 {
@@ -212,7 +212,7 @@ fn scan_file<D: Disk>(alloc: Global, disk: &D, path: &str, look: Look) -> Result
     })
 }
 
-// The outcome for what is named, by a look at it.
+/// The outcome for what is named, by a look at it.
 fn scan_named<D: Disk>(
     alloc: Global,
     disk: &D,
@@ -228,7 +228,7 @@ fn scan_named<D: Disk>(
     }
 }
 
-// A visit of what is named.
+/// A visit of what is named.
 fn visit_named<D: Disk>(
     alloc: Global,
     disk: &D,
@@ -250,7 +250,7 @@ fn visit_named<D: Disk>(
     })
 }
 
-// Visits of what is named, in its order.
+/// Visits of what is named, in its order.
 fn named_visits<D: Disk>(
     alloc: Global,
     disk: &D,
@@ -267,7 +267,7 @@ fn named_visits<D: Disk>(
     Ok(visits)
 }
 
-// Visits of folders, in their order.
+/// Visits of folders, in their order.
 fn folder_visits<D: Disk>(
     alloc: Global,
     disk: &D,
@@ -288,7 +288,7 @@ fn folder_visits<D: Disk>(
 /// A named file is read whatever its name; in a named folder, and in the folders, the files whose names end in the
 /// suffix of their kind are read, by name. What can't be read is kept with its reason, and the next is visited. An
 /// absent folder is not a fault, but a symlink to nothing is.
-pub fn visits<D: Disk>(
+pub(crate) fn visits<D: Disk>(
     alloc: Global,
     disk: &D,
     wanted: &Wanted<'_, '_>,

@@ -20,12 +20,12 @@ next f texts at text h =
     ap unknown_in (left_at f texts at text h)
     ∙ find-append (λ part. not (is_ignorable part)) (cut_at_commas (f (get_or texts at text))) (flat_map cut_at_commas (map f (drop (at + 1) texts)))
 
--- where a text has none, it is in those after
-pub goes_on : {A : Type 0} (f : A → Text) (texts : List A) (at : ℕ) (text : A) (whole : Option Text) → at < length texts
+-- if a text has none, it is in those after
+pub proceeds : {A : Type 0} (f : A → Text) (texts : List A) (at : ℕ) (text : A) (whole : Option Text) → at < length texts
     → unknown_in (map f (drop at texts)) ≡ whole → first_unknown (cut_at_commas (f (get_or texts at text))) ≡ None → unknown_in (map f (drop (at + 1) texts)) ≡ whole
-goes_on f texts at text whole h left none = sym (ap (λ found. option_or found (unknown_in (map f (drop (at + 1) texts)))) none) ∙ sym (next f texts at text h) ∙ left
+proceeds f texts at text whole h left none = sym (ap (λ found. option_or found (unknown_in (map f (drop (at + 1) texts)))) none) ∙ sym (next f texts at text h) ∙ left
 
--- where a text has one, it is the first
+-- if a text has one, it is the first
 pub found_here : {A : Type 0} (f : A → Text) (texts : List A) (at : ℕ) (text : A) (whole : Option Text) (part : Text) → at < length texts
     → unknown_in (map f (drop at texts)) ≡ whole → first_unknown (cut_at_commas (f (get_or texts at text))) ≡ Some part → Some part ≡ whole
 found_here f texts at text whole part h left some = sym (ap (λ found. option_or found (unknown_in (map f (drop (at + 1) texts)))) some) ∙ sym (next f texts at text h) ∙ left

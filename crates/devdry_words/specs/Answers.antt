@@ -17,15 +17,15 @@ abbrev pub AsksForHelp : ErrorKind → Type 0
 AsksForHelp k = (k ≡ kind.DisplayHelp) ⊎ (k ≡ kind.DisplayVersion)
 
 -- help answers a request for it, usage any other kind, and out of memory may answer each
-abbrev pub IsAnswer : LineFault → ErrorKind → Type 0
-IsAnswer (Help text) k = AsksForHelp k
-IsAnswer (Usage text) k = AsksForHelp k → ⊥
-IsAnswer Memory k = ⊤
+abbrev pub AnswersKind : LineFault → ErrorKind → Type 0
+AnswersKind (Help text) k = AsksForHelp k
+AnswersKind (Usage text) k = AsksForHelp k → ⊥
+AnswersKind Memory k = ⊤
 
 -- memory ran out, or the fault answers one of these kinds
 abbrev pub AnswersOneOf : Kinds → LineFault → Type 0
 AnswersOneOf kinds fault =
-    (fault ≡ Memory) ⊎ ((k : ErrorKind) × IsAmong k kinds × IsAnswer fault k)
+    (fault ≡ Memory) ⊎ ((k : ErrorKind) × IsAmong k kinds × AnswersKind fault k)
 
 -- it is usage with this text, or memory ran out
 abbrev pub IsUsageOf : Text → LineFault → Type 0

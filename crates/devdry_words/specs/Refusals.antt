@@ -56,7 +56,7 @@ refusal_of name rows = if names_two name rows then Some TwoDatabases
 
 -- what is said about a value that its argument does not take, by what comes before and after the value
 abbrev pub invalid_value : Text → Text → Text
-invalid_value value behind = codes "error: invalid value '" ++ value ++ behind
+invalid_value value following = codes "error: invalid value '" ++ value ++ following
 
 -- what is said about a query that names two databases
 abbrev pub two_databases : Text

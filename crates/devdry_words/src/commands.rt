@@ -21,7 +21,7 @@ const STATUSES: &str = "Status:
      line of query - is too long, or there are too many rules
      or entries, or the index is refused, or compare found a
      difference, or files or --all no file
-  2  the words of the command are not understood
+  2  the command line is wrong
   3  a file, a folder, the input or an output failed
   4  out of memory
 
@@ -43,6 +43,7 @@ const READ_AS_UDEV: &str = "Read rules as udev itself reads them";
 
 const EVALUATE_AS_UDEV: &str = "Read and evaluate rules as udev itself does";
 
+/// `-r DIR`, the folder that is put before each folder that is read.
 fn root_option<'a>(alloc: Global) -> Arg<'a>
     ensures { (rule_of result ≡ root_rule) × (result.global ≡ false) }
 {
@@ -53,6 +54,7 @@ fn root_option<'a>(alloc: Global) -> Arg<'a>
         .help("Folder to put before each folder that is read")
 }
 
+/// An option without a value, by its name.
 fn flag<'a>(alloc: Global, name: &'a str, help: &'a str) -> Arg<'a>
     ensures { (rule_of result ≡ flag_rule name.entry.now) × (result.global ≡ false) }
 {
@@ -62,18 +64,21 @@ fn flag<'a>(alloc: Global, name: &'a str, help: &'a str) -> Arg<'a>
         .help(help)
 }
 
+/// `-s` of `update`: a message makes the status 1.
 fn strict_flag<'a>(alloc: Global) -> Arg<'a>
     ensures { (rule_of result ≡ strict_rule) × (result.global ≡ false) }
 {
     flag(alloc, "strict", "Exit with status 1 if there is a message").short('s')
 }
 
+/// `--sources`: each line says where it comes from.
 fn sources_flag<'a>(alloc: Global) -> Arg<'a>
     ensures { (rule_of result ≡ sources_rule) × (result.global ≡ false) }
 {
     flag(alloc, "sources", "Say where each line comes from")
 }
 
+/// `--why FILE[:LINE]`, which may be given any number of times.
 fn why_option<'a>(alloc: Global) -> Arg<'a>
     ensures { (rule_of result ≡ why_rule) × (result.global ≡ false) }
 {
@@ -84,6 +89,7 @@ fn why_option<'a>(alloc: Global) -> Arg<'a>
         .help("Say what the rules of this file, or the one of this line, met")
 }
 
+/// `--questions`: the commands that the blocks do not answer, in place of answers.
 fn questions_flag<'a>(alloc: Global) -> Arg<'a>
     ensures { (rule_of result ≡ questions_rule) × (result.global ≡ false) }
 {
@@ -94,6 +100,7 @@ fn questions_flag<'a>(alloc: Global) -> Arg<'a>
     )
 }
 
+/// `--index FILE`, the index to read in place of the database's folders.
 fn index_option<'a>(alloc: Global) -> Arg<'a>
     ensures { (rule_of result ≡ index_rule) × (result.global ≡ false) }
 {
@@ -103,6 +110,7 @@ fn index_option<'a>(alloc: Global) -> Arg<'a>
         .help("Index to read in place of the database's folders")
 }
 
+/// `--no-summary`: good and bad files are not counted.
 fn no_summary_flag<'a>(alloc: Global) -> Arg<'a>
     ensures { (rule_of result ≡ no_summary_rule) × (result.global ≡ false) }
 {
@@ -113,12 +121,14 @@ fn no_summary_flag<'a>(alloc: Global) -> Arg<'a>
     )
 }
 
+/// `--no-style`: there are no messages about style.
 fn no_style_flag<'a>(alloc: Global) -> Arg<'a>
     ensures { (rule_of result ≡ no_style_rule) × (result.global ≡ false) }
 {
     flag(alloc, "no-style", "Give no messages about style")
 }
 
+/// `--lint`: rules that are most likely not the ones that were meant are reported, too.
 fn lint_flag<'a>(alloc: Global) -> Arg<'a>
     ensures { (rule_of result ≡ lint_rule) × (result.global ≡ false) }
 {
@@ -129,12 +139,14 @@ fn lint_flag<'a>(alloc: Global) -> Arg<'a>
     )
 }
 
+/// `--udev`, with the help that its subcommand has for it.
 fn udev_flag<'a>(alloc: Global, help: &'a str) -> Arg<'a>
     ensures { (rule_of result ≡ udev_rule) × (result.global ≡ false) }
 {
     flag(alloc, "udev", help)
 }
 
+/// An option that names a list of accounts, by its own name.
 fn accounts_option<'a>(alloc: Global, name: &'a str, help: &'a str) -> Arg<'a>
     ensures { (rule_of result ≡ accounts_rule name.entry.now) × (result.global ≡ false) }
 {
@@ -144,6 +156,7 @@ fn accounts_option<'a>(alloc: Global, name: &'a str, help: &'a str) -> Arg<'a>
         .help(help)
 }
 
+/// `--users FILE`, the users that OWNER may name.
 fn users_option<'a>(alloc: Global) -> Arg<'a>
     ensures { (rule_of result ≡ accounts_rule (codes "users")) × (result.global ≡ false) }
 {
@@ -154,6 +167,7 @@ fn users_option<'a>(alloc: Global) -> Arg<'a>
     )
 }
 
+/// `--groups FILE`, the groups that GROUP may name.
 fn groups_option<'a>(alloc: Global) -> Arg<'a>
     ensures { (rule_of result ≡ accounts_rule (codes "groups")) × (result.global ≡ false) }
 {
@@ -164,6 +178,7 @@ fn groups_option<'a>(alloc: Global) -> Arg<'a>
     )
 }
 
+/// `--all`: the run goes on after what can't be read, and fails if there is no file.
 fn all_flag<'a>(alloc: Global) -> Arg<'a>
     ensures { (rule_of result ≡ all_rule) × (result.global ≡ false) }
 {
@@ -174,6 +189,7 @@ fn all_flag<'a>(alloc: Global) -> Arg<'a>
     )
 }
 
+/// `--format FORMAT`, how messages are written.
 fn format_option<'a>(alloc: Global) -> Arg<'a>
     ensures { (rule_of result ≡ format_rule) × (result.global ≡ false) }
 {
@@ -183,6 +199,7 @@ fn format_option<'a>(alloc: Global) -> Arg<'a>
         .help("How messages are written: plain, gcc, github, gitlab, json or human")
 }
 
+/// `--ignore CODES`, which may be given any number of times.
 fn ignore_option<'a>(alloc: Global) -> Arg<'a>
     ensures { (rule_of result ≡ ignore_rule) × (result.global ≡ false) }
 {
@@ -193,12 +210,14 @@ fn ignore_option<'a>(alloc: Global) -> Arg<'a>
         .help("Leave out the messages of these codes, as V6,S2; comments: as the files say")
 }
 
+/// An argument that has to be given.
 fn required_argument<'a>(alloc: Global, name: &'a str, help: &'a str) -> Arg<'a>
     ensures { (rule_of result ≡ required_rule name.entry.now) × (result.global ≡ false) }
 {
     Arg::new(alloc, name).required(true).help(help)
 }
 
+/// MODALIAS of `query`.
 fn modalias_argument<'a>(alloc: Global) -> Arg<'a>
     ensures { (rule_of result ≡ modalias_rule) × (result.global ≡ false) }
 {
@@ -209,30 +228,35 @@ fn modalias_argument<'a>(alloc: Global) -> Arg<'a>
     )
 }
 
+/// OLD of `compare`, the root of the system before.
 fn old_argument<'a>(alloc: Global) -> Arg<'a>
     ensures { (rule_of result ≡ old_rule) × (result.global ≡ false) }
 {
     required_argument(alloc, "OLD", "Root of the system before")
 }
 
+/// NEW of `compare`, the root of the system after.
 fn new_argument<'a>(alloc: Global) -> Arg<'a>
     ensures { (rule_of result ≡ new_root_rule) × (result.global ≡ false) }
 {
     required_argument(alloc, "NEW", "Root of the system after")
 }
 
+/// CODE of `explain`.
 fn code_argument<'a>(alloc: Global) -> Arg<'a>
     ensures { (rule_of result ≡ code_rule) × (result.global ≡ false) }
 {
     required_argument(alloc, "CODE", "Code of a message, as V6")
 }
 
+/// FILE.., the files to read in place of folders.
 fn files_argument<'a>(alloc: Global, help: &'a str) -> Arg<'a>
     ensures { (rule_of result ≡ files_rule) × (result.global ≡ false) }
 {
     Arg::new(alloc, "FILE").action(ArgAction::Append).help(help)
 }
 
+/// The subcommand `update`.
 fn update_command<'a>(alloc: Global) -> Result<Command<'a>, AllocError>
     ensures { IfOk result (IsCommand update_shape) }
 {
@@ -246,6 +270,7 @@ fn update_command<'a>(alloc: Global) -> Result<Command<'a>, AllocError>
         .arg(files_argument(alloc, DATABASE_FILES))
 }
 
+/// The subcommand `query`.
 fn query_command<'a>(alloc: Global) -> Result<Command<'a>, AllocError>
     ensures { IfOk result (IsCommand query_shape) }
 {
@@ -259,6 +284,7 @@ fn query_command<'a>(alloc: Global) -> Result<Command<'a>, AllocError>
         .arg(files_argument(alloc, DATABASE_FILES))
 }
 
+/// The subcommand `verify`.
 fn verify_command<'a>(alloc: Global) -> Result<Command<'a>, AllocError>
     ensures { IfOk result (IsCommand verify_shape) }
 {
@@ -277,6 +303,7 @@ fn verify_command<'a>(alloc: Global) -> Result<Command<'a>, AllocError>
         .arg(files_argument(alloc, RULES_FILES))
 }
 
+/// The subcommand `events`.
 fn events_command<'a>(alloc: Global) -> Result<Command<'a>, AllocError>
     ensures { IfOk result (IsCommand events_shape) }
 {
@@ -291,6 +318,7 @@ fn events_command<'a>(alloc: Global) -> Result<Command<'a>, AllocError>
         .arg(files_argument(alloc, RULES_FILES))
 }
 
+/// The subcommand `files`.
 fn files_command<'a>(alloc: Global) -> Result<Command<'a>, AllocError>
     ensures { IfOk result (IsCommand files_shape) }
 {
@@ -299,6 +327,7 @@ fn files_command<'a>(alloc: Global) -> Result<Command<'a>, AllocError>
         .arg(root_option(alloc))
 }
 
+/// The subcommand `compare`.
 fn compare_command<'a>(alloc: Global) -> Result<Command<'a>, AllocError>
     ensures { IfOk result (IsCommand compare_shape) }
 {
@@ -310,14 +339,16 @@ fn compare_command<'a>(alloc: Global) -> Result<Command<'a>, AllocError>
         .arg(new_argument(alloc))
 }
 
+/// The subcommand `explain`.
 fn explain_command<'a>(alloc: Global) -> Result<Command<'a>, AllocError>
     ensures { IfOk result (IsCommand explain_shape) }
 {
     Command::new(alloc, "explain")
-        .about("Explains a message by its code, with a faulty file and the mended one")
+        .about("Explains a message by its code, with a faulty file and the fixed one")
         .arg(code_argument(alloc))
 }
 
+/// The command line without its subcommands.
 fn program<'a>(alloc: Global) -> Result<Command<'a>, AllocError>
     ensures { IfOk result (λ c. app_of c ≡ program_app) }
 {
@@ -332,8 +363,8 @@ fn program<'a>(alloc: Global) -> Result<Command<'a>, AllocError>
         .bin_name("devdry")
 }
 
-/// The command line of `devdry`, with its subcommands. There is an `Err` only if memory runs out.
-pub fn devdry_command<'a>(alloc: Global) -> Result<Command<'a>, AllocError>
+/// The command line of `devdry`, with its subcommands.
+pub(crate) fn devdry_command<'a>(alloc: Global) -> Result<Command<'a>, AllocError>
     ensures { IfOk result (λ c. app_of c ≡ devdry) }
 {
     program(alloc)?

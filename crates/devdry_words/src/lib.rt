@@ -11,8 +11,8 @@ mod ignored;
 mod line_reading;
 mod parse;
 mod refusals;
+mod reporting;
 mod subcommands;
-mod telling;
 mod values;
 
 pub use parse::parse_line;

@@ -56,7 +56,7 @@ fn account_file<'a>(alloc: Global, matches: &ArgMatches<'a>, id: &str) -> Option
     })
 }
 
-/// The line of a verb below a root, with these matches. There is an `Err` only if memory runs out.
+/// The line of a verb below a root, with these matches.
 pub(crate) fn line_with<'a>(
     alloc: Global,
     verb: Verb,

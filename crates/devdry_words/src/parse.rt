@@ -4,32 +4,32 @@
 //! errors the faults that the program distinguishes by their status.
 ghost use Rattle.std.specs.Prelude.{◌≡◌, ◌↔◌, ◌⊎◌, IsTrue, IfErr, IfOk, MatchResult, None, Ok, Err, [], map, string_bytes, true};
 ghost use Rattle.clap.specs.Words.{fault_of, found_of, kind_of, rows_of, subcommand_of, subcommand_rows_of, takes};
-ghost use Rattle.devdry_words.specs.Answers.{AnswersMatches, AnswersSubcommand, AnswersWords, AsksForHelp, IsAnswer};
+ghost use Rattle.devdry_words.specs.Answers.{AnswersKind, AnswersMatches, AnswersSubcommand, AnswersWords, AsksForHelp};
 ghost use Rattle.devdry_words.specs.Commands.{devdry};
 ghost use Rattle.devdry_words.specs.Refusals.{refusal_of};
 ghost use Rattle.devdry_words.specs.Requests.{AsksFor, IsRequestOf, IsSubcommandName, NamesSubcommand};
 
 use crate::commands::devdry_command;
 use crate::refusals::{refusal_of, usage_of};
+use crate::reporting::explained;
 use crate::subcommands::{Subcommand, compare_request, files_request, run_request, subcommand_of};
-use crate::telling::explained;
 use crate::values::text;
 use clap::error::ErrorKind;
 use clap::{ArgMatches, Error};
 use engine_ends::{LineFault, Request};
 use std::alloc::{AllocError, Global};
 
-// Whether help or the version was asked for.
+/// Whether help or the version was asked for.
 fn asks_for_help(kind: ErrorKind) -> bool
     ensures { IsTrue result ↔ AsksForHelp kind }
 {
     matches!(kind, ErrorKind::DisplayHelp | ErrorKind::DisplayVersion)
 }
 
-// The fault of an error of `clap`, with its text.
+/// The fault of an error of `clap`, with its text.
 fn fault_from(alloc: Global, error: &Error) -> LineFault
     ensures memory { kind_of error.now ≡ ErrorKind.OutOfMemory → result ≡ LineFault.Memory }
-    ensures kind { IsAnswer result (kind_of error.now) }
+    ensures kind { AnswersKind result (kind_of error.now) }
 {
     if error.kind() == ErrorKind::OutOfMemory {
         return LineFault::Memory;
@@ -46,7 +46,7 @@ fn fault_from(alloc: Global, error: &Error) -> LineFault
     }
 }
 
-// A request, with out of memory as a fault.
+/// A request, with out of memory as a fault.
 fn or_memory<'a>(request: Result<Request<'a>, AllocError>) -> Result<Request<'a>, LineFault>
     ensures { MatchResult request.entry (λ r. result ≡ Ok r) (λ _. result ≡ Err LineFault.Memory) }
 {
@@ -56,7 +56,7 @@ fn or_memory<'a>(request: Result<Request<'a>, AllocError>) -> Result<Request<'a>
     }
 }
 
-// What the matches of a subcommand ask for if they are not refused.
+/// What the matches of a subcommand ask for if they are not refused.
 fn taken<'a>(alloc: Global, name: &str, matches: &ArgMatches<'a>) -> Result<Request<'a>, LineFault>
     requires name { IsSubcommandName name.now }
     requires free { refusal_of name.now (rows_of (found_of matches.now)) ≡ None }
@@ -72,7 +72,7 @@ fn taken<'a>(alloc: Global, name: &str, matches: &ArgMatches<'a>) -> Result<Requ
     }
 }
 
-// What the matches, which name a subcommand, ask for, or why there is no request.
+/// What the matches, which name a subcommand, ask for, or why there is no request.
 fn request_of<'a>(alloc: Global, matches: &ArgMatches<'a>) -> Result<Request<'a>, LineFault>
     requires { NamesSubcommand (subcommand_rows_of matches.now) }
     ensures request { IfOk result (IsRequestOf (subcommand_rows_of matches.now)) }
@@ -102,11 +102,10 @@ fn request_of<'a>(alloc: Global, matches: &ArgMatches<'a>) -> Result<Request<'a>
 ///
 /// `LineFault::Help` comes for `--help`, `-h`, `help`, `--version` and `-V`, also after a
 /// subcommand, and for `explain` with a code, whose text is then the section on its message.
-/// `LineFault::Usage` comes for all else that `clap` does not take, no words at all among it; for a
-/// `query` with both files and an index; for `--questions` with `--sources` or `--why`; for `--all`, `files` or `compare` with a root that is given
-/// and empty; for `--users` or `--groups` without `--udev`; for a format that there is not; for a part of `--ignore` that is neither a code nor the
-/// word `comments`; and for `explain` with a code that there is not. `LineFault::Memory` comes where
-/// an allocation was refused.
+/// `LineFault::Usage` comes for all else that `clap` does not take, no words at all among it; for a `query` with both
+/// files and an index; for `--questions` with `--sources` or `--why`; for `--all`, `files` or `compare` with a root
+/// that is given and empty; for `--users` or `--groups` without `--udev`; for a format that there is not; for a part of
+/// `--ignore` that is neither a code nor the word `comments`; and for `explain` with a code that there is not.
 pub fn parse_line<'a>(alloc: Global, words: &'a [String]) -> Result<Request<'a>, LineFault>
     // A request is that of the subcommand that the words name, with the values that they give, and nothing of them
     // is refused.

@@ -9,7 +9,7 @@ ghost use Rattle.devdry_words.specs.Refusals.{asks_both, lacks_root, lacks_side,
 
 use crate::ignored::{unknown_part, unknown_text};
 use crate::line_reading::format_of;
-use crate::telling::{usage, usage_on_value};
+use crate::reporting::{usage, usage_on_value};
 use crate::values::{has_value, is_empty, is_given, text, value};
 use clap::ArgMatches;
 use engine_ends::LineFault;

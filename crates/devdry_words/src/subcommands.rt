@@ -39,7 +39,7 @@ pub(crate) fn subcommand_of(name: &str) -> Subcommand
     }
 }
 
-/// What a subcommand that is run asks for with these matches. There is an `Err` only if memory runs out.
+/// What a subcommand that is run asks for with these matches.
 pub(crate) fn run_request<'a>(
     alloc: Global,
     verb: Verb,
@@ -51,7 +51,7 @@ pub(crate) fn run_request<'a>(
     Ok(Request::Run(line_with(alloc, verb, root, matches)?))
 }
 
-/// What `files` asks for with these matches. There is an `Err` only if memory runs out.
+/// What `files` asks for with these matches.
 pub(crate) fn files_request<'a>(
     alloc: Global,
     matches: &ArgMatches<'a>,
@@ -62,7 +62,7 @@ pub(crate) fn files_request<'a>(
     Ok(Request::Files(line_with(alloc, Verb::Events, root, matches)?))
 }
 
-/// What `compare` asks for with these matches. There is an `Err` only if memory runs out.
+/// What `compare` asks for with these matches.
 pub(crate) fn compare_request<'a>(
     alloc: Global,
     matches: &ArgMatches<'a>,

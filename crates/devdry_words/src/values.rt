@@ -10,14 +10,14 @@ use clap::ArgMatches;
 use std::alloc::{AllocError, Global};
 
 /// The value of an argument, if it was given.
-pub fn value<'a>(matches: &ArgMatches<'a>, id: &str) -> Option<&'a str>
+pub(crate) fn value<'a>(matches: &ArgMatches<'a>, id: &str) -> Option<&'a str>
     ensures { option_map (λ t. t.now) result ≡ first_of id.now (rows_of (found_of matches.now)) }
 {
     matches.get_str(id)
 }
 
 /// The value of an argument, empty if it was not given.
-pub fn text<'a>(matches: &ArgMatches<'a>, id: &str) -> &'a str
+pub(crate) fn text<'a>(matches: &ArgMatches<'a>, id: &str) -> &'a str
     ensures { result.now ≡ text_of id.now (rows_of (found_of matches.now)) }
 {
     match value(matches, id) {
@@ -27,7 +27,7 @@ pub fn text<'a>(matches: &ArgMatches<'a>, id: &str) -> &'a str
 }
 
 /// Whether a flag was given.
-pub fn is_given(matches: &ArgMatches<'_>, id: &str) -> bool
+pub(crate) fn is_given(matches: &ArgMatches<'_>, id: &str) -> bool
     ensures { result ≡ is_set id.now (rows_of (found_of matches.now)) }
 {
     match value(matches, id) {
@@ -37,7 +37,7 @@ pub fn is_given(matches: &ArgMatches<'_>, id: &str) -> bool
 }
 
 /// Whether an argument was given an empty value.
-pub fn is_empty(matches: &ArgMatches<'_>, id: &str) -> bool
+pub(crate) fn is_empty(matches: &ArgMatches<'_>, id: &str) -> bool
     ensures { result ≡ is_empty_text id.now (rows_of (found_of matches.now)) }
 {
     match value(matches, id) {
@@ -47,7 +47,7 @@ pub fn is_empty(matches: &ArgMatches<'_>, id: &str) -> bool
 }
 
 /// The values of an argument, if it was given.
-pub fn every_value<'b, 'a>(matches: &'b ArgMatches<'a>, id: &str) -> Option<&'b [&'a str]>
+pub(crate) fn every_value<'b, 'a>(matches: &'b ArgMatches<'a>, id: &str) -> Option<&'b [&'a str]>
     ensures { option_map (λ ts. map (λ t. t.now) ts.now) result
         ≡ all_of id.now (rows_of (found_of matches.now)) }
 {
@@ -55,7 +55,7 @@ pub fn every_value<'b, 'a>(matches: &'b ArgMatches<'a>, id: &str) -> Option<&'b 
 }
 
 /// The values of an argument in their order, none if it was not given.
-pub fn texts<'a>(
+pub(crate) fn texts<'a>(
     alloc: Global,
     matches: &ArgMatches<'a>,
     id: &str,
@@ -70,7 +70,7 @@ pub fn texts<'a>(
 }
 
 /// Whether an argument has a value.
-pub fn has_value(matches: &ArgMatches<'_>, id: &str) -> bool
+pub(crate) fn has_value(matches: &ArgMatches<'_>, id: &str) -> bool
     ensures { result ≡ has_value id.now (rows_of (found_of matches.now)) }
 {
     match every_value(matches, id) {
@@ -99,7 +99,7 @@ fn cut_each_at_commas<'a>(alloc: Global, texts: &[&'a str]) -> Result<Vec<&'a st
 }
 
 /// The values of an argument in their order, each cut at its commas; none if it was not given.
-pub fn parts<'a>(
+pub(crate) fn parts<'a>(
     alloc: Global,
     matches: &ArgMatches<'a>,
     id: &str,

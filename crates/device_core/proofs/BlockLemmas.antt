@@ -27,13 +27,13 @@ abbrev pub Finds : (List ℕ → Bool) → List (List ℕ) → List (List ℕ) �
 Finds is_faulty texts found = FindsAll is_faulty texts found ⊎ FindsFaulty is_faulty texts found
 
 -- one more text in front, which is not faulty
-finds_behind : (is_faulty : List ℕ → Bool) (text : List ℕ) (texts found : List (List ℕ)) → is_faulty text ≡ false → Finds is_faulty texts found → Finds is_faulty (text ∷ texts) (text ∷ found)
-finds_behind is_faulty text texts found e h = elim h [
+finds_after : (is_faulty : List ℕ → Bool) (text : List ℕ) (texts found : List (List ℕ)) → is_faulty text ≡ false → Finds is_faulty texts found → Finds is_faulty (text ∷ texts) (text ∷ found)
+finds_after is_faulty text texts found e h = elim h [
   | inl all ↦ inl (record { none = one_more is_faulty text texts e all.none; all = ap (λ l. text ∷ l) all.all })
   | inr some ↦ inr (record {
     before = text ∷ some.before;
     faulty = some.faulty;
-    behind = some.behind;
+    following = some.following;
     texts_are = ap (λ l. text ∷ l) some.texts_are;
     none = one_more is_faulty text some.before e some.none;
     is = some.is;
@@ -43,14 +43,14 @@ finds_behind is_faulty text texts found e h = elim h [
 
 finds_by : (is_faulty : List ℕ → Bool) (text : List ℕ) (texts : List (List ℕ)) (faulty : Bool) → is_faulty text ≡ faulty → Finds is_faulty texts (up_to_faulty is_faulty texts)
     → Finds is_faulty (text ∷ texts) (text ∷ cond faulty [] (up_to_faulty is_faulty texts))
-finds_by is_faulty text texts true e h = inr (record { before = []; faulty = text; behind = texts; texts_are = refl; none = none is_faulty; is = e; found_are = refl })
-finds_by is_faulty text texts false e h = finds_behind is_faulty text texts (up_to_faulty is_faulty texts) e h
+finds_by is_faulty text texts true e h = inr (record { before = []; faulty = text; following = texts; texts_are = refl; none = none is_faulty; is = e; found_are = refl })
+finds_by is_faulty text texts false e h = finds_after is_faulty text texts (up_to_faulty is_faulty texts) e h
 
 finds : (is_faulty : List ℕ → Bool) (texts : List (List ℕ)) → Finds is_faulty texts (up_to_faulty is_faulty texts)
 finds is_faulty [] = inl (record { none = none is_faulty; all = refl })
 finds is_faulty (text ∷ texts) = finds_by is_faulty text texts (is_faulty text) refl (finds is_faulty texts)
 
--- texts that are not faulty are passed over
+-- texts that are not faulty are skipped
 pub past_good : (is_faulty : List ℕ → Bool) (good texts : List (List ℕ)) → NoneFaulty is_faulty good → up_to_faulty is_faulty (good ++ texts) ≡ good ++ up_to_faulty is_faulty texts
 past_good is_faulty [] texts h = refl
 past_good is_faulty (text ∷ good) texts h =
@@ -67,8 +67,8 @@ found_is : (is_faulty : List ℕ → Bool) (texts found : List (List ℕ)) → F
 found_is is_faulty texts found h = elim h [
   | inl all ↦ all.all ∙ sym (all_good is_faulty texts all.none)
   | inr some ↦ some.found_are
-      ∙ sym (ap (up_to_faulty is_faulty) some.texts_are ∙ past_good is_faulty some.before (some.faulty ∷ some.behind) some.none
-      ∙ ap (λ b. some.before ++ some.faulty ∷ cond b [] (up_to_faulty is_faulty some.behind)) some.is)
+      ∙ sym (ap (up_to_faulty is_faulty) some.texts_are ∙ past_good is_faulty some.before (some.faulty ∷ some.following) some.none
+      ∙ ap (λ b. some.before ++ some.faulty ∷ cond b [] (up_to_faulty is_faulty some.following)) some.is)
 ]
 
 pub finds_blocks : (is_faulty : List ℕ → Bool) (input : List ℕ) (found : List (List ℕ)) → (found ≡ blocks_of is_faulty input) ↔ (FindsAll is_faulty (runs input) found ⊎ FindsFaulty is_faulty (runs input) found)

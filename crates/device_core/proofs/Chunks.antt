@@ -10,12 +10,12 @@ use Rattle.device_core.specs.Holding.{begins_after}
 use Rattle.device_core.proofs.Law.{byte_stays, begins_after-push, complete_runs-append}
 
 -- none of the bytes is the newline of an empty line
-abbrev pub GoesOn : Bool → List ℕ → Type 0
-GoesOn start [] = Unit {0}
-GoesOn start (byte ∷ chunk) = ((start && (byte == 10)) ≡ false) × GoesOn (byte == 10) chunk
+abbrev pub Proceeds : Bool → List ℕ → Type 0
+Proceeds start [] = Unit {0}
+Proceeds start (byte ∷ chunk) = ((start && (byte == 10)) ≡ false) × Proceeds (byte == 10) chunk
 
 -- such bytes go onto the run
-pub chunk_stays : (text held chunk : List ℕ) (start : Bool) → rest_of text ≡ held → start ≡ begins_after true held → GoesOn start chunk
+pub chunk_stays : (text held chunk : List ℕ) (start : Bool) → rest_of text ≡ held → start ≡ begins_after true held → Proceeds start chunk
     → (complete_runs (text ++ chunk) ≡ complete_runs text) × (rest_of (text ++ chunk) ≡ held ++ chunk)
 chunk_stays text held [] start e b h = (ap complete_runs (append-nil text), ap rest_of (append-nil text) ∙ e ∙ sym (append-nil held))
 chunk_stays text held (byte ∷ chunk) start e b h =
@@ -23,17 +23,17 @@ chunk_stays text held (byte ∷ chunk) start e b h =
     let r = chunk_stays (text ++ byte ∷ []) (held ++ byte ∷ []) chunk (byte == 10) p.1 (sym (begins_after-push true held byte)) h.1 in
     (ap complete_runs (sym (append_assoc text (byte ∷ []) chunk)) ∙ r.0 ∙ p.0, ap rest_of (sym (append_assoc text (byte ∷ []) chunk)) ∙ r.1 ∙ append_assoc held (byte ∷ []) chunk)
 
-behind_byte : (ends : Bool) (byte : ℕ) (text : List ℕ) (n : ℕ) → suc n ≤ length (cond ends (byte ∷ []) (byte ∷ first_line text))
-    → (n ≤ length (first_line text) → GoesOn false (take n text)) → GoesOn ends (take n text)
-behind_byte true byte text zero l h = tt
-behind_byte true byte text (suc n) l h = absurd (omega arith)
-behind_byte false byte text n l h = h (omega arith)
+after_byte : (ends : Bool) (byte : ℕ) (text : List ℕ) (n : ℕ) → suc n ≤ length (cond ends (byte ∷ []) (byte ∷ first_line text))
+    → (n ≤ length (first_line text) → Proceeds false (take n text)) → Proceeds ends (take n text)
+after_byte true byte text zero l h = tt
+after_byte true byte text (suc n) l h = absurd (omega arith)
+after_byte false byte text n l h = h (omega arith)
 
 -- the bytes of a line go on, unless it is empty
-pub line_goes_on : (start : Bool) (text : List ℕ) (n : ℕ) → n ≤ length (first_line text) → (start && (get_or text 0 0 == 10)) ≡ false → GoesOn start (take n text)
-line_goes_on start text zero l e = tt
-line_goes_on start [] (suc n) l e = absurd (omega arith)
-line_goes_on start (byte ∷ text) (suc n) l e = (e, behind_byte (byte == 10) byte text n l (λ m. line_goes_on false text n m refl))
+pub line_proceeds : (start : Bool) (text : List ℕ) (n : ℕ) → n ≤ length (first_line text) → (start && (get_or text 0 0 == 10)) ≡ false → Proceeds start (take n text)
+line_proceeds start text zero l e = tt
+line_proceeds start [] (suc n) l e = absurd (omega arith)
+line_proceeds start (byte ∷ text) (suc n) l e = (e, after_byte (byte == 10) byte text n l (λ m. line_proceeds false text n m refl))
 
 -- how many bytes come before the first newline, or in all
 abbrev pub newline_at : List ℕ → ℕ
@@ -73,7 +73,7 @@ no_more (x ∷ xs) ys e = absurd cc
 pub take_chunk : (before piece : List ℕ) (i n : ℕ) → before ++ take (i + n) piece ≡ (before ++ take i piece) ++ take n (drop i piece)
 take_chunk before piece i n = ap (λ l. before ++ l) (take-add i n piece) ∙ sym (append_assoc before (take i piece) (take n (drop i piece)))
 
--- where no run is complete, none was before
+-- if no run is complete, none was before
 pub none_before : (before piece : List ℕ) (i n : ℕ) → n ≤ i → complete_runs (before ++ take i piece) ≡ [] → complete_runs (before ++ take n piece) ≡ []
 none_before before piece i n l none =
     let s : List ℕ = before ++ take n piece in

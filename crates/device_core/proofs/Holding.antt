@@ -3,14 +3,14 @@ use Rattle.std.proofs.Common.{◌≡◌, ◌+◌, true, false, ◌||◌, List, [
 use Rattle.std.proofs.lemmas.List.{append-nil, length-append}
 use Rattle.std.specs.Option.{option_and_then, option_to_list}
 use Rattle.std.specs.List.{zip}
-use Rattle.text_bytes.specs.Texts.{is_empty}
+use Rattle.text_bytes.specs.Texts.{first, is_empty, last}
 use Rattle.text_tables.specs.Texts.{Text, is_among, same_text}
 use Rattle.text_tables.specs.Pairs.{Pair as NameAndValue, named}
 use Rattle.device_core.specs.Lines.{Row, begins_answer}
 use Rattle.device_core.specs.Parts.{pair_of, answer_of}
 use Rattle.device_core.specs.Values.{DeviceValue, AnswerValue}
-use Rattle.device_core.specs.Blocks.{is_kind, texts, pairs, answers, first, devices}
-use Rattle.device_core.specs.Faults.{last, device_above, is_command, follows_command}
+use Rattle.device_core.specs.Blocks.{is_kind, texts, pairs, answers, devices}
+use Rattle.device_core.specs.Faults.{device_above, is_command, follows_command}
 use Rattle.device_core.specs.Steps.{Sofar}
 use Rattle.device_core.specs.declared.lines.LineKind.TheVariants.{Action, Device, Constant, Command, Answer}
 use Rattle.device_core.specs.declared.faults.BlockFaultKind.{BlockFaultKind}

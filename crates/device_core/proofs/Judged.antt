@@ -3,16 +3,16 @@ use Rattle.std.proofs.Common.{◌≡◌, ℕ, ◌+◌, Bool, true, false, not, �
 use Rattle.std.proofs.lemmas.List.{append-nil, length-append}
 use Rattle.std.specs.Option.{option_to_list}
 use Rattle.std.specs.List.{zip}
-use Rattle.text_bytes.specs.Texts.{is_empty}
+use Rattle.text_bytes.specs.Texts.{first, is_empty}
 use Rattle.text_bytes.specs.declared.profile.Profile.TheVariants.{Manual}
 use Rattle.text_tables.specs.Texts.{Text, is_among}
 use Rattle.text_tables.specs.Pairs.{Pair as NameAndValue, named}
 use Rattle.device_core.specs.Lines.{Row, row_of, kind_of, begins_answer}
 use Rattle.device_core.specs.Parts.{pair_of, number_of, answer_of, is_device_path, is_parent_path}
 use Rattle.device_core.specs.Values.{NumberValue, DeviceValue, AnswerValue}
-use Rattle.device_core.specs.Blocks.{is_kind, texts, pairs, answers, first, programs, groups, devices, event}
+use Rattle.device_core.specs.Blocks.{is_kind, texts, pairs, answers, programs, groups, devices, event}
 use Rattle.device_core.specs.Faults.{device_above, follows_command, is_wrong_number, is_half_field, has_field, has_name, first_of, row_fault, has_nul, line_fault, fault_unless, unless_faulty, given_with, given_below, given_by}
-use Rattle.device_core.specs.Steps.{if_ok, once_step, number_step, number_once, pair_step, with_pair, member_step, field_step, Sofar, bare_device, begun, unasked, path_step, device_step, above_step, command_step, answer_step, with_answer, row_step, plain_row, known_row, line_step, then_row, first_step, action_in, action_by, start, then_steps, steps, finished, with_devices, then_finished, behind_first, read_lines}
+use Rattle.device_core.specs.Steps.{if_ok, once_step, number_step, number_once, pair_step, with_pair, member_step, field_step, Sofar, bare_device, begun, unasked, path_step, device_step, above_step, command_step, answer_step, with_answer, row_step, plain_row, known_row, line_step, then_row, first_step, action_in, action_by, nothing_read, then_steps, steps, finished_event, with_devices, then_finished, after_first, read_lines}
 use Rattle.device_core.specs.declared.lines.DeviceField.{DeviceField}
 use Rattle.device_core.specs.declared.lines.DeviceField.TheVariants.{Subsystem, Driver, Node, Devnum, Attribute, Property, Tag, Link}
 use Rattle.device_core.specs.declared.lines.LineKind.{LineKind}
@@ -219,7 +219,7 @@ module _ (above : List Row) (action : Text) (s : Sofar) (below : List Text) (h :
 
 -- ---- a line
 
--- where an answer has to come, no other kind of line does
+-- if an answer has to come, no other kind of line does
 abbrev pub NoneWaits : Option Text → LineKind → Type 0
 NoneWaits asked Answer = Unit {0}
 NoneWaits asked _ = asked ≡ None
@@ -338,7 +338,7 @@ step_on above more action n line below fault e grown rest (Ok t) agrees =
     rest t count agrees.1 agrees.2 ∙ ap (λ f. unless_faulty (length above + 1) f (given_below more below)) (sym agrees.0)
 
 lines_agree : (lines : List Text) (above : List Row) (action : Text) (s : Sofar) (n : ℕ) → n ≡ length above → Holds above action s → IsNext s.asked lines → then_finished action (steps s n lines) ≡ given_below above lines
-unfolding steps given_below finished
+unfolding steps given_below finished_event
 lines_agree [] above action s n e h next = end_agrees above action s h n e (idle_end s.asked next)
 lines_agree (line ∷ below) above action s n e h next =
     step_on above (above ++ option_to_list (row_of line)) action n line below (line_fault above line below) e (counted above line below)
@@ -349,9 +349,9 @@ lines_agree (line ∷ below) above action s n e h next =
 
 abbrev pub FirstAgrees : List Row → Option BlockFaultKind → Result Text BlockFaultKind → Type 0
 FirstAgrees rows fault (Err kind) = fault ≡ Some kind
-FirstAgrees rows fault (Ok action) = (fault ≡ None) × Holds rows action start × (length rows ≡ 1)
+FirstAgrees rows fault (Ok action) = (fault ≡ None) × Holds rows action nothing_read × (length rows ≡ 1)
 
-first_holds : (rest : Text) → Holds ((Action, rest) ∷ []) rest start
+first_holds : (rest : Text) → Holds ((Action, rest) ∷ []) rest nothing_read
 unfolding texts pairs answers devices groups follows_command
 first_holds rest = record {
   begun_are = refl;
@@ -389,9 +389,9 @@ first_agrees : (line : Text) (below : List Text) → FirstAgrees (option_to_list
 unfolding line_fault first_step plain_row
 first_agrees line below = first_by below (has_nul line) (row_of line)
 
-first_on : (lines : List Text) (rows : List Row) (fault : Option BlockFaultKind) (r : Result Text BlockFaultKind) → FirstAgrees rows fault r → behind_first lines r ≡ unless_faulty 1 fault (given_below rows lines)
+first_on : (lines : List Text) (rows : List Row) (fault : Option BlockFaultKind) (r : Result Text BlockFaultKind) → FirstAgrees rows fault r → after_first lines r ≡ unless_faulty 1 fault (given_below rows lines)
 first_on lines rows fault (Err kind) agrees = rw agrees refl
-first_on lines rows fault (Ok action) agrees = lines_agree lines rows action start 1 (sym agrees.2) agrees.1 tt ∙ ap (λ f. unless_faulty 1 f (given_below rows lines)) (sym agrees.0)
+first_on lines rows fault (Ok action) agrees = lines_agree lines rows action nothing_read 1 (sym agrees.2) agrees.1 tt ∙ ap (λ f. unless_faulty 1 f (given_below rows lines)) (sym agrees.0)
 
 -- the reader gives what the lines give
 pub read_is : (lines : List Text) → read_lines lines ≡ given_by lines

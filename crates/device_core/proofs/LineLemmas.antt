@@ -21,7 +21,7 @@ begins needle text = pointwise nat_eq needle (take (length needle) text)
 no_newline : (n b : ℕ) → (n == newline) ≡ false → (b == newline) ≡ true → nat_eq n b ≡ false
 no_newline n b x y = grind arith
 
--- what has no newline begins a text where it begins its first line
+-- what has no newline begins a text exactly if it begins its first line
 begins_line : (needle text : List ℕ) → list_all (λ n. not (n == newline)) needle ≡ true → begins needle text ≡ begins needle (first_line (lines text))
 begins_line [] text h = refl
 begins_line (n ∷ needle) [] h = refl
@@ -39,7 +39,7 @@ unfolding begins_answer
 answer_line [] = refl
 answer_line (line ∷ below) = refl
 
--- a text begins as an answer does where its first line does
+-- a text begins as an answer does exactly if its first line does
 pub begins_answer-of : (text : List ℕ) → begins_answer (lines text) ≡ starts_with nat_eq text (letter_of Answer ∷ colon ∷ space ∷ [])
 begins_answer-of text = answer_line (lines text) ∙ sym (begins_line (letter_of Answer ∷ colon ∷ space ∷ []) text refl)
 

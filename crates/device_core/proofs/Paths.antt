@@ -32,9 +32,9 @@ filled [] h = h
 filled (x ∷ xs) h = refl
 
 -- the answer of a reader that looks after the parent
-pub parent_answer : (child parent behind : List ℕ) (r : Bool) → (length parent == 0) ≡ false → starts_with nat_eq child parent ≡ true → behind ≡ drop (length parent) child → r ≡ begins_with slash behind → r ≡ is_parent_path child parent
-parent_answer child parent behind r some front back says = says ∙ ap (begins_with slash) back ∙ sym (parent_path_is child parent (filled parent some) ∙ ap (λ b. b && begins_with slash (drop (length parent) child)) front)
+pub parent_answer : (child parent following : List ℕ) (r : Bool) → (length parent == 0) ≡ false → starts_with nat_eq child parent ≡ true → following ≡ drop (length parent) child → r ≡ begins_with slash following → r ≡ is_parent_path child parent
+parent_answer child parent following r some prefix back says = says ∙ ap (begins_with slash) back ∙ sym (parent_path_is child parent (filled parent some) ∙ ap (λ b. b && begins_with slash (drop (length parent) child)) prefix)
 
 -- the answer of a reader that finds another beginning
 pub parent_not : (child parent : List ℕ) → (length parent == 0) ≡ false → starts_with nat_eq child parent ≡ false → false ≡ is_parent_path child parent
-parent_not child parent some front = sym (parent_path_is child parent (filled parent some) ∙ ap (λ b. b && begins_with slash (drop (length parent) child)) front)
+parent_not child parent some prefix = sym (parent_path_is child parent (filled parent some) ∙ ap (λ b. b && begins_with slash (drop (length parent) child)) prefix)

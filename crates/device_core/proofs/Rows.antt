@@ -4,13 +4,12 @@ use Rattle.std.proofs.lemmas.List.{append-nil, map-append}
 use Rattle.std.proofs.lemmas.List.Elements.{filter_map-append}
 use Rattle.std.specs.Option.{option_and_then}
 use Rattle.std.specs.List.{filter_map, cons_option}
-use Rattle.text_bytes.specs.Texts.{is_empty}
+use Rattle.text_bytes.specs.Texts.{first, is_empty, last}
 use Rattle.text_tables.specs.Texts.{Text}
 use Rattle.device_core.specs.Lines.{Row}
 use Rattle.device_core.specs.Parts.{pair_of, number_of, answer_of}
 use Rattle.device_core.specs.Values.{DeviceValue}
-use Rattle.device_core.specs.Blocks.{is_kind, text_in, texts, pairs, numbers, answers, first, before_device, groups, device, devices}
-use Rattle.device_core.specs.Faults.{last}
+use Rattle.device_core.specs.Blocks.{is_kind, text_in, texts, pairs, numbers, answers, before_device, groups, device, devices}
 use Rattle.device_core.specs.Steps.{bare_device}
 use Rattle.device_core.specs.declared.lines.DeviceField.TheVariants.{Subsystem, Driver, Node, Devnum, Attribute, Property, Tag, Link}
 use Rattle.device_core.specs.declared.lines.LineKind.{LineKind}

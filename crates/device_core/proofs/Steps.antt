@@ -7,7 +7,7 @@ use Rattle.device_core.specs.Runs.{complete_runs, rest_of}
 use Rattle.device_core.specs.Filling.{first_line, Completes, Overflows}
 use Rattle.device_core.specs.Holding.{begins_after, IsPending}
 use Rattle.device_core.proofs.Law.{rest_of-alone, piece_ends, not_empty-one}
-use Rattle.device_core.proofs.Chunks.{GoesOn, chunk_stays, line_goes_on, take_chunk, begins_after-chunk}
+use Rattle.device_core.proofs.Chunks.{Proceeds, chunk_stays, line_proceeds, take_chunk, begins_after-chunk}
 
 -- after i bytes of the piece, len bytes are in the room
 pub record Filling (before piece : List ℕ) (i : ℕ) (room : List ℕ) (len : ℕ) (start : Bool) : Type 0 where
@@ -17,7 +17,7 @@ pub record Filling (before piece : List ℕ) (i : ℕ) (room : List ℕ) (len : 
   pub none : complete_runs (before ++ take i piece) ≡ []
   pub rest : rest_of (before ++ take i piece) ≡ take len room
 
--- an empty line where nothing is held
+-- an empty line while nothing is held
 pub skips : {before piece : List ℕ} {i : ℕ} {room : List ℕ} {len : ℕ} {start : Bool} → Filling before piece i room len start → i < length piece → len ≡ 0 → (start && (get_or piece i 0 == 10)) ≡ true → Filling before piece (i + 1) room len start
 skips {before} {piece} {i} {room} {len} {start} f h z e =
     let held : take len room ≡ [] = rw z refl in
@@ -32,15 +32,15 @@ ends {before} {piece} {i} {room} {len} {start} f h z e =
     record { has_byte = omega (arith, some); run = p.0 ∙ not_empty-one (take len room) some; rest = p.1; moves = omega arith }
 
 -- the bytes of a line that is not empty
-goes_on : (start : Bool) (piece : List ℕ) (i n : ℕ) → (start && (get_or piece i 0 == 10)) ≡ false → n ≤ length (first_line (drop i piece)) → GoesOn start (take n (drop i piece))
-goes_on start piece i n e l =
+proceeds : (start : Bool) (piece : List ℕ) (i n : ℕ) → (start && (get_or piece i 0 == 10)) ≡ false → n ≤ length (first_line (drop i piece)) → Proceeds start (take n (drop i piece))
+proceeds start piece i n e l =
     let first : get_or (drop i piece) 0 0 ≡ get_or piece i 0 = get_or-drop i piece 0 0 ∙ ap (λ k. get_or piece k 0) (add-zero i) in
-    line_goes_on start (drop i piece) n l (ap (λ b. start && (b == 10)) first ∙ e)
+    line_proceeds start (drop i piece) n l (ap (λ b. start && (b == 10)) first ∙ e)
 
 pub stays : {before piece : List ℕ} {i : ℕ} {room : List ℕ} {len : ℕ} {start : Bool} (n : ℕ) → Filling before piece i room len start → (start && (get_or piece i 0 == 10)) ≡ false → n ≤ length (first_line (drop i piece))
     → (complete_runs (before ++ take (i + n) piece) ≡ []) × (rest_of (before ++ take (i + n) piece) ≡ take len room ++ take n (drop i piece))
 stays {before} {piece} {i} {room} {len} {start} n f e l =
-    let p = chunk_stays (before ++ take i piece) (take len room) (take n (drop i piece)) start f.rest f.begins (goes_on start piece i n e l) in
+    let p = chunk_stays (before ++ take i piece) (take len room) (take n (drop i piece)) start f.rest f.begins (proceeds start piece i n e l) in
     (ap complete_runs (take_chunk before piece i n) ∙ p.0 ∙ f.none, ap rest_of (take_chunk before piece i n) ∙ p.1)
 
 -- a line, or what the piece has of it, is put after the run

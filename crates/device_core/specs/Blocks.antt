@@ -2,6 +2,7 @@
 -- before each `P:`, and each group that begins with one describes a device.
 use Rattle.std.specs.Prelude.{Bool, List, [], ◌∷◌, ◌==◌, Option, Some, None, unwrap_or, map, if◌then◌else◌}
 use Rattle.std.specs.List.{filter_map, zip}
+use Rattle.text_bytes.specs.Texts.{first}
 use Rattle.text_bytes.specs.declared.profile.Profile.TheVariants.{Manual}
 use Rattle.text_tables.specs.Texts.{Text}
 use Rattle.text_tables.specs.Pairs.{Pair}
@@ -35,11 +36,6 @@ numbers rows = filter_map number_of (texts (Field Devnum) rows)
 -- the answers that lines give, in order
 unfoldable pub answers : List Row → List AnswerValue
 answers rows = filter_map answer_of (texts Answer rows)
-
--- the first of a list, if there is one
-abbrev pub first : {X : Type 0} → List X → Option X
-first [] = None
-first (x ∷ xs) = Some x
 
 -- the lines up to the next `P:`
 unfoldable pub before_device : List Row → List Row

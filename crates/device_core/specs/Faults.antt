@@ -2,7 +2,7 @@
 use Rattle.std.specs.Prelude.{ℕ, ◌+◌, Bool, false, not, ◌&&◌, ◌||◌, List, [], ◌∷◌, ◌++◌, length, position, ◌==◌, nat_le, Option, Some, None, Result, Ok, Err, if◌then◌else◌, is_some, is_none}
 use Rattle.std.specs.Option.{option_to_list}
 use Rattle.text_bytes.specs.Names.{nul}
-use Rattle.text_bytes.specs.Texts.{is_empty}
+use Rattle.text_bytes.specs.Texts.{is_empty, last}
 use Rattle.text_bytes.specs.Lines.{lines}
 use Rattle.text_tables.specs.Texts.{Text, is_among}
 use Rattle.text_tables.specs.Pairs.{Pair as NameAndValue, named}
@@ -18,12 +18,6 @@ use Rattle.device_core.specs.declared.lines.LineKind.TheVariants.{Action, Device
 use Rattle.device_core.specs.declared.faults.BlockFault.{BlockFault}
 use Rattle.device_core.specs.declared.faults.BlockFaultKind.{BlockFaultKind}
 use Rattle.device_core.specs.declared.faults.BlockFaultKind.TheVariants.{NoAction, NoDevice, Letter, Twice, Path, Number, Pair, Nul, TooLong, TooDeep}
-
--- the last of a list, if there is one
-abbrev pub last : {X : Type 0} → List X → Option X
-last [] = None
-last (x ∷ []) = Some x
-last (x ∷ y ∷ ys) = last (y ∷ ys)
 
 -- the device to which a line below these belongs
 unfoldable pub device_above : List Row → Option DeviceValue

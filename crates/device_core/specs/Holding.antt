@@ -23,9 +23,9 @@ split_of false held ended = record { pending = held; block = []; ended = ended }
 
 -- The room has its size. A complete block has at least one byte; without one, what is held is pending, or nothing
 -- once the input has ended.
-pub record IsSplitter (room : List ℕ) (len : ℕ) (at_start standing ended : Bool) : Type 0 where
+pub record IsSplitter (room : List ℕ) (len : ℕ) (at_start is_complete ended : Bool) : Type 0 where
   pub sized : length room ≡ most_bytes
   pub within : len ≤ most_bytes
-  pub some : standing ≡ true → 0 < len
-  pub pending : standing ≡ false → ended ≡ false → IsPending (take len room) at_start
-  pub nothing : standing ≡ false → ended ≡ true → len ≡ 0
+  pub some : is_complete ≡ true → 0 < len
+  pub pending : is_complete ≡ false → ended ≡ false → IsPending (take len room) at_start
+  pub nothing : is_complete ≡ false → ended ≡ true → len ≡ 0

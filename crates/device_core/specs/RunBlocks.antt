@@ -21,8 +21,8 @@ pub record FindsAll (is_faulty : List ℕ → Bool) (texts found : List (List �
 pub record FindsFaulty (is_faulty : List ℕ → Bool) (texts found : List (List ℕ)) : Type 0 where
   pub before : List (List ℕ)
   pub faulty : List ℕ
-  pub behind : List (List ℕ)
-  pub texts_are : texts ≡ before ++ faulty ∷ behind
+  pub following : List (List ℕ)
+  pub texts_are : texts ≡ before ++ faulty ∷ following
   pub none : All (λ text. is_faulty text ≡ false) before
   pub is : is_faulty faulty ≡ true
   pub found_are : found ≡ before ++ faulty ∷ []

@@ -21,23 +21,23 @@ abbrev pub closed : Split
 closed = record { pending = []; block = []; ended = true }
 
 -- the block, if one is complete
-abbrev pub given : Bool → List ℕ → List (List ℕ)
-given true block = block ∷ []
-given false block = []
+abbrev pub completed : Bool → List ℕ → List (List ℕ)
+completed true block = block ∷ []
+completed false block = []
 
 -- What `take` does: it uses the piece up to the end of the first block completed, or else all of it.
 -- Of the pending bytes followed by those used, the block is the only complete run, and the new pending
 -- bytes are the rest.
-pub record Takes (old : Split) (piece : List ℕ) (taken : Taken) (new : Split) : Type 0 where
+pub record SplitTakes (old : Split) (piece : List ℕ) (taken : Taken) (new : Split) : Type 0 where
   pub used : taken.used ≤ length piece
-  pub complete : complete_runs (old.pending ++ take taken.used piece) ≡ given taken.whole new.block
+  pub complete : complete_runs (old.pending ++ take taken.used piece) ≡ completed taken.whole new.block
   pub pending : rest_of (old.pending ++ take taken.used piece) ≡ new.pending
   pub first : (n : ℕ) → n < taken.used → complete_runs (old.pending ++ take n piece) ≡ []
   pub all : taken.whole ≡ false → (taken.used ≡ length piece) × (new.block ≡ [])
   pub pending_fits : length new.pending ≤ most_bytes
   pub block_fits : length new.block ≤ most_bytes
   pub moves : 0 < length piece → 0 < taken.used
-  pub goes_on : (old.ended ≡ false) × (new.ended ≡ false)
+  pub proceeds : (old.ended ≡ false) × (new.ended ≡ false)
 
 -- The first run of the text has more bytes than a block may have, and its first excess byte is in this line.
 pub record BeginsTooLong (text : List ℕ) (line : ℕ) : Type 0 where
@@ -49,13 +49,13 @@ pub record BeginsTooLong (text : List ℕ) (line : ℕ) : Type 0 where
 
 -- What `take` does if it fails. The run that begins with the pending bytes and goes on with the
 -- piece is too long, whatever comes after the piece; or the input had ended.
-abbrev pub FailsBy : SplitFault → Split → List ℕ → Split → Type 0
-FailsBy (TooLong line) old piece new = ((later : List ℕ) → BeginsTooLong (old.pending ++ piece ++ later) line) × (old.ended ≡ false) × (new ≡ closed)
-FailsBy Ended old piece new = (old.ended ≡ true) × (new ≡ closed)
+abbrev pub SplitFailsBy : SplitFault → Split → List ℕ → Split → Type 0
+SplitFailsBy (TooLong line) old piece new = ((later : List ℕ) → BeginsTooLong (old.pending ++ piece ++ later) line) × (old.ended ≡ false) × (new ≡ closed)
+SplitFailsBy Ended old piece new = (old.ended ≡ true) × (new ≡ closed)
 
 -- What `end` does: the pending bytes are the last block, if there are any.
-pub record Ends (old : Split) (some : Bool) (new : Split) : Type 0 where
-  pub goes_on : old.ended ≡ false
+pub record SplitEnds (old : Split) (some : Bool) (new : Split) : Type 0 where
+  pub proceeds : old.ended ≡ false
   pub gives : new ≡ record { pending = []; block = old.pending; ended = true }
   pub fits : length old.pending ≤ most_bytes
   pub answers : IsTrue some ↔ (old.pending ≢ [])

@@ -175,8 +175,8 @@ unfoldable pub first_step : Text → Result Text BlockFaultKind
 first_step line = action_in (plain_row line)
 
 -- nothing has been read after the first line
-abbrev pub start : Sofar
-start = record { closed = []; last = None; programs = []; asked = None; constants = [] }
+abbrev pub nothing_read : Sofar
+nothing_read = record { closed = []; last = None; programs = []; asked = None; constants = [] }
 
 -- as `Fails` and `Gives`, with a line
 abbrev pub unless_memory : BlockFaultKind → Type 0 → Type 0
@@ -209,20 +209,20 @@ with_devices action s count [] = Err (record { line = count; kind = NoDevice })
 with_devices action s count (device ∷ parents) = Ok (record { action = action; device = device; parents = parents; programs = s.programs; constants = s.constants; profile = Manual })
 
 -- the event of all lines
-unfoldable pub finished : Text → Sofar → ℕ → Result EventValue BlockFault
-finished action s count = with_devices action s count (s.closed ++ option_to_list s.last)
+unfoldable pub finished_event : Text → Sofar → ℕ → Result EventValue BlockFault
+finished_event action s count = with_devices action s count (s.closed ++ option_to_list s.last)
 
 -- the event of the lines that were read, or their fault
 abbrev pub then_finished : Text → Result (Sofar × ℕ) BlockFault → Result EventValue BlockFault
 then_finished action (Err fault) = Err fault
-then_finished action (Ok p) = finished action p.0 p.1
+then_finished action (Ok p) = finished_event action p.0 p.1
 
 -- the event of the lines after the first, or the fault of the first
-abbrev pub behind_first : List Text → Result Text BlockFaultKind → Result EventValue BlockFault
-behind_first lines (Err kind) = Err (record { line = 1; kind = kind })
-behind_first lines (Ok action) = then_finished action (steps start 1 lines)
+abbrev pub after_first : List Text → Result Text BlockFaultKind → Result EventValue BlockFault
+after_first lines (Err kind) = Err (record { line = 1; kind = kind })
+after_first lines (Ok action) = then_finished action (steps nothing_read 1 lines)
 
 -- the event of the lines of a block, or the first fault
 unfoldable pub read_lines : List Text → Result EventValue BlockFault
 read_lines [] = Err (record { line = 1; kind = NoAction })
-read_lines (line ∷ lines) = behind_first lines (first_step line)
+read_lines (line ∷ lines) = after_first lines (first_step line)

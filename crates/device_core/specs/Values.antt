@@ -22,8 +22,8 @@ pub record DeviceValue : Type 0 where
   pub links : List Text
 
 -- a device of which only the path, the subsystem and the attributes are known
-abbrev pub told : (path subsystem : Text) → List Pair → DeviceValue
-told path subsystem attrs = record {
+abbrev pub described : (path subsystem : Text) → List Pair → DeviceValue
+described path subsystem attrs = record {
   path = path;
   subsystem = Some subsystem;
   driver = None;

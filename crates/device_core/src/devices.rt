@@ -1,6 +1,6 @@
 //! What is known about a device.
 ghost use Rattle.std.specs.Prelude.{◌≡◌, option_copied, option_map};
-ghost use Rattle.device_core.specs.Values.{told};
+ghost use Rattle.device_core.specs.Values.{described};
 
 use std::alloc::Global;
 use std::marker::Model;
@@ -62,8 +62,13 @@ impl<'a> Model for Device<'a> {
 
 impl<'a> Device<'a> {
     /// A device of which only the path, the subsystem and the attributes are known.
-    pub fn told(alloc: Global, path: &'a [u8], subsystem: &'a [u8], attrs: Pairs<'a>) -> Device<'a>
-        ensures { result ≡ told path.now subsystem.now attrs.entry }
+    pub fn described(
+        alloc: Global,
+        path: &'a [u8],
+        subsystem: &'a [u8],
+        attrs: Pairs<'a>,
+    ) -> Device<'a>
+        ensures { result ≡ described path.now subsystem.now attrs.entry }
     {
         Device {
             path,

@@ -4,7 +4,7 @@
 //! waits for its answer, which is the next line.
 ghost use Rattle.std.specs.Prelude.{◌≡◌, ◌++◌, option_map, length, Some, Ok};
 ghost use Rattle.std.specs.Option.{option_to_list};
-ghost use Rattle.device_core.specs.Steps.{Gives, if_ok, above_step, path_step, device_step, command_step, answer_step, row_step, sofar, start};
+ghost use Rattle.device_core.specs.Steps.{Gives, if_ok, above_step, path_step, device_step, command_step, answer_step, row_step, sofar, nothing_read};
 
 use crate::devices::Device;
 use crate::faults::BlockFaultKind;
@@ -30,7 +30,7 @@ pub(crate) struct Draft<'a> {
 
 /// No line so far.
 pub(crate) fn new_draft<'a>(alloc: Global) -> Draft<'a>
-    ensures { sofar result ≡ start }
+    ensures { sofar result ≡ nothing_read }
 {
     Draft {
         closed: Vec::new(alloc),

@@ -106,6 +106,6 @@ pub(crate) fn is_parent_path(child: &[u8], parent: &[u8]) -> bool
     if !child.starts_with(parent) {
         return false;
     }
-    let (_, behind) = child.split_at(parent.len());
-    begins_with(b'/', behind)
+    let (_, following) = child.split_at(parent.len());
+    begins_with(b'/', following)
 }

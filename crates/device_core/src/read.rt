@@ -6,7 +6,7 @@ ghost use Rattle.device_core.specs.Values.{most_devices};
 ghost use Rattle.device_core.specs.Lines.{begins_answer};
 ghost use Rattle.device_core.specs.RunBlocks.{line_of_excess, most_bytes};
 ghost use Rattle.device_core.specs.Faults.{block_gives};
-ghost use Rattle.device_core.specs.Steps.{Gives, GivesAt, sofar, start, first_step, line_step, steps, some_devices, finished, read_lines};
+ghost use Rattle.device_core.specs.Steps.{Gives, GivesAt, sofar, nothing_read, first_step, line_step, steps, some_devices, finished_event, read_lines};
 
 use crate::devices::Device;
 use crate::draft::{Draft, add_row, close_last, new_draft};
@@ -17,7 +17,7 @@ use std::alloc::Global;
 use text_bytes::{Profile, first_line};
 
 /// The most bytes of a block.
-const MAX_BYTES: usize = 65536;
+pub(crate) const MAX_BYTES: usize = 65_536;
 
 /// Whether the next line begins as an answer does.
 #[tactic(auto, using(crate::proofs::LineLemmas::begins_answer_is))]
@@ -62,7 +62,7 @@ fn add_line<'a>(
 /// The lines after the first, and how many lines there are in all.
 fn read_rest<'a>(alloc: Global, text: &'a [u8]) -> Result<(Draft<'a>, usize), BlockFault>
     requires { length text.now ≤ most_bytes }
-    ensures value { GivesAt (λ p. (sofar p.0, p.1)) result (steps start 1 (lines text.now)) }
+    ensures value { GivesAt (λ p. (sofar p.0, p.1)) result (steps nothing_read 1 (lines text.now)) }
     ensures few { IfOk result (λ p. length p.0.closed.items < most_devices) }
 {
     let mut draft = new_draft(alloc);
@@ -103,10 +103,10 @@ fn take_first<'a>(
 }
 
 /// The event of all lines.
-#[tactic(auto, unfolding(crate::specs::Steps::finished))]
+#[tactic(auto, unfolding(crate::specs::Steps::finished_event))]
 fn finish<'a>(action: &'a [u8], draft: Draft<'a>, count: usize) -> Result<Event<'a>, BlockFault>
     requires { length draft.closed.items < most_devices }
-    ensures { GivesAt (λ e. e) result (finished action.now (sofar draft.entry) count) }
+    ensures { GivesAt (λ e. e) result (finished_event action.now (sofar draft.entry) count) }
 {
     let Draft {
         closed,

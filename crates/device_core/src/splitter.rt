@@ -3,17 +3,15 @@
 //! Its room is a boxed slice, which can't grow: only `new` can take memory.
 ghost use Rattle.std.specs.Prelude.{◌≡◌, ◌≤◌, ◌+◌, [], length, IfOk, IfErr};
 ghost use Rattle.device_core.specs.RunBlocks.{most_bytes, newline_count};
-ghost use Rattle.device_core.specs.Splits.{opened, Takes, Ends, FailsBy, HadEnded};
+ghost use Rattle.device_core.specs.Splits.{opened, SplitTakes, SplitEnds, SplitFailsBy, HadEnded};
 
 use crate::filling::{Stop, fill};
+use crate::read::MAX_BYTES;
 use std::alloc::{AllocError, Global};
 use std::boxed::BoxedSlice;
 use std::error::Error;
 use std::fmt;
 use std::marker::Model;
-
-/// The most bytes of a block.
-const ROOM: usize = 65_536;
 
 /// The outcome of taking a piece.
 #[derive(Clone, Copy, Debug, PartialEq, Eq)]
@@ -63,7 +61,7 @@ pub struct Splitter {
     /// Whether a line begins after them.
     at_start: bool,
     /// Whether they are a complete block, which the caller can borrow.
-    standing: bool,
+    is_complete: bool,
     /// Whether no more is taken.
     ended: bool,
 }
@@ -76,9 +74,9 @@ impl Model for Splitter {
 
     ghost Value = { Split };
 
-    ghost view = { λ s. split_of s.standing (take s.len (boxed_slice_items s.room)) s.ended };
+    ghost view = { λ s. split_of s.is_complete (take s.len (boxed_slice_items s.room)) s.ended };
 
-    ghost invariant = { λ s. IsSplitter (boxed_slice_items s.room) s.len s.at_start s.standing s.ended };
+    ghost invariant = { λ s. IsSplitter (boxed_slice_items s.room) s.len s.at_start s.is_complete s.ended };
 }
 
 impl Splitter {
@@ -86,12 +84,12 @@ impl Splitter {
     pub fn new(alloc: Global) -> Result<Splitter, AllocError>
         ensures { IfOk result (λ s. s ≡ opened) }
     {
-        let room = vec![in alloc; 0u8; ROOM]?;
+        let room = vec![in alloc; 0u8; MAX_BYTES]?;
         Ok(Splitter {
             room: room.into_boxed_slice(),
             len: 0,
             at_start: true,
-            standing: false,
+            is_complete: false,
             ended: false,
         })
     }
@@ -100,8 +98,8 @@ impl Splitter {
     ///
     /// `TooLong` comes at a block's byte 65,537, and `Ended` after it and after `end`.
     pub fn take(&mut self, piece: &[u8]) -> Result<Taken, SplitFault>
-        ensures ok { IfOk result (λ taken. Takes self.old piece.now taken self.new) }
-        ensures err { IfErr result (λ fault. FailsBy fault self.old piece.now self.new) }
+        ensures ok { IfOk result (λ taken. SplitTakes self.old piece.now taken self.new) }
+        ensures err { IfErr result (λ fault. SplitFailsBy fault self.old piece.now self.new) }
     {
         self.let_go();
         if self.ended {
@@ -116,7 +114,7 @@ impl Splitter {
                 whole: false,
             }),
             Stop::Whole => {
-                self.standing = true;
+                self.is_complete = true;
                 Ok(Taken {
                     used: filled.used,
                     whole: true,
@@ -136,7 +134,7 @@ impl Splitter {
     pub fn block(&self) -> &[u8]
         ensures { result.now ≡ self.now.block }
     {
-        if !self.standing {
+        if !self.is_complete {
             return &[];
         }
         &self.room[..self.len]
@@ -146,7 +144,7 @@ impl Splitter {
     ///
     /// `Ended` comes after a block that was too long, and after `end`.
     pub fn end(&mut self) -> Result<bool, SplitFault>
-        ensures ok { IfOk result (λ some. Ends self.old some self.new) }
+        ensures ok { IfOk result (λ some. SplitEnds self.old some self.new) }
         ensures err { IfErr result (λ fault. HadEnded fault self.old self.new) }
     {
         self.let_go();
@@ -154,16 +152,16 @@ impl Splitter {
             return Err(SplitFault::Ended);
         }
         self.ended = true;
-        self.standing = self.len != 0;
-        Ok(self.standing)
+        self.is_complete = self.len != 0;
+        Ok(self.is_complete)
     }
 
     /// Drops the complete block, if there is one.
     fn let_go(&mut self)
         ensures { self.new ≡ record self.old { block = [] } }
     {
-        if self.standing {
-            self.standing = false;
+        if self.is_complete {
+            self.is_complete = false;
             self.len = 0;
             self.at_start = true;
         }

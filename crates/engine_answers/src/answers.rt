@@ -3,7 +3,7 @@ ghost use Rattle.std.specs.Prelude.{◌≡◌, ◌++◌, IfOk, OnOk};
 ghost use Rattle.engine_answers.specs.Answers.{answer, answer_lines, node_lines, run_lines};
 
 use crate::lines::{push_event, push_given, push_persist, push_priority, push_run, push_watch};
-use crate::lists::{push_env, push_notes, push_pairs, push_texts};
+use crate::lists::{push_env, push_labels, push_notes, push_pairs, push_texts};
 use device_core::Event;
 use eval_rules::{Commands, Outcome};
 use std::alloc::{AllocError, Global};
@@ -29,7 +29,7 @@ pub fn answer_lines(
     let mut lines = Vec::with_capacity(alloc, USUAL_LEN)?;
     push_event(alloc, &mut lines, event.action(), event.device().path())?;
     push_node(alloc, &mut lines, outcome)?;
-    push_pairs(alloc, &mut lines, b"label", &outcome.labels)?;
+    push_labels(alloc, &mut lines, outcome.labels.as_slice())?;
     push_texts(alloc, &mut lines, b"link", &outcome.links)?;
     push_texts(alloc, &mut lines, b"tag", &outcome.tags)?;
     push_env(alloc, &mut lines, &outcome.env)?;

@@ -1,9 +1,9 @@
 //! A line for each member of a list.
-ghost use Rattle.std.specs.Prelude.{◌≡◌, ◌++◌, OnOk};
+ghost use Rattle.std.specs.Prelude.{◌≡◌, ◌++◌, codes, OnOk};
 ghost use Rattle.engine_answers.specs.Lines.{env_lines, note_lines, pair_lines, text_lines};
 
 use crate::lines::{push_note, push_pair, push_shown, push_text};
-use eval_state::Notes;
+use eval_state::{Label, Notes};
 use std::alloc::{AllocError, Global};
 use text_tables::{OwnedPairs, OwnedTexts};
 
@@ -33,6 +33,20 @@ pub(crate) fn push_pairs(
 {
     for (name, value) in pairs.as_map().iter() {
         push_pair(alloc, lines, word, name, value.as_slice())?;
+    }
+    Ok(())
+}
+
+/// Adds a line for each label.
+pub(crate) fn push_labels(
+    alloc: Global,
+    lines: &mut Vec<u8>,
+    labels: &[Label],
+) -> Result<(), AllocError>
+    ensures { OnOk result (lines.new.items ≡ lines.old.items ++ pair_lines (codes "label") labels.now) }
+{
+    for label in labels {
+        push_pair(alloc, lines, b"label", label.name(), label.text())?;
     }
     Ok(())
 }

@@ -1,4 +1,4 @@
--- What was found and what is said of comments, as they stand among what is reported.
+-- What was found and what is said about comments, among what is reported.
 use Rattle.std.proofs.Common.{◌≡◌, Bool, true, false, not, ◌&&◌, ◌||◌, cond, List, [], ◌∷◌, All, filter, map, Some, None, option_map, refl, ap, sym, ◌∙◌, subst}
 use Rattle.std.specs.List.{cons_option, list_any}
 use Rattle.std.proofs.lemmas.List.Elements.{All-cons, All-filter, All-map, All-nil, All-weaker}
@@ -11,10 +11,10 @@ use Rattle.engine_formats.specs.Remarks.{code_of}
 use Rattle.engine_formats.specs.declared.remark.Remark.{Remark}
 use Rattle.engine_formats.specs.declared.remark.Remark.TheVariants.{Message, Lint, IdleIgnore, UnknownCode}
 use Rattle.engine_checks.specs.Codes.{has_comments, is_found}
-use Rattle.engine_checks.specs.Files.{database_diagnostic, database_found, database_told, file_text, findings_of, ignored_by, ignores_counted, lint_diagnostic, lints_counted, rule_diagnostic, rules_found, rules_told}
+use Rattle.engine_checks.specs.Files.{database_diagnostic, database_found, database_reported, file_text, findings_of, ignored_by, ignores_counted, lint_diagnostic, lints_counted, rule_diagnostic, rules_found, rules_reported}
 use Rattle.engine_checks.specs.Ignores.{Ignore, ignores_in}
 use Rattle.engine_checks.specs.Laws.{found_among, messages_in, remarks_among}
-use Rattle.engine_checks.specs.Told.{FileText, comment_diagnostic, comment_diagnostics, file_told, is_about_style, is_asked, is_lint, is_told, is_unknown, silences}
+use Rattle.engine_checks.specs.Reported.{FileText, comment_diagnostic, comment_diagnostics, file_reported, is_about_style, is_asked, is_lint, is_reported, is_unknown, silences}
 use Rattle.engine_checks.proofs.AsBefore.{messages_alone, none_among}
 use Rattle.engine_checks.proofs.Merged.{both_hold, filter_all, filter_alike, filter_swap, first_left, others_left}
 
@@ -42,24 +42,24 @@ module _ (lint style : Bool) (ignored : List Text) (file : FileText) (ignores : 
   asked_of_comments = All-filter (λ d. is_asked lint style ignored d.remark) (λ d. is_found d.remark ≡ false) (comment_diagnostics file found ignores) (said_of_comments file found ignores)
 
   -- a test that passes no remark on a comment finds what is reported for what it finds
-  pub told_part : (p : Remark → Bool) → ((remark : Remark) → is_found remark ≡ false → p remark ≡ false)
-      → filter (λ d. p d.remark) (file_told lint style ignored file ignores found) ≡ filter (is_told lint style ignored ignores) (filter (λ d. p d.remark) found)
-  unfolding file_told
-  told_part p none =
-      first_left (λ d. p d.remark) (filter (is_told lint style ignored ignores) found) (filter (λ d. is_asked lint style ignored d.remark) (comment_diagnostics file found ignores))
+  pub reported_part : (p : Remark → Bool) → ((remark : Remark) → is_found remark ≡ false → p remark ≡ false)
+      → filter (λ d. p d.remark) (file_reported lint style ignored file ignores found) ≡ filter (is_reported lint style ignored ignores) (filter (λ d. p d.remark) found)
+  unfolding file_reported
+  reported_part p none =
+      first_left (λ d. p d.remark) (filter (is_reported lint style ignored ignores) found) (filter (λ d. is_asked lint style ignored d.remark) (comment_diagnostics file found ignores))
       (All-weaker (λ d. is_found d.remark ≡ false) (λ d. p d.remark ≡ false) (λ d e. none d.remark e) (filter (λ d. is_asked lint style ignored d.remark) (comment_diagnostics file found ignores)) asked_of_comments)
-      ∙ filter_swap (λ d. p d.remark) (is_told lint style ignored ignores) found
+      ∙ filter_swap (λ d. p d.remark) (is_reported lint style ignored ignores) found
 
   -- what is reported for what was found
-  pub told_found : All (λ d. is_found d.remark ≡ true) found → found_among (file_told lint style ignored file ignores found) ≡ filter (is_told lint style ignored ignores) found
-  told_found all = told_part is_found (λ remark e. e) ∙ ap (filter (is_told lint style ignored ignores)) (filter_all (λ d. is_found d.remark) found all)
+  pub reported_found : All (λ d. is_found d.remark ≡ true) found → found_among (file_reported lint style ignored file ignores found) ≡ filter (is_reported lint style ignored ignores) found
+  reported_found all = reported_part is_found (λ remark e. e) ∙ ap (filter (is_reported lint style ignored ignores)) (filter_all (λ d. is_found d.remark) found all)
 
   -- the remarks on comments that are reported
-  pub told_remarks : All (λ d. is_found d.remark ≡ true) found → remarks_among (file_told lint style ignored file ignores found) ≡ filter (λ d. not (is_among ignored (code_of d.remark))) (comment_diagnostics file found ignores)
-  unfolding file_told
-  told_remarks all =
-      others_left (λ d. not (is_found d.remark)) (filter (is_told lint style ignored ignores) found) (filter (λ d. is_asked lint style ignored d.remark) (comment_diagnostics file found ignores))
-      (All-filter (is_told lint style ignored ignores) (λ d. not (is_found d.remark) ≡ false) found (All-weaker (λ d. is_found d.remark ≡ true) (λ d. not (is_found d.remark) ≡ false) (λ d e. ap not e) found all))
+  pub reported_remarks : All (λ d. is_found d.remark ≡ true) found → remarks_among (file_reported lint style ignored file ignores found) ≡ filter (λ d. not (is_among ignored (code_of d.remark))) (comment_diagnostics file found ignores)
+  unfolding file_reported
+  reported_remarks all =
+      others_left (λ d. not (is_found d.remark)) (filter (is_reported lint style ignored ignores) found) (filter (λ d. is_asked lint style ignored d.remark) (comment_diagnostics file found ignores))
+      (All-filter (is_reported lint style ignored ignores) (λ d. not (is_found d.remark) ≡ false) found (All-weaker (λ d. is_found d.remark ≡ true) (λ d. not (is_found d.remark) ≡ false) (λ d e. ap not e) found all))
       ∙ filter_all (λ d. not (is_found d.remark)) (filter (λ d. is_asked lint style ignored d.remark) (comment_diagnostics file found ignores))
       (All-weaker (λ d. is_found d.remark ≡ false) (λ d. not (is_found d.remark) ≡ true) (λ d e. ap not e) (filter (λ d. is_asked lint style ignored d.remark) (comment_diagnostics file found ignores)) asked_of_comments)
       ∙ filter_alike (λ d. is_asked lint style ignored d.remark) (λ d. not (is_among ignored (code_of d.remark))) (comment_diagnostics file found ignores)
@@ -78,29 +78,29 @@ module _ (line : Line) (file : SourceFile) (counts : has_comments (ignored_by li
   counted : ignores_counted line.profile (ignored_by line) file ≡ ignores_in line.profile file
   counted = ap (λ b. cond b (ignores_in line.profile file) []) counts
 
-  pub rules_found_told : found_among (rules_told line file) ≡ filter (is_told line.lint line.style (ignored_by line) (ignores_in line.profile file)) (rules_found line file)
-  unfolding rules_told
-  rules_found_told =
-      ap (λ is. found_among (file_told line.lint line.style (ignored_by line) (file_text line file) is (rules_found line file))) counted
-      ∙ told_found line.lint line.style (ignored_by line) (file_text line file) (ignores_in line.profile file) (rules_found line file) (rules_are_found line file)
+  pub rules_found_reported : found_among (rules_reported line file) ≡ filter (is_reported line.lint line.style (ignored_by line) (ignores_in line.profile file)) (rules_found line file)
+  unfolding rules_reported
+  rules_found_reported =
+      ap (λ is. found_among (file_reported line.lint line.style (ignored_by line) (file_text line file) is (rules_found line file))) counted
+      ∙ reported_found line.lint line.style (ignored_by line) (file_text line file) (ignores_in line.profile file) (rules_found line file) (rules_are_found line file)
 
-  pub database_found_told : found_among (database_told line file) ≡ filter (is_told line.lint line.style (ignored_by line) (ignores_in line.profile file)) (database_found line file)
-  unfolding database_told
-  database_found_told =
-      ap (λ is. found_among (file_told line.lint line.style (ignored_by line) (file_text line file) is (database_found line file))) counted
-      ∙ told_found line.lint line.style (ignored_by line) (file_text line file) (ignores_in line.profile file) (database_found line file) (database_is_found line file)
+  pub database_found_reported : found_among (database_reported line file) ≡ filter (is_reported line.lint line.style (ignored_by line) (ignores_in line.profile file)) (database_found line file)
+  unfolding database_reported
+  database_found_reported =
+      ap (λ is. found_among (file_reported line.lint line.style (ignored_by line) (file_text line file) is (database_found line file))) counted
+      ∙ reported_found line.lint line.style (ignored_by line) (file_text line file) (ignores_in line.profile file) (database_found line file) (database_is_found line file)
 
-  pub rules_remarks_told : remarks_among (rules_told line file) ≡ filter (λ d. not (is_among (ignored_by line) (code_of d.remark))) (comment_diagnostics (file_text line file) (rules_found line file) (ignores_in line.profile file))
-  unfolding rules_told
-  rules_remarks_told =
-      ap (λ is. remarks_among (file_told line.lint line.style (ignored_by line) (file_text line file) is (rules_found line file))) counted
-      ∙ told_remarks line.lint line.style (ignored_by line) (file_text line file) (ignores_in line.profile file) (rules_found line file) (rules_are_found line file)
+  pub rules_remarks_reported : remarks_among (rules_reported line file) ≡ filter (λ d. not (is_among (ignored_by line) (code_of d.remark))) (comment_diagnostics (file_text line file) (rules_found line file) (ignores_in line.profile file))
+  unfolding rules_reported
+  rules_remarks_reported =
+      ap (λ is. remarks_among (file_reported line.lint line.style (ignored_by line) (file_text line file) is (rules_found line file))) counted
+      ∙ reported_remarks line.lint line.style (ignored_by line) (file_text line file) (ignores_in line.profile file) (rules_found line file) (rules_are_found line file)
 
-  pub database_remarks_told : remarks_among (database_told line file) ≡ filter (λ d. not (is_among (ignored_by line) (code_of d.remark))) (comment_diagnostics (file_text line file) (database_found line file) (ignores_in line.profile file))
-  unfolding database_told
-  database_remarks_told =
-      ap (λ is. remarks_among (file_told line.lint line.style (ignored_by line) (file_text line file) is (database_found line file))) counted
-      ∙ told_remarks line.lint line.style (ignored_by line) (file_text line file) (ignores_in line.profile file) (database_found line file) (database_is_found line file)
+  pub database_remarks_reported : remarks_among (database_reported line file) ≡ filter (λ d. not (is_among (ignored_by line) (code_of d.remark))) (comment_diagnostics (file_text line file) (database_found line file) (ignores_in line.profile file))
+  unfolding database_reported
+  database_remarks_reported =
+      ap (λ is. remarks_among (file_reported line.lint line.style (ignored_by line) (file_text line file) is (database_found line file))) counted
+      ∙ reported_remarks line.lint line.style (ignored_by line) (file_text line file) (ignores_in line.profile file) (database_found line file) (database_is_found line file)
 
 quiet : (b known : Bool) → (((true && b) && not known) && not false) ≡ (b && not known)
 quiet true true = refl
@@ -111,14 +111,14 @@ quiet false known = refl
 abbrev is_counted : Bool → DiagnosticValue → Bool
 is_counted lint d = not (is_lint d.remark) || lint
 
--- without comments all is reported but for style and for the codes that are ignored, where each lint is asked for
-plainly_told : (lint style : Bool) (ignored : List Text) (file : FileText) (found : List DiagnosticValue) → All (λ d. is_counted lint d ≡ true) found
-    → file_told lint style ignored file [] found ≡ filter (λ d. (style || not (is_about_style d.remark)) && not (is_among ignored (code_of d.remark))) found
-unfolding file_told
-plainly_told lint style ignored file found all =
-    none_among (filter (is_told lint style ignored []) found)
-    ∙ filter_alike (is_told lint style ignored []) (λ d. (style || not (is_about_style d.remark)) && not (is_among ignored (code_of d.remark))) found
-    (All-weaker (λ d. is_counted lint d ≡ true) (λ d. is_told lint style ignored [] d ≡ ((style || not (is_about_style d.remark)) && not (is_among ignored (code_of d.remark))))
+-- without comments everything except style and the codes that are ignored is reported, if each lint is asked for
+plainly_reported : (lint style : Bool) (ignored : List Text) (file : FileText) (found : List DiagnosticValue) → All (λ d. is_counted lint d ≡ true) found
+    → file_reported lint style ignored file [] found ≡ filter (λ d. (style || not (is_about_style d.remark)) && not (is_among ignored (code_of d.remark))) found
+unfolding file_reported
+plainly_reported lint style ignored file found all =
+    none_among (filter (is_reported lint style ignored []) found)
+    ∙ filter_alike (is_reported lint style ignored []) (λ d. (style || not (is_about_style d.remark)) && not (is_among ignored (code_of d.remark))) found
+    (All-weaker (λ d. is_counted lint d ≡ true) (λ d. is_reported lint style ignored [] d ≡ ((style || not (is_about_style d.remark)) && not (is_among ignored (code_of d.remark))))
     (λ d e. ap (λ b. ((b && (style || not (is_about_style d.remark))) && not (is_among ignored (code_of d.remark))) && not false) e ∙ quiet (style || not (is_about_style d.remark)) (is_among ignored (code_of d.remark))) found all)
 
 asked_lint : (linted lint : Bool) → lint ≡ true → (not linted || lint) ≡ true
@@ -129,7 +129,7 @@ module _ (line : Line) (file : SourceFile) (counts : has_comments (ignored_by li
   uncounted : ignores_counted line.profile (ignored_by line) file ≡ []
   uncounted = ap (λ b. cond b (ignores_in line.profile file) []) counts
 
-  -- lints are found only where they are asked for
+  -- lints are found only if they are asked for
   rules_counted : All (λ d. is_counted line.lint d ≡ true) (rules_found line file)
   rules_counted = by line.lint refl
     where
@@ -139,20 +139,20 @@ module _ (line : Line) (file : SourceFile) (counts : has_comments (ignored_by li
           subst (λ ds. All (λ d. is_counted line.lint d ≡ true) ds) (sym (messages_alone line file e counts))
           (All-map (λ d. is_counted line.lint d ≡ true) (rule_diagnostic (file_text line file)) (findings_of line file) (λ k d h. refl))
 
-  pub rules_plainly_told : rules_told line file ≡ filter (λ d. (line.style || not (is_about_style d.remark)) && not (is_among (ignored_by line) (code_of d.remark))) (rules_found line file)
-  unfolding rules_told
-  rules_plainly_told =
-      ap (λ is. file_told line.lint line.style (ignored_by line) (file_text line file) is (rules_found line file)) uncounted
-      ∙ plainly_told line.lint line.style (ignored_by line) (file_text line file) (rules_found line file) rules_counted
+  pub rules_plainly_reported : rules_reported line file ≡ filter (λ d. (line.style || not (is_about_style d.remark)) && not (is_among (ignored_by line) (code_of d.remark))) (rules_found line file)
+  unfolding rules_reported
+  rules_plainly_reported =
+      ap (λ is. file_reported line.lint line.style (ignored_by line) (file_text line file) is (rules_found line file)) uncounted
+      ∙ plainly_reported line.lint line.style (ignored_by line) (file_text line file) (rules_found line file) rules_counted
 
-  pub database_plainly_told : database_told line file ≡ filter (λ d. (line.style || not (is_about_style d.remark)) && not (is_among (ignored_by line) (code_of d.remark))) (database_found line file)
-  unfolding database_told
-  database_plainly_told =
-      ap (λ is. file_told line.lint line.style (ignored_by line) (file_text line file) is (database_found line file)) uncounted
-      ∙ plainly_told line.lint line.style (ignored_by line) (file_text line file) (database_found line file)
+  pub database_plainly_reported : database_reported line file ≡ filter (λ d. (line.style || not (is_about_style d.remark)) && not (is_among (ignored_by line) (code_of d.remark))) (database_found line file)
+  unfolding database_reported
+  database_plainly_reported =
+      ap (λ is. file_reported line.lint line.style (ignored_by line) (file_text line file) is (database_found line file)) uncounted
+      ∙ plainly_reported line.lint line.style (ignored_by line) (file_text line file) (database_found line file)
       (All-map (λ d. is_counted line.lint d ≡ true) (database_diagnostic (file_text line file)) (messages_of (file ∷ [])) (λ k d h. refl))
 
-  -- messages alone are reported where lints are not asked for
-  pub messages_plainly_told : line.lint ≡ false → rules_told line file ≡ filter (λ d. (line.style || not (is_about_style d.remark)) && not (is_among (ignored_by line) (code_of d.remark))) (messages_in line file)
-  messages_plainly_told unasked =
-      rules_plainly_told ∙ ap (filter (λ d. (line.style || not (is_about_style d.remark)) && not (is_among (ignored_by line) (code_of d.remark)))) (messages_alone line file unasked counts)
+  -- only messages are reported if lints are not asked for
+  pub messages_plainly_reported : line.lint ≡ false → rules_reported line file ≡ filter (λ d. (line.style || not (is_about_style d.remark)) && not (is_among (ignored_by line) (code_of d.remark))) (messages_in line file)
+  messages_plainly_reported unasked =
+      rules_plainly_reported ∙ ap (filter (λ d. (line.style || not (is_about_style d.remark)) && not (is_among (ignored_by line) (code_of d.remark)))) (messages_alone line file unasked counts)

@@ -13,41 +13,41 @@ use Rattle.rule_core.specs.Ends.{file_as_read}
 use Rattle.rule_core.specs.Rules.{file_messages, set_of_as}
 use Rattle.rule_places.specs.Laws.{as_message}
 use Rattle.rule_places.specs.declared.placed_finding.PlacedFinding.{PlacedFinding}
-use Rattle.rule_places.proofs.Messages.{findings_told}
+use Rattle.rule_places.proofs.Messages.{findings_reported}
 use Rattle.rule_remarks.specs.Findings.{findings_as}
 use Rattle.rule_lints.specs.FileLints.{placed_lints}
-use Rattle.engine_ends.specs.Delivery.{Outcome}
+use Rattle.engine_ends.specs.Delivery.{RunOutcome}
 use Rattle.engine_ends.specs.declared.line.Format.TheVariants.{Plain}
 use Rattle.engine_ends.specs.declared.line.Line.{Line}
 use Rattle.engine_reports.specs.Checks as plain
-use Rattle.engine_reports.specs.Checks.{is_style, said_of, summary_line, told, verify_status}
+use Rattle.engine_reports.specs.Checks.{is_style, reported, said_of, summary_line, verify_status}
 use Rattle.engine_reports.specs.FilesRead.{files_read}
 use Rattle.engine_reports.specs.Messages.{message_lines}
 use Rattle.engine_reports.specs.Outcomes.{rules_outcome, too_many_rules, verify_outcome}
 use Rattle.engine_formats.specs.Diagnostics.{DiagnosticValue}
 use Rattle.engine_formats.specs.Formats.{formatted}
-use Rattle.engine_formats.specs.Made.{AreMadeOf, IsMadeOf}
+use Rattle.engine_formats.specs.Made.{AreMadeFrom, IsMadeFrom}
 use Rattle.engine_checks.specs.Codes.{has_comments}
-use Rattle.engine_checks.specs.Files.{accounts_by, file_text, findings_of, found_with, ignored_by, ignores_counted, rule_diagnostic, rules_found, rules_told}
+use Rattle.engine_checks.specs.Files.{accounts_by, file_text, findings_of, found_with, ignored_by, ignores_counted, rule_diagnostic, rules_found, rules_reported}
 use Rattle.engine_checks.specs.Laws.{messages_in}
 use Rattle.engine_checks.specs.Outcomes.{bad_count, checks_outcome, checks_said, is_named_in, rules_checks}
-use Rattle.engine_checks.specs.Told.{FileText, by_line, file_told, is_told}
+use Rattle.engine_checks.specs.Reported.{FileText, by_line, file_reported, is_reported}
 
 pub none_among : (ds : List DiagnosticValue) → by_line ds [] ≡ ds
 none_among [] = refl
 none_among (d ∷ ds) = ap (λ xs. d ∷ xs) (none_among ds)
 
 -- with nothing ignored all is reported, or all but what is about style
-pub all_but_style : (lint style : Bool) (file : FileText) (found : List DiagnosticValue) → file_told lint style [] file [] found ≡ filter (is_told lint style [] []) found
-unfolding file_told
-all_but_style lint style file found = none_among (filter (is_told lint style [] []) found)
+pub all_but_style : (lint style : Bool) (file : FileText) (found : List DiagnosticValue) → file_reported lint style [] file [] found ≡ filter (is_reported lint style [] []) found
+unfolding file_reported
+all_but_style lint style file found = none_among (filter (is_reported lint style [] []) found)
 
-one_made : (file : FileText) (p : PlacedFinding) → IsMadeOf (as_message file.name p) (rule_diagnostic file p)
+one_made : (file : FileText) (p : PlacedFinding) → IsMadeFrom (as_message file.name p) (rule_diagnostic file p)
 one_made file p = record { name = refl; begins = refl; remark = refl; word = refl }
 
 -- the diagnostics of findings are made of their messages
-findings_made : (style : Bool) (file : FileText) (ps : List PlacedFinding) → AreMadeOf (told style (map (as_message file.name) ps)) (filter (is_told false style [] []) (map (rule_diagnostic file) ps))
-unfolding told
+findings_made : (style : Bool) (file : FileText) (ps : List PlacedFinding) → AreMadeFrom (reported style (map (as_message file.name) ps)) (filter (is_reported false style [] []) (map (rule_diagnostic file) ps))
+unfolding reported
 findings_made true file [] = tt
 findings_made true file (p ∷ ps) = (one_made file p, findings_made true file ps)
 findings_made false file [] = tt
@@ -57,13 +57,13 @@ findings_made false file (p ∷ ps) = by (is_style p.kind) (findings_made false 
     ms = filter (λ m. not (is_style m.kind)) (map (as_message file.name) ps)
 
     ds : List DiagnosticValue
-    ds = filter (is_told false false [] []) (map (rule_diagnostic file) ps)
+    ds = filter (is_reported false false [] []) (map (rule_diagnostic file) ps)
 
-    by : (b : Bool) → AreMadeOf ms ds → AreMadeOf (cond (not b) (as_message file.name p ∷ ms) ms) (cond ((not b && true) && true) (rule_diagnostic file p ∷ ds) ds)
+    by : (b : Bool) → AreMadeFrom ms ds → AreMadeFrom (cond (not b) (as_message file.name p ∷ ms) ms) (cond ((not b && true) && true) (rule_diagnostic file p ∷ ds) ds)
     by true more = more
     by false more = (one_made file p, more)
 
--- where no lints are looked for, what is found is the messages
+-- if no lints are looked for, what is found is the messages
 pub messages_alone : (line : Line) (file : SourceFile) → line.lint ≡ false → has_comments (ignored_by line) ≡ false → rules_found line file ≡ messages_in line file
 messages_alone line file unasked counts =
     ap (λ b. found_with (file_text line file) (findings_of line file) (cond (b || has_comments (ignored_by line)) (placed_lints line.profile file) [])) unasked
@@ -71,43 +71,43 @@ messages_alone line file unasked counts =
     ∙ none_among (messages_in line file)
 
 -- with nothing ignored and no lints, the messages are reported, or all but those about style
-messages_told : (line : Line) (file : SourceFile) → line.lint ≡ false → ignored_by line ≡ [] → rules_told line file ≡ filter (is_told false line.style [] []) (messages_in line file)
-unfolding rules_told
-messages_told line file unasked none =
-    ap (file_told line.lint line.style (ignored_by line) (file_text line file) (ignores_counted line.profile (ignored_by line) file)) (messages_alone line file unasked (ap has_comments none))
-    ∙ ap (λ ignored. file_told line.lint line.style ignored (file_text line file) (ignores_counted line.profile ignored file) (messages_in line file)) none
-    ∙ ap (λ b. file_told b line.style [] (file_text line file) [] (messages_in line file)) unasked
+messages_reported : (line : Line) (file : SourceFile) → line.lint ≡ false → ignored_by line ≡ [] → rules_reported line file ≡ filter (is_reported false line.style [] []) (messages_in line file)
+unfolding rules_reported
+messages_reported line file unasked none =
+    ap (file_reported line.lint line.style (ignored_by line) (file_text line file) (ignores_counted line.profile (ignored_by line) file)) (messages_alone line file unasked (ap has_comments none))
+    ∙ ap (λ ignored. file_reported line.lint line.style ignored (file_text line file) (ignores_counted line.profile ignored file) (messages_in line file)) none
+    ∙ ap (λ b. file_reported b line.style [] (file_text line file) [] (messages_in line file)) unasked
     ∙ all_but_style false line.style (file_text line file) (messages_in line file)
 
-file_made : (line : Line) (file : SourceFile) → line.profile ≡ Manual → line.lint ≡ false → ignored_by line ≡ [] → AreMadeOf (told line.style (file_messages Manual file)) (rules_told line file)
+file_made : (line : Line) (file : SourceFile) → line.profile ≡ Manual → line.lint ≡ false → ignored_by line ≡ [] → AreMadeFrom (reported line.style (file_messages Manual file)) (rules_reported line file)
 unfolding findings_as
 file_made line file plain unasked none =
-    subst (λ ds. AreMadeOf (told line.style (file_messages Manual file)) ds) (sym (messages_told line file unasked none))
-    (subst (λ ms. AreMadeOf (told line.style ms) (filter (is_told false line.style [] []) (messages_in line file))) (ap (λ by. map (as_message file.name) (findings_as by (accounts_by line) file)) plain ∙ findings_told Manual file) (findings_made line.style (file_text line file) (findings_of line file)))
+    subst (λ ds. AreMadeFrom (reported line.style (file_messages Manual file)) ds) (sym (messages_reported line file unasked none))
+    (subst (λ ms. AreMadeFrom (reported line.style ms) (filter (is_reported false line.style [] []) (messages_in line file))) (ap (λ by. map (as_message file.name) (findings_as by (accounts_by line) file)) plain ∙ findings_reported Manual file) (findings_made line.style (file_text line file) (findings_of line file)))
 
-pub both_made : (ms ns : List Message) (ds es : List DiagnosticValue) → AreMadeOf ms ds → AreMadeOf ns es → AreMadeOf (ms ++ ns) (ds ++ es)
+pub both_made : (ms ns : List Message) (ds es : List DiagnosticValue) → AreMadeFrom ms ds → AreMadeFrom ns es → AreMadeFrom (ms ++ ns) (ds ++ es)
 both_made [] ns [] es f g = g
 both_made [] ns (d ∷ ds) es f g = absurd f
 both_made (m ∷ ms) ns [] es f g = absurd f
 both_made (m ∷ ms) ns (d ∷ ds) es f g = (f.0, both_made ms ns ds es f.1 g)
 
-told_both : (style : Bool) (ms ns : List Message) → told style (ms ++ ns) ≡ told style ms ++ told style ns
-unfolding told
-told_both true ms ns = refl
-told_both false ms ns = filter-append (λ m. not (is_style m.kind)) ms ns
+reported_both : (style : Bool) (ms ns : List Message) → reported style (ms ++ ns) ≡ reported style ms ++ reported style ns
+unfolding reported
+reported_both true ms ns = refl
+reported_both false ms ns = filter-append (λ m. not (is_style m.kind)) ms ns
 
-told_none : (style : Bool) → told style [] ≡ []
-unfolding told
-told_none true = refl
-told_none false = refl
+reported_none : (style : Bool) → reported style [] ≡ []
+unfolding reported
+reported_none true = refl
+reported_none false = refl
 
-files_made : (line : Line) (files : List SourceFile) → line.profile ≡ Manual → line.lint ≡ false → ignored_by line ≡ [] → AreMadeOf (told line.style (flat_map (file_messages Manual) files)) (flat_map (rules_told line) files)
-files_made line [] plain unasked none = subst (λ ms. AreMadeOf ms []) (sym (told_none line.style)) tt
+files_made : (line : Line) (files : List SourceFile) → line.profile ≡ Manual → line.lint ≡ false → ignored_by line ≡ [] → AreMadeFrom (reported line.style (flat_map (file_messages Manual) files)) (flat_map (rules_reported line) files)
+files_made line [] plain unasked none = subst (λ ms. AreMadeFrom ms []) (sym (reported_none line.style)) tt
 files_made line (file ∷ files) plain unasked none =
-    subst (λ ms. AreMadeOf ms (rules_told line file ++ flat_map (rules_told line) files)) (sym (told_both line.style (file_messages Manual file) (flat_map (file_messages Manual) files)))
-    (both_made (told line.style (file_messages Manual file)) (told line.style (flat_map (file_messages Manual) files)) (rules_told line file) (flat_map (rules_told line) files) (file_made line file plain unasked none) (files_made line files plain unasked none))
+    subst (λ ms. AreMadeFrom ms (rules_reported line file ++ flat_map (rules_reported line) files)) (sym (reported_both line.style (file_messages Manual file) (flat_map (file_messages Manual) files)))
+    (both_made (reported line.style (file_messages Manual file)) (reported line.style (flat_map (file_messages Manual) files)) (rules_reported line file) (flat_map (rules_reported line) files) (file_made line file plain unasked none) (files_made line files plain unasked none))
 
-same_named : (ms : List Message) (ds : List DiagnosticValue) (name : Text) → AreMadeOf ms ds → is_named_in ds name ≡ plain.is_named_in ms name
+same_named : (ms : List Message) (ds : List DiagnosticValue) (name : Text) → AreMadeFrom ms ds → is_named_in ds name ≡ plain.is_named_in ms name
 same_named [] [] name made = refl
 same_named [] (d ∷ ds) name made = absurd made
 same_named (m ∷ ms) [] name made = absurd made
@@ -121,20 +121,20 @@ same_sums p q n (file ∷ files) e =
 same_count : (p q : SourceFile → Bool) (files : List SourceFile) → ((file : SourceFile) → p file ≡ q file) → count_by p files ≡ count_by q files
 same_count p q files e = same_sums p q 0 files e
 
-module _ (plainly : (ms : List Message) (ds : List DiagnosticValue) → AreMadeOf ms ds → formatted Plain ds ≡ message_lines ms) where
-  same_said : (line : Line) (files : List SourceFile) (ms : List Message) (ds : List DiagnosticValue) → line.format ≡ Plain → AreMadeOf ms ds → checks_said line files ds ≡ said_of line.summary files ms
+module _ (plainly : (ms : List Message) (ds : List DiagnosticValue) → AreMadeFrom ms ds → formatted Plain ds ≡ message_lines ms) where
+  same_said : (line : Line) (files : List SourceFile) (ms : List Message) (ds : List DiagnosticValue) → line.format ≡ Plain → AreMadeFrom ms ds → checks_said line files ds ≡ said_of line.summary files ms
   same_said line files ms ds format made =
       let count : bad_count files ds ≡ plain.bad_count files ms = same_count (λ f. is_named_in ds f.name) (λ f. plain.is_named_in ms f.name) files (λ f. same_named ms ds f.name made) in
       let text : formatted line.format ds ≡ message_lines ms = ap (λ f. formatted f ds) format ∙ plainly ms ds made in
-      let said : ℕ → Text → Outcome = λ (n : ℕ) (t : Text). record { output = cond line.summary (summary_line (length files) n) []; messages = t; status = verify_status n } in
+      let said : ℕ → Text → RunOutcome = λ (n : ℕ) (t : Text). record { output = cond line.summary (summary_line (length files) n) []; messages = t; status = verify_status n } in
       ap (λ n. said n (formatted line.format ds)) count ∙ ap (said (plain.bad_count files ms)) text
 
   same_rules : (line : Line) (files : List SourceFile) → line.profile ≡ Manual → line.format ≡ Plain → line.lint ≡ false → ignored_by line ≡ [] → rules_checks line files ≡ rules_outcome line files
   unfolding rules_checks rules_outcome set_of_as
   same_rules line files plain format unasked none =
-      ap (λ by. cond (nat_le (tokens_in (set_of_as by files).rules) (2 ^ 24)) (checks_said line files (flat_map (rules_told line) files)) too_many_rules) plain
+      ap (λ by. cond (nat_le (tokens_in (set_of_as by files).rules) (2 ^ 24)) (checks_said line files (flat_map (rules_reported line) files)) too_many_rules) plain
       ∙ ap (λ o. cond (nat_le (tokens_in (set_of_as Manual files).rules) (2 ^ 24)) o too_many_rules)
-      (same_said line files (told line.style (set_of_as Manual files).messages) (flat_map (rules_told line) files) format (files_made line files plain unasked none))
+      (same_said line files (reported line.style (set_of_as Manual files).messages) (flat_map (rules_reported line) files) format (files_made line files plain unasked none))
 
   -- what `verify` says is as before
   pub as_before : (line : Line) (files : List SourceFile) → line.profile ≡ Manual → line.format ≡ Plain → line.lint ≡ false → ignored_by line ≡ [] → checks_outcome line files ≡ verify_outcome line files

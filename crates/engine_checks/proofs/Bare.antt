@@ -5,9 +5,8 @@ use Rattle.std.proofs.lemmas.Bool.{ltb-true, ltb-false}
 use Rattle.std.proofs.lemmas.List.{get_or-reverse, length-reverse, take_all}
 use Rattle.std.proofs.lemmas.List.Sums.{prefix_len-drop_all, prefix_len-drop_no, prefix_len_stops, suffix_len-le-length, suffix_len-take_no}
 use Rattle.text_bytes.specs.Names.{is_blank, is_whitespace}
-use Rattle.text_bytes.specs.Texts.{unindented}
+use Rattle.text_bytes.specs.Texts.{trimmed, unindented}
 use Rattle.text_tables.specs.Texts.{Text}
-use Rattle.hwdb_core.specs.Lines.{trimmed}
 use Rattle.engine_checks.specs.Ignores.{code_in}
 
 module _ (p : ℕ → Bool) where
@@ -18,11 +17,11 @@ module _ (p : ℕ → Bool) where
       by true e = let h : prefix_len p text < length text = ltb-true _ _ e in prefix_len-drop_no p text (prefix_len p text) 0 h (prefix_len_stops p text 0 h)
       by false e = prefix_len-drop_all p text (prefix_len p text) (ltb-false _ _ e)
 
-  none_at_front : (text : Text) (n : ℕ) → prefix_len p text ≡ 0 → prefix_len p (take n text) ≡ 0
-  none_at_front [] zero h = refl
-  none_at_front [] (suc n) h = refl
-  none_at_front (b ∷ text) zero h = refl
-  none_at_front (b ∷ text) (suc n) h = by (p b) h
+  none_at_start : (text : Text) (n : ℕ) → prefix_len p text ≡ 0 → prefix_len p (take n text) ≡ 0
+  none_at_start [] zero h = refl
+  none_at_start [] (suc n) h = refl
+  none_at_start (b ∷ text) zero h = refl
+  none_at_start (b ∷ text) (suc n) h = by (p b) h
     where
       by : (v : Bool) → cond v (1 + prefix_len p text) 0 ≡ 0 → cond v (1 + prefix_len p (take n text)) 0 ≡ 0
       by true h = absurd (omega (arith, h))
@@ -33,15 +32,15 @@ module _ (p : ℕ → Bool) where
   none_at_end text (suc n) is =
       let passed : suffix_len p text ≤ length text = suffix_len-le-length p text in
       let inside : suffix_len p text < length text = omega arith in
-      let turned : suffix_len p text < length (reverse text) = omega (arith, length-reverse text) in
+      let reversed : suffix_len p text < length (reverse text) = omega (arith, length-reverse text) in
       let last : get_or (reverse text) (suffix_len p text) 0 ≡ get_or text (length text - 1 - suffix_len p text) 0 = get_or-reverse text (suffix_len p text) 0 inside in
       let place : length text - 1 - suffix_len p text ≡ suc n - 1 = omega arith in
       suffix_len-take_no p text (suc n) 0 (omega arith) (omega arith)
-      (ap (λ (k : ℕ). p (get_or text k 0)) (sym place) ∙ ap p (sym last) ∙ prefix_len_stops p (reverse text) 0 turned)
+      (ap (λ (k : ℕ). p (get_or text k 0)) (sym place) ∙ ap p (sym last) ∙ prefix_len_stops p (reverse text) 0 reversed)
 
-pub front_bare : (text : Text) → unindented (code_in text) ≡ code_in text
-front_bare text =
-    ap (λ n. drop n (code_in text)) (none_at_front is_blank (unindented text) (length (unindented text) - suffix_len is_whitespace (unindented text)) (none_left is_blank text))
+pub prefix_bare : (text : Text) → unindented (code_in text) ≡ code_in text
+prefix_bare text =
+    ap (λ n. drop n (code_in text)) (none_at_start is_blank (unindented text) (length (unindented text) - suffix_len is_whitespace (unindented text)) (none_left is_blank text))
 
 trimmed_twice : (text : Text) → trimmed (trimmed text) ≡ trimmed text
 trimmed_twice text =

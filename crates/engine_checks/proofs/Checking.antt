@@ -22,35 +22,35 @@ use Rattle.engine_formats.specs.Diagnostics.{DiagnosticValue}
 use Rattle.engine_formats.specs.Remarks.{code_of}
 use Rattle.engine_formats.specs.declared.remark.Remark.{Remark}
 use Rattle.engine_checks.specs.Codes.{comments_word, has_comments}
-use Rattle.engine_checks.specs.Files.{accounts_by, database_found, database_told, file_text, findings_of, found_with, ignored_by, rules_found, rules_told, told_of}
+use Rattle.engine_checks.specs.Files.{accounts_by, database_found, database_reported, file_text, findings_of, found_with, ignored_by, reported_for, rules_found, rules_reported}
 use Rattle.engine_checks.specs.Ignores.{Ignore, ignores_in}
 use Rattle.engine_checks.specs.Outcomes.{checks_said, database_checks, rules_checks, entries_said}
-use Rattle.engine_checks.specs.Tables.{database_told_by, read_by, rules_found_by, rules_told_by}
-use Rattle.engine_checks.specs.Told.{FileText, by_line, comment_diagnostics, file_told, is_about_style, is_asked, is_lint, is_silenced, is_told}
+use Rattle.engine_checks.specs.Tables.{database_reported_by, read_by, rules_found_by, rules_reported_by}
+use Rattle.engine_checks.specs.Reported.{FileText, by_line, comment_diagnostics, file_reported, is_about_style, is_asked, is_lint, is_reported, is_silenced}
 
 same_filter : {X : Type 0} (p q : X → Bool) (xs : List X) → ((x : X) → p x ≡ q x) → filter p xs ≡ filter q xs
 same_filter p q [] e = refl
 same_filter p q (x ∷ xs) e = ap (λ b. cond b (x ∷ filter p xs) (filter p xs)) (e x) ∙ ap (λ ys. cond (q x) (x ∷ ys) ys) (same_filter p q xs e)
 
 -- what is reported hangs on which codes are ignored, and not on how they are listed
-told_alike : (lint style : Bool) (these those : List Text) (file : FileText) (ignores : List Ignore) (found : List DiagnosticValue)
-    → ((code : Text) → is_among these code ≡ is_among those code) → file_told lint style these file ignores found ≡ file_told lint style those file ignores found
-unfolding file_told
-told_alike lint style these those file ignores found e =
+reported_alike : (lint style : Bool) (these those : List Text) (file : FileText) (ignores : List Ignore) (found : List DiagnosticValue)
+    → ((code : Text) → is_among these code ≡ is_among those code) → file_reported lint style these file ignores found ≡ file_reported lint style those file ignores found
+unfolding file_reported
+reported_alike lint style these those file ignores found e =
     let asked : (remark : Remark) → is_asked lint style these remark ≡ is_asked lint style those remark = λ (remark : Remark). ap (λ b. ((not (is_lint remark) || lint) && (style || not (is_about_style remark))) && not b) (e (code_of remark)) in
     ap (λ ds. by_line ds (filter (λ d. is_asked lint style these d.remark) (comment_diagnostics file found ignores)))
-    (same_filter (is_told lint style these ignores) (is_told lint style those ignores) found (λ d. ap (λ b. b && not (is_silenced ignores d)) (asked d.remark)))
-    ∙ ap (by_line (filter (is_told lint style those ignores) found))
+    (same_filter (is_reported lint style these ignores) (is_reported lint style those ignores) found (λ d. ap (λ b. b && not (is_silenced ignores d)) (asked d.remark)))
+    ∙ ap (by_line (filter (is_reported lint style those ignores) found))
     (same_filter (λ d. is_asked lint style these d.remark) (λ d. is_asked lint style those d.remark) (comment_diagnostics file found ignores) (λ d. asked d.remark))
 
 module _ (line : Line) (profile : Profile) (lint style comments : Bool) (ignored : List Text) (p : profile ≡ line.profile) (l : lint ≡ line.lint) (s : style ≡ line.style) (e : (code : Text) → is_among ignored code ≡ is_among (ignored_by line) code) (c : comments ≡ has_comments ignored) where
   -- what is reported for a file, by tables
-  one_file : (file : SourceFile) (found : List DiagnosticValue) → file_told lint style ignored (file_text line file) (cond comments (ignores_in line.profile file) []) found ≡ told_of line file found
+  one_file : (file : SourceFile) (found : List DiagnosticValue) → file_reported lint style ignored (file_text line file) (cond comments (ignores_in line.profile file) []) found ≡ reported_for line file found
   one_file file found =
-      told_alike lint style ignored (ignored_by line) (file_text line file) (cond comments (ignores_in line.profile file) []) found e
-      ∙ ap (λ b. file_told b style (ignored_by line) (file_text line file) (cond comments (ignores_in line.profile file) []) found) l
-      ∙ ap (λ b. file_told line.lint b (ignored_by line) (file_text line file) (cond comments (ignores_in line.profile file) []) found) s
-      ∙ ap (λ b. file_told line.lint line.style (ignored_by line) (file_text line file) (cond b (ignores_in line.profile file) []) found) (c ∙ e comments_word)
+      reported_alike lint style ignored (ignored_by line) (file_text line file) (cond comments (ignores_in line.profile file) []) found e
+      ∙ ap (λ b. file_reported b style (ignored_by line) (file_text line file) (cond comments (ignores_in line.profile file) []) found) l
+      ∙ ap (λ b. file_reported line.lint b (ignored_by line) (file_text line file) (cond comments (ignores_in line.profile file) []) found) s
+      ∙ ap (λ b. file_reported line.lint line.style (ignored_by line) (file_text line file) (cond b (ignores_in line.profile file) []) found) (c ∙ e comments_word)
 
   -- what is found, by tables
   found_file : (accounts : Accounts) → accounts ≡ accounts_by line → (file : SourceFile) → rules_found_by profile accounts lint ignored (read_by line comments file) ≡ rules_found line file
@@ -60,36 +60,36 @@ module _ (line : Line) (profile : Profile) (lint style comments : Bool) (ignored
       ∙ ap (λ b. found_with (file_text line file) (findings_of line file) (cond (b || has_comments ignored) (placed_lints line.profile file) [])) l
       ∙ ap (λ b. found_with (file_text line file) (findings_of line file) (cond (line.lint || b) (placed_lints line.profile file) [])) (e comments_word)
 
-  rules_file : (accounts : Accounts) → accounts ≡ accounts_by line → (file : SourceFile) → rules_told_by profile accounts lint style ignored (read_by line comments file) ≡ rules_told line file
-  unfolding rules_told
+  rules_file : (accounts : Accounts) → accounts ≡ accounts_by line → (file : SourceFile) → rules_reported_by profile accounts lint style ignored (read_by line comments file) ≡ rules_reported line file
+  unfolding rules_reported
   rules_file accounts a file =
-      ap (file_told lint style ignored (file_text line file) (cond comments (ignores_in line.profile file) [])) (found_file accounts a file) ∙ one_file file (rules_found line file)
+      ap (file_reported lint style ignored (file_text line file) (cond comments (ignores_in line.profile file) [])) (found_file accounts a file) ∙ one_file file (rules_found line file)
 
-  database_file : (file : SourceFile) → database_told_by lint style ignored (read_by line comments file) ≡ database_told line file
-  unfolding database_told
+  database_file : (file : SourceFile) → database_reported_by lint style ignored (read_by line comments file) ≡ database_reported line file
+  unfolding database_reported
   database_file file = one_file file (database_found line file)
 
   -- rules files that are read, by tables
-  pub files_by : (accounts : Accounts) → accounts ≡ accounts_by line → (files : List SourceFile) → flat_map (rules_told_by profile accounts lint style ignored) (map (read_by line comments) files) ≡ flat_map (rules_told line) files
+  pub files_by : (accounts : Accounts) → accounts ≡ accounts_by line → (files : List SourceFile) → flat_map (rules_reported_by profile accounts lint style ignored) (map (read_by line comments) files) ≡ flat_map (rules_reported line) files
   files_by accounts a [] = refl
   files_by accounts a (file ∷ files) =
-      ap (λ ds. ds ++ flat_map (rules_told_by profile accounts lint style ignored) (map (read_by line comments) files)) (rules_file accounts a file)
-      ∙ ap (λ ds. rules_told line file ++ ds) (files_by accounts a files)
+      ap (λ ds. ds ++ flat_map (rules_reported_by profile accounts lint style ignored) (map (read_by line comments) files)) (rules_file accounts a file)
+      ∙ ap (λ ds. rules_reported line file ++ ds) (files_by accounts a files)
 
   -- files of a database that are read, by tables
-  pub database_by : (files : List SourceFile) → flat_map (database_told_by lint style ignored) (map (read_by line comments) files) ≡ flat_map (database_told line) files
+  pub database_by : (files : List SourceFile) → flat_map (database_reported_by lint style ignored) (map (read_by line comments) files) ≡ flat_map (database_reported line) files
   database_by [] = refl
   database_by (file ∷ files) =
-      ap (λ ds. ds ++ flat_map (database_told_by lint style ignored) (map (read_by line comments) files)) (database_file file)
-      ∙ ap (λ ds. database_told line file ++ ds) (database_by files)
+      ap (λ ds. ds ++ flat_map (database_reported_by lint style ignored) (map (read_by line comments) files)) (database_file file)
+      ∙ ap (λ ds. database_reported line file ++ ds) (database_by files)
 
-pub checks_few : (line : Line) (files : List SourceFile) → tokens_in (set_of_as line.profile files).rules ≤ 2 ^ 24 → rules_checks line files ≡ checks_said line files (flat_map (rules_told line) files)
+pub checks_few : (line : Line) (files : List SourceFile) → tokens_in (set_of_as line.profile files).rules ≤ 2 ^ 24 → rules_checks line files ≡ checks_said line files (flat_map (rules_reported line) files)
 unfolding rules_checks
-checks_few line files w = ap (λ b. cond b (checks_said line files (flat_map (rules_told line) files)) too_many_rules) (le-leb (tokens_in (set_of_as line.profile files).rules) (2 ^ 24) w)
+checks_few line files w = ap (λ b. cond b (checks_said line files (flat_map (rules_reported line) files)) too_many_rules) (le-leb (tokens_in (set_of_as line.profile files).rules) (2 ^ 24) w)
 
 checks_many : (line : Line) (files : List SourceFile) → 2 ^ 24 < tokens_in (set_of_as line.profile files).rules → rules_checks line files ≡ too_many_rules
 unfolding rules_checks
-checks_many line files h = ap (λ b. cond b (checks_said line files (flat_map (rules_told line) files)) too_many_rules) (lt-leb (tokens_in (set_of_as line.profile files).rules) (2 ^ 24) h)
+checks_many line files h = ap (λ b. cond b (checks_said line files (flat_map (rules_reported line) files)) too_many_rules) (lt-leb (tokens_in (set_of_as line.profile files).rules) (2 ^ 24) h)
 
 -- what becomes of a fault of rules is what is said of their files
 pub checks_refused : (line : Line) (files : List SourceFile) (fault : RulesFault) → (fault ≡ rules.TooMany → 2 ^ 24 < tokens_in (set_of_as line.profile files).rules) → IsSaid (refused_rules fault) (rules_checks line files)
@@ -97,11 +97,11 @@ checks_refused line files rules.TooMany h = checks_many line files (h refl)
 checks_refused line files rules.Memory h = tt
 
 -- what `update` says of files within the bounds
-pub updates_few : (line : Line) (files : List SourceFile) → WithinBounds files → database_checks line files ≡ entries_said line (flat_map (database_told line) files) (entries_of files) (messages_of files)
+pub updates_few : (line : Line) (files : List SourceFile) → WithinBounds files → database_checks line files ≡ entries_said line (flat_map (database_reported line) files) (entries_of files) (messages_of files)
 unfolding database_checks
-updates_few line files w = outcome_few (entries_said line (flat_map (database_told line) files)) files w
+updates_few line files w = outcome_few (entries_said line (flat_map (database_reported line) files)) files w
 
 -- what becomes of a fault of a database is what is said of its files
 pub updates_refused : (line : Line) (files : List SourceFile) (fault : HwdbFault) → (fault ≡ hwdb.TooMany → WithinBounds files → ⊥) → IsSaid (refused_entries fault) (database_checks line files)
 unfolding database_checks
-updates_refused line files fault beyond = entries_refused (entries_said line (flat_map (database_told line) files)) files fault beyond
+updates_refused line files fault beyond = entries_refused (entries_said line (flat_map (database_reported line) files)) files fault beyond

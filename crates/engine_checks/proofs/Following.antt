@@ -8,22 +8,23 @@ use Rattle.text_bytes.specs.Messages.{capped}
 use Rattle.text_bytes.specs.declared.source_file.FileKind.{FileKind}
 use Rattle.text_bytes.specs.declared.source_file.SourceFile.{SourceFile}
 use Rattle.text_tables.specs.Texts.{Text}
-use Rattle.engine_checks.specs.Ignores.{Ignore, asked_by, asked_or, behind, comment_of, ignore_at, ignores_among, ignores_at, ignores_behind, ignores_in, ignores_of_line, next_behind, starts_of, texts_of}
-use Rattle.engine_checks.specs.Laws.{IsAboutNext, IsFirstBehind}
+use Rattle.text_bytes.specs.Texts.{following}
+use Rattle.engine_checks.specs.Ignores.{Ignore, asked_by, asked_or, comment_of, ignore_at, ignores_after, ignores_among, ignores_at, ignores_in, ignores_of_line, next_after, starts_of, texts_of}
+use Rattle.engine_checks.specs.Laws.{IsAboutNext, IsFirstAfter}
 use Rattle.engine_checks.specs.declared.ignores.Scope.{Scope}
 use Rattle.engine_checks.specs.declared.ignores.Scope.TheVariants.{Next}
 
-first_behind : (starts : List ℕ) (line : ℕ) → IsFirstBehind starts line (next_behind starts line)
-first_behind [] line = All-nil (λ start. start ≤ line)
-first_behind (s ∷ starts) line = by (nat_lt line s) refl (next_behind starts line) (first_behind starts line)
+first_after : (starts : List ℕ) (line : ℕ) → IsFirstAfter starts line (next_after starts line)
+first_after [] line = All-nil (λ start. start ≤ line)
+first_after (s ∷ starts) line = by (nat_lt line s) refl (next_after starts line) (first_after starts line)
   where
-    by : (b : Bool) → nat_lt line s ≡ b → (next : Option ℕ) → IsFirstBehind starts line next → IsFirstBehind (s ∷ starts) line (cond b (Some s) next)
+    by : (b : Bool) → nat_lt line s ≡ b → (next : Option ℕ) → IsFirstAfter starts line next → IsFirstAfter (s ∷ starts) line (cond b (Some s) next)
     by true e next more = ([], (starts, (refl, (All-nil (λ start. start ≤ line), ltb-true line s e))))
     by false e None more = All-cons (λ start. start ≤ line) s starts (ltb-false line s e) more
     by false e (Some next) (passed, (rest, (is, (all, later)))) =
         (s ∷ passed, (rest, (ap (λ ss. s ∷ ss) is, (All-cons (λ start. start ≤ line) s passed (ltb-false line s e) all, later))))
 
--- A code is one of a comment in this line, and where that is on the next rule, this is its line.
+-- A code is one of a comment in this line, and if the comment is on the next rule, this is its line.
 pub record IsAsked (at : ℕ) (about : Option ℕ) (ignore : Ignore) : Type 0 where
   pub line : ignore.line ≡ at
   pub next : (n : Option ℕ) → ignore.scope ≡ Next n → n ≡ about
@@ -38,21 +39,21 @@ scope_asked next (Some list) two text n e = cc
 scope_asked next None (Some list) text n e = cc
 scope_asked next None None text n e = cc
 
-behind_asked : (l : NumberedLine) (next : Option ℕ) (text : Option Text) → All (IsAsked (capped l.number) next) (ignores_behind l next text)
-behind_asked l next None = All-nil (IsAsked (capped l.number) next)
-behind_asked l next (Some text) =
-    all_at (capped l.number) next (asked_by next text).0 (scope_asked next (behind (codes " ignore ") text) (behind (codes " ignore-file ") text) text) _ (texts_of (asked_by next text).0 (asked_by next text).1)
+after_asked : (l : NumberedLine) (next : Option ℕ) (text : Option Text) → All (IsAsked (capped l.number) next) (ignores_after l next text)
+after_asked l next None = All-nil (IsAsked (capped l.number) next)
+after_asked l next (Some text) =
+    all_at (capped l.number) next (asked_by next text).0 (scope_asked next (following (codes " ignore ") text) (following (codes " ignore-file ") text) text) _ (texts_of (asked_by next text).0 (asked_by next text).1)
 
-about_next : (starts : List ℕ) (line : ℕ) (i : Ignore) → IsAsked line (next_behind starts line) i → IsAboutNext starts i
+about_next : (starts : List ℕ) (line : ℕ) (i : Ignore) → IsAsked line (next_after starts line) i → IsAboutNext starts i
 about_next starts line i h n e =
-    subst (λ at. IsFirstBehind starts at n) (sym h.line) (subst (λ next. IsFirstBehind starts line next) (sym (h.next n e)) (first_behind starts line))
+    subst (λ at. IsFirstAfter starts at n) (sym h.line) (subst (λ next. IsFirstAfter starts line next) (sym (h.next n e)) (first_after starts line))
 
 lines_about : (kind : FileKind) (starts : List ℕ) (ls : List NumberedLine) → All (IsAboutNext starts) (ignores_among kind starts ls)
 lines_about kind starts [] = All-nil (IsAboutNext starts)
 lines_about kind starts (l ∷ ls) =
-    All-append (IsAboutNext starts) (ignores_of_line kind (next_behind starts (capped l.number)) l) (ignores_among kind starts ls)
-    (All-weaker (IsAsked (capped l.number) (next_behind starts (capped l.number))) (IsAboutNext starts) (λ i h. about_next starts (capped l.number) i h)
-    (ignores_of_line kind (next_behind starts (capped l.number)) l) (behind_asked l (next_behind starts (capped l.number)) (behind (codes "# devdry:") (comment_of kind l.text))))
+    All-append (IsAboutNext starts) (ignores_of_line kind (next_after starts (capped l.number)) l) (ignores_among kind starts ls)
+    (All-weaker (IsAsked (capped l.number) (next_after starts (capped l.number))) (IsAboutNext starts) (λ i h. about_next starts (capped l.number) i h)
+    (ignores_of_line kind (next_after starts (capped l.number)) l) (after_asked l (next_after starts (capped l.number)) (following (codes "# devdry:") (comment_of kind l.text))))
     (lines_about kind starts ls)
 
 -- the comments of a file

@@ -26,14 +26,14 @@ module _ {K : Type 0} (line : K → ℕ) (code : K → Text) where
   abbrev pub is_at : ℕ → Text → K → Bool
   is_at n text k = n == line k && same_text text (code k)
 
-  -- a code at a line is found where the list has it
+  -- a code at a line is found exactly if the list has it
   pub has_held : (ks : List K) (n : ℕ) (text : Text) → list_any (is_at n text) ks ≡ has_code_at (map seen ks) n text
   has_held [] n text = refl
   has_held (k ∷ ks) n text = ap (λ b. is_at n text k || b) (has_held ks n text)
 
-  behind : (ks : List K) (k : K) (n : ℕ) (text : Text) → list_any (is_at n text) (ks ++ k ∷ []) ≡ (list_any (is_at n text) ks || is_at n text k)
-  behind [] k n text = or_false (is_at n text k)
-  behind (x ∷ ks) k n text = or_more (is_at n text x) _ _ _ (behind ks k n text)
+  following : (ks : List K) (k : K) (n : ℕ) (text : Text) → list_any (is_at n text) (ks ++ k ∷ []) ≡ (list_any (is_at n text) ks || is_at n text k)
+  following [] k n text = or_false (is_at n text k)
+  following (x ∷ ks) k n text = or_more (is_at n text x) _ _ _ (following ks k n text)
 
   same_at : (ks : List K) (k : K) (n : ℕ) (text : Text) → is_at n text k ≡ true → list_any (is_at n text) ks ≡ list_any (is_at (line k) (code k)) ks
   same_at ks k n text e =
@@ -47,4 +47,4 @@ module _ {K : Type 0} (line : K → ℕ) (code : K → Text) where
     where
       by : (b : Bool) → list_any (is_at (line k) (code k)) ks ≡ b → has_code_at (map seen (cond b ks (ks ++ k ∷ []))) n text ≡ (has_code_at (map seen ks) n text || is_code_at n text (seen k))
       by true e = or_there (is_at n text k) (has_code_at (map seen ks) n text) (λ same. sym (has_held ks n text) ∙ same_at ks k n text same ∙ e)
-      by false e = sym (has_held (ks ++ k ∷ []) n text) ∙ behind ks k n text ∙ ap (λ b. b || is_at n text k) (has_held ks n text)
+      by false e = sym (has_held (ks ++ k ∷ []) n text) ∙ following ks k n text ∙ ap (λ b. b || is_at n text k) (has_held ks n text)

@@ -13,7 +13,7 @@ use Rattle.engine_formats.specs.declared.remark.Remark.TheVariants.{IdleIgnore, 
 use Rattle.engine_checks.specs.Codes.{is_code, is_found}
 use Rattle.engine_checks.specs.Ignores.{Ignore}
 use Rattle.engine_checks.specs.Laws.{IsInUse, IsLeftOut, IsSaidOf, IsSilencing, IsUnknown}
-use Rattle.engine_checks.specs.Told.{covers, is_about_style, is_lint, is_silenced, is_told, is_unknown, remark_on, silences}
+use Rattle.engine_checks.specs.Reported.{covers, is_about_style, is_lint, is_reported, is_silenced, is_unknown, remark_on, silences}
 use Rattle.engine_checks.specs.declared.ignores.Scope.{Scope}
 use Rattle.engine_checks.specs.declared.ignores.Scope.TheVariants.{File, Next, Unread}
 use Rattle.engine_checks.proofs.EachCode.{found_code, is_named}
@@ -60,9 +60,9 @@ one_fails : (a b : Bool) → (a && b) ≡ false → (a ≡ false) ⊎ (b ≡ fal
 one_fails false b e = inl refl
 one_fails true b e = inr e
 
-turned : (b : Bool) → not b ≡ false → b ≡ true
-turned true e = refl
-turned false e = cc
+reversed : (b : Bool) → not b ≡ false → b ≡ true
+reversed true e = refl
+reversed false e = cc
 
 no_lints : (linted lint : Bool) → (not linted || lint) ≡ false → (lint ≡ false) × (linted ≡ true)
 no_lints true false e = (refl, refl)
@@ -75,7 +75,7 @@ no_style false false e = cc
 no_style true about e = cc
 
 -- what is not reported is left out
-pub left_out : (lint style : Bool) (ignored : List Text) (ignores : List Ignore) (d : DiagnosticValue) → is_told lint style ignored ignores d ≡ false → IsLeftOut lint style ignored ignores d
+pub left_out : (lint style : Bool) (ignored : List Text) (ignores : List Ignore) (d : DiagnosticValue) → is_reported lint style ignored ignores d ≡ false → IsLeftOut lint style ignored ignores d
 left_out lint style ignored ignores d e = silent (one_fails (wanted && not known) (not (is_silenced ignores d)) e)
   where
     known : Bool
@@ -96,12 +96,12 @@ left_out lint style ignored ignores d e = silent (one_fails (wanted && not known
 
     named : (wanted ≡ false) ⊎ (not known ≡ false) → IsLeftOut lint style ignored ignores d
     named (inl h) = unwanted (one_fails linted styled h)
-    named (inr h) = inr (inr (inl (among ignored (code_of d.remark) (turned known h))))
+    named (inr h) = inr (inr (inl (among ignored (code_of d.remark) (reversed known h))))
 
     silent : ((wanted && not known) ≡ false) ⊎ (not (is_silenced ignores d) ≡ false) → IsLeftOut lint style ignored ignores d
     silent (inl h) = named (one_fails wanted (not known) h)
     silent (inr h) =
-        let one = one_passes (λ i. silences i d) ignores (turned (is_silenced ignores d) h) in
+        let one = one_passes (λ i. silences i d) ignores (reversed (is_silenced ignores d) h) in
         inr (inr (inr (one.0, (one.1.0, is_silencing one.0 d one.1.1))))
 
 lint_kept : (linted lint : Bool) → lint ≡ false → linted ≡ true → (not linted || lint) ≡ true → ⊥
@@ -119,8 +119,8 @@ not_kept true e k = cc
 not_kept false e k = cc
 
 -- what is reported is not left out
-pub told_is_kept : (lint style : Bool) (ignored : List Text) (ignores : List Ignore) (d : DiagnosticValue) → is_told lint style ignored ignores d ≡ true → IsLeftOut lint style ignored ignores d → ⊥
-told_is_kept lint style ignored ignores d e = by
+pub reported_is_kept : (lint style : Bool) (ignored : List Text) (ignores : List Ignore) (d : DiagnosticValue) → is_reported lint style ignored ignores d ≡ true → IsLeftOut lint style ignored ignores d → ⊥
+reported_is_kept lint style ignored ignores d e = by
   where
     linted : Bool
     linted = not (is_lint d.remark) || lint
@@ -161,7 +161,7 @@ known : (i : Ignore) → is_unknown i.scope i.code ≡ false → IsUnknown i →
 known i e = by i.scope refl e
   where
     some_remark : not (is_code i.code) ≡ false → ((remark : Remark) → is_found remark ≡ true → code_of remark ≡ i.code → ⊥) → ⊥
-    some_remark k none = let named = is_named i.code (turned (is_code i.code) k) in none named.0 named.1.0 named.1.1
+    some_remark k none = let named = is_named i.code (reversed (is_code i.code) k) in none named.0 named.1.0 named.1.1
 
     by : (scope : Scope) → i.scope ≡ scope → is_unknown scope i.code ≡ false → IsUnknown i → ⊥
     by File h k (inl x) = cc

@@ -9,7 +9,7 @@ use Rattle.engine_formats.specs.Diagnostics.{DiagnosticValue}
 use Rattle.engine_formats.specs.Remarks.{code_of}
 use Rattle.engine_checks.specs.Ignores.{Ignore}
 use Rattle.engine_checks.specs.Tables.{are_silencing, has_code, has_code_at, has_code_in, is_code_at, is_file, is_in_file, is_met, is_next_at, next_line}
-use Rattle.engine_checks.specs.Told.{covers, is_silenced, silences}
+use Rattle.engine_checks.specs.Reported.{covers, is_silenced, silences}
 use Rattle.engine_checks.specs.declared.ignores.Scope.{Scope}
 use Rattle.engine_checks.specs.declared.ignores.Scope.TheVariants.{File, Next, Unread}
 
@@ -49,7 +49,7 @@ both_tables d (i ∷ ignores) =
     ∙ ap (λ b. b || (list_any (is_in_file (code_of d.remark)) ignores || list_any (is_next_at d.begins (code_of d.remark)) ignores)) (by_scope d.begins (code_of d.remark) i.code i.scope)
     ∙ ap (λ b. silences i d || b) (both_tables d ignores)
 
--- tables of what comments ask to ignore tell what these silence
+-- tables of what comments ask to ignore determine what the comments silence
 pub silencing : (in_file : List Text) (at_lines : List (ℕ × Text)) (ignores : List Ignore)
     → ((code : Text) → is_among in_file code ≡ list_any (is_in_file code) ignores)
     → ((line : ℕ) (code : Text) → has_code_at at_lines line code ≡ list_any (is_next_at line code) ignores)
@@ -67,7 +67,7 @@ none_any : {X : Type 0} (xs : List X) → list_any (λ x. false) xs ≡ false
 none_any [] = refl
 none_any (x ∷ xs) = none_any xs
 
--- tables of what was found tell whether a code silences any of it
+-- tables of what was found determine whether a code silences any of it
 pub met : (in_file : List Text) (at_lines : List (ℕ × Text)) (found : List DiagnosticValue)
     → ((code : Text) → is_among in_file code ≡ list_any (has_code code) found)
     → ((line : ℕ) (code : Text) → has_code_at at_lines line code ≡ list_any (has_code_in line code) found)

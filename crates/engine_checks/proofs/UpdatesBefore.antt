@@ -17,22 +17,22 @@ use Rattle.text_core.specs.declared.item.Item.{Item}
 use Rattle.hwdb_core.specs.Messages.{about_bare, about_early, about_match, about_pair, about_property, about_spelled, cut_messages}
 use Rattle.hwdb_core.specs.Paragraphs.{Cut}
 use Rattle.hwdb_core.specs.Properties.{pair_at, property_text}
-use Rattle.hwdb_core.specs.Sources.{cuts_of, entries_of, messages_of}
+use Rattle.hwdb_core.specs.Sources.{are_few, cuts_of, entries_of, messages_of}
 use Rattle.trie_core.specs.Image.{image}
-use Rattle.engine_ends.specs.Delivery.{Outcome}
+use Rattle.engine_ends.specs.Delivery.{RunOutcome}
 use Rattle.engine_ends.specs.declared.line.Format.TheVariants.{Plain}
 use Rattle.engine_ends.specs.declared.line.Line.{Line}
 use Rattle.engine_reports.specs.Checks.{is_style}
 use Rattle.engine_reports.specs.FilesRead.{files_read}
 use Rattle.engine_reports.specs.Messages.{message_lines}
-use Rattle.engine_reports.specs.Outcomes.{are_few, database_outcome, too_many_entries, update_outcome, update_status}
+use Rattle.engine_reports.specs.Outcomes.{database_outcome, too_many_entries, update_outcome, update_status}
 use Rattle.engine_formats.specs.Diagnostics.{DiagnosticValue}
 use Rattle.engine_formats.specs.Formats.{formatted}
-use Rattle.engine_formats.specs.Made.{AreMadeOf}
+use Rattle.engine_formats.specs.Made.{AreMadeFrom}
 use Rattle.engine_formats.specs.Placing.{placed}
-use Rattle.engine_checks.specs.Files.{database_diagnostic, database_found, database_told, file_text, ignored_by, ignores_counted}
-use Rattle.engine_checks.specs.Outcomes.{database_checks, entries_said, told_update_outcome}
-use Rattle.engine_checks.specs.Told.{FileText, file_told, is_told}
+use Rattle.engine_checks.specs.Files.{database_diagnostic, database_found, database_reported, file_text, ignored_by, ignores_counted}
+use Rattle.engine_checks.specs.Outcomes.{database_checks, entries_said, reported_update_outcome}
+use Rattle.engine_checks.specs.Reported.{FileText, file_reported, is_reported}
 use Rattle.engine_checks.proofs.AsBefore.{all_but_style, both_made}
 
 -- A message of a database has the name of its file, and is not about style.
@@ -50,13 +50,13 @@ module _ (name : Text) where
   early : (ls : List NumberedLine) → AreOf (map (about_early name) ls)
   early ls = All-map (IsOf name) (about_early name) ls (λ k d h. record { file = refl; style = refl })
 
-  first_told : (kind : MessageKind) → is_style kind ≡ false → (ls : List NumberedLine) → AreOf (map (λ l. message name l.number kind l.text) (take 1 ls))
-  first_told kind e ls = All-map (IsOf name) (λ l. message name l.number kind l.text) (take 1 ls) (λ k d h. record { file = refl; style = e })
+  first_reported : (kind : MessageKind) → is_style kind ≡ false → (ls : List NumberedLine) → AreOf (map (λ l. message name l.number kind l.text) (take 1 ls))
+  first_reported kind e ls = All-map (IsOf name) (λ l. message name l.number kind l.text) (take 1 ls) (λ k d h. record { file = refl; style = e })
 
   bare : (matches properties : List NumberedLine) → AreOf (about_bare name matches properties)
   bare matches properties = by_test (length properties == 0) where
     by_test : (v : Bool) → AreOf (cond v (map (λ l. message name l.number MatchWithoutProperty l.text) (take 1 matches)) [])
-    by_test true = first_told MatchWithoutProperty refl matches
+    by_test true = first_reported MatchWithoutProperty refl matches
     by_test false = All-nil (IsOf name)
 
   spelled : (l : NumberedLine) (r : Result (List Item) GlobFault) → AreOf (about_spelled name l r)
@@ -71,8 +71,8 @@ module _ (name : Text) where
     by_test false = All-nil (IsOf name)
 
   each : (f : NumberedLine → List Message) → ((l : NumberedLine) → AreOf (f l)) → (ls : List NumberedLine) → AreOf (flat_map f ls)
-  each f told [] = All-nil (IsOf name)
-  each f told (l ∷ ls) = All-append (IsOf name) (f l) (flat_map f ls) (told l) (each f told ls)
+  each f reported [] = All-nil (IsOf name)
+  each f reported (l ∷ ls) = All-append (IsOf name) (f l) (flat_map f ls) (reported l) (each f reported ls)
 
   of_cut : (c : Cut) → AreOf (cut_messages name c)
   of_cut c =
@@ -80,7 +80,7 @@ module _ (name : Text) where
       (All-append (IsOf name) (about_bare name c.matches c.properties) _ (bare c.matches c.properties)
       (All-append (IsOf name) (flat_map (about_match name) c.matches) _ (each (about_match name) (λ l. spelled l (spell l.text)) c.matches)
       (All-append (IsOf name) (flat_map (about_property name) c.properties) _ (each (about_property name) (λ l. paired l (position (λ b. b == equals) (property_text l))) c.properties)
-      (first_told UnindentedLine refl c.rest))))
+      (first_reported UnindentedLine refl c.rest))))
 
   of_cuts : (cs : List Cut) → AreOf (flat_map (cut_messages name) cs)
   of_cuts [] = All-nil (IsOf name)
@@ -90,7 +90,7 @@ all_of : (file : SourceFile) → All (IsOf file.name) (messages_of (file ∷ [])
 all_of file = All-append (IsOf file.name) (flat_map (cut_messages file.name) (cuts_of file)) [] (of_cuts file.name (cuts_of file)) (All-nil (IsOf file.name))
 
 -- the diagnostics of messages are made of these
-all_made : (file : FileText) (ms : List Message) → All (IsOf file.name) ms → All (λ m. word_of (placed file.lines m).word ≡ m.word) ms → AreMadeOf ms (map (database_diagnostic file) ms)
+all_made : (file : FileText) (ms : List Message) → All (IsOf file.name) ms → All (λ m. word_of (placed file.lines m).word ≡ m.word) ms → AreMadeFrom ms (map (database_diagnostic file) ms)
 all_made file [] h k = tt
 all_made file (m ∷ ms) h k =
     let first : IsOf file.name m = All-head (IsOf file.name) m ms h in (
@@ -99,62 +99,62 @@ all_made file (m ∷ ms) h k =
     )
 
 -- without comments and codes all of them are reported
-all_told : (lint style : Bool) (file : FileText) (ms : List Message) → All (IsOf file.name) ms → filter (is_told lint style [] []) (map (database_diagnostic file) ms) ≡ map (database_diagnostic file) ms
-all_told lint style file [] h = refl
-all_told lint style file (m ∷ ms) h = by style (all_told lint style file ms (All-tail (IsOf file.name) m ms h))
+all_reported : (lint style : Bool) (file : FileText) (ms : List Message) → All (IsOf file.name) ms → filter (is_reported lint style [] []) (map (database_diagnostic file) ms) ≡ map (database_diagnostic file) ms
+all_reported lint style file [] h = refl
+all_reported lint style file (m ∷ ms) h = by style (all_reported lint style file ms (All-tail (IsOf file.name) m ms h))
   where
     rest : List DiagnosticValue
     rest = map (database_diagnostic file) ms
 
-    by : (s : Bool) → filter (is_told lint s [] []) rest ≡ rest → filter (is_told lint s [] []) (database_diagnostic file m ∷ rest) ≡ database_diagnostic file m ∷ rest
+    by : (s : Bool) → filter (is_reported lint s [] []) rest ≡ rest → filter (is_reported lint s [] []) (database_diagnostic file m ∷ rest) ≡ database_diagnostic file m ∷ rest
     by true more = ap (λ ds. database_diagnostic file m ∷ ds) more
     by false more =
-        ap (λ b. cond ((not b && true) && true) (database_diagnostic file m ∷ filter (is_told lint false [] []) rest) (filter (is_told lint false [] []) rest)) (All-head (IsOf file.name) m ms h).style
+        ap (λ b. cond ((not b && true) && true) (database_diagnostic file m ∷ filter (is_reported lint false [] []) rest) (filter (is_reported lint false [] []) rest)) (All-head (IsOf file.name) m ms h).style
         ∙ ap (λ ds. database_diagnostic file m ∷ ds) more
 
 -- what is known of the words of messages
 abbrev pub KeepsWords : SourceFile → Type 0
 KeepsWords file = length (lines file.bytes) < 2 ^ 32 → All (λ m. word_of (placed (numbered_lines file.bytes) m).word ≡ m.word) (messages_of (file ∷ []))
 
-file_made : (line : Line) (file : SourceFile) → KeepsWords file → ignored_by line ≡ [] → length (lines file.bytes) < 2 ^ 32 → AreMadeOf (messages_of (file ∷ [])) (database_told line file)
-unfolding database_told
+file_made : (line : Line) (file : SourceFile) → KeepsWords file → ignored_by line ≡ [] → length (lines file.bytes) < 2 ^ 32 → AreMadeFrom (messages_of (file ∷ [])) (database_reported line file)
+unfolding database_reported
 file_made line file kept none few =
-    subst (λ ds. AreMadeOf (messages_of (file ∷ [])) ds)
+    subst (λ ds. AreMadeFrom (messages_of (file ∷ [])) ds)
     (sym
-    (ap (λ ignored. file_told line.lint line.style ignored (file_text line file) (ignores_counted line.profile ignored file) (database_found line file)) none
+    (ap (λ ignored. file_reported line.lint line.style ignored (file_text line file) (ignores_counted line.profile ignored file) (database_found line file)) none
     ∙ all_but_style line.lint line.style (file_text line file) (database_found line file)
-    ∙ all_told line.lint line.style (file_text line file) (messages_of (file ∷ [])) (all_of file)))
+    ∙ all_reported line.lint line.style (file_text line file) (messages_of (file ∷ [])) (all_of file)))
     (all_made (file_text line file) (messages_of (file ∷ [])) (all_of file) (kept few))
 
-files_made : (line : Line) (files : List SourceFile) → ((file : SourceFile) → KeepsWords file) → ignored_by line ≡ [] → All (λ f. length (lines f.bytes) < 2 ^ 32) files → AreMadeOf (messages_of files) (flat_map (database_told line) files)
+files_made : (line : Line) (files : List SourceFile) → ((file : SourceFile) → KeepsWords file) → ignored_by line ≡ [] → All (λ f. length (lines f.bytes) < 2 ^ 32) files → AreMadeFrom (messages_of files) (flat_map (database_reported line) files)
 files_made line [] kept none few = tt
 files_made line (file ∷ files) kept none few =
-    subst (λ ms. AreMadeOf (ms ++ messages_of files) (database_told line file ++ flat_map (database_told line) files)) (append-nil (flat_map (cut_messages file.name) (cuts_of file)))
-    (both_made (messages_of (file ∷ [])) (messages_of files) (database_told line file) (flat_map (database_told line) files)
+    subst (λ ms. AreMadeFrom (ms ++ messages_of files) (database_reported line file ++ flat_map (database_reported line) files)) (append-nil (flat_map (cut_messages file.name) (cuts_of file)))
+    (both_made (messages_of (file ∷ [])) (messages_of files) (database_reported line file) (flat_map (database_reported line) files)
     (file_made line file (kept file) none (All-head (λ f. length (lines f.bytes) < 2 ^ 32) file files few))
     (files_made line files kept none (All-tail (λ f. length (lines f.bytes) < 2 ^ 32) file files few)))
 
-as_many : (ms : List Message) (ds : List DiagnosticValue) → AreMadeOf ms ds → length ds ≡ length ms
+as_many : (ms : List Message) (ds : List DiagnosticValue) → AreMadeFrom ms ds → length ds ≡ length ms
 as_many [] [] made = refl
 as_many [] (d ∷ ds) made = absurd made
 as_many (m ∷ ms) [] made = absurd made
 as_many (m ∷ ms) (d ∷ ds) made = ap suc (as_many ms ds made.1)
 
-module _ (plainly : (ms : List Message) (ds : List DiagnosticValue) → AreMadeOf ms ds → formatted Plain ds ≡ message_lines ms) (kept : (file : SourceFile) → KeepsWords file) where
-  same_said : (line : Line) (files : List SourceFile) (ds : List DiagnosticValue) → line.format ≡ Plain → AreMadeOf (messages_of files) ds
+module _ (plainly : (ms : List Message) (ds : List DiagnosticValue) → AreMadeFrom ms ds → formatted Plain ds ≡ message_lines ms) (kept : (file : SourceFile) → KeepsWords file) where
+  same_said : (line : Line) (files : List SourceFile) (ds : List DiagnosticValue) → line.format ≡ Plain → AreMadeFrom (messages_of files) ds
       → entries_said line ds (entries_of files) (messages_of files) ≡ update_outcome line (entries_of files) (messages_of files)
   same_said line files ds format made =
       let text : formatted line.format ds ≡ message_lines (messages_of files) = ap (λ f. formatted f ds) format ∙ plainly (messages_of files) ds made in
-      let said : Text → ℕ → Outcome = λ (t : Text) (n : ℕ). record { output = image (entries_of files); messages = t; status = update_status line.strict n } in
+      let said : Text → ℕ → RunOutcome = λ (t : Text) (n : ℕ). record { output = image (entries_of files); messages = t; status = update_status line.strict n } in
       ap (λ t. said t (length ds)) text ∙ ap (said (message_lines (messages_of files))) (as_many (messages_of files) ds made)
 
   same_database : (line : Line) (files : List SourceFile) → line.format ≡ Plain → ignored_by line ≡ [] → All (λ f. length (lines f.bytes) < 2 ^ 32) files
       → database_checks line files ≡ database_outcome (update_outcome line) files
   unfolding database_checks database_outcome
   same_database line files format none few =
-      ap (λ o. cond (are_few files) o too_many_entries) (same_said line files (flat_map (database_told line) files) format (files_made line files kept none few))
+      ap (λ o. cond (are_few files) o too_many_entries) (same_said line files (flat_map (database_reported line) files) format (files_made line files kept none few))
 
   -- what `update` says is as before
   pub updates_as_before : (line : Line) (files : List SourceFile) → line.format ≡ Plain → ignored_by line ≡ [] → All (λ f. length (lines f.bytes) < 2 ^ 32) (files_read Hwdb line files)
-      → told_update_outcome line files ≡ database_outcome (update_outcome line) (files_read Hwdb line files)
+      → reported_update_outcome line files ≡ database_outcome (update_outcome line) (files_read Hwdb line files)
   updates_as_before line files format none few = same_database line (files_read Hwdb line files) format none few

@@ -20,7 +20,7 @@ use Rattle.engine_formats.specs.Placing.{line_numbered, placed}
 use Rattle.engine_formats.specs.declared.remark.Remark.TheVariants as about
 use Rattle.engine_checks.specs.Codes.{has_comments}
 use Rattle.engine_checks.specs.Ignores.{Ignore, ignores_in}
-use Rattle.engine_checks.specs.Told.{FileText, by_line, file_told}
+use Rattle.engine_checks.specs.Reported.{FileText, by_line, file_reported}
 
 -- a file that a command line reads, as diagnostics show it
 abbrev pub file_text : Line → SourceFile → FileText
@@ -106,13 +106,13 @@ abbrev pub ignores_counted : Profile → List Text → SourceFile → List Ignor
 ignores_counted profile ignored file = if has_comments ignored then ignores_in profile file else []
 
 -- what is reported for what was found in a file
-abbrev pub told_of : Line → SourceFile → List DiagnosticValue → List DiagnosticValue
-told_of line file found = file_told line.lint line.style (ignored_by line) (file_text line file) (ignores_counted line.profile (ignored_by line) file) found
+abbrev pub reported_for : Line → SourceFile → List DiagnosticValue → List DiagnosticValue
+reported_for line file found = file_reported line.lint line.style (ignored_by line) (file_text line file) (ignores_counted line.profile (ignored_by line) file) found
 
 -- what is reported for a rules file
-unfoldable pub rules_told : Line → SourceFile → List DiagnosticValue
-rules_told line file = told_of line file (rules_found line file)
+unfoldable pub rules_reported : Line → SourceFile → List DiagnosticValue
+rules_reported line file = reported_for line file (rules_found line file)
 
 -- what is reported for a file of a database, which has no lints and no messages about style
-unfoldable pub database_told : Line → SourceFile → List DiagnosticValue
-database_told line file = told_of line file (database_found line file)
+unfoldable pub database_reported : Line → SourceFile → List DiagnosticValue
+database_reported line file = reported_for line file (database_found line file)

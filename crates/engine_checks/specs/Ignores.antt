@@ -1,16 +1,16 @@
 -- The codes that comments in a file ask to ignore.
-use Rattle.std.specs.Prelude.{ℕ, ◌+◌, ◌-◌, not, ◌==◌, nat_lt, if◌then◌else◌, List, [], ◌∷◌, ◌++◌, length, take, drop, map, filter, find, flat_map, codes, Option, Some, None, option_to_list}
+use Rattle.std.specs.Prelude.{ℕ, ◌+◌, ◌-◌, not, ◌==◌, nat_lt, List, [], ◌∷◌, ◌++◌, length, map, filter, find, flat_map, codes, Option, Some, None, option_to_list}
 use Rattle.std.specs.List.{slice_split}
 use Rattle.text_bytes.specs.Lines.{NumberedLine, numbered_lines}
 use Rattle.text_bytes.specs.Messages.{capped}
 use Rattle.text_bytes.specs.Names.{comma}
-use Rattle.text_bytes.specs.Texts.{unindented}
+use Rattle.text_bytes.specs.Texts.{following, trimmed, unindented}
 use Rattle.text_bytes.specs.declared.profile.Profile.{Profile}
 use Rattle.text_bytes.specs.declared.source_file.FileKind.{FileKind}
 use Rattle.text_bytes.specs.declared.source_file.FileKind.TheVariants.{Hwdb, Rules}
 use Rattle.text_bytes.specs.declared.source_file.SourceFile.{SourceFile}
-use Rattle.text_tables.specs.Texts.{Text, same_text}
-use Rattle.hwdb_core.specs.Lines.{is_comment, trimmed}
+use Rattle.text_tables.specs.Texts.{Text}
+use Rattle.hwdb_core.specs.Lines.{is_comment}
 use Rattle.rule_core.specs.Lines.{joined_lines}
 use Rattle.engine_checks.specs.declared.ignores.Scope.{Scope}
 use Rattle.engine_checks.specs.declared.ignores.Scope.TheVariants.{File, Next, Unread}
@@ -23,10 +23,6 @@ pub record Ignore : Type 0 where
   pub scope : Scope
   pub code : Text
 
--- what follows the front of a text, if it begins with that
-abbrev pub behind : Text → Text → Option Text
-behind front text = if same_text (take (length front) text) front then Some (drop (length front) text) else None
-
 -- what a comment is about and its codes, by what follows ` ignore ` or else after ` ignore-file `, and else the text that is not understood
 abbrev pub asked_or : Option ℕ → Option Text → Option Text → Text → Scope × Text
 asked_or next (Some list) in_file text = (Next next, list)
@@ -35,7 +31,7 @@ asked_or next None None text = (Unread, unindented text)
 
 -- what a comment asks for by what follows `# devdry:`
 abbrev pub asked_by : Option ℕ → Text → Scope × Text
-asked_by next text = asked_or next (behind (codes " ignore ") text) (behind (codes " ignore-file ") text) text
+asked_by next text = asked_or next (following (codes " ignore ") text) (following (codes " ignore-file ") text) text
 
 -- the codes of a list, cut at its commas; what is not understood is one text
 abbrev pub texts_of : Scope → Text → List Text
@@ -78,17 +74,17 @@ comment_of Rules text = unindented text
 comment_of Hwdb text = text
 
 -- the codes of a comment that begins with `# devdry:`
-abbrev pub ignores_behind : NumberedLine → Option ℕ → Option Text → List Ignore
-ignores_behind l next None = []
-ignores_behind l next (Some text) = ignores_asked l (asked_by next text)
+abbrev pub ignores_after : NumberedLine → Option ℕ → Option Text → List Ignore
+ignores_after l next None = []
+ignores_after l next (Some text) = ignores_asked l (asked_by next text)
 
 -- the codes in a line, which comments on the next rule are about
 abbrev pub ignores_of_line : FileKind → Option ℕ → NumberedLine → List Ignore
-ignores_of_line kind next l = ignores_behind l next (behind (codes "# devdry:") (comment_of kind l.text))
+ignores_of_line kind next l = ignores_after l next (following (codes "# devdry:") (comment_of kind l.text))
 
 -- the first line after another one, by the numbers of lines
-abbrev pub next_behind : List ℕ → ℕ → Option ℕ
-next_behind starts line = find (nat_lt line) starts
+abbrev pub next_after : List ℕ → ℕ → Option ℕ
+next_after starts line = find (nat_lt line) starts
 
 -- the lines whose numbers rules have, also the one that is open at the end of the file; in a database the lines that
 -- are not comments
@@ -98,7 +94,7 @@ starts_of profile Hwdb bytes = map (λ l. capped l.number) (filter (λ l. not (i
 
 -- the codes in lines, where each comment on the next rule is about the first of these starts after it
 abbrev pub ignores_among : FileKind → List ℕ → List NumberedLine → List Ignore
-ignores_among kind starts lines = flat_map (λ l. ignores_of_line kind (next_behind starts (capped l.number)) l) lines
+ignores_among kind starts lines = flat_map (λ l. ignores_of_line kind (next_after starts (capped l.number)) l) lines
 
 -- the codes that comments in a file ask to ignore, in the order of their places
 unfoldable pub ignores_in : Profile → SourceFile → List Ignore

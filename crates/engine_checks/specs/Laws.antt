@@ -1,10 +1,9 @@
 -- What is left out, what is said about codes in comments, and where these are.
 use Rattle.std.specs.Prelude.{◌≡◌, ◌⊎◌, ◌<◌, ◌≤◌, ◌-◌, ℕ, Bool, true, false, List, ◌∷◌, ◌++◌, filter, map, not, take, drop, All, Contains, Option, Some, None}
 use Rattle.text_bytes.specs.Lines.{numbered_lines}
-use Rattle.text_bytes.specs.Texts.{unindented}
+use Rattle.text_bytes.specs.Texts.{trimmed, unindented}
 use Rattle.text_bytes.specs.declared.source_file.SourceFile.{SourceFile}
 use Rattle.text_tables.specs.Texts.{Text}
-use Rattle.hwdb_core.specs.Lines.{trimmed}
 use Rattle.rule_lints.specs.FileLints.{placed_lints}
 use Rattle.engine_ends.specs.declared.line.Line.{Line}
 use Rattle.engine_formats.specs.Diagnostics.{DiagnosticValue}
@@ -15,16 +14,16 @@ use Rattle.engine_formats.specs.declared.remark.Remark.TheVariants.{Message, Lin
 use Rattle.engine_checks.specs.Codes.{is_found}
 use Rattle.engine_checks.specs.Files.{file_text, findings_of, lint_diagnostic, rule_diagnostic}
 use Rattle.engine_checks.specs.Ignores.{Ignore}
-use Rattle.engine_checks.specs.Told.{is_about_style, is_lint}
+use Rattle.engine_checks.specs.Reported.{is_about_style, is_lint}
 use Rattle.engine_checks.specs.declared.ignores.Scope.TheVariants.{File, Next, Unread}
 
 -- what is about the file among diagnostics, messages and lints, in their order
 abbrev pub found_among : List DiagnosticValue → List DiagnosticValue
-found_among told = filter (λ d. is_found d.remark) told
+found_among reported = filter (λ d. is_found d.remark) reported
 
 -- the remarks on comments among diagnostics, in their order
 abbrev pub remarks_among : List DiagnosticValue → List DiagnosticValue
-remarks_among told = filter (λ d. not (is_found d.remark)) told
+remarks_among reported = filter (λ d. not (is_found d.remark)) reported
 
 -- whether a remark is a message
 abbrev pub is_message : Remark → Bool
@@ -35,11 +34,11 @@ is_message UnknownCode = false
 
 -- the messages among diagnostics, in their order
 abbrev pub messages_among : List DiagnosticValue → List DiagnosticValue
-messages_among told = filter (λ d. is_message d.remark) told
+messages_among reported = filter (λ d. is_message d.remark) reported
 
 -- the lints among diagnostics, in their order
 abbrev pub lints_among : List DiagnosticValue → List DiagnosticValue
-lints_among told = filter (λ d. is_lint d.remark) told
+lints_among reported = filter (λ d. is_lint d.remark) reported
 
 -- the messages about a rules file
 abbrev pub messages_in : Line → SourceFile → List DiagnosticValue
@@ -81,18 +80,18 @@ IsSaidOf found ignore (Some (Lint lint)) = ⊥
 
 -- A code in a comment is in the line with its number at its columns, without the blanks before it and the whitespace
 -- after it.
-pub record StandsInLine (bytes : List ℕ) (ignore : Ignore) : Type 0 where
+pub record IsInLine (bytes : List ℕ) (ignore : Ignore) : Type 0 where
   pub text : take (ignore.end - ignore.column) (drop (ignore.column - 1) (line_numbered (numbered_lines bytes) ignore.line)) ≡ ignore.code
   pub begins : 0 < ignore.column
-  pub front : unindented ignore.code ≡ ignore.code
+  pub prefix : unindented ignore.code ≡ ignore.code
   pub back : trimmed ignore.code ≡ ignore.code
 
--- A line is the first of these numbers after another one; it is none if no number is after that.
-abbrev pub IsFirstBehind : List ℕ → ℕ → Option ℕ → Type 0
-IsFirstBehind starts line None = All (λ start. start ≤ line) starts
-IsFirstBehind starts line (Some next) =
+-- A line is the first of these numbers after another one, and there is no line if no number is after that.
+abbrev pub IsFirstAfter : List ℕ → ℕ → Option ℕ → Type 0
+IsFirstAfter starts line None = All (λ start. start ≤ line) starts
+IsFirstAfter starts line (Some next) =
     (passed : List ℕ) × ((more : List ℕ) × ((starts ≡ passed ++ next ∷ more) × (All (λ start. start ≤ line) passed × (line < next))))
 
 -- A comment on the next rule is about the first of these lines after its own.
 abbrev pub IsAboutNext : List ℕ → Ignore → Type 0
-IsAboutNext starts ignore = (next : Option ℕ) → ignore.scope ≡ Next next → IsFirstBehind starts ignore.line next
+IsAboutNext starts ignore = (next : Option ℕ) → ignore.scope ≡ Next next → IsFirstAfter starts ignore.line next

@@ -1,6 +1,6 @@
 pub mod Codes
 pub mod Ignores
-pub mod Told
+pub mod Reported
 pub mod Files
 pub mod Outcomes
 pub mod Tables

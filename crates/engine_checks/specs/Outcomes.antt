@@ -10,54 +10,54 @@ use Rattle.rule_types.specs.Rules.{tokens_in}
 use Rattle.rule_core.specs.Ends.{file_as_read}
 use Rattle.rule_core.specs.Rules.{set_of_as}
 use Rattle.trie_core.specs.Image.{image}
-use Rattle.engine_ends.specs.Delivery.{Outcome}
+use Rattle.engine_ends.specs.Delivery.{RunOutcome}
 use Rattle.engine_ends.specs.declared.line.Line.{Line}
 use Rattle.engine_reports.specs.Checks.{summary_line, verify_status}
 use Rattle.engine_reports.specs.FilesRead.{files_read}
 use Rattle.engine_reports.specs.Outcomes.{database_outcome, too_many_rules, update_status}
 use Rattle.engine_formats.specs.Diagnostics.{DiagnosticValue}
 use Rattle.engine_formats.specs.Formats.{formatted}
-use Rattle.engine_checks.specs.Files.{database_told, rules_told}
+use Rattle.engine_checks.specs.Files.{database_reported, rules_reported}
 
 -- whether one of the diagnostics has a name
 abbrev pub is_named_in : List DiagnosticValue → Text → Bool
-is_named_in told name = list_any (λ d. same_text name d.name) told
+is_named_in reported name = list_any (λ d. same_text name d.name) reported
 
 -- how many of the files are bad: something is reported under their name
 abbrev pub bad_count : List SourceFile → List DiagnosticValue → ℕ
-bad_count files told = count_by (λ f. is_named_in told f.name) files
+bad_count files reported = count_by (λ f. is_named_in reported f.name) files
 
 -- what is said about files and what is reported for them
-abbrev pub checks_said : Line → List SourceFile → List DiagnosticValue → Outcome
-checks_said line files told = record {
-  output = if line.summary then summary_line (length files) (bad_count files told) else [];
-  messages = formatted line.format told;
-  status = verify_status (bad_count files told);
+abbrev pub checks_said : Line → List SourceFile → List DiagnosticValue → RunOutcome
+checks_said line files reported = record {
+  output = if line.summary then summary_line (length files) (bad_count files reported) else [];
+  messages = formatted line.format reported;
+  status = verify_status (bad_count files reported);
 }
 
 -- what `verify` says about rules files
-unfoldable pub rules_checks : Line → List SourceFile → Outcome
+unfoldable pub rules_checks : Line → List SourceFile → RunOutcome
 rules_checks line files =
-    if nat_le (tokens_in (set_of_as line.profile files).rules) (2 ^ 24) then checks_said line files (flat_map (rules_told line) files)
+    if nat_le (tokens_in (set_of_as line.profile files).rules) (2 ^ 24) then checks_said line files (flat_map (rules_reported line) files)
     else too_many_rules
 
 -- what `verify` says about the files passed in, whose ends of lines are read as the profile has them
-abbrev pub checks_outcome : Line → List SourceFile → Outcome
+abbrev pub checks_outcome : Line → List SourceFile → RunOutcome
 checks_outcome line files = rules_checks line (map (file_as_read line.profile) (files_read Rules line files))
 
 -- what `update` says about the entries of the database and the text of so many diagnostics: the entries as an index
-abbrev pub updated_by : Line → Text → ℕ → List Entry → Outcome
+abbrev pub updated_by : Line → Text → ℕ → List Entry → RunOutcome
 updated_by line text count entries = record { output = image entries; messages = text; status = update_status line.strict count }
 
 -- what `update` says about the entries and what is reported for the files; the messages of the database are among
 -- what is reported
-abbrev pub entries_said : Line → List DiagnosticValue → List Entry → List Message → Outcome
-entries_said line told entries messages = updated_by line (formatted line.format told) (length told) entries
+abbrev pub entries_said : Line → List DiagnosticValue → List Entry → List Message → RunOutcome
+entries_said line reported entries messages = updated_by line (formatted line.format reported) (length reported) entries
 
 -- what `update` says about files of a database
-unfoldable pub database_checks : Line → List SourceFile → Outcome
-database_checks line files = database_outcome (entries_said line (flat_map (database_told line) files)) files
+unfoldable pub database_checks : Line → List SourceFile → RunOutcome
+database_checks line files = database_outcome (entries_said line (flat_map (database_reported line) files)) files
 
 -- what `update` says about the files passed in
-abbrev pub told_update_outcome : Line → List SourceFile → Outcome
-told_update_outcome line files = database_checks line (files_read Hwdb line files)
+abbrev pub reported_update_outcome : Line → List SourceFile → RunOutcome
+reported_update_outcome line files = database_checks line (files_read Hwdb line files)

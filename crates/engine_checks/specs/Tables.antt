@@ -15,7 +15,7 @@ use Rattle.rule_remarks.specs.Findings.{findings_as}
 use Rattle.engine_ends.specs.declared.line.Line.{Line}
 use Rattle.engine_checks.specs.Ignores.{Ignore, ignores_in}
 use Rattle.engine_checks.specs.Files.{database_diagnostic, file_text, found_with, lints_counted}
-use Rattle.engine_checks.specs.Told.{FileText, file_told, is_asked, is_unknown}
+use Rattle.engine_checks.specs.Reported.{FileText, file_reported, is_asked, is_unknown}
 use Rattle.engine_checks.specs.declared.ignores.Scope.{Scope}
 use Rattle.engine_checks.specs.declared.ignores.Scope.TheVariants.{File, Next, Unread}
 
@@ -71,8 +71,8 @@ remark_by found at_lines ignore =
     else Some IdleIgnore
 
 -- whether a diagnostic is reported, by tables of what is ignored
-abbrev pub is_told_by : Bool → Bool → List Text → List Text → List (ℕ × Text) → DiagnosticValue → Bool
-is_told_by lint style ignored in_file at_lines d = is_asked lint style ignored d.remark && not (are_silencing in_file at_lines d)
+abbrev pub is_reported_by : Bool → Bool → List Text → List Text → List (ℕ × Text) → DiagnosticValue → Bool
+is_reported_by lint style ignored in_file at_lines d = is_asked lint style ignored d.remark && not (are_silencing in_file at_lines d)
 
 -- a file that is read for its checks: as diagnostics show it, and with the codes in its comments
 pub record FileRead : Type 0 where
@@ -90,10 +90,10 @@ rules_found_by profile accounts lint ignored read =
     found_with read.text (findings_as profile accounts read.file) (lints_counted profile lint ignored read.file)
 
 -- what is reported for a rules file that is read
-abbrev pub rules_told_by : Profile → Accounts → Bool → Bool → List Text → FileRead → List DiagnosticValue
-rules_told_by profile accounts lint style ignored read =
-    file_told lint style ignored read.text read.ignores (rules_found_by profile accounts lint ignored read)
+abbrev pub rules_reported_by : Profile → Accounts → Bool → Bool → List Text → FileRead → List DiagnosticValue
+rules_reported_by profile accounts lint style ignored read =
+    file_reported lint style ignored read.text read.ignores (rules_found_by profile accounts lint ignored read)
 
 -- what is reported for a file of a database that is read
-abbrev pub database_told_by : Bool → Bool → List Text → FileRead → List DiagnosticValue
-database_told_by lint style ignored read = file_told lint style ignored read.text read.ignores (map (database_diagnostic read.text) (messages_of (read.file ∷ [])))
+abbrev pub database_reported_by : Bool → Bool → List Text → FileRead → List DiagnosticValue
+database_reported_by lint style ignored read = file_reported lint style ignored read.text read.ignores (map (database_diagnostic read.text) (messages_of (read.file ∷ [])))

@@ -5,7 +5,7 @@ ghost use Rattle.engine_checks.specs.Codes.{has_comments};
 ghost use Rattle.engine_checks.specs.Files.{accounts_by, ignored_by};
 ghost use Rattle.rule_remarks.specs.AccountLines.{accounts_of};
 
-use crate::told::Asked;
+use crate::reported::Asked;
 use engine_ends::{AccountFile, Line};
 use rule_pairs::{Account, AccountKind, Accounts};
 use rule_remarks::read_accounts;

@@ -3,14 +3,14 @@ ghost use Rattle.std.specs.Prelude.{◌≡◌, ◌≤◌, nat_lt, length, map, I
 ghost use Rattle.std.specs.List.{prefix_len, take_while};
 ghost use Rattle.text_bytes.specs.Texts.{skip_while};
 ghost use Rattle.engine_formats.specs.Diagnostics.{shown};
-ghost use Rattle.engine_checks.specs.Told.{by_line};
+ghost use Rattle.engine_checks.specs.Reported.{by_line};
 
-use crate::lent::{Lent, push_lent};
+use crate::borrowed::{Borrowed, push_borrowed};
 use engine_formats::Diagnostic;
 use std::alloc::{AllocError, Global};
 
 /// How many of others at the front are reported for lines before one.
-fn count_before(others: &[Lent<'_, '_>], line: u32) -> usize
+fn count_before(others: &[Borrowed<'_, '_>], line: u32) -> usize
     ensures value { result ≡ prefix_len (λ o. nat_lt o.begins line) others.now }
     ensures within { result ≤ length others.now }
 {
@@ -21,7 +21,7 @@ fn count_before(others: &[Lent<'_, '_>], line: u32) -> usize
 }
 
 /// The others at the front that are reported for lines before one.
-fn before<'s, 'r, 'w>(others: &'s [Lent<'r, 'w>], line: u32) -> &'s [Lent<'r, 'w>]
+fn before<'s, 'r, 'w>(others: &'s [Borrowed<'r, 'w>], line: u32) -> &'s [Borrowed<'r, 'w>]
     ensures { result.now ≡ take_while (λ o. nat_lt o.begins line) others.now }
 {
     let (before, _) = others.split_at(count_before(others, line));
@@ -29,11 +29,11 @@ fn before<'s, 'r, 'w>(others: &'s [Lent<'r, 'w>], line: u32) -> &'s [Lent<'r, 'w
 }
 
 /// The others after these.
-fn behind<'s, 'r, 'w>(others: &'s [Lent<'r, 'w>], line: u32) -> &'s [Lent<'r, 'w>]
+fn following<'s, 'r, 'w>(others: &'s [Borrowed<'r, 'w>], line: u32) -> &'s [Borrowed<'r, 'w>]
     ensures { result.now ≡ skip_while (λ o. nat_lt o.begins line) others.now }
 {
-    let (_, behind) = others.split_at(count_before(others, line));
-    behind
+    let (_, following) = others.split_at(count_before(others, line));
+    following
 }
 
 /// Diagnostics with others merged in by line: each of the others comes after all diagnostics for its line or for
@@ -41,18 +41,18 @@ fn behind<'s, 'r, 'w>(others: &'s [Lent<'r, 'w>], line: u32) -> &'s [Lent<'r, 'w
 pub(crate) fn by_line<'r>(
     alloc: Global,
     found: Vec<Diagnostic<'r>>,
-    others: &[Lent<'r, '_>],
+    others: &[Borrowed<'r, '_>],
 ) -> Result<Vec<Diagnostic<'r>>, AllocError>
-    ensures { IfOk result (λ told. map shown told.items ≡ by_line (map shown found.entry.items) others.now) }
+    ensures { IfOk result (λ reported. map shown reported.items ≡ by_line (map shown found.entry.items) others.now) }
 {
-    let mut told = Vec::new(alloc);
+    let mut reported = Vec::new(alloc);
     let mut rest = others;
     for diagnostic in found {
         let line = diagnostic.begins;
-        push_lent(alloc, &mut told, before(rest, line))?;
-        told.push(diagnostic)?;
-        rest = behind(rest, line);
+        push_borrowed(alloc, &mut reported, before(rest, line))?;
+        reported.push(diagnostic)?;
+        rest = following(rest, line);
     }
-    push_lent(alloc, &mut told, rest)?;
-    Ok(told)
+    push_borrowed(alloc, &mut reported, rest)?;
+    Ok(reported)
 }

@@ -3,13 +3,13 @@ ghost use Rattle.std.specs.Prelude.{◌≡◌, ◌<◌, flat_map, map, IfOk, IfE
 ghost use Rattle.engine_formats.specs.Diagnostics.{shown};
 ghost use Rattle.engine_reports.specs.Checks.{verify_status};
 ghost use Rattle.engine_reports.specs.Reports.{IsSaid, said};
-ghost use Rattle.engine_checks.specs.Files.{rules_told};
+ghost use Rattle.engine_checks.specs.Files.{rules_reported};
 ghost use Rattle.engine_checks.specs.Outcomes.{checks_outcome, checks_said, rules_checks};
 
 use crate::asked::{asked_by, has_comments};
 use crate::counts::bad_count;
 use crate::reads::read_files;
-use crate::rules_told::rules_told;
+use crate::rules_reported::rules_reported;
 use engine_ends::Line;
 use engine_formats::{Diagnostic, formatted};
 use engine_reports::{Refusal, Report, counted, files_read};
@@ -51,29 +51,29 @@ fn report_on_these(alloc: Global, line: &Line<'_>, files: &[SourceFile]) -> Resu
 
 /// What is reported for the files.
 fn checked(alloc: Global, line: &Line<'_>, files: &[SourceFile]) -> Result<Report, AllocError>
-    ensures said { IfOk result (λ r. said r ≡ checks_said line.now files.now (flat_map (rules_told line.now) files.now)) }
+    ensures said { IfOk result (λ r. said r ≡ checks_said line.now files.now (flat_map (rules_reported line.now) files.now)) }
     ensures status { IfOk result (λ r. r.status < 3) }
 {
     let asked = asked_by(alloc, line)?;
     let reads = read_files(alloc, line, has_comments(&asked.ignored), files)?;
-    let told = rules_told(alloc, &asked, &reads)?;
-    report_on_told(alloc, line, files, &told)
+    let reported = rules_reported(alloc, &asked, &reads)?;
+    report_on_reported(alloc, line, files, &reported)
 }
 
 /// What is said about files and what is reported for them.
-fn report_on_told(
+fn report_on_reported(
     alloc: Global,
     line: &Line<'_>,
     files: &[SourceFile],
-    told: &[Diagnostic<'_>],
+    reported: &[Diagnostic<'_>],
 ) -> Result<Report, AllocError>
-    ensures said { IfOk result (λ r. said r ≡ checks_said line.now files.now (map shown told.now)) }
+    ensures said { IfOk result (λ r. said r ≡ checks_said line.now files.now (map shown reported.now)) }
     ensures status { IfOk result (λ r. r.status < 3) }
 {
-    let bad = bad_count(alloc, files, told)?;
+    let bad = bad_count(alloc, files, reported)?;
     Ok(Report {
         output: counted(alloc, line.summary, files.len(), bad)?,
-        messages: formatted(alloc, line.format, told)?,
+        messages: formatted(alloc, line.format, reported)?,
         status: verify_status(bad),
     })
 }

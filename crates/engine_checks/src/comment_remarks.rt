@@ -1,11 +1,11 @@
 //! What is to be said about the codes in comments of a file.
 ghost use Rattle.std.specs.Prelude.{◌≡◌, ◌++◌, filter_map, option_map, option_to_list, IfOk, OnOk};
 ghost use Rattle.engine_checks.specs.Tables.{remark_by};
-ghost use Rattle.engine_checks.specs.Told.{comment_diagnostic};
+ghost use Rattle.engine_checks.specs.Reported.{comment_diagnostic};
 
+use crate::borrowed::Borrowed;
 use crate::file_text::FileText;
 use crate::ignores::Ignore;
-use crate::lent::Lent;
 use crate::met::Met;
 use engine_formats::Remark;
 use std::alloc::{AllocError, Global};
@@ -15,10 +15,10 @@ fn comment_diagnostic<'r, 'a>(
     file: &'r FileText<'_>,
     ignore: &Ignore<'a>,
     remark: Remark,
-) -> Lent<'r, 'a>
+) -> Borrowed<'r, 'a>
     ensures { result ≡ comment_diagnostic file.now ignore.now remark }
 {
-    Lent {
+    Borrowed {
         name: file.name(),
         path: file.path(),
         source: file.line(ignore.line),
@@ -33,7 +33,7 @@ fn comment_diagnostic<'r, 'a>(
 
 /// Adds what is to be said about a code in a comment, if anything is.
 fn push_remark<'r, 'a>(
-    remarks: &mut Vec<Lent<'r, 'a>>,
+    remarks: &mut Vec<Borrowed<'r, 'a>>,
     file: &'r FileText<'_>,
     ignore: &Ignore<'a>,
     remark: Option<Remark>,
@@ -52,7 +52,7 @@ pub(crate) fn comment_remarks<'r, 'a>(
     file: &'r FileText<'_>,
     met: &Met,
     ignores: &[Ignore<'a>],
-) -> Result<Vec<Lent<'r, 'a>>, AllocError>
+) -> Result<Vec<Borrowed<'r, 'a>>, AllocError>
     ensures { IfOk result (λ remarks. remarks.items ≡ filter_map (λ i. option_map (comment_diagnostic file.now i) (remark_by met.now.in_file met.now.at_lines i)) ignores.now) }
 {
     let mut remarks = Vec::new(alloc);

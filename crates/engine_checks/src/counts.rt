@@ -11,11 +11,11 @@ use text_bytes::SourceFile;
 use text_tables::Texts;
 
 /// The names in diagnostics.
-fn names_in<'a>(alloc: Global, told: &[Diagnostic<'a>]) -> Result<Texts<'a>, AllocError>
-    ensures { IfOk result (λ names. (name : Text) → is_among names name ≡ is_named_in (map shown told.now) name) }
+fn names_in<'a>(alloc: Global, reported: &[Diagnostic<'a>]) -> Result<Texts<'a>, AllocError>
+    ensures { IfOk result (λ names. (name : Text) → is_among names name ≡ is_named_in (map shown reported.now) name) }
 {
     let mut names = Texts::new(alloc);
-    for diagnostic in told {
+    for diagnostic in reported {
         add_text(&mut names, diagnostic.name)?;
     }
     Ok(names)
@@ -25,12 +25,12 @@ fn names_in<'a>(alloc: Global, told: &[Diagnostic<'a>]) -> Result<Texts<'a>, All
 pub(crate) fn bad_count(
     alloc: Global,
     files: &[SourceFile],
-    told: &[Diagnostic<'_>],
+    reported: &[Diagnostic<'_>],
 ) -> Result<usize, AllocError>
-    ensures count { IfOk result (λ n. n ≡ bad_count files.now (map shown told.now)) }
+    ensures count { IfOk result (λ n. n ≡ bad_count files.now (map shown reported.now)) }
     ensures within { IfOk result (λ n. n ≤ length files.now) }
 {
-    let names = names_in(alloc, told)?;
+    let names = names_in(alloc, reported)?;
     Ok(
         files
             .iter()

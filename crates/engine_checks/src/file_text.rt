@@ -18,9 +18,9 @@ pub(crate) struct FileText<'a> {
 }
 
 impl<'a> Model for FileText<'a> {
-    ghost use Rattle.engine_checks.specs.Told as told;
+    ghost use Rattle.engine_checks.specs.Reported as reported;
 
-    ghost Value = { told.FileText };
+    ghost Value = { reported.FileText };
 
     ghost view = { λ f. record { name = f.name.now; path = f.path; lines = f.lines.items } };
 }

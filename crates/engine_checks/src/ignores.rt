@@ -4,17 +4,18 @@
 //! is a line of its own; in rules blanks may come before it. Codes are cut at commas, and blanks around a code are
 //! not part of it. A comment that begins with `# devdry:` and goes on in another way is also kept, so that it can
 //! be reported.
-ghost use Rattle.std.specs.Prelude.{◌≡◌, ◌++◌, ◌+◌, ◌-◌, ◌≤◌, ◌<◌, ◌^◌, ◌==◌, length, option_map, IfSome, IfOk, OnOk};
+ghost use Rattle.std.specs.Prelude.{◌≡◌, ◌++◌, ◌+◌, ◌-◌, ◌≤◌, ◌<◌, ◌^◌, ◌==◌, length, IfOk, OnOk};
 ghost use Rattle.std.specs.List.{slice_split};
 ghost use Rattle.text_bytes.specs.Lines.{numbered_lines};
 ghost use Rattle.text_bytes.specs.Names.{comma};
-ghost use Rattle.engine_checks.specs.Ignores.{asked_by, behind, comment_of, ignore_at, ignores_among, ignores_at, ignores_in, ignores_of_line, texts_of};
+ghost use Rattle.engine_checks.specs.Ignores.{asked_by, comment_of, ignore_at, ignores_among, ignores_at, ignores_in, ignores_of_line, texts_of};
 
-use crate::starts::{behind_line, starts_of};
-use hwdb_core::trimmed;
+use crate::starts::{after_line, starts_of};
 use std::alloc::{AllocError, Global};
 use std::marker::Model;
-use text_bytes::{FileKind, Line, Lines, Profile, SourceFile, capped, split_once, unindented};
+use text_bytes::{
+    FileKind, Line, Lines, Profile, SourceFile, capped, following, split_once, trimmed, unindented,
+};
 
 /// What a code in a comment is about.
 #[derive(Clone, Copy, Debug, PartialEq, Eq)]
@@ -70,14 +71,6 @@ impl<'a> Ignore<'a> {
     }
 }
 
-/// What follows the front of a text, if it begins with that.
-fn behind<'a>(front: &[u8], text: &'a [u8]) -> Option<&'a [u8]>
-    ensures value { option_map (λ t. t.now) result ≡ behind front.now text.now }
-    ensures within { IfSome result (λ t. length t.now ≤ length text.now) }
-{
-    text.strip_prefix(front)
-}
-
 /// A line as it is looked at for a comment: in rules without the blanks at its start.
 fn comment_of(kind: FileKind, text: &[u8]) -> &[u8]
     ensures value { result.now ≡ comment_of kind text.now }
@@ -94,10 +87,10 @@ fn asked_by(next: Option<u32>, text: &[u8]) -> (Scope, &[u8])
     ensures asked { (result.0, result.1.now) ≡ asked_by next text.now }
     ensures within { length result.1.now ≤ length text.now }
 {
-    if let Some(list) = behind(b" ignore ", text) {
+    if let Some(list) = following(b" ignore ", text) {
         return (Scope::Next(next), list);
     }
-    match behind(b" ignore-file ", text) {
+    match following(b" ignore-file ", text) {
         Some(list) => (Scope::File, list),
         None => (Scope::Unread, unindented(text)),
     }
@@ -115,9 +108,9 @@ fn push_list<'a>(
     ensures { OnOk result (ignores.new.items ≡ ignores.old.items ++ ignores_at line scope (end - length list.now) (slice_split (λ b. b == comma) list.now)) }
 {
     let mut rest = list;
-    while let Some((code, behind)) = split_once(b',', rest) {
+    while let Some((code, following)) = split_once(b',', rest) {
         ignores.push(Ignore::at(line, scope, end - rest.len(), code))?;
-        rest = behind;
+        rest = following;
     }
     ignores.push(Ignore::at(line, scope, end - rest.len(), rest))?;
     Ok(())
@@ -152,7 +145,7 @@ fn push_line<'a>(
 ) -> Result<(), AllocError>
     ensures { OnOk result (ignores.new.items ≡ ignores.old.items ++ ignores_of_line kind next line.now) }
 {
-    match behind(b"# devdry:", comment_of(kind, line.text())) {
+    match following(b"# devdry:", comment_of(kind, line.text())) {
         None => Ok(()),
         Some(text) => {
             let (scope, list) = asked_by(next, text);
@@ -175,7 +168,7 @@ fn ignores_among<'a>(
     let mut ignores = Vec::new(alloc);
     let mut rest = starts;
     for line in Lines::new(bytes) {
-        rest = behind_line(rest, capped(line.number()));
+        rest = after_line(rest, capped(line.number()));
         push_line(&mut ignores, kind, rest.first().copied(), &line)?;
     }
     Ok(ignores)

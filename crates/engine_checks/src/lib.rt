@@ -9,39 +9,40 @@
 #![tactic(auto)]
 
 mod asked;
+mod borrowed;
 mod by_line;
 mod checks;
 mod codes;
 mod comment_laws;
 mod comment_remarks;
 mod counts;
-mod database_told;
+mod database_reported;
 mod file_text;
 mod found;
 mod ignores;
 mod laws;
-mod lent;
 mod line_codes;
 mod lint_laws;
 mod lints;
 mod met;
 mod reads;
-mod rules_told;
+mod reported;
+mod rules_reported;
 mod silenced;
 mod starts;
-mod told;
 mod updates;
 
 pub use checks::report_on_checks;
 pub use comment_laws::{
-    codes_stand_in_their_comments, comments_are_about_what_follows, comments_silence_or_are_told,
-    found_is_told_or_silenced,
+    codes_are_in_their_comments, comments_are_about_what_follows, comments_silence_or_are_reported,
+    found_is_reported_or_silenced,
 };
 pub use ignores::{Ignore, Scope, ignores_in};
 pub use laws::{
     ignored_codes_alone_are_left_out, plain_checks_are_as_before, plain_updates_are_as_before,
 };
 pub use lint_laws::{
-    comments_count_for_lints, lints_are_told_where_asked, messages_are_told_as_without_lints,
+    comments_count_for_lints, lints_are_reported_where_asked,
+    messages_are_reported_as_without_lints,
 };
-pub use updates::report_on_told_update;
+pub use updates::report_on_reported_update;

@@ -3,9 +3,9 @@ ghost use Rattle.std.specs.Prelude.{◌≡◌, map, IfOk};
 ghost use Rattle.engine_checks.specs.Files.{lint_diagnostic, lints_counted};
 
 use crate::asked::has_comments;
+use crate::borrowed::Borrowed;
 use crate::file_text::FileText;
-use crate::lent::Lent;
-use crate::told::Asked;
+use crate::reported::Asked;
 use engine_formats::Remark;
 use rule_lints::{PlacedLint, placed_lints};
 use std::alloc::{AllocError, Global};
@@ -28,10 +28,10 @@ pub(crate) fn lints_counted(
 }
 
 /// A lint of a rules file as a diagnostic.
-fn lint_diagnostic<'r, 'w>(file: &'r FileText<'_>, lint: &'w PlacedLint) -> Lent<'r, 'w>
+fn lint_diagnostic<'r, 'w>(file: &'r FileText<'_>, lint: &'w PlacedLint) -> Borrowed<'r, 'w>
     ensures { result ≡ lint_diagnostic file.now lint.now }
 {
-    Lent {
+    Borrowed {
         name: file.name(),
         path: file.path(),
         source: file.line(lint.line),
@@ -49,7 +49,7 @@ pub(crate) fn lint_diagnostics<'r, 'w>(
     alloc: Global,
     file: &'r FileText<'_>,
     lints: &'w [PlacedLint],
-) -> Result<Vec<Lent<'r, 'w>>, AllocError>
+) -> Result<Vec<Borrowed<'r, 'w>>, AllocError>
     ensures { IfOk result (λ found. found.items ≡ map (lint_diagnostic file.now) lints.now) }
 {
     let mut found = Vec::with_capacity(alloc, lints.len())?;

@@ -5,7 +5,7 @@ ghost use Rattle.text_tables.specs.Texts.{Text, is_among};
 ghost use Rattle.engine_formats.specs.Diagnostics.{shown};
 ghost use Rattle.engine_checks.specs.Ignores as ignores;
 ghost use Rattle.engine_checks.specs.Tables.{has_code, has_code_at, has_code_in, is_met, remark_by};
-ghost use Rattle.engine_checks.specs.Told.{is_unknown, silences};
+ghost use Rattle.engine_checks.specs.Reported.{is_unknown, silences};
 
 use crate::codes::is_code;
 use crate::ignores::{Ignore, Scope};

@@ -6,7 +6,7 @@ ghost use Rattle.std.specs.List.{list_any};
 ghost use Rattle.text_tables.specs.Texts.{Text, is_among, same_text};
 ghost use Rattle.engine_formats.specs.Diagnostics.{DiagnosticValue, shown};
 ghost use Rattle.engine_checks.specs.Tables.{are_silencing, has_code_at, is_file, is_in_file, is_next_at, next_line};
-ghost use Rattle.engine_checks.specs.Told.{is_silenced};
+ghost use Rattle.engine_checks.specs.Reported.{is_silenced};
 
 use crate::ignores::{Ignore, Scope};
 use crate::line_codes::LineCodes;

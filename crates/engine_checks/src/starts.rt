@@ -61,11 +61,11 @@ fn plain_starts(alloc: Global, bytes: &[u8]) -> Result<Vec<u32>, AllocError>
 }
 
 /// What is left of starts after a line.
-pub(crate) fn behind_line(starts: &[u32], line: u32) -> &[u32]
+pub(crate) fn after_line(starts: &[u32], line: u32) -> &[u32]
     ensures { result.now ≡ skip_while (λ s. nat_le s line) starts.now }
 {
-    let (_, behind) = starts.split_at(count_up_to(starts, line));
-    behind
+    let (_, following) = starts.split_at(count_up_to(starts, line));
+    following
 }
 
 /// How many starts at the front are not after a line.

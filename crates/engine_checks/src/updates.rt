@@ -3,11 +3,11 @@ ghost use Rattle.std.specs.Prelude.{◌≡◌, ◌<◌, flat_map, length, IfOk, 
 ghost use Rattle.engine_formats.specs.Formats.{formatted};
 ghost use Rattle.engine_reports.specs.Outcomes.{update_status};
 ghost use Rattle.engine_reports.specs.Reports.{IsSaid, said};
-ghost use Rattle.engine_checks.specs.Files.{database_told};
-ghost use Rattle.engine_checks.specs.Outcomes.{database_checks, told_update_outcome, updated_by};
+ghost use Rattle.engine_checks.specs.Files.{database_reported};
+ghost use Rattle.engine_checks.specs.Outcomes.{database_checks, reported_update_outcome, updated_by};
 
 use crate::asked::{asked_by, has_comments};
-use crate::database_told::database_told;
+use crate::database_reported::database_reported;
 use crate::reads::read_files;
 use engine_ends::Line;
 use engine_formats::formatted;
@@ -20,7 +20,7 @@ use trie_core::write_index;
 
 /// What is reported for files, as text, and how many diagnostics it is.
 #[derive(Drop)]
-struct ToldText {
+struct ReportedText {
     text: Vec<u8>,
     count: usize,
 }
@@ -30,14 +30,14 @@ struct ToldText {
 ///
 /// A text of the line that is not a code silences nothing. `TooManyEntries` comes exactly if the files hold more
 /// than a database may, `Memory` if memory runs out.
-pub fn report_on_told_update(
+pub fn report_on_reported_update(
     alloc: Global,
     line: &Line<'_>,
     files: Vec<SourceFile>,
 ) -> Result<Report, Refusal>
-    ensures said { IfOk result (λ r. said r ≡ told_update_outcome line.now files.items) }
+    ensures said { IfOk result (λ r. said r ≡ reported_update_outcome line.now files.items) }
     ensures status { IfOk result (λ r. r.status < 3) }
-    ensures refused { IfErr result (λ e. IsSaid e (told_update_outcome line.now files.items)) }
+    ensures refused { IfErr result (λ e. IsSaid e (reported_update_outcome line.now files.items)) }
 {
     let files = files_read(alloc, FileKind::Hwdb, line, files)?;
     report_on_database(alloc, line, files)
@@ -54,28 +54,28 @@ fn report_on_database(
     ensures refused { IfErr result (λ e. IsSaid e (database_checks line.now files.items)) }
 {
     let database = read_sources(alloc, &files)?;
-    let told = told_of_database(alloc, line, &files)?;
+    let reported = reported_for_database(alloc, line, &files)?;
     drop(files);
     let trie = trie_of(alloc, database.entries)?;
-    let report = updated(alloc, line, &trie, told)?;
+    let report = updated(alloc, line, &trie, reported)?;
     Ok(report)
 }
 
 /// What is reported for the files.
-fn told_of_database(
+fn reported_for_database(
     alloc: Global,
     line: &Line<'_>,
     files: &[SourceFile],
-) -> Result<ToldText, AllocError>
-    ensures text { IfOk result (λ t. t.text.items ≡ formatted line.now.format (flat_map (database_told line.now) files.now)) }
-    ensures count { IfOk result (λ t. t.count ≡ length (flat_map (database_told line.now) files.now)) }
+) -> Result<ReportedText, AllocError>
+    ensures text { IfOk result (λ t. t.text.items ≡ formatted line.now.format (flat_map (database_reported line.now) files.now)) }
+    ensures count { IfOk result (λ t. t.count ≡ length (flat_map (database_reported line.now) files.now)) }
 {
     let asked = asked_by(alloc, line)?;
     let reads = read_files(alloc, line, has_comments(&asked.ignored), files)?;
-    let told = database_told(alloc, &asked, &reads)?;
-    Ok(ToldText {
-        text: formatted(alloc, line.format, &told)?,
-        count: told.len(),
+    let reported = database_reported(alloc, &asked, &reads)?;
+    Ok(ReportedText {
+        text: formatted(alloc, line.format, &reported)?,
+        count: reported.len(),
     })
 }
 
@@ -84,15 +84,15 @@ fn updated(
     alloc: Global,
     line: &Line<'_>,
     entries: &Trie,
-    told: ToldText,
+    reported: ReportedText,
 ) -> Result<Report, AllocError>
-    ensures said { IfOk result (λ r. said r ≡ updated_by line.now told.text.items told.count entries.now.entries) }
+    ensures said { IfOk result (λ r. said r ≡ updated_by line.now reported.text.items reported.count entries.now.entries) }
     ensures status { IfOk result (λ r. r.status < 3) }
 {
     Ok(Report {
         output: write_index(alloc, entries)?,
-        messages: told.text,
-        status: update_status(line.strict, told.count),
+        messages: reported.text,
+        status: update_status(line.strict, reported.count),
     })
 }
 

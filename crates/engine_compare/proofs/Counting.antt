@@ -4,9 +4,9 @@ use Rattle.std.proofs.lemmas.Bool.{ltb-true, ltb-false, lt-ltb, le-ltb}
 use Rattle.std.proofs.lemmas.List.Sums.{sum_by-cons, sum_by-append, sum_by_push}
 use Rattle.std.specs.Cmp.Lexicographic.{bytes_decides}
 use Rattle.text_tables.specs.Texts.{Text, same_text, is_among}
-use Rattle.engine_compare.specs.Surplus.{times, unless_fewer, surplus_behind, surplus}
+use Rattle.engine_compare.specs.Surplus.{times, unless_fewer, surplus_after, surplus}
 
--- one where a text is the same as another
+-- one if a text is the same as another
 abbrev pub one_if : Bool → ℕ
 one_if b = cond b 1 0
 
@@ -47,28 +47,28 @@ picked_other text other before others h =
     ∙ either_way (nat_lt (times other before) (times other others)) 0
 
 -- one text more
-step_same : (before others behind : ℕ) → cond (nat_lt before others) 0 1 + (behind - (others - (before + 1))) ≡ (1 + behind) - (others - before)
-step_same before others behind = by (nat_lt before others) refl
+step_same : (before others following : ℕ) → cond (nat_lt before others) 0 1 + (following - (others - (before + 1))) ≡ (1 + following) - (others - before)
+step_same before others following = by (nat_lt before others) refl
   where
-    by : (b : Bool) → nat_lt before others ≡ b → cond b 0 1 + (behind - (others - (before + 1))) ≡ (1 + behind) - (others - before)
+    by : (b : Bool) → nat_lt before others ≡ b → cond b 0 1 + (following - (others - (before + 1))) ≡ (1 + following) - (others - before)
     by true e = let h = ltb-true before others e in omega (arith, h)
     by false e = let h = ltb-false before others e in omega (arith, h)
 
-step_other : (before others behind : ℕ) → 0 + (behind - (others - (before + 0))) ≡ (0 + behind) - (others - before)
-step_other before others behind = omega arith
+step_other : (before others following : ℕ) → 0 + (following - (others - (before + 0))) ≡ (0 + following) - (others - before)
+step_other before others following = omega arith
 
 -- texts after others are more as often as all of them are more than those of the other list
-pub counted_behind : (before texts others : List Text) (text : Text) → times text (surplus_behind before texts others) ≡ times text texts - (times text others - times text before)
-counted_behind before [] others text = omega arith
-counted_behind before (other ∷ texts) others text = by (same_text text other) refl
-    (counted_behind (before ++ other ∷ []) texts others text ∙ ap (λ n. times text texts - (times text others - n)) (times-push text other before))
+pub counted_after : (before texts others : List Text) (text : Text) → times text (surplus_after before texts others) ≡ times text texts - (times text others - times text before)
+counted_after before [] others text = omega arith
+counted_after before (other ∷ texts) others text = by (same_text text other) refl
+    (counted_after (before ++ other ∷ []) texts others text ∙ ap (λ n. times text texts - (times text others - n)) (times-push text other before))
   where
-    split : times text (surplus_behind (before ++ other ∷ []) texts others) ≡ times text texts - (times text others - (times text before + one_if (same_text text other)))
-        → times text (surplus_behind before (other ∷ texts) others) ≡ times text (unless_fewer before other others) + (times text texts - (times text others - (times text before + one_if (same_text text other))))
-    split rest = times-append text (unless_fewer before other others) (surplus_behind (before ++ other ∷ []) texts others) ∙ ap (λ n. times text (unless_fewer before other others) + n) rest
+    split : times text (surplus_after (before ++ other ∷ []) texts others) ≡ times text texts - (times text others - (times text before + one_if (same_text text other)))
+        → times text (surplus_after before (other ∷ texts) others) ≡ times text (unless_fewer before other others) + (times text texts - (times text others - (times text before + one_if (same_text text other))))
+    split rest = times-append text (unless_fewer before other others) (surplus_after (before ++ other ∷ []) texts others) ∙ ap (λ n. times text (unless_fewer before other others) + n) rest
 
-    by : (b : Bool) → same_text text other ≡ b → times text (surplus_behind (before ++ other ∷ []) texts others) ≡ times text texts - (times text others - (times text before + one_if (same_text text other)))
-        → times text (surplus_behind before (other ∷ texts) others) ≡ times text (other ∷ texts) - (times text others - times text before)
+    by : (b : Bool) → same_text text other ≡ b → times text (surplus_after (before ++ other ∷ []) texts others) ≡ times text texts - (times text others - (times text before + one_if (same_text text other)))
+        → times text (surplus_after before (other ∷ texts) others) ≡ times text (other ∷ texts) - (times text others - times text before)
     by true h rest =
         split rest ∙ ap (λ b. times text (unless_fewer before other others) + (times text texts - (times text others - (times text before + one_if b)))) h
         ∙ ap (λ n. n + (times text texts - (times text others - (times text before + 1)))) (picked_same text other before others h)
@@ -84,7 +84,7 @@ none_before : (texts others : ℕ) → texts - (others - 0) ≡ texts - others
 none_before texts others = omega arith
 
 pub counted : (texts others : List Text) (text : Text) → times text (surplus texts others) ≡ times text texts - times text others
-counted texts others text = counted_behind [] texts others text ∙ none_before (times text texts) (times text others)
+counted texts others text = counted_after [] texts others text ∙ none_before (times text texts) (times text others)
 
 pub fewer : (old new : List Text) (text : Text) → times text (surplus old new) ≤ times text old
 fewer old new text = omega (arith, counted old new text)
@@ -95,7 +95,7 @@ put_in old new gone come g h = omega (arith, g, h)
 pub led : (old new : List Text) (text : Text) → (times text old - times text (surplus old new)) + times text (surplus new old) ≡ times text new
 led old new text = put_in (times text old) (times text new) (times text (surplus old new)) (times text (surplus new old)) (counted old new text) (counted new old text)
 
--- a text is among others where it is there at least once
+-- a text is among others exactly if it is there at least once
 pub among_some : (texts : List Text) (text : Text) → is_among texts text ≡ nat_lt 0 (times text texts)
 among_some [] text = refl
 among_some (other ∷ texts) text = by (same_text text other) (among_some texts text) ∙ ap (λ n. nat_lt 0 n) (sym (times-cons text other texts))
@@ -112,7 +112,7 @@ never_both old new text h =
     none_left : 0 < times text (surplus old new) → times text (surplus new old) ≤ 0
     none_left g = omega (arith, g, counted old new text, counted new old text)
 
--- a list in which no text stands is empty
+-- a list that contains no text is empty
 none_there : (texts : List Text) → ((text : Text) → times text texts ≡ 0) → texts ≡ []
 none_there [] none = refl
 none_there (text ∷ texts) none =
@@ -132,9 +132,9 @@ pub nothing_differs : (old new : List Text) → ((surplus old new ≡ []) × (su
 nothing_differs old new = (both_empty old new, λ same. (same_lines old new same, same_lines new old (λ text. sym (same text))))
 
 -- a text at the end
-pub behind-push : (before texts others : List Text) (text : Text) → surplus_behind before (texts ++ text ∷ []) others ≡ surplus_behind before texts others ++ unless_fewer (before ++ texts) text others
-behind-push before [] others text = append-nil (unless_fewer before text others) ∙ ap (λ t. unless_fewer t text others) (sym (append-nil before))
-behind-push before (other ∷ texts) others text =
-    ap (λ more. unless_fewer before other others ++ more) (behind-push (before ++ other ∷ []) texts others text)
-    ∙ sym (append_assoc (unless_fewer before other others) (surplus_behind (before ++ other ∷ []) texts others) (unless_fewer ((before ++ other ∷ []) ++ texts) text others))
-    ∙ ap (λ all. (unless_fewer before other others ++ surplus_behind (before ++ other ∷ []) texts others) ++ unless_fewer all text others) (append_assoc before (other ∷ []) texts)
+pub following-push : (before texts others : List Text) (text : Text) → surplus_after before (texts ++ text ∷ []) others ≡ surplus_after before texts others ++ unless_fewer (before ++ texts) text others
+following-push before [] others text = append-nil (unless_fewer before text others) ∙ ap (λ t. unless_fewer t text others) (sym (append-nil before))
+following-push before (other ∷ texts) others text =
+    ap (λ more. unless_fewer before other others ++ more) (following-push (before ++ other ∷ []) texts others text)
+    ∙ sym (append_assoc (unless_fewer before other others) (surplus_after (before ++ other ∷ []) texts others) (unless_fewer ((before ++ other ∷ []) ++ texts) text others))
+    ∙ ap (λ all. (unless_fewer before other others ++ surplus_after (before ++ other ∷ []) texts others) ++ unless_fewer all text others) (append_assoc before (other ∷ []) texts)

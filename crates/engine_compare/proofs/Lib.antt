@@ -1,4 +1,4 @@
 pub mod Counting
 pub mod Tallying
 pub mod Comparing
-pub mod Telling
+pub mod Reporting

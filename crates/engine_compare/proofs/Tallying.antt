@@ -1,4 +1,4 @@
--- What is left of each line while lines are counted and taken away.
+-- What is left of each line while lines are counted and removed.
 use Rattle.std.proofs.Common.{◌≡◌, ℕ, ◌+◌, ◌-◌, ◌<◌, ◌≤◌, ◌⊎◌, inl, inr, Bool, true, false, cond, nat_lt, List, [], ◌∷◌, ◌++◌, Option, Some, unwrap_or, refl, ap, sym, ◌∙◌, arith, append_assoc, append-nil, subst, map, take, drop, get_or, length, min, length-take, drop_of_length-le}
 use Rattle.std.proofs.lemmas.List.{map-append, length-map, take_more}
 use Rattle.std.proofs.lemmas.List.Sums.{count_by-le-length}
@@ -7,7 +7,7 @@ use Rattle.text_tables.specs.Texts.{Text, same_text}
 use Rattle.text_tables.specs.Pairs.{value_of, with_value}
 use Rattle.text_tables.proofs.Found.{value_set}
 use Rattle.text_tables.proofs.Partway.{left_at}
-use Rattle.engine_compare.specs.Surplus.{times, surplus_behind, surplus}
+use Rattle.engine_compare.specs.Surplus.{times, surplus_after, surplus}
 use Rattle.engine_compare.specs.Tallies.{left_of, Tallies}
 use Rattle.engine_compare.proofs.Counting.{is_same, one_if, times-push}
 
@@ -60,14 +60,14 @@ taken_one tally next line left l e text = ap (λ (n : List (Text × ℕ)). left_
 
 -- Some lines are gone past: of each line so many are left as the other list has more, and what is reported so far and what is still to come
 -- is all that is to be reported.
-pub record GoesOn (tally : List (Text × ℕ)) (told past rest whole others : List Text) : Type 0 where
+pub record Proceeds (tally : List (Text × ℕ)) (reported past rest whole others : List Text) : Type 0 where
   pub left : (text : Text) → left_of tally text ≡ times text others - times text past
-  pub so_far : told ++ surplus_behind past rest others ≡ whole
+  pub so_far : reported ++ surplus_after past rest others ≡ whole
 
-pub goes_start : (tally : List (Text × ℕ)) (told lines others : List Text) → told ≡ [] → Tallies tally others → GoesOn tally told [] lines (surplus lines others) others
-goes_start tally told lines others e t = record {
+pub advance_start : (tally : List (Text × ℕ)) (reported lines others : List Text) → reported ≡ [] → Tallies tally others → Proceeds tally reported [] lines (surplus lines others) others
+advance_start tally reported lines others e t = record {
   left = λ text. t text ∙ less_none (times text others);
-  so_far = ap (λ told. told ++ surplus lines others) e;
+  so_far = ap (λ reported. reported ++ surplus lines others) e;
 }
   where
     less_none : (n : ℕ) → n ≡ n - 0
@@ -83,24 +83,24 @@ left_is others past = by (cases_lt past others)
 less_more : (others past one : ℕ) → (others - past) - one ≡ others - (past + one)
 less_more others past one = omega arith
 
-pub goes_more : (tally next : List (Text × ℕ)) (told more past rest whole others : List Text) (line : Text) (there : Bool) → GoesOn tally told past (line ∷ rest) whole others
-    → there ≡ nat_lt 0 (left_of tally line) → ((text : Text) → left_of next text ≡ left_of tally text - cond (same_text text line) 1 0) → more ≡ told ++ cond there [] (line ∷ [])
-    → GoesOn next more (past ++ line ∷ []) rest whole others
-goes_more tally next told more past rest whole others line there g t l e = record {
+pub advance_more : (tally next : List (Text × ℕ)) (reported more past rest whole others : List Text) (line : Text) (there : Bool) → Proceeds tally reported past (line ∷ rest) whole others
+    → there ≡ nat_lt 0 (left_of tally line) → ((text : Text) → left_of next text ≡ left_of tally text - cond (same_text text line) 1 0) → more ≡ reported ++ cond there [] (line ∷ [])
+    → Proceeds next more (past ++ line ∷ []) rest whole others
+advance_more tally next reported more past rest whole others line there g t l e = record {
   left = λ text.
       l text ∙ ap (λ n. n - one_if (same_text text line)) (g.left text) ∙ less_more (times text others) (times text past) (one_if (same_text text line))
       ∙ ap (λ n. times text others - n) (sym (times-push text line past));
   so_far =
-      ap (λ told. told ++ behind) e ∙ append_assoc told (cond there [] (line ∷ [])) behind
-      ∙ ap (λ b. told ++ (cond b [] (line ∷ []) ++ behind)) (t ∙ ap (λ n. nat_lt 0 n) (g.left line) ∙ left_is (times line others) (times line past))
+      ap (λ reported. reported ++ following) e ∙ append_assoc reported (cond there [] (line ∷ [])) following
+      ∙ ap (λ b. reported ++ (cond b [] (line ∷ []) ++ following)) (t ∙ ap (λ n. nat_lt 0 n) (g.left line) ∙ left_is (times line others) (times line past))
       ∙ g.so_far;
 }
   where
-    behind : List Text
-    behind = surplus_behind (past ++ line ∷ []) rest others
+    following : List Text
+    following = surplus_after (past ++ line ∷ []) rest others
 
-pub goes_end : (tally : List (Text × ℕ)) (told past whole others : List Text) → GoesOn tally told past [] whole others → told ≡ whole
-goes_end tally told past whole others g = sym (append-nil told) ∙ g.so_far
+pub advance_end : (tally : List (Text × ℕ)) (reported past whole others : List Text) → Proceeds tally reported past [] whole others → reported ≡ whole
+advance_end tally reported past whole others g = sym (append-nil reported) ∙ g.so_far
 
 -- the lines gone past with the next one, and those before it
 pub past_more : {A : Type 0} (f : A → Text) (lines : List A) (at : ℕ) (next : A) → at < length lines → map f (take (at + 1) lines) ≡ map f (take at lines) ++ f (get_or lines at next) ∷ []
@@ -117,21 +117,21 @@ fits_more f tally lines at before line t h b = by (count_by-le-length (same_text
     by : times line (map f (take at lines)) ≤ length (map f (take at lines)) → length (map f (take at lines)) ≡ length (take at lines) → length (take at lines) ≡ min at (length lines) → before ≤ at
     by k l m = omega (arith, b, t line, k, l, m)
 
-pub goes_item : {A : Type 0} (f : A → Text) (tally next : List (Text × ℕ)) (told more whole others : List Text) (lines : List A) (at : ℕ) (item : A) (there : Bool)
-    → GoesOn tally told (map f (take at lines)) (map f (drop at lines)) whole others → at < length lines
+pub advance_item : {A : Type 0} (f : A → Text) (tally next : List (Text × ℕ)) (reported more whole others : List Text) (lines : List A) (at : ℕ) (item : A) (there : Bool)
+    → Proceeds tally reported (map f (take at lines)) (map f (drop at lines)) whole others → at < length lines
     → there ≡ nat_lt 0 (left_of tally (f (get_or lines at item))) → ((text : Text) → left_of next text ≡ left_of tally text - cond (same_text text (f (get_or lines at item))) 1 0)
-    → more ≡ told ++ cond there [] (f (get_or lines at item) ∷ []) → GoesOn next more (map f (take (at + 1) lines)) (map f (drop (at + 1) lines)) whole others
-goes_item f tally next told more whole others lines at item there g h t l e =
-    subst (λ past. GoesOn next more past (map f (drop (at + 1) lines)) whole others) (sym (past_more f lines at item h))
-    (goes_more tally next told more (map f (take at lines)) (map f (drop (at + 1) lines)) whole others (f (get_or lines at item)) there
-    (subst (λ rest. GoesOn tally told (map f (take at lines)) rest whole others) (left_at f lines at item h) g) t l e)
+    → more ≡ reported ++ cond there [] (f (get_or lines at item) ∷ []) → Proceeds next more (map f (take (at + 1) lines)) (map f (drop (at + 1) lines)) whole others
+advance_item f tally next reported more whole others lines at item there g h t l e =
+    subst (λ past. Proceeds next more past (map f (drop (at + 1) lines)) whole others) (sym (past_more f lines at item h))
+    (advance_more tally next reported more (map f (take at lines)) (map f (drop (at + 1) lines)) whole others (f (get_or lines at item)) there
+    (subst (λ rest. Proceeds tally reported (map f (take at lines)) rest whole others) (left_at f lines at item h) g) t l e)
 
-pub goes_out : {A : Type 0} (f : A → Text) (tally : List (Text × ℕ)) (told past whole others : List Text) (lines : List A) (at : ℕ) → length lines ≤ at → GoesOn tally told past (map f (drop at lines)) whole others → told ≡ whole
-goes_out f tally told past whole others lines at h g = goes_end tally told past whole others (subst (λ rest. GoesOn tally told past rest whole others) (ap (map f) (drop_of_length-le lines h)) g)
+pub advance_out : {A : Type 0} (f : A → Text) (tally : List (Text × ℕ)) (reported past whole others : List Text) (lines : List A) (at : ℕ) → length lines ≤ at → Proceeds tally reported past (map f (drop at lines)) whole others → reported ≡ whole
+advance_out f tally reported past whole others lines at h g = advance_end tally reported past whole others (subst (λ rest. Proceeds tally reported past rest whole others) (ap (map f) (drop_of_length-le lines h)) g)
 
--- a line that is none of those left is reported
-pub told_line : {A : Type 0} (f : A → Text) (told more : List A) (line : A) (there : Bool) → there ≡ false → more ≡ told ++ line ∷ [] → map f more ≡ map f told ++ cond there [] (f line ∷ [])
-told_line f told more line there n e = ap (map f) e ∙ map-append f told (line ∷ []) ∙ ap (λ b. map f told ++ cond b [] (f line ∷ [])) (sym n)
+-- a line that is not one of those left is reported
+pub reported_line : {A : Type 0} (f : A → Text) (reported more : List A) (line : A) (there : Bool) → there ≡ false → more ≡ reported ++ line ∷ [] → map f more ≡ map f reported ++ cond there [] (f line ∷ [])
+reported_line f reported more line there n e = ap (map f) e ∙ map-append f reported (line ∷ []) ∙ ap (λ b. map f reported ++ cond b [] (f line ∷ [])) (sym n)
 
-pub passed_line : {A : Type 0} (f : A → Text) (told more : List A) (line : Text) (there : Bool) → there ≡ true → more ≡ told → map f more ≡ map f told ++ cond there [] (line ∷ [])
-passed_line f told more line there n e = ap (map f) e ∙ sym (append-nil (map f told)) ∙ ap (λ b. map f told ++ cond b [] (line ∷ [])) (sym n)
+pub passed_line : {A : Type 0} (f : A → Text) (reported more : List A) (line : Text) (there : Bool) → there ≡ true → more ≡ reported → map f more ≡ map f reported ++ cond there [] (line ∷ [])
+passed_line f reported more line there n e = ap (map f) e ∙ sym (append-nil (map f reported)) ∙ ap (λ b. map f reported ++ cond b [] (line ∷ [])) (sym n)

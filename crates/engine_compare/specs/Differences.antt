@@ -13,13 +13,13 @@ abbrev pub is_compared : Text → Bool
 is_compared line = not (length line == 0 || starts_with nat_eq line (codes "note "))
 
 -- lines without the first
-abbrev pub behind_first : List Text → List Text
-behind_first [] = []
-behind_first (first ∷ others) = others
+abbrev pub after_first : List Text → List Text
+after_first [] = []
+after_first (first ∷ others) = others
 
 -- the lines of an answer that are compared: of those after its first, which names the event, all but the notes and the empty one at its end
 abbrev pub compared_lines : Text → List Text
-compared_lines answer = filter is_compared (behind_first (lines answer))
+compared_lines answer = filter is_compared (after_first (lines answer))
 
 -- a line after a mark
 abbrev pub marked_line : ℕ → Text → Text
@@ -31,11 +31,11 @@ marked_lines mark lines = flat_map (marked_line mark) lines
 
 -- what is reported for an event: its line, each line that disappears after `-`, each that appears after `+`, and an
 -- empty line; nothing if no line disappears or appears
-abbrev pub told_of : EventValue → List Text → List Text → Text
-told_of event gone come =
+abbrev pub reported_for : EventValue → List Text → List Text → Text
+reported_for event gone come =
     if length gone == 0 && length come == 0 then []
     else event_line event.action event.device.path ++ marked_lines minus gone ++ marked_lines plus come ++ newline ∷ []
 
 -- what appears and disappears between an old and a new answer to an event
 abbrev pub differences : EventValue → Text → Text → Text
-differences event old new = told_of event (surplus (compared_lines old) (compared_lines new)) (surplus (compared_lines new) (compared_lines old))
+differences event old new = reported_for event (surplus (compared_lines old) (compared_lines new)) (surplus (compared_lines new) (compared_lines old))

@@ -4,7 +4,7 @@ use Rattle.std.specs.Prelude.{◌++◌, Result, Ok, Err}
 use Rattle.text_bytes.specs.declared.profile.Profile.{Profile}
 use Rattle.text_tables.specs.Texts.{Text}
 use Rattle.device_core.specs.Values.{EventValue}
-use Rattle.engine_ends.specs.Delivery.{Outcome}
+use Rattle.engine_ends.specs.Delivery.{RunOutcome}
 use Rattle.engine_reports.specs.Openings.{OpeningValue}
 use Rattle.engine_sessions.specs.Findings.{found}
 use Rattle.engine_sessions.specs.Outcomes.{input_outcome}
@@ -20,7 +20,7 @@ differences_by old new event = differences event (answer_by (tables_of old) even
 -- The outcome of a comparison over an input, by the profile by which rules are evaluated and the opening of both
 -- sides: the messages about the old and then about the new rules, and for each block of the input what appears and
 -- disappears, which is a finding. If one side can't be opened, what is said about that, about the old one first.
-abbrev pub compare_outcome : Profile → Result OpeningValue Outcome → Result OpeningValue Outcome → Text → Outcome
+abbrev pub compare_outcome : Profile → Result OpeningValue RunOutcome → Result OpeningValue RunOutcome → Text → RunOutcome
 compare_outcome profile (Ok old) (Ok new) input = found (input_outcome (old.messages ++ new.messages) (answers_as profile (differences_by old new)) input)
 compare_outcome profile (Ok old) (Err said) input = said
 compare_outcome profile (Err said) new input = said

@@ -7,7 +7,7 @@ use Rattle.index_reading.specs.declared.fault.IndexFault.{IndexFault}
 use Rattle.index_reading.specs.Contents.{Contents}
 use Rattle.engine_ends.specs.declared.line.Line.{Line}
 use Rattle.engine_ends.specs.Streams.{Streams}
-use Rattle.engine_ends.specs.Delivery.{Outcome}
+use Rattle.engine_ends.specs.Delivery.{RunOutcome}
 use Rattle.engine_reports.specs.Indexes.{Opens}
 use Rattle.engine_reports.specs.Openings.{OpeningValue, opening}
 use Rattle.engine_sessions.specs.Findings.{FindsAll}
@@ -16,7 +16,7 @@ use Rattle.engine_sessions.specs.Sessions.{answers_as}
 use Rattle.engine_compare.specs.Outcomes.{compare_outcome, differences_by}
 
 -- a comparison, by the profile by which rules are evaluated and the opening of both sides
-abbrev pub ComparesBy : Profile → Result OpeningValue Outcome → Result OpeningValue Outcome → ℕ → Streams → Streams → Type 0
+abbrev pub ComparesBy : Profile → Result OpeningValue RunOutcome → Result OpeningValue RunOutcome → ℕ → Streams → Streams → Type 0
 ComparesBy profile (Ok old) (Ok new) status before now = FindsAll (old.messages ++ new.messages) (answers_as profile (differences_by old new)) status before now
 ComparesBy profile (Ok old) (Err said) status before now = Reports said status before now
 ComparesBy profile (Err said) new status before now = Reports said status before now

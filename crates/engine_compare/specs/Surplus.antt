@@ -11,11 +11,11 @@ abbrev pub unless_fewer : List Text → Text → List Text → List Text
 unless_fewer before text others = if nat_lt (times text before) (times text others) then [] else text ∷ []
 
 -- those of these texts that are more than another list has, if they follow others
-abbrev pub surplus_behind : List Text → List Text → List Text → List Text
-surplus_behind before [] others = []
-surplus_behind before (text ∷ texts) others = unless_fewer before text others ++ surplus_behind (before ++ text ∷ []) texts others
+abbrev pub surplus_after : List Text → List Text → List Text → List Text
+surplus_after before [] others = []
+surplus_after before (text ∷ texts) others = unless_fewer before text others ++ surplus_after (before ++ text ∷ []) texts others
 
 -- The texts that a list has more often than another, in its order: each text that is preceded by at least as many
 -- equal ones as the other list has in all. So of equal texts the last ones are the surplus.
 abbrev pub surplus : List Text → List Text → List Text
-surplus texts others = surplus_behind [] texts others
+surplus texts others = surplus_after [] texts others

@@ -1,7 +1,7 @@
 //! What appears and disappears between two answers to the same event, as text.
 ghost use Rattle.std.specs.Prelude.{◌≡◌, ◌++◌, ◌∷◌, [], filter, map, IfOk, OnOk};
 ghost use Rattle.text_bytes.specs.Lines.{lines};
-ghost use Rattle.engine_compare.specs.Differences.{behind_first, compared_lines, differences, is_compared, marked_line, marked_lines, told_of};
+ghost use Rattle.engine_compare.specs.Differences.{after_first, compared_lines, differences, is_compared, marked_line, marked_lines, reported_for};
 
 use crate::tallies::surplus;
 use device_core::Event;
@@ -26,7 +26,7 @@ pub fn differences(
     let new_lines = compared_lines(alloc, new)?;
     let gone = surplus(alloc, &old_lines, &new_lines)?;
     let come = surplus(alloc, &new_lines, &old_lines)?;
-    told_of(alloc, event, &gone, &come)
+    reported_for(alloc, event, &gone, &come)
 }
 
 /// The lines of an answer that are compared: neither its first, nor notes, nor the empty one at its end.
@@ -34,7 +34,7 @@ fn compared_lines<'a>(alloc: Global, answer: &'a [u8]) -> Result<Vec<&'a [u8]>, 
     ensures { IfOk result (λ compared. map (λ l. l.now) compared.items ≡ compared_lines answer.now) }
 {
     let mut compared = Vec::new(alloc);
-    let mut rest = behind_first_line(answer);
+    let mut rest = after_first_line(answer);
     while !rest.is_empty() {
         let (line, below) = first_line(rest);
         push_compared(&mut compared, line)?;
@@ -44,8 +44,8 @@ fn compared_lines<'a>(alloc: Global, answer: &'a [u8]) -> Result<Vec<&'a [u8]>, 
 }
 
 /// What follows the first line of a text.
-fn behind_first_line(text: &[u8]) -> &[u8]
-    ensures { lines result.now ≡ behind_first (lines text.now) }
+fn after_first_line(text: &[u8]) -> &[u8]
+    ensures { lines result.now ≡ after_first (lines text.now) }
 {
     if text.is_empty() {
         return text;
@@ -72,13 +72,13 @@ fn is_compared(line: &[u8]) -> bool
 }
 
 /// What is reported for an event, by the lines that disappear and those that appear.
-fn told_of(
+fn reported_for(
     alloc: Global,
     event: &Event<'_>,
     gone: &[&[u8]],
     come: &[&[u8]],
 ) -> Result<Bytes, AllocError>
-    ensures { IfOk result (λ text. text ≡ told_of event.now (map (λ l. l.now) gone.now) (map (λ l. l.now) come.now)) }
+    ensures { IfOk result (λ text. text ≡ reported_for event.now (map (λ l. l.now) gone.now) (map (λ l. l.now) come.now)) }
 {
     let mut text = Vec::new(alloc);
     if gone.is_empty() && come.is_empty() {

@@ -16,10 +16,10 @@ mod tallies;
 pub use answers::differences;
 pub use compared::Compared;
 pub use laws::{
-    differences_lead_from_old_to_new, lines_are_told_as_often_as_they_are_more,
-    lines_that_go_stand_before_those_that_come, no_line_goes_and_comes,
-    nothing_differs_where_lines_are_the_same, nothing_is_told_where_lines_are_the_same,
-    the_last_of_equal_lines_are_told, the_same_answer_differs_in_nothing,
+    differences_lead_from_old_to_new, lines_are_reported_as_often_as_they_are_more,
+    lines_that_disappear_come_before_those_that_appear, no_line_disappears_and_appears,
+    nothing_differs_where_lines_are_the_same, nothing_is_reported_where_lines_are_the_same,
+    the_last_of_equal_lines_are_reported, the_same_answer_differs_in_nothing,
 };
 pub use serving::serve_compare;
 pub use shared::Shared;

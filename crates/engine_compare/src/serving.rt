@@ -1,6 +1,6 @@
 //! The whole comparison.
 ghost use Rattle.std.specs.Prelude.{◌≡◌, ◌++◌, Ok, Err, Some, None, IfOk, IfErr, option_map, Result};
-ghost use Rattle.engine_ends.specs.Delivery.{Outcome};
+ghost use Rattle.engine_ends.specs.Delivery.{RunOutcome};
 ghost use Rattle.engine_compare.specs.Outcomes.{differences_by};
 ghost use Rattle.engine_compare.specs.Runs.{ComparesBy, ComparesOver};
 ghost use Rattle.engine_reports.specs.Indexes.{entries_in};
@@ -12,9 +12,9 @@ ghost use Rattle.engine_sessions.specs.Sessions.{answers_as};
 use crate::compared::Compared;
 use crate::shared::Shared;
 use engine_core::{Tables, open_with_database};
-use engine_ends::{Line, Sink, Source, tell_out_of_memory};
+use engine_ends::{Line, Sink, Source, report_out_of_memory};
 use engine_reports::{Refusal, RulesRead, deliver_refusal, open_index, open_rules};
-use engine_sessions::find_behind;
+use engine_sessions::find_after_messages;
 use hwdb_lookup::Lookup;
 use index_reading::{Index, IndexFault};
 use std::alloc::{AllocError, Global};
@@ -96,7 +96,7 @@ fn compare_read<L: Lookup + Drop, M: Lookup + Drop, R: Source, W: Sink, E: Sink>
     output: &mut W,
     error: &mut E,
 ) -> u8
-    ensures { (old_opened new_opened : Result OpeningValue Outcome)
+    ensures { (old_opened new_opened : Result OpeningValue RunOutcome)
         → IfOk old (λ r. old_opened ≡ Ok (shown_rules r.0 (L.entries r.1))) → IfErr old (λ e. IsRefused e old_opened)
         → IfOk new (λ r. new_opened ≡ Ok (shown_rules r.0 (M.entries r.1))) → IfErr new (λ e. IsRefused e new_opened)
         → ComparesBy profile old_opened new_opened result
@@ -131,10 +131,10 @@ fn compare_rules<L: Lookup + Drop, M: Lookup + Drop, R: Source, W: Sink, E: Sink
         (record { input = R.shown input.new; out = W.shown output.new; err = E.shown error.new }) }
 {
     match both_tables(alloc, old, old_lookup, new, new_lookup) {
-        Ok((messages, tables)) => find_behind(
+        Ok((messages, tables)) => find_after_messages(
             alloc, profile, &messages, &tables, input, output, error,
         ),
-        Err(_) => tell_out_of_memory(error),
+        Err(_) => report_out_of_memory(error),
     }
 }
 

@@ -5,7 +5,7 @@ use Rattle.text_tables.specs.Texts.{Text}
 use Rattle.device_core.specs.Values.{EventValue}
 use Rattle.engine_ends.specs.declared.line.Line.{Line}
 use Rattle.engine_ends.specs.Streams.{Streams, outputs}
-use Rattle.engine_ends.specs.Delivery.{Outcome, Delivers, Tells, TellsFaults, out_of_memory}
+use Rattle.engine_ends.specs.Delivery.{RunOutcome, Delivers, ReportsFailure, ReportsFaults, out_of_memory}
 use Rattle.index_reading.specs.declared.fault.IndexFault.{IndexFault}
 use Rattle.index_reading.specs.Contents.{Contents}
 use Rattle.engine_lookups.specs.Databases.{LooksUpBy, lookups_by}
@@ -21,15 +21,15 @@ use Rattle.engine_sessions.specs.Serves.{AnswersAll, Serves}
 use Rattle.engine_sessions.specs.Sessions.{answers_as}
 use Rattle.engine_sessions.proofs.Serving.{answers_serve, reports_serve}
 use Rattle.engine_core.specs.Answering.{TablesValue, answer_by, questions_by}
-use Rattle.engine_core.specs.Outcomes.{answer_by_line, answer_with, asked_of, asks_more, before_input, outcome_as, outcome_by, tables_of, told_of}
+use Rattle.engine_core.specs.Outcomes.{answer_by_line, answer_with, asked_of, asks_more, before_input, outcome_as, outcome_by, reported_for, tables_of}
 use Rattle.engine_core.specs.Runs.{RunsAs, RunsBy}
-use Rattle.engine_core.specs.Told.{ToldValue, told_by}
+use Rattle.engine_core.specs.Reported.{ReportedValue, reported_by}
 
-runs_serve : (line : Line) (opened : Result OpeningValue Outcome) (status : ℕ) (before now : Streams) → RunsBy line opened status before now → Serves (outcome_by line opened) status before now
+runs_serve : (line : Line) (opened : Result OpeningValue RunOutcome) (status : ℕ) (before now : Streams) → RunsBy line opened status before now → Serves (outcome_by line opened) status before now
 runs_serve line (Ok opening) status before now r = answers_serve opening.messages (answer_with line opening) status before now r
 runs_serve line (Err said) status before now r = reports_serve (λ text. said) said status before now (λ text. refl) r
 
-lookups_serve : (line : Line) (read : Result DatabaseValue Outcome) (status : ℕ) (before now : Streams) → LooksUpBy line read status before now → Serves (lookups_by line read) status before now
+lookups_serve : (line : Line) (read : Result DatabaseValue RunOutcome) (status : ℕ) (before now : Streams) → LooksUpBy line read status before now → Serves (lookups_by line read) status before now
 lookups_serve line (Ok database) status before now r = r.serves
 lookups_serve line (Err said) status before now r = reports_serve (λ text. said) said status before now (λ text. refl) r
 
@@ -39,22 +39,22 @@ runs_as true line files opened status before now r = lookups_serve line (databas
 runs_as false line files opened status before now r = runs_serve line (before_input line.verb line files opened) status before now r
 
 -- what is said without a look at the input
-pub report_runs : (line : Line) (begun : Result OpeningValue Outcome) (said : Outcome) (report : Result Report Refusal) (status : ℕ) (before now : Streams) → begun ≡ Err said → ((outcome : Outcome) → IsReport outcome report → Delivers outcome status (outputs before) (outputs now))
-    → TellsFaults status (outputs before) (outputs now) → IsReport said report → now.input ≡ before.input → RunsBy line begun status before now
+pub report_runs : (line : Line) (begun : Result OpeningValue RunOutcome) (said : RunOutcome) (report : Result Report Refusal) (status : ℕ) (before now : Streams) → begun ≡ Err said → ((outcome : RunOutcome) → IsReport outcome report → Delivers outcome status (outputs before) (outputs now))
+    → ReportsFaults status (outputs before) (outputs now) → IsReport said report → now.input ≡ before.input → RunsBy line begun status before now
 report_runs line begun said report status before now e delivers faults is unread = rw e (record { delivers = delivers said is; faults = faults; unread = unread })
 
--- what there is to say where events can't be answered
-pub refused_runs : (line : Line) (refusal : Refusal) (opened : Result OpeningValue Outcome) (status : ℕ) (before now : Streams) → IsRefused refusal opened
-    → ((outcome : Outcome) → IsSaid refusal outcome → Delivers outcome status (outputs before) (outputs now)) → TellsFaults status (outputs before) (outputs now)
-    → (refusal ≡ Memory → Tells out_of_memory 4 status before.err now.err × (now.out ≡ before.out)) → now.input ≡ before.input → RunsBy line opened status before now
+-- what there is to say if events can't be answered
+pub refused_runs : (line : Line) (refusal : Refusal) (opened : Result OpeningValue RunOutcome) (status : ℕ) (before now : Streams) → IsRefused refusal opened
+    → ((outcome : RunOutcome) → IsSaid refusal outcome → Delivers outcome status (outputs before) (outputs now)) → ReportsFaults status (outputs before) (outputs now)
+    → (refusal ≡ Memory → ReportsFailure out_of_memory 4 status before.err now.err × (now.out ≡ before.out)) → now.input ≡ before.input → RunsBy line opened status before now
 refused_runs line TooManyEntries opened status before now is delivers faults memory unread = rw is (record { delivers = delivers too_many_entries refl; faults = faults; unread = unread })
 refused_runs line TooManyRules opened status before now is delivers faults memory unread = rw is (record { delivers = delivers too_many_rules refl; faults = faults; unread = unread })
 refused_runs line (Index fault) opened status before now is delivers faults memory unread = rw is (record { delivers = delivers (refused_index fault) refl; faults = faults; unread = unread })
-refused_runs line Memory (Ok opening) status before now is delivers faults memory unread = inl (record { unread = unread; unanswered = (memory refl).1; tells = inr (memory refl).0 })
+refused_runs line Memory (Ok opening) status before now is delivers faults memory unread = inl (record { unread = unread; unanswered = (memory refl).1; reports = inr (memory refl).0 })
 refused_runs line Memory (Err said) status before now is delivers faults memory unread = record { delivers = delivers said tt; faults = faults; unread = unread }
 
 -- what refuses an opening is said whatever is asked for
-pub asked_refused : (refusal : Refusal) (why : List Text) (opened : Result OpeningValue Outcome) → IsRefused refusal opened → IsRefused refusal (asked_of why opened)
+pub asked_refused : (refusal : Refusal) (why : List Text) (opened : Result OpeningValue RunOutcome) → IsRefused refusal opened → IsRefused refusal (asked_of why opened)
 asked_refused TooManyEntries why opened is = ap (asked_of why) is
 asked_refused TooManyRules why opened is = ap (asked_of why) is
 asked_refused (Index fault) why opened is = ap (asked_of why) is
@@ -70,16 +70,16 @@ answered_runs line opening messages answer status before now m a h =
 pub asked_runs : (line : Line) (opening : OpeningValue) (messages : Text) (tables : TablesValue) (status : ℕ) (before now : Streams) → line.questions ≡ true → messages ≡ opening.messages → tables ≡ tables_of opening
     → AnswersAll messages (answers_as line.profile (questions_by tables)) status before now → AnswersAll opening.messages (answer_with line opening) status before now
 asked_runs line opening messages tables status before now q m t h =
-    let other : EventValue → Text = cond (asks_more line) (told_by (told_of line opening)) (answer_by (tables_of opening)) in
+    let other : EventValue → Text = cond (asks_more line) (reported_by (reported_for line opening)) (answer_by (tables_of opening)) in
     answered_runs line opening messages (questions_by tables) status before now m
     (ap questions_by t ∙ ap (λ b. cond b (questions_by (tables_of opening)) other) (sym q)) h
 
 -- a line that asks for more is answered with that
-pub told_runs : (line : Line) (opening : OpeningValue) (messages : Text) (tables : ToldValue) (status : ℕ) (before now : Streams) → line.questions ≡ false → asks_more line ≡ true → messages ≡ opening.messages
-    → tables ≡ told_of line opening → AnswersAll messages (answers_as line.profile (told_by tables)) status before now → AnswersAll opening.messages (answer_with line opening) status before now
-told_runs line opening messages tables status before now q a m t h =
+pub reported_runs : (line : Line) (opening : OpeningValue) (messages : Text) (tables : ReportedValue) (status : ℕ) (before now : Streams) → line.questions ≡ false → asks_more line ≡ true → messages ≡ opening.messages
+    → tables ≡ reported_for line opening → AnswersAll messages (answers_as line.profile (reported_by tables)) status before now → AnswersAll opening.messages (answer_with line opening) status before now
+reported_runs line opening messages tables status before now q a m t h =
     let asked : EventValue → Text = questions_by (tables_of opening) in
-    answered_runs line opening messages (told_by tables) status before now m
-    (ap told_by t
-    ∙ ap (λ b. cond b (told_by (told_of line opening)) (answer_by (tables_of opening))) (sym a)
-    ∙ ap (λ b. cond b asked (cond (asks_more line) (told_by (told_of line opening)) (answer_by (tables_of opening)))) (sym q)) h
+    answered_runs line opening messages (reported_by tables) status before now m
+    (ap reported_by t
+    ∙ ap (λ b. cond b (reported_by (reported_for line opening)) (answer_by (tables_of opening))) (sym a)
+    ∙ ap (λ b. cond b asked (cond (asks_more line) (reported_by (reported_for line opening)) (answer_by (tables_of opening)))) (sym q)) h

@@ -17,6 +17,6 @@ pub record TablesValue : Type 0 where
 abbrev pub answer_by : TablesValue → EventValue → Text
 answer_by tables event = answer event (outcome tables.rules tables.entries event)
 
--- the answer to an event that says what these rules ask of it, in place of what it comes to
+-- the answer to an event that says what these rules ask about it, in place of its outcome
 abbrev pub questions_by : TablesValue → EventValue → Text
 questions_by tables event = question_answer tables.rules tables.entries event

@@ -1,5 +1,5 @@
 pub mod Answering
-pub mod Told
+pub mod Reported
 pub mod Runs
 pub mod Checking
 pub mod Outcomes

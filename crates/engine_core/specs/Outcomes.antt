@@ -10,7 +10,7 @@ use Rattle.device_core.specs.Values.{EventValue}
 use Rattle.engine_ends.specs.declared.line.Line.{Line}
 use Rattle.engine_ends.specs.declared.line.Verb.{Verb}
 use Rattle.engine_ends.specs.declared.line.Verb.TheVariants.{Update, Query, Verify, Events}
-use Rattle.engine_ends.specs.Delivery.{Outcome}
+use Rattle.engine_ends.specs.Delivery.{RunOutcome}
 use Rattle.engine_lookups.specs.Databases.{lookups_by}
 use Rattle.engine_reports.specs.Databases.{database}
 use Rattle.engine_reports.specs.Openings.{OpeningValue, opening}
@@ -18,7 +18,7 @@ use Rattle.engine_reports.specs.Outcomes.{query_over, usage_error}
 use Rattle.engine_courses.specs.Asked.{unknown}
 use Rattle.engine_core.specs.Answering.{TablesValue, answer_by, questions_by}
 use Rattle.engine_core.specs.Checking.{update_said, verify_said}
-use Rattle.engine_core.specs.Told.{ToldValue, told_by}
+use Rattle.engine_core.specs.Reported.{ReportedValue, reported_by}
 use Rattle.engine_sessions.specs.Outcomes.{input_outcome}
 use Rattle.engine_sessions.specs.Sessions.{answers_as}
 
@@ -31,37 +31,37 @@ abbrev pub tables_of : OpeningValue → TablesValue
 tables_of opening = record { rules = opening.rules; entries = opening.entries }
 
 -- these, with the messages about the rules and what a line asks for
-abbrev pub told_of : Line → OpeningValue → ToldValue
-told_of line opening = record { sources = line.sources; why = why_of line; messages = opening.about_rules; rules = opening.rules; entries = opening.entries }
+abbrev pub reported_for : Line → OpeningValue → ReportedValue
+reported_for line opening = record { sources = line.sources; why = why_of line; messages = opening.about_rules; rules = opening.rules; entries = opening.entries }
 
 -- whether a line asks for more than the answers
 abbrev pub asks_more : Line → Bool
 asks_more line = line.sources || not (vec_len line.why == 0)
 
--- the answer to an event by what an opening has: the questions of the rules if the line asks for these, or else what the event comes to,
--- with what the line asks for beside it
+-- the answer to an event by what an opening has: the questions of the rules if the line asks for these, otherwise the outcome of the event
+-- with what else the line asks for
 abbrev pub answer_by_line : Line → OpeningValue → EventValue → Text
 answer_by_line line opening =
     if line.questions then questions_by (tables_of opening)
-    else (if asks_more line then told_by (told_of line opening) else answer_by (tables_of opening))
+    else (if asks_more line then reported_by (reported_for line opening) else answer_by (tables_of opening))
 
 -- the same, with rules evaluated by the line's profile
 abbrev pub answer_with : Line → OpeningValue → EventValue → Text
 answer_with line opening = answers_as line.profile (answer_by_line line opening)
 
 -- an opening, or what is said instead if the line asks for a rule that is not there
-abbrev pub opening_unless : Option Text → OpeningValue → Result OpeningValue Outcome
+abbrev pub opening_unless : Option Text → OpeningValue → Result OpeningValue RunOutcome
 opening_unless None opening = Ok opening
 opening_unless (Some line) opening = Err (usage_error opening.messages line)
 
 -- the same for the outcome of opening the files
-abbrev pub asked_of : List Text → Result OpeningValue Outcome → Result OpeningValue Outcome
+abbrev pub asked_of : List Text → Result OpeningValue RunOutcome → Result OpeningValue RunOutcome
 asked_of why (Ok opening) = opening_unless (unknown why opening.about_rules opening.rules) opening
 asked_of why (Err said) = Err said
 
 -- A command before it looks at its input: for `events` what comes before its first answer, or what is said instead;
 -- for any other command what it says. Only `query` and `events` look at an index.
-abbrev pub before_input : Verb → Line → List SourceFile → Option (Result Contents IndexFault) → Result OpeningValue Outcome
+abbrev pub before_input : Verb → Line → List SourceFile → Option (Result Contents IndexFault) → Result OpeningValue RunOutcome
 before_input Query line files opened = Err (query_over line files opened)
 before_input Update line files opened = Err (update_said line files)
 before_input Verify line files opened = Err (verify_said line files)
@@ -69,7 +69,7 @@ before_input Events line files opened = asked_of (why_of line) (opening line fil
 
 -- the outcome of a run over an input: the messages of its opening and the answers to the blocks of the input, or what
 -- is said without looking at the input
-abbrev pub outcome_by : Line → Result OpeningValue Outcome → Text → Outcome
+abbrev pub outcome_by : Line → Result OpeningValue RunOutcome → Text → RunOutcome
 outcome_by line (Ok opening) input = input_outcome opening.messages (answer_with line opening) input
 outcome_by line (Err said) input = said
 
@@ -85,10 +85,10 @@ abbrev pub reads_modaliases : Line → Bool
 reads_modaliases line = is_query line.verb && bytes_eq line.modalias.now (codes "-")
 
 -- the outcome of a run, by whether it looks up the modaliases of its input
-abbrev pub outcome_as : Bool → Line → List SourceFile → Option (Result Contents IndexFault) → Text → Outcome
+abbrev pub outcome_as : Bool → Line → List SourceFile → Option (Result Contents IndexFault) → Text → RunOutcome
 outcome_as true line files opened input = lookups_by line (database line files opened) input
 outcome_as false line files opened input = outcome_by line (before_input line.verb line files opened) input
 
 -- the outcome of a run over the files passed in, the outcome of opening an index and an input
-abbrev pub outcome : Line → List SourceFile → Option (Result Contents IndexFault) → Text → Outcome
+abbrev pub outcome : Line → List SourceFile → Option (Result Contents IndexFault) → Text → RunOutcome
 outcome line files opened input = outcome_as (reads_modaliases line) line files opened input

@@ -6,7 +6,7 @@ use Rattle.index_reading.specs.declared.fault.IndexFault.{IndexFault}
 use Rattle.index_reading.specs.Contents.{Contents}
 use Rattle.engine_ends.specs.declared.line.Line.{Line}
 use Rattle.engine_ends.specs.Streams.{Streams}
-use Rattle.engine_ends.specs.Delivery.{Outcome}
+use Rattle.engine_ends.specs.Delivery.{RunOutcome}
 use Rattle.engine_lookups.specs.Databases.{LooksUpBy}
 use Rattle.engine_reports.specs.Databases.{database}
 use Rattle.engine_reports.specs.Indexes.{Opens}
@@ -15,7 +15,7 @@ use Rattle.engine_sessions.specs.Serves.{AnswersAll, Reports, Serves}
 use Rattle.engine_core.specs.Outcomes.{answer_with, before_input, outcome, reads_modaliases}
 
 -- a run of a line, by its outcome before it looks at its input
-abbrev pub RunsBy : Line → Result OpeningValue Outcome → ℕ → Streams → Streams → Type 0
+abbrev pub RunsBy : Line → Result OpeningValue RunOutcome → ℕ → Streams → Streams → Type 0
 RunsBy line (Ok opening) status before now = AnswersAll opening.messages (answer_with line opening) status before now
 RunsBy line (Err said) status before now = Reports said status before now
 

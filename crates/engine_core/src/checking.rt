@@ -3,7 +3,7 @@ ghost use Rattle.std.specs.Prelude.{◌≡◌, ◌<◌, IfOk, IfErr};
 ghost use Rattle.engine_core.specs.Checking.{asks_checks, update_said, verify_said};
 ghost use Rattle.engine_reports.specs.Reports.{IsSaid, said};
 
-use engine_checks::{report_on_checks, report_on_told_update};
+use engine_checks::{report_on_checks, report_on_reported_update};
 use engine_ends::{Format, Line};
 use engine_reports::{Refusal, Report, report_on_rules, report_on_update};
 use std::alloc::Global;
@@ -47,7 +47,7 @@ pub(crate) fn report_on_index(
     ensures refused { IfErr result (λ e. IsSaid e (update_said line.now files.items)) }
 {
     if asks_checks(line) {
-        report_on_told_update(alloc, line, files)
+        report_on_reported_update(alloc, line, files)
     } else {
         report_on_update(alloc, line, files)
     }

@@ -1,6 +1,6 @@
 //! `events`: the messages, and then the answers to the blocks of the input.
 ghost use Rattle.std.specs.Prelude.{◌≡◌, true, false, Ok, IfOk, IfErr, None, Some, Result};
-ghost use Rattle.engine_ends.specs.Delivery.{Outcome};
+ghost use Rattle.engine_ends.specs.Delivery.{RunOutcome};
 ghost use Rattle.engine_core.specs.Outcomes.{answer_with, asked_of, why_of};
 ghost use Rattle.engine_core.specs.Runs.{RunsBy};
 ghost use Rattle.engine_reports.specs.Indexes.{entries_in};
@@ -9,14 +9,14 @@ ghost use Rattle.engine_reports.specs.Reports.{IsRefused, shown_rules};
 ghost use Rattle.engine_sessions.specs.Serves.{AnswersAll};
 
 use crate::asked::AskedTables;
+use crate::reported::ReportedTables;
 use crate::tables::Tables;
-use crate::told::ToldTables;
 use engine_courses::first_unknown;
-use engine_ends::{Line, Sink, Source, tell_out_of_memory};
+use engine_ends::{Line, Sink, Source, report_out_of_memory};
 use engine_reports::{
     Opening, Refusal, RulesRead, deliver_refusal, deliver_usage_error, open_files, open_rules,
 };
-use engine_sessions::answer_behind;
+use engine_sessions::answer_after_messages;
 use hwdb_lookup::Lookup;
 use index_reading::{Index, IndexFault};
 use std::alloc::Global;
@@ -61,7 +61,7 @@ fn answer_over<L: Lookup + Drop, R: Source, W: Sink, E: Sink>(
     output: &mut W,
     error: &mut E,
 ) -> u8
-    ensures { (opened : Result OpeningValue Outcome) → IfOk read (λ r. opened ≡ Ok (shown_rules r.0 (L.entries r.1)))
+    ensures { (opened : Result OpeningValue RunOutcome) → IfOk read (λ r. opened ≡ Ok (shown_rules r.0 (L.entries r.1)))
         → IfErr read (λ e. IsRefused e opened) → RunsBy line.now (asked_of (why_of line.now) opened) result
         (record { input = R.shown input.old; out = W.shown output.old; err = E.shown error.old })
         (record { input = R.shown input.new; out = W.shown output.new; err = E.shown error.new }) }
@@ -95,8 +95,8 @@ fn answer_asked<L: Lookup + Drop, R: Source, W: Sink, E: Sink>(
     }
 }
 
-/// Writes the messages and answers the input: with what the rules ask where the line asks for questions,
-/// and else with what they come to.
+/// Writes the messages and answers the input: with what the rules ask if the line asks for questions, and otherwise
+/// with the outcome of each event.
 fn answer_by_rules<L: Lookup + Drop, R: Source, W: Sink, E: Sink>(
     alloc: Global,
     line: &Line<'_>,
@@ -113,7 +113,7 @@ fn answer_by_rules<L: Lookup + Drop, R: Source, W: Sink, E: Sink>(
     if line.questions {
         ask_by_rules(alloc, line, read, lookup, input, output, error)
     } else {
-        tell_by_rules(alloc, line, read, lookup, input, output, error)
+        report_by_rules(alloc, line, read, lookup, input, output, error)
     }
 }
 
@@ -134,7 +134,7 @@ fn ask_by_rules<L: Lookup + Drop, R: Source, W: Sink, E: Sink>(
 {
     let RulesRead { messages, rules } = read;
     let tables = AskedTables::new(rules, lookup);
-    answer_behind(
+    answer_after_messages(
         alloc,
         line.profile,
         &messages,
@@ -147,7 +147,7 @@ fn ask_by_rules<L: Lookup + Drop, R: Source, W: Sink, E: Sink>(
 
 /// Writes the messages and answers the input: by the program of the rules, or, if the line asks for more than the
 /// answers, by the rules as they were read.
-fn tell_by_rules<L: Lookup + Drop, R: Source, W: Sink, E: Sink>(
+fn report_by_rules<L: Lookup + Drop, R: Source, W: Sink, E: Sink>(
     alloc: Global,
     line: &Line<'_>,
     read: RulesRead,
@@ -164,12 +164,14 @@ fn tell_by_rules<L: Lookup + Drop, R: Source, W: Sink, E: Sink>(
     let RulesRead { messages, rules } = read;
     let profile = line.profile;
     if line.sources || !line.why.is_empty() {
-        let tables = ToldTables::new(line.sources, &line.why, rules, lookup);
-        return answer_behind(alloc, profile, &messages, &tables, input, output, error);
+        let tables = ReportedTables::new(line.sources, &line.why, rules, lookup);
+        return answer_after_messages(alloc, profile, &messages, &tables, input, output, error);
     }
     match Tables::new(alloc, rules, lookup) {
-        Ok(tables) => answer_behind(alloc, profile, &messages, &tables, input, output, error),
-        Err(_) => tell_out_of_memory(error),
+        Ok(tables) => answer_after_messages(
+            alloc, profile, &messages, &tables, input, output, error,
+        ),
+        Err(_) => report_out_of_memory(error),
     }
 }
 

@@ -6,7 +6,7 @@ use Rattle.text_bytes.specs.Numbers.{decimal, decimal_below, is_decimal, is_digi
 use Rattle.text_tables.specs.Texts.{Text}
 use Rattle.engine_courses.specs.Nearest.{line_number}
 
--- a text that is not empty is a number where all of it is digits
+-- a text that is not empty is a number exactly if all of it is digits
 pub decimal_filled : (text : Text) (digits : Bool) → eqb (length text) 0 ≡ false → digits ≡ list_all is_digit text → digits ≡ is_decimal text
 decimal_filled [] digits filled all = let no : true ≡ false = filled in cc
 decimal_filled (b ∷ text) digits filled all = all
@@ -28,7 +28,7 @@ line_read digits n d h = by (is_decimal digits) (sym d) h
     by true e g = below_is n (decimal digits) (nat_lt (decimal digits) (2 ^ 32)) refl g
     by false e g = cc
 
--- the same where it is too great
+-- the same if it is too great
 pub line_capped : (digits : Text) → true ≡ is_decimal digits → None ≡ decimal_below (2 ^ 32) digits → Some (2 ^ 32 - 1) ≡ line_number digits
 unfolding decimal_below
 line_capped digits d h = by (is_decimal digits) (sym d) h

@@ -38,7 +38,7 @@ one_asks text file line (x ∷ xs) =
     ap (λ b. b || list_any (asks text) (map (λ x. (file x, line x)) xs)) (or_false (asks text (file x, line x)))
     ∙ ap (λ b. is_asked (text ∷ []) (file x) (line x) || b) (one_asks text file line xs)
 
--- a text is unknown where it asks for no rule and for no message's place
+-- a text is unknown if it asks for no rule and for no message's place
 pub known_is : (text : Text) (messages : List Message) (rules : List Rule)
     → is_none (unknown (text ∷ []) messages rules) ≡ (list_any (λ r. is_asked (text ∷ []) r.file r.line) rules || list_any (λ m. is_asked (text ∷ []) m.file m.line) messages)
 unfolding unknown

@@ -1,7 +1,7 @@
-pub mod Fronts
+pub mod Prefixes
 pub mod Digits
 pub mod Least
 pub mod Passing
 pub mod Known
 pub mod Walking
-pub mod Told
+pub mod Reported

@@ -9,14 +9,14 @@ use Rattle.rule_types.specs.Rules.{Rule}
 use Rattle.eval_state.specs.declared.scene.Scene.{Scene}
 use Rattle.eval_rules.specs.Jumps.{is_passed}
 use Rattle.eval_rules.specs.Steps.{Went, apply}
-use Rattle.eval_effects.specs.Since.{Since, since_behind}
+use Rattle.eval_effects.specs.Since.{Since, since_after}
 use Rattle.eval_courses.specs.Courses.{course}
-use Rattle.engine_courses.specs.WhyLines.{jumping_after, passed_texts, rule_lines, sought_by, told_from, told_if_asked}
+use Rattle.engine_courses.specs.WhyLines.{jumping_after, passed_texts, reported_from, reported_if_asked, rule_lines, sought_by}
 
 module _ (why : List Text) (es : List Entry) (rules : List Rule) where
   -- the lines on the rules that are left
   abbrev pub left : Since → Option Rule → List Rule → Scene → Text
-  left since jumping rs s = flat_map rule_lines (told_from why es since jumping rs s)
+  left since jumping rs s = flat_map rule_lines (reported_from why es since jumping rs s)
 
   module _ (i : ℕ) (r : Rule) (within : i < length rules) (is : r ≡ get_or rules i r) where
     abbrev rest : List Rule
@@ -25,32 +25,32 @@ module _ (why : List Text) (es : List Entry) (rules : List Rule) where
     next : drop i rules ≡ r ∷ rest
     next = drop_more rules i r within ∙ ap (λ x. x ∷ rest) (sym is)
 
-    -- a rule is passed over
+    -- a rule is skipped
     pub one_passed : (since : Since) (jumping : Option Rule) (s : Scene) (before now whole : Text) → is_passed (sought_by jumping) r ≡ true
-        → now ≡ before ++ flat_map rule_lines (told_if_asked why r (passed_texts jumping)) → before ++ left since jumping (drop i rules) s ≡ whole → now ++ left since jumping rest s ≡ whole
-    unfolding told_from
+        → now ≡ before ++ flat_map rule_lines (reported_if_asked why r (passed_texts jumping)) → before ++ left since jumping (drop i rules) s ≡ whole → now ++ left since jumping rest s ≡ whole
+    unfolding reported_from
     one_passed since jumping s before now whole passed added so_far =
-        let here : List (Rule × List Text) = told_if_asked why r (passed_texts jumping) in
-        let other = told_if_asked why r (course es since r s) ++ told_from why es (since_behind since r (apply es r s).0.finals) (jumping_after (apply es r s).1 r) rest (apply es r s).0 in
+        let here : List (Rule × List Text) = reported_if_asked why r (passed_texts jumping) in
+        let other = reported_if_asked why r (course es since r s) ++ reported_from why es (since_after since r (apply es r s).0.finals) (jumping_after (apply es r s).1 r) rest (apply es r s).0 in
         ap (λ b. b ++ left since jumping rest s) added
         ∙ append_assoc before (flat_map rule_lines here) (left since jumping rest s)
-        ∙ ap (λ b. before ++ b) (sym (flat_map-append rule_lines here (told_from why es since jumping rest s)))
-        ∙ ap (λ b. before ++ flat_map rule_lines (cond b (here ++ told_from why es since jumping rest s) other)) (sym passed)
+        ∙ ap (λ b. before ++ b) (sym (flat_map-append rule_lines here (reported_from why es since jumping rest s)))
+        ∙ ap (λ b. before ++ flat_map rule_lines (cond b (here ++ reported_from why es since jumping rest s) other)) (sym passed)
         ∙ ap (λ rs. before ++ left since jumping rs s) (sym next)
         ∙ so_far
 
     -- a rule is evaluated
-    pub one_told : (since after : Since) (jumping wanted : Option Rule) (s t : Scene) (reached : Bool) (before now whole : Text) → is_passed (sought_by jumping) r ≡ false
-        → (t, reached) ≡ apply es r s → after ≡ since_behind since r t.finals → wanted ≡ jumping_after reached r
-        → now ≡ before ++ flat_map rule_lines (told_if_asked why r (course es since r s)) → before ++ left since jumping (drop i rules) s ≡ whole → now ++ left after wanted rest t ≡ whole
-    unfolding told_from
-    one_told since after jumping wanted s t reached before now whole come to known for added so_far =
-        let here : List (Rule × List Text) = told_if_asked why r (course es since r s) in
-        let went : Went → List (Rule × List Text) = λ w. told_from why es (since_behind since r w.0.finals) (jumping_after w.1 r) rest w.0 in
-        let over = told_if_asked why r (passed_texts jumping) ++ told_from why es since jumping rest s in
+    pub one_reported : (since after : Since) (jumping wanted : Option Rule) (s t : Scene) (reached : Bool) (before now whole : Text) → is_passed (sought_by jumping) r ≡ false
+        → (t, reached) ≡ apply es r s → after ≡ since_after since r t.finals → wanted ≡ jumping_after reached r
+        → now ≡ before ++ flat_map rule_lines (reported_if_asked why r (course es since r s)) → before ++ left since jumping (drop i rules) s ≡ whole → now ++ left after wanted rest t ≡ whole
+    unfolding reported_from
+    one_reported since after jumping wanted s t reached before now whole come to known for added so_far =
+        let here : List (Rule × List Text) = reported_if_asked why r (course es since r s) in
+        let went : Went → List (Rule × List Text) = λ w. reported_from why es (since_after since r w.0.finals) (jumping_after w.1 r) rest w.0 in
+        let over = reported_if_asked why r (passed_texts jumping) ++ reported_from why es since jumping rest s in
         ap (λ b. b ++ left after wanted rest t) added
         ∙ ap (λ k. (before ++ flat_map rule_lines here) ++ left k wanted rest t) known
-        ∙ ap (λ w. (before ++ flat_map rule_lines here) ++ left (since_behind since r t.finals) w rest t) for
+        ∙ ap (λ w. (before ++ flat_map rule_lines here) ++ left (since_after since r t.finals) w rest t) for
         ∙ ap (λ w. (before ++ flat_map rule_lines here) ++ flat_map rule_lines (went w)) to
         ∙ append_assoc before (flat_map rule_lines here) (flat_map rule_lines (went (apply es r s)))
         ∙ ap (λ b. before ++ b) (sym (flat_map-append rule_lines here (went (apply es r s))))
@@ -60,5 +60,5 @@ module _ (why : List Text) (es : List Entry) (rules : List Rule) where
 
   -- no rule is left
   pub none_left : (i : ℕ) (since : Since) (jumping : Option Rule) (s : Scene) (now whole : Text) → length rules ≤ i → now ++ left since jumping (drop i rules) s ≡ whole → now ≡ whole
-  unfolding told_from
+  unfolding reported_from
   none_left i since jumping s now whole end so_far = sym (append-nil now) ∙ ap (λ rs. now ++ left since jumping rs s) (sym (drop_all i rules end)) ∙ so_far

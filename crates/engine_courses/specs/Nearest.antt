@@ -1,19 +1,16 @@
 -- Which place is nearest to the line that a text of `--why` asks for.
-use Rattle.std.specs.Prelude.{ℕ, Bool, not, ◌==◌, ◌||◌, ◌&&◌, nat_lt, if◌then◌else◌, List, [], ◌∷◌, length, take, drop, find, filter_map, Option, Some, None, option_map, option_and_then}
+use Rattle.std.specs.Prelude.{ℕ, Bool, not, ◌==◌, ◌||◌, ◌&&◌, nat_lt, if◌then◌else◌, List, [], ◌∷◌, find, filter_map, Option, Some, None, option_map, option_and_then}
 use Rattle.std.specs.Int.{abs_diff}
 use Rattle.std.specs.List.{list_any}
+use Rattle.text_bytes.specs.Texts.{following}
 use Rattle.text_bytes.specs.Messages.{capped}
 use Rattle.text_bytes.specs.Names.{colon}
 use Rattle.text_bytes.specs.Numbers.{decimal, is_decimal}
-use Rattle.text_tables.specs.Texts.{Text, same_text}
+use Rattle.text_tables.specs.Texts.{Text}
 
 -- a place: a file's name, and a line of it
 abbrev pub Place : Type 0
 Place = Text × ℕ
-
--- what follows the front of a text, if it begins with that
-abbrev pub behind : Text → Text → Option Text
-behind front text = if same_text (take (length front) text) front then Some (drop (length front) text) else None
 
 -- the number of a line that decimal digits write; at most 2^32 - 1, as in reports
 abbrev pub line_number : Text → Option ℕ
@@ -21,7 +18,7 @@ line_number digits = if is_decimal digits then Some (capped (decimal digits)) el
 
 -- the line of a file that a text asks for as `FILE:N`
 abbrev pub line_in : Text → Text → Option ℕ
-line_in file text = option_and_then line_number (option_and_then (behind (colon ∷ [])) (behind file text))
+line_in file text = option_and_then line_number (option_and_then (following (colon ∷ [])) (following file text))
 
 -- how far the line of a place is from another one, and the place
 abbrev pub Candidate : Type 0

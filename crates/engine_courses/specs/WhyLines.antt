@@ -12,7 +12,7 @@ use Rattle.eval_state.specs.declared.scene.Scene.{Scene}
 use Rattle.eval_rules.specs.Jumps.{is_passed, sought_after}
 use Rattle.eval_rules.specs.Steps.{apply}
 use Rattle.eval_effects.specs.Named.{rule_place}
-use Rattle.eval_effects.specs.Since.{Since, no_since, since_behind}
+use Rattle.eval_effects.specs.Since.{Since, no_since, since_after}
 use Rattle.eval_courses.specs.Courses.{course}
 use Rattle.engine_ends.specs.Places.{place_of, word_part}
 use Rattle.engine_reports.specs.Messages.{heading_of}
@@ -36,8 +36,8 @@ passed_texts None = []
 passed_texts (Some jumping) = (codes "passed over by GOTO of " ++ rule_place jumping) ∷ []
 
 -- a rule with what is reported for it, if it is asked for
-abbrev pub told_if_asked : List Text → Rule → List Text → List (Rule × List Text)
-told_if_asked why r texts = if is_asked why r.file r.line then (r, texts) ∷ [] else []
+abbrev pub reported_if_asked : List Text → Rule → List Text → List (Rule × List Text)
+reported_if_asked why r texts = if is_asked why r.file r.line then (r, texts) ∷ [] else []
 
 -- the label that is looked for, if a rule jumps
 abbrev pub sought_by : Option Rule → Option Text
@@ -49,23 +49,23 @@ jumping_after reached r = if is_some (sought_after reached r) then Some r else N
 
 -- of rules one after another, those that are asked for, each with what is reported for it: which rule's jump skips
 -- it, or its course; since when keys are final is known from all rules
-unfoldable pub told_from : List Text → List Entry → Since → Option Rule → List Rule → Scene → List (Rule × List Text)
-told_from why entries since jumping [] s = []
-told_from why entries since jumping (r ∷ rs) s =
-    if is_passed (sought_by jumping) r then told_if_asked why r (passed_texts jumping) ++ told_from why entries since jumping rs s
+unfoldable pub reported_from : List Text → List Entry → Since → Option Rule → List Rule → Scene → List (Rule × List Text)
+reported_from why entries since jumping [] s = []
+reported_from why entries since jumping (r ∷ rs) s =
+    if is_passed (sought_by jumping) r then reported_if_asked why r (passed_texts jumping) ++ reported_from why entries since jumping rs s
     else
-    told_if_asked why r (course entries since r s)
-    ++ told_from why entries (since_behind since r (apply entries r s).0.finals) (jumping_after (apply entries r s).1 r) rs (apply entries r s).0
+    reported_if_asked why r (course entries since r s)
+    ++ reported_from why entries (since_after since r (apply entries r s).0.finals) (jumping_after (apply entries r s).1 r) rs (apply entries r s).0
 
 -- the rules of an event that are asked for, each with what is reported for it
-abbrev pub told_of : List Text → List Rule → List Entry → EventValue → List (Rule × List Text)
-told_of why rules entries event = told_from why entries no_since None rules (start event)
+abbrev pub reported_for : List Text → List Rule → List Entry → EventValue → List (Rule × List Text)
+reported_for why rules entries event = reported_from why entries no_since None rules (start event)
 
 -- the lines on a rule
 abbrev pub rule_lines : Rule × List Text → Text
-rule_lines told = flat_map (why_line told.0.file told.0.line) told.1
+rule_lines reported = flat_map (why_line reported.0.file reported.0.line) reported.1
 
 -- the lines of `--why` after the answer to an event: those on lines that were not read, then those on rules in the order of
 -- evaluation
 unfoldable pub why_lines : List Text → List Message → List Rule → List Entry → EventValue → Text
-why_lines why messages rules entries event = unread_lines (unread why messages rules) ++ flat_map rule_lines (told_of why rules entries event)
+why_lines why messages rules entries event = unread_lines (unread why messages rules) ++ flat_map rule_lines (reported_for why rules entries event)

@@ -4,7 +4,7 @@ ghost use Rattle.engine_courses.specs.Asked.{unread};
 ghost use Rattle.engine_courses.specs.WhyLines.{unread_lines, why_lines};
 
 use crate::lines::push_unread;
-use crate::telling::tell_event;
+use crate::reporting::report_event;
 use crate::unread::is_unread;
 use device_core::Event;
 use hwdb_lookup::Lookup;
@@ -51,5 +51,5 @@ pub fn push_why_lines<L: Lookup>(
     ensures { OnOk result (lines.new.items ≡ lines.old.items ++ why_lines (map (λ t. t.now) why.now) rules.now.messages rules.now.rules (L.entries lookup.now) event.now) }
 {
     push_unread_lines(alloc, lines, why, rules.messages(), rules.rules())?;
-    tell_event(alloc, lines, why, rules.rules(), event, lookup)
+    report_event(alloc, lines, why, rules.rules(), event, lookup)
 }

@@ -4,15 +4,15 @@ ghost use Rattle.text_bytes.specs.Names.{colon};
 ghost use Rattle.text_tables.specs.Texts.{same_text};
 ghost use Rattle.engine_courses.specs.Asked.{asks, is_asked, is_known};
 
-use crate::nearest::behind;
 use crate::places::Place;
 use itoa::Buffer;
+use text_bytes::following;
 
 /// Whether a text is `:` and the number of a line.
 fn is_line(text: &[u8], line: u32) -> bool
     ensures { result ≡ same_text text.now (colon ∷ decimal line) }
 {
-    match behind(b":", text) {
+    match following(b":", text) {
         None => false,
         Some(digits) => digits == Buffer::new().format(line).as_bytes(),
     }
@@ -22,7 +22,7 @@ fn is_line(text: &[u8], line: u32) -> bool
 fn asks(text: &[u8], file: &[u8], line: u32) -> bool
     ensures { result ≡ asks text.now (file.now, line) }
 {
-    match behind(file, text) {
+    match following(file, text) {
         None => false,
         Some(rest) => rest.is_empty() || is_line(rest, line),
     }

@@ -7,28 +7,28 @@ ghost use Rattle.hwdb_lookup.specs.declared.entry.Entry as entries;
 ghost use Rattle.rule_types.specs.Rules as rules;
 ghost use Rattle.device_core.specs.Values.{EventValue};
 ghost use Rattle.engine_courses.specs.Asked.{is_asked, unknown};
-ghost use Rattle.engine_courses.specs.WhyLines.{told_of, why_lines};
+ghost use Rattle.engine_courses.specs.WhyLines.{reported_for, why_lines};
 
 /// A text is unknown if and only if it asks for no rule and for no message's place.
 #[tactic(auto, using(crate::proofs::Known::known_is))]
 pub fn unknown_asks_for_nothing()
-    ensures { (text : Text) (told : List messages.Message) (read : List rules.Rule) → is_none (unknown (text ∷ []) told read) ≡ (list_any (λ r. is_asked (text ∷ []) r.file r.line) read || list_any (λ m. is_asked (text ∷ []) m.file m.line) told) }
+    ensures { (text : Text) (reported : List messages.Message) (read : List rules.Rule) → is_none (unknown (text ∷ []) reported read) ≡ (list_any (λ r. is_asked (text ∷ []) r.file r.line) read || list_any (λ m. is_asked (text ∷ []) m.file m.line) reported) }
 {}
 
 /// Of several texts the first unknown one is reported.
 #[tactic(auto, using(crate::proofs::Known::first_is))]
-pub fn first_unknown_is_told()
-    ensures { (text : Text) (why : List Text) (told : List messages.Message) (read : List rules.Rule) → unknown (text ∷ why) told read ≡ (if is_none (unknown (text ∷ []) told read) then unknown why told read else unknown (text ∷ []) told read) }
+pub fn first_unknown_is_reported()
+    ensures { (text : Text) (why : List Text) (reported : List messages.Message) (read : List rules.Rule) → unknown (text ∷ why) reported read ≡ (if is_none (unknown (text ∷ []) reported read) then unknown why reported read else unknown (text ∷ []) reported read) }
 {}
 
 /// Rules that are not asked for have no line.
-#[tactic(auto, using(crate::proofs::Told::asked_alone))]
-pub fn rules_are_told_where_asked()
-    ensures { (why : List Text) (read : List rules.Rule) (entries : List entries.Entry) (event : EventValue) → list_all (λ told. is_asked why told.0.file told.0.line) (told_of why read entries event) ≡ true }
+#[tactic(auto, using(crate::proofs::Reported::asked_alone))]
+pub fn rules_are_reported_where_asked()
+    ensures { (why : List Text) (read : List rules.Rule) (entries : List entries.Entry) (event : EventValue) → list_all (λ reported. is_asked why reported.0.file reported.0.line) (reported_for why read entries event) ≡ true }
 {}
 
 /// If nothing is asked for, nothing is reported.
-#[tactic(auto, using(crate::proofs::Told::nothing_told))]
-pub fn nothing_is_told_unasked()
-    ensures { (told : List messages.Message) (read : List rules.Rule) (entries : List entries.Entry) (event : EventValue) → why_lines [] told read entries event ≡ [] }
+#[tactic(auto, using(crate::proofs::Reported::nothing_reported))]
+pub fn nothing_is_reported_unasked()
+    ensures { (reported : List messages.Message) (read : List rules.Rule) (entries : List entries.Entry) (event : EventValue) → why_lines [] reported read entries event ≡ [] }
 {}

@@ -14,13 +14,13 @@ mod laws;
 mod lines;
 mod nearest;
 mod places;
-mod telling;
+mod reporting;
 mod unknown;
 mod unread;
 
 pub use answers::push_why_lines;
 pub use laws::{
-    first_unknown_is_told, nothing_is_told_unasked, rules_are_told_where_asked,
+    first_unknown_is_reported, nothing_is_reported_unasked, rules_are_reported_where_asked,
     unknown_asks_for_nothing,
 };
 pub use unknown::first_unknown;

@@ -2,11 +2,11 @@
 ghost use Rattle.std.specs.Prelude.{◌≡◌, Some, option_map};
 ghost use Rattle.text_bytes.specs.Numbers.{is_decimal};
 ghost use Rattle.engine_courses.specs.Inner.{nearer};
-ghost use Rattle.engine_courses.specs.Nearest.{behind, candidate_of, is_nearer, least, line_in, line_number, nearest};
+ghost use Rattle.engine_courses.specs.Nearest.{candidate_of, is_nearer, least, line_in, line_number, nearest};
 
 use crate::places::Place;
 use std::marker::Model;
-use text_bytes::{decimal_below, is_digit};
+use text_bytes::{decimal_below, following, is_digit};
 
 /// A place, and how far it is from the line that a text asks for.
 #[derive(Drop)]
@@ -30,13 +30,6 @@ impl<'a> Candidate<'a> {
     {
         self.place
     }
-}
-
-/// What follows the front of a text, if it begins with that.
-pub(crate) fn behind<'a>(front: &[u8], text: &'a [u8]) -> Option<&'a [u8]>
-    ensures { option_map (λ t. t.now) result ≡ behind front.now text.now }
-{
-    text.strip_prefix(front)
 }
 
 /// Whether a text is decimal digits, at least one.
@@ -63,7 +56,7 @@ fn line_number(digits: &[u8]) -> Option<u32>
 fn line_in(file: &[u8], text: &[u8]) -> Option<u32>
     ensures { result ≡ line_in file.now text.now }
 {
-    line_number(behind(b":", behind(file, text)?)?)
+    line_number(following(b":", following(file, text)?)?)
 }
 
 /// A place with how far it is from the line of its file that a text asks for.

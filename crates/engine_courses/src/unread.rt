@@ -8,7 +8,7 @@ use rule_types::Rule;
 use text_bytes::Message;
 
 /// Whether a rule is on a line of a file.
-fn stands_at(rule: &Rule, file: &[u8], line: u32) -> bool
+fn is_at(rule: &Rule, file: &[u8], line: u32) -> bool
     ensures { result ≡ (same_text rule.now.file file.now && rule.now.line == line) }
 {
     rule.file() == file && rule.line() == line
@@ -18,7 +18,7 @@ fn stands_at(rule: &Rule, file: &[u8], line: u32) -> bool
 fn has_rule(rules: &[Rule], file: &[u8], line: u32) -> bool
     ensures { result ≡ has_rule rules.now file.now line }
 {
-    rules.iter().any(|rule| stands_at(rule, file, line))
+    rules.iter().any(|rule| is_at(rule, file, line))
 }
 
 /// Whether a message is on a line that is asked for and was not read.

@@ -3,9 +3,9 @@ use Rattle.std.proofs.Common.{◌≡◌, ℕ, ◌+◌, ◌<◌, ◌≤◌, List,
 use Rattle.std.proofs.Math.Seq.{drop-cons, take-append-add}
 use Rattle.std.proofs.lemmas.List.{take-append-drop, take-append-le}
 use Rattle.std.proofs.lemmas.Grind.{common_steps, flat_map-append}
-use Rattle.engine_ends.specs.Told.{followed_by}
+use Rattle.engine_ends.specs.Reported.{followed_by}
 use Rattle.engine_ends.specs.Sinks.{BreaksOff, SinkState, Takes}
-use Rattle.engine_ends.proofs.Told.{followed_by-append}
+use Rattle.engine_ends.proofs.Reported.{followed_by-append}
 
 -- the pieces of a list, with that of one place apart
 flat_map-split : {X A : Type 0} (f : X → List A) (xs : List X) (i : ℕ) (d : X) → i < length xs → flat_map f xs ≡ flat_map f (take i xs) ++ (f (get_or xs i d) ++ flat_map f (drop (suc i) xs))
@@ -25,7 +25,7 @@ breaks-in-middle before mid now first text rest takes breaks = record {
     length first + breaks.taken.0,
     within-middle first text rest breaks.taken.0 breaks.taken.1,
     breaks.taken.2
-        ∙ ap (λ told. followed_by told (take breaks.taken.0 text)) takes.taken
+        ∙ ap (λ reported. followed_by reported (take breaks.taken.0 text)) takes.taken
         ∙ followed_by-append before.taken first (take breaks.taken.0 text)
         ∙ ap (followed_by before.taken) (sym (take-middle first text rest breaks.taken.0 breaks.taken.1)),
   );

@@ -5,14 +5,14 @@ use Rattle.std.proofs.lemmas.List.{append-nil, get_or-drop, take-append-drop, ta
 use Rattle.std.proofs.lemmas.Grind.{flat_map-append}
 use Rattle.text_bytes.specs.Escapes.{escape_byte, escape_text, is_escaped}
 use Rattle.text_bytes.proofs.Escaping.{escape_text-more}
-use Rattle.engine_ends.specs.Told.{followed_by}
+use Rattle.engine_ends.specs.Reported.{followed_by}
 use Rattle.engine_ends.specs.Sinks.{BreaksOff, SinkState, Takes}
 use Rattle.engine_ends.proofs.Breaks.{breaks-at, breaks-in-middle}
-use Rattle.engine_ends.proofs.Told.{followed_by-append}
+use Rattle.engine_ends.proofs.Reported.{followed_by-append}
 
 pub takes-both : (before mid now : SinkState) (first second : List ℕ) → Takes before first mid → Takes mid second now → Takes before (first ++ second) now
 takes-both before mid now first second p q = record {
-  taken = q.taken ∙ ap (λ told. followed_by told second) p.taken ∙ followed_by-append before.taken first second;
+  taken = q.taken ∙ ap (λ reported. followed_by reported second) p.taken ∙ followed_by-append before.taken first second;
   flushed = q.flushed ∙ p.flushed;
   well = q.well ∙ p.well;
 }
@@ -23,13 +23,13 @@ breaks-second before mid now first second takes h =
     rw (← append-nil second) (breaks-in-middle before mid now first second [] takes h)
 
 -- what is reported for a byte, by whether it is escaped
-pub told : (needed : Bool) (text shown : List ℕ) → then_some needed text ≡ Some shown → shown ≡ text
-told true text shown h = cc
-told false text shown h = absurd cc
+pub reported : (needed : Bool) (text shown : List ℕ) → then_some needed text ≡ Some shown → shown ≡ text
+reported true text shown h = cc
+reported false text shown h = absurd cc
 
-pub untold : (needed : Bool) (text : List ℕ) → ((shown : List ℕ) → then_some needed text ≡ Some shown → ⊥) → needed ≡ false
-untold true text h = absurd (h text refl)
-untold false text h = refl
+pub unreported : (needed : Bool) (text : List ℕ) → ((shown : List ℕ) → then_some needed text ≡ Some shown → ⊥) → needed ≡ false
+unreported true text h = absurd (h text refl)
+unreported false text h = refl
 
 -- the bytes between two places
 abbrev run : List ℕ → ℕ → ℕ → List ℕ
@@ -55,7 +55,7 @@ plain-more text first from to h l e so_far =
     ∙ append_assoc first (run text from to) (b ∷ [])
     ∙ ap (λ (bs : List ℕ). first ++ bs) (sym (run-more text from to h l))
 
--- a run went out, and after it a byte that does not stand for itself
+-- a run was written, and after it a byte that does not stand for itself
 pub takes-more : (before mid later now : SinkState) (text first : List ℕ) (from to : ℕ) → to < length text
     → escape_text (take to text) ≡ first ++ take (to - from) (drop from text)
     → Takes before first mid → Takes mid (take (to - from) (drop from text)) later → Takes later (escape_byte (get_or text to 0)) now

@@ -5,7 +5,7 @@ use Rattle.engine_ends.specs.Sinks.{BreaksOff, HandsOn, SinkState}
 use Rattle.engine_ends.specs.Streams.{Outputs}
 
 -- what a run writes to the output and to the error output, and its status, if nothing fails
-pub record Outcome : Type 0 where
+pub record RunOutcome : Type 0 where
   pub output : List ℕ
   pub messages : List ℕ
   pub status : ℕ
@@ -19,41 +19,41 @@ abbrev pub out_of_memory : List ℕ
 out_of_memory = codes "devdry: out of memory\n"
 
 -- A line on a failure is passed on and its status returned, or the sink breaks off and the status is 3.
-abbrev pub Tells : List ℕ → ℕ → ℕ → SinkState → SinkState → Type 0
-Tells line wanted status before now = ((status ≡ wanted) × HandsOn before line now) ⊎ ((status ≡ 3) × BreaksOff before line now)
+abbrev pub ReportsFailure : List ℕ → ℕ → ℕ → SinkState → SinkState → Type 0
+ReportsFailure line wanted status before now = ((status ≡ wanted) × HandsOn before line now) ⊎ ((status ≡ 3) × BreaksOff before line now)
 
 -- Nothing failed: all of the outcome is written and flushed, and its status returned.
-pub record IsWhole (outcome : Outcome) (status : ℕ) (before now : Outputs) : Type 0 where
+pub record IsWhole (outcome : RunOutcome) (status : ℕ) (before now : Outputs) : Type 0 where
   pub messages : HandsOn before.err outcome.messages now.err
   pub output : HandsOn before.out outcome.output now.out
   pub status_is : status ≡ outcome.status
 
 -- The error output failed at the messages: nothing was written to the output.
-pub record FailsAtMessages (outcome : Outcome) (before now : Outputs) : Type 0 where
+pub record FailsAtMessages (outcome : RunOutcome) (before now : Outputs) : Type 0 where
   pub messages : BreaksOff before.err outcome.messages now.err
   pub untouched : now.out ≡ before.out
 
 -- The output failed after all messages were written: its line follows them, as far as the error output takes it.
-pub record FailsAtOutput (outcome : Outcome) (status : ℕ) (before now : Outputs) : Type 0 where
-  pub told : SinkState
-  pub messages : HandsOn before.err outcome.messages told
+pub record FailsAtOutput (outcome : RunOutcome) (status : ℕ) (before now : Outputs) : Type 0 where
+  pub reported : SinkState
+  pub messages : HandsOn before.err outcome.messages reported
   pub output : BreaksOff before.out outcome.output now.out
-  pub line : Tells write_failed 3 status told now.err
+  pub line : ReportsFailure write_failed 3 status reported now.err
 
 -- Memory ran out: no part of the outcome is written, and the line that says so is, as far as the error output takes
 -- it.
-pub record IsRefused (status : ℕ) (before now : Outputs) : Type 0 where
-  pub line : Tells out_of_memory 4 status before.err now.err
+pub record IsOutOfMemory (status : ℕ) (before now : Outputs) : Type 0 where
+  pub line : ReportsFailure out_of_memory 4 status before.err now.err
   pub untouched : now.out ≡ before.out
 
 -- What was written, by the status: all of the outcome under 3, as far as the devices went at 3, and no part of it at 4.
-pub record Delivers (outcome : Outcome) (status : ℕ) (before now : Outputs) : Type 0 where
+pub record Delivers (outcome : RunOutcome) (status : ℕ) (before now : Outputs) : Type 0 where
   pub whole : status < 3 → IsWhole outcome status before now
-  pub failed : status ≡ 3 → FailsAtMessages outcome before now ⊎ FailsAtOutput outcome status before now ⊎ IsRefused status before now
-  pub refused : status ≡ 4 → IsRefused status before now
+  pub failed : status ≡ 3 → FailsAtMessages outcome before now ⊎ FailsAtOutput outcome status before now ⊎ IsOutOfMemory status before now
+  pub refused : status ≡ 4 → IsOutOfMemory status before now
   pub statuses : status ≤ 4
 
 -- Status 3 is returned if one call of one of the sinks failed, and only then.
-pub record TellsFaults (status : ℕ) (before now : Outputs) : Type 0 where
+pub record ReportsFaults (status : ℕ) (before now : Outputs) : Type 0 where
   pub failed : status ≡ 3 → Counts 1 before.out.faults now.out.faults ⊎ Counts 1 before.err.faults now.err.faults
   pub well : (status ≡ 3 → ⊥) → (now.out.faults ≡ before.out.faults) × (now.err.faults ≡ before.err.faults)

@@ -1,6 +1,6 @@
 pub mod Kinds
 pub mod Folders
-pub mod Told
+pub mod Reported
 pub mod Cuts
 pub mod Sinks
 pub mod Sources

@@ -1,6 +1,6 @@
 -- What a sink shows, and what its calls change.
 use Rattle.std.specs.Prelude.{◌≡◌, ℕ, ◌≤◌, Option, None, List, length, take}
-use Rattle.engine_ends.specs.Told.{followed_by}
+use Rattle.engine_ends.specs.Reported.{followed_by}
 use Rattle.engine_ends.specs.Counts.{Counts}
 
 -- the bytes that a sink took and those that it flushed, if it reports them, and how many of its calls failed
@@ -10,8 +10,8 @@ pub record SinkState : Type 0 where
   pub faults : ℕ
 
 -- what a sink that does not report its bytes shows
-abbrev pub untold_sink : ℕ → SinkState
-untold_sink faults = record { taken = None; flushed = None; faults = faults }
+abbrev pub unreported_sink : ℕ → SinkState
+unreported_sink faults = record { taken = None; flushed = None; faults = faults }
 
 -- The sink took these bytes; nothing more was flushed, and no call failed.
 pub record Takes (before : SinkState) (bytes : List ℕ) (now : SinkState) : Type 0 where

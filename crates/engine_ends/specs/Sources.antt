@@ -1,6 +1,6 @@
 -- What a source shows, and what a read changes.
 use Rattle.std.specs.Prelude.{◌≡◌, ℕ, Option, None, List, [], ◌∷◌}
-use Rattle.engine_ends.specs.Told.{followed_by, led_by}
+use Rattle.engine_ends.specs.Reported.{followed_by, led_by}
 use Rattle.engine_ends.specs.Counts.{Counts}
 
 -- the pieces read and the bytes still to come, if a source reports them, how many reads were made of it, and how many
@@ -12,8 +12,8 @@ pub record SourceState : Type 0 where
   pub faults : ℕ
 
 -- what a source that does not report its bytes shows
-abbrev pub untold_source : ℕ → ℕ → SourceState
-untold_source reads faults = record { pieces = None; left = None; reads = reads; faults = faults }
+abbrev pub unreported_source : ℕ → ℕ → SourceState
+unreported_source reads faults = record { pieces = None; left = None; reads = reads; faults = faults }
 
 -- One read was made, and it gave a piece, the first of the bytes still to come.
 pub record Gives (before : SourceState) (piece : List ℕ) (now : SourceState) : Type 0 where

@@ -6,7 +6,7 @@
 ghost use Rattle.std.specs.Prelude.{◌≡◌, ◌<◌, ◌++◌, ◌∷◌, [], flat_map};
 ghost use Rattle.text_bytes.specs.Escapes.{escape_text};
 ghost use Rattle.text_bytes.specs.Names.{newline};
-ghost use Rattle.engine_ends.specs.Delivery.{Delivers, Tells, out_of_memory};
+ghost use Rattle.engine_ends.specs.Delivery.{Delivers, ReportsFailure, out_of_memory};
 
 use crate::device::{DeviceFault, Sink};
 use crate::writing::{hand_on, hand_on_each, hand_on_word};
@@ -35,7 +35,7 @@ pub fn deliver<W: Sink, E: Sink>(
         return 3;
     }
     if hand_on(output, answer).is_err() {
-        return tell(error, WRITE_FAILED, 3);
+        return report_failure(error, WRITE_FAILED, 3);
     }
     status
 }
@@ -58,22 +58,22 @@ pub fn deliver_in_pieces<W: Sink, E: Sink>(
     match hand_on_each(error, messages) {
         Ok(()) => match hand_on(output, answer) {
             Ok(()) => status,
-            Err(DeviceFault) => tell(error, WRITE_FAILED, 3),
+            Err(DeviceFault) => report_failure(error, WRITE_FAILED, 3),
         },
         Err(DeviceFault) => 3,
     }
 }
 
 /// Reports that memory ran out, and returns the status for it, 4, or 3 if the error output failed.
-pub fn tell_out_of_memory<E: Sink>(error: &mut E) -> u8
-    ensures { Tells out_of_memory 4 result (E.shown error.old) (E.shown error.new) }
+pub fn report_out_of_memory<E: Sink>(error: &mut E) -> u8
+    ensures { ReportsFailure out_of_memory 4 result (E.shown error.old) (E.shown error.new) }
 {
-    tell(error, OUT_OF_MEMORY, 4)
+    report_failure(error, OUT_OF_MEMORY, 4)
 }
 
 /// Writes a line on a failure, and returns its status, or 3 if the error output failed.
-pub fn tell<E: Sink>(error: &mut E, line: &[u8], status: u8) -> u8
-    ensures { Tells line.now status result (E.shown error.old) (E.shown error.new) }
+pub fn report_failure<E: Sink>(error: &mut E, line: &[u8], status: u8) -> u8
+    ensures { ReportsFailure line.now status result (E.shown error.old) (E.shown error.new) }
 {
     match hand_on(error, line) {
         Ok(()) => status,
@@ -83,8 +83,8 @@ pub fn tell<E: Sink>(error: &mut E, line: &[u8], status: u8) -> u8
 
 /// Writes a line on a failure that is made of several texts, and returns its status, or 3 if the error output
 /// failed.
-pub fn tell_in_pieces<E: Sink>(error: &mut E, line: &[&[u8]], status: u8) -> u8
-    ensures { Tells (flat_map (λ t. t.now) line.now) status result (E.shown error.old) (E.shown error.new) }
+pub fn report_in_pieces<E: Sink>(error: &mut E, line: &[&[u8]], status: u8) -> u8
+    ensures { ReportsFailure (flat_map (λ t. t.now) line.now) status result (E.shown error.old) (E.shown error.new) }
 {
     match hand_on_each(error, line) {
         Ok(()) => status,
@@ -94,8 +94,8 @@ pub fn tell_in_pieces<E: Sink>(error: &mut E, line: &[&[u8]], status: u8) -> u8
 
 /// Writes a line on a failure that is a text and a word, the word escaped, so that it can't end the line, and
 /// returns its status, or 3 if the error output failed.
-pub fn tell_word<E: Sink>(error: &mut E, text: &[u8], word: &[u8], status: u8) -> u8
-    ensures { Tells (text.now ++ escape_text word.now ++ newline ∷ []) status result
+pub fn report_word<E: Sink>(error: &mut E, text: &[u8], word: &[u8], status: u8) -> u8
+    ensures { ReportsFailure (text.now ++ escape_text word.now ++ newline ∷ []) status result
         (E.shown error.old) (E.shown error.new) }
 {
     match hand_on_word(error, text, word) {

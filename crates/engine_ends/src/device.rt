@@ -3,7 +3,7 @@
 //! Each shows contracts one record. What it reports about the bytes is an `Option`, so that one contract serves
 //! both kinds of devices: a clause on the bytes says nothing about a device that does not report them.
 ghost use Rattle.std.specs.Prelude.{◌≡◌, ◌<◌, ◌≤◌, length, take, IfOk, OnOk, OnErr};
-ghost use Rattle.engine_ends.specs.Told.{NoneLeft};
+ghost use Rattle.engine_ends.specs.Reported.{NoneLeft};
 ghost use Rattle.engine_ends.specs.Sinks.{SinkState, Flushes, SinkFails, Takes};
 ghost use Rattle.engine_ends.specs.Sources.{SourceState, Gives, SourceFails};
 

@@ -17,7 +17,7 @@ mod std_streams;
 mod writing;
 
 pub use delivery::{
-    deliver, deliver_in_pieces, tell, tell_in_pieces, tell_out_of_memory, tell_word,
+    deliver, deliver_in_pieces, report_failure, report_in_pieces, report_out_of_memory, report_word,
 };
 pub use device::{DeviceFault, Sink, Source};
 pub use folders::folder_path;

@@ -6,9 +6,9 @@
 //! call here.
 ghost use Rattle.std.specs.Prelude.{◌≡◌, ◌<◌, ◌≤◌, length, take, IfOk, OnOk, OnErr};
 ghost use Rattle.std.specs.Io.KnownBytes.{Keeps, ReadConsumes, WriteAppends};
-ghost use Rattle.engine_ends.specs.Told.{NoneLeft};
-ghost use Rattle.engine_ends.specs.Sinks.{Flushes, SinkState, SinkFails, Takes, untold_sink};
-ghost use Rattle.engine_ends.specs.Sources.{SourceState, Gives, SourceFails, untold_source};
+ghost use Rattle.engine_ends.specs.Reported.{NoneLeft};
+ghost use Rattle.engine_ends.specs.Sinks.{Flushes, SinkState, SinkFails, Takes, unreported_sink};
+ghost use Rattle.engine_ends.specs.Sources.{SourceState, Gives, SourceFails, unreported_source};
 
 use crate::device::{DeviceFault, Sink, Source};
 use std::io::{Read, Write};
@@ -25,7 +25,7 @@ pub struct SourceOver<R> {
 impl<R: Read> SourceOver<R> {
     /// A source over a reader, of which no read was made.
     pub fn new(reader: R) -> SourceOver<R>
-        ensures { ⟦<SourceOver<R> as Source>⟧.shown result ≡ untold_source 0 0 }
+        ensures { ⟦<SourceOver<R> as Source>⟧.shown result ≡ unreported_source 0 0 }
     {
         SourceOver {
             reader,
@@ -36,13 +36,13 @@ impl<R: Read> SourceOver<R> {
 }
 
 impl<R: Read> Source for SourceOver<R> {
-    ghost shown = { λ s. untold_source s.made s.faults };
+    ghost shown = { λ s. unreported_source s.made s.faults };
 
     fn read(&mut self, into: &mut [u8]) -> Result<usize, DeviceFault>
         ensures within { IfOk result (λ n. n ≤ length into.old) }
-        ensures gives { IfOk result (λ n. Gives (untold_source self.old.made self.old.faults) (take n into.new) (untold_source self.new.made self.new.faults)) }
-        ensures end { IfOk result (λ n. n ≡ 0 → NoneLeft (untold_source self.old.made self.old.faults).left) }
-        ensures fails { OnErr result (SourceFails (untold_source self.old.made self.old.faults) (untold_source self.new.made self.new.faults)) }
+        ensures gives { IfOk result (λ n. Gives (unreported_source self.old.made self.old.faults) (take n into.new) (unreported_source self.new.made self.new.faults)) }
+        ensures end { IfOk result (λ n. n ≡ 0 → NoneLeft (unreported_source self.old.made self.old.faults).left) }
+        ensures fails { OnErr result (SourceFails (unreported_source self.old.made self.old.faults) (unreported_source self.new.made self.new.faults)) }
         ensures bytes { ReadConsumes (R.remaining self.old.reader) (R.remaining self.new.reader) result into.new }
     {
         self.made = self.made.saturating_add(1);
@@ -66,21 +66,21 @@ pub struct SinkOver<W> {
 impl<W: Write> SinkOver<W> {
     /// A sink over a writer, none of whose calls has failed.
     pub fn new(writer: W) -> SinkOver<W>
-        ensures { ⟦<SinkOver<W> as Sink>⟧.shown result ≡ untold_sink 0 }
+        ensures { ⟦<SinkOver<W> as Sink>⟧.shown result ≡ unreported_sink 0 }
     {
         SinkOver { writer, faults: 0 }
     }
 }
 
 impl<W: Write> Sink for SinkOver<W> {
-    ghost shown = { λ s. untold_sink s.faults };
+    ghost shown = { λ s. unreported_sink s.faults };
 
     fn write(&mut self, text: &[u8]) -> Result<usize, DeviceFault>
         ensures within { IfOk result (λ n. n ≤ length text.now) }
-        ensures takes { IfOk result (λ n. 0 < n → Takes (untold_sink self.old.faults) (take n text.now) (untold_sink self.new.faults)) }
-        ensures empty { OnOk result (length text.now ≡ 0 → Takes (untold_sink self.old.faults) text.now (untold_sink self.new.faults)) }
-        ensures refuses { IfOk result (λ n. n ≡ 0 → 0 < length text.now → SinkFails (untold_sink self.old.faults) (untold_sink self.new.faults)) }
-        ensures fails { OnErr result (SinkFails (untold_sink self.old.faults) (untold_sink self.new.faults)) }
+        ensures takes { IfOk result (λ n. 0 < n → Takes (unreported_sink self.old.faults) (take n text.now) (unreported_sink self.new.faults)) }
+        ensures empty { OnOk result (length text.now ≡ 0 → Takes (unreported_sink self.old.faults) text.now (unreported_sink self.new.faults)) }
+        ensures refuses { IfOk result (λ n. n ≡ 0 → 0 < length text.now → SinkFails (unreported_sink self.old.faults) (unreported_sink self.new.faults)) }
+        ensures fails { OnErr result (SinkFails (unreported_sink self.old.faults) (unreported_sink self.new.faults)) }
         ensures bytes { WriteAppends (W.contents self.old.writer) (W.contents self.new.writer) result text.now }
     {
         match self.writer.write(text) {
@@ -98,8 +98,8 @@ impl<W: Write> Sink for SinkOver<W> {
     }
 
     fn flush(&mut self) -> Result<(), DeviceFault>
-        ensures flushes { OnOk result (Flushes (untold_sink self.old.faults) (untold_sink self.new.faults)) }
-        ensures fails { OnErr result (SinkFails (untold_sink self.old.faults) (untold_sink self.new.faults)) }
+        ensures flushes { OnOk result (Flushes (unreported_sink self.old.faults) (unreported_sink self.new.faults)) }
+        ensures fails { OnErr result (SinkFails (unreported_sink self.old.faults) (unreported_sink self.new.faults)) }
         ensures bytes { Keeps (W.contents self.old.writer) (W.contents self.new.writer) }
     {
         match self.writer.flush() {

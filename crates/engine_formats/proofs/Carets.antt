@@ -9,7 +9,7 @@ use Rattle.text_bytes.specs.Lines.{lines}
 use Rattle.text_bytes.specs.Names.{caret, newline, space, tab}
 use Rattle.engine_formats.specs.Diagnostics.{DiagnosticValue}
 use Rattle.engine_formats.specs.Human.{advice_line, continues, first_start, human_lines, mark_line, shown_byte, source_line, source_lines, tilde, title_line, under, window, window_start}
-use Rattle.engine_formats.specs.Marks.{PointsAt, before_caret, columns, columns_from, line_behind}
+use Rattle.engine_formats.specs.Marks.{PointsAt, before_caret, columns, columns_from, line_after}
 use Rattle.engine_formats.specs.Paints.{escape_code, paint_of, paint_start, paint_stop}
 use Rattle.engine_formats.specs.Readers.{HasPlace}
 use Rattle.engine_formats.specs.declared.paint.Paint.{Paint}
@@ -68,14 +68,14 @@ below : (paint : Paint) (before place : List ℕ) → columns (before_caret (mar
 unfolding mark_body
 below paint before place =
     let row : List ℕ = flat_map (under space) before in
-    let front : List ℕ = codes "  " ++ row ++ paint_start paint in
+    let prefix : List ℕ = codes "  " ++ row ++ paint_start paint in
     let tildes : List ℕ = flat_map (under tilde) (drop 1 place) in
     let lacks = lacks-append caret (codes "  " ++ row) (paint_start paint) (lacks-append caret (codes "  ") row refl (spaces_have_no_caret before)) (start_has_no_caret paint) in
-    ap (λ (t : List ℕ). columns (before_caret t)) (append_assoc (front ++ codes "^") tildes (paint_stop paint) ∙ append_assoc front (codes "^") (tildes ++ paint_stop paint))
-    ∙ ap columns (up_to (λ b. eqb b caret) front caret (tildes ++ paint_stop paint) lacks refl)
+    ap (λ (t : List ℕ). columns (before_caret t)) (append_assoc (prefix ++ codes "^") tildes (paint_stop paint) ∙ append_assoc prefix (codes "^") (tildes ++ paint_stop paint))
+    ∙ ap columns (up_to (λ b. eqb b caret) prefix caret (tildes ++ paint_stop paint) lacks refl)
     ∙ ap (λ (n : ℕ). suc (suc n)) (under_columns before (paint_start paint) (start_columns paint))
 
--- what is known of where the part that is shown begins: before the place, and near enough to it
+-- what is known about the start of the part that is shown: it is before the place, and near enough to it
 record Near (source : List ℕ) (column start : ℕ) : Type 0 where
   before : start ≤ column - 1
   room : 160 ≤ column - 1 - start → length source ≤ column - 1
@@ -161,7 +161,7 @@ from_place source column start near =
     ∙ enough source column count near.room near.most
 
 pub caret_points : (in_color : Bool) (d : DiagnosticValue) → HasPlace d → d.column ≤ length d.source + 1
-    → PointsAt d.source d.column (line_behind 1 (human_lines in_color d)) (line_behind 2 (human_lines in_color d))
+    → PointsAt d.source d.column (line_after 1 (human_lines in_color d)) (line_after 2 (human_lines in_color d))
 caret_points in_color d h within =
     let start : ℕ = window_start d.source d.column in
     let count : ℕ = count_before d in
@@ -188,7 +188,7 @@ from_the_start source column short =
     ap (λ (n : ℕ). cond (eqb n 0) 0 (n + prefix_len continues (take 3 (drop n source)))) none
 
 pub whole_shown : (in_color : Bool) (d : DiagnosticValue) → HasPlace d → length d.source ≤ 160
-    → line_behind 1 (human_lines in_color d) ≡ codes "  " ++ map shown_byte d.source
+    → line_after 1 (human_lines in_color d) ≡ codes "  " ++ map shown_byte d.source
 whole_shown in_color d h short =
     ap (λ (ls : List (List ℕ)). slice_index_or ls 1 []) (four_lines in_color d h).1
     ∙ ap (λ (n : ℕ). codes "  " ++ map shown_byte (window d.source n)) (from_the_start d.source d.column short)

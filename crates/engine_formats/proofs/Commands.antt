@@ -8,7 +8,7 @@ use Rattle.engine_formats.specs.Diagnostics.{DiagnosticValue}
 use Rattle.engine_formats.specs.Github.{ends_line, ends_property, github_byte, github_place, github_property, github_read, github_text, property_at, property_byte}
 use Rattle.engine_formats.proofs.OneLine.{up_to}
 
--- a byte that is no `%` is itself
+-- a byte that is not `%` is itself
 plain : (b : ℕ) (rest : List ℕ) → eqb b percent ≡ false → github_read (b ∷ rest) ≡ b ∷ github_read rest
 plain b [] e = refl
 plain b (c ∷ []) e = refl

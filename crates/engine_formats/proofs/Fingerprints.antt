@@ -41,10 +41,10 @@ regrouped l c k p = append_assoc (l ++ colon ∷ c) (colon ∷ k) (colon ∷ p) 
 pub same_place : (one other : DiagnosticValue) → HasPlace one → HasPlace other → fingerprint one ≡ fingerprint other
     → (one.line ≡ other.line) × (one.column ≡ other.column) × (code_of one.remark ≡ code_of other.remark) × (one.path ≡ other.path)
 same_place one other h k same =
-    let behind_code : DiagnosticValue → List ℕ = λ (d : DiagnosticValue). code_of d.remark ++ colon ∷ d.path in
-    let behind_line : DiagnosticValue → List ℕ = λ (d : DiagnosticValue). decimal d.column ++ colon ∷ behind_code d in
-    let first = in_two (decimal one.line) (decimal other.line) (behind_line one) (behind_line other) (number_lacks one.line h.line) (number_lacks other.line k.line)
+    let after_code : DiagnosticValue → List ℕ = λ (d : DiagnosticValue). code_of d.remark ++ colon ∷ d.path in
+    let after_line : DiagnosticValue → List ℕ = λ (d : DiagnosticValue). decimal d.column ++ colon ∷ after_code d in
+    let first = in_two (decimal one.line) (decimal other.line) (after_line one) (after_line other) (number_lacks one.line h.line) (number_lacks other.line k.line)
     (sym (regrouped (decimal one.line) (decimal one.column) (code_of one.remark) one.path) ∙ same ∙ regrouped (decimal other.line) (decimal other.column) (code_of other.remark) other.path) in
-    let second = in_two (decimal one.column) (decimal other.column) (behind_code one) (behind_code other) (number_lacks one.column h.column) (number_lacks other.column k.column) first.1 in
+    let second = in_two (decimal one.column) (decimal other.column) (after_code one) (after_code other) (number_lacks one.column h.column) (number_lacks other.column k.column) first.1 in
     let third = in_two (code_of one.remark) (code_of other.remark) one.path other.path (code_has_no_colon one.remark) (code_has_no_colon other.remark) second.1 in
     (number_same one.line other.line h.line k.line first.0, number_same one.column other.column h.column k.column second.0, third.0, third.1)

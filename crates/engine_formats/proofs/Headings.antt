@@ -4,7 +4,7 @@ use Rattle.std.specs.List.{list_any}
 use Rattle.text_bytes.specs.Names.{colon, newline, space}
 use Rattle.text_bytes.specs.Texts.{split_once}
 use Rattle.text_bytes.specs.declared.message.MessageKind.{MessageKind}
-use Rattle.text_bytes.specs.declared.message.MessageKind.TheVariants.{PropertyWithoutMatch, MatchWithoutProperty, UnindentedLine, NoEquals, EmptyKey, PatternNotSupported, BadSyntax, UnknownKey, OperatorNotAllowed, WrongAttribute, BadValue, BadSubstitution, NoLaterLabel, GivenTwice, LineTooLong, BadPrefix, SetNotSupported, OpenAtEnd, ReservedProperty, NameWithoutEffect, UnknownBuiltin, MatchesExclude, SaidTwice, RuleWithoutEffect, ResultBeforeProgram, EmptyValue, BadAttributeSubstitution, AttributeElsewhere, OldSubsystemName, AssignExpected, UnknownAccount, FileGivenUp, CommaExpected, BlankExpected, ReadAsAssign, LabelUnused, LeadingComma, BlankBeforeComma}
+use Rattle.text_bytes.specs.declared.message.MessageKind.TheVariants.{PropertyWithoutMatch, MatchWithoutProperty, UnindentedLine, NoEquals, EmptyKey, PatternNotSupported, BadSyntax, UnknownKey, OperatorNotAllowed, WrongAttribute, BadValue, BadSubstitution, NoLaterLabel, GivenTwice, LineTooLong, BadPrefix, SetNotSupported, OpenAtEnd, ReservedProperty, NameWithoutEffect, UnknownBuiltin, MatchesExclude, SaidTwice, RuleWithoutEffect, ResultBeforeProgram, EmptyValue, BadAttributeSubstitution, AttributeElsewhere, OldSubsystemName, AssignExpected, UnknownAccount, FileAbandoned, CommaExpected, BlankExpected, ReadAsAssign, LabelUnused, LeadingComma, BlankBeforeComma}
 use Rattle.rule_types.specs.declared.lint.Lint.{Lint}
 use Rattle.rule_types.specs.declared.lint.Lint.TheVariants.{ModeNotOctal, SignOfShell, RelativeProgram, LetterCase, NoSuchDevice, ImportedBelow, MeantToCompare, NameOutsideNet, LinkWithDev, QuotedName, NotAPattern, AlwaysHolds, NeverReached}
 use Rattle.engine_reports.specs.Checks.{is_style}
@@ -50,7 +50,7 @@ in_two_parts (Message AttributeElsewhere) = (refl, refl)
 in_two_parts (Message OldSubsystemName) = (refl, refl)
 in_two_parts (Message AssignExpected) = (refl, refl)
 in_two_parts (Message UnknownAccount) = (refl, refl)
-in_two_parts (Message FileGivenUp) = (refl, refl)
+in_two_parts (Message FileAbandoned) = (refl, refl)
 in_two_parts (Message CommaExpected) = (refl, refl)
 in_two_parts (Message BlankExpected) = (refl, refl)
 in_two_parts (Message ReadAsAssign) = (refl, refl)
@@ -106,7 +106,7 @@ by_style AttributeElsewhere = refl
 by_style OldSubsystemName = refl
 by_style AssignExpected = refl
 by_style UnknownAccount = refl
-by_style FileGivenUp = refl
+by_style FileAbandoned = refl
 by_style CommaExpected = refl
 by_style BlankExpected = refl
 by_style ReadAsAssign = refl
@@ -164,7 +164,7 @@ in_one_line (Message AttributeElsewhere) = (refl, refl, refl)
 in_one_line (Message OldSubsystemName) = (refl, refl, refl)
 in_one_line (Message AssignExpected) = (refl, refl, refl)
 in_one_line (Message UnknownAccount) = (refl, refl, refl)
-in_one_line (Message FileGivenUp) = (refl, refl, refl)
+in_one_line (Message FileAbandoned) = (refl, refl, refl)
 in_one_line (Message CommaExpected) = (refl, refl, refl)
 in_one_line (Message BlankExpected) = (refl, refl, refl)
 in_one_line (Message ReadAsAssign) = (refl, refl, refl)
@@ -234,7 +234,7 @@ code_has_no_colon (Message AttributeElsewhere) = refl
 code_has_no_colon (Message OldSubsystemName) = refl
 code_has_no_colon (Message AssignExpected) = refl
 code_has_no_colon (Message UnknownAccount) = refl
-code_has_no_colon (Message FileGivenUp) = refl
+code_has_no_colon (Message FileAbandoned) = refl
 code_has_no_colon (Message CommaExpected) = refl
 code_has_no_colon (Message BlankExpected) = refl
 code_has_no_colon (Message ReadAsAssign) = refl

@@ -6,6 +6,6 @@ mod SameLines
 mod Read
 mod Fingerprints
 mod Places
-mod Standing
+mod Placement
 mod Counted
 mod Carets

@@ -20,7 +20,7 @@ lacks-append byte first second p q =
     list_any-append (λ b. eqb b byte) first second
     ∙ or_from (list_any (λ b. eqb b byte) first) (list_any (λ b. eqb b byte) second) p q
 
--- a byte that is no digit is not in a number
+-- a byte that is not a digit is not in a number
 pub decimal_lacks : (byte : ℕ) → ((d : ℕ) → d < 10 → eqb (48 + d) byte ≡ false) → (n : ℕ) → n < 2 ^ 64 → Lacks byte (decimal n)
 decimal_lacks byte no_digit n h =
     decimal_by_steps (λ _ ds. Lacks byte ds)
@@ -108,7 +108,7 @@ pub or_parts : (a b : Bool) → (a || b) ≡ false → (a ≡ false) × (b ≡ f
 or_parts true b e = absurd (cc)
 or_parts false b e = (refl, e)
 
--- a text that stays on its line is the first line where a newline follows
+-- a text that stays on its line is the first line if a newline follows
 pub first_line_is : (text rest : List ℕ) → Lacks newline text → lines (text ++ newline ∷ rest) ≡ text ∷ lines rest
 first_line_is [] rest h = refl
 first_line_is (b ∷ text) rest h =

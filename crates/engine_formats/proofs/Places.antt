@@ -3,14 +3,14 @@ use Rattle.std.proofs.Common.{◌≡◌, ℕ, ◌+◌, ◌-◌, ◌^◌, ◌<◌
 use Rattle.std.specs.List.{prefix_len, suffix_len}
 use Rattle.std.proofs.lemmas.List.{drop_at, take-append-drop, take_at}
 use Rattle.text_bytes.specs.Names.{is_blank, is_whitespace}
-use Rattle.text_bytes.specs.Texts.{unindented}
+use Rattle.text_bytes.specs.Texts.{trimmed, unindented}
 use Rattle.text_bytes.specs.declared.message.MessageKind.{MessageKind}
-use Rattle.hwdb_core.specs.Lines.{before_comment, trimmed}
-use Rattle.engine_formats.specs.Placing.{is_about_property, place_in, told_text}
+use Rattle.hwdb_core.specs.Lines.{before_comment}
+use Rattle.engine_formats.specs.Placing.{is_about_property, place_in, reported_text}
 
 -- a text begins another
 Begins : List ℕ → List ℕ → Type 0
-Begins front text = (rest : List ℕ) × (text ≡ front ++ rest)
+Begins prefix text = (rest : List ℕ) × (text ≡ prefix ++ rest)
 
 first_begin : (n : ℕ) (text : List ℕ) → Begins (take n text) text
 unfolding Begins
@@ -27,8 +27,8 @@ clean_begins source =
     begin_of_begin (trimmed text) text source (first_begin (length text - suffix_len is_whitespace text) text) (first_begin _ source)
 
 -- what comes before the text that is reported
-before_told : (clean : List ℕ) (kind : MessageKind) → (lead : List ℕ) × (clean ≡ lead ++ told_text clean kind)
-before_told clean kind = by_test (is_about_property kind) where
+before_reported : (clean : List ℕ) (kind : MessageKind) → (lead : List ℕ) × (clean ≡ lead ++ reported_text clean kind)
+before_reported clean kind = by_test (is_about_property kind) where
   by_test : (v : Bool) → (lead : List ℕ) × (clean ≡ lead ++ cond v (unindented clean) clean)
   by_test true = (take (prefix_len is_blank clean) clean, sym (take-append-drop (prefix_len is_blank clean) clean))
   by_test false = ([], refl)
@@ -43,10 +43,10 @@ pub word_at : (source : List ℕ) (kind : MessageKind) → length source < 2 ^ 3
 unfolding Begins
 word_at source kind short =
     let clean : List ℕ = trimmed (before_comment source) in
-    let word : List ℕ = told_text clean kind in
-    let behind = clean_begins source in
-    let lead = before_told clean kind in
-    let whole : length source ≡ length clean + length behind.0 = ap length behind.1 ∙ length-append clean behind.0 in
+    let word : List ℕ = reported_text clean kind in
+    let following = clean_begins source in
+    let lead = before_reported clean kind in
+    let whole : length source ≡ length clean + length following.0 = ap length following.1 ∙ length-append clean following.0 in
     let parts : length clean ≡ length lead.0 + length word = ap length lead.1 ∙ length-append lead.0 word in
     let column : ℕ = (place_in source kind).column in
     let end : ℕ = (place_in source kind).end in
@@ -54,6 +54,6 @@ word_at source kind short =
     let stop : end ≡ length lead.0 + length word + 1 = omega (arith, short, whole, parts) in (
       omega (arith, at),
       omega (arith, at, stop),
-      ap (λ (t : List ℕ). take (end - column) (drop (column - 1) t)) (behind.1 ∙ ap (λ (t : List ℕ). t ++ behind.0) lead.1)
-          ∙ found lead.0 word behind.0 (column - 1) (end - column) (omega (arith, at)) (omega (arith, at, stop)),
+      ap (λ (t : List ℕ). take (end - column) (drop (column - 1) t)) (following.1 ∙ ap (λ (t : List ℕ). t ++ following.0) lead.1)
+          ∙ found lead.0 word following.0 (column - 1) (end - column) (omega (arith, at)) (omega (arith, at, stop)),
     )

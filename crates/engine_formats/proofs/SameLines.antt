@@ -4,13 +4,13 @@ use Rattle.text_bytes.specs.declared.message.Message.{Message}
 use Rattle.engine_reports.specs.Messages.{message_line, message_lines}
 use Rattle.engine_formats.specs.Diagnostics.{DiagnosticValue}
 use Rattle.engine_formats.specs.Lines.{plain_line}
-use Rattle.engine_formats.specs.Made.{AreMadeOf, IsMadeOf}
+use Rattle.engine_formats.specs.Made.{AreMadeFrom, IsMadeFrom}
 
-same_line : (message : Message) (d : DiagnosticValue) → IsMadeOf message d → plain_line d ≡ message_line message
+same_line : (message : Message) (d : DiagnosticValue) → IsMadeFrom message d → plain_line d ≡ message_line message
 unfolding plain_line message_line
 same_line message d made = rw (made.name, made.begins, made.remark, made.word) refl
 
-pub same_lines : (messages : List Message) (diagnostics : List DiagnosticValue) → AreMadeOf messages diagnostics → flat_map plain_line diagnostics ≡ message_lines messages
+pub same_lines : (messages : List Message) (diagnostics : List DiagnosticValue) → AreMadeFrom messages diagnostics → flat_map plain_line diagnostics ≡ message_lines messages
 same_lines [] [] made = refl
 same_lines [] (d ∷ ds) made = absurd made
 same_lines (m ∷ ms) [] made = absurd made

@@ -30,8 +30,8 @@ abbrev pub before_caret : List ℕ → List ℕ
 before_caret line = take_while (λ b. not (b == caret)) line
 
 -- the line of a text that follows this many others, without its newline
-abbrev pub line_behind : ℕ → List ℕ → List ℕ
-line_behind others text = slice_index_or (lines text) others []
+abbrev pub line_after : ℕ → List ℕ → List ℕ
+line_after others text = slice_index_or (lines text) others []
 
 -- `^` is below the first byte of the place at a column: the line that is shown goes on from the place as its source
 -- does, for at least one byte if there is one, and as many columns come before the mark as before the place

@@ -3,11 +3,11 @@ use Rattle.std.specs.Prelude.{◌≡◌, ℕ, ◌+◌, ◌-◌, ◌<◌, Bool, t
 use Rattle.std.specs.List.{Contains}
 use Rattle.text_bytes.specs.Lines.{NumberedLine}
 use Rattle.text_bytes.specs.Messages.{capped}
-use Rattle.text_bytes.specs.Texts.{unindented}
+use Rattle.text_bytes.specs.Texts.{trimmed, unindented}
 use Rattle.text_bytes.specs.declared.message.Message.{Message}
 use Rattle.text_bytes.specs.declared.message.MessageKind.{MessageKind}
 use Rattle.text_bytes.specs.declared.message.MessageKind.TheVariants.{PropertyWithoutMatch, NoEquals, EmptyKey}
-use Rattle.hwdb_core.specs.Lines.{before_comment, trimmed}
+use Rattle.hwdb_core.specs.Lines.{before_comment}
 use Rattle.engine_formats.specs.declared.placing.TextPlace.{TextPlace}
 
 -- a place in a line: the columns that it begins at and ends before, counted from 1, and the text there
@@ -34,14 +34,14 @@ is_about_property _ = false
 
 -- the text of a clean line that a message of a kind is about: a property without its leading blanks, and else the
 -- line
-abbrev pub told_text : List ℕ → MessageKind → List ℕ
-told_text clean kind = if is_about_property kind then unindented clean else clean
+abbrev pub reported_text : List ℕ → MessageKind → List ℕ
+reported_text clean kind = if is_about_property kind then unindented clean else clean
 
 -- where a message of a kind is in a line: at the text that it is about, which ends where the clean line does
 abbrev pub place_in : List ℕ → MessageKind → Place
 place_in source kind =
     let clean = trimmed (before_comment source) in
-    let word = told_text clean kind in
+    let word = reported_text clean kind in
     record { source = source; column = capped (length clean - length word + 1); end = capped (length clean + 1); word = word }
 
 -- where a message is in the lines of its file
@@ -50,7 +50,7 @@ placed lines message = place_in (line_numbered lines message.line) message.kind
 
 -- A place is among lines: it has the text of the line with this number, in which its word begins at its column and
 -- ends before its end.
-pub record StandsIn (lines : List NumberedLine) (number : ℕ) (p : Place) : Type 0 where
+pub record IsFoundIn (lines : List NumberedLine) (number : ℕ) (p : Place) : Type 0 where
   pub line : Contains lines (record { number = number; text = p.source })
   pub first : 0 < p.column
   pub end : p.end ≡ p.column + length p.word

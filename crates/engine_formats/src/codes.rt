@@ -34,7 +34,7 @@ const REMARKS: [Remark; 53] = [
     Remark::Message(MessageKind::OldSubsystemName),
     Remark::Message(MessageKind::AssignExpected),
     Remark::Message(MessageKind::UnknownAccount),
-    Remark::Message(MessageKind::FileGivenUp),
+    Remark::Message(MessageKind::FileAbandoned),
     Remark::Message(MessageKind::CommaExpected),
     Remark::Message(MessageKind::BlankExpected),
     Remark::Message(MessageKind::ReadAsAssign),

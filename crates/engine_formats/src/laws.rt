@@ -18,9 +18,9 @@ ghost use Rattle.engine_formats.specs.Diagnostics.{DiagnosticValue};
 ghost use Rattle.engine_formats.specs.Formats.{formatted};
 ghost use Rattle.engine_formats.specs.Github.{ends_line, ends_property, github_place, github_property, github_read, github_text, property_at};
 ghost use Rattle.engine_formats.specs.Human.{human_lines, shown_byte};
-ghost use Rattle.engine_formats.specs.Made.{AreMadeOf};
-ghost use Rattle.engine_formats.specs.Marks.{PointsAt, line_behind};
-ghost use Rattle.engine_formats.specs.Placing.{StandsIn, placed};
+ghost use Rattle.engine_formats.specs.Made.{AreMadeFrom};
+ghost use Rattle.engine_formats.specs.Marks.{PointsAt, line_after};
+ghost use Rattle.engine_formats.specs.Placing.{IsFoundIn, placed};
 ghost use Rattle.engine_formats.specs.Readers.{HasPlace};
 ghost use Rattle.engine_formats.specs.Remarks.{code_of, remark_heading, severity_of, text_of};
 ghost use Rattle.engine_formats.specs.declared.remark.Remark.{Remark};
@@ -44,7 +44,7 @@ pub fn style_is_a_warning()
 
 /// Diagnostics that are made from messages are by default written as these messages are.
 pub fn messages_are_plain_diagnostics()
-    ensures { (messages : List Message) (diagnostics : List DiagnosticValue) → AreMadeOf messages diagnostics
+    ensures { (messages : List Message) (diagnostics : List DiagnosticValue) → AreMadeFrom messages diagnostics
         → formatted Format.Plain diagnostics ≡ message_lines messages }
 {}
 
@@ -65,20 +65,20 @@ pub fn commands_are_read_back()
 /// The text at the place of a message about a database is the one whose first bytes the message keeps, if the
 /// file's lines are few enough to be reported by number. If the lines are short enough, it is at the columns that
 /// are reported, in the line that is reported.
-pub fn messages_stand_at_their_words()
+pub fn messages_are_at_their_words()
     ensures word { (file : SourceFile) → length (lines file.bytes) < 2 ^ 32
         → All (λ m. word_of (placed (numbered_lines file.bytes) m).word ≡ m.word) (messages_of (file ∷ [])) }
     ensures place { (file : SourceFile) → length (lines file.bytes) < 2 ^ 32 → All (λ line. length line < 2 ^ 32 - 1) (lines file.bytes)
-        → All (λ m. StandsIn (numbered_lines file.bytes) m.line (placed (numbered_lines file.bytes) m)) (messages_of (file ∷ [])) }
+        → All (λ m. IsFoundIn (numbered_lines file.bytes) m.line (placed (numbered_lines file.bytes) m)) (messages_of (file ∷ [])) }
 {}
 
 /// In the format for people the mark `^` is below the first byte of the place, in colors and without.
 /// A line of at most 160 bytes is shown whole.
-pub fn marks_stand_below_their_places()
+pub fn marks_are_below_their_places()
     ensures mark { (in_color : Bool) (d : DiagnosticValue) → HasPlace d → d.column ≤ length d.source + 1
-        → PointsAt d.source d.column (line_behind 1 (human_lines in_color d)) (line_behind 2 (human_lines in_color d)) }
+        → PointsAt d.source d.column (line_after 1 (human_lines in_color d)) (line_after 2 (human_lines in_color d)) }
     ensures whole { (in_color : Bool) (d : DiagnosticValue) → HasPlace d → length d.source ≤ 160
-        → line_behind 1 (human_lines in_color d) ≡ codes "  " ++ map shown_byte d.source }
+        → line_after 1 (human_lines in_color d) ≡ codes "  " ++ map shown_byte d.source }
 {}
 
 /// The formats for people and for GitHub have a line for each diagnostic, or four if its line is shown, whatever

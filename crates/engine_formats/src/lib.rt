@@ -32,8 +32,8 @@ pub use diagnostic::Diagnostic;
 pub use formats::formatted;
 pub use laws::{
     a_heading_is_its_code_and_text, commands_are_read_back, commands_end_nowhere_within,
-    diagnostics_have_their_lines, marks_stand_below_their_places, messages_are_plain_diagnostics,
-    messages_stand_at_their_words, style_is_a_warning,
+    diagnostics_have_their_lines, marks_are_below_their_places, messages_are_at_their_words,
+    messages_are_plain_diagnostics, style_is_a_warning,
 };
 pub use paths::path_of;
 pub use placing::{TextPlace, file_lines, line_numbered, placed_message};

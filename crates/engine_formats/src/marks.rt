@@ -34,8 +34,8 @@ pub(crate) fn push_source(
     push_marks(
         text,
         paint,
-        front(shown, before),
-        front(behind(shown, before), end.saturating_sub(column)),
+        prefix(shown, before),
+        prefix(following(shown, before), end.saturating_sub(column)),
     )
 }
 
@@ -49,7 +49,7 @@ fn window_start(source: &[u8], column: usize) -> usize
     if start == 0 {
         0
     } else {
-        start + continuing(front(behind(source, start), LONGEST_REST))
+        start + continuing(prefix(following(source, start), LONGEST_REST))
     }
 }
 
@@ -76,19 +76,19 @@ fn continuing(bytes: &[u8]) -> usize
 fn window(source: &[u8], start: usize) -> &[u8]
     ensures { result.now ≡ window source.now start }
 {
-    front(behind(source, start), WIDTH)
+    prefix(following(source, start), WIDTH)
 }
 
 /// The first bytes of a text, all of them if there are fewer.
 #[tactic(auto, using(std::proofs::lemmas::List::take_min))]
-fn front(text: &[u8], len: usize) -> &[u8]
+fn prefix(text: &[u8], len: usize) -> &[u8]
     ensures { result.now ≡ take len text.now }
 {
     &text[..len.min(text.len())]
 }
 
 /// What follows the first bytes of a text, nothing if there are fewer.
-fn behind(text: &[u8], len: usize) -> &[u8]
+fn following(text: &[u8], len: usize) -> &[u8]
     ensures { result.now ≡ drop len text.now }
 {
     if len < text.len() { &text[len..] } else { &[] }
@@ -141,7 +141,7 @@ fn push_marks(
     push_under(text, b' ', before)?;
     text.extend_from_slice(paint.start())?;
     text.push(b'^')?;
-    push_under(text, b'~', behind(place, 1))?;
+    push_under(text, b'~', following(place, 1))?;
     text.extend_from_slice(paint.stop())?;
     text.push(b'\n')?;
     Ok(())

@@ -1,11 +1,11 @@
 //! Where messages about a database are in their file.
 ghost use Rattle.std.specs.Prelude.{◌≡◌, ◌≤◌, length, IfOk};
 ghost use Rattle.text_bytes.specs.Lines.{numbered_lines};
-ghost use Rattle.engine_formats.specs.Placing.{is_about_property, line_numbered, place_in, placed, shown_place, told_text};
+ghost use Rattle.engine_formats.specs.Placing.{is_about_property, line_numbered, place_in, placed, reported_text, shown_place};
 
-use hwdb_core::{before_comment, trimmed};
+use hwdb_core::before_comment;
 use std::alloc::{AllocError, Global};
-use text_bytes::{Line, Lines, Message, MessageKind, capped, unindented};
+use text_bytes::{Line, Lines, Message, MessageKind, capped, trimmed, unindented};
 
 /// Where a message about a database is in its line.
 ///
@@ -54,7 +54,7 @@ fn place_in(source: &[u8], kind: MessageKind) -> TextPlace<'_>
     ensures { shown_place result ≡ place_in source.now kind }
 {
     let clean = trimmed(before_comment(source));
-    let word = told_text(clean, kind);
+    let word = reported_text(clean, kind);
     TextPlace {
         source,
         column: capped(clean.len() - word.len() + 1),
@@ -64,8 +64,8 @@ fn place_in(source: &[u8], kind: MessageKind) -> TextPlace<'_>
 }
 
 /// The text of a clean line that a message of a kind is about.
-fn told_text(clean: &[u8], kind: MessageKind) -> &[u8]
-    ensures text { result.now ≡ told_text clean.now kind }
+fn reported_text(clean: &[u8], kind: MessageKind) -> &[u8]
+    ensures text { result.now ≡ reported_text clean.now kind }
     ensures within { length result.now ≤ length clean.now }
 {
     if is_about_property(kind) {

@@ -6,3 +6,4 @@ pub mod Once
 pub mod Noting
 pub mod Reading
 pub mod Quiet
+pub mod Saying

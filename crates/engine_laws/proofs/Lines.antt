@@ -17,18 +17,18 @@ use Rattle.eval_rules.specs.Outcomes.{command, commands, made_command, outcome, 
 use Rattle.eval_rules.specs.declared.outcome.Command.{Command}
 use Rattle.eval_rules.specs.declared.outcome.Outcome.{Outcome}
 use Rattle.eval_sources.specs.Sources.{Source, source_of}
-use Rattle.eval_sources.specs.Told.{event_commands, sourced_commands, sourced_made, stages}
+use Rattle.eval_sources.specs.Reported.{event_commands, sourced_commands, sourced_made, stages}
 use Rattle.engine_answers.specs.Lines.{env_lines, event_line, given_line, note_lines, pair_lines, persist_line, priority_line, run_line, text_lines, watch_line}
 use Rattle.engine_answers.specs.Answers.{answer_lines, node_lines, run_lines}
-use Rattle.engine_sources.specs.Lines.{command_line, command_lines, given_line as given_behind, member_line, sourced_persist, sourced_priority, sourced_watch, value_line, word_line}
-use Rattle.engine_sources.specs.Answers.{lines_behind, lines_by, sourced_node}
+use Rattle.engine_sources.specs.Lines.{command_line, command_lines, given_line as given_after, label_line, member_line, sourced_persist, sourced_priority, sourced_watch, value_line, word_line}
+use Rattle.engine_sources.specs.Answers.{lines_after, lines_by, sourced_node}
 
 -- nothing, wherever a line comes from
 abbrev nothing : Source → Text
 nothing source = []
 
 module _ (source : Pair → Source) where
-  given : (word : Text) (text : Option Text) → given_behind nothing source word text ≡ given_line word text
+  given : (word : Text) (text : Option Text) → given_after nothing source word text ≡ given_line word text
   unfolding word_line
   given word None = refl
   given word (Some text) = refl
@@ -105,7 +105,7 @@ around event o node runs =
     ++ note_lines o.notes
 
 pub lines_alone : (rules : List Rule) (entries : List Entry) (event : EventValue) → lines_by nothing rules entries event ≡ answer_lines event (outcome rules entries event)
-unfolding lines_behind answer_lines member_line value_line
+unfolding lines_after answer_lines label_line member_line value_line
 lines_alone rules entries event =
     let o = outcome rules entries event in
     ap (λ n. around event o n (command_lines nothing (event_commands rules entries event))) (node (source_of (stages rules entries event)) o)

@@ -17,8 +17,8 @@ neither_second : (a b : Bool) → (a || b) ≡ false → b ≡ false
 neither_second false b h = h
 neither_second true b h = cc h
 
-turned : (a b : Text) → same_text a b ≡ false → same_text b a ≡ false
-turned a b h = by (same_text b a) refl
+reversed : (a b : Text) → same_text a b ≡ false → same_text b a ≡ false
+reversed a b h = by (same_text b a) refl
   where
     by : (t : Bool) → same_text b a ≡ t → t ≡ false
     by false e = refl
@@ -31,7 +31,7 @@ others_push x (y ∷ texts) text h k = (h.0, others_push x texts text h.1 k)
 once_push : (texts : List Text) (text : Text) → AreOnce texts → is_among texts text ≡ false → AreOnce (texts ++ text ∷ [])
 unfolding IsDistinct
 once_push [] text h new = (tt, tt)
-once_push (x ∷ texts) text h new = (others_push x texts text h.0 (turned text x (neither_first (same_text text x) _ new)), once_push texts text h.1 (neither_second (same_text text x) _ new))
+once_push (x ∷ texts) text h new = (others_push x texts text h.0 (reversed text x (neither_first (same_text text x) _ new)), once_push texts text h.1 (neither_second (same_text text x) _ new))
 
 once_added : (texts : List Text) (text : Text) → AreOnce texts → AreOnce (with_text texts text)
 once_added texts text h = by (is_among texts text) refl

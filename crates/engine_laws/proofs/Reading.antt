@@ -22,7 +22,7 @@ use Rattle.device_core.specs.declared.lines.DeviceField.TheVariants.{Subsystem, 
 use Rattle.device_core.specs.declared.lines.LineKind.{LineKind}
 use Rattle.device_core.specs.declared.lines.LineKind.TheVariants.{Action, Device, Field, Constant, Command, Answer}
 use Rattle.engine_laws.specs.Filled.{filled, filled_event}
-use Rattle.engine_questions.specs.Questions.{can_be_asked, stands_in_line}
+use Rattle.engine_questions.specs.Questions.{can_be_asked, fits_in_line}
 
 first_so : (a b : Bool) → (a && b) ≡ true → a ≡ true
 first_so true b h = refl
@@ -32,9 +32,9 @@ second_so : (a b : Bool) → (a && b) ≡ true → b ≡ true
 second_so true b h = h
 second_so false b h = cc h
 
-turned : (b : Bool) → not b ≡ true → b ≡ false
-turned true h = cc h
-turned false h = refl
+reversed : (b : Bool) → not b ≡ true → b ≡ false
+reversed true h = cc h
+reversed false h = refl
 
 -- ---- bytes of lines
 
@@ -44,10 +44,10 @@ no_newline line = list_all (λ b. not (b == newline)) line
 abbrev no_nul : Text → Bool
 no_nul line = list_all (λ b. not (b == nul)) line
 
--- a list has as many elements at its front that pass a test as it has in all where all pass
-front_is : (p : ℕ → Bool) (xs : List ℕ) → nat_lt (prefix_len p xs) (length xs) ≡ not (list_all p xs)
-front_is p [] = refl
-front_is p (x ∷ xs) = by (p x) (front_is p xs)
+-- fewer elements at the front of a list pass a test than it has, exactly if not all pass
+prefix_is : (p : ℕ → Bool) (xs : List ℕ) → nat_lt (prefix_len p xs) (length xs) ≡ not (list_all p xs)
+prefix_is p [] = refl
+prefix_is p (x ∷ xs) = by (p x) (prefix_is p xs)
   where
     by : (b : Bool) → nat_lt (prefix_len p xs) (length xs) ≡ not (list_all p xs) → nat_lt (cond b (1 + prefix_len p xs) 0) (length (x ∷ xs)) ≡ not (b && list_all p xs)
     by true h = let same : nat_lt (1 + prefix_len p xs) (length (x ∷ xs)) ≡ nat_lt (prefix_len p xs) (length xs) = grind (arith, nat_tests) in same ∙ h
@@ -57,14 +57,14 @@ is_there : (b : Bool) (n : ℕ) → is_some (cond b (Some n) None) ≡ b
 is_there true n = refl
 is_there false n = refl
 
--- a line has a NUL where not all bytes are others
+-- a line has a NUL exactly if not all bytes are others
 has_nul_is : (line : Text) → has_nul line ≡ not (no_nul line)
 unfolding has_nul
-has_nul_is line = is_there _ (position_or_len (λ b. b == nul) line) ∙ front_is (λ b. not (b == nul)) line
+has_nul_is line = is_there _ (position_or_len (λ b. b == nul) line) ∙ prefix_is (λ b. not (b == nul)) line
 
-stands_both : (line : Text) → list_all stands_in_line line ≡ (no_newline line && no_nul line)
-stands_both [] = refl
-stands_both (b ∷ line) = ap (λ a. stands_in_line b && a) (stands_both line) ∙ by (b == newline) (b == nul) (no_newline line) (no_nul line)
+fits_both : (line : Text) → list_all fits_in_line line ≡ (no_newline line && no_nul line)
+fits_both [] = refl
+fits_both (b ∷ line) = ap (λ a. fits_in_line b && a) (fits_both line) ∙ by (b == newline) (b == nul) (no_newline line) (no_nul line)
   where
     by : (n m p q : Bool) → (not (n || m) && (p && q)) ≡ ((not n && p) && (not m && q))
     by true m p q = refl
@@ -137,17 +137,17 @@ neither_first false b h = refl
 neither_first true b h = h
 
 -- the rest of a line has bytes of the line
-rest_stands : (line : Text) (letter : ℕ) (rest : Text) → form line ≡ Some (letter, rest) → list_all stands_in_line line ≡ true → list_all stands_in_line rest ≡ true
-rest_stands [] letter rest e h = absurd (cc)
-rest_stands (a ∷ []) letter rest e h = absurd (cc)
-rest_stands (a ∷ b ∷ []) letter rest e h = absurd (cc)
-rest_stands (a ∷ b ∷ c ∷ more) letter rest e h = by (b == colon && c == space) e
+rest_in_place : (line : Text) (letter : ℕ) (rest : Text) → form line ≡ Some (letter, rest) → list_all fits_in_line line ≡ true → list_all fits_in_line rest ≡ true
+rest_in_place [] letter rest e h = absurd (cc)
+rest_in_place (a ∷ []) letter rest e h = absurd (cc)
+rest_in_place (a ∷ b ∷ []) letter rest e h = absurd (cc)
+rest_in_place (a ∷ b ∷ c ∷ more) letter rest e h = by (b == colon && c == space) e
   where
-    held : list_all stands_in_line more ≡ true
-    held = second_so (stands_in_line c) _ (second_so (stands_in_line b) _ (second_so (stands_in_line a) _ h))
+    held : list_all fits_in_line more ≡ true
+    held = second_so (fits_in_line c) _ (second_so (fits_in_line b) _ (second_so (fits_in_line a) _ h))
 
-    by : (t : Bool) → cond {A = Option (ℕ × Text)} t (Some (a, more)) None ≡ Some (letter, rest) → list_all stands_in_line rest ≡ true
-    by true k = ap (λ (o : Option (ℕ × Text)). list_all stands_in_line (unwrap_or o (0, [])).1) (sym k) ∙ held
+    by : (t : Bool) → cond {A = Option (ℕ × Text)} t (Some (a, more)) None ≡ Some (letter, rest) → list_all fits_in_line rest ≡ true
+    by true k = ap (λ (o : Option (ℕ × Text)). list_all fits_in_line (unwrap_or o (0, [])).1) (sym k) ∙ held
     by false k = absurd (cc)
 
 of_form : (found : Option (ℕ × Text)) (row : Row) → option_and_then row_from found ≡ Some row → (letter : ℕ) × (found ≡ Some (letter, row.1))
@@ -158,7 +158,7 @@ of_form (Some parts) row e = by (kind_of parts.0) e
     by None k = absurd (cc)
     by (Some kind) k = (parts.0, ap (λ (o : Option Row). Some (parts.0, (unwrap_or o (Command, [])).1)) k)
 
-kind_fine : (above : List Row) (kind : LineKind) (rest : Text) (below : List Text) → list_all stands_in_line rest ≡ true → is_half above kind rest below ≡ false → fine_row (kind, rest) ≡ true
+kind_fine : (above : List Row) (kind : LineKind) (rest : Text) (below : List Text) → list_all fits_in_line rest ≡ true → is_half above kind rest below ≡ false → fine_row (kind, rest) ≡ true
 kind_fine above Action rest below s h = refl
 kind_fine above Device rest below s h = refl
 kind_fine above (Field Subsystem) rest below s h = refl
@@ -170,17 +170,17 @@ kind_fine above (Field Property) rest below s h = refl
 kind_fine above (Field Tag) rest below s h = refl
 kind_fine above (Field Link) rest below s h = refl
 kind_fine above Constant rest below s h = refl
-kind_fine above Command rest below s h = ap (λ b. not b && list_all stands_in_line rest) (neither_first (is_empty rest) _ h) ∙ s
+kind_fine above Command rest below s h = ap (λ b. not b && list_all fits_in_line rest) (neither_first (is_empty rest) _ h) ∙ s
 kind_fine above Answer rest below s h = refl
 
-row_fine : (above : List Row) (line : Text) (row : Row) (below : List Text) → row_of line ≡ Some row → row_fault above row.0 row.1 below ≡ None → list_all stands_in_line line ≡ true → fine_row row ≡ true
+row_fine : (above : List Row) (line : Text) (row : Row) (below : List Text) → row_of line ≡ Some row → row_fault above row.0 row.1 below ≡ None → list_all fits_in_line line ≡ true → fine_row row ≡ true
 unfolding row_of
-row_fine above line row below e k stands =
+row_fine above line row below e k is_present =
     let found = of_form (form line) row e in
-    kind_fine above row.0 row.1 below (rest_stands line found.0 row.1 found.1 stands) (not_half above row.0 row.1 below k)
+    kind_fine above row.0 row.1 below (rest_in_place line found.0 row.1 found.1 is_present) (not_half above row.0 row.1 below k)
 
-line_stands : (line : Text) → no_newline line ≡ true → has_nul line ≡ false → list_all stands_in_line line ≡ true
-line_stands line clean free = stands_both line ∙ ap (λ a. a && no_nul line) clean ∙ by (no_nul line) (sym (has_nul_is line) ∙ free)
+line_in_place : (line : Text) → no_newline line ≡ true → has_nul line ≡ false → list_all fits_in_line line ≡ true
+line_in_place line clean free = fits_both line ∙ ap (λ a. a && no_nul line) clean ∙ by (no_nul line) (sym (has_nul_is line) ∙ free)
   where
     by : (b : Bool) → not b ≡ false → b ≡ true
     by true h = refl
@@ -190,11 +190,11 @@ line_fine : (above : List Row) (line : Text) (below : List Text) → line_fault 
 unfolding line_fault
 line_fine above line below h clean =
     let free = passes (has_nul line) Nul (fault_unless above (row_of line) below) h in
-    by (line_stands line clean free.0) (row_of line) refl free.1
+    by (line_in_place line clean free.0) (row_of line) refl free.1
   where
-    by : list_all stands_in_line line ≡ true → (o : Option Row) → row_of line ≡ o → fault_unless above o below ≡ None → list_all fine_row (option_to_list o) ≡ true
-    by stands None e k = refl
-    by stands (Some row) e k = ap (λ b. b && true) (row_fine above line row below e k stands)
+    by : list_all fits_in_line line ≡ true → (o : Option Row) → row_of line ≡ o → fault_unless above o below ≡ None → list_all fine_row (option_to_list o) ≡ true
+    by is_present None e k = refl
+    by is_present (Some row) e k = ap (λ b. b && true) (row_fine above line row below e k is_present)
 
 -- ---- what a block gives
 
@@ -297,11 +297,11 @@ row_free (b ∷ command) h = refl
 question_free : (command : Text) → can_be_asked command ≡ true → line_fault two (question command) (codes "R: 0" ∷ []) ≡ None
 unfolding line_fault
 question_free command h =
-    let no : no_nul command ≡ true = second_so (no_newline command) _ (sym (stands_both command) ∙ second_so (not (is_empty command)) _ h) in
+    let no : no_nul command ≡ true = second_so (no_newline command) _ (sym (fits_both command) ∙ second_so (not (is_empty command)) _ h) in
     let free : has_nul (question command) ≡ false = has_nul_is (question command) ∙ ap not no in
     ap (λ b. cond b (Some Nul) (fault_unless two (row_of (question command)) (codes "R: 0" ∷ []))) free
     ∙ ap (λ o. fault_unless two o (codes "R: 0" ∷ [])) (question_row command)
-    ∙ row_free command (turned _ (first_so (not (is_empty command)) _ h))
+    ∙ row_free command (reversed _ (first_so (not (is_empty command)) _ h))
 
 answer_free : (command : Text) → line_fault (three command) (codes "R: 0") [] ≡ None
 unfolding line_fault has_nul row_of kind_of row_fault follows_command answer_of number_below decimal_below split_once
@@ -333,11 +333,11 @@ lines_are command h = ap (λ ls. codes "C: add" ∷ codes "P: /d" ∷ onto_first
 filled_given : (command : Text) → length command ≤ 2 ^ 15 → can_be_asked command ≡ true → block_gives (filled command) ≡ Ok (filled_event command)
 unfolding block_gives
 filled_given command short h =
-    let clean : no_newline command ≡ true = first_so (no_newline command) _ (sym (stands_both command) ∙ second_so (not (is_empty command)) _ h) in
+    let clean : no_newline command ≡ true = first_so (no_newline command) _ (sym (fits_both command) ∙ second_so (not (is_empty command)) _ h) in
     ap (λ b. cond b (Err (record { line = line_of_excess (filled command); kind = TooLong })) (given_by (lines (filled command)))) (not_long command short)
     ∙ ap given_by (lines_are command clean)
     ∙ given command h
 
--- a command can be asked where the block that asks and answers it has that answer
+-- a command can be asked exactly if the block that asks and answers it has that answer
 pub asked_is_answered : (command : Text) → length command ≤ 2 ^ 15 → (can_be_asked command ≡ true) ↔ (block_gives (filled command) ≡ Ok (filled_event command))
 asked_is_answered command short = (filled_given command short, λ h. first_so (can_be_asked command) true (block_fine (filled command) (filled_event command) h))

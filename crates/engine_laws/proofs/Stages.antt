@@ -8,11 +8,11 @@ use Rattle.eval_state.specs.declared.scene.Scene.{Scene}
 use Rattle.eval_rules.specs.Jumps.{is_passed, run, sought_after}
 use Rattle.eval_rules.specs.Steps.{apply}
 use Rattle.eval_effects.specs.Items.{items}
-use Rattle.eval_sources.specs.Sources.{Source, Stage, source_of, stands_throughout}
-use Rattle.eval_effects.specs.Items.{stands}
-use Rattle.eval_sources.specs.Told.{stages_from, stages_over}
+use Rattle.eval_sources.specs.Sources.{Source, Stage, is_present_throughout, source_of}
+use Rattle.eval_effects.specs.Items.{is_present}
+use Rattle.eval_sources.specs.Reported.{stages_from, stages_over}
 
--- what is at the last of these stages, or else what stood before them
+-- what is at the last of these stages, or otherwise what was there before them
 abbrev last_of : List Pair → List Stage → List Pair
 last_of were [] = were
 last_of were (stage ∷ later) = last_of stage.1 later
@@ -39,39 +39,39 @@ left_of true b h = refl
 left_of false b h = cc
 
 module _ (item : Pair) where
-  -- what stands throughout is at the last stage
-  stands_last : (were : List Pair) (later : List Stage) → (stands item were && stands_throughout item later) ≡ true → stands item (last_of were later) ≡ true
-  stands_last were [] h = left_of (stands item were) true h
-  stands_last were (stage ∷ later) h = stands_last stage.1 later (right_of (stands item were) (stands_throughout item (stage ∷ later)) h)
+  -- what is there throughout is at the last stage
+  is_present_last : (were : List Pair) (later : List Stage) → (is_present item were && is_present_throughout item later) ≡ true → is_present item (last_of were later) ≡ true
+  is_present_last were [] h = left_of (is_present item were) true h
+  is_present_last were (stage ∷ later) h = is_present_last stage.1 later (right_of (is_present item were) (is_present_throughout item (stage ∷ later)) h)
 
-  -- what does not stand throughout comes from a rule where it is at the last stage
-  comes : (were : List Pair) (later : List Stage) → AreRules later → (stands item were && stands_throughout item later) ≡ false → is_some (source_of later item) ≡ stands item (last_of were later)
+  -- what is not there throughout comes from a rule exactly if it is at the last stage
+  comes : (were : List Pair) (later : List Stage) → AreRules later → (is_present item were && is_present_throughout item later) ≡ false → is_some (source_of later item) ≡ is_present item (last_of were later)
   unfolding source_of
-  comes were [] are h = sym (sym (and_true (stands item were)) ∙ h)
-  comes were (stage ∷ later) are h = by (stands_throughout item (stage ∷ later)) refl (comes stage.1 later are.1)
+  comes were [] are h = sym (sym (and_true (is_present item were)) ∙ h)
+  comes were (stage ∷ later) are h = by (is_present_throughout item (stage ∷ later)) refl (comes stage.1 later are.1)
     where
-      by : (b : Bool) → stands_throughout item (stage ∷ later) ≡ b → (stands_throughout item (stage ∷ later) ≡ false → is_some (source_of later item) ≡ stands item (last_of stage.1 later))
-          → is_some (cond b stage.0 (source_of later item)) ≡ stands item (last_of stage.1 later)
-      by true e rest = are.0 ∙ sym (stands_last stage.1 later e)
+      by : (b : Bool) → is_present_throughout item (stage ∷ later) ≡ b → (is_present_throughout item (stage ∷ later) ≡ false → is_some (source_of later item) ≡ is_present item (last_of stage.1 later))
+          → is_some (cond b stage.0 (source_of later item)) ≡ is_present item (last_of stage.1 later)
+      by true e rest = are.0 ∙ sym (is_present_last stage.1 later e)
       by false e rest = rest e
 
   pub none_where : (were : List Pair) (later : List Stage) → AreRules later
-      → is_some (source_of ((None, were) ∷ later) item) ≡ (stands item (last_of were later) && not (stands_throughout item ((None, were) ∷ later)))
+      → is_some (source_of ((None, were) ∷ later) item) ≡ (is_present item (last_of were later) && not (is_present_throughout item ((None, were) ∷ later)))
   unfolding source_of
-  none_where were later are = by (stands_throughout item ((None, were) ∷ later)) refl
+  none_where were later are = by (is_present_throughout item ((None, were) ∷ later)) refl
     where
       nowhere : Source
       nowhere = None
 
-      by : (b : Bool) → stands_throughout item ((None, were) ∷ later) ≡ b → is_some (cond b nowhere (source_of later item)) ≡ (stands item (last_of were later) && not b)
-      by true e = sym (and_false (stands item (last_of were later)))
-      by false e = comes were later are e ∙ sym (and_true (stands item (last_of were later)))
+      by : (b : Bool) → is_present_throughout item ((None, were) ∷ later) ≡ b → is_some (cond b nowhere (source_of later item)) ≡ (is_present item (last_of were later) && not b)
+      by true e = sym (and_false (is_present item (last_of were later)))
+      by false e = comes were later are e ∙ sym (and_true (is_present item (last_of were later)))
 
-  not_throughout : (before later : List Stage) (last : Stage) → stands item last.1 ≡ false → stands_throughout item (before ++ last ∷ later) ≡ false
-  not_throughout [] later last h = ap (λ b. b && stands_throughout item later) h
-  not_throughout (stage ∷ before) later last h = ap (λ b. stands item stage.1 && b) (not_throughout before later last h) ∙ and_false (stands item stage.1)
+  not_throughout : (before later : List Stage) (last : Stage) → is_present item last.1 ≡ false → is_present_throughout item (before ++ last ∷ later) ≡ false
+  not_throughout [] later last h = ap (λ b. b && is_present_throughout item later) h
+  not_throughout (stage ∷ before) later last h = ap (λ b. is_present item stage.1 && b) (not_throughout before later last h) ∙ and_false (is_present item stage.1)
 
-  pub from_then_on : (before later : List Stage) (last stage : Stage) → stands item last.1 ≡ false → stands_throughout item (stage ∷ later) ≡ true → source_of (before ++ last ∷ stage ∷ later) item ≡ stage.0
+  pub from_then_on : (before later : List Stage) (last stage : Stage) → is_present item last.1 ≡ false → is_present_throughout item (stage ∷ later) ≡ true → source_of (before ++ last ∷ stage ∷ later) item ≡ stage.0
   unfolding source_of
   from_then_on [] later last stage h all =
       ap (λ b. cond b last.0 (source_of (stage ∷ later) item)) (not_throughout [] (stage ∷ later) last h) ∙ ap (λ b. cond b stage.0 (source_of later item)) all
@@ -90,7 +90,7 @@ module _ (es : List Entry) where
       by true passed come = passed
       by false passed come = (refl, come)
 
-  -- the last of them is where the rules end
+  -- the last of them is the stage at which the rules end
   pub ends : (sought : Option Text) (rules : List Rule) (s : Scene) → last_of (items s) (stages_from es sought rules s) ≡ items (run es sought rules s)
   unfolding stages_from run
   ends sought [] s = refl
@@ -103,7 +103,7 @@ module _ (es : List Entry) where
       by true passed come = passed
       by false passed come = come
 
-  pub from_no_rule : (rules : List Rule) (s : Scene) (item : Pair) → is_some (source_of (stages_over es rules s) item) ≡ (stands item (items (run es None rules s)) && not (stands_throughout item (stages_over es rules s)))
+  pub from_no_rule : (rules : List Rule) (s : Scene) (item : Pair) → is_some (source_of (stages_over es rules s) item) ≡ (is_present item (items (run es None rules s)) && not (is_present_throughout item (stages_over es rules s)))
   from_no_rule rules s item =
       none_where item (items s) (stages_from es None rules s) (are_rules None rules s)
-      ∙ ap (λ end. stands item end && not (stands_throughout item (stages_over es rules s))) (ends None rules s)
+      ∙ ap (λ end. is_present item end && not (is_present_throughout item (stages_over es rules s))) (ends None rules s)

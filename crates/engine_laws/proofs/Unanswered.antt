@@ -9,8 +9,8 @@ use Rattle.text_tables.specs.Pairs.{value_of}
 use Rattle.hwdb_lookup.specs.declared.entry.Entry.{Entry}
 use Rattle.device_core.specs.Values.{AnswerValue, EventValue}
 use Rattle.rule_types.specs.declared.part.Act.{Act}
-use Rattle.rule_types.specs.declared.part.Deed.{Deed}
-use Rattle.rule_types.specs.declared.part.Deed.TheVariants as deed
+use Rattle.rule_types.specs.declared.part.ActKind.{ActKind}
+use Rattle.rule_types.specs.declared.part.ActKind.TheVariants as act_kind
 use Rattle.rule_types.specs.declared.part.Import.{Import}
 use Rattle.rule_types.specs.declared.part.Import.TheVariants as import
 use Rattle.rule_types.specs.declared.part.PlainMatch.{PlainMatch}
@@ -24,11 +24,11 @@ use Rattle.eval_rendering.specs.declared.rendered.Rendered.TheVariants as render
 use Rattle.eval_acts.specs.ActTexts.{import_text, most_command_bytes, program_text}
 use Rattle.eval_acts.specs.Acts.{act_step}
 use Rattle.eval_assignments.proofs.Staying.{Stays}
-use Rattle.eval_rules.specs.Idle.{deed_counts}
+use Rattle.eval_rules.specs.Idle.{act_kind_counts}
 use Rattle.eval_rules.specs.Jumps.{is_passed, sought_after}
-use Rattle.eval_rules.specs.Steps.{Went, apply, onward, plain_step, search, walk}
+use Rattle.eval_rules.specs.Steps.{Went, apply, if_proceeding, plain_step, search, walk}
 use Rattle.eval_rules.proofs.Staying.{act_stays, event_stays, reached_stays}
-use Rattle.engine_questions.specs.Questions.{act_asks, acts_ask, asked_onward, before_acts, can_be_asked, import_asks, questions, rule_asks, rules_ask, unanswered, with_asked}
+use Rattle.engine_questions.specs.Questions.{act_asks, acts_ask, asked_if_proceeding, before_acts, can_be_asked, import_asks, questions, rule_asks, rules_ask, unanswered, with_asked}
 use Rattle.engine_questions.proofs.Idling.{rule_silent}
 
 -- ---- what the event says of itself stays up to the acts of a rule
@@ -37,8 +37,8 @@ plain_stays : (r : Rule) (part : PlainMatch) (s : Scene) → Stays s (plain_step
 unfolding plain_step
 plain_stays r part s = reached_stays r part.key s
 
-onward_stays : (f : Scene → Went) → ((s : Scene) → Stays s (f s).0) → (s : Scene) (w : Went) → Stays s w.0 → Stays s (onward f w).0
-onward_stays f h s w k = by w.1
+if_proceeding_stays : (f : Scene → Went) → ((s : Scene) → Stays s (f s).0) → (s : Scene) (w : Went) → Stays s w.0 → Stays s (if_proceeding f w).0
+if_proceeding_stays f h s w k = by w.1
   where
     by : (b : Bool) → Stays s (cond b (f w.0) w).0
     by true = h w.0 ∙ k
@@ -47,14 +47,14 @@ onward_stays f h s w k = by w.1
 plains_stay : (r : Rule) (parts : List PlainMatch) (s : Scene) → Stays s (walk (plain_step r) parts s).0
 unfolding walk
 plains_stay r [] s = refl
-plains_stay r (part ∷ parts) s = onward_stays (walk (plain_step r) parts) (plains_stay r parts) s (plain_step r part s) (plain_stays r part s)
+plains_stay r (part ∷ parts) s = if_proceeding_stays (walk (plain_step r) parts) (plains_stay r parts) s (plain_step r part s) (plain_stays r part s)
 
 search_stays : (parts : List UpMatch) (s : Scene) → Stays s (search parts s).0
 search_stays [] s = refl
 search_stays (part ∷ parts) s = refl
 
 pub before_stays : (r : Rule) (s : Scene) → Stays s (before_acts r s).0
-before_stays r s = onward_stays (search r.up) (search_stays r.up) s (walk (plain_step r) r.plain s) (plains_stay r r.plain s)
+before_stays r s = if_proceeding_stays (search r.up) (search_stays r.up) s (walk (plain_step r) r.plain s) (plains_stay r r.plain s)
 
 -- ---- what is asked
 
@@ -88,16 +88,16 @@ module _ (event : EventValue) where
   import_fine Udev (import.Cmdline name) s e = refl
   import_fine Udev (import.Db name) s e = refl
 
-  deed_fine : (d : Deed) (s : State) → s.event ≡ event → list_all is_fine (act_asks d s) ≡ true
-  deed_fine (deed.Test mask template) s e = refl
-  deed_fine (deed.Program template) s e = ap (λ v. list_all is_fine (unanswered v (program_text template s))) e ∙ text_fine (program_text template s)
-  deed_fine (deed.Import i) s e = import_fine s.event.profile i s e
+  act_kind_fine : (d : ActKind) (s : State) → s.event ≡ event → list_all is_fine (act_asks d s) ≡ true
+  act_kind_fine (act_kind.Test mask template) s e = refl
+  act_kind_fine (act_kind.Program template) s e = ap (λ v. list_all is_fine (unanswered v (program_text template s))) e ∙ text_fine (program_text template s)
+  act_kind_fine (act_kind.Import i) s e = import_fine s.event.profile i s e
 
   both_fine : (xs ys : List Text) → list_all is_fine xs ≡ true → list_all is_fine ys ≡ true → list_all is_fine (xs ++ ys) ≡ true
   both_fine xs ys h k = list_all-append is_fine xs ys ∙ ap (λ b. b && list_all is_fine ys) h ∙ k
 
-  onward_fine : (f : Scene → List Text) → ((s : Scene) → s.state.event ≡ event → list_all is_fine (f s) ≡ true) → (w : Went) → w.0.state.event ≡ event → list_all is_fine (asked_onward f w) ≡ true
-  onward_fine f h w e = by w.1
+  if_proceeding_fine : (f : Scene → List Text) → ((s : Scene) → s.state.event ≡ event → list_all is_fine (f s) ≡ true) → (w : Went) → w.0.state.event ≡ event → list_all is_fine (asked_if_proceeding f w) ≡ true
+  if_proceeding_fine f h w e = by w.1
     where
       by : (b : Bool) → list_all is_fine (cond b (f w.0) []) ≡ true
       by true = h w.0 e
@@ -107,12 +107,12 @@ module _ (event : EventValue) where
   unfolding acts_ask
   acts_fine es r [] s e = refl
   acts_fine es r (act ∷ acts) s e =
-      both_fine (act_asks act.deed s.state) (asked_onward (acts_ask es r acts) (act_step es r act s)) (deed_fine act.deed s.state e)
-      (onward_fine (acts_ask es r acts) (acts_fine es r acts) (act_step es r act s) (act_stays es r act s ∙ e))
+      both_fine (act_asks act.kind s.state) (asked_if_proceeding (acts_ask es r acts) (act_step es r act s)) (act_kind_fine act.kind s.state e)
+      (if_proceeding_fine (acts_ask es r acts) (acts_fine es r acts) (act_step es r act s) (act_stays es r act s ∙ e))
 
   rule_fine : (es : List Entry) (r : Rule) (s : Scene) → s.state.event ≡ event → list_all is_fine (rule_asks es r s) ≡ true
   unfolding rule_asks
-  rule_fine es r s e = onward_fine (acts_ask es r r.acts) (acts_fine es r r.acts) (before_acts r s) (before_stays r s ∙ e)
+  rule_fine es r s e = if_proceeding_fine (acts_ask es r r.acts) (acts_fine es r r.acts) (before_acts r s) (before_stays r s ∙ e)
 
   rules_fine : (es : List Entry) (sought : Option Text) (rules : List Rule) (s : Scene) → s.state.event ≡ event → list_all is_fine (rules_ask es sought rules s) ≡ true
   unfolding rules_ask
@@ -155,22 +155,22 @@ all_unanswered rules es event =
 
 -- ---- rules that ask nothing
 
-turned : (b : Bool) → not b ≡ true → b ≡ false
-turned true h = cc h
-turned false h = refl
+reversed : (b : Bool) → not b ≡ true → b ≡ false
+reversed true h = cc h
+reversed false h = refl
 
-rules_silent : (es : List Entry) (sought : Option Text) (rules : List Rule) (s : Scene) → list_all (λ r. not (list_any (λ act. deed_counts act.deed) r.acts)) rules ≡ true → rules_ask es sought rules s ≡ []
+rules_silent : (es : List Entry) (sought : Option Text) (rules : List Rule) (s : Scene) → list_all (λ r. not (list_any (λ act. act_kind_counts act.kind) r.acts)) rules ≡ true → rules_ask es sought rules s ≡ []
 unfolding rules_ask
 rules_silent es sought [] s h = refl
 rules_silent es sought (r ∷ rs) s h =
-    let rest : list_all (λ r. not (list_any (λ act. deed_counts act.deed) r.acts)) rs ≡ true = second_so (not (list_any (λ act. deed_counts act.deed) r.acts)) _ h in
+    let rest : list_all (λ r. not (list_any (λ act. act_kind_counts act.kind) r.acts)) rs ≡ true = second_so (not (list_any (λ act. act_kind_counts act.kind) r.acts)) _ h in
     by (is_passed sought r) (rules_silent es sought rs s rest)
-    (ap (λ xs. xs ++ rules_ask es (sought_after (apply es r s).1 r) rs (apply es r s).0) (rule_silent es r s (turned _ (first_so (not (list_any (λ act. deed_counts act.deed) r.acts)) _ h)))
+    (ap (λ xs. xs ++ rules_ask es (sought_after (apply es r s).1 r) rs (apply es r s).0) (rule_silent es r s (reversed _ (first_so (not (list_any (λ act. act_kind_counts act.kind) r.acts)) _ h)))
     ∙ rules_silent es (sought_after (apply es r s).1 r) rs (apply es r s).0 rest)
   where
     by : {xs ys : List Text} (p : Bool) → xs ≡ [] → ys ≡ [] → cond p xs ys ≡ []
     by true h k = h
     by false h k = k
 
-pub nothing_asked : (rules : List Rule) (es : List Entry) (event : EventValue) → list_all (λ r. not (list_any (λ act. deed_counts act.deed) r.acts)) rules ≡ true → questions rules es event ≡ []
+pub nothing_asked : (rules : List Rule) (es : List Entry) (event : EventValue) → list_all (λ r. not (list_any (λ act. act_kind_counts act.kind) r.acts)) rules ≡ true → questions rules es event ≡ []
 nothing_asked rules es event h = ap (with_asked []) (rules_silent es None rules (start event) h)

@@ -4,11 +4,11 @@ use Rattle.text_tables.specs.Texts.{Text}
 use Rattle.device_core.specs.Values.{EventValue}
 use Rattle.engine_courses.specs.Asked.{unknown}
 use Rattle.engine_ends.specs.declared.line.Line.{Line}
-use Rattle.engine_ends.specs.Delivery.{Outcome}
+use Rattle.engine_ends.specs.Delivery.{RunOutcome}
 use Rattle.engine_reports.specs.Openings.{OpeningValue}
 use Rattle.engine_core.specs.Answering.{answer_by, questions_by}
-use Rattle.engine_core.specs.Outcomes.{answer_with, asked_of, asks_more, tables_of, told_of, why_of}
-use Rattle.engine_core.specs.Told.{told_by}
+use Rattle.engine_core.specs.Outcomes.{answer_with, asked_of, asks_more, reported_for, tables_of, why_of}
+use Rattle.engine_core.specs.Reported.{reported_by}
 use Rattle.engine_sessions.specs.Sessions.{answers_as}
 
 none_asked : {A B : Type 0} (f : A → B) (l : List A) → length l ≡ 0 → map f l ≡ []
@@ -18,12 +18,12 @@ none_asked f (x ∷ l) e = cc
 pub nothing_asked : (line : Line) → vec_len line.why ≡ 0 → why_of line ≡ []
 nothing_asked line e = let same : vec_len line.why ≡ length line.why.items = search rules in none_asked (λ w. w.now) line.why.items (sym same ∙ e)
 
-opened_as_it_is : (opened : Result OpeningValue Outcome) → asked_of [] opened ≡ opened
+opened_as_it_is : (opened : Result OpeningValue RunOutcome) → asked_of [] opened ≡ opened
 unfolding unknown
 opened_as_it_is (Ok opened) = refl
 opened_as_it_is (Err said) = refl
 
-pub asked_as_it_is : (line : Line) (opened : Result OpeningValue Outcome) → vec_len line.why ≡ 0 → asked_of (why_of line) opened ≡ opened
+pub asked_as_it_is : (line : Line) (opened : Result OpeningValue RunOutcome) → vec_len line.why ≡ 0 → asked_of (why_of line) opened ≡ opened
 asked_as_it_is line opened e = ap (λ why. asked_of why opened) (nothing_asked line e) ∙ opened_as_it_is opened
 
 asks_no_more : (line : Line) → line.sources ≡ false → vec_len line.why ≡ 0 → asks_more line ≡ false
@@ -33,5 +33,5 @@ pub answered_alone : (line : Line) (opened : OpeningValue) → line.questions �
 answered_alone line opened q a b =
     let asked : EventValue → Text = questions_by (tables_of opened) in
     let alone : EventValue → Text = answer_by (tables_of opened) in
-    ap (λ (s : Bool). answers_as line.profile (cond s asked (cond (asks_more line) (told_by (told_of line opened)) alone))) q
-    ∙ ap (λ (s : Bool). answers_as line.profile (cond s (told_by (told_of line opened)) alone)) (asks_no_more line a b)
+    ap (λ (s : Bool). answers_as line.profile (cond s asked (cond (asks_more line) (reported_by (reported_for line opened)) alone))) q
+    ∙ ap (λ (s : Bool). answers_as line.profile (cond s (reported_by (reported_for line opened)) alone)) (asks_no_more line a b)

@@ -2,18 +2,19 @@
 ghost use Rattle.std.specs.Prelude.{◌≡◌, ◌↔◌, ◌≤◌, ◌&&◌, ◌++◌, ◌^◌, true, false, not, List, [], None, Ok, filter, is_none, length, map};
 ghost use Rattle.std.specs.List.{list_all, list_any};
 ghost use Rattle.text_bytes.specs.Messages.{word_of};
-ghost use Rattle.text_bytes.specs.declared.profile.Profile.TheVariants.{Manual};
+ghost use Rattle.text_bytes.specs.declared.profile.Profile.TheVariants.{Manual, Udev};
 ghost use Rattle.text_tables.specs.Texts.{AreOnce, Text};
 ghost use Rattle.text_tables.specs.Pairs.{value_of};
 ghost use Rattle.hwdb_lookup.specs.declared.entry.Entry.{Entry};
 ghost use Rattle.rule_templates.specs.Template as templates;
 ghost use Rattle.rule_types.specs.Rules as rules;
 ghost use Rattle.rule_types.specs.declared.part.Act.{Act};
-ghost use Rattle.rule_types.specs.declared.part.Deed.TheVariants as deed;
+ghost use Rattle.rule_types.specs.declared.part.ActKind.TheVariants as act_kind;
+ghost use Rattle.rule_types.specs.declared.part.Import.TheVariants as import;
 ghost use Rattle.device_core.specs.Faults.{block_gives};
 ghost use Rattle.device_core.specs.Values.{EventValue};
 ghost use Rattle.eval_acts.specs.Acts.{act_step};
-ghost use Rattle.eval_rules.specs.Idle.{deed_counts};
+ghost use Rattle.eval_rules.specs.Idle.{act_kind_counts};
 ghost use Rattle.eval_rules.specs.Outcomes.{outcome};
 ghost use Rattle.eval_state.specs.Notes.{note_about};
 ghost use Rattle.eval_state.specs.Scenes.{start};
@@ -38,14 +39,15 @@ pub fn each_command_is_asked_once()
 /// Rules without PROGRAM and IMPORT ask nothing.
 #[tactic(auto, using(crate::proofs::Unanswered::nothing_asked))]
 pub fn rules_without_programs_ask_nothing()
-    ensures { (read : List rules.Rule) (entries : List Entry) (event : EventValue) → list_all (λ r. not (list_any (λ act. deed_counts act.deed) r.acts)) read ≡ true → questions read entries event ≡ [] }
+    ensures { (read : List rules.Rule) (entries : List Entry) (event : EventValue) → list_all (λ r. not (list_any (λ act. act_kind_counts act.kind) r.acts)) read ≡ true → questions read entries event ≡ [] }
 {}
 
 /// The notes of a PROGRAM that its command has no answer are those of the commands that it looks up and the block does
-/// not answer.
-#[tactic(auto, using(crate::proofs::Noting::program_noted))]
+/// not answer. Of udev's IMPORT{program} it is the same.
+#[tactic(auto, using(crate::proofs::Noting::program_noted, crate::proofs::Noting::import_noted))]
 pub fn programs_ask_where_they_have_no_answer()
-    ensures { (entries : List Entry) (r : rules.Rule) (act : Act) (template : templates.Parts) (s : Scene) → act.deed ≡ deed.Program template → filter is_no_answer (act_step entries r act s).0.notes ≡ filter is_no_answer s.notes ++ map (note_about r NoAnswer) (act_asks act.deed s.state) }
+    ensures program { (entries : List Entry) (r : rules.Rule) (act : Act) (template : templates.Parts) (s : Scene) → act.kind ≡ act_kind.Program template → filter is_no_answer (act_step entries r act s).0.notes ≡ filter is_no_answer s.notes ++ map (note_about r NoAnswer) (act_asks act.kind s.state) }
+    ensures imported { (entries : List Entry) (r : rules.Rule) (act : Act) (template : templates.Parts) (s : Scene) → act.kind ≡ act_kind.Import (import.Program template) → s.state.event.profile ≡ Udev → filter is_no_answer (act_step entries r act s).0.notes ≡ filter is_no_answer s.notes ++ map (note_about r NoAnswer) (act_asks act.kind s.state) }
 {}
 
 /// A command can be asked just where a block that asks and answers it has that answer under it. So every command that any
@@ -58,7 +60,7 @@ pub fn filled_in_questions_are_answers()
 
 /// By the manual, the notes of an event that a command has no answer are those of the commands that its rules ask, one for
 /// each time that they do.
-#[tactic(auto, using(crate::proofs::Quiet::asked_is_noted))]
+#[tactic(auto, using(crate::proofs::Saying::asked_is_noted))]
 pub fn rules_ask_what_their_notes_say()
     ensures { (read : List rules.Rule) (entries : List Entry) (event : EventValue) → event.profile ≡ Manual → map (λ note. note.word) (filter is_no_answer (outcome read entries event).notes) ≡ map word_of (rules_ask entries None read (start event)) }
 {}

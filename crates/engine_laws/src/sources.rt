@@ -1,18 +1,18 @@
 //! What is true of the lines of an answer and of the rules that they come from.
 //!
 //! Each function here is empty: its contract is the law.
-ghost use Rattle.std.specs.Prelude.{◌≡◌, ◌&&◌, ◌++◌, [], ◌∷◌, false, is_some, List, None, not, true};
+ghost use Rattle.std.specs.Prelude.{◌≡◌, ◌&&◌, ◌++◌, [], ◌∷◌, false, is_some, List, not, true};
 ghost use Rattle.text_tables.specs.Pairs.{Pair};
 ghost use Rattle.hwdb_lookup.specs.declared.entry.Entry.{Entry};
 ghost use Rattle.rule_types.specs.Rules.{Rule};
 ghost use Rattle.device_core.specs.Values.{EventValue};
 ghost use Rattle.eval_state.specs.Scenes.{start};
-ghost use Rattle.eval_rules.specs.Jumps.{run};
+ghost use Rattle.eval_rules.specs.Jumps.{run_all};
 ghost use Rattle.eval_rules.specs.Outcomes.{outcome};
 ghost use Rattle.eval_effects.specs.Items.{items};
-ghost use Rattle.eval_sources.specs.Sources.{Stage, source_of, stands_throughout};
-ghost use Rattle.eval_effects.specs.Items.{stands};
-ghost use Rattle.eval_sources.specs.Told.{stages};
+ghost use Rattle.eval_sources.specs.Sources.{Stage, is_present_throughout, source_of};
+ghost use Rattle.eval_effects.specs.Items.{is_present};
+ghost use Rattle.eval_sources.specs.Reported.{stages};
 ghost use Rattle.engine_answers.specs.Answers.{answer_lines};
 ghost use Rattle.engine_sources.specs.Answers.{lines_by};
 
@@ -24,11 +24,11 @@ pub fn without_their_sources_the_lines_are_the_answer()
 
 /// An item comes from a rule if and only if it is there at the end and was not there like this at all stages from
 /// the start on.
-pub fn what_stood_from_the_start_comes_from_no_rule()
-    ensures { (rules : List Rule) (entries : List Entry) (event : EventValue) (item : Pair) → is_some (source_of (stages rules entries event) item) ≡ (stands item (items (run entries None rules (start event))) && not (stands_throughout item (stages rules entries event))) }
+pub fn what_was_there_from_the_start_comes_from_no_rule()
+    ensures { (rules : List Rule) (entries : List Entry) (event : EventValue) (item : Pair) → is_some (source_of (stages rules entries event) item) ≡ (is_present item (items (run_all entries rules (start event))) && not (is_present_throughout item (stages rules entries event))) }
 {}
 
 /// An item comes from a stage if it is there at this stage and all later ones, and not at the stage before.
-pub fn an_item_comes_from_where_it_stands_from_then_on()
-    ensures { (before later : List Stage) (last stage : Stage) (item : Pair) → stands item last.1 ≡ false → stands_throughout item (stage ∷ later) ≡ true → source_of (before ++ last ∷ stage ∷ later) item ≡ stage.0 }
+pub fn an_item_comes_from_the_stage_since_which_it_is_there()
+    ensures { (before later : List Stage) (last stage : Stage) (item : Pair) → is_present item last.1 ≡ false → is_present_throughout item (stage ∷ later) ≡ true → source_of (before ++ last ∷ stage ∷ later) item ≡ stage.0 }
 {}

@@ -5,10 +5,10 @@ use Rattle.std.proofs.lemmas.List.{append-nil}
 use Rattle.std.proofs.lemmas.Grind.{flat_map-append}
 use Rattle.text_bytes.specs.Names.{newline}
 use Rattle.text_tables.specs.Texts.{Text}
-use Rattle.engine_ends.specs.Told.{followed_by}
+use Rattle.engine_ends.specs.Reported.{followed_by}
 use Rattle.engine_ends.specs.Sinks.{HandsOn, SinkState}
-use Rattle.engine_ends.specs.Delivery.{Outcome}
-use Rattle.engine_ends.proofs.Told.{followed_by-append, followed_by-nil}
+use Rattle.engine_ends.specs.Delivery.{RunOutcome}
+use Rattle.engine_ends.proofs.Reported.{followed_by-append, followed_by-nil}
 use Rattle.engine_sessions.specs.Serves.{WritesOut}
 use Rattle.engine_lookups.specs.Outcomes.{after_answer, answered_from, is_too_long, most_bytes, too_long_line}
 use Rattle.engine_lookups.specs.Runs.{HasFlushed}
@@ -20,8 +20,8 @@ long_is line h = grind (arith, nat_tests)
 pub short_is : (line : Text) → length line ≤ most_bytes → is_too_long line ≡ false
 short_is line h = grind (arith, nat_tests)
 
--- what is said where the first line is too long
-abbrev pub stopped : ℕ → Outcome
+-- what is said if the first line is too long
+abbrev pub stopped : ℕ → RunOutcome
 stopped number = record { output = []; messages = too_long_line number; status = 1 }
 
 pub answered_short : (answer : Text → Text) (number : ℕ) (line : Text) (others : List Text) → is_too_long line ≡ false → answered_from answer number (line ∷ others) ≡ after_answer (answer line) (answered_from answer (number + 1) others)
@@ -30,7 +30,7 @@ answered_short answer number line others e = ap (λ v. cond v (stopped number) (
 pub answered_long : (answer : Text → Text) (number : ℕ) (line : Text) (others : List Text) → is_too_long line ≡ true → answered_from answer number (line ∷ others) ≡ stopped number
 answered_long answer number line others e = ap (λ v. cond v (stopped number) (after_answer (answer line) (answered_from answer (number + 1) others))) e
 
-after_both : (first second : Text) (outcome : Outcome) → after_answer first (after_answer second outcome) ≡ after_answer (first ++ second) outcome
+after_both : (first second : Text) (outcome : RunOutcome) → after_answer first (after_answer second outcome) ≡ after_answer (first ++ second) outcome
 after_both first second outcome = ap (λ text. record { output = text; messages = outcome.messages; status = outcome.status }) (sym (append_assoc first second outcome.output))
 
 pub leads-none : (answer : Text → Text) → Leads answer []
@@ -51,7 +51,7 @@ leads-after answer first second f s number others =
     sum_is : (n : ℕ) → n + length first + length second ≡ n + length (first ++ second)
     sum_is n = omega (arith, length-append first second)
 
--- what lines come to that are all answered
+-- the outcome of lines that are all answered
 pub answered_all : (answer : Text → Text) (number : ℕ) (ls : List Text) → Leads answer ls → answered_from answer number ls ≡ record { output = flat_map answer ls; messages = []; status = 0 }
 answered_all answer number ls l =
     ap (answered_from answer number) (sym (append-nil ls)) ∙ l number []
@@ -65,7 +65,7 @@ writes-one before now text h = record { taken = h.taken ∙ ap (followed_by befo
 
 pub writes-after : (before middle now : SinkState) (first second : Text) → WritesOut before first middle → WritesOut middle second now → WritesOut before (first ++ second) now
 writes-after before middle now first second w v = record {
-  taken = v.taken ∙ ap (λ told. followed_by told second) w.taken ∙ followed_by-append before.taken first second;
+  taken = v.taken ∙ ap (λ reported. followed_by reported second) w.taken ∙ followed_by-append before.taken first second;
   flushed = elim v.flushed [
     | inl e ↦ inl e
     | inr p ↦ elim w.flushed [
@@ -81,8 +81,8 @@ first_empty [] second e = refl
 first_empty (byte ∷ first) second e = absurd cc
 
 -- what was written first is flushed first
-pub flushed_first : (before told now : SinkState) (first second : Text) → now.flushed ≡ told.flushed → WritesOut before (first ++ second) told → HasFlushed before first now
-flushed_first before told now first second e w = elim w.flushed [
+pub flushed_first : (before reported now : SinkState) (first second : Text) → now.flushed ≡ reported.flushed → WritesOut before (first ++ second) reported → HasFlushed before first now
+flushed_first before reported now first second e w = elim w.flushed [
   | inl f ↦ inr (second, e ∙ f ∙ w.taken)
   | inr p ↦ inl (first_empty first second p.0)
 ]

@@ -7,20 +7,20 @@ use Rattle.std.proofs.Math.Seq.{take-length}
 use Rattle.text_bytes.specs.Lines.{lines}
 use Rattle.text_tables.specs.Texts.{Text}
 use Rattle.device_core.specs.RunBlocks.{newline_count}
-use Rattle.engine_ends.specs.Told.{followed_by, led_by, NoneLeft}
+use Rattle.engine_ends.specs.Reported.{followed_by, led_by, NoneLeft}
 use Rattle.engine_ends.specs.Counts.{Counts}
 use Rattle.engine_ends.specs.Sources.{Gives, SourceFails, SourceState}
 use Rattle.engine_ends.specs.Sinks.{HandsOn, SinkState}
 use Rattle.engine_ends.proofs.Counting.{counts-none}
-use Rattle.engine_ends.proofs.Told.{followed_by-nil}
+use Rattle.engine_ends.proofs.Reported.{followed_by-nil}
 use Rattle.engine_sessions.specs.Inputs.{ReadsWell, UsesUp, all_but_last, most_turns}
 use Rattle.engine_sessions.specs.Serves.{WritesOut}
 use Rattle.engine_sessions.specs.Turns.{Reads, joined, most_read}
-use Rattle.engine_sessions.proofs.Turns.{all_but_last-push, joined-push, later_none, led_by-nil, left_behind, none_left_behind, one_more, reads_more}
+use Rattle.engine_sessions.proofs.Turns.{all_but_last-push, joined-push, later_none, led_by-nil, left_after, none_left_after, one_more, reads_more}
 use Rattle.engine_lookups.specs.Outcomes.{most_bytes}
 use Rattle.engine_lookups.specs.Runs.{HasAnswered, HasFlushed, HoldsFew, ended_lines, unended}
 use Rattle.engine_lookups.specs.Taking.{Answers, HeldLine, IsOpen, Leads, StopsBy, StopsIn, first_line}
-use Rattle.engine_lookups.specs.Inputs.{AnswersInput, Ends, EndsBy, FailsAfterRead, FaultsBy, GoesOn, IsAnswered, IsAnsweredSoFar, StopsInput, TurnFails}
+use Rattle.engine_lookups.specs.Inputs.{AnswersInput, Ends, EndsBy, FailsAfterRead, FaultsBy, IsAnswered, IsAnsweredSoFar, Proceeds, StopsInput, TurnFails}
 use Rattle.engine_lookups.specs.declared.held.LookupFault.{LookupFault}
 use Rattle.engine_lookups.specs.declared.held.LookupFault.TheVariants.{Read, Write, TooLong, Memory}
 use Rattle.engine_lookups.proofs.LineLemmas.{cut_lines, ended_are, unended_is}
@@ -32,12 +32,12 @@ abbrev pub HoldsUpTo : List Text → Type 0
 HoldsUpTo read = (n : ℕ) → n ≤ length read → length (unended (joined (take n read))) ≤ most_bytes
 
 -- All lines that ended in some turns are answered.
-pub record Turned (answer : Text → Text) (turns : ℕ) (held : HeldLine) (input now : SourceState) (output sink : SinkState) : Type 0 where
+pub record AfterTurns (answer : Text → Text) (turns : ℕ) (held : HeldLine) (input now : SourceState) (output sink : SinkState) : Type 0 where
   pub read : List Text
   pub pieces : now.pieces ≡ followed_by input.pieces read
   pub left : input.left ≡ led_by (joined read) now.left
   pub counts : ReadsWell turns input now
-  pub turned : length read ≡ turns
+  pub turn_count : length read ≡ turns
   pub fits : HoldsUpTo read
   pub answers : Answers answer first_line (joined read) held output sink
   pub due : HasAnswered answer (all_but_last read) output sink
@@ -71,48 +71,48 @@ first_open : IsOpen first_line
 first_open = record { none = refl; fits = omega arith }
 
 -- the lines that ended in the pieces are answered in front of what was written then
-has_answered : (answer : Text → Text) (read : List Text) (held : HeldLine) (output sink told now : SinkState) (more : Text) → Answers answer first_line (joined read) held output sink → WritesOut sink more told → now.flushed ≡ told.flushed → HasAnswered answer read output now
-has_answered answer read held output sink told now more a w e =
+has_answered : (answer : Text → Text) (read : List Text) (held : HeldLine) (output sink reported now : SinkState) (more : Text) → Answers answer first_line (joined read) held output sink → WritesOut sink more reported → now.flushed ≡ reported.flushed → HasAnswered answer read output now
+has_answered answer read held output sink reported now more a w e =
     subst (λ ls. HasFlushed output (flat_map answer ls) now) (sym (ended_are (joined read) a.ended held.bytes a.cut))
-    (flushed_first output told now (flat_map answer a.ended) more e (writes-after output sink told (flat_map answer a.ended) more a.writes w))
+    (flushed_first output reported now (flat_map answer a.ended) more e (writes-after output sink reported (flat_map answer a.ended) more a.writes w))
 
 -- the same of all pieces but the last
 has_answered_due : (answer : Text → Text) (read : List Text) (piece : Text) (output now : SinkState) → HasAnswered answer read output now → HasAnswered answer (all_but_last (read ++ piece ∷ [])) output now
 has_answered_due answer read piece output now h = subst (λ pieces. HasAnswered answer pieces output now) (sym (all_but_last-push read piece)) h
 
-pub turned_at_start : (answer : Text → Text) (held : HeldLine) (input : SourceState) (output : SinkState) → held ≡ first_line → Turned answer 0 held input input output output
-turned_at_start answer held input output e = rw e (record {
+pub turns_at_start : (answer : Text → Text) (held : HeldLine) (input : SourceState) (output : SinkState) → held ≡ first_line → AfterTurns answer 0 held input input output output
+turns_at_start answer held input output e = rw e (record {
   read = [];
   pieces = sym (followed_by-nil input.pieces);
   left = sym (led_by-nil input.left);
   counts = record { reads = counts-none input.reads; well = refl };
-  turned = refl;
+  turn_count = refl;
   fits = none_at_start;
   answers = answers-none answer first_line output first_open;
   due = inl refl;
   few = omega arith;
 })
 
-pub turned_open : (answer : Text → Text) (turns : ℕ) (held : HeldLine) (input now : SourceState) (output sink : SinkState) → Turned answer turns held input now output sink → IsOpen held
-turned_open answer turns held input now output sink t = open_is answer first_line (joined t.read) held output sink t.answers
+pub turns_open : (answer : Text → Text) (turns : ℕ) (held : HeldLine) (input now : SourceState) (output sink : SinkState) → AfterTurns answer turns held input now output sink → IsOpen held
+turns_open answer turns held input now output sink t = open_is answer first_line (joined t.read) held output sink t.answers
 
-pub turned_more : (answer : Text → Text) (turns : ℕ) (held next : HeldLine) (input now later : SourceState) (output sink sink_later : SinkState) → Turned answer turns held input now output sink → GoesOn answer held next now later sink sink_later → Turned answer (turns + 1) next input later output sink_later
-turned_more answer turns held next input now later output sink sink_later t g =
+pub turns_more : (answer : Text → Text) (turns : ℕ) (held next : HeldLine) (input now later : SourceState) (output sink sink_later : SinkState) → AfterTurns answer turns held input now output sink → Proceeds answer held next now later sink sink_later → AfterTurns answer (turns + 1) next input later output sink_later
+turns_more answer turns held next input now later output sink sink_later t g =
     let text : joined (t.read ++ g.piece ∷ []) ≡ joined t.read ++ g.piece = joined-push t.read g.piece in
     let both : Answers answer first_line (joined (t.read ++ g.piece ∷ [])) next output sink_later = subst (λ all. Answers answer first_line all next output sink_later) (sym text) (answers-after answer first_line held next (joined t.read) g.piece output sink sink_later t.answers g.answers) in
     record {
       read = t.read ++ g.piece ∷ [];
       pieces = one_more input now later t.read g.piece t.pieces g.reads.gives.pieces;
-      left = left_behind input now later t.read g.piece t.left g.reads.gives.left;
+      left = left_after input now later t.read g.piece t.left g.reads.gives.left;
       counts = reads_more turns input now later t.counts g.reads.gives.reads g.reads.gives.well;
-      turned = length-append t.read (g.piece ∷ []) ∙ ap (λ n. n + 1) t.turned;
+      turn_count = length-append t.read (g.piece ∷ []) ∙ ap (λ n. n + 1) t.turn_count;
       fits = up_to_after t.read g.piece t.fits (held_few answer (joined (t.read ++ g.piece ∷ [])) next output sink_later both);
       answers = both;
       due = has_answered_due answer t.read g.piece output sink_later (has_answered answer t.read held output sink sink_later sink_later (flat_map answer g.answers.ended) t.answers g.answers.writes refl);
-      few = omega (arith, t.few, g.reads.most, few_ended answer held g.piece next sink sink_later (turned_open answer turns held input now output sink t) g.answers);
+      few = omega (arith, t.few, g.reads.most, few_ended answer held g.piece next sink sink_later (turns_open answer turns held input now output sink t) g.answers);
     }
 
-pub finished : (answer : Text → Text) (turns : ℕ) (held : HeldLine) (input now later : SourceState) (output sink sink_later : SinkState) → Turned answer turns held input now output sink → Ends answer held now later sink sink_later → AnswersInput answer (Ok tt) input later output sink_later
+pub finished : (answer : Text → Text) (turns : ℕ) (held : HeldLine) (input now later : SourceState) (output sink sink_later : SinkState) → AfterTurns answer turns held input now output sink → Ends answer held now later sink sink_later → AnswersInput answer (Ok tt) input later output sink_later
 finished answer turns held input now later output sink sink_later t e =
     let none : e.piece ≡ [] = e.reads.ends.0 refl in
     let last : lines (joined (t.read ++ e.piece ∷ [])) ≡ t.answers.ended ++ lines held.bytes =
@@ -123,7 +123,7 @@ finished answer turns held input now later output sink sink_later t e =
     record {
       read = t.read ++ e.piece ∷ [];
       pieces = one_more input now later t.read e.piece t.pieces e.reads.gives.pieces;
-      left = left_behind input now later t.read e.piece t.left e.reads.gives.left;
+      left = left_after input now later t.read e.piece t.left e.reads.gives.left;
       faults = e.reads.gives.well ∙ t.counts.well;
       fits = few_after t.read e.piece t.fits;
       due = has_answered_due answer t.read e.piece output sink_later (has_answered answer t.read held output sink sink_later sink_later (flat_map answer (lines held.bytes)) t.answers e.writes refl);
@@ -131,31 +131,31 @@ finished answer turns held input now later output sink sink_later t e =
       ends = record {
         leads = subst (Leads answer) (sym last) (leads-after answer t.answers.ended (lines held.bytes) t.answers.leads e.leads);
         writes = subst (λ said. WritesOut output said sink_later) (sym (ap (flat_map answer) last ∙ text)) all;
-        none_left = none_left_behind now.left later.left e.piece none e.reads.gives.left (e.reads.none_left refl);
+        none_left = none_left_after now.left later.left e.piece none e.reads.gives.left (e.reads.none_left refl);
       };
     }
 
--- where it stops, nothing more is flushed than the answers before
-stops_flushed : (answer : Text → Text) (fault : LookupFault) (number : ℕ) (others : List Text) (told now : SinkState) → StopsBy answer fault number others told now → now.flushed ≡ told.flushed
-stops_flushed answer Read number others told now s = absurd s
-stops_flushed answer Write number others told now s = s.breaks.flushed
-stops_flushed answer (TooLong counted) number others told now s = ap (λ sink. sink.flushed) s.untouched
-stops_flushed answer Memory number others told now s = ap (λ sink. sink.flushed) s
+-- if it stops, nothing more is flushed than the answers before
+stops_flushed : (answer : Text → Text) (fault : LookupFault) (number : ℕ) (others : List Text) (reported now : SinkState) → StopsBy answer fault number others reported now → now.flushed ≡ reported.flushed
+stops_flushed answer Read number others reported now s = absurd s
+stops_flushed answer Write number others reported now s = s.breaks.flushed
+stops_flushed answer (TooLong counted) number others reported now s = ap (λ sink. sink.flushed) s.untouched
+stops_flushed answer Memory number others reported now s = ap (λ sink. sink.flushed) s
 
-after_read : (answer : Text → Text) (fault : LookupFault) (turns : ℕ) (held : HeldLine) (input now later : SourceState) (output sink sink_later : SinkState) (t : Turned answer turns held input now output sink) (f : FailsAfterRead answer fault held now later sink sink_later)
+after_read : (answer : Text → Text) (fault : LookupFault) (turns : ℕ) (held : HeldLine) (input now later : SourceState) (output sink sink_later : SinkState) (t : AfterTurns answer turns held input now output sink) (f : FailsAfterRead answer fault held now later sink sink_later)
     → (StopsInput answer fault (joined (t.read ++ f.piece ∷ [])) later.left output sink_later → EndsBy answer (Err fault) (joined (t.read ++ f.piece ∷ [])) later.left output sink_later)
     → (later.faults ≡ input.faults → FaultsBy (Err fault) (length (t.read ++ f.piece ∷ [])) input later) → AnswersInput answer (Err fault) input later output sink_later
 after_read answer fault turns held input now later output sink sink_later t f ends faults =
     let well : later.faults ≡ input.faults = f.reads.gives.well ∙ t.counts.well in
-    let flushed : sink_later.flushed ≡ f.stops.told.flushed = stops_flushed answer fault (held.number + length f.stops.ended) (f.stops.at [] (λ e. refl)).others f.stops.told sink_later (f.stops.at [] (λ e. refl)).stops in
+    let flushed : sink_later.flushed ≡ f.stops.reported.flushed = stops_flushed answer fault (held.number + length f.stops.ended) (f.stops.at [] (λ e. refl)).others f.stops.reported sink_later (f.stops.at [] (λ e. refl)).stops in
     let stops : StopsIn answer fault f.more 1 (joined t.read ++ f.piece) output sink_later = stops-after answer fault f.more first_line held (joined t.read) f.piece output sink sink_later t.answers f.stops in
     record {
       read = t.read ++ f.piece ∷ [];
       pieces = one_more input now later t.read f.piece t.pieces f.reads.gives.pieces;
-      left = left_behind input now later t.read f.piece t.left f.reads.gives.left;
+      left = left_after input now later t.read f.piece t.left f.reads.gives.left;
       faults = faults well;
       fits = few_after t.read f.piece t.fits;
-      due = has_answered_due answer t.read f.piece output sink_later (has_answered answer t.read held output sink f.stops.told sink_later (flat_map answer f.stops.ended) t.answers f.stops.writes flushed);
+      due = has_answered_due answer t.read f.piece output sink_later (has_answered answer t.read held output sink f.stops.reported sink_later (flat_map answer f.stops.ended) t.answers f.stops.writes flushed);
       due_at_fault = λ g. absurd (g well);
       ends = ends (record {
         more = f.more;
@@ -164,7 +164,7 @@ after_read answer fault turns held input now later output sink sink_later t f en
       });
     }
 
-pub failed : (answer : Text → Text) (fault : LookupFault) (turns : ℕ) (held : HeldLine) (input now later : SourceState) (output sink sink_later : SinkState) → Turned answer turns held input now output sink → TurnFails answer fault held now later sink sink_later → AnswersInput answer (Err fault) input later output sink_later
+pub failed : (answer : Text → Text) (fault : LookupFault) (turns : ℕ) (held : HeldLine) (input now later : SourceState) (output sink sink_later : SinkState) → AfterTurns answer turns held input now output sink → TurnFails answer fault held now later sink sink_later → AnswersInput answer (Err fault) input later output sink_later
 failed answer Read turns held input now later output sink sink_later t f = record {
   read = t.read;
   pieces = f.0.pieces ∙ t.pieces;
@@ -180,12 +180,12 @@ failed answer (TooLong counted) turns held input now later output sink sink_late
 failed answer Memory turns held input now later output sink sink_later t f = after_read answer Memory turns held input now later output sink sink_later t f (λ s. s) (λ e. e)
 
 -- no turn is left
-pub used_up : (answer : Text → Text) (held : HeldLine) (input now : SourceState) (output sink : SinkState) → Turned answer most_turns held input now output sink → AnswersInput answer (Err Read) input now output sink
+pub used_up : (answer : Text → Text) (held : HeldLine) (input now : SourceState) (output sink : SinkState) → AfterTurns answer most_turns held input now output sink → AnswersInput answer (Err Read) input now output sink
 used_up answer held input now output sink t = record {
   read = t.read;
   pieces = t.pieces;
   left = t.left;
-  faults = inr (record { all = t.turned; reads = t.counts.reads });
+  faults = inr (record { all = t.turn_count; reads = t.counts.reads });
   fits = few_of t.read t.fits;
   due = t.due;
   due_at_fault = λ g. absurd (g t.counts.well);

@@ -4,3 +4,4 @@ pub mod TakingLemmas
 pub mod InputLemmas
 pub mod Serving
 pub mod LawLemmas
+pub mod LongLines

@@ -34,7 +34,7 @@ none-cons byte a h = by_test (byte == newline) refl
     by_test true e = let one : 1 + newline_count a ≡ 0 = ap (λ v. cond v 1 0 + newline_count a) (sym e) ∙ both in absurd (omega (arith, one))
     by_test false e = let none : 0 + newline_count a ≡ 0 = ap (λ v. cond v 1 0 + newline_count a) (sym e) ∙ both in (e, omega (arith, none))
 
--- a byte that ends no line stands in the first line
+-- a byte that ends no line is in the first line
 pub onto : (byte : ℕ) (text : Text) → (byte == newline) ≡ false → lines (byte ∷ text) ≡ onto_first byte (lines text)
 onto byte text e = ap (λ v. cond v ([] ∷ lines text) (onto_first byte (lines text))) e
 

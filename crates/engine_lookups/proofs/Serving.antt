@@ -3,22 +3,22 @@ use Rattle.std.proofs.Common.{◌≡◌, ℕ, ◌+◌, ◌≤◌, ◌<◌, ◌�
 use Rattle.std.proofs.lemmas.List.{append-nil}
 use Rattle.text_bytes.specs.Lines.{lines}
 use Rattle.text_tables.specs.Texts.{Text}
-use Rattle.engine_ends.specs.Told.{followed_by}
+use Rattle.engine_ends.specs.Reported.{followed_by}
 use Rattle.engine_ends.specs.Counts.{Counts}
 use Rattle.engine_ends.specs.Sinks.{BreaksOff, HandsOn, SinkState}
 use Rattle.engine_ends.specs.declared.line.Line.{Line}
 use Rattle.engine_ends.specs.Streams.{Streams, outputs}
-use Rattle.engine_ends.specs.Delivery.{Delivers, Outcome, Tells, TellsFaults, out_of_memory, write_failed}
-use Rattle.engine_ends.proofs.Told.{followed_by-nil}
+use Rattle.engine_ends.specs.Delivery.{Delivers, ReportsFailure, ReportsFaults, RunOutcome, out_of_memory, write_failed}
+use Rattle.engine_ends.proofs.Reported.{followed_by-nil}
 use Rattle.engine_reports.specs.Databases.{DatabaseValue}
 use Rattle.engine_reports.specs.Indexes.{refused_index}
 use Rattle.engine_reports.specs.Outcomes.{too_many_entries, too_many_rules}
 use Rattle.engine_reports.specs.Reports.{IsRefused, IsSaid}
 use Rattle.engine_reports.specs.declared.refusal.Refusal.{Refusal}
 use Rattle.engine_reports.specs.declared.refusal.Refusal.TheVariants as Refused
-use Rattle.engine_sessions.specs.Serves.{HasBegun, IsCutShort, IsWhole, Serves, TellsFailures, WritesOut, read_failed}
+use Rattle.engine_sessions.specs.Serves.{HasBegun, IsCutShort, IsWhole, ReportsFailures, Serves, WritesOut, read_failed}
 use Rattle.engine_sessions.specs.Turns.{joined}
-use Rattle.engine_sessions.proofs.Serving.{at_memory, begun-behind, begun-first, begun-none, begun-taken, cut_by, hands_behind, memory_most, memory_status, messages_cut, none_is, not_four, not_under, refused_cut, rest_told, tells_begun}
+use Rattle.engine_sessions.proofs.Serving.{at_memory, begun-first, begun-following, begun-none, begun-taken, cut_by, hands_after, memory_most, memory_status, messages_cut, none_is, not_four, not_under, refused_cut, reports_begun, rest_reported}
 use Rattle.engine_lookups.specs.Outcomes.{after_answer, after_messages, answer_to, answered_from, lines_outcome, too_long_line}
 use Rattle.engine_lookups.specs.Databases.{LooksUpBy}
 use Rattle.engine_lookups.specs.Runs.{LooksUp}
@@ -29,17 +29,17 @@ use Rattle.engine_lookups.specs.declared.held.LookupFault.TheVariants.{Read, Wri
 use Rattle.engine_lookups.proofs.LineLemmas.{cut_lines}
 use Rattle.engine_lookups.proofs.AnswerLemmas.{answered_all, answered_long, answered_short, stopped}
 
-three : (line : Text) (status : ℕ) (told now : SinkState) → Tells line 3 status told now → status ≡ 3
-three line status told now (inl p) = p.0
-three line status told now (inr p) = p.0
+three : (line : Text) (status : ℕ) (reported now : SinkState) → ReportsFailure line 3 status reported now → status ≡ 3
+three line status reported now (inl p) = p.0
+three line status reported now (inr p) = p.0
 
--- what a text comes to whose first lines are answered
+-- the outcome of a text whose first lines are answered
 first_lines : (answer : Text → Text) (text : Text) (ended others : List Text) → Leads answer ended → lines text ≡ ended ++ others → answered_from answer 1 (lines text) ≡ after_answer (flat_map answer ended) (answered_from answer (1 + length ended) others)
 first_lines answer text ended others l e = ap (answered_from answer 1) e ∙ l 1 others
 
--- what a text comes to that has a line that is too long after these
-long_text : (answer : Text → Text) (counted : ℕ) (text : Text) (ended : List Text) (told now : SinkState) → Leads answer ended → StopsAt answer (TooLong counted) 1 ended text told now → answered_from answer 1 (lines text) ≡ record { output = flat_map answer ended; messages = too_long_line counted; status = 1 }
-long_text answer counted text ended told now l s =
+-- the outcome of a text that has a line that is too long after these
+long_text : (answer : Text → Text) (counted : ℕ) (text : Text) (ended : List Text) (reported now : SinkState) → Leads answer ended → StopsAt answer (TooLong counted) 1 ended text reported now → answered_from answer 1 (lines text) ≡ record { output = flat_map answer ended; messages = too_long_line counted; status = 1 }
+long_text answer counted text ended reported now l s =
     first_lines answer text ended s.others l s.lines_are
     ∙ ap (λ ls. after_answer (flat_map answer ended) (answered_from answer (1 + length ended) ls)) s.stops.lines_are
     ∙ ap (after_answer (flat_map answer ended)) (answered_long answer (1 + length ended) s.stops.line s.stops.others s.stops.long)
@@ -47,23 +47,23 @@ long_text answer counted text ended told now l s =
     ∙ ap (λ said. record { output = said; messages = too_long_line counted; status = 1 }) (append-nil (flat_map answer ended))
 
 -- the output has the answers to these lines, and a first part of what follows them
-output_begun : (answer : Text → Text) (text : Text) (ended others : List Text) (before told now : SinkState) → Leads answer ended → lines text ≡ ended ++ others → WritesOut before (flat_map answer ended) told
-    → HasBegun told (answered_from answer (1 + length ended) others).output now → HasBegun before (answered_from answer 1 (lines text)).output now
-output_begun answer text ended others before told now l e w b =
+output_begun : (answer : Text → Text) (text : Text) (ended others : List Text) (before reported now : SinkState) → Leads answer ended → lines text ≡ ended ++ others → WritesOut before (flat_map answer ended) reported
+    → HasBegun reported (answered_from answer (1 + length ended) others).output now → HasBegun before (answered_from answer 1 (lines text)).output now
+output_begun answer text ended others before reported now l e w b =
     subst (λ outcome. HasBegun before outcome.output now) (sym (first_lines answer text ended others l e))
-    (begun-behind before told now (flat_map answer ended) (answered_from answer (1 + length ended) others).output w.taken b)
+    (begun-following before reported now (flat_map answer ended) (answered_from answer (1 + length ended) others).output w.taken b)
 
 -- it breaks off in the answer to the next line
-answer_begun : (answer : Text → Text) (number : ℕ) (ls others : List Text) (next : Text) (told now : SinkState) → ls ≡ next ∷ others → answered_from answer number (next ∷ others) ≡ after_answer (answer next) (answered_from answer (number + 1) others) → HasBegun told (answer next) now → HasBegun told (answered_from answer number ls).output now
-answer_begun answer number ls others next told now e short b =
-    subst (λ outcome. HasBegun told outcome.output now) (sym (ap (answered_from answer number) e ∙ short))
-    (begun-first told now (answer next) (answered_from answer (number + 1) others).output b)
+answer_begun : (answer : Text → Text) (number : ℕ) (ls others : List Text) (next : Text) (reported now : SinkState) → ls ≡ next ∷ others → answered_from answer number (next ∷ others) ≡ after_answer (answer next) (answered_from answer (number + 1) others) → HasBegun reported (answer next) now → HasBegun reported (answered_from answer number ls).output now
+answer_begun answer number ls others next reported now e short b =
+    subst (λ outcome. HasBegun reported outcome.output now) (sym (ap (answered_from answer number) e ∙ short))
+    (begun-first reported now (answer next) (answered_from answer (number + 1) others).output b)
 
-module _ (messages : Text) (answer : Text → Text) (status : ℕ) (before now : Streams) (told : SinkState) (says : HandsOn before.err messages told) where
-  messages_begun : (text : Text) → HasBegun before.err (lines_outcome messages answer text).messages told
-  messages_begun text = begun-first before.err told messages (answered_from answer 1 (lines text)).messages (begun-taken before.err told messages says.taken)
+module _ (messages : Text) (answer : Text → Text) (status : ℕ) (before now : Streams) (reported : SinkState) (says : HandsOn before.err messages reported) where
+  messages_begun : (text : Text) → HasBegun before.err (lines_outcome messages answer text).messages reported
+  messages_begun text = begun-first before.err reported messages (answered_from answer 1 (lines text)).messages (begun-taken before.err reported messages says.taken)
 
-  looked_well : (t : AnswersInput answer (Ok tt) before.input now.input before.out now.out) → Concludes (Ok tt) status told now.err → LooksUp messages answer status before now
+  looked_well : (t : AnswersInput answer (Ok tt) before.input now.input before.out now.out) → Concludes (Ok tt) status reported now.err → LooksUp messages answer status before now
   looked_well t c =
       let is : lines_outcome messages answer (joined t.read) ≡ record { output = flat_map answer (lines (joined t.read)); messages = messages; status = 0 } =
       ap (after_messages messages) (answered_all answer 1 (lines (joined t.read)) t.ends.leads)
@@ -73,7 +73,7 @@ module _ (messages : Text) (answer : Text → Text) (status : ℕ) (before now :
           read = t.read;
           pieces = t.pieces;
           whole = λ h. subst (λ o. IsWhole o status before now) (sym is) (record { output = t.ends.writes; messages = rw c.1 says; status_is = c.0 });
-          all = λ h text e. let r = rest_told text (joined t.read) now.input.left (sym e ∙ t.left) in
+          all = λ h text e. let r = rest_reported text (joined t.read) now.input.left (sym e ∙ t.left) in
               ap (lines_outcome messages answer) (r.2 ∙ ap (λ rest. joined t.read ++ rest) (none_is now.input.left r.0 t.ends.none_left r.1) ∙ append-nil (joined t.read));
           cut = λ h. absurd (omega (arith, h, c.0));
           failures = record {
@@ -87,7 +87,7 @@ module _ (messages : Text) (answer : Text → Text) (status : ℕ) (before now :
         fits = t.fits;
       }
 
-  looked_read : (t : AnswersInput answer (Err Read) before.input now.input before.out now.out) → Concludes (Err Read) status told now.err → status ≡ 3 → LooksUp messages answer status before now
+  looked_read : (t : AnswersInput answer (Err Read) before.input now.input before.out now.out) → Concludes (Err Read) status reported now.err → status ≡ 3 → LooksUp messages answer status before now
   looked_read t c e =
       let a = t.ends.answers in
       record {
@@ -96,9 +96,9 @@ module _ (messages : Text) (answer : Text → Text) (status : ℕ) (before now :
           pieces = t.pieces;
           whole = not_under status (omega (arith, e));
           all = not_under status (omega (arith, e));
-          cut = λ h. cut_by (lines_outcome messages answer (joined t.read)) status before now told read_failed (inr (inl refl))
+          cut = λ h. cut_by (lines_outcome messages answer (joined t.read)) status before now reported read_failed (inr (inl refl))
               (output_begun answer (joined t.read) a.ended (lines t.ends.held.bytes) before.out now.out now.out a.leads (cut_lines (joined t.read) a.ended t.ends.held.bytes a.cut) a.writes (begun-none now.out _))
-              (messages_begun (joined t.read)) (tells_begun read_failed 3 status told now.err c) (not_four status e);
+              (messages_begun (joined t.read)) (reports_begun read_failed 3 status reported now.err c) (not_four status e);
           failures = record {
             failed = λ f. elim t.faults [ inl n ↦ inl n | inr u ↦ inr (inr (inr u)) ];
             well = λ h. absurd (h e);
@@ -110,7 +110,7 @@ module _ (messages : Text) (answer : Text → Text) (status : ℕ) (before now :
         fits = t.fits;
       }
 
-  looked_write : (t : AnswersInput answer (Err Write) before.input now.input before.out now.out) → Concludes (Err Write) status told now.err → status ≡ 3 → LooksUp messages answer status before now
+  looked_write : (t : AnswersInput answer (Err Write) before.input now.input before.out now.out) → Concludes (Err Write) status reported now.err → status ≡ 3 → LooksUp messages answer status before now
   looked_write t c e =
       let s = t.ends.stops in
       let there = s.at [] (λ f. refl) in
@@ -121,10 +121,10 @@ module _ (messages : Text) (answer : Text → Text) (status : ℕ) (before now :
           pieces = t.pieces;
           whole = not_under status (omega (arith, e));
           all = not_under status (omega (arith, e));
-          cut = λ h. cut_by (lines_outcome messages answer (joined t.read)) status before now told write_failed (inr (inr (inl refl)))
-              (output_begun answer (joined t.read) s.ended there.others before.out s.told now.out s.leads (ap lines (sym (append-nil (joined t.read))) ∙ there.lines_are) s.writes
-              (answer_begun answer (1 + length s.ended) there.others stops.others stops.next s.told now.out stops.lines_are (answered_short answer (1 + length s.ended) stops.next stops.others stops.short) stops.breaks.taken))
-              (messages_begun (joined t.read)) (tells_begun write_failed 3 status told now.err c) (not_four status e);
+          cut = λ h. cut_by (lines_outcome messages answer (joined t.read)) status before now reported write_failed (inr (inr (inl refl)))
+              (output_begun answer (joined t.read) s.ended there.others before.out s.reported now.out s.leads (ap lines (sym (append-nil (joined t.read))) ∙ there.lines_are) s.writes
+              (answer_begun answer (1 + length s.ended) there.others stops.others stops.next s.reported now.out stops.lines_are (answered_short answer (1 + length s.ended) stops.next stops.others stops.short) stops.breaks.taken))
+              (messages_begun (joined t.read)) (reports_begun write_failed 3 status reported now.err c) (not_four status e);
           failures = record {
             failed = λ f. inr (inl (subst (λ n. Counts 1 n now.out.faults) s.writes.well stops.breaks.failed));
             well = λ h. absurd (h e);
@@ -136,7 +136,7 @@ module _ (messages : Text) (answer : Text → Text) (status : ℕ) (before now :
         fits = t.fits;
       }
 
-  looked_memory : (t : AnswersInput answer (Err Memory) before.input now.input before.out now.out) → Concludes (Err Memory) status told now.err → LooksUp messages answer status before now
+  looked_memory : (t : AnswersInput answer (Err Memory) before.input now.input before.out now.out) → Concludes (Err Memory) status reported now.err → LooksUp messages answer status before now
   looked_memory t c =
       let s = t.ends.stops in
       let there = s.at [] (λ f. refl) in
@@ -144,42 +144,42 @@ module _ (messages : Text) (answer : Text → Text) (status : ℕ) (before now :
         serves = record {
           read = t.read;
           pieces = t.pieces;
-          whole = not_under status (memory_status status told now.err c);
-          all = not_under status (memory_status status told now.err c);
-          cut = λ h. cut_by (lines_outcome messages answer (joined t.read)) status before now told out_of_memory (inr (inr (inr refl)))
-              (output_begun answer (joined t.read) s.ended there.others before.out s.told now.out s.leads (ap lines (sym (append-nil (joined t.read))) ∙ there.lines_are) s.writes (rw there.stops (begun-none s.told _)))
-              (messages_begun (joined t.read)) (tells_begun out_of_memory 4 status told now.err c) (at_memory status told now.err c);
-          failures = told_failures c t.faults (ap (λ sink. sink.faults) there.stops ∙ s.writes.well);
-          statuses = memory_most status told now.err c;
+          whole = not_under status (memory_status status reported now.err c);
+          all = not_under status (memory_status status reported now.err c);
+          cut = λ h. cut_by (lines_outcome messages answer (joined t.read)) status before now reported out_of_memory (inr (inr (inr refl)))
+              (output_begun answer (joined t.read) s.ended there.others before.out s.reported now.out s.leads (ap lines (sym (append-nil (joined t.read))) ∙ there.lines_are) s.writes (rw there.stops (begun-none s.reported _)))
+              (messages_begun (joined t.read)) (reports_begun out_of_memory 4 status reported now.err c) (at_memory status reported now.err c);
+          failures = reported_failures c t.faults (ap (λ sink. sink.faults) there.stops ∙ s.writes.well);
+          statuses = memory_most status reported now.err c;
         };
         due = t.due;
         due_at_fault = t.due_at_fault;
         fits = t.fits;
       }
     where
-      told_failures : Tells out_of_memory 4 status told now.err → now.input.faults ≡ before.input.faults → now.out.faults ≡ before.out.faults → TellsFailures status (length t.read) before now
-      told_failures (inl p) e f = record { failed = λ g. not_four status g p.0; well = λ h. (e, f, p.1.well ∙ says.well) }
-      told_failures (inr p) e f = record { failed = λ g. inr (inr (inl (subst (λ n. Counts 1 n now.err.faults) says.well p.1.failed))); well = λ h. absurd (h p.0) }
+      reported_failures : ReportsFailure out_of_memory 4 status reported now.err → now.input.faults ≡ before.input.faults → now.out.faults ≡ before.out.faults → ReportsFailures status (length t.read) before now
+      reported_failures (inl p) e f = record { failed = λ g. not_four status g p.0; well = λ h. (e, f, p.1.well ∙ says.well) }
+      reported_failures (inr p) e f = record { failed = λ g. inr (inr (inl (subst (λ n. Counts 1 n now.err.faults) says.well p.1.failed))); well = λ h. absurd (h p.0) }
 
-  -- what a text comes to in which a line is too long
+  -- the outcome of a text in which a line is too long
   long_outcome : (counted : ℕ) (text : Text) (ended : List Text) (sink : SinkState) → Leads answer ended → StopsAt answer (TooLong counted) 1 ended text sink now.out → lines_outcome messages answer text ≡ record { output = flat_map answer ended; messages = messages ++ too_long_line counted; status = 1 }
   long_outcome counted text ended sink l s = ap (after_messages messages) (long_text answer counted text ended sink now.out l s)
 
-  looked_long : (counted : ℕ) (t : AnswersInput answer (Err (TooLong counted)) before.input now.input before.out now.out) → Concludes (Err (TooLong counted)) status told now.err → LooksUp messages answer status before now
+  looked_long : (counted : ℕ) (t : AnswersInput answer (Err (TooLong counted)) before.input now.input before.out now.out) → Concludes (Err (TooLong counted)) status reported now.err → LooksUp messages answer status before now
   looked_long counted t (inl p) =
       let s = t.ends.stops in
       let there = s.at [] (λ f. refl) in
       let of : (rest : Text) → now.input.left ≡ Some rest → lines_outcome messages answer (joined t.read ++ rest) ≡ record { output = flat_map answer s.ended; messages = messages ++ too_long_line counted; status = 1 } =
-      λ rest e. long_outcome counted (joined t.read ++ rest) s.ended s.told s.leads (s.at rest (t.ends.last rest e)) in
+      λ rest e. long_outcome counted (joined t.read ++ rest) s.ended s.reported s.leads (s.at rest (t.ends.last rest e)) in
       let is : lines_outcome messages answer (joined t.read) ≡ record { output = flat_map answer s.ended; messages = messages ++ too_long_line counted; status = 1 } =
-      ap (lines_outcome messages answer) (sym (append-nil (joined t.read))) ∙ long_outcome counted (joined t.read ++ []) s.ended s.told s.leads there in
+      ap (lines_outcome messages answer) (sym (append-nil (joined t.read))) ∙ long_outcome counted (joined t.read ++ []) s.ended s.reported s.leads there in
       record {
         serves = record {
           read = t.read;
           pieces = t.pieces;
           whole = λ h. subst (λ o. IsWhole o status before now) (sym is)
-              (record { output = rw there.stops.untouched s.writes; messages = hands_behind before.err told now.err messages (too_long_line counted) says p.1; status_is = p.0 });
-          all = λ h text e. let r = rest_told text (joined t.read) now.input.left (sym e ∙ t.left) in
+              (record { output = rw there.stops.untouched s.writes; messages = hands_after before.err reported now.err messages (too_long_line counted) says p.1; status_is = p.0 });
+          all = λ h text e. let r = rest_reported text (joined t.read) now.input.left (sym e ∙ t.left) in
               ap (lines_outcome messages answer) r.2 ∙ of r.0 r.1 ∙ sym is;
           cut = λ h. absurd (omega (arith, h, p.0));
           failures = record {
@@ -196,7 +196,7 @@ module _ (messages : Text) (answer : Text → Text) (status : ℕ) (before now :
       let s = t.ends.stops in
       let there = s.at [] (λ f. refl) in
       let is : lines_outcome messages answer (joined t.read) ≡ record { output = flat_map answer s.ended; messages = messages ++ too_long_line counted; status = 1 } =
-      ap (lines_outcome messages answer) (sym (append-nil (joined t.read))) ∙ long_outcome counted (joined t.read ++ []) s.ended s.told s.leads there in
+      ap (lines_outcome messages answer) (sym (append-nil (joined t.read))) ∙ long_outcome counted (joined t.read ++ []) s.ended s.reported s.leads there in
       record {
         serves = record {
           read = t.read;
@@ -206,7 +206,7 @@ module _ (messages : Text) (answer : Text → Text) (status : ℕ) (before now :
           cut = λ h. subst (λ o. IsCutShort o status before now) (sym is)
               (cut_by (record { output = flat_map answer s.ended; messages = messages ++ too_long_line counted; status = 1 }) status before now now.err [] (inl refl)
               (begun-taken before.out now.out (flat_map answer s.ended) (ap (λ sink. sink.taken) there.stops.untouched ∙ s.writes.taken))
-              (begun-behind before.err told now.err messages (too_long_line counted) says.taken p.1.taken) (begun-none now.err []) (not_four status p.0));
+              (begun-following before.err reported now.err messages (too_long_line counted) says.taken p.1.taken) (begun-none now.err []) (not_four status p.0));
           failures = record {
             failed = λ g. inr (inr (inl (subst (λ n. Counts 1 n now.err.faults) says.well p.1.failed)));
             well = λ h. absurd (h p.0);
@@ -218,10 +218,10 @@ module _ (messages : Text) (answer : Text → Text) (status : ℕ) (before now :
         fits = t.fits;
       }
 
-  pub looked_up : (end : Result (Unit {0}) LookupFault) → AnswersInput answer end before.input now.input before.out now.out → Concludes end status told now.err → LooksUp messages answer status before now
+  pub looked_up : (end : Result (Unit {0}) LookupFault) → AnswersInput answer end before.input now.input before.out now.out → Concludes end status reported now.err → LooksUp messages answer status before now
   looked_up (Ok done) t c = looked_well t c
-  looked_up (Err Read) t c = looked_read t c (three read_failed status told now.err c)
-  looked_up (Err Write) t c = looked_write t c (three write_failed status told now.err c)
+  looked_up (Err Read) t c = looked_read t c (three read_failed status reported now.err c)
+  looked_up (Err Write) t c = looked_write t c (three write_failed status reported now.err c)
   looked_up (Err (TooLong counted)) t c = looked_long counted t c
   looked_up (Err Memory) t c = looked_memory t c
 
@@ -243,30 +243,30 @@ looked_at_messages messages answer status before now unread untouched e breaks =
 }
 
 -- or memory runs out before them
-pub looked_refused : (messages : Text) (answer : Text → Text) (status : ℕ) (before now : Streams) → now.input ≡ before.input → now.out ≡ before.out → Tells out_of_memory 4 status before.err now.err → LooksUp messages answer status before now
-looked_refused messages answer status before now unread untouched tells = record {
+pub looked_refused : (messages : Text) (answer : Text → Text) (status : ℕ) (before now : Streams) → now.input ≡ before.input → now.out ≡ before.out → ReportsFailure out_of_memory 4 status before.err now.err → LooksUp messages answer status before now
+looked_refused messages answer status before now unread untouched reports = record {
   serves = record {
     read = [];
     pieces = ap (λ s. s.pieces) unread ∙ sym (followed_by-nil before.input.pieces);
-    whole = not_under status (memory_status status before.err now.err tells);
-    all = not_under status (memory_status status before.err now.err tells);
-    cut = λ h. refused_cut (lines_outcome messages answer []) status before now untouched tells;
-    failures = fails tells;
-    statuses = memory_most status before.err now.err tells;
+    whole = not_under status (memory_status status before.err now.err reports);
+    all = not_under status (memory_status status before.err now.err reports);
+    cut = λ h. refused_cut (lines_outcome messages answer []) status before now untouched reports;
+    failures = fails reports;
+    statuses = memory_most status before.err now.err reports;
   };
   due = inl refl;
   due_at_fault = λ f. inl refl;
   fits = λ n h. absurd (omega (arith, h));
 }
   where
-    fails : Tells out_of_memory 4 status before.err now.err → TellsFailures status 0 before now
+    fails : ReportsFailure out_of_memory 4 status before.err now.err → ReportsFailures status 0 before now
     fails (inl p) = record { failed = λ e. not_four status e p.0; well = λ h. (ap (λ s. s.faults) unread, ap (λ s. s.faults) untouched, p.1.well) }
     fails (inr p) = record { failed = λ e. inr (inr (inl p.1.failed)); well = λ h. absurd (h p.0) }
 
--- what is said where there is no database
-pub refused_looks : (line : Line) (refusal : Refusal) (read : Result DatabaseValue Outcome) (status : ℕ) (before now : Streams) → IsRefused refusal read
-    → ((outcome : Outcome) → IsSaid refusal outcome → Delivers outcome status (outputs before) (outputs now)) → TellsFaults status (outputs before) (outputs now)
-    → (refusal ≡ Refused.Memory → Tells out_of_memory 4 status before.err now.err × (now.out ≡ before.out)) → now.input ≡ before.input → LooksUpBy line read status before now
+-- what is said if there is no database
+pub refused_looks : (line : Line) (refusal : Refusal) (read : Result DatabaseValue RunOutcome) (status : ℕ) (before now : Streams) → IsRefused refusal read
+    → ((outcome : RunOutcome) → IsSaid refusal outcome → Delivers outcome status (outputs before) (outputs now)) → ReportsFaults status (outputs before) (outputs now)
+    → (refusal ≡ Refused.Memory → ReportsFailure out_of_memory 4 status before.err now.err × (now.out ≡ before.out)) → now.input ≡ before.input → LooksUpBy line read status before now
 refused_looks line Refused.TooManyEntries read status before now is delivers faults memory unread = rw is (record { delivers = delivers too_many_entries refl; faults = faults; unread = unread })
 refused_looks line Refused.TooManyRules read status before now is delivers faults memory unread = rw is (record { delivers = delivers too_many_rules refl; faults = faults; unread = unread })
 refused_looks line (Refused.Index fault) read status before now is delivers faults memory unread = rw is (record { delivers = delivers (refused_index fault) refl; faults = faults; unread = unread })

@@ -1,4 +1,4 @@
--- Lines taken byte by byte, and where that stops.
+-- Lines taken byte by byte, and the place where that stops.
 use Rattle.std.proofs.Common.{◌≡◌, ℕ, ◌+◌, ◌<◌, ◌≤◌, ◌==◌, Bool, true, false, List, [], ◌∷◌, ◌++◌, Result, Ok, Err, OnOk, IfErr, length, take, drop, get_or, flat_map, refl, ap, sym, ◌∙◌, subst, append_assoc, length-append, length-take, add-zero, arith}
 use Rattle.std.proofs.lemmas.List.{append-nil, take_more, take-append-drop}
 use Rattle.std.proofs.lemmas.Grind.{flat_map-append}
@@ -15,7 +15,7 @@ use Rattle.engine_lookups.specs.declared.held.LookupFault.TheVariants.{Read, Wri
 use Rattle.engine_lookups.proofs.LineLemmas.{count-append, count-le, cut-after, cut-byte, cut-line, cut-none, first_ended, first_longer, last_line, none-push}
 use Rattle.engine_lookups.proofs.AnswerLemmas.{leads-after, leads-none, leads-one, long_is, short_is, writes-after, writes-none, writes-one}
 
--- what follows where a call went well, or failed
+-- what follows if a call went well, or failed
 pub ok_so : (r : Result (Unit {0}) LookupFault) (P Q : Type 0) → (P → Q) → OnOk r P → OnOk r Q
 ok_so (Ok done) P Q f p = f p
 ok_so (Err fault) P Q f p = tt
@@ -68,12 +68,12 @@ answers-byte answer old new byte sink o n l e = rw e (record {
 })
 
 -- more bytes are taken after some
-pub answers-after : (answer : Text → Text) (old middle now : HeldLine) (part more : Text) (before told sink : SinkState) → Answers answer old part middle before told → Answers answer middle more now told sink → Answers answer old (part ++ more) now before sink
-answers-after answer old middle now part more before told sink a b = record {
+pub answers-after : (answer : Text → Text) (old middle now : HeldLine) (part more : Text) (before reported sink : SinkState) → Answers answer old part middle before reported → Answers answer middle more now reported sink → Answers answer old (part ++ more) now before sink
+answers-after answer old middle now part more before reported sink a b = record {
   ended = a.ended ++ b.ended;
   cut = subst (λ text. Cut text (a.ended ++ b.ended) now.bytes) (append_assoc old.bytes part more) (cut-after (old.bytes ++ part) more a.ended b.ended middle.bytes now.bytes a.cut b.cut);
   leads = leads-after answer a.ended b.ended a.leads b.leads;
-  writes = subst (λ text. WritesOut before text sink) (sym (flat_map-append answer a.ended b.ended)) (writes-after before told sink (flat_map answer a.ended) (flat_map answer b.ended) a.writes b.writes);
+  writes = subst (λ text. WritesOut before text sink) (sym (flat_map-append answer a.ended b.ended)) (writes-after before reported sink (flat_map answer a.ended) (flat_map answer b.ended) a.writes b.writes);
   number = omega (arith, a.number, b.number, length-append a.ended b.ended);
   fits = b.fits;
 }
@@ -89,7 +89,7 @@ pub stops-line : (answer : Text → Text) (fault : LookupFault) (old : HeldLine)
 stops-line answer fault old before now o s = record {
   ended = [];
   leads = leads-none answer;
-  told = before;
+  reported = before;
   writes = writes-none before;
   at = λ later e. record {
     others = old.bytes ∷ lines later;
@@ -116,7 +116,7 @@ pub stops-byte : (answer : Text → Text) (fault : LookupFault) (old : HeldLine)
 stops-byte answer fault old byte sink o n s = record {
   ended = [];
   leads = leads-none answer;
-  told = sink;
+  reported = sink;
   writes = writes-none sink;
   at = λ later e.
       let text : Text = old.bytes ++ byte ∷ [] in
@@ -134,18 +134,18 @@ pub stops-more : (answer : Text → Text) (fault : LookupFault) (number : ℕ) (
 stops-more answer fault number text more before now s = record {
   ended = s.ended;
   leads = s.leads;
-  told = s.told;
+  reported = s.reported;
   writes = s.writes;
-  at = λ later e. subst (λ all. StopsAt answer fault number s.ended all s.told now) (sym (append_assoc text more later)) (s.at (more ++ later) (λ both. absurd cc));
+  at = λ later e. subst (λ all. StopsAt answer fault number s.ended all s.reported now) (sym (append_assoc text more later)) (s.at (more ++ later) (λ both. absurd cc));
 }
 
 -- it stops after lines that are answered
-pub stops-after : (answer : Text → Text) (fault : LookupFault) (more : Bool) (old middle : HeldLine) (part next : Text) (before told now : SinkState) → Answers answer old part middle before told → StopsIn answer fault more middle.number (middle.bytes ++ next) told now → StopsIn answer fault more old.number (old.bytes ++ (part ++ next)) before now
-stops-after answer fault more old middle part next before told now a s = record {
+pub stops-after : (answer : Text → Text) (fault : LookupFault) (more : Bool) (old middle : HeldLine) (part next : Text) (before reported now : SinkState) → Answers answer old part middle before reported → StopsIn answer fault more middle.number (middle.bytes ++ next) reported now → StopsIn answer fault more old.number (old.bytes ++ (part ++ next)) before now
+stops-after answer fault more old middle part next before reported now a s = record {
   ended = a.ended ++ s.ended;
   leads = leads-after answer a.ended s.ended a.leads s.leads;
-  told = s.told;
-  writes = subst (λ text. WritesOut before text s.told) (sym (flat_map-append answer a.ended s.ended)) (writes-after before told s.told (flat_map answer a.ended) (flat_map answer s.ended) a.writes s.writes);
+  reported = s.reported;
+  writes = subst (λ text. WritesOut before text s.reported) (sym (flat_map-append answer a.ended s.ended)) (writes-after before reported s.reported (flat_map answer a.ended) (flat_map answer s.ended) a.writes s.writes);
   at = λ later e.
       let there = s.at later e in
       record {
@@ -153,7 +153,7 @@ stops-after answer fault more old middle part next before told now a s = record 
         lines_are = ap lines (texts_are later) ∙ a.cut.lines_are (next ++ later)
             ∙ ap (λ ls. a.ended ++ ls) (ap lines (sym (append_assoc middle.bytes next later)) ∙ there.lines_are)
             ∙ sym (append_assoc a.ended s.ended there.others);
-        stops = subst (λ n. StopsBy answer fault n there.others s.told now) number_is there.stops;
+        stops = subst (λ n. StopsBy answer fault n there.others s.reported now) number_is there.stops;
       };
 }
   where
@@ -185,7 +185,7 @@ pub end-stops : (answer : Text → Text) (fault : LookupFault) (held : HeldLine)
 end-stops answer fault held before now o l s = record {
   ended = [];
   leads = leads-none answer;
-  told = before;
+  reported = before;
   writes = writes-none before;
   at = λ later e. record {
     others = held.bytes ∷ [];
@@ -195,18 +195,18 @@ end-stops answer fault held before now o l s = record {
 }
 
 -- there is a number for the line after the next byte
-pub few_taken : (answer : Text → Text) (old middle : HeldLine) (piece : Text) (at top : ℕ) (before told : SinkState) → IsOpen old → at < length piece → old.number + length piece < top → Answers answer old (take at piece) middle before told → middle.number + 1 < top
-few_taken answer old middle piece at top before told o h k a = omega (arith, few_ended answer old (take at piece) middle before told o a, length-take at piece, h, k)
+pub few_taken : (answer : Text → Text) (old middle : HeldLine) (piece : Text) (at top : ℕ) (before reported : SinkState) → IsOpen old → at < length piece → old.number + length piece < top → Answers answer old (take at piece) middle before reported → middle.number + 1 < top
+few_taken answer old middle piece at top before reported o h k a = omega (arith, few_ended answer old (take at piece) middle before reported o a, length-take at piece, h, k)
 
 -- one byte more of a piece
-pub piece_more : (answer : Text → Text) (old middle now : HeldLine) (piece : Text) (at : ℕ) (before told sink : SinkState) → at < length piece → Answers answer old (take at piece) middle before told → Answers answer middle (get_or piece at 0 ∷ []) now told sink → Answers answer old (take (at + 1) piece) now before sink
-piece_more answer old middle now piece at before told sink h a b =
-    subst (λ part. Answers answer old part now before sink) (sym (take_more piece at 0 h)) (answers-after answer old middle now (take at piece) (get_or piece at 0 ∷ []) before told sink a b)
+pub piece_more : (answer : Text → Text) (old middle now : HeldLine) (piece : Text) (at : ℕ) (before reported sink : SinkState) → at < length piece → Answers answer old (take at piece) middle before reported → Answers answer middle (get_or piece at 0 ∷ []) now reported sink → Answers answer old (take (at + 1) piece) now before sink
+piece_more answer old middle now piece at before reported sink h a b =
+    subst (λ part. Answers answer old part now before sink) (sym (take_more piece at 0 h)) (answers-after answer old middle now (take at piece) (get_or piece at 0 ∷ []) before reported sink a b)
 
 -- it stops at a byte of a piece
-pub piece_stops : (answer : Text → Text) (fault : LookupFault) (old middle : HeldLine) (piece : Text) (at : ℕ) (before told now : SinkState) → at < length piece → Answers answer old (take at piece) middle before told → StopsIn answer fault true middle.number (middle.bytes ++ get_or piece at 0 ∷ []) told now → StopsIn answer fault true old.number (old.bytes ++ piece) before now
-piece_stops answer fault old middle piece at before told now h a s =
-    let first : StopsIn answer fault true old.number (old.bytes ++ (take at piece ++ get_or piece at 0 ∷ [])) before now = stops-after answer fault true old middle (take at piece) (get_or piece at 0 ∷ []) before told now a s in
+pub piece_stops : (answer : Text → Text) (fault : LookupFault) (old middle : HeldLine) (piece : Text) (at : ℕ) (before reported now : SinkState) → at < length piece → Answers answer old (take at piece) middle before reported → StopsIn answer fault true middle.number (middle.bytes ++ get_or piece at 0 ∷ []) reported now → StopsIn answer fault true old.number (old.bytes ++ piece) before now
+piece_stops answer fault old middle piece at before reported now h a s =
+    let first : StopsIn answer fault true old.number (old.bytes ++ (take at piece ++ get_or piece at 0 ∷ [])) before now = stops-after answer fault true old middle (take at piece) (get_or piece at 0 ∷ []) before reported now a s in
     let all : StopsIn answer fault true old.number ((old.bytes ++ (take at piece ++ get_or piece at 0 ∷ [])) ++ drop (at + 1) piece) before now = stops-more answer fault old.number (old.bytes ++ (take at piece ++ get_or piece at 0 ∷ [])) (drop (at + 1) piece) before now first in
     subst (λ text. StopsIn answer fault true old.number text before now) texts_are all
   where

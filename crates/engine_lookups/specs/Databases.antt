@@ -1,20 +1,20 @@
--- What `query -` does, by what comes of the database.
+-- What `query -` does, by the database that it opens.
 use Rattle.std.specs.Prelude.{ℕ, Result, Ok, Err}
 use Rattle.text_tables.specs.Texts.{Text}
 use Rattle.engine_ends.specs.declared.line.Line.{Line}
-use Rattle.engine_ends.specs.Delivery.{Outcome}
+use Rattle.engine_ends.specs.Delivery.{RunOutcome}
 use Rattle.engine_ends.specs.Streams.{Streams}
 use Rattle.engine_reports.specs.Databases.{DatabaseValue}
 use Rattle.engine_sessions.specs.Serves.{Reports}
 use Rattle.engine_lookups.specs.Outcomes.{answer_to, lines_outcome}
 use Rattle.engine_lookups.specs.Runs.{LooksUp}
 
--- what the lines of an input come to over a database, or what is said in its place
-abbrev pub lookups_by : Line → Result DatabaseValue Outcome → Text → Outcome
+-- the outcome of the lines of an input over a database, or what is said in place of the database
+abbrev pub lookups_by : Line → Result DatabaseValue RunOutcome → Text → RunOutcome
 lookups_by line (Ok database) input = lines_outcome database.messages (answer_to line.sources database.entries) input
 lookups_by line (Err said) input = said
 
 -- a run over the lines of an input: they are looked up in the database, or what is said in its place is delivered and no input is read
-abbrev pub LooksUpBy : Line → Result DatabaseValue Outcome → ℕ → Streams → Streams → Type 0
+abbrev pub LooksUpBy : Line → Result DatabaseValue RunOutcome → ℕ → Streams → Streams → Type 0
 LooksUpBy line (Ok database) status before now = LooksUp database.messages (answer_to line.sources database.entries) status before now
 LooksUpBy line (Err said) status before now = Reports said status before now

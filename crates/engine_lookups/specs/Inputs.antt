@@ -2,11 +2,11 @@
 use Rattle.std.specs.Prelude.{◌≡◌, ℕ, ◌+◌, ◌⊎◌, Bool, true, false, List, [], ◌++◌, Option, Some, Result, Ok, Err, flat_map, length}
 use Rattle.text_bytes.specs.Lines.{lines}
 use Rattle.text_tables.specs.Texts.{Text}
-use Rattle.engine_ends.specs.Told.{followed_by, led_by, NoneLeft}
+use Rattle.engine_ends.specs.Reported.{followed_by, led_by, NoneLeft}
 use Rattle.engine_ends.specs.Counts.{Counts}
 use Rattle.engine_ends.specs.Sources.{SourceFails, SourceState}
 use Rattle.engine_ends.specs.Sinks.{SinkState}
-use Rattle.engine_ends.specs.Delivery.{Tells, out_of_memory, write_failed}
+use Rattle.engine_ends.specs.Delivery.{ReportsFailure, out_of_memory, write_failed}
 use Rattle.engine_sessions.specs.Inputs.{UsesUp, all_but_last}
 use Rattle.engine_sessions.specs.Serves.{WritesOut, read_failed}
 use Rattle.engine_sessions.specs.Turns.{Reads, joined}
@@ -17,7 +17,7 @@ use Rattle.engine_lookups.specs.declared.held.LookupFault.{LookupFault}
 use Rattle.engine_lookups.specs.declared.held.LookupFault.TheVariants.{Read, Write, TooLong, Memory}
 
 -- A piece was read, and the lines that end in it are answered.
-pub record GoesOn (answer : Text → Text) (old new : HeldLine) (input input_now : SourceState) (output output_now : SinkState) : Type 0 where
+pub record Proceeds (answer : Text → Text) (old new : HeldLine) (input input_now : SourceState) (output output_now : SinkState) : Type 0 where
   pub piece : Text
   pub reads : Reads true input piece input_now
   pub answers : Answers answer old piece new output output_now
@@ -31,7 +31,7 @@ pub record Ends (answer : Text → Text) (old : HeldLine) (input input_now : Sou
 
 -- what a turn does, by whether the input goes on
 abbrev pub Turns : (Text → Text) → Bool → HeldLine → HeldLine → SourceState → SourceState → SinkState → SinkState → Type 0
-Turns answer true old new input input_now output output_now = GoesOn answer old new input input_now output output_now
+Turns answer true old new input input_now output output_now = Proceeds answer old new input input_now output output_now
 Turns answer false old new input input_now output output_now = Ends answer old input input_now output output_now
 
 -- A piece was read, and then it stops.
@@ -41,7 +41,7 @@ pub record FailsAfterRead (answer : Text → Text) (fault : LookupFault) (old : 
   pub reads : Reads more input piece input_now
   pub stops : StopsIn answer fault more old.number (old.bytes ++ piece) output output_now
 
--- what a turn does where it fails
+-- what a turn does if it fails
 abbrev pub TurnFails : (Text → Text) → LookupFault → HeldLine → SourceState → SourceState → SinkState → SinkState → Type 0
 TurnFails answer Read old input input_now output output_now = SourceFails input input_now × (output_now ≡ output)
 TurnFails answer Write old input input_now output output_now = FailsAfterRead answer Write old input input_now output output_now
@@ -95,7 +95,7 @@ pub record AnswersInput (answer : Text → Text) (end : Result (Unit {0}) Lookup
 -- how that is reported: by nothing, or by one line and its status
 abbrev pub Concludes : Result (Unit {0}) LookupFault → ℕ → SinkState → SinkState → Type 0
 Concludes (Ok done) status err err_now = (status ≡ 0) × (err_now ≡ err)
-Concludes (Err Read) status err err_now = Tells read_failed 3 status err err_now
-Concludes (Err Write) status err err_now = Tells write_failed 3 status err err_now
-Concludes (Err (TooLong counted)) status err err_now = Tells (too_long_line counted) 1 status err err_now
-Concludes (Err Memory) status err err_now = Tells out_of_memory 4 status err err_now
+Concludes (Err Read) status err err_now = ReportsFailure read_failed 3 status err err_now
+Concludes (Err Write) status err err_now = ReportsFailure write_failed 3 status err err_now
+Concludes (Err (TooLong counted)) status err err_now = ReportsFailure (too_long_line counted) 1 status err err_now
+Concludes (Err Memory) status err err_now = ReportsFailure out_of_memory 4 status err err_now

@@ -1,10 +1,10 @@
--- What the lines of an input come to, each of which is a modalias.
+-- The outcome of the lines of an input, each of which is a modalias.
 use Rattle.std.specs.Prelude.{ℕ, ◌+◌, Bool, nat_lt, if◌then◌else◌, List, [], ◌∷◌, ◌++◌, codes, decimal, length}
 use Rattle.text_bytes.specs.Lines.{lines}
 use Rattle.text_bytes.specs.Names.{newline}
 use Rattle.text_tables.specs.Texts.{Text}
 use Rattle.hwdb_lookup.specs.declared.entry.Entry.{Entry}
-use Rattle.engine_ends.specs.Delivery.{Outcome}
+use Rattle.engine_ends.specs.Delivery.{RunOutcome}
 use Rattle.engine_reports.specs.Answers.{answer_lines}
 
 -- the answer to a modalias among others: the lines that answer it alone, and an empty line
@@ -24,20 +24,20 @@ unfoldable pub too_long_line : ℕ → Text
 too_long_line number = codes "devdry: line " ++ decimal number ++ codes ": too long" ++ newline ∷ []
 
 -- an outcome after an answer
-abbrev pub after_answer : Text → Outcome → Outcome
+abbrev pub after_answer : Text → RunOutcome → RunOutcome
 after_answer answer outcome = record { output = answer ++ outcome.output; messages = outcome.messages; status = outcome.status }
 
--- what lines come to, of which the first has this number: to each its answer, up to one that is too long, which is reported
-abbrev pub answered_from : (Text → Text) → ℕ → List Text → Outcome
+-- the outcome of lines, the first of which has this number: the answer to each, up to one that is too long, which is reported
+abbrev pub answered_from : (Text → Text) → ℕ → List Text → RunOutcome
 answered_from answer number [] = record { output = []; messages = []; status = 0 }
 answered_from answer number (line ∷ lines) =
     if is_too_long line then record { output = []; messages = too_long_line number; status = 1 }
     else after_answer (answer line) (answered_from answer (number + 1) lines)
 
 -- an outcome after messages
-abbrev pub after_messages : Text → Outcome → Outcome
+abbrev pub after_messages : Text → RunOutcome → RunOutcome
 after_messages messages outcome = record { output = outcome.output; messages = messages ++ outcome.messages; status = outcome.status }
 
--- what the lines of an input come to after messages
-abbrev pub lines_outcome : Text → (Text → Text) → Text → Outcome
+-- the outcome of the lines of an input after messages
+abbrev pub lines_outcome : Text → (Text → Text) → Text → RunOutcome
 lines_outcome messages answer input = after_messages messages (answered_from answer 1 (lines input))

@@ -3,7 +3,7 @@ use Rattle.std.specs.Prelude.{◌≡◌, ℕ, ◌<◌, ◌≤◌, ◌⊎◌, Lis
 use Rattle.text_bytes.specs.Lines.{lines}
 use Rattle.text_tables.specs.Texts.{Text}
 use Rattle.device_core.specs.RunBlocks.{newline_count}
-use Rattle.engine_ends.specs.Told.{followed_by}
+use Rattle.engine_ends.specs.Reported.{followed_by}
 use Rattle.engine_ends.specs.Sinks.{SinkState}
 use Rattle.engine_ends.specs.Streams.{Streams}
 use Rattle.engine_sessions.specs.Inputs.{all_but_last}
@@ -21,7 +21,7 @@ unended text = joined (drop (newline_count text) (lines text))
 
 -- A text is flushed, the first of all that was taken since; or it is empty.
 abbrev pub HasFlushed : SinkState → Text → SinkState → Type 0
-HasFlushed before text now = (text ≡ []) ⊎ ((behind : Text) × (now.flushed ≡ followed_by before.taken (text ++ behind)))
+HasFlushed before text now = (text ≡ []) ⊎ ((following : Text) × (now.flushed ≡ followed_by before.taken (text ++ following)))
 
 -- The answers to all lines that newlines end in these pieces are flushed.
 abbrev pub HasAnswered : (Text → Text) → List Text → SinkState → SinkState → Type 0
@@ -31,9 +31,9 @@ HasAnswered answer read before now = HasFlushed before (flat_map answer (ended_l
 abbrev pub HoldsFew : List Text → Type 0
 HoldsFew read = (n : ℕ) → n < length read → length (unended (joined (take n read))) ≤ most_bytes
 
--- What is written and answered is what the lines of the input come to. Before each read the answers to all lines that had ended were
--- flushed: to those in all pieces but the last, and in all pieces where the read after them failed. No more of a line was held than a
--- line may have.
+-- What is written and answered is the outcome of the lines of the input. Before each read the answers to all lines that had ended were
+-- flushed: to those in all pieces but the last, and in all pieces if the read after them failed. No more of a line was held than a line
+-- may have.
 pub record LooksUp (messages : Text) (answer : Text → Text) (status : ℕ) (before now : Streams) : Type 0 where
   pub serves : Serves (lines_outcome messages answer) status before now
   pub due : HasAnswered answer (all_but_last serves.read) before.out now.out

@@ -10,11 +10,11 @@ use index_reading::{Index, IndexFault};
 use std::alloc::Global;
 use text_bytes::SourceFile;
 
-/// Looks each line of the input up as a modalias, in the index that was opened, or else in the database
-/// that the files hold, after the messages about these; gives the status to exit with.
+/// Looks each line of the input up as a modalias, in the index that was opened, or otherwise in the database that the
+/// files hold, after the messages about these; returns the status to exit with.
 ///
-/// It is that of `look_up_lines`; and 1 where the index was refused or the files hold more than a
-/// database may, and then no input is read.
+/// The status is that of `look_up_lines`; or 1 if the index was refused or the files hold more than a database may, and
+/// then no input is read.
 pub fn serve_lookups<R: Source, W: Sink, E: Sink>(
     alloc: Global,
     line: &Line<'_>,

@@ -14,9 +14,8 @@ const MAX_TURNS: u64 = 1 << 48;
 
 /// Answers the lines of an input, each before the next read.
 ///
-/// `TooLong` comes where a line is too long, with the answers to all lines before it sent; `Memory`
-/// where memory runs out; `Write` where the output failed; `Read` where the input failed, or did not
-/// end within 2^48 reads.
+/// `TooLong` means that a line is too long, with the answers to all lines before it sent; `Memory` that memory ran out;
+/// `Write` that the output failed; `Read` that the input failed, or did not end within 2^48 reads.
 pub(crate) fn answer_input<L: Lookup, R: Source, W: Sink>(
     alloc: Global,
     sources: bool,

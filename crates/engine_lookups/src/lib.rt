@@ -1,6 +1,6 @@
 //! `query -`: the modaliases of an input, one a line, each answered before the next read.
 //!
-//! It stands on the reports, which say how a modalias is answered, and on the sessions, which say what a run over an input
+//! This crate uses the reports, which say how a modalias is answered, and the sessions, which say what a run over an input
 //! serves. Nothing of a line outlives its answer, and no more than one line that has not ended is held.
 //!
 //! Functions that allocate return `AllocError` when memory runs out.
@@ -15,5 +15,8 @@ mod lookups;
 mod turning;
 
 pub use databases::serve_lookups;
-pub use laws::{a_line_alone_is_a_query, answers_to_lines_follow_one_another};
+pub use laws::{
+    a_line_alone_is_a_query, a_line_too_long_is_reported_by_its_number,
+    answers_to_lines_follow_one_another,
+};
 pub use lookups::look_up_lines;

@@ -3,11 +3,11 @@ ghost use Rattle.std.specs.Prelude.{◌≡◌};
 ghost use Rattle.engine_lookups.specs.Inputs.{Concludes};
 ghost use Rattle.engine_lookups.specs.Outcomes.{answer_to, too_long_line};
 ghost use Rattle.engine_lookups.specs.Runs.{LooksUp};
-ghost use Rattle.engine_ends.specs.Delivery.{Tells};
+ghost use Rattle.engine_ends.specs.Delivery.{ReportsFailure};
 
 use crate::held::LookupFault;
 use crate::inputs::answer_input;
-use engine_ends::{Sink, Source, hand_on, tell, tell_in_pieces, tell_out_of_memory};
+use engine_ends::{Sink, Source, hand_on, report_failure, report_in_pieces, report_out_of_memory};
 use hwdb_lookup::Lookup;
 use itoa::Buffer;
 use std::alloc::Global;
@@ -17,12 +17,11 @@ const READ_FAILED: &[u8] = b"devdry: read failed\n";
 const WRITE_FAILED: &[u8] = b"devdry: write failed\n";
 
 /// Writes messages to `error`, and then looks each line of the input up as a modalias and answers it on
-/// `output`, with where each property comes from if `sources` says so; gives the status to exit with.
+/// `output`, with where each property comes from if `sources` says so; returns the status to exit with.
 ///
-/// Each answer is written and flushed before the next read. A newline ends a line, and the last line
-/// may lack it. The status is 0; 1 where a line has more than 65,536 bytes, which is reported on
-/// `error` after the answers to the lines before it; 3 where the input or an output failed, or the
-/// input did not end within 2^48 reads; 4 where memory ran out.
+/// Each answer is written and flushed before the next read. A newline ends a line, and the last line may lack it. The
+/// status is 0; 1 if a line has more than 65,536 bytes, which is reported on `error` after the answers to the lines
+/// before it; 3 if the input or an output failed, or the input did not end within 2^48 reads; 4 if memory ran out.
 pub fn look_up_lines<L: Lookup, R: Source, W: Sink, E: Sink>(
     alloc: Global,
     messages: &[u8],
@@ -43,27 +42,27 @@ pub fn look_up_lines<L: Lookup, R: Source, W: Sink, E: Sink>(
     conclude(end, error)
 }
 
-/// Tells why the answering of an input stopped, if it did before its end, and gives the status for it, or
-/// 3 where the error output failed.
+/// Reports why the answering of an input stopped, if it did before its end, and returns the status for that, or 3 if the
+/// error output failed.
 fn conclude<E: Sink>(end: Result<(), LookupFault>, error: &mut E) -> u8
     ensures { Concludes end result (E.shown error.old) (E.shown error.new) }
 {
     match end {
         Ok(()) => 0,
-        Err(LookupFault::Read) => tell(error, READ_FAILED, 3),
-        Err(LookupFault::Write) => tell(error, WRITE_FAILED, 3),
-        Err(LookupFault::TooLong(number)) => tell_long_line(error, number),
-        Err(LookupFault::Memory) => tell_out_of_memory(error),
+        Err(LookupFault::Read) => report_failure(error, READ_FAILED, 3),
+        Err(LookupFault::Write) => report_failure(error, WRITE_FAILED, 3),
+        Err(LookupFault::TooLong(number)) => report_long_line(error, number),
+        Err(LookupFault::Memory) => report_out_of_memory(error),
     }
 }
 
-/// Tells of the line of this number, which is too long, and gives the status for it, 1, or 3 where the
-/// error output failed.
-fn tell_long_line<E: Sink>(error: &mut E, number: u64) -> u8
-    ensures { Tells (too_long_line number) 1 result (E.shown error.old) (E.shown error.new) }
+/// Reports the line with this number, which is too long, and returns the status for that, 1, or 3 if the error output
+/// failed.
+fn report_long_line<E: Sink>(error: &mut E, number: u64) -> u8
+    ensures { ReportsFailure (too_long_line number) 1 result (E.shown error.old) (E.shown error.new) }
 {
     let mut buffer = Buffer::new();
-    tell_in_pieces(
+    report_in_pieces(
         error,
         &[
             b"devdry: line ",

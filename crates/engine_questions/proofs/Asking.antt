@@ -11,7 +11,7 @@ use Rattle.rule_types.specs.Rules.{Rule}
 use Rattle.eval_state.specs.declared.scene.Scene.{Scene}
 use Rattle.eval_acts.specs.Acts.{act_step}
 use Rattle.eval_rules.specs.Steps.{Went}
-use Rattle.engine_questions.specs.Questions.{act_asks, acts_ask, asked_onward, can_be_asked, with_asked}
+use Rattle.engine_questions.specs.Questions.{act_asks, acts_ask, asked_if_proceeding, can_be_asked, with_asked}
 
 -- commands are added in two parts
 pub asked_more : (before xs ys : List Text) → with_asked before (xs ++ ys) ≡ with_asked (with_asked before xs) ys
@@ -21,28 +21,28 @@ module _ (es : List Entry) (r : Rule) (parts : List Act) (i : ℕ) where
   abbrev later : Scene → List Text
   later s = acts_ask es r (drop (i + 1) parts) s
 
-  next_asked : (x : Act) (s : Scene) → i < length parts → x ≡ get_or parts i x → acts_ask es r (drop i parts) s ≡ act_asks x.deed s.state ++ asked_onward later (act_step es r x s)
+  next_asked : (x : Act) (s : Scene) → i < length parts → x ≡ get_or parts i x → acts_ask es r (drop i parts) s ≡ act_asks x.kind s.state ++ asked_if_proceeding later (act_step es r x s)
   unfolding acts_ask
-  next_asked x s h is = ap (λ ps. acts_ask es r ps s) (drop_more parts i x h) ∙ ap (λ (y : Act). act_asks y.deed s.state ++ asked_onward later (act_step es r y s)) (sym is)
+  next_asked x s h is = ap (λ ps. acts_ask es r ps s) (drop_more parts i x h) ∙ ap (λ (y : Act). act_asks y.kind s.state ++ asked_if_proceeding later (act_step es r y s)) (sym is)
 
   by_step : (x : Act) (s t : Scene) (on b : Bool) → i < length parts → x ≡ get_or parts i x → (t, on) ≡ act_step es r x s → on ≡ b
-      → acts_ask es r (drop i parts) s ≡ act_asks x.deed s.state ++ asked_onward later (t, b)
-  by_step x s t on b h is e goes = next_asked x s h is ∙ ap (λ (w : Went). act_asks x.deed s.state ++ asked_onward later w) (sym e ∙ ap (λ c. (t, c)) goes)
+      → acts_ask es r (drop i parts) s ≡ act_asks x.kind s.state ++ asked_if_proceeding later (t, b)
+  by_step x s t on b h is e advances = next_asked x s h is ∙ ap (λ (w : Went). act_asks x.kind s.state ++ asked_if_proceeding later w) (sym e ∙ ap (λ c. (t, c)) advances)
 
   -- an act at which the rule goes on
   pub asked_on : (before now : List Text) (x : Act) (s t : Scene) (on : Bool) → i < length parts → x ≡ get_or parts i x → (t, on) ≡ act_step es r x s → on ≡ true
-      → now ≡ with_asked before (act_asks x.deed s.state) → with_asked now (acts_ask es r (drop (i + 1) parts) t) ≡ with_asked before (acts_ask es r (drop i parts) s)
-  asked_on before now x s t on h is e goes added =
+      → now ≡ with_asked before (act_asks x.kind s.state) → with_asked now (acts_ask es r (drop (i + 1) parts) t) ≡ with_asked before (acts_ask es r (drop i parts) s)
+  asked_on before now x s t on h is e advances added =
       ap (λ texts. with_asked texts (later t)) added
-      ∙ sym (asked_more before (act_asks x.deed s.state) (later t))
-      ∙ ap (with_asked before) (sym (by_step x s t on true h is e goes))
+      ∙ sym (asked_more before (act_asks x.kind s.state) (later t))
+      ∙ ap (with_asked before) (sym (by_step x s t on true h is e advances))
 
   -- an act at which the rule stops
   pub asked_stop : (before now : List Text) (x : Act) (s t : Scene) (on : Bool) → i < length parts → x ≡ get_or parts i x → (t, on) ≡ act_step es r x s → on ≡ false
-      → now ≡ with_asked before (act_asks x.deed s.state) → now ≡ with_asked before (acts_ask es r (drop i parts) s)
+      → now ≡ with_asked before (act_asks x.kind s.state) → now ≡ with_asked before (acts_ask es r (drop i parts) s)
   asked_stop before now x s t on h is e stops added =
       added
-      ∙ ap (with_asked before) (sym (append-nil (act_asks x.deed s.state)))
+      ∙ ap (with_asked before) (sym (append-nil (act_asks x.kind s.state)))
       ∙ ap (with_asked before) (sym (by_step x s t on false h is e stops))
 
   -- no act is left

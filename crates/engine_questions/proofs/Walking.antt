@@ -25,7 +25,7 @@ module _ (es : List Entry) (rules : List Rule) where
     abbrev after : Scene → Went → List Text
     after s w = rule_asks es r s ++ rules_ask es (sought_after w.1 r) rest w.0
 
-    -- a rule is passed over
+    -- a rule is skipped
     pub one_passed : (asked : List Text) (sought : Option Text) (s : Scene) → is_passed sought r ≡ true → left asked sought rest s ≡ left asked sought (drop i rules) s
     unfolding rules_ask
     one_passed asked sought s passed =

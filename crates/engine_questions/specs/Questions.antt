@@ -10,8 +10,8 @@ use Rattle.text_tables.specs.Pairs.{value_of}
 use Rattle.hwdb_lookup.specs.declared.entry.Entry.{Entry}
 use Rattle.rule_types.specs.Rules.{Rule}
 use Rattle.rule_types.specs.declared.part.Act.{Act}
-use Rattle.rule_types.specs.declared.part.Deed.{Deed}
-use Rattle.rule_types.specs.declared.part.Deed.TheVariants as deed
+use Rattle.rule_types.specs.declared.part.ActKind.{ActKind}
+use Rattle.rule_types.specs.declared.part.ActKind.TheVariants as act_kind
 use Rattle.rule_types.specs.declared.part.Import.{Import}
 use Rattle.rule_types.specs.declared.part.Import.TheVariants as import
 use Rattle.device_core.specs.Values.{EventValue}
@@ -23,17 +23,17 @@ use Rattle.eval_rendering.specs.declared.rendered.Rendered.TheVariants as render
 use Rattle.eval_acts.specs.ActTexts.{import_text, most_command_bytes, program_text}
 use Rattle.eval_acts.specs.Acts.{act_step}
 use Rattle.eval_rules.specs.Jumps.{is_passed, sought_after}
-use Rattle.eval_rules.specs.Steps.{Went, apply, onward, plain_step, search, walk}
+use Rattle.eval_rules.specs.Steps.{Went, apply, if_proceeding, plain_step, search, walk}
 
--- whether a byte may stand within a line of a block
-abbrev pub stands_in_line : ℕ → Bool
-stands_in_line b = not (b == newline || b == nul)
+-- whether a byte may be within a line of a block
+abbrev pub fits_in_line : ℕ → Bool
+fits_in_line b = not (b == newline || b == nul)
 
 -- whether a line of a block can have a command
 abbrev pub can_be_asked : Text → Bool
-can_be_asked command = not (is_empty command) && list_all stands_in_line command
+can_be_asked command = not (is_empty command) && list_all fits_in_line command
 
--- a command, where the event's block does not answer it; a text that is too long is no command
+-- a command, if the event's block does not answer it; a text that is too long is not a command
 abbrev pub unanswered : EventValue → Rendered → List Text
 unanswered event (rendered.Text command) = if is_some (value_of event.programs command) then [] else command ∷ []
 unanswered event rendered.TooLong = []
@@ -43,30 +43,30 @@ abbrev pub import_asks : Profile → Import → State → List Text
 import_asks Udev (import.Program template) s = unanswered s.event (import_text most_command_bytes template s)
 import_asks profile from s = []
 
--- what an act asks: the command that it looks up, where the block does not answer it
-abbrev pub act_asks : Deed → State → List Text
-act_asks (deed.Test mask template) s = []
-act_asks (deed.Program template) s = unanswered s.event (program_text template s)
-act_asks (deed.Import from) s = import_asks s.event.profile from s
+-- what an act asks: the command that it looks up, if the block does not answer it
+abbrev pub act_asks : ActKind → State → List Text
+act_asks (act_kind.Test mask template) s = []
+act_asks (act_kind.Program template) s = unanswered s.event (program_text template s)
+act_asks (act_kind.Import from) s = import_asks s.event.profile from s
 
 -- what is asked after something that stops the rule, or lets it go on
-abbrev pub asked_onward : (Scene → List Text) → Went → List Text
-asked_onward asked went = if went.1 then asked went.0 else []
+abbrev pub asked_if_proceeding : (Scene → List Text) → Went → List Text
+asked_if_proceeding asked went = if went.1 then asked went.0 else []
 
 -- what acts of a rule ask, one after another, up to the first that stops the rule
 unfoldable pub acts_ask : List Entry → Rule → List Act → Scene → List Text
 acts_ask entries r [] s = []
-acts_ask entries r (act ∷ acts) s = act_asks act.deed s.state ++ asked_onward (acts_ask entries r acts) (act_step entries r act s)
+acts_ask entries r (act ∷ acts) s = act_asks act.kind s.state ++ asked_if_proceeding (acts_ask entries r acts) (act_step entries r act s)
 
--- what a rule comes to before its acts: the matches of the event, and the search for one device
+-- a rule up to its acts: the matches of the event, and the search for one device
 abbrev pub before_acts : Rule → Scene → Went
-before_acts r s = onward (search r.up) (walk (plain_step r) r.plain s)
+before_acts r s = if_proceeding (search r.up) (walk (plain_step r) r.plain s)
 
--- what a rule asks: what its acts ask, where its matches let it go on to them
+-- what a rule asks: what its acts ask, if its matches let it go on to them
 unfoldable pub rule_asks : List Entry → Rule → Scene → List Text
-rule_asks entries r s = asked_onward (acts_ask entries r r.acts) (before_acts r s)
+rule_asks entries r s = asked_if_proceeding (acts_ask entries r r.acts) (before_acts r s)
 
--- what rules ask, one after another, perhaps while a label is sought: one that is passed over asks nothing
+-- what rules ask, one after another, perhaps while a label is sought: a rule that is skipped asks nothing
 unfoldable pub rules_ask : List Entry → Option Text → List Rule → Scene → List Text
 rules_ask entries sought [] s = []
 rules_ask entries sought (r ∷ rs) s =
@@ -77,6 +77,6 @@ rules_ask entries sought (r ∷ rs) s =
 abbrev pub with_asked : List Text → List Text → List Text
 with_asked asked commands = with_texts asked (filter can_be_asked commands)
 
--- the questions of an event: what rules ask of it and can be asked, each command once, where it is first asked
+-- the questions of an event: what rules ask about it and can be asked, each command once, at the place where it is first asked
 abbrev pub questions : List Rule → List Entry → EventValue → List Text
 questions rules entries event = with_asked [] (rules_ask entries None rules (start event))

@@ -1,7 +1,7 @@
 //! What an act asks.
 ghost use Rattle.std.specs.Prelude.{◌≡◌, OnOk, is_some};
 ghost use Rattle.text_tables.specs.Pairs.{value_of};
-ghost use Rattle.rule_types.specs.declared.part.Deed.TheVariants as deed;
+ghost use Rattle.rule_types.specs.declared.part.ActKind.TheVariants as act_kind;
 ghost use Rattle.eval_rendering.specs.declared.rendered.Rendered.TheVariants as rendered;
 ghost use Rattle.eval_acts.specs.ActTexts.{import_text, most_command_bytes};
 ghost use Rattle.engine_questions.specs.Questions.{act_asks, import_asks, unanswered, with_asked};
@@ -12,7 +12,7 @@ use eval_acts::{MAX_COMMAND_BYTES, import_text, program_text};
 use eval_rendering::Rendered;
 use eval_state::State;
 use rule_templates::Template;
-use rule_types::{Deed, Import};
+use rule_types::{ActKind, Import};
 use std::alloc::{AllocError, Global};
 use text_bytes::Profile;
 use text_tables::OwnedTexts;
@@ -64,7 +64,7 @@ fn ask_program(
     state: &mut State<'_>,
     asked: &mut OwnedTexts,
 ) -> Result<(), AllocError>
-    ensures asked { OnOk result (asked.new ≡ with_asked asked.old (act_asks (deed.Program template.now) state.old)) }
+    ensures asked { OnOk result (asked.new ≡ with_asked asked.old (act_asks (act_kind.Program template.now) state.old)) }
     ensures kept { state.new ≡ state.old }
 {
     let text = program_text(alloc, template, state)?;
@@ -104,16 +104,16 @@ fn ask_import(
 /// Adds what an act asks to what was asked before. The state is the same before and after.
 pub(crate) fn ask(
     alloc: Global,
-    deed: &Deed,
+    act_kind: &ActKind,
     state: &mut State<'_>,
     asked: &mut OwnedTexts,
 ) -> Result<(), AllocError>
-    ensures asked { OnOk result (asked.new ≡ with_asked asked.old (act_asks deed.now state.old)) }
+    ensures asked { OnOk result (asked.new ≡ with_asked asked.old (act_asks act_kind.now state.old)) }
     ensures kept { state.new ≡ state.old }
 {
-    match deed {
-        Deed::Test(_, _) => Ok(()),
-        Deed::Program(template) => ask_program(alloc, template, state, asked),
-        Deed::Import(from) => ask_import(alloc, from, state, asked),
+    match act_kind {
+        ActKind::Test(_, _) => Ok(()),
+        ActKind::Program(template) => ask_program(alloc, template, state, asked),
+        ActKind::Import(from) => ask_import(alloc, from, state, asked),
     }
 }

@@ -34,8 +34,6 @@ fn push_questions(lines: &mut Vec<u8>, commands: &OwnedTexts) -> Result<(), Allo
 /// The answer of `--questions` to an event: the line `event ACTION PATH`, then `Q: COMMAND` for each command that rules
 /// ask and the event's block does not answer, as `questions` gives them, and an empty line. The commands are as a block
 /// has them, not escaped; with a line `R: STATUS TEXT` after each, the lines can be put at the end of the block.
-///
-/// The error comes where memory runs out.
 #[tactic(auto, unfolding(crate::specs::Lines::question_answer))]
 pub fn question_answer<L: Lookup>(
     alloc: Global,

@@ -56,9 +56,9 @@ fn ask_act<L: Lookup>(
     asked: &mut OwnedTexts,
 ) -> Result<bool, AllocError>
     ensures scene { IfOk result (λ on. (scene.new, on) ≡ act_step (L.entries lookup.now) rule.now act.now scene.old) }
-    ensures asked { OnOk result (asked.new ≡ with_asked asked.old (act_asks act.now.deed scene.old.state)) }
+    ensures asked { OnOk result (asked.new ≡ with_asked asked.old (act_asks act.now.kind scene.old.state)) }
 {
-    ask(alloc, &act.deed, &mut scene.state, asked)?;
+    ask(alloc, &act.kind, &mut scene.state, asked)?;
     act_step(alloc, rule, act, lookup, scene)
 }
 

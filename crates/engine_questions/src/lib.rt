@@ -1,8 +1,8 @@
 //! What rules ask of an event, and its block does not answer, as lines that can be filled in and put into the block.
 //!
-//! A command is asked where a PROGRAM looks it up while the rules are evaluated, under udev also an IMPORT{program}, and
-//! the event has no answer to it. The rules are evaluated as ever, by the functions of `eval_rules` and of the crates
-//! below; what an act asks is looked at before it is done. So an answer that is filled in may lead to further questions,
+//! A command is asked if a PROGRAM looks it up while the rules are evaluated, under udev also an IMPORT{program}, and the
+//! event has no answer to it. The rules are evaluated as always, by the functions of `eval_rules` and of the crates below;
+//! what an act asks is looked at before the act is done. So an answer that is filled in may lead to further questions,
 //! since rules then go on.
 //!
 //! Functions that allocate return `AllocError` when memory runs out.

@@ -35,8 +35,6 @@ fn ask_rules<'a, L: Lookup>(
 /// What rules ask of an event: the commands that a PROGRAM looks up while they are evaluated, for udev also an
 /// IMPORT{program}, and that the event's block does not answer. Each is there once, in the order in which they are first
 /// asked. A command that no line of a block can have is left out.
-///
-/// The error comes where memory runs out.
 pub fn questions<'a, L: Lookup>(
     alloc: Global,
     rules: &'a [Rule],

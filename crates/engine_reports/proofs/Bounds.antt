@@ -6,7 +6,7 @@ use Rattle.text_bytes.specs.declared.source_file.SourceFile.{SourceFile}
 use Rattle.text_bytes.specs.declared.message.Message.{Message}
 use Rattle.text_bytes.specs.declared.profile.Profile.{Profile}
 use Rattle.hwdb_lookup.specs.declared.entry.Entry.{Entry}
-use Rattle.hwdb_core.specs.Sources.{WithinBounds, entries_of, match_bytes_of, messages_of, properties_of, text_len}
+use Rattle.hwdb_core.specs.Sources.{WithinBounds, are_few, entries_of, match_bytes_of, messages_of, properties_of, text_len}
 use Rattle.hwdb_core.specs.declared.fault.HwdbFault.{HwdbFault}
 use Rattle.hwdb_core.specs.declared.fault.HwdbFault.TheVariants as hwdb
 use Rattle.rule_types.specs.Rules.{tokens_in}
@@ -15,73 +15,38 @@ use Rattle.rule_core.specs.declared.fault.RulesFault.{RulesFault}
 use Rattle.rule_core.specs.declared.fault.RulesFault.TheVariants as rules
 use Rattle.index_reading.specs.declared.fault.IndexFault.{IndexFault}
 use Rattle.engine_ends.specs.declared.line.Line.{Line}
-use Rattle.engine_reports.specs.Checks.{said_of, told}
-use Rattle.engine_ends.specs.Delivery.{Outcome}
+use Rattle.engine_reports.specs.Checks.{reported, said_of}
+use Rattle.engine_ends.specs.Delivery.{RunOutcome}
 use Rattle.engine_reports.specs.Databases.{database_of}
 use Rattle.engine_reports.specs.Messages.{message_lines}
-use Rattle.engine_reports.specs.Outcomes.{are_few, database_outcome, rules_outcome, too_many_entries, too_many_rules}
+use Rattle.engine_reports.specs.Outcomes.{database_outcome, rules_outcome, too_many_entries, too_many_rules}
 use Rattle.engine_reports.specs.Indexes.{refused_index}
 use Rattle.engine_reports.specs.declared.refusal.Refusal.{Refusal}
 use Rattle.engine_reports.specs.declared.refusal.Refusal.TheVariants.{TooManyEntries, TooManyRules, Index}
 use Rattle.engine_reports.specs.Openings.{opening_by, opening_messages, opening_within}
 use Rattle.engine_reports.specs.Reports.{IsRefused, IsSaid, refused_entries, refused_rules}
 
-both : (x y : Bool) → (x && y) ≡ true → (x ≡ true) × (y ≡ true)
-both true y e = (refl, e)
-both false y e = absurd (cc)
-
-all_four : (x y z w : Bool) → (((x && y) && z) && w) ≡ true → (x ≡ true) × (y ≡ true) × (z ≡ true) × (w ≡ true)
-all_four x y z w e =
-    let last = both ((x && y) && z) w e in
-    let third = both (x && y) z last.0 in
-    let first = both x y third.0 in
-    (first.0, first.1, third.1, last.1)
-
--- files within the bounds pass the test
-few_within : (files : List SourceFile) → WithinBounds files → are_few files ≡ true
-unfolding are_few
-few_within files w =
-    rw (
-      le-leb (length (properties_of files)) (2 ^ 24) w.entries,
-      le-leb (match_bytes_of files) (2 ^ 25 - 1) w.match_bytes,
-      le-leb (sum_by text_len (properties_of files)) (2 ^ 30) w.text_bytes,
-      le-leb (sum_by (λ (f : SourceFile). length f.name) files) (2 ^ 28) w.name_bytes,
-    )
-    refl
-
--- files that pass the test are within the bounds
-within_few : (files : List SourceFile) → are_few files ≡ true → WithinBounds files
-unfolding are_few
-within_few files e =
-    let each = all_four (leb (length (properties_of files)) (2 ^ 24)) (leb (match_bytes_of files) (2 ^ 25 - 1)) (leb (sum_by text_len (properties_of files)) (2 ^ 30)) (leb (sum_by (λ (f : SourceFile). length f.name) files) (2 ^ 28)) e in
-    record {
-      entries = leb-true (length (properties_of files)) (2 ^ 24) each.0;
-      match_bytes = leb-true (match_bytes_of files) (2 ^ 25 - 1) each.1;
-      text_bytes = leb-true (sum_by text_len (properties_of files)) (2 ^ 30) each.2;
-      name_bytes = leb-true (sum_by (λ (f : SourceFile). length f.name) files) (2 ^ 28) each.3;
-    }
-
 -- files past a bound don't pass it
 few_beyond : (files : List SourceFile) → (WithinBounds files → ⊥) → are_few files ≡ false
-few_beyond files beyond = false_from_ne_true (are_few files) (λ e. beyond (within_few files e))
+few_beyond files beyond = false_from_ne_true (are_few files) beyond
 
-pub outcome_few : (say : List Entry → List Message → Outcome) (files : List SourceFile) → WithinBounds files → database_outcome say files ≡ say (entries_of files) (messages_of files)
+pub outcome_few : (say : List Entry → List Message → RunOutcome) (files : List SourceFile) → WithinBounds files → database_outcome say files ≡ say (entries_of files) (messages_of files)
 unfolding database_outcome
-outcome_few say files w = rw (few_within files w) refl
+outcome_few say files w = rw w refl
 
-outcome_many : (say : List Entry → List Message → Outcome) (files : List SourceFile) → (WithinBounds files → ⊥) → database_outcome say files ≡ too_many_entries
+outcome_many : (say : List Entry → List Message → RunOutcome) (files : List SourceFile) → (WithinBounds files → ⊥) → database_outcome say files ≡ too_many_entries
 unfolding database_outcome
 outcome_many say files beyond = rw (few_beyond files beyond) refl
 
 -- what becomes of a fault of the database is what is said of its files
-pub entries_refused : (say : List Entry → List Message → Outcome) (files : List SourceFile) (fault : HwdbFault) → (fault ≡ hwdb.TooMany → WithinBounds files → ⊥) → IsSaid (refused_entries fault) (database_outcome say files)
+pub entries_refused : (say : List Entry → List Message → RunOutcome) (files : List SourceFile) (fault : HwdbFault) → (fault ≡ hwdb.TooMany → WithinBounds files → ⊥) → IsSaid (refused_entries fault) (database_outcome say files)
 entries_refused say files hwdb.TooMany beyond = outcome_many say files (beyond refl)
 entries_refused say files hwdb.Memory beyond = tt
 
--- what comes of the files of a database, by its bounds
+-- the database of the files, by its bounds
 pub database_few : (files : List SourceFile) → WithinBounds files → database_of files ≡ Ok (record { messages = message_lines (messages_of files); entries = entries_of files })
 unfolding database_of
-database_few files w = rw (few_within files w) refl
+database_few files w = rw w refl
 
 database_many : (files : List SourceFile) → (WithinBounds files → ⊥) → database_of files ≡ Err too_many_entries
 unfolding database_of
@@ -91,7 +56,7 @@ pub database_refused : (files : List SourceFile) (fault : HwdbFault) → (fault 
 database_refused files hwdb.TooMany beyond = database_many files (beyond refl)
 database_refused files hwdb.Memory beyond = tt
 
-pub rules_few : (line : Line) (files : List SourceFile) → tokens_in (set_of files).rules ≤ 2 ^ 24 → rules_outcome line files ≡ said_of line.summary files (told line.style (set_of files).messages)
+pub rules_few : (line : Line) (files : List SourceFile) → tokens_in (set_of files).rules ≤ 2 ^ 24 → rules_outcome line files ≡ said_of line.summary files (reported line.style (set_of files).messages)
 unfolding rules_outcome
 rules_few line files w = rw (le-leb (tokens_in (set_of files).rules) (2 ^ 24) w) refl
 
@@ -110,10 +75,10 @@ pub rules_refused : (line : Line) (files : List SourceFile) (fault : RulesFault)
 rules_refused line files rules.TooMany h = rules_many line files (h refl)
 rules_refused line files rules.Memory h = tt
 
-pub entries_said : (refusal : Refusal) (outcome : Outcome) → refusal ≡ TooManyEntries → IsSaid refusal outcome → outcome ≡ too_many_entries
+pub entries_said : (refusal : Refusal) (outcome : RunOutcome) → refusal ≡ TooManyEntries → IsSaid refusal outcome → outcome ≡ too_many_entries
 entries_said refusal outcome e said = subst (λ r. IsSaid r outcome) e said
 
-pub index_said : (refusal : Refusal) (fault : IndexFault) (outcome : Outcome) → refusal ≡ Index fault → IsSaid refusal outcome → outcome ≡ refused_index fault
+pub index_said : (refusal : Refusal) (fault : IndexFault) (outcome : RunOutcome) → refusal ≡ Index fault → IsSaid refusal outcome → outcome ≡ refused_index fault
 index_said refusal fault outcome e said = subst (λ r. IsSaid r outcome) e said
 
 -- a line in three pieces, one of which is known by another name
@@ -124,10 +89,10 @@ in_pieces first text whole last e = append_assoc first whole last ∙ ap (λ t. 
 pub two_pieces : (messages line : List ℕ) → messages ++ line ≡ messages ++ (line ++ [])
 two_pieces messages line = ap (λ t. messages ++ t) (sym (append-nil line))
 
-pub rules_said : (refusal : Refusal) (outcome : Outcome) → refusal ≡ TooManyRules → IsSaid refusal outcome → outcome ≡ too_many_rules
+pub rules_said : (refusal : Refusal) (outcome : RunOutcome) → refusal ≡ TooManyRules → IsSaid refusal outcome → outcome ≡ too_many_rules
 rules_said refusal outcome e said = subst (λ r. IsSaid r outcome) e said
 
--- what comes of rules files beside a database, by the bound of rules
+-- what rules files and a database give, by the bound of rules
 pub rules_opened : (by : Profile) (files : List SourceFile) (messages : List Message) (entries : List Entry) → tokens_in (set_of_as by files).rules ≤ 2 ^ 24 → opening_by by files messages entries ≡ Ok (record { messages = opening_messages (set_of_as by files).messages messages; about_rules = (set_of_as by files).messages; rules = (set_of_as by files).rules; entries = entries })
 unfolding opening_by
 rules_opened by files messages entries w = rw (le-leb (tokens_in (set_of_as by files).rules) (2 ^ 24) w) refl
@@ -140,10 +105,10 @@ pub opening_rules_refused : (by : Profile) (files : List SourceFile) (messages :
 opening_rules_refused by files messages entries rules.TooMany h = rules_unopened by files messages entries (h refl)
 opening_rules_refused by files messages entries rules.Memory h = tt
 
--- what comes of both, by the bounds of a database
+-- what both give, by the bounds of a database
 pub opening_few : (by : Profile) (files database : List SourceFile) → WithinBounds database → opening_within by files database ≡ opening_by by files (messages_of database) (entries_of database)
 unfolding opening_within
-opening_few by files database few = rw (few_within database few) refl
+opening_few by files database few = rw few refl
 
 opening_many_entries : (by : Profile) (files database : List SourceFile) → (WithinBounds database → ⊥) → opening_within by files database ≡ Err too_many_entries
 unfolding opening_within

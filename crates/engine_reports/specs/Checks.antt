@@ -6,7 +6,7 @@ use Rattle.text_bytes.specs.declared.message.Message.{Message}
 use Rattle.text_bytes.specs.declared.message.MessageKind.{MessageKind}
 use Rattle.text_bytes.specs.declared.message.MessageKind.TheVariants.{CommaExpected, BlankExpected, ReadAsAssign, LabelUnused, LeadingComma, BlankBeforeComma}
 use Rattle.text_tables.specs.Texts.{same_text}
-use Rattle.engine_ends.specs.Delivery.{Outcome}
+use Rattle.engine_ends.specs.Delivery.{RunOutcome}
 use Rattle.engine_reports.specs.Messages.{message_lines}
 
 -- whether a kind of message is about style: the S messages
@@ -20,8 +20,8 @@ is_style BlankBeforeComma = true
 is_style _ = false
 
 -- the messages that are given: all, or without style those that are not about it
-unfoldable pub told : Bool → List Message → List Message
-told style messages = if style then messages else filter (λ m. not (is_style m.kind)) messages
+unfoldable pub reported : Bool → List Message → List Message
+reported style messages = if style then messages else filter (λ m. not (is_style m.kind)) messages
 
 -- whether one of the messages has a name
 abbrev pub is_named_in : List Message → List ℕ → Bool
@@ -40,7 +40,7 @@ abbrev pub verify_status : ℕ → ℕ
 verify_status bad = if bad == 0 then 0 else 1
 
 -- what is said about files and the messages about them that are given
-abbrev pub said_of : Bool → List SourceFile → List Message → Outcome
+abbrev pub said_of : Bool → List SourceFile → List Message → RunOutcome
 said_of summary files messages = record {
   output = if summary then summary_line (length files) (bad_count files messages) else [];
   messages = message_lines messages;

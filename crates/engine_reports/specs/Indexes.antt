@@ -8,7 +8,7 @@ use Rattle.index_reading.specs.Accepted.{Accepted, FailsFirst}
 use Rattle.index_reading.specs.declared.fault.IndexFault.{IndexFault}
 use Rattle.index_reading.specs.FaultTexts.{fault_text}
 use Rattle.index_reading.specs.Contents.{Contents, contents}
-use Rattle.engine_ends.specs.Delivery.{Outcome}
+use Rattle.engine_ends.specs.Delivery.{RunOutcome}
 
 -- The outcome of opening an index: nothing if none is passed in; what its bytes hold if they are accepted, and else
 -- the first check that they fail.
@@ -25,5 +25,5 @@ abbrev pub index_line : IndexFault → Text
 index_line fault = codes "devdry: index: " ++ fault_text fault ++ newline ∷ []
 
 -- what is said about an index that fails a check
-abbrev pub refused_index : IndexFault → Outcome
+abbrev pub refused_index : IndexFault → RunOutcome
 refused_index fault = record { output = []; messages = index_line fault; status = 1 }

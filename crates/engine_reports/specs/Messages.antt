@@ -4,7 +4,7 @@ use Rattle.text_bytes.specs.Names.{newline}
 use Rattle.engine_ends.specs.Places.{place_of, word_part}
 use Rattle.text_bytes.specs.declared.message.Message.{Message}
 use Rattle.text_bytes.specs.declared.message.MessageKind.{MessageKind}
-use Rattle.text_bytes.specs.declared.message.MessageKind.TheVariants.{PropertyWithoutMatch, MatchWithoutProperty, UnindentedLine, NoEquals, EmptyKey, PatternNotSupported, BadSyntax, UnknownKey, OperatorNotAllowed, WrongAttribute, BadValue, BadSubstitution, NoLaterLabel, GivenTwice, LineTooLong, BadPrefix, SetNotSupported, OpenAtEnd, ReservedProperty, NameWithoutEffect, UnknownBuiltin, MatchesExclude, SaidTwice, RuleWithoutEffect, ResultBeforeProgram, EmptyValue, BadAttributeSubstitution, AttributeElsewhere, OldSubsystemName, AssignExpected, UnknownAccount, FileGivenUp, CommaExpected, BlankExpected, ReadAsAssign, LabelUnused, LeadingComma, BlankBeforeComma}
+use Rattle.text_bytes.specs.declared.message.MessageKind.TheVariants.{PropertyWithoutMatch, MatchWithoutProperty, UnindentedLine, NoEquals, EmptyKey, PatternNotSupported, BadSyntax, UnknownKey, OperatorNotAllowed, WrongAttribute, BadValue, BadSubstitution, NoLaterLabel, GivenTwice, LineTooLong, BadPrefix, SetNotSupported, OpenAtEnd, ReservedProperty, NameWithoutEffect, UnknownBuiltin, MatchesExclude, SaidTwice, RuleWithoutEffect, ResultBeforeProgram, EmptyValue, BadAttributeSubstitution, AttributeElsewhere, OldSubsystemName, AssignExpected, UnknownAccount, FileAbandoned, CommaExpected, BlankExpected, ReadAsAssign, LabelUnused, LeadingComma, BlankBeforeComma}
 
 -- the code of a kind of message, and what it says
 abbrev pub heading_of : MessageKind → List ℕ
@@ -39,7 +39,7 @@ heading_of AttributeElsewhere = codes "V22 attribute of another device"
 heading_of OldSubsystemName = codes "V23 old name of a subsystem"
 heading_of AssignExpected = codes "V24 operator read as ="
 heading_of UnknownAccount = codes "V25 unknown user or group"
-heading_of FileGivenUp = codes "V26 file with a line too long"
+heading_of FileAbandoned = codes "V26 file with a line too long"
 heading_of CommaExpected = codes "S1 one comma expected"
 heading_of BlankExpected = codes "S2 blank after a comma expected"
 heading_of ReadAsAssign = codes "S3 operator read as ="

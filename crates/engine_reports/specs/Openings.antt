@@ -6,18 +6,18 @@ use Rattle.text_bytes.specs.declared.profile.Profile.{Profile}
 use Rattle.text_bytes.specs.declared.source_file.SourceFile.{SourceFile}
 use Rattle.text_bytes.specs.declared.source_file.FileKind.TheVariants.{Hwdb}
 use Rattle.hwdb_lookup.specs.declared.entry.Entry.{Entry}
-use Rattle.hwdb_core.specs.Sources.{entries_of, messages_of}
+use Rattle.hwdb_core.specs.Sources.{are_few, entries_of, messages_of}
 use Rattle.rule_types.specs.Rules.{Rule, tokens_in}
 use Rattle.rule_core.specs.Rules.{set_of_as}
 use Rattle.index_reading.specs.declared.fault.IndexFault.{IndexFault}
 use Rattle.index_reading.specs.Contents.{Contents}
 use Rattle.engine_ends.specs.declared.line.Line.{Line}
-use Rattle.engine_reports.specs.Checks.{told}
-use Rattle.engine_ends.specs.Delivery.{Outcome}
+use Rattle.engine_reports.specs.Checks.{reported}
+use Rattle.engine_ends.specs.Delivery.{RunOutcome}
 use Rattle.engine_reports.specs.FilesRead.{files_read, rules_read}
 use Rattle.engine_reports.specs.Indexes.{entries_in, refused_index}
 use Rattle.engine_reports.specs.Messages.{message_lines}
-use Rattle.engine_reports.specs.Outcomes.{are_few, too_many_entries, too_many_rules}
+use Rattle.engine_reports.specs.Outcomes.{too_many_entries, too_many_rules}
 
 -- the lines of the messages, and what events are answered by: the messages about the rules, the rules and the entries
 pub record OpeningValue : Type 0 where
@@ -28,23 +28,23 @@ pub record OpeningValue : Type 0 where
 
 -- the lines of the messages about rules that are not about style, and then of those about a database
 abbrev pub opening_messages : List Message → List Message → Text
-opening_messages rules database = message_lines (told false rules) ++ message_lines database
+opening_messages rules database = message_lines (reported false rules) ++ message_lines database
 
 -- what comes before the first answer, by rules files read by a profile, messages about a database and its entries, if
 -- the rules hold no more than they may, and else what is said about that
-unfoldable pub opening_by : Profile → List SourceFile → List Message → List Entry → Result OpeningValue Outcome
+unfoldable pub opening_by : Profile → List SourceFile → List Message → List Entry → Result OpeningValue RunOutcome
 opening_by profile rules messages entries =
     if nat_le (tokens_in (set_of_as profile rules).rules) (2 ^ 24) then Ok (record { messages = opening_messages (set_of_as profile rules).messages messages; about_rules = (set_of_as profile rules).messages; rules = (set_of_as profile rules).rules; entries = entries })
     else Err too_many_rules
 
 -- the same by rules files and files of a database, if these also hold no more than they may; if both hold more, that
 -- is said about the database
-unfoldable pub opening_within : Profile → List SourceFile → List SourceFile → Result OpeningValue Outcome
+unfoldable pub opening_within : Profile → List SourceFile → List SourceFile → Result OpeningValue RunOutcome
 opening_within profile rules database = if are_few database then opening_by profile rules (messages_of database) (entries_of database) else Err too_many_entries
 
 -- the same by the files passed in, rules by the line's profile, or with the outcome of opening an index instead of
 -- the files of a database
-abbrev pub opening : Line → List SourceFile → Option (Result Contents IndexFault) → Result OpeningValue Outcome
+abbrev pub opening : Line → List SourceFile → Option (Result Contents IndexFault) → Result OpeningValue RunOutcome
 opening line files None = opening_within line.profile (rules_read line files) (files_read Hwdb line files)
 opening line files (Some (Ok contents)) = opening_by line.profile (rules_read line files) [] (entries_in contents)
 opening line files (Some (Err fault)) = Err (refused_index fault)

@@ -4,9 +4,8 @@ use Rattle.text_bytes.specs.declared.source_file.SourceFile.{SourceFile}
 use Rattle.text_bytes.specs.declared.source_file.FileKind.TheVariants.{Hwdb, Rules}
 use Rattle.text_bytes.specs.declared.message.Message.{Message}
 use Rattle.text_tables.specs.Texts.{Text}
-use Rattle.hwdb_lookup.specs.Bounds.{max_entries, max_match_bytes, max_name_bytes, max_text_bytes}
 use Rattle.hwdb_lookup.specs.declared.entry.Entry.{Entry}
-use Rattle.hwdb_core.specs.Sources.{entries_of, match_bytes_of, messages_of, properties_of, text_len}
+use Rattle.hwdb_core.specs.Sources.{are_few, entries_of, messages_of}
 use Rattle.rule_types.specs.Rules.{tokens_in}
 use Rattle.rule_core.specs.Rules.{set_of}
 use Rattle.index_reading.specs.declared.fault.IndexFault.{IndexFault}
@@ -14,26 +13,18 @@ use Rattle.trie_core.specs.Image.{image}
 use Rattle.index_reading.specs.Contents.{Contents}
 use Rattle.engine_ends.specs.declared.line.Line.{Line}
 use Rattle.engine_reports.specs.Answers.{answer_lines}
-use Rattle.engine_reports.specs.Checks.{said_of, told}
-use Rattle.engine_ends.specs.Delivery.{Outcome}
+use Rattle.engine_reports.specs.Checks.{reported, said_of}
+use Rattle.engine_ends.specs.Delivery.{RunOutcome}
 use Rattle.engine_reports.specs.FilesRead.{files_read}
 use Rattle.engine_reports.specs.Indexes.{entries_in, refused_index}
 use Rattle.engine_reports.specs.Messages.{message_lines}
-
--- whether the files hold no more than a database may
-unfoldable pub are_few : List SourceFile → Bool
-are_few files =
-    nat_le (length (properties_of files)) max_entries
-    && nat_le (match_bytes_of files) max_match_bytes
-    && nat_le (sum_by text_len (properties_of files)) max_text_bytes
-    && nat_le (sum_by (λ f. length f.name) files) max_name_bytes
 
 -- the status of `update`: 1 if it is strict and there is a message
 abbrev pub update_status : Bool → ℕ → ℕ
 update_status strict count = if strict && not (count == 0) then 1 else 0
 
 -- what `query` says about the entries of the database and the messages about its files
-abbrev pub query_outcome : Line → List Entry → List Message → Outcome
+abbrev pub query_outcome : Line → List Entry → List Message → RunOutcome
 query_outcome line entries messages = record {
   output = answer_lines line.sources entries line.modalias.now;
   messages = message_lines messages;
@@ -41,7 +32,7 @@ query_outcome line entries messages = record {
 }
 
 -- what `update` says about the entries of the database and the messages about its files: the entries as an index
-abbrev pub update_outcome : Line → List Entry → List Message → Outcome
+abbrev pub update_outcome : Line → List Entry → List Message → RunOutcome
 update_outcome line entries messages = record {
   output = image entries;
   messages = message_lines messages;
@@ -49,33 +40,33 @@ update_outcome line entries messages = record {
 }
 
 -- what is said about files that hold more than a database may
-abbrev pub too_many_entries : Outcome
+abbrev pub too_many_entries : RunOutcome
 too_many_entries = record { output = []; messages = codes "devdry: hwdb: too many\n"; status = 1 }
 
 -- what is said if a command line asks for something that is not there: the messages, and the line that says so
-abbrev pub usage_error : Text → Text → Outcome
+abbrev pub usage_error : Text → Text → RunOutcome
 usage_error messages line = record { output = []; messages = messages ++ line; status = 2 }
 
 -- what is said about rules with too many tokens
-abbrev pub too_many_rules : Outcome
+abbrev pub too_many_rules : RunOutcome
 too_many_rules = record { output = []; messages = codes "devdry: rules: too many\n"; status = 1 }
 
 -- what is said about the files of a database, given what to say about its entries and messages
-unfoldable pub database_outcome : (List Entry → List Message → Outcome) → List SourceFile → Outcome
+unfoldable pub database_outcome : (List Entry → List Message → RunOutcome) → List SourceFile → RunOutcome
 database_outcome say files = if are_few files then say (entries_of files) (messages_of files) else too_many_entries
 
 -- what `query` says about the files passed in, or instead about the outcome of opening an index
-abbrev pub query_over : Line → List SourceFile → Option (Result Contents IndexFault) → Outcome
+abbrev pub query_over : Line → List SourceFile → Option (Result Contents IndexFault) → RunOutcome
 query_over line files None = database_outcome (query_outcome line) (files_read Hwdb line files)
 query_over line files (Some (Ok contents)) = query_outcome line (entries_in contents) []
 query_over line files (Some (Err fault)) = refused_index fault
 
 -- what `verify` says about rules files
-unfoldable pub rules_outcome : Line → List SourceFile → Outcome
+unfoldable pub rules_outcome : Line → List SourceFile → RunOutcome
 rules_outcome line files =
-    if nat_le (tokens_in (set_of files).rules) (2 ^ 24) then said_of line.summary files (told line.style (set_of files).messages)
+    if nat_le (tokens_in (set_of files).rules) (2 ^ 24) then said_of line.summary files (reported line.style (set_of files).messages)
     else too_many_rules
 
 -- what `verify` says about the files passed in
-abbrev pub verify_outcome : Line → List SourceFile → Outcome
+abbrev pub verify_outcome : Line → List SourceFile → RunOutcome
 verify_outcome line files = rules_outcome line (files_read Rules line files)

@@ -1,7 +1,7 @@
 //! What `verify` says about rules files.
 ghost use Rattle.std.specs.Prelude.{◌≡◌, [], if◌then◌else◌, ◌<◌, ◌≤◌, ◌++◌, List, ℕ, length, not, nat_eq, IfOk, IfErr, OnOk, decimal};
 ghost use Rattle.std.specs.List.{count_by};
-ghost use Rattle.engine_reports.specs.Checks.{bad_count, is_named_in, is_style, said_of, summary_line, told, verify_status};
+ghost use Rattle.engine_reports.specs.Checks.{bad_count, is_named_in, is_style, reported, said_of, summary_line, verify_status};
 ghost use Rattle.engine_reports.specs.Outcomes.{rules_outcome, verify_outcome};
 ghost use Rattle.engine_reports.specs.Reports.{IsSaid, said};
 ghost use Rattle.text_tables.specs.Texts.{is_among};
@@ -51,10 +51,10 @@ fn checked(
     files: &[SourceFile],
     set: RuleSet,
 ) -> Result<Report, AllocError>
-    ensures said { IfOk result (λ r. said r ≡ said_of line.now.summary files.now (told line.now.style set.messages)) }
+    ensures said { IfOk result (λ r. said r ≡ said_of line.now.summary files.now (reported line.now.style set.messages)) }
     ensures status { IfOk result (λ r. r.status < 3) }
 {
-    let messages = told(line.style, set.into_messages());
+    let messages = reported(line.style, set.into_messages());
     let bad = bad_count(alloc, files, &messages)?;
     Ok(Report {
         output: counted(alloc, line.summary, files.len(), bad)?,
@@ -76,9 +76,9 @@ pub fn counted(alloc: Global, summary: bool, all: usize, bad: usize) -> Result<V
 }
 
 /// The messages that are given: all, or without style those that are not about it.
-#[tactic(auto, unfolding(crate::specs::Checks::told))]
-fn told(style: bool, mut messages: Vec<Message>) -> Vec<Message>
-    ensures { result.items ≡ told style messages.items }
+#[tactic(auto, unfolding(crate::specs::Checks::reported))]
+fn reported(style: bool, mut messages: Vec<Message>) -> Vec<Message>
+    ensures { result.items ≡ reported style messages.items }
 {
     if !style {
         messages.retain(|message| !is_style(message.kind));
@@ -140,11 +140,11 @@ fn summary_line(alloc: Global, all: usize, bad: usize) -> Result<Vec<u8>, AllocE
 }
 
 /// Appends a number and a text.
-fn push_count(text: &mut Vec<u8>, count: usize, behind: &[u8]) -> Result<(), AllocError>
-    ensures { OnOk result (text.new.items ≡ text.old.items ++ (decimal count ++ behind.now)) }
+fn push_count(text: &mut Vec<u8>, count: usize, following: &[u8]) -> Result<(), AllocError>
+    ensures { OnOk result (text.new.items ≡ text.old.items ++ (decimal count ++ following.now)) }
 {
     text.extend_from_slice(Buffer::new().format(count).as_bytes())?;
-    text.extend_from_slice(behind)?;
+    text.extend_from_slice(following)?;
     Ok(())
 }
 

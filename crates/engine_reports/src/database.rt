@@ -6,7 +6,7 @@
 ghost use Rattle.std.specs.Prelude.{◌≡◌, ◌<◌, List, length, Ok, IfOk, IfErr};
 ghost use Rattle.text_bytes.specs.declared.message.Message.{Message};
 ghost use Rattle.hwdb_lookup.specs.declared.entry.Entry.{Entry};
-ghost use Rattle.engine_ends.specs.Delivery.{Outcome};
+ghost use Rattle.engine_ends.specs.Delivery.{RunOutcome};
 ghost use Rattle.engine_reports.specs.Outcomes.{database_outcome, query_outcome, query_over, update_outcome, update_status};
 ghost use Rattle.engine_reports.specs.Databases.{database_of};
 ghost use Rattle.engine_reports.specs.FilesRead.{files_read};
@@ -72,9 +72,9 @@ fn read_database(
     line: &Line<'_>,
     files: Vec<SourceFile>,
 ) -> Result<(Trie, Vec<Message>), Refusal>
-    ensures read { IfOk result (λ read. (say : List Entry → List Message → Outcome)
+    ensures read { IfOk result (λ read. (say : List Entry → List Message → RunOutcome)
         → say read.0.entries read.1.items ≡ database_outcome say (files_read FileKind.Hwdb line.now files.items)) }
-    ensures refused { IfErr result (λ e. (say : List Entry → List Message → Outcome)
+    ensures refused { IfErr result (λ e. (say : List Entry → List Message → RunOutcome)
         → IsSaid e (database_outcome say (files_read FileKind.Hwdb line.now files.items))) }
     ensures database { IfOk result (λ read. database_of (files_read FileKind.Hwdb line.now files.items) ≡ Ok (record { messages = message_lines read.1.items; entries = read.0.entries })) }
     ensures none { IfErr result (λ e. IsRefused e (database_of (files_read FileKind.Hwdb line.now files.items))) }
@@ -88,8 +88,7 @@ fn read_database(
 
 /// The database of the files that are read, as a trie, and the lines of the messages about these.
 ///
-/// `TooManyEntries` comes exactly where the files hold more than a database may, `Memory` where memory
-/// runs out.
+/// `TooManyEntries` comes exactly if the files hold more than a database may, `Memory` if memory runs out.
 pub fn open_database(
     alloc: Global,
     line: &Line<'_>,

@@ -1,13 +1,13 @@
 //! Writing a report, or why there is none.
 ghost use Rattle.std.specs.Prelude.{◌≡◌, ◌<◌, IfOk};
-ghost use Rattle.engine_ends.specs.Delivery.{Delivers, Outcome, Tells, TellsFaults, out_of_memory};
+ghost use Rattle.engine_ends.specs.Delivery.{Delivers, ReportsFailure, ReportsFaults, RunOutcome, out_of_memory};
 ghost use Rattle.engine_reports.specs.Outcomes.{usage_error};
 ghost use Rattle.engine_reports.specs.Reports.{IsReport, IsSaid};
 
 use crate::indexes::deliver_index_fault;
 use crate::refusal::Refusal;
 use crate::report::Report;
-use engine_ends::{Sink, deliver, deliver_in_pieces, tell_out_of_memory};
+use engine_ends::{Sink, deliver, deliver_in_pieces, report_out_of_memory};
 
 /// The line on files that hold more than a database may.
 const TOO_MANY_ENTRIES: &[u8] = b"devdry: hwdb: too many\n";
@@ -23,11 +23,11 @@ pub fn deliver_report<W: Sink, E: Sink>(
     error: &mut E,
 ) -> u8
     requires { IfOk report (λ r. r.status < 3) }
-    ensures delivers { (outcome : Outcome) → IsReport outcome report
+    ensures delivers { (outcome : RunOutcome) → IsReport outcome report
         → Delivers outcome result
         (record { out = W.shown output.old; err = E.shown error.old })
         (record { out = W.shown output.new; err = E.shown error.new }) }
-    ensures faults { TellsFaults result
+    ensures faults { ReportsFaults result
         (record { out = W.shown output.old; err = E.shown error.old })
         (record { out = W.shown output.new; err = E.shown error.new }) }
 {
@@ -46,13 +46,13 @@ pub fn deliver_report<W: Sink, E: Sink>(
 /// Writes why there is nothing to say about the files, and returns the status: 1 if they hold more than they may or
 /// the index is not one, 4 if memory ran out, or 3 if the error output failed.
 pub fn deliver_refusal<W: Sink, E: Sink>(refusal: Refusal, output: &mut W, error: &mut E) -> u8
-    ensures delivers { (outcome : Outcome) → IsSaid refusal outcome
+    ensures delivers { (outcome : RunOutcome) → IsSaid refusal outcome
         → Delivers outcome result
         (record { out = W.shown output.old; err = E.shown error.old })
         (record { out = W.shown output.new; err = E.shown error.new }) }
     ensures memory { refusal ≡ Refusal.Memory
-        → Tells out_of_memory 4 result (E.shown error.old) (E.shown error.new) × (W.shown output.new ≡ W.shown output.old) }
-    ensures faults { TellsFaults result
+        → ReportsFailure out_of_memory 4 result (E.shown error.old) (E.shown error.new) × (W.shown output.new ≡ W.shown output.old) }
+    ensures faults { ReportsFaults result
         (record { out = W.shown output.old; err = E.shown error.old })
         (record { out = W.shown output.new; err = E.shown error.new }) }
 {
@@ -60,7 +60,7 @@ pub fn deliver_refusal<W: Sink, E: Sink>(refusal: Refusal, output: &mut W, error
         Refusal::TooManyEntries => deliver(TOO_MANY_ENTRIES, b"", 1, output, error),
         Refusal::TooManyRules => deliver(TOO_MANY_RULES, b"", 1, output, error),
         Refusal::Index(fault) => deliver_index_fault(fault, output, error),
-        Refusal::Memory => tell_out_of_memory(error),
+        Refusal::Memory => report_out_of_memory(error),
     }
 }
 
@@ -75,7 +75,7 @@ pub fn deliver_usage_error<W: Sink, E: Sink>(
     ensures delivers { Delivers (usage_error messages.now line.now) result
         (record { out = W.shown output.old; err = E.shown error.old })
         (record { out = W.shown output.new; err = E.shown error.new }) }
-    ensures faults { TellsFaults result
+    ensures faults { ReportsFaults result
         (record { out = W.shown output.old; err = E.shown error.old })
         (record { out = W.shown output.new; err = E.shown error.new }) }
 {

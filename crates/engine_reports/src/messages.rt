@@ -3,7 +3,7 @@
 //! The texts are here and not with the kinds of messages, since they are needed only where the lines are written.
 ghost use Rattle.std.specs.Prelude.{◌≡◌, ◌++◌, false, IfOk, OnOk};
 ghost use Rattle.engine_reports.specs.Messages.{heading_of, message_line, message_lines};
-ghost use Rattle.engine_reports.specs.Checks.{told};
+ghost use Rattle.engine_reports.specs.Checks.{reported};
 
 use crate::checks::is_style;
 use engine_ends::{push_place, push_word};
@@ -22,12 +22,12 @@ pub(crate) fn message_lines(alloc: Global, messages: &[Message]) -> Result<Vec<u
 }
 
 /// The lines of those messages that are not about style, in the order given.
-#[tactic(auto, unfolding(crate::specs::Checks::told))]
+#[tactic(auto, unfolding(crate::specs::Checks::reported))]
 pub(crate) fn plain_message_lines(
     alloc: Global,
     messages: &[Message],
 ) -> Result<Vec<u8>, AllocError>
-    ensures { IfOk result (λ text. text.items ≡ message_lines (told false messages.now)) }
+    ensures { IfOk result (λ text. text.items ≡ message_lines (reported false messages.now)) }
 {
     let mut text = Vec::new(alloc);
     for message in messages {
@@ -86,7 +86,7 @@ pub fn heading(kind: MessageKind) -> &'static [u8]
         MessageKind::OldSubsystemName => b"V23 old name of a subsystem",
         MessageKind::AssignExpected => b"V24 operator read as =",
         MessageKind::UnknownAccount => b"V25 unknown user or group",
-        MessageKind::FileGivenUp => b"V26 file with a line too long",
+        MessageKind::FileAbandoned => b"V26 file with a line too long",
         MessageKind::CommaExpected => b"S1 one comma expected",
         MessageKind::BlankExpected => b"S2 blank after a comma expected",
         MessageKind::ReadAsAssign => b"S3 operator read as =",

@@ -10,24 +10,24 @@ use Rattle.engine_sessions.specs.Answers.{Answers, well, with_block, answers_to,
 
 -- answers in front of others
 abbrev pub with_texts : List Text → Answers → Answers
-with_texts texts behind = record { texts = texts ++ behind.texts; fault = behind.fault }
+with_texts texts following = record { texts = texts ++ following.texts; fault = following.fault }
 
 pub well_texts : (given : Answers) → given.fault ≡ None → given ≡ well given.texts
 well_texts given e = ap (λ fault. record { texts = given.texts; fault = fault }) e
 
-behind_block : (answer : EventValue → Text) (given : Result EventValue BlockFault) (first all behind : Answers) (texts : List Text)
-    → ((some : List Text) → first ≡ well some → all ≡ with_texts some behind) → with_block answer given first ≡ well texts → with_block answer given all ≡ with_texts texts behind
-behind_block answer (Ok event) first all behind texts more e =
+after_block : (answer : EventValue → Text) (given : Result EventValue BlockFault) (first all following : Answers) (texts : List Text)
+    → ((some : List Text) → first ≡ well some → all ≡ with_texts some following) → with_block answer given first ≡ well texts → with_block answer given all ≡ with_texts texts following
+after_block answer (Ok event) first all following texts more e =
     let same : texts ≡ answer event ∷ first.texts = sym (ap (λ a. a.texts) e) in
-    let rest : all ≡ with_texts first.texts behind = more first.texts (well_texts first (ap (λ a. a.fault) e)) in
-    ap (λ a. with_block answer (Ok event) a) rest ∙ ap (λ l. with_texts l behind) (sym same)
-behind_block answer (Err fault) first all behind texts more e = let both : Some fault ≡ None = ap (λ a. a.fault) e in absurd cc
+    let rest : all ≡ with_texts first.texts following = more first.texts (well_texts first (ap (λ a. a.fault) e)) in
+    ap (λ a. with_block answer (Ok event) a) rest ∙ ap (λ l. with_texts l following) (sym same)
+after_block answer (Err fault) first all following texts more e = let both : Some fault ≡ None = ap (λ a. a.fault) e in absurd cc
 
 -- the answers to blocks after others of which none is faulty
 pub answers_to-append : (answer : EventValue → Text) (first second : List Text) (texts : List Text) → answers_to answer first ≡ well texts → answers_to answer (first ++ second) ≡ with_texts texts (answers_to answer second)
 answers_to-append answer [] second texts e = ap (λ l. with_texts l (answers_to answer second)) (ap (λ a. a.texts) e)
 answers_to-append answer (block ∷ first) second texts e =
-    behind_block answer (block_gives block) (answers_to answer first) (answers_to answer (first ++ second)) (answers_to answer second) texts (answers_to-append answer first second) e
+    after_block answer (block_gives block) (answers_to answer first) (answers_to answer (first ++ second)) (answers_to answer second) texts (answers_to-append answer first second) e
 
 -- the answers end at a faulty block
 pub answers_to-faulty : (answer : EventValue → Text) (block : Text) (others : List Text) (fault : BlockFault) → block_gives block ≡ Err fault → answers_to answer (block ∷ others) ≡ record { texts = []; fault = Some fault }

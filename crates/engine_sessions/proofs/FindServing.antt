@@ -6,7 +6,7 @@ use Rattle.device_core.specs.Values.{EventValue}
 use Rattle.device_core.specs.declared.faults.BlockFault.{BlockFault}
 use Rattle.engine_ends.specs.Sinks.{BreaksOff, HandsOn, SinkState}
 use Rattle.engine_ends.specs.Streams.{Streams}
-use Rattle.engine_ends.specs.Delivery.{Tells, out_of_memory, write_failed}
+use Rattle.engine_ends.specs.Delivery.{ReportsFailure, out_of_memory, write_failed}
 use Rattle.engine_sessions.specs.Turns.{joined, say_something}
 use Rattle.engine_sessions.specs.BlockFaults.{block_line}
 use Rattle.engine_sessions.specs.Answers.{answers_of}
@@ -17,7 +17,7 @@ use Rattle.engine_sessions.specs.Findings.{ConcludesFinding, FindsAll, found}
 use Rattle.engine_sessions.specs.declared.session.SessionFault.TheVariants.{Block, Memory, Ended}
 use Rattle.engine_sessions.specs.declared.turning.TurnFault.{TurnFault}
 use Rattle.engine_sessions.specs.declared.turning.TurnFault.TheVariants.{Read, Write, Session}
-use Rattle.engine_sessions.proofs.Serving.{answers_serve, none_is, outcome_well, rest_told, sends_output}
+use Rattle.engine_sessions.proofs.Serving.{answers_serve, none_is, outcome_well, rest_reported, sends_output}
 
 status_under : (messages output : Text) (count : ℕ) (fault : Option BlockFault) → (answered_until messages output count fault).status ≤ 1
 status_under messages output count None = omega arith
@@ -26,7 +26,7 @@ status_under messages output count (Some fault) = omega arith
 outcome_under : (messages : Text) (answer : EventValue → Text) (text : Text) → (input_outcome messages answer text).status ≤ 1
 outcome_under messages answer text = let a = answers_of answer text in status_under messages (joined a.texts) (length a.texts) a.fault
 
--- a status that is no 0 stays, whatever is found
+-- a status that is not 0 stays, whatever is found
 status_stays : (status wanted : ℕ) (none : Bool) → (status ≡ 0 → ⊥) → wanted ≤ 1 → status ≡ wanted → status ≡ cond none wanted 1
 status_stays status wanted true n h e = e
 status_stays status wanted false n h e = one status wanted n h e
@@ -46,32 +46,32 @@ serves_still messages answer status before now n s = record {
         status_is = status_stays status outcome.status (length outcome.output == 0) n (outcome_under messages answer (joined s.read)) w.status_is;
       };
   all = λ h text e. ap found (s.all h text e);
-  cut = λ h. let c = s.cut h in record { output = c.output; told = c.told; messages = c.messages; line = c.line; line_is = c.line_is; begun = c.begun; memory = c.memory };
+  cut = λ h. let c = s.cut h in record { output = c.output; reported = c.reported; messages = c.messages; line = c.line; line_is = c.line_is; begun = c.begun; memory = c.memory };
   failures = s.failures;
   statuses = s.statuses;
 }
 
-tells_some : (line : Text) (wanted status : ℕ) (told now : SinkState) → 0 < wanted → Tells line wanted status told now → status ≡ 0 → ⊥
-tells_some line wanted status told now h (inl p) e = absurd (omega (arith, h, p.0, e))
-tells_some line wanted status told now h (inr p) e = absurd (omega (arith, p.0, e))
+reports_some : (line : Text) (wanted status : ℕ) (reported now : SinkState) → 0 < wanted → ReportsFailure line wanted status reported now → status ≡ 0 → ⊥
+reports_some line wanted status reported now h (inl p) e = absurd (omega (arith, h, p.0, e))
+reports_some line wanted status reported now h (inr p) e = absurd (omega (arith, p.0, e))
 
 stops_some : (messages : Text) (status : ℕ) (before now : Streams) → StopsBefore messages status before now → status ≡ 0 → ⊥
-stops_some messages status before now s e = by s.tells
+stops_some messages status before now s e = by s.reports
   where
-    by : ((status ≡ 3) × BreaksOff before.err messages now.err) ⊎ Tells out_of_memory 4 status before.err now.err → ⊥
+    by : ((status ≡ 3) × BreaksOff before.err messages now.err) ⊎ ReportsFailure out_of_memory 4 status before.err now.err → ⊥
     by (inl p) = absurd (omega (arith, p.0, e))
-    by (inr p) = tells_some out_of_memory 4 status before.err now.err (omega arith) p e
+    by (inr p) = reports_some out_of_memory 4 status before.err now.err (omega arith) p e
 
-turned : (b : Bool) (m n : ℕ) → cond (not b) m n ≡ cond b n m
-turned true m n = refl
-turned false m n = refl
+after_turn : (b : Bool) (m n : ℕ) → cond (not b) m n ≡ cond b n m
+after_turn true m n = refl
+after_turn false m n = refl
 
 low : (b : Bool) (status : ℕ) → status ≡ cond b 1 0 → status ≤ 1
 low true status e = omega (arith, e)
 low false status e = omega (arith, e)
 
-module _ (messages : Text) (answer : EventValue → Text) (status : ℕ) (before now : Streams) (told : SinkState) (says : HandsOn before.err messages told) where
-  found_well : (t : AnswersInput answer (Ok tt) (devices_of before) (devices_of now)) → ConcludesFinding (Ok tt) t.sent status told now.err → Serves (λ text. found (input_outcome messages answer text)) status before now
+module _ (messages : Text) (answer : EventValue → Text) (status : ℕ) (before now : Streams) (reported : SinkState) (says : HandsOn before.err messages reported) where
+  found_well : (t : AnswersInput answer (Ok tt) (devices_of before) (devices_of now)) → ConcludesFinding (Ok tt) t.sent status reported now.err → Serves (λ text. found (input_outcome messages answer text)) status before now
   found_well t c =
       let is = ap found (outcome_well messages answer (joined t.read) t.sent t.ends.answers) in
       let few : status ≤ 1 = low (say_something t.sent) status c.0 in
@@ -79,8 +79,8 @@ module _ (messages : Text) (answer : EventValue → Text) (status : ℕ) (before
         read = t.read;
         pieces = t.pieces;
         whole = λ h. subst (λ o. IsWhole o status before now) (sym is)
-            (record { output = sends_output before.out t.told now.out t.sent t.sends t.ends.untouched; messages = rw c.1 says; status_is = c.0 ∙ turned (length (joined t.sent) == 0) 1 0 });
-        all = λ h text e. let r = rest_told text (joined t.read) now.input.left (sym e ∙ t.left) in
+            (record { output = sends_output before.out t.reported now.out t.sent t.sends t.ends.untouched; messages = rw c.1 says; status_is = c.0 ∙ after_turn (length (joined t.sent) == 0) 1 0 });
+        all = λ h text e. let r = rest_reported text (joined t.read) now.input.left (sym e ∙ t.left) in
             ap (λ x. found (input_outcome messages answer x)) (r.2 ∙ ap (λ rest. joined t.read ++ rest) (none_is now.input.left r.0 t.ends.none_left r.1) ∙ append-nil (joined t.read));
         cut = λ h. absurd (omega (arith, h, few));
         failures = record {
@@ -90,17 +90,17 @@ module _ (messages : Text) (answer : EventValue → Text) (status : ℕ) (before
         statuses = omega (arith, few);
       }
 
-  found_fault : (fault : TurnFault) → AnswersInput answer (Err fault) (devices_of before) (devices_of now) → Concludes (Err fault) status told now.err → (status ≡ 0 → ⊥) → Serves (λ text. found (input_outcome messages answer text)) status before now
-  found_fault fault t c n = serves_still messages answer status before now n (answers_serve messages answer status before now (inr (record { told = told; says = says; end = Err fault; answers = t; concludes = c })))
+  found_fault : (fault : TurnFault) → AnswersInput answer (Err fault) (devices_of before) (devices_of now) → Concludes (Err fault) status reported now.err → (status ≡ 0 → ⊥) → Serves (λ text. found (input_outcome messages answer text)) status before now
+  found_fault fault t c n = serves_still messages answer status before now n (answers_serve messages answer status before now (inr (record { reported = reported; says = says; end = Err fault; answers = t; concludes = c })))
 
-  found_by : (end : Result (Unit {0}) TurnFault) (t : AnswersInput answer end (devices_of before) (devices_of now)) → ConcludesFinding end t.sent status told now.err → Serves (λ text. found (input_outcome messages answer text)) status before now
+  found_by : (end : Result (Unit {0}) TurnFault) (t : AnswersInput answer end (devices_of before) (devices_of now)) → ConcludesFinding end t.sent status reported now.err → Serves (λ text. found (input_outcome messages answer text)) status before now
   found_by (Ok done) t c = found_well t c
-  found_by (Err Read) t c = found_fault Read t c (tells_some read_failed 3 status told now.err (omega arith) c)
-  found_by (Err Write) t c = found_fault Write t c (tells_some write_failed 3 status told now.err (omega arith) c)
-  found_by (Err (Session (Block number fault))) t c = found_fault (Session (Block number fault)) t c (tells_some (block_line number fault) 1 status told now.err (omega arith) c)
-  found_by (Err (Session Memory)) t c = found_fault (Session Memory) t c (tells_some out_of_memory 4 status told now.err (omega arith) c)
+  found_by (Err Read) t c = found_fault Read t c (reports_some read_failed 3 status reported now.err (omega arith) c)
+  found_by (Err Write) t c = found_fault Write t c (reports_some write_failed 3 status reported now.err (omega arith) c)
+  found_by (Err (Session (Block number fault))) t c = found_fault (Session (Block number fault)) t c (reports_some (block_line number fault) 1 status reported now.err (omega arith) c)
+  found_by (Err (Session Memory)) t c = found_fault (Session Memory) t c (reports_some out_of_memory 4 status reported now.err (omega arith) c)
   found_by (Err (Session Ended)) t c = absurd c
 
 pub finds_serve : (messages : Text) (answer : EventValue → Text) (status : ℕ) (before now : Streams) → FindsAll messages answer status before now → Serves (λ text. found (input_outcome messages answer text)) status before now
 finds_serve messages answer status before now (inl s) = serves_still messages answer status before now (stops_some messages status before now s) (answers_serve messages answer status before now (inl s))
-finds_serve messages answer status before now (inr b) = found_by messages answer status before now b.told b.says b.end b.answers b.concludes
+finds_serve messages answer status before now (inr b) = found_by messages answer status before now b.reported b.says b.end b.answers b.concludes

@@ -9,8 +9,8 @@ use Rattle.device_core.specs.RunBlocks.{most_bytes}
 use Rattle.engine_ends.specs.Sinks.{HandsOn, SinkState}
 use Rattle.engine_ends.specs.Sources.{SourceState}
 use Rattle.engine_ends.specs.Streams.{Streams}
-use Rattle.engine_sessions.specs.Sessions.{Held, Takes, opened}
-use Rattle.engine_sessions.specs.Turns.{FailsBy, Sends, Turns, due, joined, say_something}
+use Rattle.engine_sessions.specs.Sessions.{Held, SessionTakes, opened}
+use Rattle.engine_sessions.specs.Turns.{Sends, TurnFailsBy, Turns, due, joined, say_something}
 use Rattle.engine_sessions.specs.Inputs.{devices_of, most_turns}
 use Rattle.engine_sessions.specs.Findings.{AnswersFinding, FindsAll, TurnsFinding}
 use Rattle.engine_sessions.specs.Holding.{IsGoing}
@@ -38,7 +38,7 @@ pub sent_nothing : {A : Type 0} (answer : EventValue → Text) (old : Held A) (s
 sent_nothing answer old sink going = record { sent = sent-none answer old sink going; finds_is = sym (ap say_something (sent-none_texts answer old sink going)) }
 
 pub finding-more : {A : Type 0} (answer : EventValue → Text) (old now next : Held A) (part piece : Text) (step : Step) (before sink later : SinkState) (finds says : Bool)
-    → SentFinding answer old part now before sink finds → Takes answer now piece step next → Sends sink (option_to_list step.answer) later → says ≡ say_something (option_to_list step.answer)
+    → SentFinding answer old part now before sink finds → SessionTakes answer now piece step next → Sends sink (option_to_list step.answer) later → says ≡ say_something (option_to_list step.answer)
     → SentFinding answer old (part ++ take step.used piece) next before later (finds || says)
 finding-more answer old now next part piece step before sink later finds says s t k e = record {
   sent = sent-more answer old now next part piece step before sink later s.sent t k;
@@ -80,7 +80,7 @@ finding_finished answer first session next input now later output sink sink_late
 }
 
 pub finding_failed : {A : Type 0} (answer : EventValue → Text) (fault : TurnFault) (first session next : Held A) (input now later : SourceState) (output sink sink_later : SinkState) (turns : ℕ) (finds : Bool)
-    → ServedFinding answer first input now output sink session turns finds → FailsBy answer fault (at session now sink) (at next later sink_later) → AnswersFinding answer (Err fault) (shown input output) (shown later sink_later)
+    → ServedFinding answer first input now output sink session turns finds → TurnFailsBy answer fault (at session now sink) (at next later sink_later) → AnswersFinding answer (Err fault) (shown input output) (shown later sink_later)
 finding_failed answer fault first session next input now later output sink sink_later turns finds s f = record { answers = failed answer fault first session next input now later output sink sink_later turns s.served f; finds_is = tt }
 
 pub finding_used_up : {A : Type 0} (answer : EventValue → Text) (first session : Held A) (input now : SourceState) (output sink : SinkState) (finds : Bool) → ServedFinding answer first input now output sink session most_turns finds
@@ -88,6 +88,6 @@ pub finding_used_up : {A : Type 0} (answer : EventValue → Text) (first session
 finding_used_up answer first session input now output sink finds s = record { answers = used_up answer first session input now output sink s.served; finds_is = tt }
 
 -- all is answered, and what is found is reported by the status
-pub found_behind : (messages : Text) (answer : EventValue → Text) (finds : Bool) (status : ℕ) (before now : Streams) → HandsOn before.err messages now.err → AnswersFinding answer (Ok finds) (devices_of before) (devices_of now) → status ≡ cond finds 1 0
+pub found_after : (messages : Text) (answer : EventValue → Text) (finds : Bool) (status : ℕ) (before now : Streams) → HandsOn before.err messages now.err → AnswersFinding answer (Ok finds) (devices_of before) (devices_of now) → status ≡ cond finds 1 0
     → FindsAll messages answer status before now
-found_behind messages answer finds status before now h a e = inr (record { told = now.err; says = h; end = Ok tt; answers = a.answers; concludes = (e ∙ ap (λ b. cond b 1 0) a.finds_is, refl) })
+found_after messages answer finds status before now h a e = inr (record { reported = now.err; says = h; end = Ok tt; answers = a.answers; concludes = (e ∙ ap (λ b. cond b 1 0) a.finds_is, refl) })

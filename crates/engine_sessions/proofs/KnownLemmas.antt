@@ -13,7 +13,7 @@ use Rattle.device_core.specs.declared.faults.BlockFaultKind.TheVariants.{TooLong
 use Rattle.engine_sessions.specs.Known.{overlong, known_blocks}
 use Rattle.engine_sessions.specs.Holding.{IsRest}
 
--- a rest that fits is no block yet
+-- a rest that fits is not yet a block
 pub overlong-fits : (rest : Text) → length rest ≤ most_bytes → overlong rest ≡ []
 overlong-fits rest h = ap (λ b. cond b (rest ∷ []) []) (fits_is_good rest h)
 
@@ -29,14 +29,14 @@ known-append true s t =
 known-append false s t = runs-append s t
 
 -- what follows nothing but itself
-nothing_behind : (first second : List Text) → first ≡ first ++ second → second ≡ []
-nothing_behind [] second e = sym e
-nothing_behind (text ∷ first) second e = nothing_behind first second (ap (λ l. drop 1 l) e)
+nothing_after : (first second : List Text) → first ≡ first ++ second → second ≡ []
+nothing_after [] second e = sym e
+nothing_after (text ∷ first) second e = nothing_after first second (ap (λ l. drop 1 l) e)
 
 -- a rest has no run and is its own rest
 pub rest_is_rest : (text : Text) → length (rest_of text) ≤ most_bytes → IsRest (rest_of text)
 rest_is_rest text h = record {
-  none = nothing_behind (complete_runs text) (complete_runs (rest_of text))
+  none = nothing_after (complete_runs text) (complete_runs (rest_of text))
       (ap complete_runs (sym (append-nil text)) ∙ complete_runs-append text [] ∙ ap (λ r. complete_runs text ++ complete_runs r) (append-nil (rest_of text)));
   rest = sym (ap rest_of (sym (append-nil text)) ∙ rest_of-append text [] ∙ ap rest_of (append-nil (rest_of text)));
   fits = h;
@@ -46,9 +46,9 @@ rest_is_rest text h = record {
 pub known_first : (before piece block : Text) (used : ℕ) → complete_runs (before ++ take used piece) ≡ block ∷ [] → (others : List Text) × (known_blocks true (before ++ piece) ≡ block ∷ others)
 known_first before piece block used e =
     let s : Text = before ++ take used piece in
-    let behind : List Text = known_blocks true (rest_of s ++ drop used piece) in
+    let following : List Text = known_blocks true (rest_of s ++ drop used piece) in
     let whole : before ++ piece ≡ s ++ drop used piece = ap (λ l. before ++ l) (sym (take-append-drop used piece)) ∙ sym (append_assoc before (take used piece) (drop used piece)) in
-    (behind, ap (known_blocks true) whole ∙ known-append true s (drop used piece) ∙ ap (λ l. l ++ behind) e)
+    (following, ap (known_blocks true) whole ∙ known-append true s (drop used piece) ∙ ap (λ l. l ++ following) e)
 
 -- a run that is too long is a faulty block
 too_long_is : (run : Text) → most_bytes < length run → is_too_long run ≡ true
@@ -66,15 +66,15 @@ not_empty-is (byte ∷ rest) run others e = ap (first_or []) e
     first_or text [] = text
     first_or text (first ∷ texts) = first
 
--- the first of all runs is known where it is too long
+-- the first of all runs is known if it is too long
 long_first : (complete : List Text) (rest run : Text) (others : List Text) → complete ++ not_empty (rest ∷ []) ≡ run ∷ others → is_too_long run ≡ true → (known : List Text) × (complete ++ overlong rest ≡ run ∷ known)
 long_first [] rest run others e long =
     let is : rest ≡ run = not_empty-is rest run others e in
     ([], ap overlong is ∙ ap (λ b. cond b (run ∷ []) []) long)
 long_first (first ∷ complete) rest run others e long = (complete ++ overlong rest, ap (λ t. t ∷ (complete ++ overlong rest)) (head_is first (complete ++ not_empty (rest ∷ [])) run others e))
   where
-    head_is : (a : Text) (behind : List Text) (b : Text) (others : List Text) → a ∷ behind ≡ b ∷ others → a ≡ b
-    head_is a behind b others e = cc
+    head_is : (a : Text) (following : List Text) (b : Text) (others : List Text) → a ∷ following ≡ b ∷ others → a ≡ b
+    head_is a following b others e = cc
 
 pub known_too_long : (text : Text) (line : ℕ) → BeginsTooLong text line → (block : Text) × (others : List Text) × (known_blocks true text ≡ block ∷ others) × (block_gives block ≡ Err (record { line = line; kind = TooLong }))
 known_too_long text line b =

@@ -11,9 +11,9 @@ use Rattle.device_core.specs.Values.{EventValue}
 use Rattle.device_core.specs.Faults.{block_gives}
 use Rattle.device_core.specs.declared.faults.BlockFault.{BlockFault}
 use Rattle.device_core.specs.declared.faults.BlockFaultKind.TheVariants.{TooLong}
-use Rattle.engine_sessions.specs.Answers.{Answers, well, with_block, answers_to, answers_of, counted, number_behind}
+use Rattle.engine_sessions.specs.Answers.{Answers, well, with_block, answers_to, answers_of, counted, number_after}
 use Rattle.engine_sessions.specs.Known.{known_blocks}
-use Rattle.engine_sessions.specs.Sessions.{Held, opened, Takes, Ends, BeginsFaulty, FailsBy}
+use Rattle.engine_sessions.specs.Sessions.{Held, opened, SessionTakes, SessionEnds, BeginsFaulty, CallFailsBy}
 use Rattle.engine_sessions.specs.Calls.{Call, TakesAll, used_by, given_by, GiveAnswers, GiveAll, GiveUntil}
 use Rattle.engine_sessions.specs.declared.session.SessionFault.TheVariants.{Block}
 use Rattle.engine_sessions.proofs.KnownLemmas.{too_long_gives}
@@ -36,10 +36,10 @@ good_blocks answer (block ∷ blocks) (event ∷ events) e =
     let rest : map block_gives blocks ≡ map Ok events = ap (drop 1) e in
     ap (λ given. with_block answer given (answers_to answer blocks)) first ∙ ap (λ a. with_block answer (Ok event) a) (good_blocks answer blocks events rest)
 
-pub faulty_behind : (answer : EventValue → Text) (before : List Text) (texts : List Text) (block : Text) (fault : BlockFault) (behind : List Text) → answers_to answer before ≡ well texts → block_gives block ≡ Err fault
-    → answers_to answer (before ++ block ∷ behind) ≡ until texts fault
-faulty_behind answer before texts block fault behind e f =
-    answers_to-append answer before (block ∷ behind) texts e ∙ ap (with_texts texts) (answers_to-faulty answer block behind fault f) ∙ ap (λ l. until l fault) (append-nil texts)
+pub faulty_after : (answer : EventValue → Text) (before : List Text) (texts : List Text) (block : Text) (fault : BlockFault) (following : List Text) → answers_to answer before ≡ well texts → block_gives block ≡ Err fault
+    → answers_to answer (before ++ block ∷ following) ≡ until texts fault
+faulty_after answer before texts block fault following e f =
+    answers_to-append answer before (block ∷ following) texts e ∙ ap (with_texts texts) (answers_to-faulty answer block following fault f) ∙ ap (λ l. until l fault) (append-nil texts)
 
 -- nothing after a faulty block counts
 stays_block : (answer : EventValue → Text) (given : Result EventValue BlockFault) (first all : Answers) (texts : List Text) (fault : BlockFault)
@@ -67,8 +67,8 @@ not_nothing : (rest : Text) → most_bytes < length rest → rest ≢ []
 not_nothing [] h e = absurd (omega arith)
 not_nothing (byte ∷ rest) h e = absurd cc
 
-long_goes_on : (answer : EventValue → Text) (text later : Text) → is_too_long (rest_of text) ≡ true → answers_to answer (runs (rest_of text ++ later)) ≡ answers_to answer (rest_of text ∷ [])
-long_goes_on answer text later e =
+long_proceeds : (answer : EventValue → Text) (text later : Text) → is_too_long (rest_of text) ≡ true → answers_to answer (runs (rest_of text ++ later)) ≡ answers_to answer (rest_of text ∷ [])
+long_proceeds answer text later e =
     let rest : Text = rest_of text in
     let long : most_bytes < length rest = long_rest rest e in
     let first = runs-rest text later (not_nothing rest long) in
@@ -76,9 +76,9 @@ long_goes_on answer text later e =
     let gives : block_gives (rest ++ first.more) ≡ Err (record { line = line_of_excess rest; kind = TooLong }) = too_long_gives (rest ++ first.more) longer ∙ ap (λ n. Err (record { line = n; kind = TooLong })) (same_line rest first.more long) in
     ap (answers_to answer) first.is ∙ answers_to-faulty answer (rest ++ first.more) first.others _ gives ∙ sym (answers_to-faulty answer rest [] _ (too_long_gives rest long))
 
--- the answers of a longer input, where those before the rest are well
-pub behind_well : (answer : EventValue → Text) (text later : Text) (texts : List Text) → answers_to answer (complete_runs text) ≡ well texts → answers_of answer (text ++ later) ≡ with_texts texts (answers_of answer (rest_of text ++ later))
-behind_well answer text later texts e = ap (answers_to answer) (runs-append text later) ∙ answers_to-append answer (complete_runs text) (runs (rest_of text ++ later)) texts e
+-- the answers of a longer input, if those before the rest are well
+pub after_well : (answer : EventValue → Text) (text later : Text) (texts : List Text) → answers_to answer (complete_runs text) ≡ well texts → answers_of answer (text ++ later) ≡ with_texts texts (answers_of answer (rest_of text ++ later))
+after_well answer text later texts e = ap (answers_to answer) (runs-append text later) ∙ answers_to-append answer (complete_runs text) (runs (rest_of text ++ later)) texts e
 
 differ : (texts others : List Text) (fault : BlockFault) → well texts ≡ until others fault → ⊥
 differ texts others fault e = let both : None ≡ Some fault = ap (λ a. a.fault) e in absurd cc
@@ -90,16 +90,16 @@ known_well answer text texts long e h (Some fault) f =
     let both : None ≡ Some fault = ap (λ a. a.fault) (sym h ∙ until-append answer (complete_runs text) (cond long (rest_of text ∷ []) []) _ fault first) in
     absurd cc
 known_well answer text texts true e h None f =
-    let whole = faulty_behind answer (complete_runs text) _ (rest_of text) _ [] (well_texts (answers_to answer (complete_runs text)) f) (too_long_gives (rest_of text) (long_rest (rest_of text) e)) in
+    let whole = faulty_after answer (complete_runs text) _ (rest_of text) _ [] (well_texts (answers_to answer (complete_runs text)) f) (too_long_gives (rest_of text) (long_rest (rest_of text) e)) in
     absurd (differ texts _ _ (sym h ∙ whole))
 known_well answer text texts false e h None f = ap (answers_to answer) (sym (append-nil (complete_runs text))) ∙ h
 
--- the answers to the complete runs, where those to the blocks known are well
+-- the answers to the complete runs, if those to the blocks known are well
 pub complete_well : (answer : EventValue → Text) (text : Text) (texts : List Text) → answers_to answer (known_blocks true text) ≡ well texts → answers_to answer (complete_runs text) ≡ well texts
 complete_well answer text texts h = known_well answer text texts (is_too_long (rest_of text)) refl h (answers_to answer (complete_runs text)).fault refl
 
 pub stays_well : (answer : EventValue → Text) (text later : Text) (texts : List Text) → answers_to answer (known_blocks true text) ≡ well texts → answers_of answer (text ++ later) ≡ with_texts texts (answers_of answer (rest_of text ++ later))
-stays_well answer text later texts h = behind_well answer text later texts (complete_well answer text texts h)
+stays_well answer text later texts h = after_well answer text later texts (complete_well answer text texts h)
 
 known_faulty : (answer : EventValue → Text) (text later : Text) (texts : List Text) (fault : BlockFault) (long : Bool) → is_too_long (rest_of text) ≡ long → answers_to answer (complete_runs text ++ cond long (rest_of text ∷ []) []) ≡ until texts fault
     → (given : Option BlockFault) → (answers_to answer (complete_runs text)).fault ≡ given → answers_of answer (text ++ later) ≡ until texts fault
@@ -111,7 +111,7 @@ known_faulty answer text later texts fault long e h (Some other) f =
 known_faulty answer text later texts fault true e h None f =
     let some : List Text = (answers_to answer (complete_runs text)).texts in
     let first = well_texts (answers_to answer (complete_runs text)) f in
-    behind_well answer text later some first ∙ ap (with_texts some) (long_goes_on answer text later e)
+    after_well answer text later some first ∙ ap (with_texts some) (long_proceeds answer text later e)
     ∙ sym (answers_to-append answer (complete_runs text) (rest_of text ∷ []) some first) ∙ h
 known_faulty answer text later texts fault false e h None f =
     let none : None ≡ Some fault = sym f ∙ ap (λ a. a.fault) (ap (answers_to answer) (sym (append-nil (complete_runs text))) ∙ h) in
@@ -121,10 +121,10 @@ pub stays_faulty : (answer : EventValue → Text) (text later : Text) (texts : L
 stays_faulty answer text later texts fault h = known_faulty answer text later texts fault (is_too_long (rest_of text)) refl h (answers_to answer (complete_runs text)).fault refl
 
 -- the first answers to an input are those to the blocks known of its first bytes
-pub first_answers : (answer : EventValue → Text) (text later : Text) → (behind : List Text) × ((answers_of answer (text ++ later)).texts ≡ (answers_to answer (known_blocks true text)).texts ++ behind)
+pub first_answers : (answer : EventValue → Text) (text later : Text) → (following : List Text) × ((answers_of answer (text ++ later)).texts ≡ (answers_to answer (known_blocks true text)).texts ++ following)
 first_answers answer text later = by_fault (answers_to answer (known_blocks true text)).fault refl
   where
-    by_fault : (given : Option BlockFault) → (answers_to answer (known_blocks true text)).fault ≡ given → (behind : List Text) × ((answers_of answer (text ++ later)).texts ≡ (answers_to answer (known_blocks true text)).texts ++ behind)
+    by_fault : (given : Option BlockFault) → (answers_to answer (known_blocks true text)).fault ≡ given → (following : List Text) × ((answers_of answer (text ++ later)).texts ≡ (answers_to answer (known_blocks true text)).texts ++ following)
     by_fault None f = ((answers_of answer (rest_of text ++ later)).texts, ap (λ a. a.texts) (stays_well answer text later (answers_to answer (known_blocks true text)).texts (well_texts (answers_to answer (known_blocks true text)) f)))
     by_fault (Some fault) f =
         let known : answers_to answer (known_blocks true text) ≡ until (answers_to answer (known_blocks true text)).texts fault = ap (λ (x : Option BlockFault). record { texts = (answers_to answer (known_blocks true text)).texts; fault = x }) f in
@@ -136,7 +136,7 @@ pub record Given {A : Type 0} (answer : EventValue → Text) (text : Text) (text
   pub pending : rest_of text ≡ now.pending
   pub answered : now.answered ≡ counted (length texts)
 
-one_call : {A : Type 0} (answer : EventValue → Text) (call : Call A) (old : Held A) (text : Text) (texts : List Text) → Given answer text texts old → Takes answer old call.piece call.step call.after
+one_call : {A : Type 0} (answer : EventValue → Text) (call : Call A) (old : Held A) (text : Text) (texts : List Text) → Given answer text texts old → SessionTakes answer old call.piece call.step call.after
     → Given answer (text ++ take call.step.used call.piece) (texts ++ option_to_list call.step.answer) call.after
 one_call answer call old text texts g t =
     let used : Text = take call.step.used call.piece in
@@ -164,34 +164,34 @@ pub give_answers : {A : Type 0} (answer : EventValue → Text) (answering : A) (
 give_answers answer answering calls now h = let g = from_start answer answering calls now h in record { answers = g.answers; pending = sym g.pending; answered = g.answered }
 
 -- the answers to all that was used and what follows it
-behind_calls : {A : Type 0} (answer : EventValue → Text) (calls : List (Call A)) (now : Held A) (later : Text) → Given answer (used_by calls) (given_by calls) now → answers_of answer (used_by calls ++ later) ≡ with_texts (given_by calls) (answers_of answer (now.pending ++ later))
-behind_calls answer calls now later g = behind_well answer (used_by calls) later (given_by calls) g.answers ∙ ap (λ rest. with_texts (given_by calls) (answers_of answer (rest ++ later))) g.pending
+after_calls : {A : Type 0} (answer : EventValue → Text) (calls : List (Call A)) (now : Held A) (later : Text) → Given answer (used_by calls) (given_by calls) now → answers_of answer (used_by calls ++ later) ≡ with_texts (given_by calls) (answers_of answer (now.pending ++ later))
+after_calls answer calls now later g = after_well answer (used_by calls) later (given_by calls) g.answers ∙ ap (λ rest. with_texts (given_by calls) (answers_of answer (rest ++ later))) g.pending
 
 at_end : {A : Type 0} (answer : EventValue → Text) (calls : List (Call A)) (now : Held A) → Given answer (used_by calls) (given_by calls) now → answers_of answer (used_by calls) ≡ with_texts (given_by calls) (answers_of answer now.pending)
-at_end answer calls now g = ap (answers_of answer) (sym (append-nil (used_by calls))) ∙ behind_calls answer calls now [] g ∙ ap (λ text. with_texts (given_by calls) (answers_of answer text)) (append-nil now.pending)
+at_end answer calls now g = ap (answers_of answer) (sym (append-nil (used_by calls))) ∙ after_calls answer calls now [] g ∙ ap (λ text. with_texts (given_by calls) (answers_of answer text)) (append-nil now.pending)
 
-pub give_all : {A : Type 0} (answer : EventValue → Text) (answering : A) (calls : List (Call A)) (now last : Held A) (given : Option Text) → TakesAll answer (opened answering) calls now → Ends answer now given last → GiveAll answer calls given
+pub give_all : {A : Type 0} (answer : EventValue → Text) (answering : A) (calls : List (Call A)) (now last : Held A) (given : Option Text) → TakesAll answer (opened answering) calls now → SessionEnds answer now given last → GiveAll answer calls given
 give_all answer answering calls now last given h e = at_end answer calls now (from_start answer answering calls now h) ∙ ap (with_texts (given_by calls)) e.answers
 
 first_is_faulty : {A : Type 0} (answer : EventValue → Text) (now : Held A) (blocks : List Text) (number : ℕ) (fault : BlockFault) → BeginsFaulty now blocks number fault → answers_to answer blocks ≡ until [] fault
 first_is_faulty answer now blocks number fault b = ap (answers_to answer) b.first ∙ answers_to-faulty answer b.block b.others fault b.gives
 
-number_is : {A : Type 0} (answer : EventValue → Text) (calls : List (Call A)) (now : Held A) (blocks : List Text) (number : ℕ) (fault : BlockFault) → Given answer (used_by calls) (given_by calls) now → BeginsFaulty now blocks number fault → number ≡ number_behind (length (given_by calls))
-number_is answer calls now blocks number fault g b = b.numbered ∙ ap number_behind g.answered ∙ counted-add (length (given_by calls)) 1
+number_is : {A : Type 0} (answer : EventValue → Text) (calls : List (Call A)) (now : Held A) (blocks : List Text) (number : ℕ) (fault : BlockFault) → Given answer (used_by calls) (given_by calls) now → BeginsFaulty now blocks number fault → number ≡ number_after (length (given_by calls))
+number_is answer calls now blocks number fault g b = b.numbered ∙ ap number_after g.answered ∙ counted-add (length (given_by calls)) 1
 
 pub give_until : {A : Type 0} (answer : EventValue → Text) (answering : A) (calls : List (Call A)) (now last : Held A) (piece later : Text) (number : ℕ) (fault : BlockFault) → TakesAll answer (opened answering) calls now
-    → FailsBy (Block number fault) now (known_blocks true (now.pending ++ piece)) last → GiveUntil answer (used_by calls ++ piece ++ later) (given_by calls) number fault
+    → CallFailsBy (Block number fault) now (known_blocks true (now.pending ++ piece)) last → GiveUntil answer (used_by calls ++ piece ++ later) (given_by calls) number fault
 give_until answer answering calls now last piece later number fault h f =
     let g = from_start answer answering calls now h in
     let rest : answers_of answer (now.pending ++ (piece ++ later)) ≡ until [] fault =
     ap (answers_of answer) (sym (append_assoc now.pending piece later)) ∙ stays_faulty answer (now.pending ++ piece) later [] fault (first_is_faulty answer now (known_blocks true (now.pending ++ piece)) number fault f.0) in
     record {
-      answers = ap (answers_of answer) (append_assoc (used_by calls) piece later) ∙ behind_calls answer calls now (piece ++ later) g ∙ ap (with_texts (given_by calls)) rest ∙ ap (λ l. until l fault) (append-nil (given_by calls));
+      answers = ap (answers_of answer) (append_assoc (used_by calls) piece later) ∙ after_calls answer calls now (piece ++ later) g ∙ ap (with_texts (given_by calls)) rest ∙ ap (λ l. until l fault) (append-nil (given_by calls));
       numbered = number_is answer calls now (known_blocks true (now.pending ++ piece)) number fault g f.0;
     }
 
 pub give_until_end : {A : Type 0} (answer : EventValue → Text) (answering : A) (calls : List (Call A)) (now last : Held A) (number : ℕ) (fault : BlockFault) → TakesAll answer (opened answering) calls now
-    → FailsBy (Block number fault) now (known_blocks false now.pending) last → GiveUntil answer (used_by calls) (given_by calls) number fault
+    → CallFailsBy (Block number fault) now (known_blocks false now.pending) last → GiveUntil answer (used_by calls) (given_by calls) number fault
 give_until_end answer answering calls now last number fault h f =
     let g = from_start answer answering calls now h in
     record {

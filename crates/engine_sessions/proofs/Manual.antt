@@ -49,12 +49,12 @@ manual_block block e h = manual_if (is_too_long block) (lines block) (record { l
 same_profile : (p : Profile) (e : EventValue) → e.profile ≡ p → by_profile p e ≡ e
 same_profile p e h = ap (λ q. by_profile q e) (sym h)
 
-same_block : (answer : EventValue → Text) (given : Result EventValue BlockFault) (behind same : Answers) → ((e : EventValue) → given ≡ Ok e → e.profile ≡ Manual) → behind ≡ same
-    → with_block (answers_as Manual answer) given behind ≡ with_block answer given same
-same_block answer (Ok e) behind same manual h =
+same_block : (answer : EventValue → Text) (given : Result EventValue BlockFault) (following same : Answers) → ((e : EventValue) → given ≡ Ok e → e.profile ≡ Manual) → following ≡ same
+    → with_block (answers_as Manual answer) given following ≡ with_block answer given same
+same_block answer (Ok e) following same manual h =
     ap (with_block (answers_as Manual answer) (Ok e)) h
     ∙ ap (λ (text : Text). record { texts = text ∷ same.texts; fault = same.fault }) (ap answer (same_profile Manual e (manual e refl)))
-same_block answer (Err fault) behind same manual h = refl
+same_block answer (Err fault) following same manual h = refl
 
 same_answers : (answer : EventValue → Text) (blocks : List Text) → answers_to (answers_as Manual answer) blocks ≡ answers_to answer blocks
 same_answers answer [] = refl

@@ -8,23 +8,23 @@ use Rattle.text_tables.specs.Texts.{Text}
 use Rattle.device_core.specs.Runs.{complete_runs, rest_of, not_empty}
 use Rattle.device_core.specs.Values.{EventValue}
 use Rattle.device_core.specs.declared.faults.BlockFault.{BlockFault}
-use Rattle.engine_ends.specs.Told.{followed_by, led_by, NoneLeft}
+use Rattle.engine_ends.specs.Reported.{followed_by, led_by, NoneLeft}
 use Rattle.engine_ends.specs.Counts.{Counts}
 use Rattle.engine_ends.specs.Sinks.{BreaksOff, HandsOn, SinkState}
 use Rattle.engine_ends.specs.Streams.{Streams, outputs}
-use Rattle.engine_ends.proofs.Told.{followed_by-append, followed_by-nil}
-use Rattle.engine_sessions.specs.Answers.{answers_to, answers_of, well, number_behind}
-use Rattle.engine_sessions.specs.Turns.{Sends, flushed_behind, joined}
+use Rattle.engine_ends.proofs.Reported.{followed_by-append, followed_by-nil}
+use Rattle.engine_sessions.specs.Answers.{answers_to, answers_of, well, number_after}
+use Rattle.engine_sessions.specs.Turns.{Sends, flushed_after, joined}
 use Rattle.engine_sessions.specs.declared.session.SessionFault.TheVariants.{Block, Memory, Ended}
 use Rattle.engine_sessions.specs.declared.turning.TurnFault.{TurnFault}
 use Rattle.engine_sessions.specs.declared.turning.TurnFault.TheVariants.{Read, Write, Session}
 use Rattle.engine_sessions.proofs.AnswerLemmas.{answers_to-append}
 use Rattle.engine_sessions.proofs.LawLemmas.{until}
-use Rattle.engine_ends.specs.Delivery.{Delivers, Outcome, Tells, out_of_memory, write_failed}
+use Rattle.engine_ends.specs.Delivery.{Delivers, ReportsFailure, RunOutcome, out_of_memory, write_failed}
 use Rattle.engine_sessions.specs.BlockFaults.{block_line}
 use Rattle.engine_sessions.specs.Inputs.{AnswersInput, devices_of}
 use Rattle.engine_sessions.specs.Outcomes.{answered, answered_until, input_outcome}
-use Rattle.engine_sessions.specs.Serves.{read_failed, WritesOut, HasBegun, IsWhole, IsStatusLine, IsCutShort, TellsFailures, Serves, Concludes, StopsBefore, AnswersAll, Reports}
+use Rattle.engine_sessions.specs.Serves.{read_failed, WritesOut, HasBegun, IsWhole, IsStatusLine, IsCutShort, ReportsFailures, Serves, Concludes, StopsBefore, AnswersAll, Reports}
 
 pub not_four : (status : ℕ) {P : Type 0} → status ≡ 3 → status ≡ 4 → P
 not_four status e f = absurd (omega (arith, e, f))
@@ -44,49 +44,49 @@ begun-taken before now text e = (length text, omega arith, e ∙ ap (followed_by
 pub begun-first : (before now : SinkState) (first second : Text) → HasBegun before first now → HasBegun before (first ++ second) now
 begun-first before now first second b = (b.0, omega (arith, b.1, length-append first second), b.2 ∙ ap (followed_by before.taken) (sym (take-append-le b.0 first second b.1)))
 
-pub begun-behind : (before told now : SinkState) (first second : Text) → told.taken ≡ followed_by before.taken first → HasBegun told second now → HasBegun before (first ++ second) now
-begun-behind before told now first second e b = (
+pub begun-following : (before reported now : SinkState) (first second : Text) → reported.taken ≡ followed_by before.taken first → HasBegun reported second now → HasBegun before (first ++ second) now
+begun-following before reported now first second e b = (
   length first + b.0,
   omega (arith, b.1, length-append first second),
   b.2 ∙ ap (λ t. followed_by t (take b.0 second)) e ∙ followed_by-append before.taken first (take b.0 second) ∙ ap (followed_by before.taken) (sym (take-append-add first second b.0)),
 )
 
-pub tells_begun : (line : Text) (wanted status : ℕ) (told now : SinkState) → Tells line wanted status told now → HasBegun told line now
-tells_begun line wanted status told now (inl p) = begun-taken told now line p.1.taken
-tells_begun line wanted status told now (inr p) = p.1.taken
+pub reports_begun : (line : Text) (wanted status : ℕ) (reported now : SinkState) → ReportsFailure line wanted status reported now → HasBegun reported line now
+reports_begun line wanted status reported now (inl p) = begun-taken reported now line p.1.taken
+reports_begun line wanted status reported now (inr p) = p.1.taken
 
 -- a run that is cut short, by the line that says about it
-pub cut_by : (outcome : Outcome) (status : ℕ) (before now : Streams) (told : SinkState) (line : Text) → IsStatusLine line → HasBegun before.out outcome.output now.out → HasBegun before.err outcome.messages told → HasBegun told line now.err
-    → (status ≡ 4 → HandsOn told out_of_memory now.err) → IsCutShort outcome status before now
-cut_by outcome status before now told line is output messages begun memory = record { output = output; told = told; messages = messages; line = line; line_is = is; begun = begun; memory = memory }
+pub cut_by : (outcome : RunOutcome) (status : ℕ) (before now : Streams) (reported : SinkState) (line : Text) → IsStatusLine line → HasBegun before.out outcome.output now.out → HasBegun before.err outcome.messages reported → HasBegun reported line now.err
+    → (status ≡ 4 → HandsOn reported out_of_memory now.err) → IsCutShort outcome status before now
+cut_by outcome status before now reported line is output messages begun memory = record { output = output; reported = reported; messages = messages; line = line; line_is = is; begun = begun; memory = memory }
 
-pub at_memory : (status : ℕ) (told now : SinkState) → Tells out_of_memory 4 status told now → status ≡ 4 → HandsOn told out_of_memory now
-at_memory status told now (inl p) e = p.1
-at_memory status told now (inr p) e = not_four status p.0 e
+pub at_memory : (status : ℕ) (reported now : SinkState) → ReportsFailure out_of_memory 4 status reported now → status ≡ 4 → HandsOn reported out_of_memory now
+at_memory status reported now (inl p) e = p.1
+at_memory status reported now (inr p) e = not_four status p.0 e
 
-pub memory_status : (status : ℕ) (told now : SinkState) → Tells out_of_memory 4 status told now → 3 ≤ status
-memory_status status told now (inl p) = omega (arith, p.0)
-memory_status status told now (inr p) = omega (arith, p.0)
+pub memory_status : (status : ℕ) (reported now : SinkState) → ReportsFailure out_of_memory 4 status reported now → 3 ≤ status
+memory_status status reported now (inl p) = omega (arith, p.0)
+memory_status status reported now (inr p) = omega (arith, p.0)
 
-pub memory_most : (status : ℕ) (told now : SinkState) → Tells out_of_memory 4 status told now → status ≤ 4
-memory_most status told now (inl p) = omega (arith, p.0)
-memory_most status told now (inr p) = omega (arith, p.0)
+pub memory_most : (status : ℕ) (reported now : SinkState) → ReportsFailure out_of_memory 4 status reported now → status ≤ 4
+memory_most status reported now (inl p) = omega (arith, p.0)
+memory_most status reported now (inr p) = omega (arith, p.0)
 
 -- what was refused
-pub refused_cut : (outcome : Outcome) (status : ℕ) (before now : Streams) → now.out ≡ before.out → Tells out_of_memory 4 status before.err now.err → IsCutShort outcome status before now
-refused_cut outcome status before now untouched tells =
-    cut_by outcome status before now before.err out_of_memory (inr (inr (inr refl))) (begun-same before.out now.out outcome.output untouched) (begun-none before.err outcome.messages) (tells_begun out_of_memory 4 status before.err now.err tells) (at_memory status before.err now.err tells)
+pub refused_cut : (outcome : RunOutcome) (status : ℕ) (before now : Streams) → now.out ≡ before.out → ReportsFailure out_of_memory 4 status before.err now.err → IsCutShort outcome status before now
+refused_cut outcome status before now untouched reports =
+    cut_by outcome status before now before.err out_of_memory (inr (inr (inr refl))) (begun-same before.out now.out outcome.output untouched) (begun-none before.err outcome.messages) (reports_begun out_of_memory 4 status before.err now.err reports) (at_memory status before.err now.err reports)
 
 -- what the error output broke off in
-pub messages_cut : (outcome : Outcome) (status : ℕ) (before now : Streams) → now.out ≡ before.out → status ≡ 3 → HasBegun before.err outcome.messages now.err → IsCutShort outcome status before now
+pub messages_cut : (outcome : RunOutcome) (status : ℕ) (before now : Streams) → now.out ≡ before.out → status ≡ 3 → HasBegun before.err outcome.messages now.err → IsCutShort outcome status before now
 messages_cut outcome status before now untouched e begun =
     cut_by outcome status before now now.err [] (inl refl) (begun-same before.out now.out outcome.output untouched) begun (begun-none now.err []) (not_four status e)
 
-report_cut : (outcome : Outcome) (status : ℕ) (before now : Streams) → Delivers outcome status (outputs before) (outputs now) → (status ≡ 3) ⊎ (status ≡ 4) → IsCutShort outcome status before now
+report_cut : (outcome : RunOutcome) (status : ℕ) (before now : Streams) → Delivers outcome status (outputs before) (outputs now) → (status ≡ 3) ⊎ (status ≡ 4) → IsCutShort outcome status before now
 report_cut outcome status before now d (inl e) = elim (d.failed e) [
   | inl f ↦ messages_cut outcome status before now f.untouched e f.messages.taken
   | inr rest ↦ elim rest [
-    | inl f ↦ cut_by outcome status before now f.told write_failed (inr (inr (inl refl))) f.output.taken (begun-taken before.err f.told outcome.messages f.messages.taken) (tells_begun write_failed 3 status f.told now.err f.line) (not_four status e)
+    | inl f ↦ cut_by outcome status before now f.reported write_failed (inr (inr (inl refl))) f.output.taken (begun-taken before.err f.reported outcome.messages f.messages.taken) (reports_begun write_failed 3 status f.reported now.err f.line) (not_four status e)
     | inr f ↦ refused_cut outcome status before now f.untouched f.line
   ]
 ]
@@ -100,7 +100,7 @@ three_or_four status h k = by_case (cases_lt status 4)
     by_case (inr l) = inr (omega (arith, k, l))
 
 -- what is said of files is served, whatever the input
-pub reports_serve : (outcome : Text → Outcome) (said : Outcome) (status : ℕ) (before now : Streams) → ((text : Text) → outcome text ≡ said) → Reports said status before now → Serves outcome status before now
+pub reports_serve : (outcome : Text → RunOutcome) (said : RunOutcome) (status : ℕ) (before now : Streams) → ((text : Text) → outcome text ≡ said) → Reports said status before now → Serves outcome status before now
 reports_serve outcome said status before now same r = record {
   read = [];
   pieces = ap (λ s. s.pieces) r.unread ∙ sym (followed_by-nil before.input.pieces);
@@ -116,22 +116,22 @@ reports_serve outcome said status before now same r = record {
 }
 
 -- messages are the first of what is reported
-opening_first : (messages : Text) (output : Text) (count : ℕ) (fault : Option BlockFault) (err told : SinkState) → told.taken ≡ followed_by err.taken messages → HasBegun err (answered_until messages output count fault).messages told
-opening_first messages output count None err told e = begun-taken err told messages e
-opening_first messages output count (Some fault) err told e = begun-first err told messages (block_line (number_behind count) fault) (begun-taken err told messages e)
+opening_first : (messages : Text) (output : Text) (count : ℕ) (fault : Option BlockFault) (err reported : SinkState) → reported.taken ≡ followed_by err.taken messages → HasBegun err (answered_until messages output count fault).messages reported
+opening_first messages output count None err reported e = begun-taken err reported messages e
+opening_first messages output count (Some fault) err reported e = begun-first err reported messages (block_line (number_after count) fault) (begun-taken err reported messages e)
 
--- the outcome, where the answers are known
+-- the outcome, if the answers are known
 pub outcome_well : (messages : Text) (answer : EventValue → Text) (text : Text) (sent : List Text) → answers_of answer text ≡ well sent → input_outcome messages answer text ≡ record { output = joined sent; messages = messages; status = 0 }
 outcome_well messages answer text sent e = ap (answered messages) e
 
-outcome_faulty : (messages : Text) (answer : EventValue → Text) (text : Text) (sent : List Text) (number : ℕ) (fault : BlockFault) → answers_of answer text ≡ until sent fault → number ≡ number_behind (length sent)
+outcome_faulty : (messages : Text) (answer : EventValue → Text) (text : Text) (sent : List Text) (number : ℕ) (fault : BlockFault) → answers_of answer text ≡ until sent fault → number ≡ number_after (length sent)
     → input_outcome messages answer text ≡ record { output = joined sent; messages = messages ++ block_line number fault; status = 1 }
 outcome_faulty messages answer text sent number fault e n = ap (answered messages) e ∙ ap (λ k. record { output = joined sent; messages = messages ++ block_line k fault; status = 1 }) (sym n)
 
 -- a text that is reported, by what was read of it and what is left
-pub rest_told : (text first : Text) (left : Option Text) → Some text ≡ led_by first left → (rest : Text) × (left ≡ Some rest) × (text ≡ first ++ rest)
-rest_told text first None e = absurd cc
-rest_told text first (Some rest) e = (rest, refl, some_is text (first ++ rest) e)
+pub rest_reported : (text first : Text) (left : Option Text) → Some text ≡ led_by first left → (rest : Text) × (left ≡ Some rest) × (text ≡ first ++ rest)
+rest_reported text first None e = absurd cc
+rest_reported text first (Some rest) e = (rest, refl, some_is text (first ++ rest) e)
   where
     some_is : (a b : Text) → Some a ≡ Some b → a ≡ b
     some_is a b e = cc
@@ -144,15 +144,15 @@ none_is (Some other) rest h e = let same : other ≡ rest = some_is other rest e
     some_is a b e = cc
 
 -- what is flushed after answers, by their text
-sent_flushed : (out told : SinkState) (sent : List Text) → told.flushed ≡ flushed_behind out sent told → (told.flushed ≡ told.taken) ⊎ ((joined sent ≡ []) × (told.flushed ≡ out.flushed))
-sent_flushed out told [] e = inr (refl, e)
-sent_flushed out told (text ∷ sent) e = inl e
+sent_flushed : (out reported : SinkState) (sent : List Text) → reported.flushed ≡ flushed_after out sent reported → (reported.flushed ≡ reported.taken) ⊎ ((joined sent ≡ []) × (reported.flushed ≡ out.flushed))
+sent_flushed out reported [] e = inr (refl, e)
+sent_flushed out reported (text ∷ sent) e = inl e
 
-pub sends_output : (out told out_now : SinkState) (sent : List Text) → Sends out sent told → out_now ≡ told → WritesOut out (joined sent) out_now
-sends_output out told out_now sent s e = rw e (record { taken = s.taken; flushed = sent_flushed out told sent s.flushed; well = s.well })
+pub sends_output : (out reported out_now : SinkState) (sent : List Text) → Sends out sent reported → out_now ≡ reported → WritesOut out (joined sent) out_now
+sends_output out reported out_now sent s e = rw e (record { taken = s.taken; flushed = sent_flushed out reported sent s.flushed; well = s.well })
 
-pub hands_behind : (err told err_now : SinkState) (first second : Text) → HandsOn err first told → HandsOn told second err_now → HandsOn err (first ++ second) err_now
-hands_behind err told err_now first second h k = record {
+pub hands_after : (err reported err_now : SinkState) (first second : Text) → HandsOn err first reported → HandsOn reported second err_now → HandsOn err (first ++ second) err_now
+hands_after err reported err_now first second h k = record {
   taken = k.taken ∙ ap (λ t. followed_by t second) h.taken ∙ followed_by-append err.taken first second;
   flushed = k.flushed;
   well = k.well ∙ h.well;
@@ -164,29 +164,29 @@ output_is messages output count None = refl
 output_is messages output count (Some fault) = refl
 
 -- the answers sent are the first of all
-sent_begun : (out told out_now : SinkState) (sent : List Text) (unsent : List Text) (texts : List Text) → texts ≡ sent ++ unsent → Sends out sent told → HasBegun told (joined unsent) out_now → HasBegun out (joined texts) out_now
-sent_begun out told out_now sent unsent texts e s b =
-    subst (λ text. HasBegun out text out_now) (sym (ap joined e ∙ flat_map-append (λ text. text) sent unsent)) (begun-behind out told out_now (joined sent) (joined unsent) s.taken b)
+sent_begun : (out reported out_now : SinkState) (sent : List Text) (unsent : List Text) (texts : List Text) → texts ≡ sent ++ unsent → Sends out sent reported → HasBegun reported (joined unsent) out_now → HasBegun out (joined texts) out_now
+sent_begun out reported out_now sent unsent texts e s b =
+    subst (λ text. HasBegun out text out_now) (sym (ap joined e ∙ flat_map-append (λ text. text) sent unsent)) (begun-following out reported out_now (joined sent) (joined unsent) s.taken b)
 
 read_first : (answer : EventValue → Text) (text : Text) (sent : List Text) → answers_to answer (complete_runs text) ≡ well sent → (answers_of answer text).texts ≡ sent ++ (answers_to answer (not_empty (rest_of text ∷ []))).texts
 read_first answer text sent e = ap (λ a. a.texts) (answers_to-append answer (complete_runs text) (not_empty (rest_of text ∷ [])) sent e)
 
-module _ (messages : Text) (answer : EventValue → Text) (status : ℕ) (before now : Streams) (told : SinkState) (says : HandsOn before.err messages told) where
-  first_told : (text : Text) → HasBegun before.err (input_outcome messages answer text).messages told
-  first_told text = opening_first messages (joined (answers_of answer text).texts) (length (answers_of answer text).texts) (answers_of answer text).fault before.err told says.taken
+module _ (messages : Text) (answer : EventValue → Text) (status : ℕ) (before now : Streams) (reported : SinkState) (says : HandsOn before.err messages reported) where
+  first_reported : (text : Text) → HasBegun before.err (input_outcome messages answer text).messages reported
+  first_reported text = opening_first messages (joined (answers_of answer text).texts) (length (answers_of answer text).texts) (answers_of answer text).fault before.err reported says.taken
 
   output_begun : (text : Text) → HasBegun before.out (joined (answers_of answer text).texts) now.out → HasBegun before.out (input_outcome messages answer text).output now.out
   output_begun text b = subst (λ o. HasBegun before.out o now.out) (sym (output_is messages (joined (answers_of answer text).texts) (length (answers_of answer text).texts) (answers_of answer text).fault)) b
 
-  served_well : (t : AnswersInput answer (Ok tt) (devices_of before) (devices_of now)) → Concludes (Ok tt) status told now.err → Serves (input_outcome messages answer) status before now
+  served_well : (t : AnswersInput answer (Ok tt) (devices_of before) (devices_of now)) → Concludes (Ok tt) status reported now.err → Serves (input_outcome messages answer) status before now
   served_well t c =
       let is = outcome_well messages answer (joined t.read) t.sent t.ends.answers in
       record {
         read = t.read;
         pieces = t.pieces;
         whole = λ h. subst (λ o. IsWhole o status before now) (sym is)
-            (record { output = sends_output before.out t.told now.out t.sent t.sends t.ends.untouched; messages = rw c.1 says; status_is = c.0 });
-        all = λ h text e. let r = rest_told text (joined t.read) now.input.left (sym e ∙ t.left) in
+            (record { output = sends_output before.out t.reported now.out t.sent t.sends t.ends.untouched; messages = rw c.1 says; status_is = c.0 });
+        all = λ h text e. let r = rest_reported text (joined t.read) now.input.left (sym e ∙ t.left) in
             ap (input_outcome messages answer) (r.2 ∙ ap (λ rest. joined t.read ++ rest) (none_is now.input.left r.0 t.ends.none_left r.1) ∙ append-nil (joined t.read));
         cut = λ h. absurd (omega (arith, h, c.0));
         failures = record {
@@ -196,15 +196,15 @@ module _ (messages : Text) (answer : EventValue → Text) (status : ℕ) (before
         statuses = omega (arith, c.0);
       }
 
-  served_read : (t : AnswersInput answer (Err Read) (devices_of before) (devices_of now)) → Concludes (Err Read) status told now.err → status ≡ 3 → Serves (input_outcome messages answer) status before now
+  served_read : (t : AnswersInput answer (Err Read) (devices_of before) (devices_of now)) → Concludes (Err Read) status reported now.err → status ≡ 3 → Serves (input_outcome messages answer) status before now
   served_read t c e = record {
     read = t.read;
     pieces = t.pieces;
     whole = not_under status (omega (arith, e));
     all = not_under status (omega (arith, e));
-    cut = λ h. cut_by (input_outcome messages answer (joined t.read)) status before now told read_failed (inr (inl refl))
-        (output_begun (joined t.read) (sent_begun before.out t.told now.out t.sent _ (answers_of answer (joined t.read)).texts (read_first answer (joined t.read) t.sent t.ends.0) t.sends (rw t.ends.1 (begun-none t.told _))))
-        (first_told (joined t.read)) (tells_begun read_failed 3 status told now.err c) (not_four status e);
+    cut = λ h. cut_by (input_outcome messages answer (joined t.read)) status before now reported read_failed (inr (inl refl))
+        (output_begun (joined t.read) (sent_begun before.out t.reported now.out t.sent _ (answers_of answer (joined t.read)).texts (read_first answer (joined t.read) t.sent t.ends.0) t.sends (rw t.ends.1 (begun-none t.reported _))))
+        (first_reported (joined t.read)) (reports_begun read_failed 3 status reported now.err c) (not_four status e);
     failures = record {
       failed = λ f. elim t.counts [ inl c ↦ inl c.failed | inr c ↦ inr (inr (inr c.0)) ];
       well = λ h. absurd (h e);
@@ -212,15 +212,15 @@ module _ (messages : Text) (answer : EventValue → Text) (status : ℕ) (before
     statuses = omega (arith, e);
   }
 
-  served_write : (t : AnswersInput answer (Err Write) (devices_of before) (devices_of now)) → Concludes (Err Write) status told now.err → status ≡ 3 → Serves (input_outcome messages answer) status before now
+  served_write : (t : AnswersInput answer (Err Write) (devices_of before) (devices_of now)) → Concludes (Err Write) status reported now.err → status ≡ 3 → Serves (input_outcome messages answer) status before now
   served_write t c e = record {
     read = t.read;
     pieces = t.pieces;
     whole = not_under status (omega (arith, e));
     all = not_under status (omega (arith, e));
-    cut = λ h. cut_by (input_outcome messages answer (joined t.read)) status before now told write_failed (inr (inr (inl refl)))
-        (output_begun (joined t.read) (sent_begun before.out t.told now.out t.sent (t.ends.next ∷ t.ends.unsent) (answers_of answer (joined t.read)).texts t.ends.answers t.sends (begun-first t.told now.out t.ends.next (joined t.ends.unsent) t.ends.breaks.taken)))
-        (first_told (joined t.read)) (tells_begun write_failed 3 status told now.err c) (not_four status e);
+    cut = λ h. cut_by (input_outcome messages answer (joined t.read)) status before now reported write_failed (inr (inr (inl refl)))
+        (output_begun (joined t.read) (sent_begun before.out t.reported now.out t.sent (t.ends.next ∷ t.ends.unsent) (answers_of answer (joined t.read)).texts t.ends.answers t.sends (begun-first t.reported now.out t.ends.next (joined t.ends.unsent) t.ends.breaks.taken)))
+        (first_reported (joined t.read)) (reports_begun write_failed 3 status reported now.err c) (not_four status e);
     failures = record {
       failed = λ f. inr (inl (subst (λ n. Counts 1 n now.out.faults) t.sends.well t.ends.breaks.failed));
       well = λ h. absurd (h e);
@@ -228,32 +228,32 @@ module _ (messages : Text) (answer : EventValue → Text) (status : ℕ) (before
     statuses = omega (arith, e);
   }
 
-  served_memory : (t : AnswersInput answer (Err (Session Memory)) (devices_of before) (devices_of now)) → Concludes (Err (Session Memory)) status told now.err → Serves (input_outcome messages answer) status before now
+  served_memory : (t : AnswersInput answer (Err (Session Memory)) (devices_of before) (devices_of now)) → Concludes (Err (Session Memory)) status reported now.err → Serves (input_outcome messages answer) status before now
   served_memory t c = record {
     read = t.read;
     pieces = t.pieces;
-    whole = not_under status (memory_status status told now.err c);
-    all = not_under status (memory_status status told now.err c);
-    cut = λ h. cut_by (input_outcome messages answer (joined t.read)) status before now told out_of_memory (inr (inr (inr refl)))
-        (output_begun (joined t.read) (sent_begun before.out t.told now.out t.sent t.ends.unsent (answers_of answer (joined t.read)).texts t.ends.answers t.sends (rw t.ends.untouched (begun-none t.told (joined t.ends.unsent)))))
-        (first_told (joined t.read)) (tells_begun out_of_memory 4 status told now.err c) (at_memory status told now.err c);
-    failures = told_failures c t.counts.well (ap (λ s. s.faults) t.ends.untouched ∙ t.sends.well);
-    statuses = memory_most status told now.err c;
+    whole = not_under status (memory_status status reported now.err c);
+    all = not_under status (memory_status status reported now.err c);
+    cut = λ h. cut_by (input_outcome messages answer (joined t.read)) status before now reported out_of_memory (inr (inr (inr refl)))
+        (output_begun (joined t.read) (sent_begun before.out t.reported now.out t.sent t.ends.unsent (answers_of answer (joined t.read)).texts t.ends.answers t.sends (rw t.ends.untouched (begun-none t.reported (joined t.ends.unsent)))))
+        (first_reported (joined t.read)) (reports_begun out_of_memory 4 status reported now.err c) (at_memory status reported now.err c);
+    failures = reported_failures c t.counts.well (ap (λ s. s.faults) t.ends.untouched ∙ t.sends.well);
+    statuses = memory_most status reported now.err c;
   }
     where
-      told_failures : Tells out_of_memory 4 status told now.err → now.input.faults ≡ before.input.faults → now.out.faults ≡ before.out.faults → TellsFailures status (length t.read) before now
-      told_failures (inl p) e f = record { failed = λ g. not_four status g p.0; well = λ h. (e, f, p.1.well ∙ says.well) }
-      told_failures (inr p) e f = record { failed = λ g. inr (inr (inl (subst (λ n. Counts 1 n now.err.faults) says.well p.1.failed))); well = λ h. absurd (h p.0) }
+      reported_failures : ReportsFailure out_of_memory 4 status reported now.err → now.input.faults ≡ before.input.faults → now.out.faults ≡ before.out.faults → ReportsFailures status (length t.read) before now
+      reported_failures (inl p) e f = record { failed = λ g. not_four status g p.0; well = λ h. (e, f, p.1.well ∙ says.well) }
+      reported_failures (inr p) e f = record { failed = λ g. inr (inr (inl (subst (λ n. Counts 1 n now.err.faults) says.well p.1.failed))); well = λ h. absurd (h p.0) }
 
-  served_block : (number : ℕ) (fault : BlockFault) (t : AnswersInput answer (Err (Session (Block number fault))) (devices_of before) (devices_of now)) → Concludes (Err (Session (Block number fault))) status told now.err → Serves (input_outcome messages answer) status before now
+  served_block : (number : ℕ) (fault : BlockFault) (t : AnswersInput answer (Err (Session (Block number fault))) (devices_of before) (devices_of now)) → Concludes (Err (Session (Block number fault))) status reported now.err → Serves (input_outcome messages answer) status before now
   served_block number fault t (inl p) =
       let is = outcome_faulty messages answer (joined t.read) t.sent number fault t.ends.0.answers t.ends.0.numbered in
       record {
         read = t.read;
         pieces = t.pieces;
         whole = λ h. subst (λ o. IsWhole o status before now) (sym is)
-            (record { output = sends_output before.out t.told now.out t.sent t.sends t.ends.1; messages = hands_behind before.err told now.err messages (block_line number fault) says p.1; status_is = p.0 });
-        all = λ h text e. let r = rest_told text (joined t.read) now.input.left (sym e ∙ t.left) in
+            (record { output = sends_output before.out t.reported now.out t.sent t.sends t.ends.1; messages = hands_after before.err reported now.err messages (block_line number fault) says p.1; status_is = p.0 });
+        all = λ h text e. let r = rest_reported text (joined t.read) now.input.left (sym e ∙ t.left) in
             ap (input_outcome messages answer) r.2 ∙ outcome_faulty messages answer (joined t.read ++ r.0) t.sent number fault (t.ends.0.stays r.0 r.1) t.ends.0.numbered ∙ sym is;
         cut = λ h. absurd (omega (arith, h, p.0));
         failures = record {
@@ -271,7 +271,7 @@ module _ (messages : Text) (answer : EventValue → Text) (status : ℕ) (before
         all = not_under status (omega (arith, p.0));
         cut = λ h. subst (λ o. IsCutShort o status before now) (sym is)
             (cut_by (record { output = joined t.sent; messages = messages ++ block_line number fault; status = 1 }) status before now now.err [] (inl refl)
-            (begun-taken before.out now.out (joined t.sent) (ap (λ s. s.taken) t.ends.1 ∙ t.sends.taken)) (begun-behind before.err told now.err messages (block_line number fault) says.taken p.1.taken) (begun-none now.err []) (not_four status p.0));
+            (begun-taken before.out now.out (joined t.sent) (ap (λ s. s.taken) t.ends.1 ∙ t.sends.taken)) (begun-following before.err reported now.err messages (block_line number fault) says.taken p.1.taken) (begun-none now.err []) (not_four status p.0));
         failures = record {
           failed = λ g. inr (inr (inl (subst (λ n. Counts 1 n now.err.faults) says.well p.1.failed)));
           well = λ h. absurd (h p.0);
@@ -279,17 +279,17 @@ module _ (messages : Text) (answer : EventValue → Text) (status : ℕ) (before
         statuses = omega (arith, p.0);
       }
 
-  three : (line : Text) → Tells line 3 status told now.err → status ≡ 3
+  three : (line : Text) → ReportsFailure line 3 status reported now.err → status ≡ 3
   three line (inl p) = p.0
   three line (inr p) = p.0
 
-  served_behind : (end : Result (Unit {0}) TurnFault) → AnswersInput answer end (devices_of before) (devices_of now) → Concludes end status told now.err → Serves (input_outcome messages answer) status before now
-  served_behind (Ok done) t c = served_well t c
-  served_behind (Err Read) t c = served_read t c (three read_failed c)
-  served_behind (Err Write) t c = served_write t c (three write_failed c)
-  served_behind (Err (Session (Block number fault))) t c = served_block number fault t c
-  served_behind (Err (Session Memory)) t c = served_memory t c
-  served_behind (Err (Session Ended)) t c = absurd c
+  served_after : (end : Result (Unit {0}) TurnFault) → AnswersInput answer end (devices_of before) (devices_of now) → Concludes end status reported now.err → Serves (input_outcome messages answer) status before now
+  served_after (Ok done) t c = served_well t c
+  served_after (Err Read) t c = served_read t c (three read_failed c)
+  served_after (Err Write) t c = served_write t c (three write_failed c)
+  served_after (Err (Session (Block number fault))) t c = served_block number fault t c
+  served_after (Err (Session Memory)) t c = served_memory t c
+  served_after (Err (Session Ended)) t c = absurd c
 
 -- nothing was read or answered
 served_before : (messages : Text) (answer : EventValue → Text) (status : ℕ) (before now : Streams) → StopsBefore messages status before now
@@ -297,26 +297,26 @@ served_before : (messages : Text) (answer : EventValue → Text) (status : ℕ) 
 served_before messages answer status before now s = record {
   read = [];
   pieces = ap (λ x. x.pieces) s.unread ∙ sym (followed_by-nil before.input.pieces);
-  whole = not_under status (least s.tells);
-  all = not_under status (least s.tells);
-  cut = λ h. cuts s.tells;
-  failures = fails s.tells;
-  statuses = most s.tells;
+  whole = not_under status (least s.reports);
+  all = not_under status (least s.reports);
+  cut = λ h. cuts s.reports;
+  failures = fails s.reports;
+  statuses = most s.reports;
 }
   where
-    least : ((status ≡ 3) × BreaksOff before.err messages now.err) ⊎ Tells out_of_memory 4 status before.err now.err → 3 ≤ status
+    least : ((status ≡ 3) × BreaksOff before.err messages now.err) ⊎ ReportsFailure out_of_memory 4 status before.err now.err → 3 ≤ status
     least (inl p) = omega (arith, p.0)
     least (inr p) = memory_status status before.err now.err p
 
-    most : ((status ≡ 3) × BreaksOff before.err messages now.err) ⊎ Tells out_of_memory 4 status before.err now.err → status ≤ 4
+    most : ((status ≡ 3) × BreaksOff before.err messages now.err) ⊎ ReportsFailure out_of_memory 4 status before.err now.err → status ≤ 4
     most (inl p) = omega (arith, p.0)
     most (inr p) = memory_most status before.err now.err p
 
-    cuts : ((status ≡ 3) × BreaksOff before.err messages now.err) ⊎ Tells out_of_memory 4 status before.err now.err → IsCutShort (input_outcome messages answer []) status before now
+    cuts : ((status ≡ 3) × BreaksOff before.err messages now.err) ⊎ ReportsFailure out_of_memory 4 status before.err now.err → IsCutShort (input_outcome messages answer []) status before now
     cuts (inl p) = messages_cut (input_outcome messages answer []) status before now s.unanswered p.0 p.1.taken
     cuts (inr p) = refused_cut (input_outcome messages answer []) status before now s.unanswered p
 
-    fails : ((status ≡ 3) × BreaksOff before.err messages now.err) ⊎ Tells out_of_memory 4 status before.err now.err → TellsFailures status 0 before now
+    fails : ((status ≡ 3) × BreaksOff before.err messages now.err) ⊎ ReportsFailure out_of_memory 4 status before.err now.err → ReportsFailures status 0 before now
     fails (inl p) = record { failed = λ e. inr (inr (inl p.1.failed)); well = λ h. absurd (h p.0) }
     fails (inr (inl p)) = record { failed = λ e. not_four status e p.0; well = λ h. (ap (λ x. x.faults) s.unread, ap (λ x. x.faults) s.unanswered, p.1.well) }
     fails (inr (inr p)) = record { failed = λ e. inr (inr (inl p.1.failed)); well = λ h. absurd (h p.0) }
@@ -325,4 +325,4 @@ served_before messages answer status before now s = record {
 pub answers_serve : (messages : Text) (answer : EventValue → Text) (status : ℕ) (before now : Streams) → AnswersAll messages answer status before now
     → Serves (input_outcome messages answer) status before now
 answers_serve messages answer status before now (inl s) = served_before messages answer status before now s
-answers_serve messages answer status before now (inr b) = served_behind messages answer status before now b.told b.says b.end b.answers b.concludes
+answers_serve messages answer status before now (inr b) = served_after messages answer status before now b.reported b.says b.end b.answers b.concludes

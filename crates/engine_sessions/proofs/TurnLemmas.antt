@@ -12,10 +12,10 @@ use Rattle.device_core.proofs.Law.{complete_runs-append, rest_of-append}
 use Rattle.device_core.specs.Values.{EventValue}
 use Rattle.engine_ends.specs.Sinks.{SinkState}
 use Rattle.engine_ends.specs.Sources.{SourceState}
-use Rattle.engine_sessions.specs.Answers.{answers_to, well, counted, number_behind}
+use Rattle.engine_sessions.specs.Answers.{answers_to, well, counted, number_after}
 use Rattle.engine_sessions.specs.Known.{known_blocks}
-use Rattle.engine_sessions.specs.Sessions.{Held, closed, Takes, Ends, FailsBy}
-use Rattle.engine_sessions.specs.Turns.{HasEnded, Sends, Situation, SendsDue, SendsUntil, due, Reads, FailsBy as TurnFailsBy}
+use Rattle.engine_sessions.specs.Sessions.{Held, closed, SessionTakes, SessionEnds, CallFailsBy}
+use Rattle.engine_sessions.specs.Turns.{HasEnded, Sends, Situation, SendsDue, SendsUntil, due, Reads, TurnFailsBy}
 use Rattle.engine_sessions.specs.Holding.{IsGoing, IsOpen, held, BreaksOffAt}
 use Rattle.engine_sessions.specs.declared.session.Step.{Step}
 use Rattle.engine_sessions.specs.declared.session.SessionFault.{SessionFault}
@@ -48,7 +48,7 @@ sent-none answer old sink going = record {
 }
   where
     leaves_old : (pending : Text) (answered : ℕ) → pending ≡ old.pending → answered ≡ old.answered → old ≡ record { answering = old.answering; pending = pending; answered = answered; ended = false }
-    leaves_old pending answered e f = rw (e, f, ← going.goes_on) refl
+    leaves_old pending answered e f = rw (e, f, ← going.proceeds) refl
 
 -- what follows the part taken
 pending_is : {A : Type 0} (answer : EventValue → Text) (old now : Held A) (part : Text) (before sink : SinkState) → Sent answer old part now before sink → rest_of (old.pending ++ part) ≡ now.pending
@@ -65,7 +65,7 @@ sum_is answered texts more = omega (arith, length-append texts more)
 
 -- one more step
 pub sent-more : {A : Type 0} (answer : EventValue → Text) (old now next : Held A) (part piece : Text) (step : Step) (before sink later : SinkState)
-    → Sent answer old part now before sink → Takes answer now piece step next → Sends sink (option_to_list step.answer) later → Sent answer old (part ++ take step.used piece) next before later
+    → Sent answer old part now before sink → SessionTakes answer now piece step next → Sends sink (option_to_list step.answer) later → Sent answer old (part ++ take step.used piece) next before later
 sent-more answer old now next part piece step before sink later s t k =
     let used : Text = take step.used piece in
     let more : List Text = option_to_list step.answer in
@@ -90,7 +90,7 @@ unfolding sent-none
 sent-none_texts answer old sink going = refl
 
 pub sent-more_texts : {A : Type 0} (answer : EventValue → Text) (old now next : Held A) (part piece : Text) (step : Step) (before sink later : SinkState)
-    → (s : Sent answer old part now before sink) (t : Takes answer now piece step next) (k : Sends sink (option_to_list step.answer) later)
+    → (s : Sent answer old part now before sink) (t : SessionTakes answer now piece step next) (k : Sends sink (option_to_list step.answer) later)
     → (sent-more answer old now next part piece step before sink later s t k).texts ≡ s.texts ++ option_to_list step.answer
 unfolding sent-more
 sent-more_texts answer old now next part piece step before sink later s t k = refl
@@ -117,7 +117,7 @@ sent-all_texts answer old now piece before sink s = refl
 
 -- a later call of the session fails
 pub sent-fails : {A : Type 0} (answer : EventValue → Text) (more : Bool) (fault : SessionFault) (old now next : Held A) (part piece : Text) (before sink : SinkState)
-    → Sent answer old part now before sink → FailsBy fault now (known_blocks more (now.pending ++ piece)) next → SendsUntil (Session fault) (due answer more old.pending (part ++ piece)) old.answered before sink
+    → Sent answer old part now before sink → CallFailsBy fault now (known_blocks more (now.pending ++ piece)) next → SendsUntil (Session fault) (due answer more old.pending (part ++ piece)) old.answered before sink
 sent-fails answer more (Block number fault) old now next part piece before sink s f =
     let first = f.0 in
     let faulty : due answer more now.pending piece ≡ record { texts = []; fault = Some fault } = ap (answers_to answer) first.first ∙ answers_to-faulty answer first.block first.others fault first.gives in
@@ -125,7 +125,7 @@ sent-fails answer more (Block number fault) old now next part piece before sink 
     due_more answer more old now part piece before sink s ∙ ap (with_texts s.texts) faulty ∙ ap (λ l. record { texts = l; fault = Some fault }) (append-nil s.texts) in
     rw all (record {
       faulty = refl;
-      numbered = first.numbered ∙ ap (λ h. number_behind h.answered) s.leaves ∙ counted-add (old.answered + length s.texts) 1;
+      numbered = first.numbered ∙ ap (λ h. number_after h.answered) s.leaves ∙ counted-add (old.answered + length s.texts) 1;
       sends = s.sends;
     })
 sent-fails answer more Memory old now next part piece before sink s f = record {
@@ -138,11 +138,11 @@ sent-fails answer more Ended old now next part piece before sink s f = let both 
 
 -- the output breaks off at the answer of the next step
 pub sent-breaks : {A : Type 0} (answer : EventValue → Text) (old now next : Held A) (part piece : Text) (step : Step) (before sink later : SinkState)
-    → Sent answer old part now before sink → Takes answer now piece step next → BreaksOffAt sink step.answer later → SendsUntil Write (due answer true old.pending (part ++ piece)) old.answered before later
+    → Sent answer old part now before sink → SessionTakes answer now piece step next → BreaksOffAt sink step.answer later → SendsUntil Write (due answer true old.pending (part ++ piece)) old.answered before later
 sent-breaks answer old now next part piece step before sink later s t b = at_answer step.answer refl b
   where
-    behind_it : (text : Text) → step.answer ≡ Some text → due answer true now.pending piece ≡ with_texts (text ∷ []) (answers_to answer (known_blocks true (rest_of (now.pending ++ take step.used piece) ++ drop step.used piece)))
-    behind_it text e =
+    after_it : (text : Text) → step.answer ≡ Some text → due answer true now.pending piece ≡ with_texts (text ∷ []) (answers_to answer (known_blocks true (rest_of (now.pending ++ take step.used piece) ++ drop step.used piece)))
+    after_it text e =
         ap (λ l. due answer true now.pending l) (sym (take-append-drop step.used piece))
         ∙ ap (answers_to answer) (known_more true now.pending (take step.used piece) (drop step.used piece) (rest_of (now.pending ++ take step.used piece)) refl)
         ∙ answers_to-append answer (complete_runs (now.pending ++ take step.used piece)) (known_blocks true (rest_of (now.pending ++ take step.used piece) ++ drop step.used piece)) (text ∷ []) (t.answers ∙ ap (λ a. well (option_to_list a)) e)
@@ -153,14 +153,14 @@ sent-breaks answer old now next part piece step before sink later s t b = at_ans
       sent = s.texts;
       next = text;
       unsent = (answers_to answer (known_blocks true (rest_of (now.pending ++ take step.used piece) ++ drop step.used piece))).texts;
-      texts_are = ap (λ a. a.texts) (due_more answer true old now part piece before sink s ∙ ap (with_texts s.texts) (behind_it text e));
-      told = sink;
+      texts_are = ap (λ a. a.texts) (due_more answer true old now part piece before sink s ∙ ap (with_texts s.texts) (after_it text e));
+      reported = sink;
       sends = s.sends;
       breaks = b;
     }
 
 -- the end of an input
-pub end_sends : {A : Type 0} (answer : EventValue → Text) (old now : Held A) (last : Option Text) (before sink : SinkState) → Ends answer old last now → Sends before (option_to_list last) sink → SendsDue answer false old [] now before sink
+pub end_sends : {A : Type 0} (answer : EventValue → Text) (old now : Held A) (last : Option Text) (before sink : SinkState) → SessionEnds answer old last now → Sends before (option_to_list last) sink → SendsDue answer false old [] now before sink
 end_sends answer old now last before sink e k = record {
   texts = option_to_list last;
   answers = ap (λ text. answers_to answer (runs text)) (append-nil old.pending) ∙ e.answers;
@@ -168,19 +168,19 @@ end_sends answer old now last before sink e k = record {
   leaves = e.leaves;
 }
 
-pub end_breaks : {A : Type 0} (answer : EventValue → Text) (old now : Held A) (last : Option Text) (before sink : SinkState) → Ends answer old last now → BreaksOffAt before last sink → SendsUntil Write (due answer false old.pending []) old.answered before sink
+pub end_breaks : {A : Type 0} (answer : EventValue → Text) (old now : Held A) (last : Option Text) (before sink : SinkState) → SessionEnds answer old last now → BreaksOffAt before last sink → SendsUntil Write (due answer false old.pending []) old.answered before sink
 end_breaks answer old now None before sink e b = absurd b
 end_breaks answer old now (Some text) before sink e b = record {
   sent = [];
   next = text;
   unsent = [];
   texts_are = ap (λ a. a.texts) (ap (λ t. answers_to answer (runs t)) (append-nil old.pending) ∙ e.answers);
-  told = before;
+  reported = before;
   sends = sends-none before;
   breaks = b;
 }
 
-pub end_fails : {A : Type 0} (answer : EventValue → Text) (fault : SessionFault) (old next : Held A) (sink : SinkState) → IsGoing old → FailsBy fault old (known_blocks false old.pending) next → SendsUntil (Session fault) (due answer false old.pending []) old.answered sink sink
+pub end_fails : {A : Type 0} (answer : EventValue → Text) (fault : SessionFault) (old next : Held A) (sink : SinkState) → IsGoing old → CallFailsBy fault old (known_blocks false old.pending) next → SendsUntil (Session fault) (due answer false old.pending []) old.answered sink sink
 end_fails answer fault old next sink going f =
     sent-fails answer false fault old old next [] [] sink sink (sent-none answer old sink going) (rw (append-nil) f)
 
@@ -196,32 +196,32 @@ part_more piece done used = sym (take-add done used piece)
 pub answering_is : {A : Type 0} (answer : EventValue → Text) (old now : Held A) (part : Text) (before sink : SinkState) → Sent answer old part now before sink → now.answering ≡ old.answering
 answering_is answer old now part before sink s = ap (λ h. h.answering) s.leaves
 
-pub going_on : {A : Type 0} (answer : EventValue → Text) (old now : Held A) (part : Text) (before sink : SinkState) → Sent answer old part now before sink → now.ended ≡ false
-going_on answer old now part before sink s = ap (λ h. h.ended) s.leaves
+pub proceeding : {A : Type 0} (answer : EventValue → Text) (old now : Held A) (part : Text) (before sink : SinkState) → Sent answer old part now before sink → now.ended ≡ false
+proceeding answer old now part before sink s = ap (λ h. h.ended) s.leaves
 
 pub going_is : {A : Type 0} (answering : A) (split : Split) (answered : ℕ) (ended : Bool) → ended ≡ false → IsOpen split answered → IsGoing (held answering split.pending answered ended)
 going_is answering split answered true e h = absurd cc
-going_is answering split answered false e h = record { goes_on = refl; pending = h.pending; counts = h.counts }
+going_is answering split answered false e h = record { proceeds = refl; pending = h.pending; counts = h.counts }
 
 pub gone_is : {A : Type 0} (answering : A) (pending : Text) (answered : ℕ) (ended : Bool) → ended ≡ true → (held answering pending answered ended).pending ≡ []
 gone_is answering pending answered true e = refl
 gone_is answering pending answered false e = absurd cc
 
 -- a session that is closed after some calls has ended
-ended_behind : {A : Type 0} (old now : Held A) → now.answering ≡ old.answering → HasEnded old (closed now)
-ended_behind old now e = rw e refl
+ended_after : {A : Type 0} (old now : Held A) → now.answering ≡ old.answering → HasEnded old (closed now)
+ended_after old now e = rw e refl
 
 -- a call of the session fails after others
-pub ended_by : {A : Type 0} (fault : SessionFault) (old now next : Held A) (blocks : List Text) → now.answering ≡ old.answering → now.ended ≡ false → FailsBy fault now blocks next → HasEnded old next
-ended_by (Block number fault) old now next blocks e going f = rw f.2 (ended_behind old now e)
-ended_by Memory old now next blocks e going f = rw f.1 (ended_behind old now e)
+pub ended_by : {A : Type 0} (fault : SessionFault) (old now next : Held A) (blocks : List Text) → now.answering ≡ old.answering → now.ended ≡ false → CallFailsBy fault now blocks next → HasEnded old next
+ended_by (Block number fault) old now next blocks e going f = rw f.2 (ended_after old now e)
+ended_by Memory old now next blocks e going f = rw f.1 (ended_after old now e)
 ended_by Ended old now next blocks e going f = let both : true ≡ false = sym f.0 ∙ going in absurd cc
 
 -- a turn that fails after its read
 pub turn_fails : {A : Type 0} (answer : EventValue → Text) (fault : TurnFault) (old : Held A) (input input_now : SourceState) (output output_now : SinkState) (more : Bool) (piece : Text)
     → old.ended ≡ false → Reads more input piece input_now → SendsUntil fault (due answer more old.pending piece) old.answered output output_now → (new : Held A) → TurnFailsBy answer fault (at old input output) (at new input_now output_now)
 turn_fails answer Read old input input_now output output_now more piece going reads s new = absurd s
-turn_fails answer Write old input input_now output output_now more piece going reads s new = record { goes_on = going; more = more; piece = piece; reads = reads; sends = s }
-turn_fails answer (Session (Block number fault)) old input input_now output output_now more piece going reads s new = record { goes_on = going; more = more; piece = piece; reads = reads; sends = s }
-turn_fails answer (Session Memory) old input input_now output output_now more piece going reads s new = record { goes_on = going; more = more; piece = piece; reads = reads; sends = s }
+turn_fails answer Write old input input_now output output_now more piece going reads s new = record { proceeds = going; more = more; piece = piece; reads = reads; sends = s }
+turn_fails answer (Session (Block number fault)) old input input_now output output_now more piece going reads s new = record { proceeds = going; more = more; piece = piece; reads = reads; sends = s }
+turn_fails answer (Session Memory) old input input_now output output_now more piece going reads s new = record { proceeds = going; more = more; piece = piece; reads = reads; sends = s }
 turn_fails answer (Session Ended) old input input_now output output_now more piece going reads s new = absurd s

@@ -10,22 +10,22 @@ use Rattle.device_core.specs.RunBlocks.{most_bytes}
 use Rattle.device_core.proofs.Law.{complete_runs-append, rest_of-append}
 use Rattle.device_core.specs.Values.{EventValue}
 use Rattle.device_core.specs.declared.faults.BlockFault.{BlockFault}
-use Rattle.engine_ends.specs.Told.{followed_by, led_by, NoneLeft}
+use Rattle.engine_ends.specs.Reported.{followed_by, led_by, NoneLeft}
 use Rattle.engine_ends.specs.Counts.{Counts}
 use Rattle.engine_ends.specs.Sources.{Gives, SourceFails, SourceState}
 use Rattle.engine_ends.specs.Sinks.{SinkState}
 use Rattle.engine_ends.proofs.Counting.{counts-none, counts-more}
-use Rattle.engine_ends.proofs.Told.{followed_by-append, followed_by-nil}
-use Rattle.engine_sessions.specs.Answers.{Answers, answers_to, answers_of, well, counted, number_behind}
+use Rattle.engine_ends.proofs.Reported.{followed_by-append, followed_by-nil}
+use Rattle.engine_sessions.specs.Answers.{Answers, answers_to, answers_of, well, counted, number_after}
 use Rattle.engine_sessions.specs.Sessions.{Held, opened}
-use Rattle.engine_sessions.specs.Turns.{Sends, joined, Reads, SendsDue, due, Refuses, Turns, FailsBy}
+use Rattle.engine_sessions.specs.Turns.{Sends, joined, Reads, SendsDue, due, Refuses, Turns, TurnFailsBy}
 use Rattle.engine_sessions.specs.declared.session.SessionFault.TheVariants.{Block, Memory, Ended}
 use Rattle.engine_sessions.specs.declared.turning.TurnFault.{TurnFault}
 use Rattle.engine_sessions.specs.declared.turning.TurnFault.TheVariants.{Read, Write, Session}
 use Rattle.engine_sessions.proofs.AnswerLemmas.{with_texts, answers_to-append, counted-add}
 use Rattle.engine_sessions.proofs.SendLemmas.{sends-none, sends-more}
 use Rattle.engine_sessions.proofs.TurnLemmas.{at}
-use Rattle.engine_sessions.proofs.LawLemmas.{Given, until, complete_well, behind_well, first_answers, stays_faulty}
+use Rattle.engine_sessions.proofs.LawLemmas.{Given, until, complete_well, after_well, first_answers, stays_faulty}
 use Rattle.engine_sessions.specs.Inputs.{most_turns, all_but_last, HasSentDue, Devices, HoldsFew, StopsAtBlock, ReadsWell, ReadsToFault, AnswersInput}
 
 -- no more is held, neither before one of these pieces nor after them, than a block may have
@@ -38,20 +38,20 @@ pub record Served {A : Type 0} (answer : EventValue → Text) (first : Held A) (
   pub pieces : now.pieces ≡ followed_by input.pieces read
   pub left : input.left ≡ led_by (joined read) now.left
   pub counts : ReadsWell turns input now
-  pub turned : length read ≡ turns
+  pub after_turn : length read ≡ turns
   pub fits : HoldsUpTo read
   pub sent : List Text
   pub sends : Sends output sent sink
   pub due : HasSentDue answer read sent
   pub given : Given answer (joined read) sent session
-  pub goes_on : session.ended ≡ false
+  pub proceeds : session.ended ≡ false
   pub answering : session.answering ≡ first.answering
 
-pub led_by-nil : (told : Option Text) → led_by [] told ≡ told
+pub led_by-nil : (reported : Option Text) → led_by [] reported ≡ reported
 led_by-nil None = refl
 led_by-nil (Some rest) = refl
 
-led_by-append : (first second : Text) (told : Option Text) → led_by first (led_by second told) ≡ led_by (first ++ second) told
+led_by-append : (first second : Text) (reported : Option Text) → led_by first (led_by second reported) ≡ led_by (first ++ second) reported
 led_by-append first second None = refl
 led_by-append first second (Some rest) = ap Some (sym (append_assoc first second rest))
 
@@ -66,19 +66,19 @@ due_at_start : (answer : EventValue → Text) → HasSentDue answer [] []
 due_at_start answer = ([], refl)
 
 -- what is due after one more piece
-due_behind : (answer : EventValue → Text) (read : List Text) (piece : Text) (sent more : List Text) → answers_to answer (complete_runs (joined read)) ≡ well sent → HasSentDue answer (read ++ piece ∷ []) (sent ++ more)
-due_behind answer read piece sent more e =
+due_after : (answer : EventValue → Text) (read : List Text) (piece : Text) (sent more : List Text) → answers_to answer (complete_runs (joined read)) ≡ well sent → HasSentDue answer (read ++ piece ∷ []) (sent ++ more)
+due_after answer read piece sent more e =
     (more, ap (λ texts. texts ++ more) (sym (ap (λ pieces. (answers_to answer (complete_runs (joined pieces))).texts) (all_but_last-push read piece) ∙ ap (λ a. a.texts) e)))
 
 pub one_more : (input now later : SourceState) (read : List Text) (piece : Text) → now.pieces ≡ followed_by input.pieces read → later.pieces ≡ followed_by now.pieces (piece ∷ []) → later.pieces ≡ followed_by input.pieces (read ++ piece ∷ [])
-one_more input now later read piece p q = q ∙ ap (λ told. followed_by told (piece ∷ [])) p ∙ followed_by-append input.pieces read (piece ∷ [])
+one_more input now later read piece p q = q ∙ ap (λ reported. followed_by reported (piece ∷ [])) p ∙ followed_by-append input.pieces read (piece ∷ [])
 
-pub left_behind : (input now later : SourceState) (read : List Text) (piece : Text) → input.left ≡ led_by (joined read) now.left → now.left ≡ led_by piece later.left → input.left ≡ led_by (joined (read ++ piece ∷ [])) later.left
-left_behind input now later read piece p q = p ∙ ap (led_by (joined read)) q ∙ led_by-append (joined read) piece later.left ∙ ap (λ text. led_by text later.left) (sym (joined-push read piece))
+pub left_after : (input now later : SourceState) (read : List Text) (piece : Text) → input.left ≡ led_by (joined read) now.left → now.left ≡ led_by piece later.left → input.left ≡ led_by (joined (read ++ piece ∷ [])) later.left
+left_after input now later read piece p q = p ∙ ap (led_by (joined read)) q ∙ led_by-append (joined read) piece later.left ∙ ap (λ text. led_by text later.left) (sym (joined-push read piece))
 
 -- what was held before each piece, with one more piece after them
-few_behind : (read : List Text) (piece : Text) → HoldsUpTo read → HoldsFew (read ++ piece ∷ [])
-few_behind read piece fits n h =
+few_after : (read : List Text) (piece : Text) → HoldsUpTo read → HoldsFew (read ++ piece ∷ [])
+few_after read piece fits n h =
     let within : n ≤ length read = omega (arith, h, length-append read (piece ∷ [])) in
     subst (λ pieces. length (rest_of (joined pieces)) ≤ most_bytes) (sym (take-append-le n read (piece ∷ []) within)) (fits n within)
 
@@ -86,11 +86,11 @@ few_of : (read : List Text) → HoldsUpTo read → HoldsFew read
 few_of read fits n h = fits n (omega (arith, h))
 
 -- and after it
-up_to_behind : (read : List Text) (piece : Text) → HoldsUpTo read → length (rest_of (joined (read ++ piece ∷ []))) ≤ most_bytes → HoldsUpTo (read ++ piece ∷ [])
-up_to_behind read piece fits last n h = by_case (cases_lt n (length (read ++ piece ∷ [])))
+up_to_after : (read : List Text) (piece : Text) → HoldsUpTo read → length (rest_of (joined (read ++ piece ∷ []))) ≤ most_bytes → HoldsUpTo (read ++ piece ∷ [])
+up_to_after read piece fits last n h = by_case (cases_lt n (length (read ++ piece ∷ [])))
   where
     by_case : (n < length (read ++ piece ∷ [])) ⊎ (length (read ++ piece ∷ []) ≤ n) → length (rest_of (joined (take n (read ++ piece ∷ [])))) ≤ most_bytes
-    by_case (inl l) = few_behind read piece fits n l
+    by_case (inl l) = few_after read piece fits n l
     by_case (inr l) =
         let all : n ≡ length (read ++ piece ∷ []) = omega (arith, h, l) in
         subst (λ pieces. length (rest_of (joined pieces)) ≤ most_bytes) (sym (ap (λ k. take k (read ++ piece ∷ [])) all ∙ take-length (read ++ piece ∷ []))) last
@@ -103,8 +103,8 @@ pub reads_more : (turns : ℕ) (input now later : SourceState) → ReadsWell tur
 reads_more turns input now later w r e = record { reads = counts-more turns 1 input.reads now.reads later.reads w.reads r; well = e ∙ w.well }
 
 -- one piece more was read
-reads_behind : (turns : ℕ) (input now later : SourceState) (read : List Text) (piece : Text) → length read ≡ turns → ReadsWell turns input now → Gives now piece later → ReadsWell (length (read ++ piece ∷ [])) input later
-reads_behind turns input now later read piece e w g =
+reads_after : (turns : ℕ) (input now later : SourceState) (read : List Text) (piece : Text) → length read ≡ turns → ReadsWell turns input now → Gives now piece later → ReadsWell (length (read ++ piece ∷ [])) input later
+reads_after turns input now later read piece e w g =
     let size : turns + 1 ≡ length (read ++ piece ∷ []) = omega (arith, e, length-append read (piece ∷ [])) in
     subst (λ n. ReadsWell n input later) size (reads_more turns input now later w g.reads g.well)
 
@@ -125,13 +125,13 @@ served_at_start answer session input output e = record {
   pieces = sym (followed_by-nil input.pieces);
   left = sym (led_by-nil input.left);
   counts = record { reads = counts-none input.reads; well = refl };
-  turned = refl;
+  after_turn = refl;
   fits = none_at_start;
   sent = [];
   sends = sends-none output;
   due = due_at_start answer;
   given = record { answers = refl; pending = sym (ap (λ h. h.pending) e); answered = ap (λ h. h.answered) e };
-  goes_on = ap (λ h. h.ended) e;
+  proceeds = ap (λ h. h.ended) e;
   answering = refl;
 }
 
@@ -157,15 +157,15 @@ served_more answer first session next input now later output sink sink_later tur
     record {
       read = s.read ++ t.piece ∷ [];
       pieces = one_more input now later s.read t.piece s.pieces t.reads.gives.pieces;
-      left = left_behind input now later s.read t.piece s.left t.reads.gives.left;
+      left = left_after input now later s.read t.piece s.left t.reads.gives.left;
       counts = reads_more turns input now later s.counts t.reads.gives.reads t.reads.gives.well;
-      fits = up_to_behind s.read t.piece s.fits held;
-      turned = length-append s.read (t.piece ∷ []) ∙ ap (λ n. n + 1) s.turned;
+      fits = up_to_after s.read t.piece s.fits held;
+      after_turn = length-append s.read (t.piece ∷ []) ∙ ap (λ n. n + 1) s.after_turn;
       sent = s.sent ++ t.sends.texts;
       sends = sends-more output sink sink_later s.sent t.sends.texts s.sends t.sends.sends;
-      due = due_behind answer s.read t.piece s.sent t.sends.texts s.given.answers;
+      due = due_after answer s.read t.piece s.sent t.sends.texts s.given.answers;
       given = given;
-      goes_on = ap (λ h. h.ended) t.sends.leaves;
+      proceeds = ap (λ h. h.ended) t.sends.leaves;
       answering = ap (λ h. h.answering) t.sends.leaves ∙ s.answering;
     }
 
@@ -180,7 +180,7 @@ all_answers : {A : Type 0} (answer : EventValue → Text) (session : Held A) (re
     → answers_of answer (joined (read ++ piece ∷ []) ++ later) ≡ with_texts sent (answers_of answer ((session.pending ++ piece) ++ later))
 all_answers answer session read piece later sent g =
     ap (λ text. answers_of answer (text ++ later)) (joined-push read piece) ∙ ap (answers_of answer) (append_assoc (joined read) piece later)
-    ∙ behind_well answer (joined read) (piece ++ later) sent g.answers
+    ∙ after_well answer (joined read) (piece ++ later) sent g.answers
     ∙ ap (λ rest. with_texts sent (answers_of answer (rest ++ (piece ++ later)))) g.pending
     ∙ ap (λ text. with_texts sent (answers_of answer text)) (sym (append_assoc session.pending piece later))
 
@@ -188,24 +188,24 @@ answers_now : {A : Type 0} (answer : EventValue → Text) (session : Held A) (re
     → answers_of answer (joined (read ++ piece ∷ [])) ≡ with_texts sent (answers_of answer (session.pending ++ piece))
 answers_now answer session read piece sent g = rw (append-nil (joined (read ++ piece ∷ [])), append-nil (session.pending ++ piece)) at (all_answers answer session read piece [] sent g)
 
-pub none_left_behind : (now later : Option Text) (piece : Text) → piece ≡ [] → now ≡ led_by piece later → NoneLeft now → NoneLeft later
-none_left_behind now later piece e f h = subst NoneLeft (f ∙ ap (λ p. led_by p later) e ∙ led_by-nil later) h
+pub none_left_after : (now later : Option Text) (piece : Text) → piece ≡ [] → now ≡ led_by piece later → NoneLeft now → NoneLeft later
+none_left_after now later piece e f h = subst NoneLeft (f ∙ ap (λ p. led_by p later) e ∙ led_by-nil later) h
 
 pub finished : {A : Type 0} (answer : EventValue → Text) (first session next : Held A) (input now later : SourceState) (output sink sink_later : SinkState) (turns : ℕ)
     → Served answer first input now output sink session turns → Turns answer false (at session now sink) (at next later sink_later) → AnswersInput answer (Ok tt) (shown input output) (shown later sink_later)
 finished answer first session next input now later output sink sink_later turns s t = record {
   read = s.read ++ t.piece ∷ [];
   pieces = one_more input now later s.read t.piece s.pieces t.reads.gives.pieces;
-  left = left_behind input now later s.read t.piece s.left t.reads.gives.left;
-  counts = reads_behind turns input now later s.read t.piece s.turned s.counts t.reads.gives;
-  fits = few_behind s.read t.piece s.fits;
+  left = left_after input now later s.read t.piece s.left t.reads.gives.left;
+  counts = reads_after turns input now later s.read t.piece s.after_turn s.counts t.reads.gives;
+  fits = few_after s.read t.piece s.fits;
   sent = s.sent ++ t.sends.texts;
-  told = sink_later;
+  reported = sink_later;
   sends = sends-more output sink sink_later s.sent t.sends.texts s.sends t.sends.sends;
-  due = due_behind answer s.read t.piece s.sent t.sends.texts s.given.answers;
+  due = due_after answer s.read t.piece s.sent t.sends.texts s.given.answers;
   ends = record {
     answers = answers_now answer session s.read t.piece s.sent s.given ∙ ap (with_texts s.sent) t.sends.answers;
-    none_left = none_left_behind now.left later.left t.piece (t.reads.ends.0 refl) t.reads.gives.left (t.reads.none_left refl);
+    none_left = none_left_after now.left later.left t.piece (t.reads.ends.0 refl) t.reads.gives.left (t.reads.none_left refl);
     untouched = refl;
   };
 }
@@ -217,11 +217,11 @@ unfolding finished
 finished_sent answer first session next input now later output sink sink_later turns s t = refl
 
 -- the first answers to a piece are those that are due when it was read
-due_first : (answer : EventValue → Text) (more : Bool) (pending piece : Text) → (behind : List Text) × ((answers_of answer (pending ++ piece)).texts ≡ (due answer more pending piece).texts ++ behind)
+due_first : (answer : EventValue → Text) (more : Bool) (pending piece : Text) → (following : List Text) × ((answers_of answer (pending ++ piece)).texts ≡ (due answer more pending piece).texts ++ following)
 due_first answer true pending piece = rw append-nil at (first_answers answer (pending ++ piece) [])
 due_first answer false pending piece = ([], sym (append-nil (answers_of answer (pending ++ piece)).texts))
 
--- what is read, where a turn fails after its read
+-- what is read, if a turn fails after its read
 record ReadOn (input later : SourceState) (read : List Text) : Type 0 where
   pub pieces : later.pieces ≡ followed_by input.pieces read
   pub left : input.left ≡ led_by (joined read) later.left
@@ -232,14 +232,14 @@ read_on : {A : Type 0} (answer : EventValue → Text) (first session : Held A) (
     → ReadOn input later (s.read ++ piece ∷ [])
 read_on answer first session input now later output sink turns more piece s r = record {
   pieces = one_more input now later s.read piece s.pieces r.gives.pieces;
-  left = left_behind input now later s.read piece s.left r.gives.left;
-  counts = reads_behind turns input now later s.read piece s.turned s.counts r.gives;
-  fits = few_behind s.read piece s.fits;
+  left = left_after input now later s.read piece s.left r.gives.left;
+  counts = reads_after turns input now later s.read piece s.after_turn s.counts r.gives;
+  fits = few_after s.read piece s.fits;
 }
 
 -- the answers sent, and those after them
 sent_first : {A : Type 0} (answer : EventValue → Text) (session : Held A) (read : List Text) (more : Bool) (piece : Text) (sent some others : List Text) → Given answer (joined read) sent session → (due answer more session.pending piece).texts ≡ some ++ others
-    → (behind : List Text) × ((answers_of answer (joined (read ++ piece ∷ []))).texts ≡ (sent ++ some) ++ (others ++ behind))
+    → (following : List Text) × ((answers_of answer (joined (read ++ piece ∷ []))).texts ≡ (sent ++ some) ++ (others ++ following))
 sent_first answer session read more piece sent some others g e =
     let first = due_first answer more session.pending piece in
     (first.0, ap (λ a. a.texts) (answers_now answer session read piece sent g) ∙ ap (λ texts. sent ++ texts) (first.1 ∙ ap (λ texts. texts ++ first.0) e ∙ append_assoc some others first.0) ∙ sym (append_assoc sent some (others ++ first.0)))
@@ -258,36 +258,36 @@ faulty_later answer session read false piece later sent fault g e none =
     ap (λ text. answers_of answer (joined (read ++ piece ∷ []) ++ text)) (none refl) ∙ ap (answers_of answer) (append-nil (joined (read ++ piece ∷ [])))
     ∙ answers_now answer session read piece sent g ∙ ap (with_texts sent) (until_texts (due answer false session.pending piece) fault e)
 
--- the bytes left are none where the input goes on no more
+-- no bytes are left if the input does not go on
 pub later_none : (more : Bool) (now later : SourceState) (piece rest : Text) → Reads more now piece later → later.left ≡ Some rest → more ≡ false → rest ≡ []
-later_none more now later piece rest r e f = rw e at (none_left_behind now.left later.left piece (r.ends.0 f) r.gives.left (r.none_left f))
+later_none more now later piece rest r e f = rw e at (none_left_after now.left later.left piece (r.ends.0 f) r.gives.left (r.none_left f))
 
 stops_at_block : {A : Type 0} (answer : EventValue → Text) (session : Held A) (now later : SourceState) (read : List Text) (more : Bool) (piece : Text) (sent : List Text) (number : ℕ) (fault : BlockFault) (sink sink_later : SinkState)
     → Given answer (joined read) sent session → Reads more now piece later → Refuses (due answer more session.pending piece) session.answered number fault sink sink_later
-    → StopsAtBlock answer (record { text = joined (read ++ piece ∷ []); left = later.left; sent = sent ++ (due answer more session.pending piece).texts; told = sink_later }) number fault
+    → StopsAtBlock answer (record { text = joined (read ++ piece ∷ []); left = later.left; sent = sent ++ (due answer more session.pending piece).texts; reported = sink_later }) number fault
 stops_at_block answer session now later read more piece sent number fault sink sink_later g reads r = record {
   answers = rw append-nil at (faulty_later answer session read more piece [] sent fault g r.faulty (λ h. refl));
   stays = λ rest e. faulty_later answer session read more piece rest sent fault g r.faulty (later_none more now later piece rest reads e);
-  numbered = r.numbered ∙ ap (λ n. number_behind (n + length (due answer more session.pending piece).texts)) g.answered ∙ number_is (length sent) (length (due answer more session.pending piece).texts)
-      ∙ ap number_behind (sym (length-append sent (due answer more session.pending piece).texts));
+  numbered = r.numbered ∙ ap (λ n. number_after (n + length (due answer more session.pending piece).texts)) g.answered ∙ number_is (length sent) (length (due answer more session.pending piece).texts)
+      ∙ ap number_after (sym (length-append sent (due answer more session.pending piece).texts));
 }
   where
-    number_is : (a b : ℕ) → number_behind (counted a + b) ≡ number_behind (a + b)
+    number_is : (a b : ℕ) → number_after (counted a + b) ≡ number_after (a + b)
     number_is a b = ap (λ n. counted n) (assoc (counted a) b) ∙ counted-add a (b + 1) ∙ ap counted (sym (assoc a b))
       where
         assoc : (x y : ℕ) → x + y + 1 ≡ x + (y + 1)
         assoc x y = omega arith
 
 pub failed : {A : Type 0} (answer : EventValue → Text) (fault : TurnFault) (first session next : Held A) (input now later : SourceState) (output sink sink_later : SinkState) (turns : ℕ)
-    → Served answer first input now output sink session turns → FailsBy answer fault (at session now sink) (at next later sink_later) → AnswersInput answer (Err fault) (shown input output) (shown later sink_later)
+    → Served answer first input now output sink session turns → TurnFailsBy answer fault (at session now sink) (at next later sink_later) → AnswersInput answer (Err fault) (shown input output) (shown later sink_later)
 failed answer Read first session next input now later output sink sink_later turns s f = record {
   read = s.read;
   pieces = f.1.pieces ∙ s.pieces;
   left = s.left ∙ ap (led_by (joined s.read)) (sym f.1.left);
-  counts = inl (to_fault turns (length s.read) input now later s.turned s.counts f.1);
+  counts = inl (to_fault turns (length s.read) input now later s.after_turn s.counts f.1);
   fits = few_of s.read s.fits;
   sent = s.sent;
-  told = sink;
+  reported = sink;
   sends = s.sends;
   due = s.due;
   ends = (s.given.answers, f.2);
@@ -302,9 +302,9 @@ failed answer Write first session next input now later output sink sink_later tu
       counts = on.counts;
       fits = on.fits;
       sent = s.sent ++ f.sends.sent;
-      told = f.sends.told;
-      sends = sends-more output sink f.sends.told s.sent f.sends.sent s.sends f.sends.sends;
-      due = due_behind answer s.read f.piece s.sent f.sends.sent s.given.answers;
+      reported = f.sends.reported;
+      sends = sends-more output sink f.sends.reported s.sent f.sends.sent s.sends f.sends.sends;
+      due = due_after answer s.read f.piece s.sent f.sends.sent s.given.answers;
       ends = record { next = f.sends.next; unsent = f.sends.unsent ++ all.0; answers = all.1; breaks = f.sends.breaks };
     }
 failed answer (Session (Block number fault)) first session next input now later output sink sink_later turns s f =
@@ -317,9 +317,9 @@ failed answer (Session (Block number fault)) first session next input now later 
       counts = on.counts;
       fits = on.fits;
       sent = s.sent ++ texts;
-      told = sink_later;
+      reported = sink_later;
       sends = sends-more output sink sink_later s.sent texts s.sends f.sends.sends;
-      due = due_behind answer s.read f.piece s.sent texts s.given.answers;
+      due = due_after answer s.read f.piece s.sent texts s.given.answers;
       ends = (stops_at_block answer session now later s.read f.more f.piece s.sent number fault sink sink_later s.given f.reads f.sends, refl);
     }
 failed answer (Session Memory) first session next input now later output sink sink_later turns s f =
@@ -332,12 +332,12 @@ failed answer (Session Memory) first session next input now later output sink si
       counts = on.counts;
       fits = on.fits;
       sent = s.sent ++ f.sends.sent;
-      told = sink_later;
+      reported = sink_later;
       sends = sends-more output sink sink_later s.sent f.sends.sent s.sends f.sends.sends;
-      due = due_behind answer s.read f.piece s.sent f.sends.sent s.given.answers;
+      due = due_after answer s.read f.piece s.sent f.sends.sent s.given.answers;
       ends = record { unsent = f.sends.unsent ++ all.0; answers = all.1; untouched = refl };
     }
-failed answer (Session Ended) first session next input now later output sink sink_later turns s f = let both : true ≡ false = sym f.0 ∙ s.goes_on in absurd cc
+failed answer (Session Ended) first session next input now later output sink sink_later turns s f = let both : true ≡ false = sym f.0 ∙ s.proceeds in absurd cc
 
 -- no turn is left
 pub used_up : {A : Type 0} (answer : EventValue → Text) (first session : Held A) (input now : SourceState) (output sink : SinkState)
@@ -346,10 +346,10 @@ used_up answer first session input now output sink s = record {
   read = s.read;
   pieces = s.pieces;
   left = s.left;
-  counts = inr (record { all = s.turned; reads = s.counts.reads }, s.counts.well);
+  counts = inr (record { all = s.after_turn; reads = s.counts.reads }, s.counts.well);
   fits = few_of s.read s.fits;
   sent = s.sent;
-  told = sink;
+  reported = sink;
   sends = s.sends;
   due = s.due;
   ends = (s.given.answers, refl);
@@ -364,7 +364,7 @@ unstarted answer input output = record {
   counts = record { reads = counts-none input.reads; well = refl };
   fits = λ n h. absurd (omega (arith, h));
   sent = [];
-  told = output;
+  reported = output;
   sends = sends-none output;
   due = due_at_start answer;
   ends = record { unsent = (answers_of answer []).texts; answers = refl; untouched = refl };

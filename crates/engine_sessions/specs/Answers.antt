@@ -18,8 +18,8 @@ well texts = record { texts = texts; fault = None }
 -- the answers to a block and those after it: its own in front of theirs if it gives an event, and none if it is
 -- faulty
 abbrev pub with_block : (EventValue → Text) → Result EventValue BlockFault → Answers → Answers
-with_block answer (Ok event) behind = record { texts = answer event ∷ behind.texts; fault = behind.fault }
-with_block answer (Err fault) behind = record { texts = []; fault = Some fault }
+with_block answer (Ok event) following = record { texts = answer event ∷ following.texts; fault = following.fault }
+with_block answer (Err fault) following = record { texts = []; fault = Some fault }
 
 -- the answers to blocks: to the event of each, up to the first that is faulty, and then its fault
 abbrev pub answers_to : (EventValue → Text) → List Text → Answers
@@ -35,5 +35,5 @@ abbrev pub counted : ℕ → ℕ
 counted blocks = min blocks (2 ^ 64 - 1)
 
 -- the number of the block after those answered, counted from 1
-abbrev pub number_behind : ℕ → ℕ
-number_behind answered = counted (answered + 1)
+abbrev pub number_after : ℕ → ℕ
+number_after answered = counted (answered + 1)

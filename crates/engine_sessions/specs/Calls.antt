@@ -5,8 +5,8 @@ use Rattle.text_tables.specs.Texts.{Text}
 use Rattle.device_core.specs.Runs.{complete_runs, rest_of}
 use Rattle.device_core.specs.Values.{EventValue}
 use Rattle.device_core.specs.declared.faults.BlockFault.{BlockFault}
-use Rattle.engine_sessions.specs.Answers.{answers_to, answers_of, well, counted, number_behind}
-use Rattle.engine_sessions.specs.Sessions.{Held, Takes}
+use Rattle.engine_sessions.specs.Answers.{answers_to, answers_of, well, counted, number_after}
+use Rattle.engine_sessions.specs.Sessions.{Held, SessionTakes}
 use Rattle.engine_sessions.specs.declared.session.Step.{Step}
 
 -- a call: the piece, its outcome, and the session after it
@@ -18,7 +18,7 @@ pub record Call (A : Type 0) : Type 0 where
 -- each call goes on where the one before it stopped
 abbrev pub TakesAll : {A : Type 0} → (EventValue → Text) → Held A → List (Call A) → Held A → Type 0
 TakesAll answer old [] new = old ≡ new
-TakesAll answer old (call ∷ calls) new = Takes answer old call.piece call.step call.after × TakesAll answer call.after calls new
+TakesAll answer old (call ∷ calls) new = SessionTakes answer old call.piece call.step call.after × TakesAll answer call.after calls new
 
 -- all bytes that the calls used, in order
 abbrev pub used_by : {A : Type 0} → List (Call A) → Text
@@ -43,4 +43,4 @@ GiveAll answer calls last = answers_of answer (used_by calls) ≡ well (given_by
 -- The answers to this input are those given, and then this fault in the block of this number.
 pub record GiveUntil (answer : EventValue → Text) (input : Text) (given : List Text) (number : ℕ) (fault : BlockFault) : Type 0 where
   pub answers : answers_of answer input ≡ record { texts = given; fault = Some fault }
-  pub numbered : number ≡ number_behind (length given)
+  pub numbered : number ≡ number_after (length given)

@@ -5,7 +5,7 @@ use Rattle.text_tables.specs.Texts.{Text}
 use Rattle.device_core.specs.Values.{EventValue}
 use Rattle.engine_ends.specs.Sinks.{SinkState, HandsOn}
 use Rattle.engine_ends.specs.Streams.{Streams}
-use Rattle.engine_ends.specs.Delivery.{Outcome}
+use Rattle.engine_ends.specs.Delivery.{RunOutcome}
 use Rattle.engine_sessions.specs.Turns.{Situation, Turns, say_something}
 use Rattle.engine_sessions.specs.Inputs.{AnswersInput, Devices, devices_of}
 use Rattle.engine_sessions.specs.Serves.{Concludes, StopsBefore}
@@ -27,7 +27,7 @@ pub record AnswersFinding (answer : EventValue → Text) (end : Result Bool Turn
   pub finds_is : IfOk end (λ finds. finds ≡ say_something answers.sent)
 
 -- an outcome whose output is a finding: its status is 1 if there is any output
-abbrev pub found : Outcome → Outcome
+abbrev pub found : RunOutcome → RunOutcome
 found outcome = record { output = outcome.output; messages = outcome.messages; status = if length outcome.output == 0 then outcome.status else 1 }
 
 -- How the answering of an input is reported if these answers are findings: as it is otherwise, except that if all is
@@ -37,13 +37,13 @@ ConcludesFinding (Ok done) sent status err err_now = (status ≡ (if say_somethi
 ConcludesFinding (Err fault) sent status err err_now = Concludes (Err fault) status err err_now
 
 -- The messages are written, then the input is answered, and then its end is reported.
-pub record FindsBehind (messages : Text) (answer : EventValue → Text) (status : ℕ) (before now : Streams) : Type 0 where
-  pub told : SinkState
-  pub says : HandsOn before.err messages told
+pub record FindsAfter (messages : Text) (answer : EventValue → Text) (status : ℕ) (before now : Streams) : Type 0 where
+  pub reported : SinkState
+  pub says : HandsOn before.err messages reported
   pub end : Result (Unit {0}) TurnFault
   pub answers : AnswersInput answer end (devices_of before) (devices_of now)
-  pub concludes : ConcludesFinding end answers.sent status told now.err
+  pub concludes : ConcludesFinding end answers.sent status reported now.err
 
 -- Messages, and the findings in an input after them, step by step.
 abbrev pub FindsAll : Text → (EventValue → Text) → ℕ → Streams → Streams → Type 0
-FindsAll messages answer status before now = StopsBefore messages status before now ⊎ FindsBehind messages answer status before now
+FindsAll messages answer status before now = StopsBefore messages status before now ⊎ FindsAfter messages answer status before now

@@ -32,19 +32,19 @@ pub record IsRest (pending : Text) : Type 0 where
 
 -- what a session's splitter and its count are as long as it has not ended
 pub record IsOpen (split : Split) (answered : ℕ) : Type 0 where
-  pub goes_on : split.ended ≡ false
+  pub proceeds : split.ended ≡ false
   pub pending : IsRest split.pending
   pub counts : counted answered ≡ answered
 
 -- the text is the answer to the event of the block
-abbrev pub IsAnswer : (EventValue → Text) → Text → Text → Type 0
-IsAnswer answer block text = answers_to answer (block ∷ []) ≡ well (text ∷ [])
+abbrev pub IsBlockAnswer : (EventValue → Text) → Text → Text → Type 0
+IsBlockAnswer answer block text = answers_to answer (block ∷ []) ≡ well (text ∷ [])
 
 -- why a block of this number is not answered
-abbrev pub IsRefused : SessionFault → ℕ → Text → Type 0
-IsRefused (Block number fault) wanted block = (number ≡ wanted) × (block_gives block ≡ Err fault)
-IsRefused Memory wanted block = Unit {0}
-IsRefused Ended wanted block = ⊥
+abbrev pub IsBlockRefused : SessionFault → ℕ → Text → Type 0
+IsBlockRefused (Block number fault) wanted block = (number ≡ wanted) × (block_gives block ≡ Err fault)
+IsBlockRefused Memory wanted block = Unit {0}
+IsBlockRefused Ended wanted block = ⊥
 
 -- what becomes of a splitter's fault at the block of this number
 abbrev pub IsSplitRefused : SplitFault → ℕ → SessionFault → Type 0
@@ -53,7 +53,7 @@ IsSplitRefused SplitEnded number fault = fault ≡ Ended
 
 -- what a session is as long as it has not ended
 pub record IsGoing {A : Type 0} (session : Held A) : Type 0 where
-  pub goes_on : session.ended ≡ false
+  pub proceeds : session.ended ≡ false
   pub pending : IsRest session.pending
   pub counts : counted session.answered ≡ session.answered
 

@@ -5,12 +5,12 @@ use Rattle.device_core.specs.Runs.{complete_runs, rest_of}
 use Rattle.device_core.specs.RunBlocks.{most_bytes}
 use Rattle.device_core.specs.Values.{EventValue}
 use Rattle.device_core.specs.declared.faults.BlockFault.{BlockFault}
-use Rattle.engine_ends.specs.Told.{followed_by, led_by, NoneLeft}
+use Rattle.engine_ends.specs.Reported.{followed_by, led_by, NoneLeft}
 use Rattle.engine_ends.specs.Counts.{Counts}
 use Rattle.engine_ends.specs.Sources.{SourceState}
 use Rattle.engine_ends.specs.Sinks.{SinkState, BreaksOff}
 use Rattle.engine_ends.specs.Streams.{Streams}
-use Rattle.engine_sessions.specs.Answers.{answers_to, answers_of, well, number_behind}
+use Rattle.engine_sessions.specs.Answers.{answers_to, answers_of, well, number_after}
 use Rattle.engine_sessions.specs.Turns.{Sends, joined}
 use Rattle.engine_sessions.specs.declared.session.SessionFault.TheVariants.{Block, Memory, Ended}
 use Rattle.engine_sessions.specs.declared.turning.TurnFault.{TurnFault}
@@ -35,7 +35,7 @@ all_but_last pieces = take (length pieces - 1) pieces
 
 -- The answers to the complete runs of all pieces read except the last are sent, in front of any others.
 abbrev pub HasSentDue : (EventValue → Text) → List Text → List Text → Type 0
-HasSentDue answer read sent = (behind : List Text) × (sent ≡ (answers_to answer (complete_runs (joined (all_but_last read)))).texts ++ behind)
+HasSentDue answer read sent = (following : List Text) × (sent ≡ (answers_to answer (complete_runs (joined (all_but_last read)))).texts ++ following)
 
 -- Before each of these pieces was read, no more bytes of a block that was not complete were held than a block may have.
 abbrev pub HoldsFew : List Text → Type 0
@@ -46,40 +46,40 @@ pub record Progress : Type 0 where
   pub text : Text
   pub left : Option Text
   pub sent : List Text
-  pub told : SinkState
+  pub reported : SinkState
 
 -- The answers sent are all those before a faulty block of this number, and what is left of the input changes nothing of that.
 pub record StopsAtBlock (answer : EventValue → Text) (so_far : Progress) (number : ℕ) (fault : BlockFault) : Type 0 where
   pub answers : answers_of answer so_far.text ≡ record { texts = so_far.sent; fault = Some fault }
   pub stays : (later : Text) → so_far.left ≡ Some later → answers_of answer (so_far.text ++ later) ≡ record { texts = so_far.sent; fault = Some fault }
-  pub numbered : number ≡ number_behind (length so_far.sent)
+  pub numbered : number ≡ number_after (length so_far.sent)
 
 -- The sink broke off at the answer after those sent.
 pub record StopsInAnswer (answer : EventValue → Text) (so_far : Progress) (now : SinkState) : Type 0 where
   pub next : Text
   pub unsent : List Text
   pub answers : (answers_of answer so_far.text).texts ≡ so_far.sent ++ next ∷ unsent
-  pub breaks : BreaksOff so_far.told next now
+  pub breaks : BreaksOff so_far.reported next now
 
 -- The answers sent are the first of all, and nothing was written after them.
 pub record StopsBetween (answer : EventValue → Text) (so_far : Progress) (now : SinkState) : Type 0 where
   pub unsent : List Text
   pub answers : (answers_of answer so_far.text).texts ≡ so_far.sent ++ unsent
-  pub untouched : now ≡ so_far.told
+  pub untouched : now ≡ so_far.reported
 
 -- All bytes of the input were read, no block of them is faulty, and all answers are sent.
 pub record IsAnswered (answer : EventValue → Text) (so_far : Progress) (now : SinkState) : Type 0 where
   pub answers : answers_of answer so_far.text ≡ well so_far.sent
   pub none_left : NoneLeft so_far.left
-  pub untouched : now ≡ so_far.told
+  pub untouched : now ≡ so_far.reported
 
 -- How it ends, by what was read and sent and the sink at the end: all is answered; or what was read until then is, and no more could be
--- read; or it stops in an answer, at a faulty block, or where memory runs out.
+-- read; or it stops in an answer, at a faulty block, or because memory runs out.
 abbrev pub EndsBy : (EventValue → Text) → Result (Unit {0}) TurnFault → (so_far : Progress) → (now : SinkState) → Type 0
 EndsBy answer (Ok done) so_far now = IsAnswered answer so_far now
-EndsBy answer (Err Read) so_far now = (answers_to answer (complete_runs so_far.text) ≡ well so_far.sent) × (now ≡ so_far.told)
+EndsBy answer (Err Read) so_far now = (answers_to answer (complete_runs so_far.text) ≡ well so_far.sent) × (now ≡ so_far.reported)
 EndsBy answer (Err Write) so_far now = StopsInAnswer answer so_far now
-EndsBy answer (Err (Session (Block number fault))) so_far now = StopsAtBlock answer so_far number fault × (now ≡ so_far.told)
+EndsBy answer (Err (Session (Block number fault))) so_far now = StopsAtBlock answer so_far number fault × (now ≡ so_far.reported)
 EndsBy answer (Err (Session Memory)) so_far now = StopsBetween answer so_far now
 EndsBy answer (Err (Session Ended)) so_far now = ⊥
 
@@ -113,7 +113,7 @@ pub record AnswersInput (answer : EventValue → Text) (end : Result (Unit {0}) 
   pub counts : CountsBy end (length read) before.input now.input
   pub fits : HoldsFew read
   pub sent : List Text
-  pub told : SinkState
-  pub sends : Sends before.output sent told
+  pub reported : SinkState
+  pub sends : Sends before.output sent reported
   pub due : HasSentDue answer read sent
-  pub ends : EndsBy answer end (record { text = joined read; left = now.input.left; sent = sent; told = told }) now.output
+  pub ends : EndsBy answer end (record { text = joined read; left = now.input.left; sent = sent; reported = reported }) now.output

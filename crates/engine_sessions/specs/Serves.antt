@@ -2,7 +2,7 @@
 use Rattle.std.specs.Prelude.{◌≡◌, ℕ, ◌<◌, ◌≤◌, ◌⊎◌, List, [], Some, Result, Ok, Err, codes, length, take}
 use Rattle.text_tables.specs.Texts.{Text}
 use Rattle.device_core.specs.Values.{EventValue}
-use Rattle.engine_ends.specs.Told.{followed_by}
+use Rattle.engine_ends.specs.Reported.{followed_by}
 use Rattle.engine_ends.specs.Counts.{Counts}
 use Rattle.engine_ends.specs.Sinks.{BreaksOff, HandsOn, SinkState}
 use Rattle.engine_ends.specs.Streams.{Streams, outputs}
@@ -10,7 +10,7 @@ use Rattle.engine_sessions.specs.Turns.{joined}
 use Rattle.engine_sessions.specs.declared.session.SessionFault.TheVariants.{Block, Memory, Ended}
 use Rattle.engine_sessions.specs.declared.turning.TurnFault.{TurnFault}
 use Rattle.engine_sessions.specs.declared.turning.TurnFault.TheVariants.{Read, Write, Session}
-use Rattle.engine_ends.specs.Delivery.{Delivers, Outcome, Tells, TellsFaults, out_of_memory, write_failed}
+use Rattle.engine_ends.specs.Delivery.{Delivers, ReportsFailure, ReportsFaults, RunOutcome, out_of_memory, write_failed}
 use Rattle.engine_sessions.specs.BlockFaults.{block_line}
 use Rattle.engine_sessions.specs.Inputs.{AnswersInput, UsesUp, devices_of}
 
@@ -29,7 +29,7 @@ abbrev pub HasBegun : SinkState → Text → SinkState → Type 0
 HasBegun before text now = (n : ℕ) × (n ≤ length text) × (now.taken ≡ followed_by before.taken (take n text))
 
 -- All of the outcome is written, and its status returned.
-pub record IsWhole (outcome : Outcome) (status : ℕ) (before now : Streams) : Type 0 where
+pub record IsWhole (outcome : RunOutcome) (status : ℕ) (before now : Streams) : Type 0 where
   pub output : WritesOut before.out outcome.output now.out
   pub messages : HandsOn before.err outcome.messages now.err
   pub status_is : status ≡ outcome.status
@@ -40,62 +40,62 @@ IsStatusLine line = (line ≡ []) ⊎ (line ≡ read_failed) ⊎ (line ≡ write
 
 -- A first part of the outcome is written: of the output, and of the messages with a first part of one status line after them. At
 -- status 4 that line is the one on memory, and it is whole.
-pub record IsCutShort (outcome : Outcome) (status : ℕ) (before now : Streams) : Type 0 where
+pub record IsCutShort (outcome : RunOutcome) (status : ℕ) (before now : Streams) : Type 0 where
   pub output : HasBegun before.out outcome.output now.out
-  pub told : SinkState
-  pub messages : HasBegun before.err outcome.messages told
+  pub reported : SinkState
+  pub messages : HasBegun before.err outcome.messages reported
   pub line : Text
   pub line_is : IsStatusLine line
-  pub begun : HasBegun told line now.err
-  pub memory : status ≡ 4 → HandsOn told out_of_memory now.err
+  pub begun : HasBegun reported line now.err
+  pub memory : status ≡ 4 → HandsOn reported out_of_memory now.err
 
 -- Which devices failed: at status 3 one call of one of them, or the input did not end within its turns; at any other status none.
-pub record TellsFailures (status turns : ℕ) (before now : Streams) : Type 0 where
+pub record ReportsFailures (status turns : ℕ) (before now : Streams) : Type 0 where
   pub failed : status ≡ 3 → Counts 1 before.input.faults now.input.faults ⊎ Counts 1 before.out.faults now.out.faults ⊎ Counts 1 before.err.faults now.err.faults ⊎ UsesUp turns before.input now.input
   pub well : (status ≡ 3 → ⊥) → (now.input.faults ≡ before.input.faults) × (now.out.faults ≡ before.out.faults) × (now.err.faults ≡ before.err.faults)
 
 -- Some pieces of the input were read. Under 3 all of the outcome of their bytes is written, flushed and returned, and
 -- it is the outcome of the whole input; else a first part of it is written.
-pub record Serves (outcome : Text → Outcome) (status : ℕ) (before now : Streams) : Type 0 where
+pub record Serves (outcome : Text → RunOutcome) (status : ℕ) (before now : Streams) : Type 0 where
   pub read : List Text
   pub pieces : now.input.pieces ≡ followed_by before.input.pieces read
   pub whole : status < 3 → IsWhole (outcome (joined read)) status before now
   pub all : status < 3 → (text : Text) → before.input.left ≡ Some text → outcome text ≡ outcome (joined read)
   pub cut : 3 ≤ status → IsCutShort (outcome (joined read)) status before now
-  pub failures : TellsFailures status (length read) before now
+  pub failures : ReportsFailures status (length read) before now
   pub statuses : status ≤ 4
 
 -- How the answering of an input is reported: by nothing, or by one line and its status.
 abbrev pub Concludes : Result (Unit {0}) TurnFault → ℕ → SinkState → SinkState → Type 0
 Concludes (Ok done) status err err_now = (status ≡ 0) × (err_now ≡ err)
-Concludes (Err Read) status err err_now = Tells read_failed 3 status err err_now
-Concludes (Err Write) status err err_now = Tells write_failed 3 status err err_now
-Concludes (Err (Session (Block number fault))) status err err_now = Tells (block_line number fault) 1 status err err_now
-Concludes (Err (Session Memory)) status err err_now = Tells out_of_memory 4 status err err_now
+Concludes (Err Read) status err err_now = ReportsFailure read_failed 3 status err err_now
+Concludes (Err Write) status err err_now = ReportsFailure write_failed 3 status err err_now
+Concludes (Err (Session (Block number fault))) status err err_now = ReportsFailure (block_line number fault) 1 status err err_now
+Concludes (Err (Session Memory)) status err err_now = ReportsFailure out_of_memory 4 status err err_now
 Concludes (Err (Session Ended)) status err err_now = ⊥
 
 -- The messages are written, then the input is answered, and then its end is reported.
-pub record AnswersBehind (messages : Text) (answer : EventValue → Text) (status : ℕ) (before now : Streams) : Type 0 where
-  pub told : SinkState
-  pub says : HandsOn before.err messages told
+pub record AnswersAfter (messages : Text) (answer : EventValue → Text) (status : ℕ) (before now : Streams) : Type 0 where
+  pub reported : SinkState
+  pub says : HandsOn before.err messages reported
   pub end : Result (Unit {0}) TurnFault
   pub answers : AnswersInput answer end (devices_of before) (devices_of now)
-  pub concludes : Concludes end status told now.err
+  pub concludes : Concludes end status reported now.err
 
 -- Nothing is read or answered: the error output failed at the messages, or memory runs out before them, which its
 -- line says.
 pub record StopsBefore (messages : Text) (status : ℕ) (before now : Streams) : Type 0 where
   pub unread : now.input ≡ before.input
   pub unanswered : now.out ≡ before.out
-  pub tells : ((status ≡ 3) × BreaksOff before.err messages now.err) ⊎ Tells out_of_memory 4 status before.err now.err
+  pub reports : ((status ≡ 3) × BreaksOff before.err messages now.err) ⊎ ReportsFailure out_of_memory 4 status before.err now.err
 
 -- Messages, and the answers to an input after them, step by step.
 abbrev pub AnswersAll : Text → (EventValue → Text) → ℕ → Streams → Streams → Type 0
 AnswersAll messages answer status before now =
-    StopsBefore messages status before now ⊎ AnswersBehind messages answer status before now
+    StopsBefore messages status before now ⊎ AnswersAfter messages answer status before now
 
 -- What is said about files is delivered, and no input is read.
-pub record Reports (outcome : Outcome) (status : ℕ) (before now : Streams) : Type 0 where
+pub record Reports (outcome : RunOutcome) (status : ℕ) (before now : Streams) : Type 0 where
   pub delivers : Delivers outcome status (outputs before) (outputs now)
-  pub faults : TellsFaults status (outputs before) (outputs now)
+  pub faults : ReportsFaults status (outputs before) (outputs now)
   pub unread : now.input ≡ before.input

@@ -8,7 +8,7 @@ use Rattle.device_core.specs.RunBlocks.{most_bytes}
 use Rattle.device_core.specs.Values.{EventValue, by_profile}
 use Rattle.device_core.specs.Faults.{block_gives}
 use Rattle.device_core.specs.declared.faults.BlockFault.{BlockFault}
-use Rattle.engine_sessions.specs.Answers.{answers_to, well, counted, number_behind}
+use Rattle.engine_sessions.specs.Answers.{answers_to, well, counted, number_after}
 use Rattle.engine_sessions.specs.declared.session.Step.{Step}
 use Rattle.engine_sessions.specs.declared.session.SessionFault.{SessionFault}
 use Rattle.engine_sessions.specs.declared.session.SessionFault.TheVariants.{Block, Memory, Ended}
@@ -48,14 +48,14 @@ closed old = record old { pending = []; ended = true }
 
 -- What `take` does: it uses the piece up to the end of the first block completed, or else all of it. The answers to the complete
 -- runs of the pending bytes followed by those used are the one given or none, and the new pending bytes are the rest.
-pub record Takes {A : Type 0} (answer : EventValue → Text) (old : Held A) (piece : Text) (step : Step) (new : Held A) : Type 0 where
+pub record SessionTakes {A : Type 0} (answer : EventValue → Text) (old : Held A) (piece : Text) (step : Step) (new : Held A) : Type 0 where
   pub used : step.used ≤ length piece
   pub answers : answers_to answer (complete_runs (old.pending ++ take step.used piece)) ≡ well (option_to_list step.answer)
   pub first : (n : ℕ) → n < step.used → complete_runs (old.pending ++ take n piece) ≡ []
   pub all : step.answer ≡ None → step.used ≡ length piece
   pub moves : 0 < length piece → 0 < step.used
   pub fits : length new.pending ≤ most_bytes
-  pub goes_on : old.ended ≡ false
+  pub proceeds : old.ended ≡ false
   pub leaves : new ≡ record {
     answering = old.answering;
     pending = rest_of (old.pending ++ take step.used piece);
@@ -69,17 +69,17 @@ pub record BeginsFaulty {A : Type 0} (old : Held A) (blocks : List Text) (number
   pub others : List Text
   pub first : blocks ≡ block ∷ others
   pub gives : block_gives block ≡ Err fault
-  pub numbered : number ≡ number_behind old.answered
+  pub numbered : number ≡ number_after old.answered
 
 -- What a call does if it fails, by the blocks known then: the first of them is faulty, memory runs out, or the
 -- session had ended. No more is taken from then on.
-abbrev pub FailsBy : {A : Type 0} → SessionFault → Held A → List Text → Held A → Type 0
-FailsBy (Block number fault) old blocks new = BeginsFaulty old blocks number fault × (old.ended ≡ false) × (new ≡ closed old)
-FailsBy Memory old blocks new = (old.ended ≡ false) × (new ≡ closed old)
-FailsBy Ended old blocks new = (old.ended ≡ true) × (new ≡ old)
+abbrev pub CallFailsBy : {A : Type 0} → SessionFault → Held A → List Text → Held A → Type 0
+CallFailsBy (Block number fault) old blocks new = BeginsFaulty old blocks number fault × (old.ended ≡ false) × (new ≡ closed old)
+CallFailsBy Memory old blocks new = (old.ended ≡ false) × (new ≡ closed old)
+CallFailsBy Ended old blocks new = (old.ended ≡ true) × (new ≡ old)
 
 -- What `end` does: it gives the answer to the block of the pending bytes, if there are any.
-pub record Ends {A : Type 0} (answer : EventValue → Text) (old : Held A) (last : Option Text) (new : Held A) : Type 0 where
+pub record SessionEnds {A : Type 0} (answer : EventValue → Text) (old : Held A) (last : Option Text) (new : Held A) : Type 0 where
   pub answers : answers_to answer (runs old.pending) ≡ well (option_to_list last)
-  pub goes_on : old.ended ≡ false
+  pub proceeds : old.ended ≡ false
   pub leaves : new ≡ record (closed old) { answered = counted (old.answered + length (option_to_list last)) }

@@ -4,10 +4,10 @@ use Rattle.text_tables.specs.Texts.{Text}
 use Rattle.device_core.specs.Runs.{rest_of}
 use Rattle.device_core.specs.Values.{EventValue}
 use Rattle.device_core.specs.declared.faults.BlockFault.{BlockFault}
-use Rattle.engine_ends.specs.Told.{followed_by, NoneLeft}
+use Rattle.engine_ends.specs.Reported.{followed_by, NoneLeft}
 use Rattle.engine_ends.specs.Sources.{SourceState, Gives, SourceFails}
 use Rattle.engine_ends.specs.Sinks.{SinkState, BreaksOff}
-use Rattle.engine_sessions.specs.Answers.{Answers, answers_to, well, counted, number_behind}
+use Rattle.engine_sessions.specs.Answers.{Answers, answers_to, well, counted, number_after}
 use Rattle.engine_sessions.specs.Known.{known_blocks}
 use Rattle.engine_sessions.specs.Sessions.{Held, closed}
 use Rattle.engine_sessions.specs.declared.session.SessionFault.TheVariants.{Block, Memory, Ended}
@@ -30,14 +30,14 @@ say_something texts = not (length (joined texts) == 0)
 
 -- what a sink that took these answers has flushed: all that it took, or what it had flushed before if there is no
 -- answer
-abbrev pub flushed_behind : SinkState → List Text → SinkState → Option Text
-flushed_behind before [] now = before.flushed
-flushed_behind before (text ∷ texts) now = now.taken
+abbrev pub flushed_after : SinkState → List Text → SinkState → Option Text
+flushed_after before [] now = before.flushed
+flushed_after before (text ∷ texts) now = now.taken
 
 -- The sink took these answers and flushed them, and no call failed.
 pub record Sends (before : SinkState) (texts : List Text) (now : SinkState) : Type 0 where
   pub taken : now.taken ≡ followed_by before.taken (joined texts)
-  pub flushed : now.flushed ≡ flushed_behind before texts now
+  pub flushed : now.flushed ≡ flushed_after before texts now
   pub well : now.faults ≡ before.faults
 
 -- The sink took and flushed the first of these answers, some number of them, and then broke off in the next one.
@@ -46,9 +46,9 @@ pub record BreaksOffIn (before : SinkState) (texts : List Text) (now : SinkState
   pub next : Text
   pub unsent : List Text
   pub texts_are : texts ≡ sent ++ next ∷ unsent
-  pub told : SinkState
-  pub sends : Sends before sent told
-  pub breaks : BreaksOff told next now
+  pub reported : SinkState
+  pub sends : Sends before sent reported
+  pub breaks : BreaksOff reported next now
 
 -- The sink took and flushed the first of these answers, some number of them, and none of the others.
 pub record SendsSome (before : SinkState) (texts : List Text) (now : SinkState) : Type 0 where
@@ -60,7 +60,7 @@ pub record SendsSome (before : SinkState) (texts : List Text) (now : SinkState) 
 -- The block after these answers has this number and this fault, and all of them were sent.
 pub record Refuses (answers : Answers) (answered number : ℕ) (fault : BlockFault) (before now : SinkState) : Type 0 where
   pub faulty : answers.fault ≡ Some fault
-  pub numbered : number ≡ number_behind (answered + length answers.texts)
+  pub numbered : number ≡ number_after (answered + length answers.texts)
   pub sends : Sends before answers.texts now
 
 -- the most bytes of a read
@@ -79,8 +79,8 @@ abbrev pub due : (EventValue → Text) → Bool → Text → Text → Answers
 due answer more pending piece = answers_to answer (known_blocks more (pending ++ piece))
 
 -- the session after a piece, with so many more answers
-abbrev pub behind : {A : Type 0} → Bool → Held A → Text → ℕ → Held A
-behind more old piece answers = record {
+abbrev pub following : {A : Type 0} → Bool → Held A → Text → ℕ → Held A
+following more old piece answers = record {
   answering = old.answering;
   pending = if more then rest_of (old.pending ++ piece) else [];
   answered = counted (old.answered + answers);
@@ -96,11 +96,11 @@ pub record SendsDue {A : Type 0} (answer : EventValue → Text) (more : Bool) (o
   pub texts : List Text
   pub answers : due answer more old.pending piece ≡ well texts
   pub sends : Sends before texts now
-  pub leaves : new ≡ behind more old piece (length texts)
+  pub leaves : new ≡ following more old piece (length texts)
 
 -- What a turn does: it makes one read, and sends every answer that is due then.
 pub record Turns {A : Type 0} (answer : EventValue → Text) (more : Bool) (before now : Situation A) : Type 0 where
-  pub goes_on : before.session.ended ≡ false
+  pub proceeds : before.session.ended ≡ false
   pub piece : Text
   pub reads : Reads more before.input piece now.input
   pub sends : SendsDue answer more before.session piece now.session before.output now.output
@@ -115,16 +115,16 @@ SendsUntil (Session Memory) answers answered before now = SendsSome before answe
 SendsUntil (Session Ended) answers answered before now = ⊥
 
 -- One read was made, and then the turn failed.
-pub record FailsBehindRead {A : Type 0} (answer : EventValue → Text) (fault : TurnFault) (before now : Situation A) : Type 0 where
-  pub goes_on : before.session.ended ≡ false
+pub record FailsAfterRead {A : Type 0} (answer : EventValue → Text) (fault : TurnFault) (before now : Situation A) : Type 0 where
+  pub proceeds : before.session.ended ≡ false
   pub more : Bool
   pub piece : Text
   pub reads : Reads more before.input piece now.input
   pub sends : SendsUntil fault (due answer more before.session.pending piece) before.session.answered before.output now.output
 
--- What a turn reads and sends where it fails: its read failed and nothing is sent, or the session had ended and nothing is read or sent,
+-- What a turn reads and sends if it fails: its read failed and nothing is sent, or the session had ended and nothing is read or sent,
 -- or it failed after the read.
-abbrev pub FailsBy : {A : Type 0} → (EventValue → Text) → TurnFault → (before now : Situation A) → Type 0
-FailsBy answer Read before now = (before.session.ended ≡ false) × SourceFails before.input now.input × (now.output ≡ before.output)
-FailsBy answer (Session Ended) before now = (before.session.ended ≡ true) × (now.input ≡ before.input) × (now.output ≡ before.output)
-FailsBy answer fault before now = FailsBehindRead answer fault before now
+abbrev pub TurnFailsBy : {A : Type 0} → (EventValue → Text) → TurnFault → (before now : Situation A) → Type 0
+TurnFailsBy answer Read before now = (before.session.ended ≡ false) × SourceFails before.input now.input × (now.output ≡ before.output)
+TurnFailsBy answer (Session Ended) before now = (before.session.ended ≡ true) × (now.input ≡ before.input) × (now.output ≡ before.output)
+TurnFailsBy answer fault before now = FailsAfterRead answer fault before now

@@ -1,19 +1,19 @@
 //! The line on a faulty block.
 ghost use Rattle.engine_sessions.specs.BlockFaults.{block_line};
-ghost use Rattle.engine_ends.specs.Delivery.{Tells};
+ghost use Rattle.engine_ends.specs.Delivery.{ReportsFailure};
 
 use device_core::BlockFault;
-use engine_ends::{Sink, tell_in_pieces};
+use engine_ends::{Sink, report_in_pieces};
 use itoa::Buffer;
 
 /// Reports the faulty block of this number, and returns the status for it, 1, or 3 if the error output failed.
 #[tactic(auto, unfolding(crate::specs::BlockFaults::block_line))]
-pub(crate) fn tell_block_fault<E: Sink>(error: &mut E, number: u64, fault: BlockFault) -> u8
-    ensures { Tells (block_line number fault) 1 result (E.shown error.old) (E.shown error.new) }
+pub(crate) fn report_block_fault<E: Sink>(error: &mut E, number: u64, fault: BlockFault) -> u8
+    ensures { ReportsFailure (block_line number fault) 1 result (E.shown error.old) (E.shown error.new) }
 {
     let mut number_buffer = Buffer::new();
     let mut line_buffer = Buffer::new();
-    tell_in_pieces(
+    report_in_pieces(
         error,
         &[
             b"block ",

@@ -49,9 +49,9 @@ fn make_turns<A: Answering, R: Source, W: Sink>(
     let mut finds = false;
     for _made in 0..MAX_TURNS {
         match turn_finding(alloc, session, input, output) {
-            Ok(turned) => {
-                finds |= turned.finds;
-                if !turned.more {
+            Ok(after_turn) => {
+                finds |= after_turn.finds;
+                if !after_turn.more {
                     return Ok(finds);
                 }
             }

@@ -9,7 +9,7 @@ ghost use Rattle.device_core.specs.Faults.{block_gives};
 ghost use Rattle.device_core.specs.declared.faults.BlockFault.{BlockFault};
 ghost use Rattle.engine_sessions.specs.Answers.{Answers, well, answers_to, answers_of};
 ghost use Rattle.engine_sessions.specs.Known.{known_blocks};
-ghost use Rattle.engine_sessions.specs.Sessions.{Asked, Held, answer_of, answers_as, opened, Ends, FailsBy};
+ghost use Rattle.engine_sessions.specs.Sessions.{Asked, Held, answer_of, answers_as, opened, SessionEnds, CallFailsBy};
 ghost use Rattle.engine_sessions.specs.Calls.{Call, TakesAll, GiveAnswers, GiveAll, GiveUntil, used_by, given_by};
 ghost use Rattle.engine_sessions.specs.declared.session.SessionFault.TheVariants.{Block};
 
@@ -21,9 +21,9 @@ pub fn answers_end_at_the_first_fault()
     ensures well { (answer : EventValue → Text) (blocks : List Text) (events : List EventValue)
         → map block_gives blocks ≡ map Ok events
         → answers_to answer blocks ≡ well (map answer events) }
-    ensures faulty { (answer : EventValue → Text) (before : List Text) (events : List EventValue) (block : Text) (fault : BlockFault) (behind : List Text)
+    ensures faulty { (answer : EventValue → Text) (before : List Text) (events : List EventValue) (block : Text) (fault : BlockFault) (following : List Text)
         → map block_gives before ≡ map Ok events → block_gives block ≡ Err fault
-        → answers_to answer (before ++ block ∷ behind) ≡ record { texts = map answer events; fault = Some fault } }
+        → answers_to answer (before ++ block ∷ following) ≡ record { texts = map answer events; fault = Some fault } }
 {}
 
 /// What is known about an input from its first bytes stays, however it goes on: a fault that is known is that of
@@ -56,14 +56,14 @@ pub fn answers_do_not_depend_on_the_pieces<A: Answering>()
         → GiveAnswers (answer_of A.answers answering) calls now }
     ensures end { (answering : Asked A) (calls : List (Call (Asked A))) (now last : Held (Asked A)) (answer : Option Text)
         → TakesAll (answer_of A.answers answering) (opened answering) calls now
-        → Ends (answer_of A.answers answering) now answer last
+        → SessionEnds (answer_of A.answers answering) now answer last
         → GiveAll (answer_of A.answers answering) calls answer }
     ensures faulty_take { (answering : Asked A) (calls : List (Call (Asked A))) (now last : Held (Asked A)) (piece later : Text) (number : ℕ) (fault : BlockFault)
         → TakesAll (answer_of A.answers answering) (opened answering) calls now
-        → FailsBy (Block number fault) now (known_blocks true (now.pending ++ piece)) last
+        → CallFailsBy (Block number fault) now (known_blocks true (now.pending ++ piece)) last
         → GiveUntil (answer_of A.answers answering) (used_by calls ++ piece ++ later) (given_by calls) number fault }
     ensures faulty_end { (answering : Asked A) (calls : List (Call (Asked A))) (now last : Held (Asked A)) (number : ℕ) (fault : BlockFault)
         → TakesAll (answer_of A.answers answering) (opened answering) calls now
-        → FailsBy (Block number fault) now (known_blocks false now.pending) last
+        → CallFailsBy (Block number fault) now (known_blocks false now.pending) last
         → GiveUntil (answer_of A.answers answering) (used_by calls) (given_by calls) number fault }
 {}

@@ -4,16 +4,16 @@
 #![tactic(auto)]
 
 mod answering;
-mod behind;
 mod block_faults;
 mod faults;
+mod following;
 mod inputs;
 mod laws;
 mod session;
 mod turning;
 
 pub use answering::Answering;
-pub use behind::{answer_behind, find_behind};
+pub use following::{answer_after_messages, find_after_messages};
 pub use inputs::answer_input;
 pub use laws::{
     answers_do_not_depend_on_the_pieces, answers_end_at_the_first_fault, known_answers_stay,

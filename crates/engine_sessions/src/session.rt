@@ -6,8 +6,8 @@ ghost use Rattle.std.specs.Prelude.{◌≡◌, ◌≤◌, ◌+◌, true, false, 
 ghost use Rattle.device_core.specs.RunBlocks.{most_bytes};
 ghost use Rattle.device_core.specs.Faults.{block_gives};
 ghost use Rattle.engine_sessions.specs.Known.{known_blocks};
-ghost use Rattle.engine_sessions.specs.Sessions.{answer_of, asked_by, opened, closed, Takes, Ends, FailsBy};
-ghost use Rattle.engine_sessions.specs.Holding.{IsGoing, IsAnswer, IsRefused, IsSplitRefused};
+ghost use Rattle.engine_sessions.specs.Sessions.{answer_of, asked_by, opened, closed, SessionTakes, SessionEnds, CallFailsBy};
+ghost use Rattle.engine_sessions.specs.Holding.{IsGoing, IsBlockAnswer, IsBlockRefused, IsSplitRefused};
 
 use crate::answering::Answering;
 use device_core::{BlockFault, BlockFaultKind, SplitFault, Splitter, read_block};
@@ -91,8 +91,8 @@ impl<'a, A: Answering> Session<'a, A> {
     /// `Block` means that the block is faulty, also at byte 65,537 of one that is too long; `Memory` that memory
     /// ran out; `Ended` comes after these, after `end`, and nowhere else.
     pub fn take(&mut self, alloc: Global, piece: &[u8]) -> Result<Step, SessionFault>
-        ensures ok { IfOk result (λ step. Takes (answer_of A.answers self.old.answering) self.old piece.now step self.new) }
-        ensures err { IfErr result (λ fault. FailsBy fault self.old (known_blocks true (self.old.pending ++ piece.now)) self.new) }
+        ensures ok { IfOk result (λ step. SessionTakes (answer_of A.answers self.old.answering) self.old piece.now step self.new) }
+        ensures err { IfErr result (λ fault. CallFailsBy fault self.old (known_blocks true (self.old.pending ++ piece.now)) self.new) }
     {
         if self.ended {
             return Err(SessionFault::Ended);
@@ -133,8 +133,8 @@ impl<'a, A: Answering> Session<'a, A> {
     /// `Block` means that this block is faulty, `Memory` that memory ran out; `Ended` comes after these, after
     /// `end` and after a fault of `take`, and nowhere else.
     pub fn end(&mut self, alloc: Global) -> Result<Option<Bytes>, SessionFault>
-        ensures ok { IfOk result (λ last. Ends (answer_of A.answers self.old.answering) self.old last self.new) }
-        ensures err { IfErr result (λ fault. FailsBy fault self.old (known_blocks false self.old.pending) self.new) }
+        ensures ok { IfOk result (λ last. SessionEnds (answer_of A.answers self.old.answering) self.old last self.new) }
+        ensures err { IfErr result (λ fault. CallFailsBy fault self.old (known_blocks false self.old.pending) self.new) }
     {
         if self.ended {
             return Err(SessionFault::Ended);
@@ -182,8 +182,8 @@ fn answer_to<A: Answering>(
     block: &[u8],
     number: u64,
 ) -> Result<Bytes, SessionFault>
-    ensures ok { IfOk result (λ text. IsAnswer (answer_of A.answers (asked_by profile answering.now)) block.now text) }
-    ensures err { IfErr result (λ fault. IsRefused fault number block.now) }
+    ensures ok { IfOk result (λ text. IsBlockAnswer (answer_of A.answers (asked_by profile answering.now)) block.now text) }
+    ensures err { IfErr result (λ fault. IsBlockRefused fault number block.now) }
 {
     match read_block(alloc, block) {
         Ok(event) => {

@@ -7,7 +7,7 @@ ghost use Rattle.std.specs.Option.{option_to_list};
 ghost use Rattle.device_core.specs.RunBlocks.{most_bytes};
 ghost use Rattle.engine_ends.specs.Sinks.{SinkState};
 ghost use Rattle.engine_sessions.specs.Sessions.{answer_of};
-ghost use Rattle.engine_sessions.specs.Turns.{due, HasEnded, say_something, Sends, SendsDue, SendsUntil, Turns, FailsBy};
+ghost use Rattle.engine_sessions.specs.Turns.{due, HasEnded, say_something, Sends, SendsDue, SendsUntil, Turns, TurnFailsBy};
 ghost use Rattle.engine_sessions.specs.Findings.{TurnsFinding};
 ghost use Rattle.engine_sessions.specs.Holding.{IsGoing, BreaksOffAt};
 
@@ -33,7 +33,7 @@ pub enum TurnFault {
 
 /// The outcome of a turn.
 #[derive(Clone, Copy, Debug, PartialEq, Eq)]
-pub(crate) struct Turned {
+pub(crate) struct TurnOutcome {
     /// Whether the input goes on.
     pub(crate) more: bool,
     /// Whether any of the answers has a byte.
@@ -57,7 +57,7 @@ pub fn turn<A: Answering, R: Source, W: Sink>(
     ensures ok { IfOk result (λ more. Turns (answer_of A.answers session.old.answering) more
         (record { session = session.old; input = R.shown input.old; output = W.shown output.old })
         (record { session = session.new; input = R.shown input.new; output = W.shown output.new })) }
-    ensures err { IfErr result (λ fault. FailsBy (answer_of A.answers session.old.answering) fault
+    ensures err { IfErr result (λ fault. TurnFailsBy (answer_of A.answers session.old.answering) fault
         (record { session = session.old; input = R.shown input.old; output = W.shown output.old })
         (record { session = session.new; input = R.shown input.new; output = W.shown output.new })) }
     ensures ended { OnErr result (HasEnded session.old session.new) }
@@ -65,7 +65,7 @@ pub fn turn<A: Answering, R: Source, W: Sink>(
     ensures untouched { session.old.ended ≡ true → (session.new ≡ session.old) × (input.new ≡ input.old) × (output.new ≡ output.old) }
 {
     match turn_finding(alloc, session, input, output) {
-        Ok(turned) => Ok(turned.more),
+        Ok(after_turn) => Ok(after_turn.more),
         Err(fault) => Err(fault),
     }
 }
@@ -76,11 +76,11 @@ pub(crate) fn turn_finding<A: Answering, R: Source, W: Sink>(
     session: &mut Session<'_, A>,
     input: &mut R,
     output: &mut W,
-) -> Result<Turned, TurnFault>
-    ensures ok { IfOk result (λ turned. TurnsFinding (answer_of A.answers session.old.answering) turned.more turned.finds
+) -> Result<TurnOutcome, TurnFault>
+    ensures ok { IfOk result (λ after_turn. TurnsFinding (answer_of A.answers session.old.answering) after_turn.more after_turn.finds
         (record { session = session.old; input = R.shown input.old; output = W.shown output.old })
         (record { session = session.new; input = R.shown input.new; output = W.shown output.new })) }
-    ensures err { IfErr result (λ fault. FailsBy (answer_of A.answers session.old.answering) fault
+    ensures err { IfErr result (λ fault. TurnFailsBy (answer_of A.answers session.old.answering) fault
         (record { session = session.old; input = R.shown input.old; output = W.shown output.old })
         (record { session = session.new; input = R.shown input.new; output = W.shown output.new })) }
     ensures ended { OnErr result (HasEnded session.old session.new) }
@@ -93,11 +93,11 @@ pub(crate) fn turn_finding<A: Answering, R: Source, W: Sink>(
     let mut piece = [0u8; MAX_READ];
     match input.read(&mut piece) {
         Ok(0) => match answer_last(alloc, session, output) {
-            Ok(finds) => Ok(Turned { more: false, finds }),
+            Ok(finds) => Ok(TurnOutcome { more: false, finds }),
             Err(fault) => Err(fault),
         },
         Ok(len) => match answer_piece(alloc, session, &piece[..len], output) {
-            Ok(finds) => Ok(Turned { more: true, finds }),
+            Ok(finds) => Ok(TurnOutcome { more: true, finds }),
             Err(fault) => Err(fault),
         },
         Err(DeviceFault) => {

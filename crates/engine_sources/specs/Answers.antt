@@ -9,9 +9,9 @@ use Rattle.eval_rules.specs.Outcomes.{outcome}
 use Rattle.eval_rules.specs.declared.outcome.Command.{Command}
 use Rattle.eval_rules.specs.declared.outcome.Outcome.{Outcome}
 use Rattle.eval_sources.specs.Sources.{Source, source_of}
-use Rattle.eval_sources.specs.Told.{event_commands, stages}
+use Rattle.eval_sources.specs.Reported.{event_commands, stages}
 use Rattle.engine_answers.specs.Lines.{event_line, note_lines}
-use Rattle.engine_sources.specs.Lines.{command_lines, env_value_lines, given_line, member_lines, source_part, sourced_persist, sourced_priority, sourced_watch, value_lines}
+use Rattle.engine_sources.specs.Lines.{command_lines, env_value_lines, given_line, label_lines, member_lines, source_part, sourced_persist, sourced_priority, sourced_watch, value_lines}
 
 -- the lines on the device's node, each after the part on where it comes from
 unfoldable pub sourced_node : (Source → Text) → (Pair → Source) → Outcome → Text
@@ -26,11 +26,11 @@ sourced_node part source outcome =
 
 -- the lines of the answer to an event with this outcome, each except the first and those of notes after the part on
 -- where it comes from
-unfoldable pub lines_behind : (Source → Text) → (Pair → Source) → EventValue → Outcome → List (Command × Rule) → Text
-lines_behind part source event outcome commands =
+unfoldable pub lines_after : (Source → Text) → (Pair → Source) → EventValue → Outcome → List (Command × Rule) → Text
+lines_after part source event outcome commands =
     event_line event.action event.device.path
     ++ sourced_node part source outcome
-    ++ value_lines part source (codes "label") outcome.labels
+    ++ label_lines part source event.profile outcome.labels
     ++ member_lines part source (codes "link") outcome.links
     ++ member_lines part source (codes "tag") outcome.tags
     ++ env_value_lines part source outcome.env
@@ -42,7 +42,7 @@ lines_behind part source event outcome commands =
 -- the lines of the answer to an event by rules and entries, each after such a part on the rule that it comes from
 abbrev pub lines_by : (Source → Text) → List Rule → List Entry → EventValue → Text
 lines_by part rules entries event =
-    lines_behind part (source_of (stages rules entries event)) event (outcome rules entries event) (event_commands rules entries event)
+    lines_after part (source_of (stages rules entries event)) event (outcome rules entries event) (event_commands rules entries event)
 
 -- the lines of the answer to an event, each after the place of the rule that it comes from
 abbrev pub sourced_lines : List Rule → List Entry → EventValue → Text

@@ -1,11 +1,12 @@
 -- The lines of an answer, each after a part on the rule that it comes from.
 use Rattle.std.specs.Prelude.{ℤ, Bool, true, false, cond, List, [], ◌∷◌, ◌++◌, Option, Some, None, codes, flat_map}
 use Rattle.std.specs.Fmt.{signed_decimal}
+use Rattle.text_bytes.specs.declared.profile.Profile.{Profile}
 use Rattle.text_tables.specs.Texts.{Text}
 use Rattle.text_tables.specs.Pairs.{Pair}
 use Rattle.rule_types.specs.Rules.{Rule}
 use Rattle.eval_rules.specs.declared.outcome.Command.{Command}
-use Rattle.eval_effects.specs.Items.{item_name, watch_word}
+use Rattle.eval_effects.specs.Items.{item_name, label_item, watch_word}
 use Rattle.eval_sources.specs.Sources.{Source}
 use Rattle.engine_ends.specs.Places.{place_of}
 use Rattle.engine_answers.specs.Lines.{is_hidden, pair_line, persist_line, priority_line, run_line, text_line, watch_line}
@@ -48,6 +49,14 @@ module _ (part : Source → Text) (source : Pair → Source) where
   -- a line for each of several names with their values
   abbrev pub value_lines : Text → List Pair → Text
   value_lines word pairs = flat_map (value_line word) pairs
+
+  -- a line with the label of a module
+  unfoldable pub label_line : Profile → Pair → Text
+  label_line profile label = part (source (label_item profile label)) ++ pair_line (codes "label") label
+
+  -- a line for each of several labels
+  abbrev pub label_lines : Profile → List Pair → Text
+  label_lines profile labels = flat_map (label_line profile) labels
 
   -- the line of a property that is not for rules alone
   abbrev pub shown_value_line : Pair → Text

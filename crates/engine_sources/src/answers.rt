@@ -1,11 +1,11 @@
 //! The lines of a whole answer.
 ghost use Rattle.std.specs.Prelude.{◌≡◌, ◌++◌, None, IfOk, OnOk};
 ghost use Rattle.eval_sources.specs.Sources.{source_in};
-ghost use Rattle.engine_sources.specs.Answers.{lines_behind, sourced_lines, sourced_node};
+ghost use Rattle.engine_sources.specs.Answers.{lines_after, sourced_lines, sourced_node};
 ghost use Rattle.engine_sources.specs.Lines.{source_part};
 
 use crate::lines::{push_given, push_sourced_persist, push_sourced_priority, push_sourced_watch};
-use crate::lists::{push_commands, push_env, push_members, push_values};
+use crate::lists::{push_commands, push_env, push_labels, push_members, push_values};
 use device_core::Event;
 use engine_answers::{push_event, push_notes};
 use eval_rules::Outcome;
@@ -34,16 +34,22 @@ fn push_node(
 }
 
 /// The lines of the outcome of an event, each after where it comes from.
-#[tactic(auto, unfolding(crate::specs::Answers::lines_behind))]
+#[tactic(auto, unfolding(crate::specs::Answers::lines_after))]
 fn lines_of(alloc: Global, event: &Event<'_>, found: &Sourced<'_>) -> Result<Vec<u8>, AllocError>
-    ensures { IfOk result (λ lines. lines.items ≡ lines_behind source_part (source_in found.now.sources None) event.now found.now.outcome found.now.commands.items) }
+    ensures { IfOk result (λ lines. lines.items ≡ lines_after source_part (source_in found.now.sources None) event.now found.now.outcome found.now.commands.items) }
 {
     let mut lines = Vec::new(alloc);
     let sources = &found.sources;
     let outcome = &found.outcome;
     push_event(alloc, &mut lines, event.action(), event.device().path())?;
     push_node(alloc, &mut lines, sources, outcome)?;
-    push_values(alloc, &mut lines, sources, b"label", &outcome.labels)?;
+    push_labels(
+        alloc,
+        &mut lines,
+        sources,
+        event.profile(),
+        outcome.labels.as_slice(),
+    )?;
     push_members(alloc, &mut lines, sources, b"link", &outcome.links)?;
     push_members(alloc, &mut lines, sources, b"tag", &outcome.tags)?;
     push_env(alloc, &mut lines, sources, &outcome.env)?;

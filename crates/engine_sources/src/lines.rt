@@ -2,18 +2,19 @@
 ghost use Rattle.std.specs.Prelude.{◌≡◌, ◌++◌, None, OnOk, option_map};
 ghost use Rattle.eval_effects.specs.Items.{watch_word};
 ghost use Rattle.eval_sources.specs.Sources.{source_in};
-ghost use Rattle.engine_sources.specs.Lines.{command_line, given_line, member_line, shown_value_line, source_part, sourced_persist, sourced_priority, sourced_watch, value_line, word_line};
+ghost use Rattle.engine_sources.specs.Lines.{command_line, given_line, label_line, member_line, shown_value_line, source_part, sourced_persist, sourced_priority, sourced_watch, value_line, word_line};
 
 use engine_answers::{
     is_hidden, push_pair, push_persist, push_priority, push_run, push_text, push_watch,
 };
 use engine_ends::push_place;
-use eval_effects::item_name;
+use eval_effects::{item_name, label_item};
 use eval_sources::{SourcedCommand, Sources};
+use eval_state::Label;
 use itoa::Buffer;
 use rule_types::Rule;
 use std::alloc::{AllocError, Global};
-use text_bytes::Bytes;
+use text_bytes::{Bytes, Profile};
 
 /// Appends where a line comes from.
 fn push_rule(alloc: Global, lines: &mut Vec<u8>, rule: Option<&Rule>) -> Result<(), AllocError>
@@ -100,6 +101,22 @@ pub(crate) fn push_value(
     let item = item_name(alloc, word, name)?;
     push_source(alloc, lines, sources, item.as_slice(), value)?;
     push_pair(alloc, lines, word, name, value)
+}
+
+/// Adds a line with the label of a module.
+#[tactic(auto, unfolding(crate::specs::Lines::label_line))]
+pub(crate) fn push_label(
+    alloc: Global,
+    lines: &mut Vec<u8>,
+    sources: &Sources<'_>,
+    profile: Profile,
+    label: &Label,
+) -> Result<(), AllocError>
+    ensures { OnOk result (lines.new.items ≡ lines.old.items ++ label_line source_part (source_in sources.now None) profile label.now) }
+{
+    let item = label_item(alloc, profile, label)?;
+    push_source(alloc, lines, sources, item.name(), item.value())?;
+    push_pair(alloc, lines, b"label", label.name(), label.text())
 }
 
 /// Adds the line of a property, unless its name begins with a dot.

@@ -1,11 +1,13 @@
 //! A line for each member of a list, after the rule that it comes from.
 ghost use Rattle.std.specs.Prelude.{◌≡◌, ◌++◌, None, OnOk};
 ghost use Rattle.eval_sources.specs.Sources.{source_in};
-ghost use Rattle.engine_sources.specs.Lines.{command_lines, env_value_lines, member_lines, source_part, value_lines};
+ghost use Rattle.engine_sources.specs.Lines.{command_lines, env_value_lines, label_lines, member_lines, source_part, value_lines};
 
-use crate::lines::{push_command, push_member, push_shown, push_value};
+use crate::lines::{push_command, push_label, push_member, push_shown, push_value};
 use eval_sources::{SourcedCommand, Sources};
+use eval_state::Label;
 use std::alloc::{AllocError, Global};
+use text_bytes::Profile;
 use text_tables::{OwnedPairs, OwnedTexts};
 
 /// Adds a line for each text.
@@ -36,6 +38,22 @@ pub(crate) fn push_values(
 {
     for (name, value) in pairs.as_map().iter() {
         push_value(alloc, lines, sources, word, name, value.as_slice())?;
+    }
+    Ok(())
+}
+
+/// Adds a line for each label.
+pub(crate) fn push_labels(
+    alloc: Global,
+    lines: &mut Vec<u8>,
+    sources: &Sources<'_>,
+    profile: Profile,
+    labels: &[Label],
+) -> Result<(), AllocError>
+    ensures { OnOk result (lines.new.items ≡ lines.old.items ++ label_lines source_part (source_in sources.now None) profile labels.now) }
+{
+    for label in labels {
+        push_label(alloc, lines, sources, profile, label)?;
     }
     Ok(())
 }

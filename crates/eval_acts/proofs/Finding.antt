@@ -15,7 +15,7 @@ not_empty (p ∷ found) e = refl
 head_found : (x : List Pair) (xs : List (List Pair)) → is_empty x ≡ false → first_found (x ∷ xs) ≡ x
 head_found x xs e = ap (λ t. unwrap_or (cond (not t) (Some x) (find (λ properties. not (is_empty properties)) xs)) []) e
 
--- the answer at a place is what is found, where those before it are passed over and it is not empty
+-- the answer at a place is what is found, if those before it are skipped and it is not empty
 pub first_here : (f : Text → List Pair) (prefix : Text) (ms : List (Bor Text)) (i : ℕ) (d : Bor Text) (found : List (Bor Text × Bor Text)) (whole : List Pair)
     → i < length ms → shown found ≡ f (prefix ++ (get_or ms i d).now) → (length found == 0) ≡ false
     → first_found (map f (map (λ m. prefix ++ m) (map (λ m. m.now) (drop i ms)))) ≡ whole → shown found ≡ whole

@@ -7,10 +7,10 @@ use Rattle.text_core.specs.Fnmatch.{fnmatch_items}
 use Rattle.text_core.specs.declared.item.Item.{Item}
 use Rattle.text_core.specs.declared.reading.Reading.TheVariants.{Exact}
 use Rattle.hwdb_lookup.specs.declared.entry.Entry.{Entry}
-use Rattle.rule_types.specs.WrittenParts.{attribute_of_deed, key_of_deed}
+use Rattle.rule_types.specs.WrittenParts.{attribute_of_act_kind, key_of_act_kind}
 use Rattle.rule_types.specs.declared.part.Act.{Act}
-use Rattle.rule_types.specs.declared.part.Deed.{Deed}
-use Rattle.rule_types.specs.declared.part.Deed.TheVariants as deed
+use Rattle.rule_types.specs.declared.part.ActKind.{ActKind}
+use Rattle.rule_types.specs.declared.part.ActKind.TheVariants as act_kind
 use Rattle.rule_types.specs.declared.part.Import.{Import}
 use Rattle.rule_types.specs.declared.part.Import.TheVariants as import
 use Rattle.rule_types.specs.declared.roles.MatchOperator.{MatchOperator}
@@ -26,7 +26,7 @@ use Rattle.eval_state.specs.declared.note_kind.NoteKind.TheVariants.{TextTooLong
 use Rattle.eval_state.specs.declared.scene.Scene.{Scene}
 use Rattle.eval_acts.specs.ActTexts.{import_text, most_command_bytes, most_path_bytes, names_text, program_text, test_text}
 use Rattle.eval_acts.specs.Imports.{from_parent, from_program, not_run, run_builtin}
-use Rattle.eval_acts.specs.Questions.{asked, tested, with_result}
+use Rattle.eval_acts.specs.Questions.{answered_by_block, tested, with_result}
 use Rattle.eval_acts.specs.declared.came.Came.{Came}
 use Rattle.eval_acts.specs.declared.came.Came.TheVariants.{Tried, Stopped}
 
@@ -40,11 +40,11 @@ came_too_long Manual = Tried false
 came_too_long Udev = Stopped
 
 -- an act whose text is too long leaves a note, and is not done
-abbrev pub too_long : Rule → Deed → Scene → Scene × Came
-too_long r d s = (noted r TextTooLong (word_of_key (key_of_deed d) (attribute_of_deed d)) s, came_too_long s.state.event.profile)
+abbrev pub too_long : Rule → ActKind → Scene → Scene × Came
+too_long r d s = (noted r TextTooLong (word_of_key (key_of_act_kind d) (attribute_of_act_kind d)) s, came_too_long s.state.event.profile)
 
 -- an act that looks at a rendered text
-abbrev pub on_text : Rule → Deed → (Text → Scene → Scene × Bool) → Rendered → Scene → Scene × Came
+abbrev pub on_text : Rule → ActKind → (Text → Scene → Scene × Bool) → Rendered → Scene → Scene × Came
 on_text r d act (rendered.Text text) s = tried (act text s)
 on_text r d act rendered.TooLong s = too_long r d s
 
@@ -53,22 +53,22 @@ abbrev pub from_parent_by : Text → Scene → Scene × Bool
 from_parent_by text s = from_parent (fnmatch_items Exact text 0 ∷ []) (device_at s.state.event 1) s
 
 -- IMPORT{parent}, by its value read as the manual has it and as it is written; udev renders it
-abbrev pub parent_imported : Profile → Rule → Deed → List (List Item) → Text → Scene → Scene × Came
+abbrev pub parent_imported : Profile → Rule → ActKind → List (List Item) → Text → Scene → Scene × Came
 parent_imported Manual r d names text s = tried (from_parent names (device_at s.state.event 1) s)
 parent_imported Udev r d names text s = on_text r d from_parent_by (names_text text s.state) s
 
 -- IMPORT{program}: by the manual it is never run, and for udev the event's block answers its command
-abbrev pub program_imported : Profile → Rule → Deed → Import → Template → Scene → Scene × Came
+abbrev pub program_imported : Profile → Rule → ActKind → Import → Template → Scene → Scene × Came
 program_imported Manual r d import template s = tried (not_run r import s)
 program_imported Udev r d import template s = on_text r d (from_program r) (import_text most_command_bytes template s.state) s
 
 -- an IMPORT that is never run; udev nevertheless renders its value, which may have so many bytes
-abbrev pub unrun : Profile → Rule → Deed → Import → ℕ → Template → Scene → Scene × Came
+abbrev pub unrun : Profile → Rule → ActKind → Import → ℕ → Template → Scene → Scene × Came
 unrun Manual r d import most template s = tried (not_run r import s)
 unrun Udev r d import most template s = on_text r d (λ text. not_run r import) (import_text most template s.state) s
 
 -- IMPORT, by where it takes properties from
-abbrev pub imported : List Entry → Rule → Deed → Import → Scene → Scene × Came
+abbrev pub imported : List Entry → Rule → ActKind → Import → Scene → Scene × Came
 imported entries r d (import.Builtin template) s = on_text r d (run_builtin entries r) (import_text most_command_bytes template s.state) s
 imported entries r d (import.Parent names text) s = parent_imported s.state.event.profile r d names text s
 imported entries r d (import.Program template) s = program_imported s.state.event.profile r d (import.Program template) template s
@@ -77,20 +77,20 @@ imported entries r d (import.Cmdline name) s = tried (not_run r (import.Cmdline 
 imported entries r d (import.Db name) s = tried (not_run r (import.Db name) s)
 
 -- the scene after an act, and what became of the act; PROGRAM empties the result before its command is looked at
-abbrev pub performed : List Entry → Rule → Deed → Scene → Scene × Came
-performed entries r (deed.Test mask template) s = on_text r (deed.Test mask template) (tested r mask) (test_text template s.state) s
-performed entries r (deed.Program template) s = on_text r (deed.Program template) (asked r) (program_text template s.state) (with_result [] s)
-performed entries r (deed.Import from) s = imported entries r (deed.Import from) from s
+abbrev pub performed : List Entry → Rule → ActKind → Scene → Scene × Came
+performed entries r (act_kind.Test mask template) s = on_text r (act_kind.Test mask template) (tested r mask) (test_text template s.state) s
+performed entries r (act_kind.Program template) s = on_text r (act_kind.Program template) (answered_by_block r) (program_text template s.state) (with_result [] s)
+performed entries r (act_kind.Import from) s = imported entries r (act_kind.Import from) from s
 
 -- whether a rule goes on: with `==` if its act was done, with `!=` if it was not
-abbrev pub goes_on : MatchOperator → Came → Bool
-goes_on operator (Tried done) = agrees operator done
-goes_on operator Stopped = false
+abbrev pub proceeds : MatchOperator → Came → Bool
+proceeds operator (Tried done) = agrees operator done
+proceeds operator Stopped = false
 
 -- the scene after an act, and whether its rule goes on
-abbrev pub going_on : Act → Scene × Came → Scene × Bool
-going_on act after = (after.0, goes_on act.operator after.1)
+abbrev pub proceeding : Act → Scene × Came → Scene × Bool
+proceeding act after = (after.0, proceeds act.operator after.1)
 
 -- the scene after an act of a rule, and whether the rule goes on; what was changed stays either way
 unfoldable pub act_step : List Entry → Rule → Act → Scene → Scene × Bool
-act_step entries r act s = going_on act (performed entries r act.deed s)
+act_step entries r act s = proceeding act (performed entries r act.kind s)

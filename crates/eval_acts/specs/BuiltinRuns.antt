@@ -2,7 +2,7 @@
 -- was done.
 use Rattle.std.specs.Prelude.{ℕ, ◌+◌, nat_le, Bool, false, List, [], ◌∷◌, ◌++◌, length, Option, Some, None, is_some, codes, if◌then◌else◌}
 use Rattle.std.specs.List.{sum_by}
-use Rattle.text_tables.specs.Texts.{Text}
+use Rattle.text_tables.specs.Texts.{Text, same_text}
 use Rattle.text_tables.specs.Pairs.{Pair, value_of}
 use Rattle.hwdb_lookup.specs.Query.{query}
 use Rattle.hwdb_lookup.specs.declared.entry.Entry.{Entry}
@@ -40,12 +40,16 @@ abbrev pub need_noted : Rule → (name : Text) → List Text → Scene → Scene
 need_noted r name [] s = s
 need_noted r name (need ∷ needs) s = noted r BuiltinNeeds (need_word name need) s
 
--- The properties of a builtin's outcome are set, and the first thing that it needs is noted; it was done if it
--- succeeds. If it would set more than a builtin may, it sets nothing, which is noted, and it was not done.
-abbrev pub outcome_taken : Rule → (name : Text) → OutcomeValue → Scene → Scene × Bool
-outcome_taken r name outcome s =
-    if nat_le (properties_size outcome.properties) most_set then (need_noted r name outcome.needs (with_env (properties_set s.state.env outcome.properties) s), outcome.is_done)
+-- Properties are set for a builtin's outcome, and the first thing that it needs is noted; it was done if it succeeds. If
+-- the outcome's own are more than a builtin may set, it sets nothing, which is noted, and it was not done.
+abbrev pub outcome_set : Rule → (name : Text) → OutcomeValue → List Pair → Scene → Scene × Bool
+outcome_set r name outcome properties s =
+    if nat_le (properties_size outcome.properties) most_set then (need_noted r name outcome.needs (with_env (properties_set s.state.env properties) s), outcome.is_done)
     else (noted r TextTooLong name s, false)
+
+-- the same for the outcome's own properties
+abbrev pub outcome_taken : Rule → (name : Text) → OutcomeValue → Scene → Scene × Bool
+outcome_taken r name outcome s = outcome_set r name outcome outcome.properties s
 
 -- a scene in which usb_id has run
 abbrev pub usb_id_ran : Scene × Bool → Scene × Bool
@@ -69,11 +73,24 @@ path_id_run None r s = path_id_ran (outcome_taken r (builtin_name PathId) (path_
 abbrev pub input_id_run : Rule → Scene → Scene × Bool
 input_id_run r s = outcome_taken r (builtin_name InputId) (input_id s.state.event) s
 
--- a scene with what the hardware database says about a text, if there is one
-abbrev pub looked_up : List Entry → Option Text → Scene → Scene
-looked_up entries None s = s
-looked_up entries (Some text) s = with_env (properties_set s.state.env (query entries text)) s
+-- what the hardware database says about a text, if there is one
+abbrev pub looked_up : List Entry → Option Text → List Pair
+looked_up entries None = []
+looked_up entries (Some text) = query entries text
 
--- net_id; what the hardware database says about the device's address is set first
+-- whether a property is the name by an address
+abbrev pub is_address_name : Pair → Bool
+is_address_name property = same_text property.0 (codes "ID_NET_NAME_MAC")
+
+-- properties, and right after the name by an address what was found for the address
+abbrev pub with_maker : (found : List Pair) → List Pair → List Pair
+with_maker found [] = []
+with_maker found (property ∷ properties) =
+    if is_address_name property then property ∷ found ++ properties
+    else property ∷ with_maker found properties
+
+-- net_id; right after the name by the device's address it sets what the hardware database says about the address
 abbrev pub net_id_run : List Entry → Rule → Scene → Scene × Bool
-net_id_run entries r s = outcome_taken r (builtin_name NetId) (net_id s.state.event s.state.env) (looked_up entries (lookup s.state.event s.state.env) s)
+net_id_run entries r s =
+    let names = net_id s.state.event s.state.env in
+    outcome_set r (builtin_name NetId) names (with_maker (looked_up entries (lookup s.state.event s.state.env)) names.properties) s

@@ -9,7 +9,8 @@ use Rattle.rule_parts.specs.declared.builtins.Builtin.TheVariants as known_as
 use Rattle.eval_acts.specs.declared.builtin.Builtin.{Builtin}
 use Rattle.eval_acts.specs.declared.builtin.Builtin.TheVariants as asked
 use Rattle.eval_acts.specs.declared.hwdb.Hwdb.{Hwdb}
-use Rattle.eval_acts.specs.Words.{command_words}
+use Rattle.eval_acts.specs.UdevHwdb.{udev_hwdb_of}
+use Rattle.eval_acts.specs.Words.{command_words, udev_words}
 use Rattle.eval_acts.specs.Hwdb.{hwdb_of}
 
 -- the options of `hwdb`, or that they are not valid
@@ -27,16 +28,15 @@ abbrev pub builtin_of : Option (List Text) → Builtin
 builtin_of None = asked.BadArguments
 builtin_of (Some words) = builtin_of_words words
 
--- what the words of `hwdb` ask for, the first of which is its name
-abbrev pub hwdb_of_words : Option (List Text) → Builtin
-hwdb_of_words None = asked.BadArguments
-hwdb_of_words (Some []) = hwdb_asked (hwdb_of [])
-hwdb_of_words (Some (name ∷ words)) = hwdb_asked (hwdb_of words)
+-- what the words of `hwdb` ask for as udev has them, the first of which is its name
+abbrev pub hwdb_of_words : List Text → Builtin
+hwdb_of_words [] = hwdb_asked (udev_hwdb_of [])
+hwdb_of_words (name ∷ words) = hwdb_asked (udev_hwdb_of words)
 
 -- what a command asks for, by the builtin of udev that it means; one that means none is kept as it is
 abbrev pub builtin_meant : Option known.Builtin → Text → Builtin
 builtin_meant None text = asked.Other text
-builtin_meant (Some known_as.Hwdb) text = hwdb_of_words (command_words text)
+builtin_meant (Some known_as.Hwdb) text = hwdb_of_words (udev_words text)
 builtin_meant (Some known_as.InputId) text = asked.InputId
 builtin_meant (Some known_as.NetId) text = asked.NetId
 builtin_meant (Some known_as.PathId) text = asked.PathId

@@ -50,8 +50,8 @@ abbrev pub is_unknown : Text → Bool
 is_unknown word = is_option word && not (is_known word)
 
 -- the words that are not options
-abbrev pub modaliases : List Text → List Text
-modaliases words = filter (λ word. not (is_option word)) words
+abbrev pub operands : List Text → List Text
+operands words = filter (λ word. not (is_option word)) words
 
 -- at most one modalias
 abbrev pub at_most_one : List Text → Option (Option Text)
@@ -84,4 +84,4 @@ with_parts words modalias keys = None
 unfoldable pub hwdb_of : List Text → Option Hwdb
 hwdb_of words =
     if list_any is_unknown words then None
-    else with_parts words (at_most_one (modaliases words)) (filter_of (last_value filter_option words))
+    else with_parts words (at_most_one (operands words)) (filter_of (last_value filter_option words))

@@ -56,7 +56,7 @@ abbrev pub from_parent : List (List Item) → Option DeviceValue → Scene → S
 from_parent names None s = (s, false)
 from_parent names (Some parent) s = (with_env (with_values s.state.env (names_fitting names parent.env)) s, true)
 
--- a program that answered: where its status is 0, the properties of what it printed are set; the result of PROGRAM stays
+-- a program that answered: if its status is 0, the properties of what it printed are set; the result of PROGRAM stays
 abbrev pub from_answer : AnswerValue → Scene → Scene × Bool
 from_answer answer s =
     if answer.status == 0 then (with_env (properties_set s.state.env (printed_properties answer.text)) s, true)

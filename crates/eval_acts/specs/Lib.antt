@@ -10,3 +10,4 @@ pub mod Questions
 pub mod ActTexts
 pub mod Printed
 pub mod UsbModalias
+pub mod UdevHwdb

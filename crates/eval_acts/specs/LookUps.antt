@@ -1,18 +1,18 @@
 -- What `hwdb` looks up in the hardware database, and what it finds.
-use Rattle.std.specs.Prelude.{ℕ, Bool, true, false, not, ◌&&◌, if◌then◌else◌, List, [], ◌∷◌, ◌++◌, take, drop, map, filter, filter_map, find, Option, Some, None, is_some, codes}
+use Rattle.std.specs.Prelude.{ℕ, Bool, true, not, ◌&&◌, if◌then◌else◌, List, [], ◌∷◌, ◌++◌, take, drop, map, filter, filter_map, find, Option, Some, None, is_some, codes}
 use Rattle.std.specs.List.{position_or_len}
 use Rattle.std.specs.Option.{option_or, unwrap_or}
 use Rattle.text_bytes.specs.declared.profile.Profile.{Profile}
 use Rattle.text_bytes.specs.declared.profile.Profile.TheVariants.{Manual, Udev}
 use Rattle.text_bytes.specs.Texts.{is_empty}
-use Rattle.text_tables.specs.Texts.{Text, same_text}
+use Rattle.text_tables.specs.Texts.{Text}
 use Rattle.text_tables.specs.Pairs.{Pair, value_of}
 use Rattle.text_core.specs.Fits.{fits}
 use Rattle.text_core.specs.declared.item.Item.{Item}
 use Rattle.hwdb_lookup.specs.Query.{query}
 use Rattle.hwdb_lookup.specs.declared.entry.Entry.{Entry}
 use Rattle.device_core.specs.Values.{DeviceValue}
-use Rattle.builtin_devices.specs.Devices.{type_of}
+use Rattle.builtin_devices.specs.Devices.{is_text, type_of}
 use Rattle.eval_state.specs.declared.state.State.{State}
 use Rattle.eval_acts.specs.UsbModalias.{made_up}
 use Rattle.eval_acts.specs.declared.hwdb.Hwdb.{Hwdb}
@@ -25,13 +25,13 @@ pub record Candidate : Type 0 where
 
 -- A device, by its properties DEVTYPE and MODALIAS. For udev the type is what the kernel calls it, and a device
 -- without a modalias may have one that is made up.
-abbrev pub seen : Profile → DeviceValue → (devtype modalias : Option Text) → Candidate
-seen Manual device devtype modalias = record { subsystem = device.subsystem; devtype = devtype; modalias = modalias }
-seen Udev device devtype modalias = record { subsystem = device.subsystem; devtype = type_of device; modalias = option_or modalias (made_up device) }
+abbrev pub candidate_with : Profile → DeviceValue → (devtype modalias : Option Text) → Candidate
+candidate_with Manual device devtype modalias = record { subsystem = device.subsystem; devtype = devtype; modalias = modalias }
+candidate_with Udev device devtype modalias = record { subsystem = device.subsystem; devtype = type_of device; modalias = option_or modalias (made_up device) }
 
 -- a device by these properties
 abbrev pub candidate : Profile → DeviceValue → List Pair → Candidate
-candidate profile device env = seen profile device (value_of env (codes "DEVTYPE")) (value_of env (codes "MODALIAS"))
+candidate profile device env = candidate_with profile device (value_of env (codes "DEVTYPE")) (value_of env (codes "MODALIAS"))
 
 -- a parent, by its own properties
 abbrev pub parent : Profile → DeviceValue → Candidate
@@ -40,11 +40,6 @@ parent profile device = candidate profile device device.env
 -- the devices of an event, nearest first: the event device with its current properties, then the parents
 abbrev pub candidates : State → List Candidate
 candidates state = candidate state.event.profile state.event.device state.env ∷ map (parent state.event.profile) state.event.parents
-
--- whether a text is there, and the same
-abbrev pub is_text : Text → Option Text → Bool
-is_text text None = false
-is_text text (Some other) = same_text text other
 
 -- whether a device has a subsystem: the one that is named, if any
 abbrev pub is_wanted : Option Text → Candidate → Bool
@@ -103,8 +98,8 @@ counts None key = true
 counts (Some pattern) key = fits pattern key
 
 -- the properties of a text that count
-abbrev pub answer : List Entry → Hwdb → Text → List Pair
-answer entries hwdb text = filter (λ property. counts hwdb.filter property.0) (query entries text)
+abbrev pub counted_properties : List Entry → Hwdb → Text → List Pair
+counted_properties entries hwdb text = filter (λ property. counts hwdb.filter property.0) (query entries text)
 
 -- the first list that is not empty; empty if there is none
 abbrev pub first_found : List (List Pair) → List Pair
@@ -112,4 +107,4 @@ first_found answers = unwrap_or (find (λ properties. not (is_empty properties))
 
 -- what is found: the answer to the first text that has one
 unfoldable pub found : List Entry → Hwdb → State → List Pair
-found entries hwdb state = first_found (map (answer entries hwdb) (texts hwdb state))
+found entries hwdb state = first_found (map (counted_properties entries hwdb) (texts hwdb state))

@@ -20,20 +20,20 @@ unspaced text = take (length text - suffix_len is_blank text) text
 abbrev pub bare : Text → Text
 bare text = unspaced (unindented text)
 
--- what comes before the last byte of a text, where that is this one
+-- what comes before the last byte of a text, if that byte is this one
 abbrev pub before_end : ℕ → Text → Option Text
 before_end byte text = if ends_in byte text then Some (take (length text - 1) text) else None
 
--- a value without the quotes around it; none where it begins with a quote and does not end with the same one after it
+-- a value without the quotes around it; nothing if it begins with a quote and does not end with the same one after it
 abbrev pub unquoted : Text → Option Text
 unquoted [] = Some []
 unquoted (b ∷ text) = if is_quote b then before_end b text else Some (b ∷ text)
 
--- the property of a name and a value: none where one of them is empty, or where a quote stays open
+-- the property of a name and a value: nothing if one of them is empty, or if a quote stays open
 abbrev pub property_of : (name value : Text) → Option Pair
 property_of name value = if is_empty name || is_empty value then None else option_map (λ text. (name, text)) (unquoted value)
 
--- the property of what stands before the first `=` of a line and what after it, each without the blanks at its ends
+-- the property of what comes before the first `=` of a line and what comes after it, each without the blanks at its ends
 abbrev pub property_cut : Text × Text → Option Pair
 property_cut cut = property_of (bare cut.0) (bare cut.1)
 

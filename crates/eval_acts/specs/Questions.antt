@@ -66,5 +66,5 @@ answered_or_noted r command None s = (noted r NoAnswer command s, false)
 answered_or_noted r command (Some answer) s = answered answer s
 
 -- PROGRAM of a command, which the event's block answers
-abbrev pub asked : Rule → Text → Scene → Scene × Bool
-asked r command s = answered_or_noted r command (value_of s.state.event.programs command) s
+abbrev pub answered_by_block : Rule → Text → Scene → Scene × Bool
+answered_by_block r command s = answered_or_noted r command (value_of s.state.event.programs command) s

@@ -14,7 +14,7 @@ abbrev pub attribute_reached : Rule → Text → Scene → Scene
 attribute_reached r name s = if is_not_read name s.state.event then noted r AttributeNotRead name s else s
 
 -- a match of the event that is reached: SYSCTL, which is not read, leaves a note, and so does an attribute that is not read
-abbrev pub reached : Rule → PlainKey → Scene → Scene
-reached r (plain.Sysctl name) s = noted r SysctlNotRead name s
-reached r (plain.Attr name) s = attribute_reached r name s
-reached r key s = s
+abbrev pub match_reached : Rule → PlainKey → Scene → Scene
+match_reached r (plain.Sysctl name) s = noted r SysctlNotRead name s
+match_reached r (plain.Attr name) s = attribute_reached r name s
+match_reached r key s = s

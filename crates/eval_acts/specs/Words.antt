@@ -1,6 +1,9 @@
 -- A builtin's command read from the left, byte by byte. That its words are those of the grammar is a law.
 use Rattle.std.specs.Prelude.{ℕ, Bool, ◌==◌, ◌||◌, if◌then◌else◌, List, [], ◌∷◌, ◌++◌, Option, Some, None, fold}
 use Rattle.text_bytes.specs.Names.{space, single_quote, double_quote}
+use Rattle.text_bytes.specs.declared.profile.Profile.{Profile}
+use Rattle.text_bytes.specs.declared.profile.Profile.TheVariants.{Manual, Udev}
+use Rattle.rule_templates.specs.Integers.{is_separator}
 use Rattle.text_tables.specs.Texts.{Text}
 use Rattle.eval_acts.specs.declared.words.Place.{Place}
 use Rattle.eval_acts.specs.declared.words.Place.TheVariants.{Between, InWord, Quoted}
@@ -16,8 +19,8 @@ pub record Cut : Type 0 where
   pub words : List Text
 
 -- a command of which nothing was read
-abbrev pub start : Cut
-start = record { place = Between; word = []; words = [] }
+abbrev pub unread_command : Cut
+unread_command = record { place = Between; word = []; words = [] }
 
 -- a byte more of the word
 abbrev pub added : ℕ → Cut → Cut
@@ -41,15 +44,20 @@ quoted quote b cut =
     if b == quote then record { place = InWord; word = cut.word; words = cut.words }
     else record { place = cut.place; word = cut.word ++ b ∷ []; words = cut.words }
 
+-- whether a byte separates words: by the manual a space, and for udev also a tab, a newline and a carriage return
+abbrev pub separates : Profile → ℕ → Bool
+separates Manual b = b == space
+separates Udev b = is_separator b
+
 -- a byte, by where it is
-abbrev pub took_at : Place → Cut → ℕ → Cut
-took_at Between cut b = if b == space then cut else begun b (emptied cut)
-took_at InWord cut b = if b == space then ended cut else begun b cut
-took_at (Quoted quote) cut b = quoted quote b cut
+abbrev pub took_at : Profile → Place → Cut → ℕ → Cut
+took_at profile Between cut b = if separates profile b then cut else begun b (emptied cut)
+took_at profile InWord cut b = if separates profile b then ended cut else begun b cut
+took_at profile (Quoted quote) cut b = quoted quote b cut
 
 -- a byte more of the command
-abbrev pub took : Cut → ℕ → Cut
-took cut b = took_at cut.place cut b
+abbrev pub took : Profile → Cut → ℕ → Cut
+took profile cut b = took_at profile cut.place cut b
 
 -- the words of a command that was read to its end
 abbrev pub finished_at : Place → Cut → Option (List Text)
@@ -58,9 +66,23 @@ finished_at InWord cut = Some (ended cut).words
 finished_at (Quoted quote) cut = None
 
 -- the same
-abbrev pub finished : Cut → Option (List Text)
-finished cut = finished_at cut.place cut
+abbrev pub finished_words : Cut → Option (List Text)
+finished_words cut = finished_at cut.place cut
 
--- the words of a command, unless a quote stays open
+-- the words of a command by the manual, unless a quote stays open
 unfoldable pub command_words : Text → Option (List Text)
-command_words text = finished (fold took start text)
+command_words text = finished_words (fold (took Manual) unread_command text)
+
+-- the words of a command that was read to its end, which ends a quote that is open
+abbrev pub closed_at : Place → Cut → List Text
+closed_at Between cut = cut.words
+closed_at InWord cut = (ended cut).words
+closed_at (Quoted quote) cut = (ended cut).words
+
+-- the same
+abbrev pub closed : Cut → List Text
+closed cut = closed_at cut.place cut
+
+-- the words of a command for udev
+unfoldable pub udev_words : Text → List Text
+udev_words text = closed (fold (took Udev) unread_command text)

@@ -93,7 +93,7 @@ fn render_without_result(
 }
 
 /// The command of PROGRAM. For udev it may have 16,383 bytes, and the earlier result is empty in it. The state is
-/// the same before and after; there is an error only if memory runs out.
+/// the same before and after.
 pub fn program_text(
     alloc: Global,
     template: &Template,

@@ -3,10 +3,12 @@ ghost use Rattle.std.specs.Prelude.{◌≡◌, IfOk};
 ghost use Rattle.rule_parts.specs.Builtins as udev;
 ghost use Rattle.eval_acts.specs.Builtins.{builtin, builtin_meant, builtin_of, builtin_of_words, hwdb_asked, hwdb_of_words};
 ghost use Rattle.eval_acts.specs.Hwdb.{hwdb_of};
-ghost use Rattle.eval_acts.specs.Words.{command_words};
+ghost use Rattle.eval_acts.specs.UdevHwdb.{udev_hwdb_of};
+ghost use Rattle.eval_acts.specs.Words.{command_words, udev_words};
 
 use crate::hwdb::{Hwdb, hwdb_of};
-use crate::words::command_words;
+use crate::udev_hwdb::udev_hwdb_of;
+use crate::words::{command_words, udev_words};
 use rule_parts::builtin_of;
 use std::alloc::{AllocError, Global};
 use text_bytes::{Bytes, Profile};
@@ -31,13 +33,13 @@ pub enum Builtin {
     BadArguments,
 }
 
-/// What the words after `hwdb` ask for.
-fn hwdb_asked(alloc: Global, arguments: &[Bytes]) -> Result<Builtin, AllocError>
-    ensures { IfOk result (λ b. b ≡ hwdb_asked (hwdb_of arguments.now)) }
+/// What the options of `hwdb` ask for, if they are valid.
+fn hwdb_asked(hwdb: Option<Hwdb>) -> Builtin
+    ensures { result ≡ hwdb_asked hwdb }
 {
-    match hwdb_of(alloc, arguments)? {
-        Some(hwdb) => Ok(Builtin::Hwdb(hwdb)),
-        None => Ok(Builtin::BadArguments),
+    match hwdb {
+        Some(hwdb) => Builtin::Hwdb(hwdb),
+        None => Builtin::BadArguments,
     }
 }
 
@@ -51,7 +53,7 @@ fn builtin_of_words(alloc: Global, words: &[Bytes]) -> Result<Builtin, AllocErro
     if name.as_slice() != b"hwdb".as_slice() {
         return Ok(Builtin::Other(Bytes::copy_of(alloc, name.as_slice())?));
     }
-    hwdb_asked(alloc, arguments)
+    Ok(hwdb_asked(hwdb_of(alloc, arguments)?))
 }
 
 /// What a command asks for by the manual.
@@ -64,16 +66,14 @@ fn read_as_manual(alloc: Global, command: &[u8]) -> Result<Builtin, AllocError>
     }
 }
 
-/// What a command of `hwdb` asks for, whose first word is the name.
+/// What a command of `hwdb` asks for as udev has it, whose first word is the name.
 fn read_hwdb(alloc: Global, command: &[u8]) -> Result<Builtin, AllocError>
-    ensures { IfOk result (λ b. b ≡ hwdb_of_words (command_words command.now)) }
+    ensures { IfOk result (λ b. b ≡ hwdb_of_words (udev_words command.now)) }
 {
-    let Some(words) = command_words(alloc, command)? else {
-        return Ok(Builtin::BadArguments);
-    };
+    let words = udev_words(alloc, command)?;
     match words.split_first() {
-        Some((_, arguments)) => hwdb_asked(alloc, arguments),
-        None => hwdb_asked(alloc, &[]),
+        Some((_, arguments)) => Ok(hwdb_asked(udev_hwdb_of(alloc, arguments)?)),
+        None => Ok(hwdb_asked(udev_hwdb_of(alloc, &[])?)),
     }
 }
 
@@ -100,7 +100,10 @@ impl Builtin {
     /// `--filter=PATTERN`, of each the last, and at most one modalias; a word that begins with `-` and is not such
     /// an option, a second modalias and a last filter that is not a pattern are bad arguments. For udev (systemd
     /// 257) the first word is the beginning of a name, that of the first builtin with this beginning, and another
-    /// builtin has its whole name.
+    /// builtin has its whole name. The command of `hwdb` is then split at spaces, tabs, newlines and carriage
+    /// returns, and a quote that stays open ends with it. Its options are read as getopt_long(3) does: `--NAME VALUE`,
+    /// the beginning of a name, and the letters `-s`, `-p` and `-f` are options too; unknown options and words after
+    /// the modalias are skipped. Bad arguments are then `--device` and a last filter that is not a pattern.
     pub fn read(alloc: Global, profile: Profile, command: &[u8]) -> Result<Builtin, AllocError>
         ensures { IfOk result (λ b. b ≡ builtin profile command.now) }
     {

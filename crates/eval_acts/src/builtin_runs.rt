@@ -1,11 +1,13 @@
 //! The builtins of udev that look at the devices of an event.
 ghost use Rattle.std.specs.Prelude.{◌≡◌, ◌-◌, nat_le, Some, None, if◌then◌else◌, IfOk, OnErr, OnOk, map, option_map};
+ghost use Rattle.hwdb_lookup.specs.Query.{shown};
 ghost use Rattle.rule_parts.specs.Builtins.{builtin_name};
+ghost use Rattle.rule_parts.specs.declared.builtins.Builtin.TheVariants.{NetId};
 ghost use Rattle.eval_state.specs.Properties.{properties_set};
-ghost use Rattle.eval_acts.specs.BuiltinRuns.{input_id_run, looked_up, most_set, need_noted, need_word, net_id_run, outcome_taken, path_id_run, properties_size, property_size, usb_id_run};
+ghost use Rattle.eval_acts.specs.BuiltinRuns.{input_id_run, is_address_name, looked_up, most_set, need_noted, need_word, net_id_run, outcome_set, outcome_taken, path_id_run, properties_size, property_size, usb_id_run, with_maker};
 
 use crate::imports::set_as_udev;
-use builtin_devices::Outcome;
+use builtin_devices::BuiltinOutcome;
 use builtin_input::input_id;
 use builtin_net::net_id;
 use builtin_path::path_id;
@@ -93,7 +95,7 @@ fn take_outcome(
     alloc: Global,
     rule: &Rule,
     builtin: Builtin,
-    outcome: &Outcome,
+    outcome: &BuiltinOutcome,
     scene: &mut Scene<'_>,
 ) -> Result<bool, AllocError>
     ensures scene { IfOk result (λ done. (scene.new, done) ≡ outcome_taken rule.now (builtin_name builtin) outcome.now scene.old) }
@@ -164,26 +166,72 @@ pub(crate) fn run_input_id(
     take_outcome(alloc, rule, Builtin::InputId, &outcome, scene)
 }
 
-/// Takes what the hardware database says about a text, if there is one.
-fn take_found<L: Lookup>(
+/// What the hardware database says about a text, if there is one.
+fn found_for<'l, L: Lookup>(
     alloc: Global,
-    database: &L,
+    database: &'l L,
     text: Option<&[u8]>,
-    scene: &mut Scene<'_>,
-) -> Result<(), AllocError>
-    ensures scene { OnOk result (scene.new ≡ looked_up (L.entries database.now) (option_map (λ t. t.now) text.entry) scene.old) }
-    ensures refused { OnErr result (scene.new.state.event ≡ scene.old.state.event) }
+) -> Result<Vec<(&'l [u8], &'l [u8])>, AllocError>
+    ensures { IfOk result (λ found. shown found.items ≡ looked_up (L.entries database.now) (option_map (λ t. t.now) text.entry)) }
 {
     match text {
-        Some(text) => {
-            let found = database.query(alloc, text)?;
-            set_as_udev(alloc, &mut scene.state.env, &found)
-        }
-        None => Ok(()),
+        Some(text) => database.query(alloc, text),
+        None => Ok(Vec::new(alloc)),
     }
 }
 
-/// Runs `net_id`; what the hardware database says about the device's address is set first.
+/// Whether a property is the name by an address.
+fn is_address_name(property: &(Bytes, Bytes)) -> bool
+    ensures { result ≡ is_address_name property.now }
+{
+    property.0.as_slice() == b"ID_NET_NAME_MAC".as_slice()
+}
+
+/// Sets the properties of `net_id`, and right after the name by the device's address what was found for the address.
+#[tactic(auto, using(crate::proofs::Setting::in_two))]
+fn set_names(
+    alloc: Global,
+    properties: &[(Bytes, Bytes)],
+    found: &[(&[u8], &[u8])],
+    env: &mut OwnedPairs,
+) -> Result<(), AllocError>
+    ensures { OnOk result (env.new ≡ properties_set env.old (with_maker (shown found.now) properties.now)) }
+{
+    let mut rest = properties;
+    while let Some((property, later)) = rest.split_first() {
+        set_property(alloc, property.0.as_slice(), property.1.as_slice(), env)?;
+        if is_address_name(property) {
+            set_as_udev(alloc, env, found)?;
+            return set_properties(alloc, later, env);
+        }
+        rest = later;
+    }
+    Ok(())
+}
+
+/// Takes the outcome of `net_id` with what was found for the device's address, and returns whether it was done.
+fn take_names(
+    alloc: Global,
+    rule: &Rule,
+    names: &BuiltinOutcome,
+    found: &[(&[u8], &[u8])],
+    scene: &mut Scene<'_>,
+) -> Result<bool, AllocError>
+    ensures scene { IfOk result (λ done. (scene.new, done) ≡ outcome_set rule.now (builtin_name NetId) names.now (with_maker (shown found.now) names.now.properties) scene.old) }
+    ensures refused { OnErr result (scene.new.state.event ≡ scene.old.state.event) }
+{
+    if !may_be_set(names.properties()) {
+        scene.note(alloc, rule, NoteKind::TextTooLong, Builtin::NetId.name())?;
+        return Ok(false);
+    }
+    set_names(alloc, names.properties(), found, &mut scene.state.env)?;
+    let needs = names.needs().as_slice();
+    note_need(alloc, rule, Builtin::NetId.name(), needs, scene)?;
+    Ok(names.is_done())
+}
+
+/// Runs `net_id`; right after the name by the device's address it sets what the hardware database says about the
+/// address.
 pub(crate) fn run_net_id<L: Lookup>(
     alloc: Global,
     rule: &Rule,
@@ -195,6 +243,6 @@ pub(crate) fn run_net_id<L: Lookup>(
 {
     let names = net_id(alloc, scene.state.event.event(), &scene.state.env)?;
     let text = names.lookup.as_ref().map(Bytes::as_slice);
-    take_found(alloc, database, text, scene)?;
-    take_outcome(alloc, rule, Builtin::NetId, &names.outcome, scene)
+    let found = found_for(alloc, database, text)?;
+    take_names(alloc, rule, &names.outcome, &found, scene)
 }

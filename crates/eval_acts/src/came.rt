@@ -1,6 +1,6 @@
 //! What becomes of an act.
 ghost use Rattle.std.specs.Prelude.{◌≡◌};
-ghost use Rattle.eval_acts.specs.Acts.{came_too_long, goes_on};
+ghost use Rattle.eval_acts.specs.Acts.{came_too_long, proceeds};
 
 use eval_matching::agrees;
 use rule_types::MatchOperator;
@@ -27,8 +27,8 @@ impl Came {
     }
 
     /// Whether the rule goes on: with `==` if its act was done, with `!=` if it was not.
-    pub(crate) fn goes_on(self, operator: MatchOperator) -> bool
-        ensures { result ≡ goes_on operator self }
+    pub(crate) fn proceeds(self, operator: MatchOperator) -> bool
+        ensures { result ≡ proceeds operator self }
     {
         match self {
             Came::Tried(done) => agrees(operator, done),

@@ -1,12 +1,12 @@
 //! The devices whose modaliases `hwdb` looks up.
 ghost use Rattle.std.specs.Prelude.{◌≡◌, ◌≤◌, length, map, option_map, IfOk};
 ghost use Rattle.std.specs.Option.{option_or};
-ghost use Rattle.eval_acts.specs.LookUps.{candidate, candidates, count_before_usb, is_last, is_text, is_usb_device, is_wanted, modaliases_by, modaliases_in, modaliases_of, parent, seen, udev_modaliases_of};
+ghost use Rattle.eval_acts.specs.LookUps.{candidate, candidate_with, candidates, count_before_usb, is_last, is_usb_device, is_wanted, modaliases_by, modaliases_in, modaliases_of, parent, udev_modaliases_of};
 ghost use Rattle.eval_acts.specs.UsbModalias.{made_up};
 
 use crate::hwdb::copy_of;
 use crate::usb_modalias::made_up;
-use builtin_devices::type_of;
+use builtin_devices::{is_text, type_of};
 use device_core::Device;
 use eval_state::State;
 use std::alloc::{AllocError, Global};
@@ -30,8 +30,8 @@ impl<'a> Model for Candidate<'a> {
     ghost view = { λ c. record { subsystem = option_map (λ t. t.now) c.subsystem; devtype = option_map (λ t. t.now) c.devtype; modalias = c.modalias } };
 }
 
-/// The modalias of a device, and where there is none the one that udev makes up for it.
-fn told_or_made_up(
+/// The modalias of a device, or the one that udev makes up for it if it has none.
+fn own_or_made_up(
     alloc: Global,
     device: &Device<'_>,
     modalias: Option<&[u8]>,
@@ -45,14 +45,14 @@ fn told_or_made_up(
 }
 
 /// A device, by its properties DEVTYPE and MODALIAS.
-fn seen<'a>(
+fn candidate_with<'a>(
     alloc: Global,
     profile: Profile,
     device: &'a Device<'_>,
     devtype: Option<&'a [u8]>,
     modalias: Option<&[u8]>,
 ) -> Result<Candidate<'a>, AllocError>
-    ensures { IfOk result (λ c. c ≡ seen profile device.now (option_map (λ t. t.now) devtype.entry) (option_map (λ t. t.now) modalias.entry)) }
+    ensures { IfOk result (λ c. c ≡ candidate_with profile device.now (option_map (λ t. t.now) devtype.entry) (option_map (λ t. t.now) modalias.entry)) }
 {
     match profile {
         Profile::Manual => Ok(Candidate {
@@ -63,7 +63,7 @@ fn seen<'a>(
         Profile::Udev => Ok(Candidate {
             subsystem: device.subsystem(),
             devtype: type_of(device),
-            modalias: told_or_made_up(alloc, device, modalias)?,
+            modalias: own_or_made_up(alloc, device, modalias)?,
         }),
     }
 }
@@ -75,7 +75,7 @@ fn event_device<'a>(alloc: Global, state: &'a State<'_>) -> Result<Candidate<'a>
     let devtype = state.env.get(b"DEVTYPE").map(Bytes::as_slice);
     let modalias = state.env.get(b"MODALIAS").map(Bytes::as_slice);
     let event = state.event.event();
-    seen(alloc, event.profile(), event.device(), devtype, modalias)
+    candidate_with(alloc, event.profile(), event.device(), devtype, modalias)
 }
 
 /// A parent, by its own properties.
@@ -87,7 +87,7 @@ fn parent<'a>(
     ensures { IfOk result (λ c. c ≡ parent profile device.now) }
 {
     let env = device.env();
-    seen(
+    candidate_with(
         alloc,
         profile,
         device,
@@ -110,16 +110,6 @@ pub(crate) fn candidates<'a>(
         devices.push(parent(alloc, event.profile(), device)?)?;
     }
     Ok(devices)
-}
-
-/// Whether a text is there, and the same.
-fn is_text(text: &[u8], other: Option<&[u8]>) -> bool
-    ensures { result ≡ is_text text.now (option_map (λ t. t.now) other.entry) }
-{
-    match other {
-        Some(other) => text == other,
-        None => false,
-    }
 }
 
 impl<'a> Candidate<'a> {
@@ -190,7 +180,7 @@ fn modaliases_of<'a>(
     Ok(found)
 }
 
-/// How many devices stand before the first one of USB that is wanted.
+/// How many devices come before the first USB device that is wanted.
 fn count_before_usb(subsystem: Option<&[u8]>, devices: &[Candidate<'_>]) -> usize
     ensures value { result ≡ count_before_usb (option_map (λ t. t.now) subsystem.entry) devices.now }
     ensures within { result ≤ length devices.now }

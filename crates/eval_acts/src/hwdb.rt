@@ -2,7 +2,7 @@
 ghost use Rattle.std.specs.Prelude.{◌≡◌, IfOk, None, option_map, map, is_some};
 ghost use Rattle.std.specs.List.{list_any};
 ghost use Rattle.eval_state.specs.Texts.{or_empty};
-ghost use Rattle.eval_acts.specs.Hwdb.{at_most_one, filter_of, hwdb_of, is_known, is_option, is_unknown, last_value, modaliases, value_in};
+ghost use Rattle.eval_acts.specs.Hwdb.{at_most_one, filter_of, hwdb_of, is_known, is_option, is_unknown, last_value, operands, value_in};
 
 use std::alloc::{AllocError, Global};
 use text_bytes::{Bytes, begins_with, split_once};
@@ -35,7 +35,7 @@ fn value_in<'a>(name: &[u8], word: &'a [u8]) -> Option<&'a [u8]>
     ensures { option_map (λ v. v.now) result ≡ value_in name.now word.now }
 {
     match split_once(b'=', word) {
-        Some((front, value)) if front == name => Some(value),
+        Some((head, value)) if head == name => Some(value),
         _ => None,
     }
 }
@@ -87,8 +87,8 @@ fn has_unknown(words: &[Bytes]) -> bool
 }
 
 /// The words that are not options.
-fn modaliases<'a>(alloc: Global, words: &'a [Bytes]) -> Result<Vec<&'a [u8]>, AllocError>
-    ensures { IfOk result (λ found. map (λ m. m.now) found.items ≡ modaliases words.now) }
+fn operands<'a>(alloc: Global, words: &'a [Bytes]) -> Result<Vec<&'a [u8]>, AllocError>
+    ensures { IfOk result (λ found. map (λ m. m.now) found.items ≡ operands words.now) }
 {
     let mut found = Vec::new(alloc);
     for word in words {
@@ -101,9 +101,9 @@ fn modaliases<'a>(alloc: Global, words: &'a [Bytes]) -> Result<Vec<&'a [u8]>, Al
 
 /// The one modalias of the words, if there is any; `None` if there are several.
 fn modalias(alloc: Global, words: &[Bytes]) -> Result<Option<Option<Bytes>>, AllocError>
-    ensures { IfOk result (λ found. found ≡ at_most_one (modaliases words.now)) }
+    ensures { IfOk result (λ found. found ≡ at_most_one (operands words.now)) }
 {
-    let found = modaliases(alloc, words)?;
+    let found = operands(alloc, words)?;
     match found.as_slice() {
         [] => Ok(Some(None)),
         [only] => Ok(Some(Some(Bytes::copy_of(alloc, only)?))),
@@ -112,7 +112,10 @@ fn modalias(alloc: Global, words: &[Bytes]) -> Result<Option<Option<Bytes>>, All
 }
 
 /// The pattern that a text is, if there is a text; `None` if it is not a pattern.
-fn pattern_of(alloc: Global, text: Option<&[u8]>) -> Result<Option<Option<Pattern>>, AllocError>
+pub(crate) fn pattern_of(
+    alloc: Global,
+    text: Option<&[u8]>,
+) -> Result<Option<Option<Pattern>>, AllocError>
     ensures { IfOk result (λ found. found ≡ filter_of (option_map (λ t. t.now) text.entry)) }
 {
     let Some(text) = text else {

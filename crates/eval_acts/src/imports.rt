@@ -168,7 +168,7 @@ pub(crate) fn import_named(
     import_fitting(alloc, &names, scene)
 }
 
-/// Takes the properties of what a program printed, where its status is 0.
+/// Takes the properties of what a program printed, if its status is 0.
 fn take_printed(
     alloc: Global,
     answer: &ProgramAnswer<'_>,

@@ -16,6 +16,7 @@ mod lookups;
 mod printed;
 mod questions;
 mod reaching;
+mod udev_hwdb;
 mod usb_modalias;
 mod words;
 
@@ -26,4 +27,4 @@ pub use acting::act_step;
 pub use builtin::Builtin;
 pub use hwdb::Hwdb;
 pub use lookups::look_up;
-pub use reaching::reached;
+pub use reaching::match_reached;

@@ -1,7 +1,7 @@
 //! What `hwdb` finds in a hardware database.
 ghost use Rattle.std.specs.Prelude.{◌≡◌, ◌++◌, [], map, filter, IfOk};
 ghost use Rattle.hwdb_lookup.specs.Query.{shown};
-ghost use Rattle.eval_acts.specs.LookUps.{answer, counts, found, modaliases};
+ghost use Rattle.eval_acts.specs.LookUps.{counted_properties, counts, found, modaliases};
 
 use crate::candidates::{Candidate, candidates, modaliases_by};
 use crate::hwdb::Hwdb;
@@ -52,13 +52,13 @@ fn counts(hwdb: &Hwdb, key: &[u8]) -> bool
 }
 
 /// The properties of a modalias that count.
-fn answer<'l, L: Lookup>(
+fn counted_properties<'l, L: Lookup>(
     alloc: Global,
     hwdb: &Hwdb,
     modalias: &[u8],
     database: &'l L,
 ) -> Result<Vec<(&'l [u8], &'l [u8])>, AllocError>
-    ensures { IfOk result (λ kept. shown kept.items ≡ answer (L.entries database.now) hwdb.now (hwdb.now.prefix ++ modalias.now)) }
+    ensures { IfOk result (λ kept. shown kept.items ≡ counted_properties (L.entries database.now) hwdb.now (hwdb.now.prefix ++ modalias.now)) }
 {
     let text = prefixed(alloc, hwdb.prefix.as_slice(), modalias)?;
     let found = database.query(alloc, &text)?;
@@ -79,8 +79,8 @@ fn answer<'l, L: Lookup>(
 /// any, is the last one looked at, with or without a modalias. Only keys that fit the filter count.
 ///
 /// In an event of udev's (systemd 257) DEVTYPE is what the kernel said, and a USB device without MODALIAS has
-/// `usb:vVVVVpPPPP:NAME`, made of its attributes idVendor, idProduct and product, where the first two are numbers of
-/// base 16 up to FFFF. Where it has not these either, the next device with a modalias is the last one looked at.
+/// `usb:vVVVVpPPPP:NAME`, made of its attributes idVendor, idProduct and product, if the first two are numbers in
+/// base 16 up to FFFF. If it does not have these either, the next device with a modalias is the last one looked at.
 #[tactic(auto, unfolding(crate::specs::LookUps::found))]
 pub fn look_up<'l, L: Lookup>(
     alloc: Global,
@@ -94,7 +94,7 @@ pub fn look_up<'l, L: Lookup>(
     let profile = state.event.event().profile();
     let modaliases = modaliases(alloc, profile, hwdb, &devices)?;
     for modalias in &modaliases {
-        let properties = answer(alloc, hwdb, modalias, database)?;
+        let properties = counted_properties(alloc, hwdb, modalias, database)?;
         if !properties.as_slice().is_empty() {
             return Ok(properties);
         }

@@ -37,7 +37,7 @@ fn bare(text: &[u8]) -> &[u8]
     text.split_at(text.len() - trailing_blanks(text)).0
 }
 
-/// What comes before the last byte of a text, where that is this one.
+/// What comes before the last byte of a text, if that byte is this one.
 fn before_end(byte: u8, text: &[u8]) -> Option<&[u8]>
     ensures { option_map (λ t. t.now) result ≡ before_end byte text.now }
 {
@@ -48,7 +48,7 @@ fn before_end(byte: u8, text: &[u8]) -> Option<&[u8]>
     }
 }
 
-/// A value without the quotes around it; `None` where it begins with a quote and does not end with the same one after
+/// A value without the quotes around it; `None` if it begins with a quote and does not end with the same one after
 /// it.
 fn unquoted(value: &[u8]) -> Option<&[u8]>
     ensures { option_map (λ t. t.now) result ≡ unquoted value.now }
@@ -63,7 +63,7 @@ fn unquoted(value: &[u8]) -> Option<&[u8]>
     }
 }
 
-/// The property of a name and a value: none where one of them is empty, or where a quote stays open.
+/// The property of a name and a value: `None` if one of them is empty, or if a quote stays open.
 fn property_of<'a>(name: &'a [u8], value: &'a [u8]) -> Option<(&'a [u8], &'a [u8])>
     ensures { option_map (λ p. (p.0.now, p.1.now)) result ≡ property_of name.now value.now }
 {

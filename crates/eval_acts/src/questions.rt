@@ -1,6 +1,6 @@
 //! TEST and PROGRAM: what the event answers.
 ghost use Rattle.std.specs.Prelude.{◌≡◌, [], IfOk, OnErr, option_copied};
-ghost use Rattle.eval_acts.specs.Questions.{answered, asked, is_found, result_of, tested_at, tested_by, tested_by_udev, tested_unless, with_result};
+ghost use Rattle.eval_acts.specs.Questions.{answered, answered_by_block, is_found, result_of, tested_at, tested_by, tested_by_udev, tested_unless, with_result};
 ghost use Rattle.eval_state.specs.Named.{named};
 
 use device_core::{Device, ProgramAnswer};
@@ -134,7 +134,7 @@ pub(crate) fn ask(
     command: &[u8],
     scene: &mut Scene<'_>,
 ) -> Result<bool, AllocError>
-    ensures scene { IfOk result (λ done. (scene.new, done) ≡ asked rule.now command.now scene.old) }
+    ensures scene { IfOk result (λ done. (scene.new, done) ≡ answered_by_block rule.now command.now scene.old) }
     ensures refused { OnErr result (scene.new.state.event ≡ scene.old.state.event) }
 {
     match scene.state.event.event().programs().get(command) {

@@ -1,6 +1,6 @@
 //! What a match leaves by being reached.
 ghost use Rattle.std.specs.Prelude.{◌≡◌, OnOk, OnErr};
-ghost use Rattle.eval_acts.specs.Reaching.{attribute_reached, reached};
+ghost use Rattle.eval_acts.specs.Reaching.{attribute_reached, match_reached};
 
 use eval_matching::is_not_read;
 use eval_state::{NoteKind, Scene};
@@ -28,13 +28,13 @@ fn attribute_reached(
 /// does not read, the note `sysctl not read` with the parameter's name; for an attribute that udev would read and a
 /// dry run does not, the note `attribute not read` with its name, for udev only; for any other, nothing. If memory
 /// runs out, the scene stays as it is.
-pub fn reached(
+pub fn match_reached(
     alloc: Global,
     rule: &Rule,
     part: &PlainMatch,
     scene: &mut Scene<'_>,
 ) -> Result<(), AllocError>
-    ensures scene { OnOk result (scene.new ≡ reached rule.now part.now.key scene.old) }
+    ensures scene { OnOk result (scene.new ≡ match_reached rule.now part.now.key scene.old) }
     ensures refused { OnErr result (scene.new ≡ scene.old) }
 {
     match &part.key {

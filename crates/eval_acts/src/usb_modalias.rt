@@ -60,7 +60,7 @@ fn usb_text(alloc: Global, vendor: u64, product: u64, name: &[u8]) -> Result<Byt
     Ok(Bytes::new(text))
 }
 
-/// The name of a product; empty where it has none.
+/// The name of a product; empty if it has none.
 fn product_name<'a>(device: &Device<'a>) -> &'a [u8]
     ensures { result.now ≡ or_empty (value_of device.now.attrs (codes "product")) }
 {

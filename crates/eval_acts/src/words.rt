@@ -2,11 +2,12 @@
 //!
 //! A command is read byte by byte, since a quote may open and close inside a word.
 ghost use Rattle.std.specs.Prelude.{◌≡◌, IfOk, OnOk, option_map};
-ghost use Rattle.eval_acts.specs.Words.{added, begun, command_words, ended, finished, is_quote, quoted, start, took};
+ghost use Rattle.eval_acts.specs.Words.{added, begun, closed, command_words, ended, finished_words, is_quote, quoted, separates, unread_command, took, udev_words};
 
+use rule_templates::is_separator;
 use std::alloc::{AllocError, Global};
 use std::marker::Model;
-use text_bytes::Bytes;
+use text_bytes::{Bytes, Profile};
 
 /// Where in a command the next byte is.
 #[derive(Clone, Copy, Debug, PartialEq, Eq)]
@@ -42,10 +43,20 @@ pub(crate) fn is_quote(byte: u8) -> bool
     byte == b'\'' || byte == b'"'
 }
 
+/// Whether a byte separates words: by the manual a space, and for udev also a tab, a newline and a carriage return.
+fn separates(profile: Profile, byte: u8) -> bool
+    ensures { result ≡ separates profile byte }
+{
+    match profile {
+        Profile::Manual => byte == b' ',
+        Profile::Udev => is_separator(byte),
+    }
+}
+
 impl Cutter {
     /// A command of which nothing was read.
     fn new(alloc: Global) -> Cutter
-        ensures { result ≡ start }
+        ensures { result ≡ unread_command }
     {
         Cutter {
             place: Place::Between,
@@ -84,16 +95,17 @@ impl Cutter {
     }
 
     /// Takes the next byte.
-    fn take(&mut self, alloc: Global, byte: u8) -> Result<(), AllocError>
-        ensures { OnOk result (self.new ≡ took self.old byte) }
+    fn take(&mut self, alloc: Global, profile: Profile, byte: u8) -> Result<(), AllocError>
+        ensures { OnOk result (self.new ≡ took profile self.old byte) }
     {
+        let is_between = separates(profile, byte);
         match self.place {
-            Place::Between if byte == b' ' => Ok(()),
+            Place::Between if is_between => Ok(()),
             Place::Between => {
                 self.word.clear();
                 self.begin(byte)
             }
-            Place::InWord if byte == b' ' => self.end(alloc),
+            Place::InWord if is_between => self.end(alloc),
             Place::InWord => self.begin(byte),
             Place::Quoted(quote) => self.take_quoted(quote, byte),
         }
@@ -113,7 +125,7 @@ impl Cutter {
 
     /// The words of a command that was read to its end, unless a quote is open.
     fn finish(self, alloc: Global) -> Result<Option<Vec<Bytes>>, AllocError>
-        ensures { IfOk result (λ found. option_map (λ words. words.items) found ≡ finished self) }
+        ensures { IfOk result (λ found. option_map (λ words. words.items) found ≡ finished_words self) }
     {
         let mut cutter = self;
         match cutter.place {
@@ -123,6 +135,19 @@ impl Cutter {
         }
         let Cutter { words, .. } = cutter;
         Ok(Some(words))
+    }
+
+    /// The words of a command that was read to its end, which ends a quote that is open.
+    fn close(self, alloc: Global) -> Result<Vec<Bytes>, AllocError>
+        ensures { IfOk result (λ words. words.items ≡ closed self) }
+    {
+        let mut cutter = self;
+        match cutter.place {
+            Place::Between => {}
+            Place::InWord | Place::Quoted(_) => cutter.end(alloc)?,
+        }
+        let Cutter { words, .. } = cutter;
+        Ok(words)
     }
 }
 
@@ -134,7 +159,20 @@ pub(crate) fn command_words(alloc: Global, text: &[u8]) -> Result<Option<Vec<Byt
 {
     let mut cutter = Cutter::new(alloc);
     for byte in text {
-        cutter.take(alloc, *byte)?;
+        cutter.take(alloc, Profile::Manual, *byte)?;
     }
     cutter.finish(alloc)
+}
+
+/// The words of a command for udev: it is split at spaces, tabs and ends of lines, and a quote that stays open ends
+/// with the command.
+#[tactic(auto, unfolding(crate::specs::Words::udev_words))]
+pub(crate) fn udev_words(alloc: Global, text: &[u8]) -> Result<Vec<Bytes>, AllocError>
+    ensures { IfOk result (λ words. words.items ≡ udev_words text.now) }
+{
+    let mut cutter = Cutter::new(alloc);
+    for byte in text {
+        cutter.take(alloc, Profile::Udev, *byte)?;
+    }
+    cutter.close(alloc)
 }

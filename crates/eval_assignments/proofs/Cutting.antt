@@ -19,26 +19,26 @@ module _ (test : List ℕ → Bool) where
 
   module _ (byte : ℕ) where
     -- what comes before the next such byte, and then the parts after it
-    more_at : (held : List (List ℕ)) (rest front behind : List ℕ) (place : ℕ) → position (λ b. b == byte) rest ≡ Some place → front ≡ take place rest → behind ≡ drop (place + 1) rest
-        → (held ++ filter test (front ∷ [])) ++ filter test (slice_split (λ b. b == byte) behind) ≡ held ++ filter test (slice_split (λ b. b == byte) rest)
-    more_at held rest front behind place at f b =
-        held_more held front (slice_split (λ b. b == byte) behind)
+    more_at : (held : List (List ℕ)) (rest prefix following : List ℕ) (place : ℕ) → position (λ b. b == byte) rest ≡ Some place → prefix ≡ take place rest → following ≡ drop (place + 1) rest
+        → (held ++ filter test (prefix ∷ [])) ++ filter test (slice_split (λ b. b == byte) following) ≡ held ++ filter test (slice_split (λ b. b == byte) rest)
+    more_at held rest prefix following place at f b =
+        held_more held prefix (slice_split (λ b. b == byte) following)
         ∙ ap (λ ts. held ++ filter test ts)
-        (ap (λ t. t ∷ slice_split (λ b. b == byte) behind) f ∙ ap (λ t. take place rest ∷ slice_split (λ b. b == byte) t) b ∙ sym (split_some (λ b. b == byte) rest place at))
+        (ap (λ t. t ∷ slice_split (λ b. b == byte) following) f ∙ ap (λ t. take place rest ∷ slice_split (λ b. b == byte) t) b ∙ sym (split_some (λ b. b == byte) rest place at))
 
     -- a text that is split at its next such byte gives one part, and the parts of what is left
-    pub parts_more : (held : List (List ℕ)) (rest front behind : List ℕ) → split_once byte rest ≡ Some (front, behind)
-        → (held ++ filter test (front ∷ [])) ++ filter test (slice_split (λ b. b == byte) behind) ≡ held ++ filter test (slice_split (λ b. b == byte) rest)
+    pub parts_more : (held : List (List ℕ)) (rest prefix following : List ℕ) → split_once byte rest ≡ Some (prefix, following)
+        → (held ++ filter test (prefix ∷ [])) ++ filter test (slice_split (λ b. b == byte) following) ≡ held ++ filter test (slice_split (λ b. b == byte) rest)
     unfolding split_once
-    parts_more held rest front behind h = by (position (λ b. b == byte) rest) refl h
+    parts_more held rest prefix following h = by (position (λ b. b == byte) rest) refl h
       where
-        by : (p : Option ℕ) → position (λ b. b == byte) rest ≡ p → option_map {U = List ℕ × List ℕ} (λ n. (take n rest, drop (n + 1) rest)) p ≡ Some (front, behind)
-            → (held ++ filter test (front ∷ [])) ++ filter test (slice_split (λ b. b == byte) behind) ≡ held ++ filter test (slice_split (λ b. b == byte) rest)
+        by : (p : Option ℕ) → position (λ b. b == byte) rest ≡ p → option_map {U = List ℕ × List ℕ} (λ n. (take n rest, drop (n + 1) rest)) p ≡ Some (prefix, following)
+            → (held ++ filter test (prefix ∷ [])) ++ filter test (slice_split (λ b. b == byte) following) ≡ held ++ filter test (slice_split (λ b. b == byte) rest)
         by None e q = cc
         by (Some n) e q =
-            let f : front ≡ take n rest = sym (ap (λ (o : Option (List ℕ × List ℕ)). (unwrap_or o ([], [])).0) q) in
-            let b : behind ≡ drop (n + 1) rest = sym (ap (λ (o : Option (List ℕ × List ℕ)). (unwrap_or o ([], [])).1) q) in
-            more_at held rest front behind n e f b
+            let f : prefix ≡ take n rest = sym (ap (λ (o : Option (List ℕ × List ℕ)). (unwrap_or o ([], [])).0) q) in
+            let b : following ≡ drop (n + 1) rest = sym (ap (λ (o : Option (List ℕ × List ℕ)). (unwrap_or o ([], [])).1) q) in
+            more_at held rest prefix following n e f b
 
     -- without such a byte the whole text is the last part
     pub parts_last : (held : List (List ℕ)) (rest : List ℕ) → split_once byte rest ≡ None → held ++ filter test (rest ∷ []) ≡ held ++ filter test (slice_split (λ b. b == byte) rest)

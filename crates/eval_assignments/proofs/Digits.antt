@@ -8,7 +8,7 @@ use Rattle.text_tables.specs.Texts.{Text}
 use Rattle.rule_types.specs.Topics.{is_mode, is_octal, mode_of, octal}
 use Rattle.eval_assignments.specs.Modes.{four_digits}
 
--- a digit is no blank
+-- a digit is not a blank
 not_blank : (d : ℕ) → is_blank (48 + d) ≡ false
 not_blank d = or_from (48 + d == 32) (48 + d == 9) (ne_eqb (48 + d) 32 (λ e. omega (arith, e))) (ne_eqb (48 + d) 9 (λ e. omega (arith, e)))
 

@@ -7,7 +7,7 @@ use Rattle.std.proofs.lemmas.List.Splits.{join_with_byte-slice_split, slice_spli
 use Rattle.text_bytes.specs.Names.{slash}
 use Rattle.text_bytes.specs.Texts.{begins_with}
 use Rattle.text_tables.specs.Texts.{Text, same_text}
-use Rattle.eval_assignments.specs.Links.{behind_dev, below_dev, components, is_barred, is_step, path_of, plain_link}
+use Rattle.eval_assignments.specs.Links.{after_dev, below_dev, components, is_barred, is_step, path_of, plain_link}
 
 -- what is between the slashes of a text
 abbrev parts : Text → List Text
@@ -80,9 +80,9 @@ starts_plain c cs h = by c cs (All-head IsPlain c cs h)
 -- a link by its components, as they are below /dev
 by_components : (path : Text) (c : Text) (cs : List Text) → components path ≡ c ∷ cs → begins_with slash path ≡ false → All IsPlain (c ∷ cs) → plain_link path ≡ Some (join_with_byte slash (c ∷ cs))
 by_components path c cs e relative h =
-    ap (λ found. cond (list_any is_barred found) None (path_of (cond (begins_with slash path) (behind_dev found) found))) e
-    ∙ ap (λ b. cond b None (path_of (cond (begins_with slash path) (behind_dev (c ∷ cs)) (c ∷ cs)))) (all_free (c ∷ cs) (free_all (c ∷ cs) h))
-    ∙ ap (λ b. path_of (cond b (behind_dev (c ∷ cs)) (c ∷ cs))) relative
+    ap (λ found. cond (list_any is_barred found) None (path_of (cond (begins_with slash path) (after_dev found) found))) e
+    ∙ ap (λ b. cond b None (path_of (cond (begins_with slash path) (after_dev (c ∷ cs)) (c ∷ cs)))) (all_free (c ∷ cs) (free_all (c ∷ cs) h))
+    ∙ ap (λ b. path_of (cond b (after_dev (c ∷ cs)) (c ∷ cs))) relative
 
 components_again : (c : Text) (cs : List Text) → All IsPlain (c ∷ cs) → components (join_with_byte slash (c ∷ cs)) ≡ c ∷ cs
 components_again c cs h = ap (filter is_step) (parts_again c cs h) ∙ kept_all (c ∷ cs) (steps_all (c ∷ cs) h)
@@ -107,9 +107,9 @@ of_path : (cs : List Text) (link : Text) → All IsPlain cs → path_of cs ≡ S
 of_path [] link h e = cc
 of_path (c ∷ cs) link h e = record { first = c; others = cs; is = let same : join_with_byte slash (c ∷ cs) ≡ link = cc in sym same; plain = h }
 
-behind_plain : (cs : List Text) → All IsPlain cs → All IsPlain (behind_dev cs)
-behind_plain [] h = h
-behind_plain (c ∷ cs) h = by (same_text c (codes "dev"))
+after_plain : (cs : List Text) → All IsPlain cs → All IsPlain (after_dev cs)
+after_plain [] h = h
+after_plain (c ∷ cs) h = by (same_text c (codes "dev"))
   where
     by : (v : Bool) → All IsPlain (cond v cs [])
     by true = All-tail IsPlain c cs h
@@ -118,8 +118,8 @@ behind_plain (c ∷ cs) h = by (same_text c (codes "dev"))
 made : (path link : Text) → plain_link path ≡ Some link → IsMade link
 made path link e = by (list_any is_barred (components path)) refl e
   where
-    below : (v : Bool) → All IsPlain (components path) → path_of (cond v (behind_dev (components path)) (components path)) ≡ Some link → IsMade link
-    below true h q = of_path (behind_dev (components path)) link (behind_plain (components path) h) q
+    below : (v : Bool) → All IsPlain (components path) → path_of (cond v (after_dev (components path)) (components path)) ≡ Some link → IsMade link
+    below true h q = of_path (after_dev (components path)) link (after_plain (components path) h) q
     below false h q = of_path (components path) link h q
 
     by : (v : Bool) → list_any is_barred (components path) ≡ v → cond v None (path_of (below_dev path)) ≡ Some link → IsMade link

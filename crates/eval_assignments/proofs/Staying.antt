@@ -33,7 +33,7 @@ use Rattle.eval_state.specs.declared.finals.FinalKey.TheVariants as final
 use Rattle.eval_state.specs.declared.note_kind.NoteKind.TheVariants.{NameIgnored, NoDeviceNumber, TagIgnored, TextTooLong}
 use Rattle.eval_state.specs.declared.scene.Scene.{Scene}
 use Rattle.eval_assignments.specs.Assigning.{assigned, group_set, link_text, owner_set, with_option}
-use Rattle.eval_assignments.specs.Attributes.{attribute_path, attribute_put, attribute_set, attribute_set_at, attribute_set_by, own_attribute_set}
+use Rattle.eval_assignments.specs.Attributes.{attribute_path, attribute_put, attribute_set, attribute_set_at, attribute_set_by, found_above, own_attribute_set}
 use Rattle.eval_assignments.specs.Bounds.{most_command_bytes, most_name_bytes}
 use Rattle.eval_assignments.specs.Escapes.{escape_of}
 use Rattle.eval_assignments.specs.Finality.{final_key, final_target, finally, is_settled}
@@ -43,7 +43,7 @@ use Rattle.eval_assignments.specs.Parameters.{parameter_put}
 use Rattle.eval_assignments.specs.Properties.{property_added, property_changed, property_extended, property_joined, property_put, udev_property_changed}
 use Rattle.eval_assignments.specs.Runs.{command_made, made_before, run_made, run_of}
 use Rattle.eval_assignments.specs.Steps.{emptied, finally_too_long, is_ignored, lacks_number, run_step, set_step, step_by, text_given, text_rendered, text_set, text_step}
-use Rattle.eval_assignments.specs.Tags.{is_tag, tag_added, tag_changed, tag_standing, without_tags}
+use Rattle.eval_assignments.specs.Tags.{is_tag, tag_added, tag_changed, with_tag, without_tags}
 
 -- two scenes are of one event
 abbrev pub Stays : Scene → Scene → Type 0
@@ -104,7 +104,7 @@ tag_added_stays : (r : Rule) (t : Text) (s : Scene) → Stays s (tag_added r t s
 tag_added_stays r [] s = refl
 tag_added_stays r (b ∷ t) s = by (is_tag (b ∷ t))
   where
-    by : (v : Bool) → Stays s (cond v (tag_standing (b ∷ t) s) (noted r TagIgnored (b ∷ t) s))
+    by : (v : Bool) → Stays s (cond v (with_tag (b ∷ t) s) (noted r TagIgnored (b ∷ t) s))
     by true = refl
     by false = refl
 
@@ -136,7 +136,7 @@ own_stays r name t s = by (nat_lt most_name_bytes (length (attribute_path s.stat
 at_stays : (place : Option ℕ) (n : NamedValue) (r : Rule) (name t : Text) (s : Scene) → Stays s (attribute_set_at place n r name t s)
 at_stays None n r name t s = own_stays r name t s
 at_stays (Some zero) n r name t s = attribute_put_stays r name (starred s.state.event.device n.attribute) t s
-at_stays (Some (suc above)) n r name t s = refl
+at_stays (Some (suc above)) n r name t s = attribute_put_stays r name (found_above s.state.event (suc above) n name) t s
 
 attribute_stays : (r : Rule) (name t : Text) (s : Scene) → Stays s (attribute_set r name t s)
 attribute_stays r name t s = by (named name)

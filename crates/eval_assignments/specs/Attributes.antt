@@ -1,11 +1,13 @@
 -- The attribute that an assignment writes for udev, by its name.
-use Rattle.std.specs.Prelude.{ℕ, zero, suc, nat_lt, if◌then◌else◌, ◌∷◌, ◌++◌, length, codes, Option, Some, None}
+use Rattle.std.specs.Prelude.{ℕ, zero, suc, ◌-◌, nat_lt, if◌then◌else◌, ◌∷◌, ◌++◌, length, take, codes, Option, Some, None, option_map}
+use Rattle.std.specs.Option.{option_and_then}
 use Rattle.text_bytes.specs.Names.{slash}
 use Rattle.text_tables.specs.Texts.{Text}
 use Rattle.text_tables.specs.Pairs.{with_value}
 use Rattle.rule_types.specs.declared.keys.Key.TheVariants as key
 use Rattle.rule_types.specs.Rules.{Rule}
 use Rattle.device_core.specs.Values.{EventValue}
+use Rattle.eval_state.specs.Chains.{device_at}
 use Rattle.eval_state.specs.Files.{starred}
 use Rattle.eval_state.specs.Named.{NamedValue, named, named_place}
 use Rattle.eval_state.specs.Scenes.{noted, noted_key}
@@ -28,12 +30,20 @@ own_attribute_set r name t s =
     if nat_lt most_name_bytes (length (attribute_path s.state.event name)) then noted_key r TextTooLong key.Attr (Some name) s
     else attribute_put r name (starred s.state.event.device name) t s
 
+-- an attribute of a named device, with all that is before it in a name
+abbrev pub named_whole : NamedValue → Text → Text → Text
+named_whole n name attribute = take (length name - length n.attribute) name ++ attribute
+
+-- the attribute of the device at a place of the chain, as it was found by its name
+abbrev pub found_above : EventValue → ℕ → NamedValue → Text → Option Text
+found_above event place n name = option_map (named_whole n name) (option_and_then (λ device. starred device n.attribute) (device_at event place))
+
 -- a value is assigned to an attribute of the device at a place of the chain, if there is one: an attribute of a
 -- device above the event device is reported with its whole name
 abbrev pub attribute_set_at : Option ℕ → NamedValue → Rule → Text → Text → Scene → Scene
 attribute_set_at None n r name t s = own_attribute_set r name t s
 attribute_set_at (Some zero) n r name t s = attribute_put r name (starred s.state.event.device n.attribute) t s
-attribute_set_at (Some (suc above)) n r name t s = attribute_put r name (Some name) t s
+attribute_set_at (Some (suc above)) n r name t s = attribute_put r name (found_above s.state.event (suc above) n name) t s
 
 -- a value is assigned to an attribute by what its name names
 abbrev pub attribute_set_by : Option NamedValue → Rule → Text → Text → Scene → Scene

@@ -42,9 +42,9 @@ mode_of profile t Keep = Plain
 mode_of profile t e = mode_in profile t
 
 -- a byte, with `_` for a space
-abbrev pub turned_byte : ℕ → ℕ
-turned_byte b = if b == space then underscore else b
+abbrev pub underscored_byte : ℕ → ℕ
+underscored_byte b = if b == space then underscore else b
 
 -- a text with `_` for its spaces
-abbrev pub turned : Text → Text
-turned t = map turned_byte t
+abbrev pub with_underscores : Text → Text
+with_underscores t = map underscored_byte t

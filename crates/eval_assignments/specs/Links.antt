@@ -37,13 +37,13 @@ abbrev pub is_barred : Text → Bool
 is_barred component = same_text component (codes "..") || nat_lt most_component_bytes (length component)
 
 -- the components after `dev`, if that is the first one
-abbrev pub behind_dev : List Text → List Text
-behind_dev [] = []
-behind_dev (component ∷ others) = if same_text component (codes "dev") then others else []
+abbrev pub after_dev : List Text → List Text
+after_dev [] = []
+after_dev (component ∷ others) = if same_text component (codes "dev") then others else []
 
 -- the components of a link below `/dev`: none of an absolute path that leads elsewhere
 abbrev pub below_dev : Text → List Text
-below_dev path = if begins_with slash path then behind_dev (components path) else components path
+below_dev path = if begins_with slash path then after_dev (components path) else components path
 
 -- a path of components, if there are any
 abbrev pub path_of : List Text → Option Text
@@ -64,13 +64,13 @@ abbrev pub plain_links : List Text → List Text
 plain_links paths = flat_map (λ path. listed (plain_link path)) paths
 
 -- a word, if it is not a link
-abbrev pub refused : Text → Option Text
-refused path = if is_none (plain_link path) then Some path else None
+abbrev pub unless_link : Text → Option Text
+unless_link path = if is_none (plain_link path) then Some path else None
 
 -- the first of these words that is not a link
 abbrev pub first_refused : List Text → Option Text
 first_refused [] = None
-first_refused (path ∷ others) = option_or (refused path) (first_refused others)
+first_refused (path ∷ others) = option_or (unless_link path) (first_refused others)
 
 -- a note about a refused link, if there is one
 abbrev pub link_noted : Rule → Option Text → Scene → Scene

@@ -28,5 +28,5 @@ abbrev pub not_empty : List Text → List Text
 not_empty texts = filter (λ t. not (is_empty t)) texts
 
 -- the names in a text, with spaces between them
-abbrev pub names : Text → List Text
-names t = not_empty (slice_split (λ b. b == space) t)
+abbrev pub link_names : Text → List Text
+link_names t = not_empty (slice_split (λ b. b == space) t)

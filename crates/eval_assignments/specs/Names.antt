@@ -8,7 +8,7 @@ use Rattle.text_tables.specs.Pairs.{value_of}
 use Rattle.text_tables.specs.Texts.{Text, same_text}
 use Rattle.device_core.specs.Values.{DeviceValue}
 use Rattle.eval_state.specs.Texts.{or_empty}
-use Rattle.eval_assignments.specs.Escapes.{turned}
+use Rattle.eval_assignments.specs.Escapes.{with_underscores}
 use Rattle.eval_assignments.specs.declared.escapes.Escape.{Escape}
 use Rattle.eval_assignments.specs.declared.escapes.Escape.TheVariants.{Keep}
 
@@ -48,5 +48,5 @@ name_byte b = if is_foreign b then underscore else b
 -- that does not belong there
 abbrev pub name_text : Profile → Escape → Text → Text
 name_text profile Keep t = t
-name_text Manual e t = turned t
+name_text Manual e t = with_underscores t
 name_text Udev e t = map name_byte t

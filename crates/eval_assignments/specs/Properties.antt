@@ -16,7 +16,7 @@ use Rattle.eval_state.specs.Scenes.{noted, with_env}
 use Rattle.eval_state.specs.declared.note_kind.NoteKind.TheVariants.{TextTooLong}
 use Rattle.eval_state.specs.declared.scene.Scene.{Scene}
 use Rattle.eval_assignments.specs.Bounds.{most_value_bytes}
-use Rattle.eval_assignments.specs.Escapes.{turned}
+use Rattle.eval_assignments.specs.Escapes.{with_underscores}
 use Rattle.eval_assignments.specs.declared.escapes.Escape.{Escape}
 use Rattle.eval_assignments.specs.declared.escapes.Escape.TheVariants.{Replace}
 
@@ -47,7 +47,7 @@ unslashed_byte b = if b == slash then underscore else b
 -- the value of a property as udev takes it: if the rule replaces bytes, those that do not belong in a link, spaces
 -- and slashes become `_`
 abbrev pub env_text : Escape → Text → Text
-env_text Replace t = map unslashed_byte (turned (safe link_marks t))
+env_text Replace t = map unslashed_byte (with_underscores (safe link_marks t))
 env_text e t = t
 
 -- a text that is not too long for a value

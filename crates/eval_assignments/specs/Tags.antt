@@ -30,13 +30,13 @@ abbrev pub current_tags : Scene → List Text
 current_tags s = without_texts s.state.tags s.gone
 
 -- a tag that is set: again if it was removed, and at the end if it was not there
-abbrev pub tag_standing : Text → Scene → Scene
-tag_standing t s = record s { gone = without_text s.gone t; state = record s.state { tags = with_text s.state.tags t } }
+abbrev pub with_tag : Text → Scene → Scene
+with_tag t s = record s { gone = without_text s.gone t; state = record s.state { tags = with_text s.state.tags t } }
 
 -- a text is added as a tag; one that is not a tag leaves a note
 abbrev pub tag_added : Rule → Text → Scene → Scene
 tag_added r [] s = noted_key r NoValue key.Tag None s
-tag_added r (b ∷ t) s = if is_tag (b ∷ t) then tag_standing (b ∷ t) s else noted r TagIgnored (b ∷ t) s
+tag_added r (b ∷ t) s = if is_tag (b ∷ t) then with_tag (b ∷ t) s else noted r TagIgnored (b ∷ t) s
 
 -- a scene without tags
 abbrev pub without_tags : Scene → Scene

@@ -1,10 +1,10 @@
 //! What each key makes of the text that is assigned to it.
-ghost use Rattle.std.specs.Prelude.{◌≡◌, ℕ, List, OnOk, OnErr, IfOk};
+ghost use Rattle.std.specs.Prelude.{◌≡◌, ℕ, List, [], ◌∷◌, ◌++◌, OnOk, OnErr, IfOk};
 ghost use Rattle.text_tables.specs.Pairs.{with_value};
-ghost use Rattle.eval_assignments.specs.Assigning.{assigned, given, group_set, labels_before, link_text, or_written, owner_set};
+ghost use Rattle.eval_assignments.specs.Assigning.{assigned, group_set, labels_before, link_text, or_written, owner_set, unless_empty};
 
 use crate::attributes::set_attribute;
-use crate::escapes::{Escape, turned};
+use crate::escapes::{Escape, with_underscores};
 use crate::links::change_udev_links;
 use crate::lists::{change_links, change_tags};
 use crate::modes::set_mode;
@@ -12,15 +12,14 @@ use crate::names::name_text;
 use crate::parameters::set_parameter;
 use crate::properties::{change_property, change_udev_property};
 use crate::tags::change_udev_tags;
-use eval_state::{NoteKind, Scene};
+use eval_state::{Labels, NoteKind, Scene};
 use rule_types::{AssignOperator, Key, Rule, Target};
 use std::alloc::{AllocError, Global};
 use text_bytes::{Bytes, Profile};
-use text_tables::OwnedPairs;
 
 /// A text that is assigned; `None` if it is empty.
-fn given(text: Bytes) -> Option<Bytes>
-    ensures { result ≡ given text }
+fn unless_empty(text: Bytes) -> Option<Bytes>
+    ensures { result ≡ unless_empty text }
 {
     if text.as_slice().is_empty() {
         None
@@ -34,26 +33,48 @@ fn link_text(alloc: Global, escape: Escape, text: Bytes) -> Result<Bytes, AllocE
     ensures { IfOk result (λ names. names ≡ link_text escape text) }
 {
     match escape {
-        Escape::Replace => Ok(Bytes::new(turned(alloc, text.as_slice())?)),
+        Escape::Replace => Ok(Bytes::new(with_underscores(alloc, text.as_slice())?)),
         _ => Ok(text),
     }
 }
 
-/// Sets the label of a module; unless it is added, it is then the only one.
-fn set_label(
-    alloc: Global,
-    operator: AssignOperator,
-    name: &[u8],
-    text: Bytes,
-    labels: &mut OwnedPairs,
-) -> Result<(), AllocError>
-    ensures { OnOk result (labels.new ≡ with_value (labels_before operator labels.old) name.now text) }
+/// Removes the labels that do not stay before one is set: all, unless it is added.
+fn make_room(operator: AssignOperator, labels: &mut Labels)
+    ensures { labels.new ≡ labels_before operator labels.old }
 {
     match operator {
         AssignOperator::Add => {}
         _ => labels.clear(),
     }
+}
+
+/// Sets the label of a module, which has no other one then; unless it is added, it is the only one.
+fn set_label(
+    alloc: Global,
+    operator: AssignOperator,
+    name: &[u8],
+    text: Bytes,
+    labels: &mut Labels,
+) -> Result<(), AllocError>
+    ensures { OnOk result (labels.new ≡ with_value (labels_before operator labels.old) name.now text) }
+{
+    make_room(operator, labels);
     labels.put(alloc, name, text)
+}
+
+/// Sets the label of a module as udev does (systemd 257): after all others, those of the module, too; unless it is
+/// added, it is the only one.
+fn set_udev_label(
+    alloc: Global,
+    operator: AssignOperator,
+    name: &[u8],
+    text: Bytes,
+    labels: &mut Labels,
+) -> Result<(), AllocError>
+    ensures { OnOk result (labels.new ≡ labels_before operator labels.old ++ (name.now, text) ∷ []) }
+{
+    make_room(operator, labels);
+    labels.push(alloc, name, text)
 }
 
 /// Assigns a text as the manual has it, by what it is assigned to.
@@ -70,9 +91,9 @@ fn assign_manual(
     ensures refused { OnErr result (scene.new.state.event ≡ scene.old.state.event) }
 {
     match target {
-        Target::Owner => scene.owner = given(text),
-        Target::Group => scene.group = given(text),
-        Target::Mode => scene.mode = given(text),
+        Target::Owner => scene.owner = unless_empty(text),
+        Target::Group => scene.group = unless_empty(text),
+        Target::Mode => scene.mode = unless_empty(text),
         Target::Tag => change_tags(alloc, operator, text.as_slice(), &mut scene.state.tags)?,
         Target::Seclabel(name) => {
             set_label(alloc, operator, name.as_slice(), text, &mut scene.labels)?;
@@ -88,7 +109,7 @@ fn assign_manual(
             )?;
         }
         Target::Name => {
-            scene.state.name = given(name_text(alloc, Profile::Manual, escape, text)?);
+            scene.state.name = unless_empty(name_text(alloc, Profile::Manual, escape, text)?);
         }
         Target::Symlink => {
             let names = link_text(alloc, escape, text)?;
@@ -167,14 +188,14 @@ fn assign_udev(
         Target::Tag => change_udev_tags(alloc, rule, operator, text.as_slice(), scene),
         Target::Seclabel(name) => {
             let label = or_written(alloc, written, text)?;
-            set_label(alloc, operator, name.as_slice(), label, &mut scene.labels)
+            set_udev_label(alloc, operator, name.as_slice(), label, &mut scene.labels)
         }
         Target::Env(name) => {
             let (name, text) = (name.as_slice(), text.as_slice());
             change_udev_property(alloc, rule, escape, operator, name, written, text, scene)
         }
         Target::Name => {
-            scene.state.name = given(name_text(alloc, Profile::Udev, escape, text)?);
+            scene.state.name = Some(name_text(alloc, Profile::Udev, escape, text)?);
             Ok(())
         }
         Target::Symlink => {

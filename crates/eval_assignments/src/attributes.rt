@@ -1,12 +1,12 @@
 //! The attribute that an assignment writes for udev, found by its name.
-ghost use Rattle.std.specs.Prelude.{◌≡◌, ◌++◌, ◌∷◌, nat_lt, codes, length, OnOk, OnErr};
+ghost use Rattle.std.specs.Prelude.{◌≡◌, ◌++◌, ◌∷◌, nat_lt, codes, length, IfOk, OnOk, OnErr};
 ghost use Rattle.text_bytes.specs.Names.{slash};
 ghost use Rattle.eval_state.specs.Named.{named_place};
-ghost use Rattle.eval_assignments.specs.Attributes.{attribute_put, attribute_set, attribute_set_at, own_attribute_set};
+ghost use Rattle.eval_assignments.specs.Attributes.{attribute_put, attribute_set, attribute_set_at, found_above, own_attribute_set};
 ghost use Rattle.eval_assignments.specs.Bounds.{most_name_bytes};
 
 use crate::bounds::MAX_NAME_BYTES;
-use eval_state::{Named, NoteKind, Scene, starred};
+use eval_state::{Chain, Named, NoteKind, Scene, starred};
 use rule_types::{Key, Rule};
 use std::alloc::{AllocError, Global};
 use text_bytes::Bytes;
@@ -74,8 +74,33 @@ fn set_named_attribute(
             let found = starred(alloc, scene.state.event.device(), named.attribute)?;
             put_attribute(alloc, rule, name, found, value, scene)
         }
-        Some(_) => scene.attrs.put(alloc, name, value),
+        Some(place) => {
+            let found = found_above(alloc, &scene.state.event, place, named, name)?;
+            put_attribute(alloc, rule, name, found, value, scene)
+        }
     }
+}
+
+/// The attribute of the device at a place of the chain, as it is found by its name, with all that is before it there.
+fn found_above(
+    alloc: Global,
+    chain: &Chain<'_>,
+    place: usize,
+    named: &Named<'_>,
+    name: &[u8],
+) -> Result<Option<Bytes>, AllocError>
+    ensures { IfOk result (λ found. found ≡ found_above chain.now place named.now name.now) }
+{
+    let Some(device) = chain.device_at(place) else {
+        return Ok(None);
+    };
+    let Some(attribute) = starred(alloc, device, named.attribute)? else {
+        return Ok(None);
+    };
+    let before = name.len().saturating_sub(named.attribute.len());
+    let mut whole = Vec::from_slice(alloc, &name[..before])?;
+    whole.extend_from_slice(attribute.as_slice())?;
+    Ok(Some(Bytes::new(whole)))
 }
 
 /// Assigns a value to an attribute as udev finds it (systemd 257): `[SUBSYSTEM/KERNEL]ATTRIBUTE` is one of the

@@ -1,6 +1,6 @@
 //! What becomes of bytes of links and names that do not belong there, as OPTIONS of a rule has it.
 ghost use Rattle.std.specs.Prelude.{◌≡◌, IfOk};
-ghost use Rattle.eval_assignments.specs.Escapes.{escape_after, escape_of, mode_in, mode_of, mode_of_name, turned, turned_byte};
+ghost use Rattle.eval_assignments.specs.Escapes.{escape_after, escape_of, mode_in, mode_of, mode_of_name, underscored_byte, with_underscores};
 
 use eval_rendering::Mode;
 use rule_types::{Assignment, Change, RuleOption, Target};
@@ -73,15 +73,17 @@ fn mode_of_name(profile: Profile) -> Mode
 }
 
 /// A byte, with `_` for a space.
-fn turned_byte(byte: u8) -> u8
-    ensures { result ≡ turned_byte byte }
+fn underscored_byte(byte: u8) -> u8
+    ensures { result ≡ underscored_byte byte }
 {
     if byte == b' ' { b'_' } else { byte }
 }
 
 /// A text with `_` for its spaces.
-pub(crate) fn turned(alloc: Global, text: &[u8]) -> Result<Vec<u8>, AllocError>
-    ensures { IfOk result (λ whole. whole.items ≡ turned text.now) }
+pub(crate) fn with_underscores(alloc: Global, text: &[u8]) -> Result<Vec<u8>, AllocError>
+    ensures { IfOk result (λ whole. whole.items ≡ with_underscores text.now) }
 {
-    text.iter().map(|byte| turned_byte(*byte)).collect(alloc)
+    text.iter()
+        .map(|byte| underscored_byte(*byte))
+        .collect(alloc)
 }

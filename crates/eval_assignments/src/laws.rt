@@ -22,6 +22,6 @@ pub fn plain_paths_are_links()
 {}
 
 /// A mode as it is reported is read as the same mode.
-pub fn told_modes_are_read_back()
+pub fn reported_modes_are_read_back()
     ensures { (mode : ℕ) → mode < 8 ^ 4 → mode_of (four_digits mode) ≡ Some mode }
 {}

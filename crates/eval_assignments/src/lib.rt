@@ -26,6 +26,6 @@ mod tags;
 
 pub use escapes::Escape;
 pub use finals::final_key;
-pub use laws::{kept_links_are_plain, plain_paths_are_links, told_modes_are_read_back};
+pub use laws::{kept_links_are_plain, plain_paths_are_links, reported_modes_are_read_back};
 pub use names::is_interface;
 pub use step::{set_all, set_one};

@@ -4,7 +4,7 @@ ghost use Rattle.std.specs.List.{join_with_byte, list_any, slice_split};
 ghost use Rattle.std.specs.Option.{option_or};
 ghost use Rattle.text_bytes.specs.Names.{slash};
 ghost use Rattle.text_tables.specs.Texts.{same_text};
-ghost use Rattle.eval_assignments.specs.Links.{behind_dev, components, first_refused, is_barred, is_between, is_step, link_noted, links_changed, listed, path_of, plain_link, plain_links, refused, words};
+ghost use Rattle.eval_assignments.specs.Links.{after_dev, components, first_refused, is_barred, is_between, is_step, link_noted, links_changed, listed, path_of, plain_link, plain_links, unless_link, words};
 
 use crate::lists::{change, push_name};
 use eval_state::{NoteKind, Scene};
@@ -65,9 +65,9 @@ pub(crate) fn components(alloc: Global, path: &[u8]) -> Result<Vec<&[u8]>, Alloc
 {
     let mut steps = Vec::new(alloc);
     let mut rest = path;
-    while let Some((component, behind)) = split_once(b'/', rest) {
+    while let Some((component, following)) = split_once(b'/', rest) {
         push_step(&mut steps, component)?;
-        rest = behind;
+        rest = following;
     }
     push_step(&mut steps, rest)?;
     Ok(steps)
@@ -100,8 +100,8 @@ fn is_dev(component: &[u8]) -> bool
 }
 
 /// The components after `dev`, if that is the first one.
-fn behind_dev<'s, 'a>(components: &'s [&'a [u8]]) -> &'s [&'a [u8]]
-    ensures { map (λ t. t.now) result.now ≡ behind_dev (map (λ t. t.now) components.now) }
+fn after_dev<'s, 'a>(components: &'s [&'a [u8]]) -> &'s [&'a [u8]]
+    ensures { map (λ t. t.now) result.now ≡ after_dev (map (λ t. t.now) components.now) }
 {
     let Some((first, others)) = components.split_first() else {
         return components;
@@ -148,7 +148,7 @@ fn plain_link(alloc: Global, path: &[u8]) -> Result<Option<Bytes>, AllocError>
         return Ok(None);
     }
     if begins_with(b'/', path) {
-        path_of(alloc, behind_dev(&parts))
+        path_of(alloc, after_dev(&parts))
     } else {
         path_of(alloc, &parts)
     }
@@ -167,7 +167,7 @@ impl<'a> Links<'a> {
     /// Takes one word more.
     fn take(&mut self, alloc: Global, word: &'a [u8]) -> Result<(), AllocError>
         ensures kept { OnOk result (self.new.kept.items ≡ self.old.kept.items ++ listed (plain_link word.now)) }
-        ensures refused { OnOk result (option_map (λ t. t.now) self.new.refused ≡ option_or (option_map (λ t. t.now) self.old.refused) (refused word.now)) }
+        ensures refused { OnOk result (option_map (λ t. t.now) self.new.refused ≡ option_or (option_map (λ t. t.now) self.old.refused) (unless_link word.now)) }
     {
         match plain_link(alloc, word)? {
             Some(link) => self.kept.push(link)?,
@@ -193,14 +193,14 @@ fn links_of<'a>(alloc: Global, words: &[&'a [u8]]) -> Result<Links<'a>, AllocErr
 }
 
 /// Texts, borrowed.
-fn lent(alloc: Global, texts: &[Bytes]) -> Result<Vec<&[u8]>, AllocError>
-    ensures { IfOk result (λ lent. map (λ t. t.now) lent.items ≡ texts.now) }
+fn borrowed(alloc: Global, texts: &[Bytes]) -> Result<Vec<&[u8]>, AllocError>
+    ensures { IfOk result (λ borrowed. map (λ t. t.now) borrowed.items ≡ texts.now) }
 {
-    let mut lent = Vec::with_capacity(alloc, texts.len())?;
+    let mut borrowed = Vec::with_capacity(alloc, texts.len())?;
     for text in texts {
-        lent.push(text.as_slice())?;
+        borrowed.push(text.as_slice())?;
     }
-    Ok(lent)
+    Ok(borrowed)
 }
 
 /// Leaves a note about a refused link, if there is one.
@@ -233,7 +233,7 @@ pub(crate) fn change_udev_links(
 {
     let words = words(alloc, text)?;
     let links = links_of(alloc, &words)?;
-    let kept = lent(alloc, &links.kept)?;
+    let kept = borrowed(alloc, &links.kept)?;
     change(alloc, operator, &kept, &mut scene.state.links)?;
     note_link(alloc, rule, links.refused, scene)
 }

@@ -1,7 +1,7 @@
 //! Lists that assignments change: the tags and the links.
 ghost use Rattle.std.specs.Prelude.{◌≡◌, ◌++◌, ◌∷◌, [], map, OnOk, IfOk};
 ghost use Rattle.text_tables.specs.Texts.{with_texts};
-ghost use Rattle.eval_assignments.specs.Lists.{changed, names, not_empty, one_tag, without_texts};
+ghost use Rattle.eval_assignments.specs.Lists.{changed, link_names, not_empty, one_tag, without_texts};
 
 use rule_types::AssignOperator;
 use std::alloc::{AllocError, Global};
@@ -76,14 +76,14 @@ pub(crate) fn push_name<'a>(names: &mut Vec<&'a [u8]>, name: &'a [u8]) -> Result
 }
 
 /// The names in a text, with spaces between them.
-fn names(alloc: Global, text: &[u8]) -> Result<Vec<&[u8]>, AllocError>
-    ensures { IfOk result (λ found. map (λ t. t.now) found.items ≡ names text.now) }
+fn link_names(alloc: Global, text: &[u8]) -> Result<Vec<&[u8]>, AllocError>
+    ensures { IfOk result (λ found. map (λ t. t.now) found.items ≡ link_names text.now) }
 {
     let mut names = Vec::new(alloc);
     let mut rest = text;
-    while let Some((front, behind)) = split_once(b' ', rest) {
-        push_name(&mut names, front)?;
-        rest = behind;
+    while let Some((prefix, following)) = split_once(b' ', rest) {
+        push_name(&mut names, prefix)?;
+        rest = following;
     }
     push_name(&mut names, rest)?;
     Ok(names)
@@ -96,8 +96,8 @@ pub(crate) fn change_links(
     text: &[u8],
     links: &mut OwnedTexts,
 ) -> Result<(), AllocError>
-    ensures { OnOk result (links.new ≡ changed operator (names text.now) links.old) }
+    ensures { OnOk result (links.new ≡ changed operator (link_names text.now) links.old) }
 {
-    let names = names(alloc, text)?;
+    let names = link_names(alloc, text)?;
     change(alloc, operator, &names, links)
 }

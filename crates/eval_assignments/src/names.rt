@@ -2,7 +2,7 @@
 ghost use Rattle.std.specs.Prelude.{◌≡◌, map, IfOk, option_map};
 ghost use Rattle.eval_assignments.specs.Names.{has_name, is_foreign, is_interface, is_net, name_byte, name_text};
 
-use crate::escapes::{Escape, turned};
+use crate::escapes::{Escape, with_underscores};
 use device_core::Device;
 use std::alloc::{AllocError, Global};
 use text_bytes::{Bytes, Profile, decimal_below};
@@ -75,7 +75,7 @@ pub(crate) fn name_text(
     match escape {
         Escape::Keep => Ok(text),
         _ => match profile {
-            Profile::Manual => Ok(Bytes::new(turned(alloc, text.as_slice())?)),
+            Profile::Manual => Ok(Bytes::new(with_underscores(alloc, text.as_slice())?)),
             Profile::Udev => Ok(Bytes::new(name_bytes(alloc, text.as_slice())?)),
         },
     }

@@ -4,7 +4,7 @@ ghost use Rattle.text_bytes.specs.Names.{space};
 ghost use Rattle.eval_assignments.specs.Properties.{appended, env_text, extended, property_added, property_changed, property_extended, property_joined, property_put, short_value, udev_property_changed, unslashed_byte};
 
 use crate::bounds::MAX_VALUE_BYTES;
-use crate::escapes::{Escape, turned};
+use crate::escapes::{Escape, with_underscores};
 use eval_rendering::link_safe;
 use eval_state::{Scene, set_property};
 use rule_types::{AssignOperator, Key, Rule};
@@ -97,7 +97,7 @@ fn env_text(alloc: Global, escape: Escape, text: &[u8]) -> Result<Bytes, AllocEr
 {
     match escape {
         Escape::Replace => {
-            let safe = turned(alloc, &link_safe(alloc, text)?)?;
+            let safe = with_underscores(alloc, &link_safe(alloc, text)?)?;
             let value = safe
                 .iter()
                 .map(|byte| unslashed_byte(*byte))

@@ -1,7 +1,7 @@
 //! Tags, as udev changes them.
 ghost use Rattle.std.specs.Prelude.{◌≡◌, OnOk, OnErr};
 ghost use Rattle.std.specs.List.{list_all};
-ghost use Rattle.eval_assignments.specs.Tags.{is_tag, is_tag_byte, tag_added, tag_changed, tag_standing, without_tags};
+ghost use Rattle.eval_assignments.specs.Tags.{is_tag, is_tag_byte, tag_added, tag_changed, with_tag, without_tags};
 
 use eval_state::{NoteKind, Scene};
 use rule_types::{AssignOperator, Key, Rule};
@@ -32,8 +32,8 @@ fn is_tag(text: &[u8]) -> bool
 }
 
 /// Sets a tag: again if it was removed, and at the end if it was not there.
-fn make_stand(alloc: Global, tag: &[u8], scene: &mut Scene<'_>) -> Result<(), AllocError>
-    ensures scene { OnOk result (scene.new ≡ tag_standing tag.now scene.old) }
+fn set_tag(alloc: Global, tag: &[u8], scene: &mut Scene<'_>) -> Result<(), AllocError>
+    ensures scene { OnOk result (scene.new ≡ with_tag tag.now scene.old) }
     ensures refused { OnErr result (scene.new.state.event ≡ scene.old.state.event) }
 {
     scene.gone.remove(tag);
@@ -48,7 +48,7 @@ fn add_tag(alloc: Global, rule: &Rule, text: &[u8], scene: &mut Scene<'_>) -> Re
     if text.is_empty() {
         scene.note_key(alloc, rule, NoteKind::NoValue, Key::Tag, None)
     } else if is_tag(text) {
-        make_stand(alloc, text, scene)
+        set_tag(alloc, text, scene)
     } else {
         scene.note(alloc, rule, NoteKind::TagIgnored, text)
     }

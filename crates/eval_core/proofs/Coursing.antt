@@ -1,11 +1,11 @@
--- What comes of a rule, by its course. Over an event by the manual it is known as far as its steps are; over one of udev's nothing is.
+-- The outcome of a rule, by its course. Over an event by the manual it is known as far as its steps are; over one of udev's nothing is.
 use Rattle.std.proofs.Common.{◌≡◌, ℕ, ◌-◌, ◌<◌, Bool, true, false, cond, ◌&&◌, List, [], ◌∷◌, length, fold, map, get_or, slice_get, is_some, Option, Some, None, option_map, refl, ap, sym, ◌∙◌}
 use Rattle.std.specs.List.{list_all}
 use Rattle.std.specs.Option.{option_and_then, option_or}
 use Rattle.std.proofs.lemmas.List.{get_or-map}
 use Rattle.std.proofs.lemmas.List.Folds.{list_all_at}
 use Rattle.std.proofs.lemmas.Option.{same_Some, slice_get-get_or, slice_get_within}
-use Rattle.text_bytes.specs.Texts.{is_empty}
+use Rattle.text_bytes.specs.Texts.{is_empty, trimmed}
 use Rattle.text_bytes.specs.declared.profile.Profile.{Profile}
 use Rattle.text_bytes.specs.declared.profile.Profile.TheVariants.{Manual, Udev}
 use Rattle.text_tables.specs.Texts.{Text}
@@ -24,7 +24,7 @@ use Rattle.rule_types.specs.Rules.{Rule}
 use Rattle.eval_core.specs.Sketches.{exact_sketch, sketch}
 use Rattle.device_core.specs.Values.{DeviceValue, EventValue, chain}
 use Rattle.eval_state.specs.Chains.{device_at}
-use Rattle.eval_state.specs.Texts.{or_empty, trimmed}
+use Rattle.eval_state.specs.Texts.{or_empty}
 use Rattle.eval_state.specs.declared.state.State.{State}
 use Rattle.eval_matching.specs.Attributes.{attribute_by, value_by}
 use Rattle.eval_matching.specs.Holding.{agrees, attribute, holds, one}
@@ -32,12 +32,12 @@ use Rattle.eval_matching.specs.Subjects.{found_place, holds_at, plain_subject, t
 use Rattle.eval_matching.proofs.Finding.{none_found}
 use Rattle.eval_state.specs.declared.scene.Scene.{Scene}
 use Rattle.eval_acts.specs.Acts.{act_step}
-use Rattle.eval_acts.specs.Reaching.{reached}
+use Rattle.eval_acts.specs.Reaching.{match_reached}
 use Rattle.eval_assignments.specs.Steps.{set_step}
 use Rattle.eval_rules.specs.Idle.{is_idle_by}
-use Rattle.eval_rules.specs.Steps.{Went, apply, only_noted, onward, plain_step, result_step, search, set_all, steps, walk, with_selected}
+use Rattle.eval_rules.specs.Steps.{Went, apply, if_proceeding, only_noted, plain_step, result_step, search, set_all, steps, walk, with_selected}
 use Rattle.eval_core.specs.Checks.{check_of, choice_check, is_other, is_ruled_out, seen}
-use Rattle.eval_core.specs.Courses.{as_foretold, course_behind, course_by, course_in, course_of, foretold, foretold_by, guard_in, guarded, has_no_more, mark_by, mark_in, mark_of, part_mark, refused, search_in, searched}
+use Rattle.eval_core.specs.Courses.{as_predicted, course_after, course_by, course_in, course_of, guard_in, guarded, has_no_more, mark_by, mark_in, mark_of, part_mark, predicted, predicted_by, search_in, searched, unequal_check}
 use Rattle.eval_core.specs.Marks.{driver, is_lacking, mark, marks, subsystem}
 use Rattle.eval_core.specs.declared.checks.Check.{Check}
 use Rattle.eval_core.specs.declared.courses.Course.{Course}
@@ -75,30 +75,30 @@ module _ (es : List Entry) (r : Rule) (s : Scene) where
   ended : r.up ≡ [] → IsDone r → walk (plain_step r) r.plain s ≡ (s, true) → steps es r s ≡ (s, true)
   unfolding steps walk
   ended none is first =
-      ap (λ (w : Went). onward (set_all r) (onward (walk result_step r.results) (onward (walk (act_step es r) r.acts) (onward (search r.up) w)))) first
-      ∙ ap (λ (parts : List UpMatch). onward (set_all r) (onward (walk result_step r.results) (onward (walk (act_step es r) r.acts) (search parts s)))) none
-      ∙ ap (λ (parts : List Act). onward (set_all r) (onward (walk result_step r.results) (walk (act_step es r) parts s))) is.acts
-      ∙ ap (λ (parts : List Comparison). onward (set_all r) (walk result_step parts s)) is.results
+      ap (λ (w : Went). if_proceeding (set_all r) (if_proceeding (walk result_step r.results) (if_proceeding (walk (act_step es r) r.acts) (if_proceeding (search r.up) w)))) first
+      ∙ ap (λ (parts : List UpMatch). if_proceeding (set_all r) (if_proceeding (walk result_step r.results) (if_proceeding (walk (act_step es r) r.acts) (search parts s)))) none
+      ∙ ap (λ (parts : List Act). if_proceeding (set_all r) (if_proceeding (walk result_step r.results) (walk (act_step es r) parts s))) is.acts
+      ∙ ap (λ (parts : List Comparison). if_proceeding (set_all r) (walk result_step parts s)) is.results
       ∙ ap (λ (parts : List Assignment). (fold (set_step r) s parts, true)) is.sets
 
   none_walked : r.plain ≡ [] → walk (plain_step r) r.plain s ≡ (s, true)
   unfolding walk
   none_walked plain = ap (λ ps. walk (plain_step r) ps s) plain
 
-  one_walked : (part : PlainMatch) → r.plain ≡ part ∷ [] → reached r part.key s ≡ s → holds (plain_subject part.key s.state) part.wanted ≡ true → walk (plain_step r) r.plain s ≡ (s, true)
+  one_walked : (part : PlainMatch) → r.plain ≡ part ∷ [] → match_reached r part.key s ≡ s → holds (plain_subject part.key s.state) part.wanted ≡ true → walk (plain_step r) r.plain s ≡ (s, true)
   unfolding walk plain_step
   one_walked part plain leaves holds_so =
       ap (λ ps. walk (plain_step r) ps s) plain
-      ∙ ap (λ (t : Scene). onward (walk (plain_step r) []) (t, holds (plain_subject part.key s.state) part.wanted)) leaves
-      ∙ ap (λ b. onward (walk (plain_step r) []) (s, b)) holds_so
+      ∙ ap (λ (t : Scene). if_proceeding (walk (plain_step r) []) (t, holds (plain_subject part.key s.state) part.wanted)) leaves
+      ∙ ap (λ b. if_proceeding (walk (plain_step r) []) (s, b)) holds_so
 
   -- a rule that searches for one device and finds none
   stranded : (part : UpMatch) (parts : List UpMatch) → r.plain ≡ [] → r.up ≡ part ∷ parts → found_place (part ∷ parts) s.state ≡ None → steps es r s ≡ (record s { state = with_selected None s.state }, false)
   unfolding steps walk
   stranded part parts plain ups none =
-      ap (λ (w : Went). onward (set_all r) (onward (walk result_step r.results) (onward (walk (act_step es r) r.acts) (onward (search r.up) w)))) (none_walked plain)
-      ∙ ap (λ (us : List UpMatch). onward (set_all r) (onward (walk result_step r.results) (onward (walk (act_step es r) r.acts) (search us s)))) ups
-      ∙ ap (λ (place : Option ℕ). onward (set_all r) (onward (walk result_step r.results) (onward (walk (act_step es r) r.acts) (record s { state = with_selected place s.state }, is_some place)))) none
+      ap (λ (w : Went). if_proceeding (set_all r) (if_proceeding (walk result_step r.results) (if_proceeding (walk (act_step es r) r.acts) (if_proceeding (search r.up) w)))) (none_walked plain)
+      ∙ ap (λ (us : List UpMatch). if_proceeding (set_all r) (if_proceeding (walk result_step r.results) (if_proceeding (walk (act_step es r) r.acts) (search us s)))) ups
+      ∙ ap (λ (place : Option ℕ). if_proceeding (set_all r) (if_proceeding (walk result_step r.results) (if_proceeding (walk (act_step es r) r.acts) (record s { state = with_selected place s.state }, is_some place)))) none
 
 -- ---- what no device has
 
@@ -150,7 +150,7 @@ module _ (state : State) (manual : state.event.profile ≡ Manual) where
       ∙ attribute_missed part.wanted found (value_of d.attrs name) e (missing place d name found (device place within) h (value_of d.attrs name) refl)
       ∙ ap (λ o. agrees o false) equal
 
-  -- where the mark of a match is not set, it holds at no device
+  -- if the mark of a match is not set, it holds at no device
   absent : (part : UpMatch) (m : ℕ) → part_mark part ≡ Some m → is_lacking (slice_get (marks state.event) m) ≡ true → Absent part
   absent part m e h = by part.wanted.operator refl part.key refl e
     where
@@ -168,7 +168,7 @@ module _ (state : State) (manual : state.event.profile ≡ Manual) where
       by Equal is (up.Attrs name) at c = known (sketch name) (λ found x lacks. no_attribute part name found at is x lacks) (exact_sketch part.wanted.choice) refl c
       by Equal is other at c = cc c
 
-  -- where one of the matches holds at no device, none is found
+  -- if one of the matches holds at no device, none is found
   none_meets : (parts : List UpMatch) (i : ℕ) (part : UpMatch) → slice_get parts i ≡ Some part → Absent part → found_place parts state ≡ None
   unfolding found_place
   none_meets parts i part at nowhere =
@@ -182,12 +182,12 @@ module _ (state : State) (manual : state.event.profile ≡ Manual) where
 module _ (es : List Entry) (names : List Text) (r : Rule) (s : Scene) (manual : s.state.event.profile ≡ Manual) where
   -- what a fate says
   abbrev Comes : Fate → Type 0
-  Comes fate = as_foretold fate s (steps es r s) ≡ steps es r s
+  Comes fate = as_predicted fate s (steps es r s) ≡ steps es r s
 
   abbrev Known : Course → Type 0
-  Known course = Comes (foretold (seen names s.state.event) (marks s.state.event) course)
+  Known course = Comes (predicted (seen names s.state.event) (marks s.state.event) course)
 
-  at_guard : (part : PlainMatch) → r.up ≡ [] → IsDone r → r.plain ≡ part ∷ [] → Known (guarded (refused part.wanted.operator (choice_check names part.key part.wanted.choice)))
+  at_guard : (part : PlainMatch) → r.up ≡ [] → IsDone r → r.plain ≡ part ∷ [] → Known (guarded (unequal_check part.wanted.operator (choice_check names part.key part.wanted.choice)))
   at_guard part ups is plain = by part.wanted.operator refl (choice_check names part.key part.wanted.choice) refl
     where
       holds_by : (check : Check) → part.wanted.operator ≡ NotEqual → choice_check names part.key part.wanted.choice ≡ Some check → (b : Bool) → is_ruled_out (seen names s.state.event) (Some check) ≡ b → Comes (cond b Reached Unknown)
@@ -196,7 +196,7 @@ module _ (es : List Entry) (names : List Text) (r : Rule) (s : Scene) (manual : 
           sym (ended es r s ups is (one_walked es r s part plain misses.0 (misses.1 ∙ ap (λ o. agrees o false) o)))
       holds_by check o c false out = refl
 
-      by : (o : MatchOperator) → part.wanted.operator ≡ o → (c : Option Check) → choice_check names part.key part.wanted.choice ≡ c → Known (guarded (refused o c))
+      by : (o : MatchOperator) → part.wanted.operator ≡ o → (c : Option Check) → choice_check names part.key part.wanted.choice ≡ c → Known (guarded (unequal_check o c))
       by Equal o c e = refl
       by NotEqual o None e = refl
       by NotEqual o (Some check) e = holds_by check o e (is_ruled_out (seen names s.state.event) (Some check)) refl
@@ -230,8 +230,8 @@ module _ (es : List Entry) (names : List Text) (r : Rule) (s : Scene) (manual : 
       by_last None e = by_first (part_mark part) refl
       by_last (Some last) e = by_mark last e (part_mark last) refl
 
-  at_behind : Known (course_behind names r)
-  at_behind = by r.up refl
+  at_after : Known (course_after names r)
+  at_after = by r.up refl
     where
       either : r.up ≡ [] → (b : Bool) → has_no_more r ≡ b → Known (cond b (guard_in names r.plain) Open)
       either ups true more = at_plain r.plain refl ups (done r more)
@@ -249,40 +249,40 @@ module _ (es : List Entry) (names : List Text) (r : Rule) (s : Scene) (manual : 
       fails check e false out = refl
 
       by : (check : Option Check) → check_of names r ≡ check → Known (course_by names r check)
-      by None e = at_behind
+      by None e = at_after
       by (Some check) e = fails check e (is_ruled_out (seen names s.state.event) (Some check)) refl
 
 -- by the manual a rule goes through its steps
-goes_through : (es : List Entry) (r : Rule) (s : Scene) → s.state.event.profile ≡ Manual → apply es r s ≡ steps es r s
+passes_through : (es : List Entry) (r : Rule) (s : Scene) → s.state.event.profile ≡ Manual → apply es r s ≡ steps es r s
 unfolding apply is_idle_by
-goes_through es r s manual = ap (λ by. cond (is_idle_by by r s.state.event) (only_noted es r s) (steps es r s)) manual
+passes_through es r s manual = ap (λ by. cond (is_idle_by by r s.state.event) (only_noted es r s) (steps es r s)) manual
 
 -- what is known of a rule by its course comes so
 pub comes_so : (es : List Entry) (names : List Text) (event : EventValue) (r : Rule) (s : Scene) → s.state.event ≡ event
-    → as_foretold (foretold_by event.profile (seen names event) (marks event) (course_of names r)) s (apply es r s) ≡ apply es r s
+    → as_predicted (predicted_by event.profile (seen names event) (marks event) (course_of names r)) s (apply es r s) ≡ apply es r s
 comes_so es names event r s same = by event.profile refl
   where
-    by : (profile : Profile) → event.profile ≡ profile → as_foretold (foretold_by profile (seen names event) (marks event) (course_of names r)) s (apply es r s) ≡ apply es r s
+    by : (profile : Profile) → event.profile ≡ profile → as_predicted (predicted_by profile (seen names event) (marks event) (course_of names r)) s (apply es r s) ≡ apply es r s
     by Udev e = refl
     by Manual e =
         let manual : s.state.event.profile ≡ Manual = ap (λ (v : EventValue). v.profile) same ∙ e in
-        let through : apply es r s ≡ steps es r s = goes_through es r s manual in
-        ap (as_foretold (foretold (seen names event) (marks event) (course_of names r)) s) through
-        ∙ ap (λ v. as_foretold (foretold (seen names v) (marks v) (course_of names r)) s (steps es r s)) (sym same)
+        let through : apply es r s ≡ steps es r s = passes_through es r s manual in
+        ap (as_predicted (predicted (seen names event) (marks event) (course_of names r)) s) through
+        ∙ ap (λ v. as_predicted (predicted (seen names v) (marks v) (course_of names r)) s (steps es r s)) (sym same)
         ∙ at_course es names r s manual
         ∙ sym through
 
 -- what is foretold of the rule at a place comes so
-pub foretold_so : (es : List Entry) (names : List Text) (event : EventValue) (rules : List Rule) (courses : List Course) (told : List (Option ℕ)) (found : List Bool) (profile : Profile) (place : ℕ) (r : Rule) (d : Course) (s : Scene) (fate : Fate)
-    → place < length rules → s.state.event ≡ event → courses ≡ map (course_of names) rules → told ≡ seen names event → found ≡ marks event → profile ≡ event.profile → fate ≡ foretold_by profile told found (get_or courses place d)
-    → as_foretold fate s (apply es (get_or rules place r) s) ≡ apply es (get_or rules place r) s
-foretold_so es names event rules courses told found profile place r d s fate within same known is are by to =
+pub predicted_so : (es : List Entry) (names : List Text) (event : EventValue) (rules : List Rule) (courses : List Course) (reported : List (Option ℕ)) (found : List Bool) (profile : Profile) (place : ℕ) (r : Rule) (d : Course) (s : Scene) (fate : Fate)
+    → place < length rules → s.state.event ≡ event → courses ≡ map (course_of names) rules → reported ≡ seen names event → found ≡ marks event → profile ≡ event.profile → fate ≡ predicted_by profile reported found (get_or courses place d)
+    → as_predicted fate s (apply es (get_or rules place r) s) ≡ apply es (get_or rules place r) s
+predicted_so es names event rules courses reported found profile place r d s fate within same known is are by to =
     let rule : Rule = get_or rules place r in
     let course : get_or courses place d ≡ course_of names rule = ap (λ cs. get_or cs place d) known ∙ get_or-map (course_of names) rules place r d within in
-    ap (λ f. as_foretold f s (apply es rule s))
+    ap (λ f. as_predicted f s (apply es rule s))
     (to
-    ∙ ap (λ p. foretold_by p told found (get_or courses place d)) by
-    ∙ ap (λ t. foretold_by event.profile t found (get_or courses place d)) is
-    ∙ ap (λ k. foretold_by event.profile (seen names event) k (get_or courses place d)) are
-    ∙ ap (foretold_by event.profile (seen names event) (marks event)) course)
+    ∙ ap (λ p. predicted_by p reported found (get_or courses place d)) by
+    ∙ ap (λ t. predicted_by event.profile t found (get_or courses place d)) is
+    ∙ ap (λ k. predicted_by event.profile (seen names event) k (get_or courses place d)) are
+    ∙ ap (predicted_by event.profile (seen names event) (marks event)) course)
     ∙ comes_so es names event rule s same

@@ -1,4 +1,4 @@
--- What stands among the marks of an event.
+-- What is among the marks of an event.
 use Rattle.std.proofs.Common.{◌≡◌, ℕ, zero, suc, ◌+◌, ◌*◌, ◌%◌, ◌<◌, ◌==◌, Bool, true, false, cond, not, List, [], ◌∷◌, length, fold, slice_get, Some, refl, ap, sym, subst, ◌∙◌, arith, true≢false, length-set}
 use Rattle.std.specs.Cmp.Lexicographic.{bytes_decides}
 use Rattle.std.proofs.lemmas.Bool.{eqb-true}
@@ -9,7 +9,8 @@ use Rattle.text_tables.specs.Texts.{Text, same_text}
 use Rattle.text_tables.specs.Pairs.{Pair, value_of}
 use Rattle.eval_core.specs.Sketches.{sketch}
 use Rattle.device_core.specs.Values.{DeviceValue, EventValue, chain}
-use Rattle.eval_state.specs.Texts.{or_empty, trimmed}
+use Rattle.eval_state.specs.Texts.{or_empty}
+use Rattle.text_bytes.specs.Texts.{trimmed}
 use Rattle.eval_core.specs.Marks.{attribute_mark, driver, is_lacking, mark, marks, none_set, subsystem, with_attribute, with_device, with_mark}
 
 -- a mark is set
@@ -117,7 +118,7 @@ in_chain (x ∷ ds) found m (suc place) d whole e has = in_chain ds (with_device
 pub marked : (event : EventValue) (m place : ℕ) (d : DeviceValue) → slice_get (chain event) place ≡ Some d → ((f : List Bool) → IsWhole f → Has (with_device f d) m) → Has (marks event) m
 marked event m place d e has = in_chain (chain event) none_set m place d (length-replicate 2048 false) e has
 
--- where one mark is set and another is not, they are of other values
+-- if one mark is set and another is not, they are of other values
 pub other_value : (found : List Bool) (thing value wanted : ℕ) → Has found (mark thing value) → is_lacking (slice_get found (mark thing wanted)) ≡ true → not (value == wanted) ≡ true
 other_value found thing value wanted has lacks = by (value == wanted) refl
   where

@@ -21,12 +21,13 @@ use Rattle.rule_types.specs.declared.roles.PlainKey.TheVariants as plain
 use Rattle.rule_types.specs.declared.part.Comparison.{Comparison}
 use Rattle.rule_types.specs.declared.part.PlainMatch.{PlainMatch}
 use Rattle.rule_types.specs.Rules.{Rule}
-use Rattle.eval_core.specs.Sketches.{exact_head, exact_sketch, first_byte, is_word, sketch}
+use Rattle.eval_core.specs.Sketches.{exact_head, exact_sketch, first_byte, is_word_item, sketch}
 use Rattle.eval_core.proofs.Heading.{fits_same_head}
 use Rattle.eval_core.proofs.Sketching.{IsExact, exact, fits_same_sketch}
 use Rattle.device_core.specs.Values.{EventValue}
 use Rattle.eval_state.specs.Chains.{kernel_of}
-use Rattle.eval_state.specs.Texts.{or_empty, trimmed}
+use Rattle.eval_state.specs.Texts.{or_empty}
+use Rattle.text_bytes.specs.Texts.{trimmed}
 use Rattle.eval_state.specs.Scenes.{noted}
 use Rattle.eval_state.specs.declared.note_kind.NoteKind.TheVariants.{AttributeNotRead}
 use Rattle.eval_matching.specs.Attributes.{attribute_by, is_not_read, is_not_read_by, value_by}
@@ -35,22 +36,22 @@ use Rattle.eval_matching.specs.Subjects.{plain_subject, subsystem_by}
 use Rattle.eval_matching.specs.Udev.{passes}
 use Rattle.eval_state.specs.declared.scene.Scene.{Scene}
 use Rattle.eval_acts.specs.Acts.{act_step}
-use Rattle.eval_acts.specs.Reaching.{reached}
-use Rattle.eval_rules.specs.Steps.{onward, plain_step, result_step, search, set_all, steps, walk}
-use Rattle.eval_core.specs.Checks.{asked, attribute_seen, behind_five, check_by, check_in, check_of, choice_check, differs, head_slot, is_other, is_ruled_out, seen, slot_of}
+use Rattle.eval_acts.specs.Reaching.{match_reached}
+use Rattle.eval_rules.specs.Steps.{if_proceeding, plain_step, result_step, search, set_all, steps, walk}
+use Rattle.eval_core.specs.Checks.{after_five, attribute_seen, check_by, check_in, check_of, choice_check, differs, equal_check, head_slot, is_other, is_ruled_out, seen, slot_of}
 use Rattle.eval_core.specs.declared.checks.Check.{Check}
 
 -- ---- what does not fit
 
 not_fitting : (found number : ℕ) (fits : Bool) → (fits ≡ true → number ≡ found) → not (number == found) ≡ true → fits ≡ false
-not_fitting found number true tells other = absurd (true≢false (sym other ∙ ap not (eq-eqb number found (tells refl))))
-not_fitting found number false tells other = refl
+not_fitting found number true reports other = absurd (true≢false (sym other ∙ ap not (eq-eqb number found (reports refl))))
+not_fitting found number false reports other = refl
 
 -- a choice fits no text with another sketch
 fits_not : (choice : List (List Item)) (found : ℕ) (text : Text) → exact_sketch choice ≡ Some found → not (sketch text == found) ≡ true → choice_fits choice text ≡ false
 fits_not choice found text e other = not_fitting found (sketch text) (choice_fits choice text) (fits_same_sketch choice found text e) other
 
--- a comparison with what does not fit holds just where it is by `!=`
+-- a comparison with what does not fit holds exactly if it is by `!=`
 pub text_missed : (wanted : Comparison) (found : ℕ) (text : Text) → exact_sketch wanted.choice ≡ Some found → not (sketch text == found) ≡ true → holds (one text) wanted ≡ agrees wanted.operator false
 unfolding holds
 text_missed wanted found text e other = ap (agrees wanted.operator) (fits_not wanted.choice found text e other)
@@ -62,12 +63,12 @@ head_missed wanted found text e other =
 
 -- ---- attributes
 
--- the last of items that are no whitespace is none
-last_word : (xs : List Item) (n : ℕ) → list_all is_word xs ≡ true → passes is_whitespace_item (slice_get xs n) ≡ false
+-- the last of items that are not whitespace is not whitespace
+last_word : (xs : List Item) (n : ℕ) → list_all is_word_item xs ≡ true → passes is_whitespace_item (slice_get xs n) ≡ false
 last_word [] n w = refl
-last_word (x ∷ xs) zero w = one_word x (list_all is_word xs) w
+last_word (x ∷ xs) zero w = one_word x (list_all is_word_item xs) w
   where
-    one_word : (x : Item) (more : Bool) → (is_word x && more) ≡ true → is_whitespace_item x ≡ false
+    one_word : (x : Item) (more : Bool) → (is_word_item x && more) ≡ true → is_whitespace_item x ≡ false
     one_word (item.Byte b) more w = by (is_whitespace b) w
       where
         by : (space : Bool) → (not space && more) ≡ true → space ≡ false
@@ -76,9 +77,9 @@ last_word (x ∷ xs) zero w = one_word x (list_all is_word xs) w
     one_word item.One more w = refl
     one_word item.Many more w = refl
     one_word (item.Among set) more w = refl
-last_word (x ∷ xs) (suc n) w = last_word xs n (rest (is_word x) w)
+last_word (x ∷ xs) (suc n) w = last_word xs n (rest (is_word_item x) w)
   where
-    rest : (b : Bool) → (b && list_all is_word xs) ≡ true → list_all is_word xs ≡ true
+    rest : (b : Bool) → (b && list_all is_word_item xs) ≡ true → list_all is_word_item xs ≡ true
     rest true h = h
     rest false h = absurd (true≢false (sym h))
 
@@ -107,15 +108,15 @@ attribute_at names name event place found =
     ∙ ap (option_map (attribute_seen event.device)) (slice_get-get_or names place [] at.0)
     ∙ ap (λ n. Some (attribute_seen event.device n)) (sym is)
 
--- a match that is ruled out leaves nothing, and holds just where it is by `!=`
+-- a match that is ruled out leaves nothing, and holds exactly if it is by `!=`
 abbrev pub Misses : Rule → Scene → PlainKey → Comparison → Type 0
-Misses r s key wanted = (reached r key s ≡ s) × (holds (plain_subject key s.state) wanted ≡ agrees wanted.operator false)
+Misses r s key wanted = (match_reached r key s ≡ s) × (holds (plain_subject key s.state) wanted ≡ agrees wanted.operator false)
 
 pub nothing_known : {A : Type 0} → false ≡ true → A
 nothing_known h = absurd (true≢false (sym h))
 
 -- by the manual an attribute that is reached leaves nothing
-attribute_reached : (r : Rule) (name : Text) (s : Scene) → s.state.event.profile ≡ Manual → reached r (plain.Attr name) s ≡ s
+attribute_reached : (r : Rule) (name : Text) (s : Scene) → s.state.event.profile ≡ Manual → match_reached r (plain.Attr name) s ≡ s
 unfolding is_not_read
 attribute_reached r name s manual = ap (λ by. cond (is_not_read_by by name s.state.event) (noted r AttributeNotRead name s) s) manual
 
@@ -126,7 +127,7 @@ module _ (names : List Text) (r : Rule) (s : Scene) (manual : s.state.event.prof
   text_ruled slot text wanted at (Some found) e h = text_missed wanted found text e (ap (λ o. differs o found) (sym at) ∙ h)
 
   attribute_ruled : (name : Text) (wanted : Comparison) (p : Option ℕ) → position (same_text name) names ≡ p → (o : Option ℕ) → exact_sketch wanted.choice ≡ o
-      → is_ruled_out (seen names s.state.event) (check_by (behind_five p) o) ≡ true → holds (attribute (value_of s.state.event.device.attrs name)) wanted ≡ agrees wanted.operator false
+      → is_ruled_out (seen names s.state.event) (check_by (after_five p) o) ≡ true → holds (attribute (value_of s.state.event.device.attrs name)) wanted ≡ agrees wanted.operator false
   attribute_ruled name wanted None at o e h = nothing_known h
   attribute_ruled name wanted (Some place) at None e h = nothing_known h
   attribute_ruled name wanted (Some place) at (Some found) e h =
@@ -166,15 +167,15 @@ module _ (names : List Text) (r : Rule) (s : Scene) (manual : s.state.event.prof
 -- ---- a rule
 
 -- a rule whose first match leaves nothing and does not hold
-stops : (es : List Entry) (r : Rule) (s : Scene) (part : PlainMatch) (parts : List PlainMatch) → r.plain ≡ part ∷ parts → reached r part.key s ≡ s → holds (plain_subject part.key s.state) part.wanted ≡ false
+stops : (es : List Entry) (r : Rule) (s : Scene) (part : PlainMatch) (parts : List PlainMatch) → r.plain ≡ part ∷ parts → match_reached r part.key s ≡ s → holds (plain_subject part.key s.state) part.wanted ≡ false
     → steps es r s ≡ (s, false)
 unfolding steps walk plain_step
 stops es r s part parts plain leaves fails =
     let first : walk (plain_step r) r.plain s ≡ (s, false) =
     ap (λ ps. walk (plain_step r) ps s) plain
-    ∙ ap (λ (t : Scene). onward (walk (plain_step r) parts) (t, holds (plain_subject part.key s.state) part.wanted)) leaves
-    ∙ ap (λ b. onward (walk (plain_step r) parts) (s, b)) fails in
-    ap (λ w. onward (set_all r) (onward (walk result_step r.results) (onward (walk (act_step es r) r.acts) (onward (search r.up) w)))) first
+    ∙ ap (λ (t : Scene). if_proceeding (walk (plain_step r) parts) (t, holds (plain_subject part.key s.state) part.wanted)) leaves
+    ∙ ap (λ b. if_proceeding (walk (plain_step r) parts) (s, b)) fails in
+    ap (λ w. if_proceeding (set_all r) (if_proceeding (walk result_step r.results) (if_proceeding (walk (act_step es r) r.acts) (if_proceeding (search r.up) w)))) first
 
 -- a rule that is ruled out changes nothing, and its end is not reached
 pub ruled_out : (es : List Entry) (names : List Text) (r : Rule) (s : Scene) → s.state.event.profile ≡ Manual → is_ruled_out (seen names s.state.event) (check_of names r) ≡ true → steps es r s ≡ (s, false)
@@ -184,7 +185,7 @@ ruled_out es names r s manual h = by r.plain refl h
     by [] plain k = nothing_known k
     by (part ∷ parts) plain k = fails part.wanted.operator refl k
       where
-        fails : (o : MatchOperator) → part.wanted.operator ≡ o → is_ruled_out (seen names s.state.event) (asked o (choice_check names part.key part.wanted.choice)) ≡ true → steps es r s ≡ (s, false)
+        fails : (o : MatchOperator) → part.wanted.operator ≡ o → is_ruled_out (seen names s.state.event) (equal_check o (choice_check names part.key part.wanted.choice)) ≡ true → steps es r s ≡ (s, false)
         fails Equal e k =
             let misses = missed names r s manual part.key part.wanted k in
             stops es r s part parts plain misses.0 (misses.1 ∙ ap (λ o. agrees o false) e)

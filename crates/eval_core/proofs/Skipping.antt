@@ -6,7 +6,7 @@ use Rattle.text_tables.specs.Texts.{Text, same_text}
 use Rattle.hwdb_lookup.specs.declared.entry.Entry.{Entry}
 use Rattle.rule_jumps.specs.Jumps.{is_named}
 use Rattle.rule_types.specs.Rules.{Rule}
-use Rattle.rule_jumps.specs.Passed.{over, passed_over}
+use Rattle.rule_jumps.specs.Passed.{over, skipped}
 use Rattle.eval_core.proofs.Placing.{at_place}
 use Rattle.eval_state.specs.declared.scene.Scene.{Scene}
 use Rattle.eval_rules.specs.Jumps.{is_label, run, sought_after}
@@ -17,12 +17,12 @@ use Rattle.eval_rules.specs.Steps.{Went, apply}
 flips : (a b : Text) → same_text a b ≡ same_text b a
 flips a b = by (same_text a b) (same_text b a) refl refl
   where
-    turned : (x y : Text) → same_text x y ≡ true → same_text y x ≡ true
-    turned x y h = (bytes_decides y x).1 (sym ((bytes_decides x y).0 h))
+    reversed : (x y : Text) → same_text x y ≡ true → same_text y x ≡ true
+    reversed x y h = (bytes_decides y x).1 (sym ((bytes_decides x y).0 h))
 
     by : (p q : Bool) → same_text a b ≡ p → same_text b a ≡ q → p ≡ q
-    by true q e f = sym (turned a b e) ∙ f
-    by false true e f = sym e ∙ turned b a f
+    by true q e f = sym (reversed a b e) ∙ f
+    by false true e f = sym e ∙ reversed b a f
     by false false e f = refl
 
 same_label : (name : Text) (label : Option Text) → is_label name label ≡ is_named name label
@@ -33,7 +33,7 @@ one_more : (n : ℕ) → 1 + n ≡ suc n
 one_more n = omega arith
 
 module _ (es : List Entry) where
-  -- while a label is sought, rules are passed over up to the first that has it
+  -- while a label is sought, rules are skipped up to the first that has it
   sought_over : (name : Text) (rules : List Rule) (s : Scene) → run es (Some name) rules s ≡ run es None (drop (over (Some name) rules) rules) s
   unfolding run
   sought_over name [] s = refl
@@ -56,9 +56,9 @@ module _ (es : List Entry) where
   next_rule rules i r s h = ap (λ rs. run es None rs s) (drop_more rules i r h)
 
   -- a rule that was evaluated, and where it leads
-  pub run_behind : (rules : List Rule) (i : ℕ) (r : Rule) (e : ℕ) (s t : Scene) (reached : Bool) (j : ℕ) → i < length rules → (t, reached) ≡ apply es (get_or rules i r) s
-      → j ≡ i + 1 + cond reached (get_or (passed_over rules) i e) 0 → run es None (drop j rules) t ≡ run es None (drop i rules) s
-  run_behind rules i r e s t reached j h went to = by reached went to ∙ sym (next_rule rules i r s h)
+  pub run_after : (rules : List Rule) (i : ℕ) (r : Rule) (e : ℕ) (s t : Scene) (reached : Bool) (j : ℕ) → i < length rules → (t, reached) ≡ apply es (get_or rules i r) s
+      → j ≡ i + 1 + cond reached (get_or (skipped rules) i e) 0 → run es None (drop j rules) t ≡ run es None (drop i rules) s
+  run_after rules i r e s t reached j h went to = by reached went to ∙ sym (next_rule rules i r s h)
     where
       rule : Rule
       rule = get_or rules i r
@@ -66,7 +66,7 @@ module _ (es : List Entry) where
       led : (b : Bool) → (t, b) ≡ apply es rule s → run es (sought_after b rule) (drop (i + 1) rules) t ≡ run es (sought_after (apply es rule s).1 rule) (drop (i + 1) rules) (apply es rule s).0
       led b w = ap (λ (x : Went). run es (sought_after x.1 rule) (drop (i + 1) rules) x.0) w
 
-      by : (b : Bool) → (t, b) ≡ apply es rule s → j ≡ i + 1 + cond b (get_or (passed_over rules) i e) 0
+      by : (b : Bool) → (t, b) ≡ apply es rule s → j ≡ i + 1 + cond b (get_or (skipped rules) i e) 0
           → run es None (drop j rules) t ≡ run es (sought_after (apply es rule s).1 rule) (drop (i + 1) rules) (apply es rule s).0
       by true w k =
           ap (λ n. run es None (drop n rules) t) (k ∙ ap (λ n. i + 1 + n) (at_place rules i r e h))

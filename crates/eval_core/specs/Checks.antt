@@ -13,17 +13,18 @@ use Rattle.rule_types.specs.Rules.{Rule}
 use Rattle.eval_core.specs.Sketches.{exact_head, exact_sketch, first_byte, sketch}
 use Rattle.device_core.specs.Values.{DeviceValue, EventValue}
 use Rattle.eval_state.specs.Chains.{kernel_of}
-use Rattle.eval_state.specs.Texts.{or_empty, trimmed}
+use Rattle.eval_state.specs.Texts.{or_empty}
+use Rattle.text_bytes.specs.Texts.{trimmed}
 use Rattle.eval_core.specs.declared.checks.Check.{Check}
 
 -- the position of an attribute in what is seen, by its place among the names: after five others
-abbrev pub behind_five : Option ℕ → Option ℕ
-behind_five None = None
-behind_five (Some place) = Some (place + 5)
+abbrev pub after_five : Option ℕ → Option ℕ
+after_five None = None
+after_five (Some place) = Some (place + 5)
 
 -- the position of an attribute in what is seen
 abbrev pub attribute_slot : List Text → Text → Option ℕ
-attribute_slot names name = behind_five (position (same_text name) names)
+attribute_slot names name = after_five (position (same_text name) names)
 
 -- the position of what a key looks at in what is seen: the action, the kernel's name, the subsystem, the driver, and
 -- after the first byte of the kernel's name the attributes
@@ -51,13 +52,13 @@ abbrev pub choice_check : List Text → PlainKey → List (List Item) → Option
 choice_check names key choice = option_or (check_by (slot_of names key) (exact_sketch choice)) (check_by (head_slot key) (exact_head choice))
 
 -- a check of a match by `==`; one by `!=` has none
-abbrev pub asked : MatchOperator → Option Check → Option Check
-asked Equal check = check
-asked NotEqual check = None
+abbrev pub equal_check : MatchOperator → Option Check → Option Check
+equal_check Equal check = check
+equal_check NotEqual check = None
 
 -- the check of a match
 abbrev pub check_with : List Text → PlainMatch → Option Check
-check_with names part = asked part.wanted.operator (choice_check names part.key part.wanted.choice)
+check_with names part = equal_check part.wanted.operator (choice_check names part.key part.wanted.choice)
 
 -- the check of a rule with these matches of the event: by the first of them
 abbrev pub check_in : List Text → List PlainMatch → Option Check

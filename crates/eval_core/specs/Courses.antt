@@ -25,9 +25,9 @@ use Rattle.eval_core.specs.declared.courses.Fate.{Fate}
 use Rattle.eval_core.specs.declared.courses.Fate.TheVariants.{Unknown, Failed, Reached, NotFound}
 
 -- a check of a match by `!=`; one by `==` has none
-abbrev pub refused : MatchOperator → Option Check → Option Check
-refused Equal check = None
-refused NotEqual check = check
+abbrev pub unequal_check : MatchOperator → Option Check → Option Check
+unequal_check Equal check = None
+unequal_check NotEqual check = check
 
 -- the course of a rule that is one match of the event, if it has a check
 abbrev pub guarded : Option Check → Course
@@ -73,7 +73,7 @@ searched (Some mark) = Search mark
 -- the course of a rule that has no more than these matches of the event
 abbrev pub guard_in : List Text → List PlainMatch → Course
 guard_in names [] = Bare
-guard_in names (part ∷ []) = guarded (refused part.wanted.operator (choice_check names part.key part.wanted.choice))
+guard_in names (part ∷ []) = guarded (unequal_check part.wanted.operator (choice_check names part.key part.wanted.choice))
 guard_in names (part ∷ other ∷ parts) = Open
 
 -- the course of a rule with these matches of the event, and these of one device, of which this is the first
@@ -91,12 +91,12 @@ course_in names r [] = if has_no_more r then guard_in names r.plain else Open
 course_in names r (part ∷ parts) = search_in r.plain (part ∷ parts) part
 
 -- the course of a rule whose first match has no check
-abbrev pub course_behind : List Text → Rule → Course
-course_behind names r = course_in names r r.up
+abbrev pub course_after : List Text → Rule → Course
+course_after names r = course_in names r r.up
 
 -- the course of a rule, by the check of its first match
 abbrev pub course_by : List Text → Rule → Option Check → Course
-course_by names r None = course_behind names r
+course_by names r None = course_after names r
 course_by names r (Some check) = First check
 
 -- the course of a rule
@@ -105,21 +105,21 @@ course_of names r = course_by names r (check_of names r)
 
 -- the outcome of a rule by what is seen: it fails, or its end is reached, with nothing changed; or its search finds
 -- no device
-abbrev pub foretold : List (Option ℕ) → List Bool → Course → Fate
-foretold seen marks Open = Unknown
-foretold seen marks Bare = Reached
-foretold seen marks (First check) = if is_ruled_out seen (Some check) then Failed else Unknown
-foretold seen marks (Guard check) = if is_ruled_out seen (Some check) then Reached else Unknown
-foretold seen marks (Search mark) = if is_lacking (slice_get marks mark) then NotFound else Unknown
+abbrev pub predicted : List (Option ℕ) → List Bool → Course → Fate
+predicted seen marks Open = Unknown
+predicted seen marks Bare = Reached
+predicted seen marks (First check) = if is_ruled_out seen (Some check) then Failed else Unknown
+predicted seen marks (Guard check) = if is_ruled_out seen (Some check) then Reached else Unknown
+predicted seen marks (Search mark) = if is_lacking (slice_get marks mark) then NotFound else Unknown
 
 -- the outcome of a rule of an event, by the profile by which it is evaluated: for udev nothing is foretold
-abbrev pub foretold_by : Profile → List (Option ℕ) → List Bool → Course → Fate
-foretold_by profile.Manual seen marks course = foretold seen marks course
-foretold_by profile.Udev seen marks course = Unknown
+abbrev pub predicted_by : Profile → List (Option ℕ) → List Bool → Course → Fate
+predicted_by profile.Manual seen marks course = predicted seen marks course
+predicted_by profile.Udev seen marks course = Unknown
 
 -- what becomes of a scene by a rule whose outcome is known, as far as it is known
-abbrev pub as_foretold : Fate → Scene → Went → Went
-as_foretold Unknown s went = went
-as_foretold Failed s went = (s, false)
-as_foretold Reached s went = (s, true)
-as_foretold NotFound s went = (record s { state = with_selected None s.state }, false)
+abbrev pub as_predicted : Fate → Scene → Went → Went
+as_predicted Unknown s went = went
+as_predicted Failed s went = (s, false)
+as_predicted Reached s went = (s, true)
+as_predicted NotFound s went = (record s { state = with_selected None s.state }, false)

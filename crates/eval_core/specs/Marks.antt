@@ -3,7 +3,8 @@ use Rattle.std.specs.Prelude.{ℕ, ◌+◌, ◌*◌, ◌%◌, Bool, true, false,
 use Rattle.text_tables.specs.Pairs.{Pair}
 use Rattle.eval_core.specs.Sketches.{sketch}
 use Rattle.device_core.specs.Values.{DeviceValue, EventValue, chain}
-use Rattle.eval_state.specs.Texts.{or_empty, trimmed}
+use Rattle.eval_state.specs.Texts.{or_empty}
+use Rattle.text_bytes.specs.Texts.{trimmed}
 
 -- the numbers for subsystems and for drivers; an attribute has the sketch of its name
 abbrev pub subsystem : ℕ

@@ -15,9 +15,9 @@ abbrev pub sketch : Text → ℕ
 sketch text = fold mixed 0 text
 
 -- whether an item is a byte that is not whitespace
-abbrev pub is_word : Item → Bool
-is_word (item.Byte b) = not (is_whitespace b)
-is_word _ = false
+abbrev pub is_word_item : Item → Bool
+is_word_item (item.Byte b) = not (is_whitespace b)
+is_word_item _ = false
 
 -- the byte that an item is, if it is one
 abbrev pub byte_of : Item → ℕ
@@ -37,7 +37,7 @@ only_part (part ∷ other ∷ parts) = None
 -- the sketch of a pattern that is a text without whitespace
 abbrev pub word_sketch : Option (List Item) → Option ℕ
 word_sketch None = None
-word_sketch (Some items) = if list_all is_word items then Some (items_sketch items) else None
+word_sketch (Some items) = if list_all is_word_item items then Some (items_sketch items) else None
 
 -- the sketch of the one text that a choice fits, if it fits only one, without whitespace
 abbrev pub exact_sketch : List (List Item) → Option ℕ

@@ -20,7 +20,7 @@ const MAX_NAMES: usize = 60;
 
 /// What has to be seen of an event for a choice to fit.
 #[derive(Clone, Copy, Debug)]
-pub struct Check {
+pub(crate) struct Check {
     /// Its position in what is seen of an event.
     pub slot: usize,
     /// The sketch of the text that is asked for.

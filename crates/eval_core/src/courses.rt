@@ -5,7 +5,7 @@
 //! than one text, and those that search for a device with something that no device of the chain has. For an event
 //! by udev's profile nothing is foretold: there each rule is looked at.
 ghost use Rattle.std.specs.Prelude.{◌≡◌, map, IfOk};
-ghost use Rattle.eval_core.specs.Courses.{course_behind, course_of, foretold, foretold_by, guard_in, guarded, has_no_more, last_mark, part_mark, refused, search_in, searched, thing_of};
+ghost use Rattle.eval_core.specs.Courses.{course_after, course_of, guard_in, guarded, has_no_more, last_mark, part_mark, predicted, predicted_by, search_in, searched, thing_of, unequal_check};
 
 use crate::checks::{Check, check_of, choice_check};
 use crate::marks::{DRIVER, MarkSet, SUBSYSTEM, mark};
@@ -17,7 +17,7 @@ use text_bytes::{Bytes, Profile};
 
 /// What is known about a rule before it is looked at.
 #[derive(Clone, Copy, Debug)]
-pub enum Course {
+pub(crate) enum Course {
     /// Nothing.
     Open,
     /// It has no parts: its end is reached.
@@ -32,7 +32,7 @@ pub enum Course {
 
 /// The outcome of a rule, as far as it follows from what is seen of an event.
 #[derive(Clone, Copy, Debug)]
-pub enum Fate {
+pub(crate) enum Fate {
     /// It is not known.
     Unknown,
     /// Nothing is changed, and its end is not reached.
@@ -44,8 +44,8 @@ pub enum Fate {
 }
 
 /// A check of a match by `!=`; one by `==` has none.
-fn refused(operator: MatchOperator, check: Option<Check>) -> Option<Check>
-    ensures { result ≡ refused operator check }
+fn unequal_check(operator: MatchOperator, check: Option<Check>) -> Option<Check>
+    ensures { result ≡ unequal_check operator check }
 {
     match operator {
         MatchOperator::Equal => None,
@@ -114,7 +114,7 @@ fn guard_in(names: &[Bytes], parts: &[PlainMatch]) -> Course
         Some((part, others)) => {
             if others.is_empty() {
                 let check = choice_check(names, &part.key, &part.wanted.choice);
-                guarded(refused(part.wanted.operator, check))
+                guarded(unequal_check(part.wanted.operator, check))
             } else {
                 Course::Open
             }
@@ -142,8 +142,8 @@ fn has_no_more(rule: &Rule) -> bool
 }
 
 /// The course of a rule whose first match has no check.
-fn course_behind(names: &[Bytes], rule: &Rule) -> Course
-    ensures { result ≡ course_behind names.now rule.now }
+fn course_after(names: &[Bytes], rule: &Rule) -> Course
+    ensures { result ≡ course_after names.now rule.now }
 {
     match rule.up().first() {
         Some(part) => search_in(rule.plain(), rule.up(), part),
@@ -163,7 +163,7 @@ fn course_of(names: &[Bytes], rule: &Rule) -> Course
 {
     match check_of(names, rule) {
         Some(check) => Course::First(check),
-        None => course_behind(names, rule),
+        None => course_after(names, rule),
     }
 }
 
@@ -182,8 +182,8 @@ pub(crate) fn courses(
 }
 
 /// The outcome of a rule with a course, as far as it follows from what is seen.
-fn foretold(seen: &[Option<u64>], marks: &MarkSet, course: Course) -> Fate
-    ensures { result ≡ foretold seen.now marks.now course }
+fn predicted(seen: &[Option<u64>], marks: &MarkSet, course: Course) -> Fate
+    ensures { result ≡ predicted seen.now marks.now course }
 {
     match course {
         Course::Open => Fate::Unknown,
@@ -213,16 +213,16 @@ fn foretold(seen: &[Option<u64>], marks: &MarkSet, course: Course) -> Fate
 }
 
 /// The outcome of a rule with a course, by the profile by which it is evaluated: for udev nothing is known.
-pub(crate) fn foretold_by(
+pub(crate) fn predicted_by(
     profile: Profile,
     seen: &[Option<u64>],
     marks: &MarkSet,
     course: Course,
 ) -> Fate
-    ensures { result ≡ foretold_by profile seen.now marks.now course }
+    ensures { result ≡ predicted_by profile seen.now marks.now course }
 {
     match profile {
-        Profile::Manual => foretold(seen, marks, course),
+        Profile::Manual => predicted(seen, marks, course),
         Profile::Udev => Fate::Unknown,
     }
 }

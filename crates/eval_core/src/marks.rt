@@ -8,8 +8,8 @@ ghost use Rattle.eval_core.specs.Marks.{driver, is_lacking, mark, marks, none_se
 
 use crate::sketches::sketch;
 use device_core::{Device, Event};
-use eval_state::trimmed;
 use std::marker::Model;
+use text_bytes::trimmed;
 use text_tables::Pairs;
 
 /// How many marks there are.

@@ -11,7 +11,7 @@ use eval_rules::{Outcome, finish};
 use eval_state::Scene;
 use hwdb_lookup::Lookup;
 use rule_core::RuleSet;
-use rule_jumps::passed_over;
+use rule_jumps::skipped;
 use rule_types::Rule;
 use std::alloc::{AllocError, Global};
 use std::marker::Model;
@@ -40,12 +40,12 @@ impl Model for Program {
 
 /// Lays out the rules of a set for evaluation; its messages are dropped.
 ///
-/// Fails if memory runs out; the rules are then dropped.
+/// If memory runs out, the rules are dropped.
 pub fn compile(alloc: Global, rules: RuleSet) -> Result<Program, AllocError>
     ensures { IfOk result (λ program. program ≡ rules.rules) }
 {
     let rules = rules.into_rules();
-    let passes = passed_over(alloc, &rules)?;
+    let passes = skipped(alloc, &rules)?;
     let names = first_attributes(alloc, &rules)?;
     let courses = courses(alloc, &names, &rules)?;
     Ok(Program {

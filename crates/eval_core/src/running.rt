@@ -1,12 +1,12 @@
 //! Rules one after another, by their numbers.
 ghost use Rattle.std.specs.Prelude.{◌≡◌, ◌+◌, ◌<◌, ◌≤◌, None, IfOk, OnOk, length, get_or, if◌then◌else◌};
-ghost use Rattle.rule_jumps.specs.Passed.{passed_over};
+ghost use Rattle.rule_jumps.specs.Passed.{skipped};
 ghost use Rattle.eval_rules.specs.Jumps.{run};
 ghost use Rattle.eval_rules.specs.Steps.{apply};
-ghost use Rattle.eval_core.specs.Courses.{as_foretold};
+ghost use Rattle.eval_core.specs.Courses.{as_predicted};
 ghost use Rattle.eval_core.specs.Layout.{IsLaidOut};
 
-use crate::courses::{Course, Fate, foretold_by};
+use crate::courses::{Course, Fate, predicted_by};
 use crate::marks::marks;
 use crate::seen::seen;
 use eval_rules::apply;
@@ -30,8 +30,8 @@ pub(crate) struct Layout<'a> {
 }
 
 /// The number of the rule after one that was evaluated: the next, or that to which it jumps.
-fn behind(rules: &[Rule], passes: &[usize], place: usize, reached: bool) -> usize
-    requires is { passes.now ≡ passed_over rules.now }
+fn following(rules: &[Rule], passes: &[usize], place: usize, reached: bool) -> usize
+    requires is { passes.now ≡ skipped rules.now }
     requires within { place < length rules.now }
     ensures value { result ≡ place + 1 + (if reached then get_or passes.now place 0 else 0) }
     ensures later { place < result }
@@ -49,7 +49,7 @@ fn step<'a, L: Lookup>(
     lookup: &L,
     scene: &mut Scene<'a>,
 ) -> Result<bool, AllocError>
-    requires { as_foretold fate scene.old (apply (L.entries lookup.now) rule.now scene.old) ≡ apply (L.entries lookup.now) rule.now scene.old }
+    requires { as_predicted fate scene.old (apply (L.entries lookup.now) rule.now scene.old) ≡ apply (L.entries lookup.now) rule.now scene.old }
     ensures { IfOk result (λ on. (scene.new, on) ≡ apply (L.entries lookup.now) rule.now scene.old) }
 {
     match fate {
@@ -79,9 +79,9 @@ pub(crate) fn run<'a, L: Lookup>(
     let profile = scene.state.event.event().profile();
     let mut place = 0;
     while place < layout.rules.len() {
-        let fate = foretold_by(profile, &seen, &found, layout.courses[place]);
+        let fate = predicted_by(profile, &seen, &found, layout.courses[place]);
         let reached = step(alloc, &layout.rules[place], fate, lookup, scene)?;
-        place = behind(layout.rules, layout.passes, place, reached);
+        place = following(layout.rules, layout.passes, place, reached);
     }
     Ok(())
 }

@@ -6,9 +6,9 @@ use crate::checks::Check;
 use crate::heads::first_byte;
 use crate::sketches::sketch;
 use device_core::Device;
-use eval_state::{Chain, trimmed};
+use eval_state::Chain;
 use std::alloc::{AllocError, Global};
-use text_bytes::Bytes;
+use text_bytes::{Bytes, trimmed};
 
 /// The sketch of an attribute of a device as it is compared, if it has one.
 fn attribute_seen(device: &Device<'_>, name: &[u8]) -> Option<u64>

@@ -4,7 +4,7 @@
 //! of each text nearly always suffices to see that a choice does not fit.
 ghost use Rattle.std.specs.Prelude.{◌≡◌, fold, option_map};
 ghost use Rattle.std.specs.List.{list_all};
-ghost use Rattle.eval_core.specs.Sketches.{byte_of, exact_sketch, is_word, items_sketch, mixed, only_part, sketch};
+ghost use Rattle.eval_core.specs.Sketches.{byte_of, exact_sketch, is_word_item, items_sketch, mixed, only_part, sketch};
 
 use text_bytes::is_whitespace;
 use text_core::{Choice, Item, Pattern};
@@ -31,8 +31,8 @@ pub fn sketch(text: &[u8]) -> u64
 }
 
 /// Whether an item is a byte that is not whitespace.
-fn is_word(item: &Item) -> bool
-    ensures { result ≡ is_word item.now }
+fn is_word_item(item: &Item) -> bool
+    ensures { result ≡ is_word_item item.now }
 {
     match item {
         Item::Byte(byte) => !is_whitespace(*byte),
@@ -52,9 +52,9 @@ fn byte_of(item: &Item) -> u8
 
 /// Whether a pattern is a text without whitespace.
 fn are_words(items: &[Item]) -> bool
-    ensures { result ≡ list_all is_word items.now }
+    ensures { result ≡ list_all is_word_item items.now }
 {
-    items.iter().all(is_word)
+    items.iter().all(is_word_item)
 }
 
 /// The sketch of the text that a pattern is.

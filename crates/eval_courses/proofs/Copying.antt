@@ -1,4 +1,4 @@
--- Names that are set one after another, each once, stand as they came.
+-- Names that are set one after another, each once, are in the order in which they were set.
 use Rattle.std.proofs.Common.{◌≡◌, Bool, true, false, List, [], ◌∷◌, cond, refl, ap, sym, ◌∙◌, true≢false}
 use Rattle.std.specs.Cmp.Lexicographic.{bytes_decides}
 use Rattle.std.specs.List.{AllByRecursion, IsDistinct}
@@ -14,14 +14,14 @@ apart a b h = by (same_text b a) refl
     by false e = refl
 
 -- a name that none of those that are set is stays in front
-in_front : (p : Pair) (held more : List Pair) → AllByRecursion (λ name. same_text p.0 name ≡ false) (names more) → with_values (p ∷ held) more ≡ p ∷ with_values held more
-in_front p held [] h = refl
-in_front p held (m ∷ ms) h =
+prepended : (p : Pair) (held more : List Pair) → AllByRecursion (λ name. same_text p.0 name ≡ false) (names more) → with_values (p ∷ held) more ≡ p ∷ with_values held more
+prepended p held [] h = refl
+prepended p held (m ∷ ms) h =
     ap (λ b. with_values (cond b ((p.0, m.1) ∷ held) (p ∷ with_value held m.0 m.1)) ms) (apart p.0 m.0 h.0)
-    ∙ in_front p (with_value held m.0 m.1) ms h.1
+    ∙ prepended p (with_value held m.0 m.1) ms h.1
 
--- names that are set where none were, each once
+-- names that are set when there were none, each once
 pub set_anew : (pairs : List Pair) → AreOnce (names pairs) → with_values [] pairs ≡ pairs
 unfolding IsDistinct
 set_anew [] h = refl
-set_anew (p ∷ ps) h = in_front p [] ps h.0 ∙ ap (λ qs. p ∷ qs) (set_anew ps h.1)
+set_anew (p ∷ ps) h = prepended p [] ps h.0 ∙ ap (λ qs. p ∷ qs) (set_anew ps h.1)

@@ -8,12 +8,12 @@ use Rattle.rule_types.specs.Rules.{Rule}
 use Rattle.eval_state.specs.declared.scene.Scene.{Scene}
 use Rattle.eval_assignments.specs.Steps.{set_step}
 use Rattle.eval_rules.specs.Idle.{is_idle}
-use Rattle.eval_rules.specs.Steps.{Went, apply, only_noted, onward, set_all, steps, before_sets}
+use Rattle.eval_rules.specs.Steps.{Went, apply, only_noted, if_proceeding, set_all, steps, before_sets}
 use Rattle.eval_rules.proofs.Staying.{steps_stay}
 use Rattle.eval_effects.specs.Effects.{effects, ending, ending_of}
 use Rattle.eval_effects.specs.Since.{Since}
-use Rattle.eval_courses.specs.Courses.{course, end_of, end_reached, keys_told}
-use Rattle.eval_courses.specs.Inner.{idle_end, idle_told, steps_told}
+use Rattle.eval_courses.specs.Courses.{course, end_of, end_reached, key_reports}
+use Rattle.eval_courses.specs.Inner.{idle_end, idle_reports, step_reports}
 use Rattle.eval_courses.specs.Laws.{last_of}
 
 -- what holds anyway holds after an error
@@ -22,10 +22,10 @@ on_err (Ok x) p = tt
 on_err (Err e) p = p
 
 -- the text after all others is the last
-pub behind_all : (texts : List Text) (text : Text) → last_of (texts ++ text ∷ []) ≡ Some text
-behind_all [] text = refl
-behind_all (t ∷ []) text = refl
-behind_all (t ∷ u ∷ ts) text = behind_all (u ∷ ts) text
+pub after_all : (texts : List Text) (text : Text) → last_of (texts ++ text ∷ []) ≡ Some text
+after_all [] text = refl
+after_all (t ∷ []) text = refl
+after_all (t ∷ u ∷ ts) text = after_all (u ∷ ts) text
 
 -- whether the first byte of a text is below the `s` of `stops there`
 abbrev below_stops : Text → Bool
@@ -52,18 +52,18 @@ ends idle since r s false = (λ e. refl, λ h. refl)
 -- what is reported last
 last_is : (entries : List Entry) (since : Since) (r : Rule) (s : Scene) → last_of (course entries since r s) ≡ Some (end_of (is_idle r s.state.event) since r (before_sets entries r s))
 unfolding course
-last_is entries since r s = behind_all (keys_told entries r s) (end_of (is_idle r s.state.event) since r (before_sets entries r s))
+last_is entries since r s = after_all (key_reports entries r s) (end_of (is_idle r s.state.event) since r (before_sets entries r s))
 
--- a rule ends where its keys end, unless it is passed over
+-- a rule ends where its keys end, unless it is skipped
 rule_ends : (entries : List Entry) (r : Rule) (s : Scene) → is_idle r s.state.event ≡ false → (apply entries r s).1 ≡ (before_sets entries r s).1
 unfolding apply steps
 rule_ends entries r s h = ap (λ b. (cond b (only_noted entries r s) (steps entries r s)).1) h ∙ by (before_sets entries r s).0 (before_sets entries r s).1
   where
-    by : (t : Scene) (b : Bool) → (onward (set_all r) (t, b)).1 ≡ b
+    by : (t : Scene) (b : Bool) → (if_proceeding (set_all r) (t, b)).1 ≡ b
     by t true = refl
     by t false = refl
 
--- the last text tells whether a key stopped the rule
+-- the last text says whether a key stopped the rule
 pub course_ends_so : (entries : List Entry) (since : Since) (r : Rule) (s : Scene) → is_idle r s.state.event ≡ false
     → (last_of (course entries since r s) ≡ Some (codes "stops there")) ↔ ((apply entries r s).1 ≡ false)
 course_ends_so entries since r s h =
@@ -75,26 +75,26 @@ passed : (since : Since) (r : Rule) (s : Scene) (b : Bool) → (Some (end_of tru
 passed since r s true = (λ e. refl, λ h. refl)
 passed since r s false = (λ e. absurd (true≢false (sym (ap (λ (o : Option Text). below_stops (unwrap_or o [])) e))), λ h. absurd (true≢false (sym h)))
 
--- the last text tells that a rule is passed over
-pub passed_over_ends : (entries : List Entry) (since : Since) (r : Rule) (s : Scene) → is_idle r s.state.event ≡ true
+-- the last text says that a rule is skipped
+pub skipped_ends : (entries : List Entry) (since : Since) (r : Rule) (s : Scene) → is_idle r s.state.event ≡ true
     → (last_of (course entries since r s) ≡ Some (codes "nothing in it counts for this device")) ↔ ((before_sets entries r s).1 ≡ true)
-passed_over_ends entries since r s h =
+skipped_ends entries since r s h =
     let went : Went = before_sets entries r s in
     let both = passed since r went.0 went.1 in
     let last : last_of (course entries since r s) ≡ Some (end_of true since r went) = last_is entries since r s ∙ ap (λ b. Some (end_of b since r went)) h in
     (λ e. both.0 (sym last ∙ e), λ n. last ∙ both.1 n)
 
 -- the course of a rule in which nothing counts
-pub idle_course : (entries : List Entry) (since : Since) (r : Rule) (s : Scene) → is_idle r s.state.event ≡ true → idle_told entries r s ≡ course entries since r s
-unfolding course idle_told
-idle_course entries since r s h = ap (λ b. keys_told entries r s ++ end_of b since r (before_sets entries r s) ∷ []) (sym h)
+pub idle_course : (entries : List Entry) (since : Since) (r : Rule) (s : Scene) → is_idle r s.state.event ≡ true → idle_reports entries r s ≡ course entries since r s
+unfolding course idle_reports
+idle_course entries since r s h = ap (λ b. key_reports entries r s ++ end_of b since r (before_sets entries r s) ∷ []) (sym h)
 
 -- the course of any other
-pub steps_course : (entries : List Entry) (since : Since) (r : Rule) (s : Scene) → is_idle r s.state.event ≡ false → steps_told entries since r s ≡ course entries since r s
-unfolding course steps_told
-steps_course entries since r s h = ap (λ b. keys_told entries r s ++ end_of b since r (before_sets entries r s) ∷ []) (sym h)
+pub steps_course : (entries : List Entry) (since : Since) (r : Rule) (s : Scene) → is_idle r s.state.event ≡ false → step_reports entries since r s ≡ course entries since r s
+unfolding course step_reports
+steps_course entries since r s h = ap (λ b. key_reports entries r s ++ end_of b since r (before_sets entries r s) ∷ []) (sym h)
 
--- what a rule comes to that is passed over, and any other
+-- what becomes of a rule that is skipped, and of any other
 pub idle_comes : (entries : List Entry) (r : Rule) (s : Scene) → is_idle r s.state.event ≡ true → only_noted entries r s ≡ apply entries r s
 unfolding apply
 idle_comes entries r s h = ap (λ b. cond b (only_noted entries r s) (steps entries r s)) (sym h)
@@ -104,37 +104,37 @@ unfolding apply
 steps_come entries r s h = ap (λ b. cond b (only_noted entries r s) (steps entries r s)) (sym h)
 
 module _ (entries : List Entry) (r : Rule) (s t : Scene) (on : Bool) (is : (t, on) ≡ before_sets entries r s) where
-  -- where a key stops a rule, the rule ends there
+  -- if a key stops a rule, the rule ends there
   pub stops : on ≡ false → (t, false) ≡ steps entries r s
   unfolding steps
-  stops e = ap (onward (set_all r)) (ap {B = Went} (λ b. (t, b)) (sym e) ∙ is)
+  stops e = ap (if_proceeding (set_all r)) (ap {B = Went} (λ b. (t, b)) (sym e) ∙ is)
 
-  -- where all keys let it go on, its assignments are made
-  pub goes_on : (u : Scene) → on ≡ true → u ≡ fold (set_step r) t r.sets → (u, true) ≡ steps entries r s
+  -- if all keys let it go on, its assignments are made
+  pub proceeds : (u : Scene) → on ≡ true → u ≡ fold (set_step r) t r.sets → (u, true) ≡ steps entries r s
   unfolding steps
-  goes_on u e made = ap {B = Went} (λ v. (v, true)) made ∙ ap (onward (set_all r)) (ap {B = Went} (λ b. (t, b)) (sym e) ∙ is)
+  proceeds u e made = ap {B = Went} (λ v. (v, true)) made ∙ ap (if_proceeding (set_all r)) (ap {B = Went} (λ b. (t, b)) (sym e) ∙ is)
 
   -- the event stays
   pub event_kept : (u : Scene) → on ≡ true → u ≡ fold (set_step r) t r.sets → u.state.event ≡ s.state.event
-  event_kept u e made = ap (λ (w : Went). w.0.state.event) (goes_on u e made) ∙ steps_stay entries r s
+  event_kept u e made = ap (λ (w : Went). w.0.state.event) (proceeds u e made) ∙ steps_stay entries r s
 
   -- the course is what was reported for the keys, and the end
-  pub course_is : (since : Since) (before told now : List Text) (b : Bool) (text : Text) → on ≡ b → told ≡ before ++ keys_told entries r s → text ≡ end_of false since r (t, b) → now ≡ told ++ text ∷ []
-      → now ≡ before ++ steps_told entries since r s
-  unfolding steps_told
-  course_is since before told now b text e keys ends all =
+  pub course_is : (since : Since) (before reported now : List Text) (b : Bool) (text : Text) → on ≡ b → reported ≡ before ++ key_reports entries r s → text ≡ end_of false since r (t, b) → now ≡ reported ++ text ∷ []
+      → now ≡ before ++ step_reports entries since r s
+  unfolding step_reports
+  course_is since before reported now b text e keys ends all =
       all
-      ∙ ap (λ x. told ++ x ∷ []) ends
+      ∙ ap (λ x. reported ++ x ∷ []) ends
       ∙ ap (λ ts. ts ++ end_of false since r (t, b) ∷ []) keys
-      ∙ append_assoc before (keys_told entries r s) (end_of false since r (t, b) ∷ [])
-      ∙ ap (λ (w : Went). before ++ (keys_told entries r s ++ end_of false since r w ∷ [])) (ap {B = Went} (λ c. (t, c)) (sym e) ∙ is)
+      ∙ append_assoc before (key_reports entries r s) (end_of false since r (t, b) ∷ [])
+      ∙ ap (λ (w : Went). before ++ (key_reports entries r s ++ end_of false since r w ∷ [])) (ap {B = Went} (λ c. (t, c)) (sym e) ∙ is)
 
-  -- the same of a rule that is passed over
-  pub idle_is : (before told now : List Text) (text : Text) → told ≡ before ++ keys_told entries r s → text ≡ idle_end on → now ≡ told ++ text ∷ [] → now ≡ before ++ idle_told entries r s
-  unfolding idle_told
-  idle_is before told now text keys ends all =
+  -- the same for a rule that is skipped
+  pub idle_is : (before reported now : List Text) (text : Text) → reported ≡ before ++ key_reports entries r s → text ≡ idle_end on → now ≡ reported ++ text ∷ [] → now ≡ before ++ idle_reports entries r s
+  unfolding idle_reports
+  idle_is before reported now text keys ends all =
       all
-      ∙ ap (λ x. told ++ x ∷ []) ends
+      ∙ ap (λ x. reported ++ x ∷ []) ends
       ∙ ap (λ ts. ts ++ idle_end on ∷ []) keys
-      ∙ append_assoc before (keys_told entries r s) (idle_end on ∷ [])
-      ∙ ap (λ (w : Went). before ++ (keys_told entries r s ++ idle_end w.1 ∷ [])) is
+      ∙ append_assoc before (key_reports entries r s) (idle_end on ∷ [])
+      ∙ ap (λ (w : Went). before ++ (key_reports entries r s ++ idle_end w.1 ∷ [])) is

@@ -9,8 +9,8 @@ use Rattle.eval_matching.specs.Laws.{IsFirstToMeet, NoneMeets}
 use Rattle.eval_matching.specs.Subjects.{found_place, holds_at}
 use Rattle.eval_matching.proofs.Finding.{found_first, none_found}
 use Rattle.eval_courses.specs.Laws.{last_of}
-use Rattle.eval_courses.specs.Upward.{falling, found_told, name_at, partly, partly_told, search_told, unmet, up_told}
-use Rattle.eval_courses.proofs.Ending.{behind_all}
+use Rattle.eval_courses.specs.Upward.{falling, found_report, name_at, partial_report, partly, search_reports, unmet, up_report}
+use Rattle.eval_courses.proofs.Ending.{after_all}
 
 -- there is one first number that passes
 one_first : (p : ℕ → Bool) (a b : ℕ) → p a ≡ true → ((k : ℕ) → k < a → p k ≡ false) → p b ≡ true → ((k : ℕ) → k < b → p k ≡ false) → a ≡ b
@@ -35,30 +35,30 @@ none_is_found : (parts : List UpMatch) (state : State) → NoneMeets parts state
 unfolding found_place
 none_is_found parts state h = (none_found (λ n. list_all (holds_at state n) parts) (length (chain state.event))).1 h
 
--- the last line of a search is what it came to
-last_told : (part : UpMatch) (parts : List UpMatch) (state : State) → last_of (search_told (part ∷ parts) state) ≡ Some (found_told (part ∷ parts) state (found_place (part ∷ parts) state))
-unfolding search_told
-last_told part parts state = behind_all (map (λ each. up_told each state) (part ∷ parts)) (found_told (part ∷ parts) state (found_place (part ∷ parts) state))
+-- the last line of a search is its result
+last_reported : (part : UpMatch) (parts : List UpMatch) (state : State) → last_of (search_reports (part ∷ parts) state) ≡ Some (found_report (part ∷ parts) state (found_place (part ∷ parts) state))
+unfolding search_reports
+last_reported part parts state = after_all (map (λ each. up_report each state) (part ∷ parts)) (found_report (part ∷ parts) state (found_place (part ∷ parts) state))
 
-pub named_told : (part : UpMatch) (parts : List UpMatch) (state : State) (place : ℕ) → IsFirstToMeet (part ∷ parts) state place → last_of (search_told (part ∷ parts) state) ≡ Some (name_at state place ++ codes " meets all")
-named_told part parts state place h = last_told part parts state ∙ ap (λ o. Some (found_told (part ∷ parts) state o)) (is_found (part ∷ parts) state place h)
+pub named_reported : (part : UpMatch) (parts : List UpMatch) (state : State) (place : ℕ) → IsFirstToMeet (part ∷ parts) state place → last_of (search_reports (part ∷ parts) state) ≡ Some (name_at state place ++ codes " meets all")
+named_reported part parts state place h = last_reported part parts state ∙ ap (λ o. Some (found_report (part ∷ parts) state o)) (is_found (part ∷ parts) state place h)
 
-pub none_told : (part : UpMatch) (parts : List UpMatch) (state : State) → NoneMeets (part ∷ parts) state → (rest : Text) × (last_of (search_told (part ∷ parts) state) ≡ Some (codes "no device meets " ++ rest))
-none_told part parts state h =
-    (unmet (map (partly_told (part ∷ parts) state) (partly (part ∷ parts) state)), last_told part parts state ∙ ap (λ o. Some (found_told (part ∷ parts) state o)) (none_is_found (part ∷ parts) state h))
+pub none_reported : (part : UpMatch) (parts : List UpMatch) (state : State) → NoneMeets (part ∷ parts) state → (rest : Text) × (last_of (search_reports (part ∷ parts) state) ≡ Some (codes "no device meets " ++ rest))
+none_reported part parts state h =
+    (unmet (map (partial_report (part ∷ parts) state) (partly (part ∷ parts) state)), last_reported part parts state ∙ ap (λ o. Some (found_report (part ∷ parts) state o)) (none_is_found (part ∷ parts) state h))
 
 falling_more : (n : ℕ) → 0 < n → falling n ≡ (n - 1) ∷ falling (n - 1)
 falling_more zero h = absurd (omega arith)
 falling_more (suc n) h = let e : n ≡ suc n - 1 = omega arith in ap (λ m. m ∷ falling m) e
 
 -- one device more that meets some of the matches
-pub one_told : (parts : List UpMatch) (state : State) (texts : List Text) (n : ℕ) → 0 < n → list_any (holds_at state (n - 1)) parts ≡ true
-    → (texts ++ partly_told parts state (n - 1) ∷ []) ++ map (partly_told parts state) (filter (λ place. list_any (holds_at state place) parts) (falling (n - 1)))
-    ≡ texts ++ map (partly_told parts state) (filter (λ place. list_any (holds_at state place) parts) (falling n))
-one_told parts state texts n h some =
+pub one_reported : (parts : List UpMatch) (state : State) (texts : List Text) (n : ℕ) → 0 < n → list_any (holds_at state (n - 1)) parts ≡ true
+    → (texts ++ partial_report parts state (n - 1) ∷ []) ++ map (partial_report parts state) (filter (λ place. list_any (holds_at state place) parts) (falling (n - 1)))
+    ≡ texts ++ map (partial_report parts state) (filter (λ place. list_any (holds_at state place) parts) (falling n))
+one_reported parts state texts n h some =
     let some_hold : ℕ → Bool = λ place. list_any (holds_at state place) parts in
     let rest = filter some_hold (falling (n - 1)) in
-    append_assoc texts (partly_told parts state (n - 1) ∷ []) (map (partly_told parts state) rest)
+    append_assoc texts (partial_report parts state (n - 1) ∷ []) (map (partial_report parts state) rest)
     ∙ ap (λ ts. texts ++ ts)
-    (sym (ap (λ ps. map (partly_told parts state) (filter some_hold ps)) (falling_more n h)
-    ∙ ap (λ b. map (partly_told parts state) (cond b ((n - 1) ∷ rest) rest)) some))
+    (sym (ap (λ ps. map (partial_report parts state) (filter some_hold ps)) (falling_more n h)
+    ∙ ap (λ b. map (partial_report parts state) (cond b ((n - 1) ∷ rest) rest)) some))

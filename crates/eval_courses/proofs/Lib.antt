@@ -1,4 +1,4 @@
-pub mod Telling
+pub mod Reporting
 pub mod Copying
 pub mod Ending
 pub mod Finding

@@ -5,7 +5,7 @@ use Rattle.text_bytes.specs.declared.profile.Profile.TheVariants as profile
 use Rattle.text_tables.specs.Texts.{Text}
 use Rattle.eval_matching.specs.Subjects.{members_by, subsystem_by}
 use Rattle.eval_effects.specs.Shown.{shown}
-use Rattle.eval_courses.specs.Looks.{looked, members_told}
+use Rattle.eval_courses.specs.Looks.{looked, members_report}
 
 -- a subsystem
 pub looked_subsystem : (p : Profile) (text : Text) → looked (subsystem_by p text) ≡ shown text
@@ -13,6 +13,6 @@ looked_subsystem profile.Manual text = refl
 looked_subsystem profile.Udev text = refl
 
 -- texts
-pub looked_members : (p : Profile) (texts : List Text) → looked (members_by p texts) ≡ members_told texts
+pub looked_members : (p : Profile) (texts : List Text) → looked (members_by p texts) ≡ members_report texts
 looked_members profile.Manual texts = refl
 looked_members profile.Udev texts = refl

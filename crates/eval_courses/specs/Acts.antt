@@ -11,8 +11,8 @@ use Rattle.hwdb_lookup.specs.declared.entry.Entry.{Entry}
 use Rattle.device_core.specs.Values.{AnswerValue, EventValue}
 use Rattle.rule_templates.specs.Template.{Parts as Template}
 use Rattle.rule_types.specs.declared.part.Act.{Act}
-use Rattle.rule_types.specs.declared.part.Deed.{Deed}
-use Rattle.rule_types.specs.declared.part.Deed.TheVariants as deed
+use Rattle.rule_types.specs.declared.part.ActKind.{ActKind}
+use Rattle.rule_types.specs.declared.part.ActKind.TheVariants as act_kind
 use Rattle.rule_types.specs.declared.part.Import.{Import}
 use Rattle.rule_types.specs.declared.part.Import.TheVariants as import
 use Rattle.rule_types.specs.Rules.{Rule}
@@ -23,15 +23,15 @@ use Rattle.eval_state.specs.declared.scene.Scene.{Scene}
 use Rattle.eval_state.specs.declared.state.State.{State}
 use Rattle.eval_acts.specs.ActTexts.{import_text, most_command_bytes, most_path_bytes, names_text, program_text, test_text}
 use Rattle.eval_acts.specs.Acts.{act_step}
-use Rattle.eval_effects.specs.Items.{stands}
+use Rattle.eval_effects.specs.Items.{is_present}
 use Rattle.eval_effects.specs.Shown.{joined, shown}
 use Rattle.eval_courses.specs.Keys.{act_key}
 use Rattle.eval_courses.specs.Looks.{met}
 
 -- what is reported for a rendered text
 abbrev pub on_rendered : (Text → Text) → Rendered → Text
-on_rendered told (rendered.Text text) = told text
-on_rendered told rendered.TooLong = codes "too long"
+on_rendered reported (rendered.Text text) = reported text
+on_rendered reported rendered.TooLong = codes "too long"
 
 -- whether a device that is named is not in the chain
 abbrev pub is_elsewhere : EventValue → Option NamedValue → Bool
@@ -49,75 +49,75 @@ abbrev pub is_unmade : Bool → Text → EventValue → Bool
 is_unmade has_mask path event = has_mask || (begins_with slash path || asks_elsewhere event.profile path event)
 
 -- the path of a TEST, by whether it has a mask
-abbrev pub path_told : Bool → EventValue → Text → Text
-path_told has_mask event path = if is_unmade has_mask path event then codes "not made: " ++ shown path else shown path
+abbrev pub path_report : Bool → EventValue → Text → Text
+path_report has_mask event path = if is_unmade has_mask path event then codes "not made: " ++ shown path else shown path
 
 -- a text after a space; an empty one is left out with its space
 abbrev pub spaced : Text → Text
 spaced text = if is_empty text then [] else space ∷ shown text
 
 -- the command of a PROGRAM, and what the event's block answers to it
-abbrev pub answer_told : Text → Option AnswerValue → Text
-answer_told command None = codes "no answer for " ++ escape_text command
-answer_told command (Some answer) = escape_text command ++ codes " answers " ++ decimal answer.status ++ spaced answer.text
+abbrev pub answer_report : Text → Option AnswerValue → Text
+answer_report command None = codes "no answer for " ++ escape_text command
+answer_report command (Some answer) = escape_text command ++ codes " answers " ++ decimal answer.status ++ spaced answer.text
 
 -- a property as it is reported
-unfoldable pub property_told : Pair → Text
-property_told property = shown property.0 ++ equals ∷ shown property.1
+unfoldable pub property_report : Pair → Text
+property_report property = shown property.0 ++ equals ∷ shown property.1
 
 -- properties that were set
-abbrev pub set_told : List Text → Text
-set_told properties = if is_empty properties then codes "sets nothing" else codes "sets " ++ joined properties
+abbrev pub set_report : List Text → Text
+set_report properties = if is_empty properties then codes "sets nothing" else codes "sets " ++ joined properties
 
 -- the properties that are there now and were not there with the same value before
 abbrev pub newly_set : List Pair → List Pair → List Pair
-newly_set before now = filter (λ property. not (stands property before)) now
+newly_set before now = filter (λ property. not (is_present property before)) now
 
 -- the properties that were set, by those before and those now
-abbrev pub taken_told : List Pair → List Pair → Text
-taken_told before now = set_told (map property_told (newly_set before now))
+abbrev pub taken_report : List Pair → List Pair → Text
+taken_report before now = set_report (map property_report (newly_set before now))
 
 -- what an IMPORT{parent} met, by the properties after it; udev renders its value
-abbrev pub parent_told : Profile → Text → State → List Pair → Text
-parent_told profile.Manual value s env = taken_told s.env env
-parent_told profile.Udev value s env = on_rendered (λ names. taken_told s.env env) (names_text value s)
+abbrev pub parent_report : Profile → Text → State → List Pair → Text
+parent_report profile.Manual value s env = taken_report s.env env
+parent_report profile.Udev value s env = on_rendered (λ names. taken_report s.env env) (names_text value s)
 
 -- the command of an IMPORT{program} and what the event's block answers to it, and then what was set of properties, by those before and those now
-abbrev pub printed_told : Text → Option AnswerValue → List Pair → List Pair → Text
-printed_told command None before now = answer_told command None
-printed_told command (Some answer) before now = answer_told command (Some answer) ++ codes ", " ++ taken_told before now
+abbrev pub printed_report : Text → Option AnswerValue → List Pair → List Pair → Text
+printed_report command None before now = answer_report command None
+printed_report command (Some answer) before now = answer_report command (Some answer) ++ codes ", " ++ taken_report before now
 
 -- what an IMPORT{program} met, by the properties after it; by the manual it is not run
-abbrev pub program_import_told : Profile → Template → State → List Pair → Text
-program_import_told profile.Manual template s env = codes "not run"
-program_import_told profile.Udev template s env =
-    on_rendered (λ command. printed_told command (value_of s.event.programs command) s.env env) (import_text most_command_bytes template s)
+abbrev pub program_import_report : Profile → Template → State → List Pair → Text
+program_import_report profile.Manual template s env = codes "not run"
+program_import_report profile.Udev template s env =
+    on_rendered (λ command. printed_report command (value_of s.event.programs command) s.env env) (import_text most_command_bytes template s)
 
 -- an IMPORT that is not run; udev nevertheless renders its value
-abbrev pub unrun_told : Profile → ℕ → Template → State → Text
-unrun_told profile.Manual most template s = codes "not run"
-unrun_told profile.Udev most template s = on_rendered (λ text. codes "not run") (import_text most template s)
+abbrev pub unrun_report : Profile → ℕ → Template → State → Text
+unrun_report profile.Manual most template s = codes "not run"
+unrun_report profile.Udev most template s = on_rendered (λ text. codes "not run") (import_text most template s)
 
 -- what an IMPORT met, by the properties after it
-abbrev pub import_told : Import → State → List Pair → Text
-import_told (import.Builtin template) s env =
-    on_rendered (λ command. shown command ++ space ∷ taken_told s.env env) (import_text most_command_bytes template s)
-import_told (import.Parent names value) s env = parent_told s.event.profile value s env
-import_told (import.Program template) s env = program_import_told s.event.profile template s env
-import_told (import.File template) s env = unrun_told s.event.profile most_path_bytes template s
-import_told (import.Cmdline name) s env = codes "not run"
-import_told (import.Db name) s env = codes "not run"
+abbrev pub import_report : Import → State → List Pair → Text
+import_report (import.Builtin template) s env =
+    on_rendered (λ command. shown command ++ space ∷ taken_report s.env env) (import_text most_command_bytes template s)
+import_report (import.Parent names value) s env = parent_report s.event.profile value s env
+import_report (import.Program template) s env = program_import_report s.event.profile template s env
+import_report (import.File template) s env = unrun_report s.event.profile most_path_bytes template s
+import_report (import.Cmdline name) s env = codes "not run"
+import_report (import.Db name) s env = codes "not run"
 
 -- what an act met, by the properties after it
-abbrev pub deed_told : Deed → State → List Pair → Text
-deed_told (deed.Test mask template) s env = on_rendered (path_told (is_some mask) s.event) (test_text template s)
-deed_told (deed.Program template) s env = on_rendered (λ command. answer_told command (value_of s.event.programs command)) (program_text template s)
-deed_told (deed.Import from) s env = import_told from s env
+abbrev pub act_kind_report : ActKind → State → List Pair → Text
+act_kind_report (act_kind.Test mask template) s env = on_rendered (path_report (is_some mask) s.event) (test_text template s)
+act_kind_report (act_kind.Program template) s env = on_rendered (λ command. answer_report command (value_of s.event.programs command)) (program_text template s)
+act_kind_report (act_kind.Import from) s env = import_report from s env
 
 -- an act, whether its rule goes on, and what it met, by the scene after it
 abbrev pub act_met : Act → State → Scene × Bool → Text
-act_met act s went = act_key act ++ met went.1 ++ deed_told act.deed s went.0.state.env
+act_met act s went = act_key act ++ met went.1 ++ act_kind_report act.kind s went.0.state.env
 
 -- an act, and what it met
-unfoldable pub act_told : List Entry → Rule → Act → Scene → Text
-act_told entries r act s = act_met act s.state (act_step entries r act s)
+unfoldable pub act_report : List Entry → Rule → Act → Scene → Text
+act_report entries r act s = act_met act s.state (act_step entries r act s)

@@ -3,14 +3,14 @@ use Rattle.std.specs.Prelude.{Bool, true, false, [], ◌∷◌, ◌++◌, None, 
 use Rattle.text_bytes.specs.Names.{double_quote}
 use Rattle.text_tables.specs.Texts.{Text}
 use Rattle.rule_types.specs.Written.{attribute_of_plain, attribute_of_up, key_of_plain, key_of_up}
-use Rattle.rule_types.specs.WrittenParts.{attribute_of_deed, key_of_deed}
+use Rattle.rule_types.specs.WrittenParts.{attribute_of_act_kind, key_of_act_kind}
 use Rattle.rule_types.specs.declared.keys.Key.TheVariants as key
 use Rattle.rule_types.specs.declared.roles.MatchOperator.{MatchOperator}
 use Rattle.rule_types.specs.declared.roles.MatchOperator.TheVariants.{Equal, NotEqual}
 use Rattle.rule_types.specs.declared.part.Act.{Act}
 use Rattle.rule_types.specs.declared.part.Comparison.{Comparison}
-use Rattle.rule_types.specs.declared.part.Deed.{Deed}
-use Rattle.rule_types.specs.declared.part.Deed.TheVariants as deed
+use Rattle.rule_types.specs.declared.part.ActKind.{ActKind}
+use Rattle.rule_types.specs.declared.part.ActKind.TheVariants as act_kind
 use Rattle.rule_types.specs.declared.part.Import.{Import}
 use Rattle.rule_types.specs.declared.part.Import.TheVariants as import
 use Rattle.rule_types.specs.declared.part.PlainMatch.{PlainMatch}
@@ -58,11 +58,11 @@ value_of_import (import.Cmdline name) = name
 value_of_import (import.Db name) = name
 
 -- the value of an act as it was given
-abbrev pub value_of_deed : Deed → Text
-value_of_deed (deed.Test mask template) = template.written
-value_of_deed (deed.Program template) = template.written
-value_of_deed (deed.Import from) = value_of_import from
+abbrev pub value_of_act_kind : ActKind → Text
+value_of_act_kind (act_kind.Test mask template) = template.written
+value_of_act_kind (act_kind.Program template) = template.written
+value_of_act_kind (act_kind.Import from) = value_of_import from
 
 -- an act
 abbrev pub act_key : Act → Text
-act_key act = key_text (key_of_deed act.deed) (attribute_of_deed act.deed) ++ wanted_text act.operator false (value_of_deed act.deed)
+act_key act = key_text (key_of_act_kind act.kind) (attribute_of_act_kind act.kind) ++ wanted_text act.operator false (value_of_act_kind act.kind)

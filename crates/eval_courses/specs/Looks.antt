@@ -16,32 +16,32 @@ met true = codes ": holds, "
 met false = codes ": fails, "
 
 -- a text that may be absent
-abbrev pub value_told : Option Text → Text
-value_told None = codes "none"
-value_told (Some text) = shown text
+abbrev pub value_report : Option Text → Text
+value_report None = codes "none"
+value_report (Some text) = shown text
 
 -- texts, with spaces between
-abbrev pub members_told : List Text → Text
-members_told [] = codes "none"
-members_told (text ∷ others) = shown text ++ flat_map (λ other. space ∷ shown other) others
+abbrev pub members_report : List Text → Text
+members_report [] = codes "none"
+members_report (text ∷ others) = shown text ++ flat_map (λ other. space ∷ shown other) others
 
 -- what a match looked at
 abbrev pub looked : Subject → Text
 looked (one text) = shown text
-looked (attribute value) = value_told value
-looked (constant value) = value_told value
-looked (members texts) = members_told texts
+looked (attribute value) = value_report value
+looked (constant value) = value_report value
+looked (members texts) = members_report texts
 looked never = codes "unknown"
 looked unread = codes "not read"
 looked (udev_subsystem text) = shown text
-looked (udev_attribute value) = value_told value
-looked (udev_members texts) = members_told texts
+looked (udev_attribute value) = value_report value
+looked (udev_members texts) = members_report texts
 looked udev_unread = codes "not read"
 
 -- a match of the event, and what it met
-unfoldable pub plain_told : PlainMatch → State → Text
-plain_told part state = plain_key part ++ met (holds (plain_subject part.key state) part.wanted) ++ looked (plain_subject part.key state)
+unfoldable pub plain_report : PlainMatch → State → Text
+plain_report part state = plain_key part ++ met (holds (plain_subject part.key state) part.wanted) ++ looked (plain_subject part.key state)
 
 -- a match of the result of the last program, and what it met
-unfoldable pub result_told : Comparison → State → Text
-result_told part state = result_key part ++ met (holds (one state.result) part) ++ shown state.result
+unfoldable pub result_report : Comparison → State → Text
+result_report part state = result_key part ++ met (holds (one state.result) part) ++ shown state.result

@@ -36,20 +36,20 @@ met_at holds subject =
     else codes " fails, " ++ looked subject
 
 -- a device, and what a match met at it
-unfoldable pub device_told : UpMatch → State → ℕ → Text
-device_told part state place = name_at state place ++ met_at (holds_at state place part) (up_subject part.key state place)
+unfoldable pub device_report : UpMatch → State → ℕ → Text
+device_report part state place = name_at state place ++ met_at (holds_at state place part) (up_subject part.key state place)
 
 -- a match of one device, and what it met at each device of the chain
-unfoldable pub up_told : UpMatch → State → Text
-up_told part state = up_key part ++ codes ": " ++ joined (map (device_told part state) (places state))
+unfoldable pub up_report : UpMatch → State → Text
+up_report part state = up_key part ++ codes ": " ++ joined (map (device_report part state) (places state))
 
 -- how many of the matches hold at a device
 abbrev pub hits : List UpMatch → State → ℕ → ℕ
 hits parts state place = count_by (holds_at state place) parts
 
 -- a device that meets some of the matches
-unfoldable pub partly_told : List UpMatch → State → ℕ → Text
-partly_told parts state place = name_at state place ++ codes " meets " ++ decimal (hits parts state place) ++ codes " of " ++ decimal (length parts)
+unfoldable pub partial_report : List UpMatch → State → ℕ → Text
+partial_report parts state place = name_at state place ++ codes " meets " ++ decimal (hits parts state place) ++ codes " of " ++ decimal (length parts)
 
 -- the places below a bound, the last one first
 abbrev pub falling : ℕ → List ℕ
@@ -65,12 +65,12 @@ abbrev pub unmet : List Text → Text
 unmet devices = if is_empty devices then codes "any" else codes "all: " ++ joined devices
 
 -- the outcome of the search: the device at a place, or none
-abbrev pub found_told : List UpMatch → State → Option ℕ → Text
-found_told parts state (Some place) = name_at state place ++ codes " meets all"
-found_told parts state None = codes "no device meets " ++ unmet (map (partly_told parts state) (partly parts state))
+abbrev pub found_report : List UpMatch → State → Option ℕ → Text
+found_report parts state (Some place) = name_at state place ++ codes " meets all"
+found_report parts state None = codes "no device meets " ++ unmet (map (partial_report parts state) (partly parts state))
 
 -- the search for one device: each of its matches, and its outcome
-unfoldable pub search_told : List UpMatch → State → List Text
-search_told [] state = []
-search_told (part ∷ parts) state =
-    map (λ each. up_told each state) (part ∷ parts) ++ found_told (part ∷ parts) state (found_place (part ∷ parts) state) ∷ []
+unfoldable pub search_reports : List UpMatch → State → List Text
+search_reports [] state = []
+search_reports (part ∷ parts) state =
+    map (λ each. up_report each state) (part ∷ parts) ++ found_report (part ∷ parts) state (found_place (part ∷ parts) state) ∷ []

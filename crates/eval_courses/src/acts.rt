@@ -9,8 +9,8 @@ ghost use Rattle.eval_acts.specs.ActTexts.{import_text, most_command_bytes, name
 ghost use Rattle.eval_acts.specs.Acts.{act_step};
 ghost use Rattle.text_bytes.specs.Names.{space};
 ghost use Rattle.eval_effects.specs.Shown.{shown};
-ghost use Rattle.eval_courses.specs.Acts.{act_told, answer_told, asks_elsewhere, deed_told, import_told, on_rendered, parent_told, path_told, printed_told, program_import_told, taken_told, unrun_told};
-ghost use Rattle.eval_courses.specs.Inner.{done_told, told_behind};
+ghost use Rattle.eval_courses.specs.Acts.{act_kind_report, act_report, answer_report, asks_elsewhere, import_report, on_rendered, parent_report, path_report, printed_report, program_import_report, taken_report, unrun_report};
+ghost use Rattle.eval_courses.specs.Inner.{done_report, report_after};
 ghost use Rattle.eval_courses.specs.Keys.{act_key};
 ghost use Rattle.eval_courses.specs.Looks.{met};
 
@@ -26,14 +26,14 @@ use eval_rendering::Rendered;
 use eval_state::{Chain, Named, Scene, State};
 use hwdb_lookup::Lookup;
 use rule_templates::Template;
-use rule_types::{Act, Deed, Import, Rule};
+use rule_types::{Act, ActKind, Import, Rule};
 use std::alloc::{AllocError, Global};
 use text_bytes::{Bytes, Profile, begins_with};
 use text_tables::OwnedPairs;
 
 /// What is known of the report on an act before it is done.
 #[derive(Drop)]
-pub enum ToldBefore {
+pub(crate) enum ReportBefore {
     /// All of the report.
     Whole(Bytes),
     /// The start of the report, and the properties before the act: after that start come those that the act sets.
@@ -51,13 +51,13 @@ fn asks_elsewhere(path: &[u8], chain: &Chain<'_>) -> bool
 }
 
 /// What is reported for the path of a TEST.
-fn path_told(
+fn path_report(
     alloc: Global,
     has_mask: bool,
     chain: &Chain<'_>,
     path: &[u8],
 ) -> Result<Bytes, AllocError>
-    ensures { IfOk result (λ text. text ≡ path_told has_mask chain.now path.now) }
+    ensures { IfOk result (λ text. text ≡ path_report has_mask chain.now path.now) }
 {
     let mut text = Vec::new(alloc);
     if has_mask || begins_with(b'/', path) || asks_elsewhere(path, chain) {
@@ -68,27 +68,27 @@ fn path_told(
 }
 
 /// What is reported for a TEST.
-fn test_told(
+fn test_report(
     alloc: Global,
     has_mask: bool,
     template: &Template,
     state: &State<'_>,
 ) -> Result<Bytes, AllocError>
-    ensures { IfOk result (λ text. text ≡ on_rendered (path_told has_mask state.now.event) (test_text template.now state.now)) }
+    ensures { IfOk result (λ text. text ≡ on_rendered (path_report has_mask state.now.event) (test_text template.now state.now)) }
 {
     match test_text(alloc, template, state)? {
-        Rendered::Text(path) => path_told(alloc, has_mask, &state.event, path.as_slice()),
+        Rendered::Text(path) => path_report(alloc, has_mask, &state.event, path.as_slice()),
         Rendered::TooLong => Bytes::copy_of(alloc, b"too long"),
     }
 }
 
 /// What is reported for a PROGRAM.
-fn program_told(
+fn program_report(
     alloc: Global,
     template: &Template,
     state: &mut State<'_>,
 ) -> Result<Bytes, AllocError>
-    ensures text { IfOk result (λ text. text ≡ on_rendered (λ command. answer_told command (value_of state.old.event.programs command)) (program_text template.now state.old)) }
+    ensures text { IfOk result (λ text. text ≡ on_rendered (λ command. answer_report command (value_of state.old.event.programs command)) (program_text template.now state.old)) }
     ensures kept { state.new ≡ state.old }
 {
     match program_text(alloc, template, state)? {
@@ -98,7 +98,7 @@ fn program_told(
 }
 
 /// The start of what is reported for a builtin's command: the command itself.
-fn command_told(alloc: Global, command: &[u8]) -> Result<Bytes, AllocError>
+fn command_report(alloc: Global, command: &[u8]) -> Result<Bytes, AllocError>
     ensures { IfOk result (λ text. text ≡ shown command.now ++ space ∷ []) }
 {
     let mut text = Vec::new(alloc);
@@ -108,105 +108,105 @@ fn command_told(alloc: Global, command: &[u8]) -> Result<Bytes, AllocError>
 }
 
 /// What is known of the report on an IMPORT{builtin} before it is done.
-fn builtin_told_before(
+fn builtin_report_before(
     alloc: Global,
     template: &Template,
     state: &State<'_>,
-) -> Result<ToldBefore, AllocError>
-    ensures { IfOk result (λ o. (env : List Pair) → told_behind o env ≡ import_told (import.Builtin template.now) state.now env) }
+) -> Result<ReportBefore, AllocError>
+    ensures { IfOk result (λ o. (env : List Pair) → report_after o env ≡ import_report (import.Builtin template.now) state.now env) }
 {
     match import_text(alloc, MAX_COMMAND_BYTES, template, state)? {
-        Rendered::Text(command) => Ok(ToldBefore::Taking(
-            command_told(alloc, command.as_slice())?,
+        Rendered::Text(command) => Ok(ReportBefore::Taking(
+            command_report(alloc, command.as_slice())?,
             copied(alloc, &state.env)?,
         )),
-        Rendered::TooLong => Ok(ToldBefore::Whole(Bytes::copy_of(alloc, b"too long")?)),
+        Rendered::TooLong => Ok(ReportBefore::Whole(Bytes::copy_of(alloc, b"too long")?)),
     }
 }
 
 /// What is known of the report on an IMPORT{parent} before it is done, by the properties as they are.
-fn taking(alloc: Global, state: &State<'_>) -> Result<ToldBefore, AllocError>
-    ensures { IfOk result (λ o. (env : List Pair) → told_behind o env ≡ taken_told state.now.env env) }
+fn taking(alloc: Global, state: &State<'_>) -> Result<ReportBefore, AllocError>
+    ensures { IfOk result (λ o. (env : List Pair) → report_after o env ≡ taken_report state.now.env env) }
 {
-    Ok(ToldBefore::Taking(Bytes::new(Vec::new(alloc)), copied(alloc, &state.env)?))
+    Ok(ReportBefore::Taking(Bytes::new(Vec::new(alloc)), copied(alloc, &state.env)?))
 }
 
 /// What is known of the report on an IMPORT{parent} before it is done, for udev.
-fn names_told_before(
+fn names_report_before(
     alloc: Global,
     value: &[u8],
     state: &State<'_>,
-) -> Result<ToldBefore, AllocError>
-    ensures { IfOk result (λ o. (env : List Pair) → told_behind o env ≡ on_rendered (λ names. taken_told state.now.env env) (names_text value.now state.now)) }
+) -> Result<ReportBefore, AllocError>
+    ensures { IfOk result (λ o. (env : List Pair) → report_after o env ≡ on_rendered (λ names. taken_report state.now.env env) (names_text value.now state.now)) }
 {
     match names_text(alloc, value, state)? {
         Rendered::Text(_) => taking(alloc, state),
-        Rendered::TooLong => Ok(ToldBefore::Whole(Bytes::copy_of(alloc, b"too long")?)),
+        Rendered::TooLong => Ok(ReportBefore::Whole(Bytes::copy_of(alloc, b"too long")?)),
     }
 }
 
 /// What is known of the report on an IMPORT{parent} before it is done.
-fn parent_told_before(
+fn parent_report_before(
     alloc: Global,
     value: &[u8],
     state: &State<'_>,
-) -> Result<ToldBefore, AllocError>
-    ensures { IfOk result (λ o. (env : List Pair) → told_behind o env ≡ parent_told state.now.event.profile value.now state.now env) }
+) -> Result<ReportBefore, AllocError>
+    ensures { IfOk result (λ o. (env : List Pair) → report_after o env ≡ parent_report state.now.event.profile value.now state.now env) }
 {
     match state.event.event().profile() {
         Profile::Manual => taking(alloc, state),
-        Profile::Udev => names_told_before(alloc, value, state),
+        Profile::Udev => names_report_before(alloc, value, state),
     }
 }
 
 /// What is reported for a command of IMPORT{program} before its answer is taken.
-fn printed_told_before(
+fn printed_report_before(
     alloc: Global,
     command: &[u8],
     state: &State<'_>,
-) -> Result<ToldBefore, AllocError>
-    ensures { IfOk result (λ o. (env : List Pair) → told_behind o env ≡ printed_told command.now (value_of state.now.event.programs command.now) state.now.env env) }
+) -> Result<ReportBefore, AllocError>
+    ensures { IfOk result (λ o. (env : List Pair) → report_after o env ≡ printed_report command.now (value_of state.now.event.programs command.now) state.now.env env) }
 {
     match answer_to(state, command) {
-        Some(answer) => Ok(ToldBefore::Taking(
+        Some(answer) => Ok(ReportBefore::Taking(
             answered_start(alloc, command, answer)?,
             copied(alloc, &state.env)?,
         )),
-        None => Ok(ToldBefore::Whole(unanswered(alloc, command)?)),
+        None => Ok(ReportBefore::Whole(unanswered(alloc, command)?)),
     }
 }
 
 /// What is reported for an IMPORT{program} of udev's before it is done.
-fn command_told_before(
+fn command_report_before(
     alloc: Global,
     template: &Template,
     state: &State<'_>,
-) -> Result<ToldBefore, AllocError>
-    ensures { IfOk result (λ o. (env : List Pair) → told_behind o env ≡ on_rendered (λ command. printed_told command (value_of state.now.event.programs command) state.now.env env) (import_text most_command_bytes template.now state.now)) }
+) -> Result<ReportBefore, AllocError>
+    ensures { IfOk result (λ o. (env : List Pair) → report_after o env ≡ on_rendered (λ command. printed_report command (value_of state.now.event.programs command) state.now.env env) (import_text most_command_bytes template.now state.now)) }
 {
     match import_text(alloc, MAX_COMMAND_BYTES, template, state)? {
-        Rendered::Text(command) => printed_told_before(alloc, command.as_slice(), state),
-        Rendered::TooLong => Ok(ToldBefore::Whole(Bytes::copy_of(alloc, b"too long")?)),
+        Rendered::Text(command) => printed_report_before(alloc, command.as_slice(), state),
+        Rendered::TooLong => Ok(ReportBefore::Whole(Bytes::copy_of(alloc, b"too long")?)),
     }
 }
 
 /// What is reported for an IMPORT{program} before it is done.
-fn program_import_told_before(
+fn program_import_report_before(
     alloc: Global,
     template: &Template,
     state: &State<'_>,
-) -> Result<ToldBefore, AllocError>
-    ensures { IfOk result (λ o. (env : List Pair) → told_behind o env ≡ program_import_told state.now.event.profile template.now state.now env) }
+) -> Result<ReportBefore, AllocError>
+    ensures { IfOk result (λ o. (env : List Pair) → report_after o env ≡ program_import_report state.now.event.profile template.now state.now env) }
 {
     match state.event.event().profile() {
-        Profile::Manual => Ok(ToldBefore::Whole(Bytes::copy_of(alloc, b"not run")?)),
-        Profile::Udev => command_told_before(alloc, template, state),
+        Profile::Manual => Ok(ReportBefore::Whole(Bytes::copy_of(alloc, b"not run")?)),
+        Profile::Udev => command_report_before(alloc, template, state),
     }
 }
 
 /// What is reported for an IMPORT that is not run, by its value, for udev.
-fn unrun_value_told(alloc: Global, text: &Rendered) -> Result<Bytes, AllocError>
-    ensures { IfOk result (λ told. told ≡ on_rendered (λ t. codes "not run") text.now) }
+fn unrun_value_report(alloc: Global, text: &Rendered) -> Result<Bytes, AllocError>
+    ensures { IfOk result (λ reported. reported ≡ on_rendered (λ t. codes "not run") text.now) }
 {
     match text {
         Rendered::Text(_) => Bytes::copy_of(alloc, b"not run"),
@@ -215,74 +215,80 @@ fn unrun_value_told(alloc: Global, text: &Rendered) -> Result<Bytes, AllocError>
 }
 
 /// What is reported for an IMPORT that is not run; udev nevertheless renders its value.
-fn unrun_told(
+fn unrun_report(
     alloc: Global,
     most: usize,
     template: &Template,
     state: &State<'_>,
 ) -> Result<Bytes, AllocError>
-    ensures { IfOk result (λ text. text ≡ unrun_told state.now.event.profile most template.now state.now) }
+    ensures { IfOk result (λ text. text ≡ unrun_report state.now.event.profile most template.now state.now) }
 {
     match state.event.event().profile() {
         Profile::Manual => Bytes::copy_of(alloc, b"not run"),
-        Profile::Udev => unrun_value_told(alloc, &import_text(alloc, most, template, state)?),
+        Profile::Udev => unrun_value_report(alloc, &import_text(alloc, most, template, state)?),
     }
 }
 
 /// What is known of the report on an IMPORT before it is done.
-fn import_told_before(
+fn import_report_before(
     alloc: Global,
     from: &Import,
     state: &State<'_>,
-) -> Result<ToldBefore, AllocError>
-    ensures { IfOk result (λ o. (env : List Pair) → told_behind o env ≡ import_told from.now state.now env) }
+) -> Result<ReportBefore, AllocError>
+    ensures { IfOk result (λ o. (env : List Pair) → report_after o env ≡ import_report from.now state.now env) }
 {
     match from {
-        Import::Builtin(template) => builtin_told_before(alloc, template, state),
-        Import::Parent(_, value) => parent_told_before(alloc, value.as_slice(), state),
-        Import::Program(template) => program_import_told_before(alloc, template, state),
-        Import::File(template) => Ok(ToldBefore::Whole(unrun_told(
+        Import::Builtin(template) => builtin_report_before(alloc, template, state),
+        Import::Parent(_, value) => parent_report_before(alloc, value.as_slice(), state),
+        Import::Program(template) => program_import_report_before(alloc, template, state),
+        Import::File(template) => Ok(ReportBefore::Whole(unrun_report(
             alloc,
             MAX_PATH_BYTES,
             template,
             state,
         )?)),
         Import::Cmdline(_) | Import::Db(_) => {
-            Ok(ToldBefore::Whole(Bytes::copy_of(alloc, b"not run")?))
+            Ok(ReportBefore::Whole(Bytes::copy_of(alloc, b"not run")?))
         }
     }
 }
 
 /// What is known of the report on an act before it is done.
-fn told_before(alloc: Global, deed: &Deed, state: &mut State<'_>) -> Result<ToldBefore, AllocError>
-    ensures told { IfOk result (λ o. (env : List Pair) → told_behind o env ≡ deed_told deed.now state.old env) }
+fn report_before(
+    alloc: Global,
+    act_kind: &ActKind,
+    state: &mut State<'_>,
+) -> Result<ReportBefore, AllocError>
+    ensures reported { IfOk result (λ o. (env : List Pair) → report_after o env ≡ act_kind_report act_kind.now state.old env) }
     ensures kept { state.new ≡ state.old }
 {
-    match deed {
-        Deed::Test(mask, template) => Ok(ToldBefore::Whole(test_told(
+    match act_kind {
+        ActKind::Test(mask, template) => Ok(ReportBefore::Whole(test_report(
             alloc,
             mask.is_some(),
             template,
             state,
         )?)),
-        Deed::Program(template) => Ok(ToldBefore::Whole(program_told(alloc, template, state)?)),
-        Deed::Import(from) => import_told_before(alloc, from, state),
+        ActKind::Program(template) => Ok(ReportBefore::Whole(program_report(
+            alloc, template, state,
+        )?)),
+        ActKind::Import(from) => import_report_before(alloc, from, state),
     }
 }
 
 /// Appends the report on an act that was done to a text.
-fn push_behind(
+fn push_after(
     alloc: Global,
     text: &mut Vec<u8>,
-    before: &ToldBefore,
+    before: &ReportBefore,
     env: &OwnedPairs,
 ) -> Result<(), AllocError>
-    ensures { OnOk result (text.new.items ≡ text.old.items ++ told_behind before.now env.now) }
+    ensures { OnOk result (text.new.items ≡ text.old.items ++ report_after before.now env.now) }
 {
     match before {
-        ToldBefore::Whole(told) => text.extend_from_slice(told.as_slice()),
-        ToldBefore::Taking(told, properties) => {
-            text.extend_from_slice(told.as_slice())?;
+        ReportBefore::Whole(reported) => text.extend_from_slice(reported.as_slice()),
+        ReportBefore::Taking(reported, properties) => {
+            text.extend_from_slice(reported.as_slice())?;
             push_set(text, &newly_set(alloc, properties, env)?)
         }
     }
@@ -292,41 +298,41 @@ fn push_behind(
 fn act_met(
     alloc: Global,
     act: &Act,
-    goes_on: bool,
-    before: &ToldBefore,
+    proceeds: bool,
+    before: &ReportBefore,
     env: &OwnedPairs,
 ) -> Result<Bytes, AllocError>
-    ensures { IfOk result (λ text. text ≡ act_key act.now ++ met goes_on ++ told_behind before.now env.now) }
+    ensures { IfOk result (λ text. text ≡ act_key act.now ++ met proceeds ++ report_after before.now env.now) }
 {
     let mut text = Vec::new(alloc);
     push_act_key(alloc, &mut text, act)?;
-    push_met(&mut text, goes_on)?;
-    push_behind(alloc, &mut text, before, env)?;
+    push_met(&mut text, proceeds)?;
+    push_after(alloc, &mut text, before, env)?;
     Ok(Bytes::new(text))
 }
 
 /// Does what an act asks for, and adds what it met to the texts, by what was known before.
-#[tactic(auto, using(eval_rules::proofs::Staying::act_stays, crate::proofs::Telling::done_is))]
-fn tell_done<L: Lookup>(
+#[tactic(auto, using(eval_rules::proofs::Staying::act_stays, crate::proofs::Reporting::done_is))]
+fn report_done<L: Lookup>(
     alloc: Global,
     rule: &Rule,
     act: &Act,
-    before: &ToldBefore,
+    before: &ReportBefore,
     lookup: &L,
     scene: &mut Scene<'_>,
     texts: &mut Vec<Bytes>,
 ) -> Result<bool, AllocError>
     ensures scene { IfOk result (λ on. (scene.new, on) ≡ act_step (L.entries lookup.now) rule.now act.now scene.old) }
-    ensures text { OnOk result (texts.new.items ≡ texts.old.items ++ done_told act.now before.now (act_step (L.entries lookup.now) rule.now act.now scene.old) ∷ []) }
+    ensures text { OnOk result (texts.new.items ≡ texts.old.items ++ done_report act.now before.now (act_step (L.entries lookup.now) rule.now act.now scene.old) ∷ []) }
     ensures event { scene.new.state.event ≡ scene.old.state.event }
 {
-    let goes_on = act_step(alloc, rule, act, lookup, scene)?;
-    texts.push(act_met(alloc, act, goes_on, before, &scene.state.env)?)?;
-    Ok(goes_on)
+    let proceeds = act_step(alloc, rule, act, lookup, scene)?;
+    texts.push(act_met(alloc, act, proceeds, before, &scene.state.env)?)?;
+    Ok(proceeds)
 }
 
 /// Does what an act asks for, and adds what it met to the texts.
-pub(crate) fn tell_act<L: Lookup>(
+pub(crate) fn report_act<L: Lookup>(
     alloc: Global,
     rule: &Rule,
     act: &Act,
@@ -335,11 +341,11 @@ pub(crate) fn tell_act<L: Lookup>(
     texts: &mut Vec<Bytes>,
 ) -> Result<bool, AllocError>
     ensures scene { IfOk result (λ on. (scene.new, on) ≡ act_step (L.entries lookup.now) rule.now act.now scene.old) }
-    ensures text { OnOk result (texts.new.items ≡ texts.old.items ++ act_told (L.entries lookup.now) rule.now act.now scene.old ∷ []) }
+    ensures text { OnOk result (texts.new.items ≡ texts.old.items ++ act_report (L.entries lookup.now) rule.now act.now scene.old ∷ []) }
     ensures event { scene.new.state.event ≡ scene.old.state.event }
 {
-    let before = told_before(alloc, &act.deed, &mut scene.state)?;
-    let goes_on = tell_done(alloc, rule, act, &before, lookup, scene, texts);
+    let before = report_before(alloc, &act.kind, &mut scene.state)?;
+    let proceeds = report_done(alloc, rule, act, &before, lookup, scene, texts);
     drop(before);
-    goes_on
+    proceeds
 }

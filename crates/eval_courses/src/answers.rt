@@ -2,7 +2,7 @@
 ghost use Rattle.std.specs.Prelude.{◌≡◌, ◌++◌, IfOk, OnOk, None, Some, codes, option_copied};
 ghost use Rattle.text_bytes.specs.Escapes.{escape_text};
 ghost use Rattle.text_tables.specs.Pairs.{value_of};
-ghost use Rattle.eval_courses.specs.Acts.{answer_told, spaced};
+ghost use Rattle.eval_courses.specs.Acts.{answer_report, spaced};
 
 use device_core::ProgramAnswer;
 use eval_effects::push_shown;
@@ -36,7 +36,7 @@ fn push_answered(
     command: &[u8],
     answer: &ProgramAnswer<'_>,
 ) -> Result<(), AllocError>
-    ensures { OnOk result (text.new.items ≡ text.old.items ++ answer_told command.now (Some answer.now)) }
+    ensures { OnOk result (text.new.items ≡ text.old.items ++ answer_report command.now (Some answer.now)) }
 {
     push_escaped(alloc, text, command)?;
     text.extend_from_slice(b" answers ")?;
@@ -44,9 +44,9 @@ fn push_answered(
     push_spaced(alloc, text, answer.text())
 }
 
-/// Puts a command after a text, where there is no answer to it.
+/// Puts a command after a text, saying that there is no answer to it.
 fn push_unanswered(alloc: Global, text: &mut Vec<u8>, command: &[u8]) -> Result<(), AllocError>
-    ensures { OnOk result (text.new.items ≡ text.old.items ++ answer_told command.now None) }
+    ensures { OnOk result (text.new.items ≡ text.old.items ++ answer_report command.now None) }
 {
     text.extend_from_slice(b"no answer for ")?;
     push_escaped(alloc, text, command)
@@ -59,7 +59,7 @@ fn push_answer(
     command: &[u8],
     answer: Option<&ProgramAnswer<'_>>,
 ) -> Result<(), AllocError>
-    ensures { OnOk result (text.new.items ≡ text.old.items ++ answer_told command.now (option_copied answer.entry)) }
+    ensures { OnOk result (text.new.items ≡ text.old.items ++ answer_report command.now (option_copied answer.entry)) }
 {
     match answer {
         Some(answer) => push_answered(alloc, text, command, answer),
@@ -80,7 +80,7 @@ pub(crate) fn command_asked(
     command: &[u8],
     state: &State<'_>,
 ) -> Result<Bytes, AllocError>
-    ensures { IfOk result (λ text. text ≡ answer_told command.now (value_of state.now.event.programs command.now)) }
+    ensures { IfOk result (λ text. text ≡ answer_report command.now (value_of state.now.event.programs command.now)) }
 {
     let mut text = Vec::new(alloc);
     push_answer(alloc, &mut text, command, answer_to(state, command))?;
@@ -93,7 +93,7 @@ pub(crate) fn answered_start(
     command: &[u8],
     answer: &ProgramAnswer<'_>,
 ) -> Result<Bytes, AllocError>
-    ensures { IfOk result (λ text. text ≡ answer_told command.now (Some answer.now) ++ codes ", ") }
+    ensures { IfOk result (λ text. text ≡ answer_report command.now (Some answer.now) ++ codes ", ") }
 {
     let mut text = Vec::new(alloc);
     push_answered(alloc, &mut text, command, answer)?;
@@ -103,7 +103,7 @@ pub(crate) fn answered_start(
 
 /// What is reported for a command to which there is no answer.
 pub(crate) fn unanswered(alloc: Global, command: &[u8]) -> Result<Bytes, AllocError>
-    ensures { IfOk result (λ text. text ≡ answer_told command.now None) }
+    ensures { IfOk result (λ text. text ≡ answer_report command.now None) }
 {
     let mut text = Vec::new(alloc);
     push_unanswered(alloc, &mut text, command)?;

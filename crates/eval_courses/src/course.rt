@@ -4,13 +4,13 @@ ghost use Rattle.eval_state.specs.Scenes.{blank};
 ghost use Rattle.eval_acts.specs.Acts.{act_step};
 ghost use Rattle.eval_rules.specs.Idle.{is_idle};
 ghost use Rattle.eval_rules.specs.Steps.{apply, only_noted, plain_step, result_step, steps, before_sets, walk};
-ghost use Rattle.eval_courses.specs.Courses.{acts_told, course, event_told, keys_told, results_told};
-ghost use Rattle.eval_courses.specs.Inner.{idle_end, idle_told, steps_told};
+ghost use Rattle.eval_courses.specs.Courses.{act_reports, course, event_reports, key_reports, result_reports};
+ghost use Rattle.eval_courses.specs.Inner.{idle_end, idle_reports, step_reports};
 
-use crate::acts::tell_act;
-use crate::plain::{tell_match, tell_result};
-use crate::upward::tell_search;
-use eval_effects::{Since, end_told};
+use crate::acts::report_act;
+use crate::plain::{report_match, report_result};
+use crate::upward::report_search;
+use eval_effects::{Since, end_and_report};
 use eval_rules::{is_idle, note_all};
 use eval_state::Scene;
 use hwdb_lookup::Lookup;
@@ -29,7 +29,7 @@ pub struct Course {
 }
 
 /// Adds the texts of the matches of the event, up to the first that does not hold.
-fn tell_event(
+fn report_event(
     alloc: Global,
     rule: &Rule,
     parts: &[PlainMatch],
@@ -37,11 +37,11 @@ fn tell_event(
     texts: &mut Vec<Bytes>,
 ) -> Result<bool, AllocError>
     ensures scene { IfOk result (λ on. (scene.new, on) ≡ walk (plain_step rule.now) parts.now scene.old) }
-    ensures texts { OnOk result (texts.new.items ≡ texts.old.items ++ event_told rule.now parts.now scene.old) }
+    ensures texts { OnOk result (texts.new.items ≡ texts.old.items ++ event_reports rule.now parts.now scene.old) }
     ensures event { scene.new.state.event ≡ scene.old.state.event }
 {
     for part in parts {
-        if !tell_match(alloc, rule, part, scene, texts)? {
+        if !report_match(alloc, rule, part, scene, texts)? {
             return Ok(false);
         }
     }
@@ -49,7 +49,7 @@ fn tell_event(
 }
 
 /// Adds the texts of what acts, up to the first that stops the rule.
-fn tell_acts<L: Lookup>(
+fn report_acts<L: Lookup>(
     alloc: Global,
     rule: &Rule,
     parts: &[Act],
@@ -58,11 +58,11 @@ fn tell_acts<L: Lookup>(
     texts: &mut Vec<Bytes>,
 ) -> Result<bool, AllocError>
     ensures scene { IfOk result (λ on. (scene.new, on) ≡ walk (act_step (L.entries lookup.now) rule.now) parts.now scene.old) }
-    ensures texts { OnOk result (texts.new.items ≡ texts.old.items ++ acts_told (L.entries lookup.now) rule.now parts.now scene.old) }
+    ensures texts { OnOk result (texts.new.items ≡ texts.old.items ++ act_reports (L.entries lookup.now) rule.now parts.now scene.old) }
     ensures event { scene.new.state.event ≡ scene.old.state.event }
 {
     for part in parts {
-        if !tell_act(alloc, rule, part, lookup, scene, texts)? {
+        if !report_act(alloc, rule, part, lookup, scene, texts)? {
             return Ok(false);
         }
     }
@@ -70,17 +70,17 @@ fn tell_acts<L: Lookup>(
 }
 
 /// Adds the texts of the matches of the result of the last program, up to the first that does not hold.
-fn tell_results(
+fn report_results(
     alloc: Global,
     parts: &[Comparison],
     scene: &Scene<'_>,
     texts: &mut Vec<Bytes>,
 ) -> Result<bool, AllocError>
     ensures scene { IfOk result (λ on. (scene.now, on) ≡ walk result_step parts.now scene.now) }
-    ensures texts { OnOk result (texts.new.items ≡ texts.old.items ++ results_told parts.now scene.now) }
+    ensures texts { OnOk result (texts.new.items ≡ texts.old.items ++ result_reports parts.now scene.now) }
 {
     for part in parts {
-        if !tell_result(alloc, part, scene, texts)? {
+        if !report_result(alloc, part, scene, texts)? {
             return Ok(false);
         }
     }
@@ -88,7 +88,7 @@ fn tell_results(
 }
 
 /// Adds the texts of the keys of a rule, up to the first that stops it, and returns whether all let it go on.
-fn tell_keys<L: Lookup>(
+fn report_keys<L: Lookup>(
     alloc: Global,
     rule: &Rule,
     lookup: &L,
@@ -96,26 +96,26 @@ fn tell_keys<L: Lookup>(
     texts: &mut Vec<Bytes>,
 ) -> Result<bool, AllocError>
     ensures scene { IfOk result (λ on. (scene.new, on) ≡ before_sets (L.entries lookup.now) rule.now scene.old) }
-    ensures texts { OnOk result (texts.new.items ≡ texts.old.items ++ keys_told (L.entries lookup.now) rule.now scene.old) }
+    ensures texts { OnOk result (texts.new.items ≡ texts.old.items ++ key_reports (L.entries lookup.now) rule.now scene.old) }
     ensures event { scene.new.state.event ≡ scene.old.state.event }
 {
-    if !tell_event(alloc, rule, rule.plain(), scene, texts)? {
+    if !report_event(alloc, rule, rule.plain(), scene, texts)? {
         return Ok(false);
     }
-    if !tell_search(alloc, rule.up(), scene, texts)? {
+    if !report_search(alloc, rule.up(), scene, texts)? {
         return Ok(false);
     }
-    if !tell_acts(alloc, rule, rule.acts(), lookup, scene, texts)? {
+    if !report_acts(alloc, rule, rule.acts(), lookup, scene, texts)? {
         return Ok(false);
     }
-    tell_results(alloc, rule.results(), scene, texts)
+    report_results(alloc, rule.results(), scene, texts)
 }
 
 /// How a rule in which nothing counts for the event ends.
-fn idle_end(goes_on: bool) -> &'static [u8]
-    ensures { result.now ≡ idle_end goes_on }
+fn idle_end(proceeds: bool) -> &'static [u8]
+    ensures { result.now ≡ idle_end proceeds }
 {
-    if goes_on {
+    if proceeds {
         b"nothing in it counts for this device"
     } else {
         b"stops there"
@@ -123,7 +123,7 @@ fn idle_end(goes_on: bool) -> &'static [u8]
 }
 
 /// Skips a rule in which nothing counts for the event, and adds the texts of its keys and of how it ends.
-fn tell_idle<'a, L: Lookup>(
+fn report_idle<'a, L: Lookup>(
     alloc: Global,
     rule: &'a Rule,
     lookup: &L,
@@ -132,14 +132,14 @@ fn tell_idle<'a, L: Lookup>(
 ) -> Result<(), AllocError>
     requires { is_idle rule.now scene.old.state.event ≡ true }
     ensures scene { OnOk result ((scene.new, false) ≡ only_noted (L.entries lookup.now) rule.now scene.old) }
-    ensures texts { OnOk result (texts.new.items ≡ texts.old.items ++ idle_told (L.entries lookup.now) rule.now scene.old) }
+    ensures texts { OnOk result (texts.new.items ≡ texts.old.items ++ idle_reports (L.entries lookup.now) rule.now scene.old) }
     ensures refused { OnErr result (scene.new.state.event ≡ scene.old.state.event) }
 {
     let selected = scene.state.selected;
     let finals = scene.finals;
-    let goes_on = tell_keys(alloc, rule, lookup, scene, texts)?;
-    texts.push(Bytes::copy_of(alloc, idle_end(goes_on))?)?;
-    note_all(alloc, rule, goes_on, scene)?;
+    let proceeds = report_keys(alloc, rule, lookup, scene, texts)?;
+    texts.push(Bytes::copy_of(alloc, idle_end(proceeds))?)?;
+    note_all(alloc, rule, proceeds, scene)?;
     scene.state.selected = selected;
     scene.finals = finals;
     Ok(())
@@ -147,7 +147,7 @@ fn tell_idle<'a, L: Lookup>(
 
 /// Evaluates a rule in which something counts, adds the texts of its keys and of how it ends, and returns whether
 /// its end was reached.
-fn tell_steps<'a, L: Lookup>(
+fn report_steps<'a, L: Lookup>(
     alloc: Global,
     rule: &'a Rule,
     lookup: &L,
@@ -156,20 +156,20 @@ fn tell_steps<'a, L: Lookup>(
     texts: &mut Vec<Bytes>,
 ) -> Result<bool, AllocError>
     ensures scene { IfOk result (λ on. (scene.new, on) ≡ steps (L.entries lookup.now) rule.now scene.old) }
-    ensures texts { OnOk result (texts.new.items ≡ texts.old.items ++ steps_told (L.entries lookup.now) since.now rule.now scene.old) }
+    ensures texts { OnOk result (texts.new.items ≡ texts.old.items ++ step_reports (L.entries lookup.now) since.now rule.now scene.old) }
     ensures refused { OnErr result (scene.new.state.event ≡ scene.old.state.event) }
 {
-    if !tell_keys(alloc, rule, lookup, scene, texts)? {
+    if !report_keys(alloc, rule, lookup, scene, texts)? {
         texts.push(Bytes::copy_of(alloc, b"stops there")?)?;
         return Ok(false);
     }
-    texts.push(end_told(alloc, rule, since, scene)?)?;
+    texts.push(end_and_report(alloc, rule, since, scene)?)?;
     Ok(true)
 }
 
 /// Evaluates a rule, adds the texts of its course, and returns whether its end was reached.
 #[tactic(auto, using(crate::proofs::Ending::idle_comes, crate::proofs::Ending::steps_come, crate::proofs::Ending::idle_course, crate::proofs::Ending::steps_course))]
-fn tell_rule<'a, L: Lookup>(
+fn report_rule<'a, L: Lookup>(
     alloc: Global,
     rule: &'a Rule,
     lookup: &L,
@@ -182,10 +182,10 @@ fn tell_rule<'a, L: Lookup>(
     ensures refused { OnErr result (scene.new.state.event ≡ scene.old.state.event) }
 {
     if is_idle(rule, scene.state.event.event()) {
-        tell_idle(alloc, rule, lookup, scene, texts)?;
+        report_idle(alloc, rule, lookup, scene, texts)?;
         return Ok(false);
     }
-    tell_steps(alloc, rule, lookup, since, scene, texts)
+    report_steps(alloc, rule, lookup, since, scene, texts)
 }
 
 /// Evaluates a rule as `apply` does, and returns its course: a text for each key that was reached, with what it
@@ -199,7 +199,7 @@ fn tell_rule<'a, L: Lookup>(
 /// which rule each key is final.
 ///
 /// If memory runs out, nothing is left of the scene but its event.
-pub fn tell_course<'a, L: Lookup>(
+pub fn report_course<'a, L: Lookup>(
     alloc: Global,
     rule: &'a Rule,
     lookup: &L,
@@ -211,7 +211,7 @@ pub fn tell_course<'a, L: Lookup>(
     ensures refused { OnErr result (scene.new ≡ blank scene.old.state.event) }
 {
     let mut texts = Vec::new(alloc);
-    match tell_rule(alloc, rule, lookup, since, scene, &mut texts) {
+    match report_rule(alloc, rule, lookup, since, scene, &mut texts) {
         Ok(reached) => Ok(Course { texts, reached }),
         Err(refused) => {
             scene.clear(alloc);

@@ -1,9 +1,9 @@
 //! How a key of a rule is written.
 ghost use Rattle.std.specs.Prelude.{◌≡◌, ◌++◌, OnOk};
-ghost use Rattle.eval_courses.specs.Keys.{act_key, case_mark, comparison_text, operator_text, plain_key, result_key, up_key, value_of_deed, value_of_import, wanted_text};
+ghost use Rattle.eval_courses.specs.Keys.{act_key, case_mark, comparison_text, operator_text, plain_key, result_key, up_key, value_of_act_kind, value_of_import, wanted_text};
 
 use eval_effects::{push_key, push_shortened};
-use rule_types::{Act, Comparison, Deed, Import, Key, MatchOperator, PlainMatch, UpMatch};
+use rule_types::{Act, ActKind, Comparison, Import, Key, MatchOperator, PlainMatch, UpMatch};
 use std::alloc::{AllocError, Global};
 
 /// The operator of a match.
@@ -106,13 +106,13 @@ fn value_of_import(from: &Import) -> &[u8]
 }
 
 /// The value of an act as it was given.
-fn value_of_deed(deed: &Deed) -> &[u8]
-    ensures { result.now ≡ value_of_deed deed.now }
+fn value_of_act_kind(act_kind: &ActKind) -> &[u8]
+    ensures { result.now ≡ value_of_act_kind act_kind.now }
 {
-    match deed {
-        Deed::Test(_, template) => template.written(),
-        Deed::Program(template) => template.written(),
-        Deed::Import(from) => value_of_import(from),
+    match act_kind {
+        ActKind::Test(_, template) => template.written(),
+        ActKind::Program(template) => template.written(),
+        ActKind::Import(from) => value_of_import(from),
     }
 }
 
@@ -120,6 +120,12 @@ fn value_of_deed(deed: &Deed) -> &[u8]
 pub(crate) fn push_act_key(alloc: Global, text: &mut Vec<u8>, act: &Act) -> Result<(), AllocError>
     ensures { OnOk result (text.new.items ≡ text.old.items ++ act_key act.now) }
 {
-    push_key(alloc, text, act.deed.key(), act.deed.attribute())?;
-    push_wanted(alloc, text, act.operator, false, value_of_deed(&act.deed))
+    push_key(alloc, text, act.kind.key(), act.kind.attribute())?;
+    push_wanted(
+        alloc,
+        text,
+        act.operator,
+        false,
+        value_of_act_kind(&act.kind),
+    )
 }

@@ -11,7 +11,7 @@ ghost use Rattle.eval_rules.specs.Idle.{is_idle};
 ghost use Rattle.eval_rules.specs.Steps.{apply, before_sets};
 ghost use Rattle.eval_effects.specs.Since as finals;
 ghost use Rattle.eval_courses.specs.Courses.{course};
-ghost use Rattle.eval_courses.specs.Upward.{name_at, search_told};
+ghost use Rattle.eval_courses.specs.Upward.{name_at, search_reports};
 ghost use Rattle.eval_courses.specs.Laws.{last_of};
 
 /// The last text of a course is `stops there` exactly if the rule's end was not reached, unless the rule is
@@ -21,16 +21,16 @@ pub fn course_ends_as_its_rule()
 {}
 
 /// The last text of the course of a rule that is skipped says so exactly if all its keys let it go on.
-pub fn course_tells_what_is_passed_over()
+pub fn course_says_what_is_skipped()
     ensures { (entries : List Entry) (since : finals.Since) (r : rules.Rule) (s : Scene) → is_idle r s.state.event ≡ true → (last_of (course entries since r s) ≡ Some (codes "nothing in it counts for this device")) ↔ ((before_sets entries r s).1 ≡ true) }
 {}
 
 /// What is reported for a search names the nearest device that meets all of the matches.
 pub fn search_names_the_first_to_meet()
-    ensures { (part : UpMatch) (parts : List UpMatch) (state : State) (place : ℕ) → IsFirstToMeet (part ∷ parts) state place → last_of (search_told (part ∷ parts) state) ≡ Some (name_at state place ++ codes " meets all") }
+    ensures { (part : UpMatch) (parts : List UpMatch) (state : State) (place : ℕ) → IsFirstToMeet (part ∷ parts) state place → last_of (search_reports (part ∷ parts) state) ≡ Some (name_at state place ++ codes " meets all") }
 {}
 
 /// What is reported for a search that finds none begins with `no device meets `.
 pub fn search_names_no_device_where_none_meets()
-    ensures { (part : UpMatch) (parts : List UpMatch) (state : State) → NoneMeets (part ∷ parts) state → (rest : Text) × (last_of (search_told (part ∷ parts) state) ≡ Some (codes "no device meets " ++ rest)) }
+    ensures { (part : UpMatch) (parts : List UpMatch) (state : State) → NoneMeets (part ∷ parts) state → (rest : Text) × (last_of (search_reports (part ∷ parts) state) ≡ Some (codes "no device meets " ++ rest)) }
 {}

@@ -17,7 +17,7 @@ mod properties;
 mod subjects;
 mod upward;
 
-pub use course::{Course, tell_course};
+pub use course::{Course, report_course};
 pub use laws::{
     course_ends_as_its_rule, search_names_no_device_where_none_meets,
     search_names_the_first_to_meet,

@@ -1,7 +1,7 @@
 //! Which properties are there only after an act.
 ghost use Rattle.std.specs.Prelude.{◌≡◌, ◌++◌, IfOk, OnOk, map};
-ghost use Rattle.eval_effects.specs.Items.{stands};
-ghost use Rattle.eval_courses.specs.Acts.{newly_set, property_told, set_told};
+ghost use Rattle.eval_effects.specs.Items.{is_present};
+ghost use Rattle.eval_courses.specs.Acts.{newly_set, property_report, set_report};
 
 use eval_effects::{push_joined, push_shown};
 use std::alloc::{AllocError, Global};
@@ -20,8 +20,8 @@ pub(crate) fn copied(alloc: Global, properties: &OwnedPairs) -> Result<OwnedPair
 }
 
 /// Whether a property is among others with its value.
-fn stands(properties: &OwnedPairs, name: &[u8], value: &[u8]) -> bool
-    ensures { result ≡ stands (name.now, value.now) properties.now }
+fn is_present(properties: &OwnedPairs, name: &[u8], value: &[u8]) -> bool
+    ensures { result ≡ is_present (name.now, value.now) properties.now }
 {
     match properties.get(name) {
         Some(kept) => kept.as_slice() == value,
@@ -30,9 +30,9 @@ fn stands(properties: &OwnedPairs, name: &[u8], value: &[u8]) -> bool
 }
 
 /// A property as it is reported.
-#[tactic(auto, unfolding(crate::specs::Acts::property_told))]
-fn property_told(alloc: Global, name: &[u8], value: &[u8]) -> Result<Bytes, AllocError>
-    ensures { IfOk result (λ text. text ≡ property_told (name.now, value.now)) }
+#[tactic(auto, unfolding(crate::specs::Acts::property_report))]
+fn property_report(alloc: Global, name: &[u8], value: &[u8]) -> Result<Bytes, AllocError>
+    ensures { IfOk result (λ text. text ≡ property_report (name.now, value.now)) }
 {
     let mut text = Vec::new(alloc);
     push_shown(alloc, &mut text, name)?;
@@ -47,12 +47,12 @@ pub(crate) fn newly_set(
     before: &OwnedPairs,
     now: &OwnedPairs,
 ) -> Result<Vec<Bytes>, AllocError>
-    ensures { IfOk result (λ texts. texts.items ≡ map property_told (newly_set before.now now.now)) }
+    ensures { IfOk result (λ texts. texts.items ≡ map property_report (newly_set before.now now.now)) }
 {
     let mut texts = Vec::new(alloc);
     for (name, value) in now.as_map().iter() {
-        if !stands(before, name, value.as_slice()) {
-            texts.push(property_told(alloc, name, value.as_slice())?)?;
+        if !is_present(before, name, value.as_slice()) {
+            texts.push(property_report(alloc, name, value.as_slice())?)?;
         }
     }
     Ok(texts)
@@ -60,7 +60,7 @@ pub(crate) fn newly_set(
 
 /// Appends to a text which properties were set.
 pub(crate) fn push_set(text: &mut Vec<u8>, properties: &[Bytes]) -> Result<(), AllocError>
-    ensures { OnOk result (text.new.items ≡ text.old.items ++ set_told properties.now) }
+    ensures { OnOk result (text.new.items ≡ text.old.items ++ set_report properties.now) }
 {
     if properties.is_empty() {
         return text.extend_from_slice(b"sets nothing");

@@ -2,10 +2,10 @@
 ghost use Rattle.std.specs.Prelude.{◌≡◌, ◌++◌, OnOk, map, option_map};
 ghost use Rattle.eval_state.specs.Chains.{device_at, kernel_of};
 ghost use Rattle.eval_state.specs.Texts.{or_empty};
-ghost use Rattle.eval_matching.specs.Lent.{lent_subject};
+ghost use Rattle.eval_matching.specs.Borrowed.{borrowed_subject};
 ghost use Rattle.eval_matching.specs.Subjects.{members_by, named_constant, plain_subject, tags_at, up_subject};
 ghost use Rattle.eval_courses.specs.Inner.{subject_of};
-ghost use Rattle.eval_courses.specs.Looks.{looked, members_told, value_told};
+ghost use Rattle.eval_courses.specs.Looks.{looked, members_report, value_report};
 ghost use Rattle.eval_courses.specs.Upward.{is_absent};
 
 use eval_effects::push_shown;
@@ -16,6 +16,7 @@ use eval_state::State;
 use rule_types::{PlainKey, UpKey};
 use std::alloc::{AllocError, Global};
 use text_bytes::Profile;
+use text_tables::Pairs;
 
 /// What a match looks at.
 #[derive(Drop)]
@@ -38,12 +39,19 @@ pub(crate) enum Subject<'s, 'a> {
     Unread,
 }
 
+/// The constants of the event.
+fn constants_of<'s, 'a>(state: &'s State<'a>) -> &'s Pairs<'a>
+    ensures { result.now ≡ state.now.event.constants }
+{
+    state.event.event().constants()
+}
+
 /// What a match of a constant looks at.
 fn named_constant<'s, 'a>(name: &[u8], state: &'s State<'a>) -> Subject<'s, 'a>
     ensures { subject_of result ≡ named_constant name.now state.now }
 {
     if is_known_constant(name) {
-        Subject::Constant(state.event.event().constants().get(name))
+        Subject::Constant(constants_of(state).get(name))
     } else {
         Subject::Unknown
     }
@@ -66,19 +74,40 @@ fn profile_of(state: &State<'_>) -> Profile
     state.event.event().profile()
 }
 
+/// The action of the event.
+fn action_of<'s>(state: &'s State<'_>) -> &'s [u8]
+    ensures { result.now ≡ state.now.event.action }
+{
+    state.event.event().action()
+}
+
+/// The path of the event device.
+fn path_of<'s>(state: &'s State<'_>) -> &'s [u8]
+    ensures { result.now ≡ state.now.event.device.path }
+{
+    state.event.device().path()
+}
+
+/// The links as rules left them.
+fn links_of<'s, 'a>(state: &'s State<'a>) -> Subject<'s, 'a>
+    ensures { subject_of result ≡ members_by state.now.event.profile state.now.links }
+{
+    Subject::Members(profile_of(state), state.links.as_slice())
+}
+
 /// What a match of the event looks at.
 pub(crate) fn plain_subject<'s, 'a>(key: &PlainKey, state: &'s State<'a>) -> Subject<'s, 'a>
     ensures { subject_of result ≡ plain_subject key.now state.now }
 {
     match key {
-        PlainKey::Action => Subject::One(state.event.event().action()),
-        PlainKey::Devpath => Subject::One(state.event.device().path()),
+        PlainKey::Action => Subject::One(action_of(state)),
+        PlainKey::Devpath => Subject::One(path_of(state)),
         PlainKey::Kernel => Subject::One(state.event.kernel()),
         PlainKey::Subsystem => Subject::Subsystem(profile_of(state), subsystem_at(state, 0)),
         PlainKey::Driver => Subject::One(driver_at(state, 0)),
         PlainKey::Name => Subject::One(assigned_name(state)),
-        PlainKey::Symlink => Subject::Members(profile_of(state), state.links.as_slice()),
-        PlainKey::Tag => Subject::Members(profile_of(state), state.tags.as_slice()),
+        PlainKey::Symlink => links_of(state),
+        PlainKey::Tag => tags_at(state, 0),
         PlainKey::Attr(name) => Subject::Attribute(event_attribute(state, name.as_slice())),
         PlainKey::Sysctl(_) => Subject::Unread,
         PlainKey::Env(name) => Subject::One(state.property(name.as_slice())),
@@ -121,7 +150,7 @@ pub(crate) fn up_subject<'s, 'a>(key: &UpKey, state: &'s State<'a>, place: usize
 
 /// Whether an attribute is absent.
 fn has_none(attribute: &Attribute<'_>) -> bool
-    ensures { result ≡ is_absent (lent_subject attribute.now) }
+    ensures { result ≡ is_absent (borrowed_subject attribute.now) }
 {
     match attribute {
         Attribute::Manual(value) | Attribute::Udev(value) => value.is_none(),
@@ -141,7 +170,7 @@ pub(crate) fn is_absent(subject: &Subject<'_, '_>) -> bool
 
 /// Appends a text that may be absent to another.
 fn push_value(alloc: Global, text: &mut Vec<u8>, value: Option<&[u8]>) -> Result<(), AllocError>
-    ensures { OnOk result (text.new.items ≡ text.old.items ++ value_told (option_map (λ t. t.now) value.entry)) }
+    ensures { OnOk result (text.new.items ≡ text.old.items ++ value_report (option_map (λ t. t.now) value.entry)) }
 {
     match value {
         Some(value) => push_shown(alloc, text, value),
@@ -151,7 +180,7 @@ fn push_value(alloc: Global, text: &mut Vec<u8>, value: Option<&[u8]>) -> Result
 
 /// Appends texts as rules left them to a text, with spaces between.
 fn push_members(alloc: Global, text: &mut Vec<u8>, members: &[Vec<u8>]) -> Result<(), AllocError>
-    ensures { OnOk result (text.new.items ≡ text.old.items ++ members_told (map (λ t. t.items) members.now)) }
+    ensures { OnOk result (text.new.items ≡ text.old.items ++ members_report (map (λ t. t.items) members.now)) }
 {
     let Some((first, others)) = members.split_first() else {
         return text.extend_from_slice(b"none");
@@ -166,7 +195,7 @@ fn push_members(alloc: Global, text: &mut Vec<u8>, members: &[Vec<u8>]) -> Resul
 
 /// Appends texts as the event gave them to a text, with spaces between.
 fn push_given(alloc: Global, text: &mut Vec<u8>, members: &[&[u8]]) -> Result<(), AllocError>
-    ensures { OnOk result (text.new.items ≡ text.old.items ++ members_told (map (λ t. t.now) members.now)) }
+    ensures { OnOk result (text.new.items ≡ text.old.items ++ members_report (map (λ t. t.now) members.now)) }
 {
     let Some((first, others)) = members.split_first() else {
         return text.extend_from_slice(b"none");
@@ -185,7 +214,7 @@ fn push_attribute(
     text: &mut Vec<u8>,
     attribute: &Attribute<'_>,
 ) -> Result<(), AllocError>
-    ensures { OnOk result (text.new.items ≡ text.old.items ++ looked (lent_subject attribute.now)) }
+    ensures { OnOk result (text.new.items ≡ text.old.items ++ looked (borrowed_subject attribute.now)) }
 {
     match attribute {
         Attribute::Manual(value) | Attribute::Udev(value) => push_value(alloc, text, *value),

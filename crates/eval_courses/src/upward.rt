@@ -5,7 +5,7 @@ ghost use Rattle.device_core.specs.Values.{chain};
 ghost use Rattle.eval_matching.specs.Subjects.{found_place, holds_at, up_subject};
 ghost use Rattle.eval_rules.specs.Steps.{search};
 ghost use Rattle.eval_courses.specs.Inner.{subject_of};
-ghost use Rattle.eval_courses.specs.Upward.{device_told, found_told, hits, met_at, name_at, partly, partly_told, places, search_told, unmet, up_told};
+ghost use Rattle.eval_courses.specs.Upward.{device_report, found_report, hits, met_at, name_at, partial_report, partly, places, search_reports, unmet, up_report};
 
 use crate::keys::push_up_key;
 use crate::subjects::{Subject, is_absent, kernel_at, push_looked, up_subject};
@@ -62,14 +62,14 @@ fn push_met_at(
 }
 
 /// The device at a place, and what a match met at it.
-#[tactic(auto, unfolding(crate::specs::Upward::device_told))]
-fn device_told(
+#[tactic(auto, unfolding(crate::specs::Upward::device_report))]
+fn device_report(
     alloc: Global,
     part: &UpMatch,
     state: &State<'_>,
     place: usize,
 ) -> Result<Bytes, AllocError>
-    ensures { IfOk result (λ text. text ≡ device_told part.now state.now place) }
+    ensures { IfOk result (λ text. text ≡ device_report part.now state.now place) }
 {
     let mut text = Vec::new(alloc);
     push_name(alloc, &mut text, state, place)?;
@@ -85,25 +85,29 @@ fn device_count(state: &State<'_>) -> usize
 }
 
 /// Each device of the chain, and what a match met at it.
-fn devices_told(alloc: Global, part: &UpMatch, state: &State<'_>) -> Result<Vec<Bytes>, AllocError>
-    ensures { IfOk result (λ texts. texts.items ≡ map (device_told part.now state.now) (places state.now)) }
+fn device_reports(
+    alloc: Global,
+    part: &UpMatch,
+    state: &State<'_>,
+) -> Result<Vec<Bytes>, AllocError>
+    ensures { IfOk result (λ texts. texts.items ≡ map (device_report part.now state.now) (places state.now)) }
 {
     let mut texts = Vec::new(alloc);
     for place in 0..device_count(state) {
-        texts.push(device_told(alloc, part, state, place)?)?;
+        texts.push(device_report(alloc, part, state, place)?)?;
     }
     Ok(texts)
 }
 
 /// A match of one device, and what it met.
-#[tactic(auto, unfolding(crate::specs::Upward::up_told))]
-fn up_told(alloc: Global, part: &UpMatch, state: &State<'_>) -> Result<Bytes, AllocError>
-    ensures { IfOk result (λ text. text ≡ up_told part.now state.now) }
+#[tactic(auto, unfolding(crate::specs::Upward::up_report))]
+fn up_report(alloc: Global, part: &UpMatch, state: &State<'_>) -> Result<Bytes, AllocError>
+    ensures { IfOk result (λ text. text ≡ up_report part.now state.now) }
 {
     let mut text = Vec::new(alloc);
     push_up_key(alloc, &mut text, part)?;
     text.extend_from_slice(b": ")?;
-    push_joined(&mut text, &devices_told(alloc, part, state)?)?;
+    push_joined(&mut text, &device_reports(alloc, part, state)?)?;
     Ok(Bytes::new(text))
 }
 
@@ -121,14 +125,14 @@ fn hits(parts: &[UpMatch], state: &State<'_>, place: usize) -> usize
 }
 
 /// The device at a place, and how many of the matches it meets.
-#[tactic(auto, unfolding(crate::specs::Upward::partly_told))]
-fn partly_told(
+#[tactic(auto, unfolding(crate::specs::Upward::partial_report))]
+fn partial_report(
     alloc: Global,
     parts: &[UpMatch],
     state: &State<'_>,
     place: usize,
 ) -> Result<Bytes, AllocError>
-    ensures { IfOk result (λ text. text ≡ partly_told parts.now state.now place) }
+    ensures { IfOk result (λ text. text ≡ partial_report parts.now state.now place) }
 {
     let mut text = Vec::new(alloc);
     push_name(alloc, &mut text, state, place)?;
@@ -152,17 +156,17 @@ fn some_hold(parts: &[UpMatch], state: &State<'_>, place: usize) -> bool
 }
 
 /// The devices that meet some of the matches, from the farthest on.
-fn partly_all_told(
+fn partial_reports(
     alloc: Global,
     parts: &[UpMatch],
     state: &State<'_>,
 ) -> Result<Vec<Bytes>, AllocError>
-    ensures { IfOk result (λ texts. texts.items ≡ map (partly_told parts.now state.now) (partly parts.now state.now)) }
+    ensures { IfOk result (λ texts. texts.items ≡ map (partial_report parts.now state.now) (partly parts.now state.now)) }
 {
     let mut texts = Vec::new(alloc);
     for place in (0..device_count(state)).rev() {
         if some_hold(parts, state, place) {
-            texts.push(partly_told(alloc, parts, state, place)?)?;
+            texts.push(partial_report(alloc, parts, state, place)?)?;
         }
     }
     Ok(texts)
@@ -180,8 +184,8 @@ fn push_unmet(text: &mut Vec<u8>, devices: &[Bytes]) -> Result<(), AllocError>
 }
 
 /// The outcome of the search.
-fn found_told(alloc: Global, parts: &[UpMatch], state: &State<'_>) -> Result<Bytes, AllocError>
-    ensures { IfOk result (λ text. text ≡ found_told parts.now state.now (found_place parts.now state.now)) }
+fn found_report(alloc: Global, parts: &[UpMatch], state: &State<'_>) -> Result<Bytes, AllocError>
+    ensures { IfOk result (λ text. text ≡ found_report parts.now state.now (found_place parts.now state.now)) }
 {
     let mut text = Vec::new(alloc);
     match found_place(parts, state) {
@@ -191,43 +195,43 @@ fn found_told(alloc: Global, parts: &[UpMatch], state: &State<'_>) -> Result<Byt
         }
         None => {
             text.extend_from_slice(b"no device meets ")?;
-            push_unmet(&mut text, &partly_all_told(alloc, parts, state)?)?;
+            push_unmet(&mut text, &partial_reports(alloc, parts, state)?)?;
         }
     }
     Ok(Bytes::new(text))
 }
 
 /// Adds the text of each match of one device.
-fn tell_each(
+fn report_each(
     alloc: Global,
     parts: &[UpMatch],
     state: &State<'_>,
     texts: &mut Vec<Bytes>,
 ) -> Result<(), AllocError>
-    ensures { OnOk result (texts.new.items ≡ texts.old.items ++ map (λ part. up_told part state.now) parts.now) }
+    ensures { OnOk result (texts.new.items ≡ texts.old.items ++ map (λ part. up_report part state.now) parts.now) }
 {
     for part in parts {
-        texts.push(up_told(alloc, part, state)?)?;
+        texts.push(up_report(alloc, part, state)?)?;
     }
     Ok(())
 }
 
 /// Searches for one device, and adds the texts of the search: each of its matches, and its outcome.
-#[tactic(auto, unfolding(crate::specs::Upward::search_told))]
-pub(crate) fn tell_search(
+#[tactic(auto, unfolding(crate::specs::Upward::search_reports))]
+pub(crate) fn report_search(
     alloc: Global,
     parts: &[UpMatch],
     scene: &mut Scene<'_>,
     texts: &mut Vec<Bytes>,
 ) -> Result<bool, AllocError>
     ensures scene { IfOk result (λ on. (scene.new, on) ≡ search parts.now scene.old) }
-    ensures texts { OnOk result (texts.new.items ≡ texts.old.items ++ search_told parts.now scene.old.state) }
+    ensures texts { OnOk result (texts.new.items ≡ texts.old.items ++ search_reports parts.now scene.old.state) }
     ensures event { scene.new.state.event ≡ scene.old.state.event }
 {
     if parts.is_empty() {
         return Ok(true);
     }
-    tell_each(alloc, parts, &scene.state, texts)?;
-    texts.push(found_told(alloc, parts, &scene.state)?)?;
+    report_each(alloc, parts, &scene.state, texts)?;
+    texts.push(found_report(alloc, parts, &scene.state)?)?;
     Ok(search(parts, scene))
 }

@@ -6,14 +6,14 @@ use Rattle.eval_state.specs.declared.finals.FinalKey.{FinalKey}
 use Rattle.eval_state.specs.declared.finals.FinalKey.TheVariants as key
 use Rattle.eval_state.specs.declared.finals.Finals.{Finals}
 use Rattle.std.specs.List.{fold}
-use Rattle.eval_effects.specs.Since.{Since, no_since, since_behind, since_either, since_of, since_over}
+use Rattle.eval_effects.specs.Since.{Since, no_since, since_after, since_either, since_of, since_over}
 
 -- the rule that is known, or else another one
 first_of : Option Rule → Option Rule → Option Rule
 first_of (Some r) later = Some r
 first_of None later = later
 
-one : (since : Since) (r : Rule) (finals : Finals) (k : FinalKey) → since_of (since_behind since r finals) k ≡ since_either (since_of since k) (is_final finals k) r
+one : (since : Since) (r : Rule) (finals : Finals) (k : FinalKey) → since_of (since_after since r finals) k ≡ since_either (since_of since k) (is_final finals k) r
 one since r finals key.Owner = refl
 one since r finals key.Group = refl
 one since r finals key.Mode = refl
@@ -38,15 +38,15 @@ module _ (k : FinalKey) where
   abbrev among : List (Rule × Finals) → Option Rule
   among stages = option_map (λ stage. stage.0) (find (λ stage. is_final stage.1 k) stages)
 
-  behind : (since : Since) (stages : List (Rule × Finals)) → since_of (fold (λ known stage. since_behind known stage.0 stage.1) since stages) k ≡ first_of (since_of since k) (among stages)
+  following : (since : Since) (stages : List (Rule × Finals)) → since_of (fold (λ known stage. since_after known stage.0 stage.1) since stages) k ≡ first_of (since_of since k) (among stages)
   unfolding first_of
-  behind since [] = by (since_of since k)
+  following since [] = by (since_of since k)
     where
       by : (known : Option Rule) → known ≡ first_of known None
       by None = refl
       by (Some r) = refl
-  behind since (stage ∷ stages) =
-      behind (since_behind since stage.0 stage.1) stages
+  following since (stage ∷ stages) =
+      following (since_after since stage.0 stage.1) stages
       ∙ ap (λ known. first_of known (among stages)) (one since stage.0 stage.1 k)
       ∙ by (since_of since k) (is_final stage.1 k)
     where
@@ -56,6 +56,6 @@ module _ (k : FinalKey) where
       by None true = refl
       by None false = refl
 
-pub first_behind : (stages : List (Rule × Finals)) (k : FinalKey) → since_of (since_over stages) k ≡ option_map (λ stage. stage.0) (find (λ stage. is_final stage.1 k) stages)
+pub first_after : (stages : List (Rule × Finals)) (k : FinalKey) → since_of (since_over stages) k ≡ option_map (λ stage. stage.0) (find (λ stage. is_final stage.1 k) stages)
 unfolding first_of
-first_behind stages k = behind k no_since stages ∙ ap (λ known. first_of known (among k stages)) (none k)
+first_after stages k = following k no_since stages ∙ ap (λ known. first_of known (among k stages)) (none k)

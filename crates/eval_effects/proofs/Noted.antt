@@ -25,24 +25,24 @@ use Rattle.eval_assignments.specs.Escapes.{escape_of}
 use Rattle.eval_assignments.specs.Finality.{final_target, finally, is_settled}
 use Rattle.eval_assignments.specs.Steps.{emptied, finally_too_long, is_ignored, set_step, step_by, text_rendered, text_set, text_step}
 use Rattle.eval_effects.specs.Effects.{note_left}
-use Rattle.eval_effects.specs.Laws.{TellsIgnored, TellsNone, TellsPassedOver, TellsTooLong, is_passed_over, rendered_of}
+use Rattle.eval_effects.specs.Laws.{ReportsIgnored, ReportsNone, ReportsSkipped, ReportsTooLong, is_skipped, rendered_of}
 
-none_behind : (notes : List Note) → slice_get notes (length notes) ≡ None
-none_behind [] = refl
-none_behind (note ∷ notes) = none_behind notes
+none_after : (notes : List Note) → slice_get notes (length notes) ≡ None
+none_after [] = refl
+none_after (note ∷ notes) = none_after notes
 
-one_behind : (notes : List Note) (last : Note) → slice_get (notes ++ last ∷ []) (length notes) ≡ Some last
-one_behind [] last = refl
-one_behind (note ∷ notes) last = one_behind notes last
+one_after : (notes : List Note) (last : Note) → slice_get (notes ++ last ∷ []) (length notes) ≡ Some last
+one_after [] last = refl
+one_after (note ∷ notes) last = one_after notes last
 
-pub tells_none : TellsNone
-tells_none s t same = ap (λ notes. option_map (λ (note : Note). note.kind) (slice_get notes (length s.notes))) same ∙ ap (option_map (λ (note : Note). note.kind)) (none_behind s.notes)
+pub reports_none : ReportsNone
+reports_none s t same = ap (λ notes. option_map (λ (note : Note). note.kind) (slice_get notes (length s.notes))) same ∙ ap (option_map (λ (note : Note). note.kind)) (none_after s.notes)
 
 -- a note that follows those that there were
-told : (kind : NoteKind) (word : Text) (r : Rule) (s t : Scene) → t.notes ≡ s.notes ++ note_about r kind word ∷ [] → note_left (length s.notes) t ≡ Some kind
-told kind word r s t e =
+reported : (kind : NoteKind) (word : Text) (r : Rule) (s t : Scene) → t.notes ≡ s.notes ++ note_about r kind word ∷ [] → note_left (length s.notes) t ≡ Some kind
+reported kind word r s t e =
     ap (λ notes. option_map (λ (note : Note). note.kind) (slice_get notes (length s.notes))) e
-    ∙ ap (option_map (λ (note : Note). note.kind)) (one_behind s.notes (note_about r kind word))
+    ∙ ap (option_map (λ (note : Note). note.kind)) (one_after s.notes (note_about r kind word))
 
 same_finally : (o : AssignOperator) (k : Option FinalKey) (s : Scene) → (finally o k s).notes ≡ s.notes
 same_finally AssignFinal None s = refl
@@ -69,8 +69,8 @@ module _ (r : Rule) (o : AssignOperator) (about : Target) (template : Template) 
   same_before Manual s = refl
   same_before Udev s = same_emptied o about s
 
-  -- an assignment of a text that is not passed over
-  step_over : (profile : Profile) (s : Scene) → is_passed_over profile about s ≡ false
+  -- an assignment of a text that is not skipped
+  step_over : (profile : Profile) (s : Scene) → is_skipped profile about s ≡ false
       → text_step profile r o about template s ≡ text_set profile r (escape_of r.sets) o about template.written (rendered_of profile r o about template s) (before profile s)
   unfolding before
   step_over Manual s free = refl
@@ -84,10 +84,10 @@ module _ (r : Rule) (o : AssignOperator) (about : Target) (template : Template) 
       ∙ same_too_long profile o about (noted r TextTooLong (word_of_key (key_of_target about) (attribute_of_target about)) (before profile s))
       ∙ ap (λ notes. notes ++ note_about r TextTooLong (word_of_key (key_of_target about) (attribute_of_target about)) ∷ []) (same_before profile s)
 
-  passed_over : (profile : Profile) (s : Scene) → is_passed_over profile about s ≡ true
+  skipped : (profile : Profile) (s : Scene) → is_skipped profile about s ≡ true
       → text_step profile r o about template s ≡ noted_key r NoDeviceNumber (key_of_target about) (attribute_of_target about) s
-  passed_over Manual s over = cc
-  passed_over Udev s over =
+  skipped Manual s over = cc
+  skipped Udev s over =
       ap (λ b. cond b (noted_key r NoDeviceNumber (key_of_target about) (attribute_of_target about) s) (text_rendered Udev r o about template (emptied o about s))) over
 
   step_free : (s : Scene) → is_settled (final_target about) s.finals ≡ false
@@ -105,23 +105,23 @@ module _ (r : Rule) (o : AssignOperator) (about : Target) (template : Template) 
       by AssignFinal target.Symlink = refl
       by o about = refl
 
-pub tells_passed_over : TellsPassedOver
-tells_passed_over r o about template s free over =
-    told NoDeviceNumber (word_of_key (key_of_target about) (attribute_of_target about)) r s (set_step r s (record { operator = o; change = change.Text about template }))
-    (ap (λ (u : Scene). u.notes) (step_free r o about template s free ∙ passed_over r o about template s.state.event.profile s over))
+pub reports_skipped : ReportsSkipped
+reports_skipped r o about template s free over =
+    reported NoDeviceNumber (word_of_key (key_of_target about) (attribute_of_target about)) r s (set_step r s (record { operator = o; change = change.Text about template }))
+    (ap (λ (u : Scene). u.notes) (step_free r o about template s free ∙ skipped r o about template s.state.event.profile s over))
 
-pub tells_too_long : TellsTooLong
-tells_too_long r o about template s free over long =
-    told TextTooLong (word_of_key (key_of_target about) (attribute_of_target about)) r s (set_step r s (record { operator = o; change = change.Text about template }))
+pub reports_too_long : ReportsTooLong
+reports_too_long r o about template s free over long =
+    reported TextTooLong (word_of_key (key_of_target about) (attribute_of_target about)) r s (set_step r s (record { operator = o; change = change.Text about template }))
     (too_long_notes r o about template s.state.event.profile s (set_step r s (record { operator = o; change = change.Text about template }))
     (step_free r o about template s free ∙ step_over r o about template s.state.event.profile s over
     ∙ ap (λ (given : Rendered). text_set s.state.event.profile r (escape_of r.sets) o about template.written given (before r o about template s.state.event.profile s)) long))
 
-pub tells_ignored : TellsIgnored
-tells_ignored r o about template s t free over made ignored =
+pub reports_ignored : ReportsIgnored
+reports_ignored r o about template s t free over made ignored =
     let profile : Profile = s.state.event.profile in
     let u : Scene = before r o about template profile s in
-    told NameIgnored t r s (set_step r s (record { operator = o; change = change.Text about template }))
+    reported NameIgnored t r s (set_step r s (record { operator = o; change = change.Text about template }))
     (ap (λ (u : Scene). u.notes)
     (step_free r o about template s free ∙ step_over r o about template profile s over
     ∙ ap (λ (given : Rendered). text_set profile r (escape_of r.sets) o about template.written given u) made

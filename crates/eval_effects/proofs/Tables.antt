@@ -30,16 +30,16 @@ removed_same now =
 -- what is reported by tables is what is reported by the items
 changes_same : (was now : List Pair) → flat_map (set_item (table_of was)) now ++ flat_map (removed_item (table_of now)) was ≡ item_changes was now
 changes_same was now =
-    ap (λ tell. flat_map tell now ++ flat_map (removed_item (table_of now)) was) (set_same was)
-    ∙ ap (λ tell. flat_map (set_item was) now ++ flat_map tell was) (removed_same now)
+    ap (λ report. flat_map report now ++ flat_map (removed_item (table_of now)) was) (set_same was)
+    ∙ ap (λ report. flat_map (set_item was) now ++ flat_map report was) (removed_same now)
 
 -- the same, one after another after what was reported before
-pub told_same : (start mid end : List Text) (was now was_table now_table : List Pair) → was_table ≡ table_of was → now_table ≡ table_of now
+pub reported_same : (start mid end : List Text) (was now was_table now_table : List Pair) → was_table ≡ table_of was → now_table ≡ table_of now
     → mid ≡ start ++ flat_map (set_item was_table) now → end ≡ mid ++ flat_map (removed_item now_table) was → end ≡ start ++ item_changes was now
-told_same start mid end was now was_table now_table w n first second =
+reported_same start mid end was now was_table now_table w n first second =
     second
-    ∙ ap (λ told. told ++ flat_map (removed_item now_table) was) first
+    ∙ ap (λ reported. reported ++ flat_map (removed_item now_table) was) first
     ∙ append_assoc start (flat_map (set_item was_table) now) (flat_map (removed_item now_table) was)
     ∙ ap (λ table. start ++ (flat_map (set_item table) now ++ flat_map (removed_item now_table) was)) w
     ∙ ap (λ table. start ++ (flat_map (set_item (table_of was)) now ++ flat_map (removed_item table) was)) n
-    ∙ ap (λ told. start ++ told) (changes_same was now)
+    ∙ ap (λ reported. start ++ reported) (changes_same was now)

@@ -1,4 +1,4 @@
--- The tags that were not taken away, one by one.
+-- The tags that were not removed, one by one.
 use Rattle.std.proofs.Common.{◌≡◌, Bool, true, false, cond, not, ◌||◌, List, [], ◌∷◌, ◌++◌, flat_map, codes, refl, ap, sym, ◌∙◌}
 use Rattle.std.specs.Cmp.Lexicographic.{bytes_decides}
 use Rattle.text_tables.specs.Texts.{Text, is_among, same_text, without_text}
@@ -6,8 +6,8 @@ use Rattle.eval_assignments.specs.Lists.{without_texts}
 use Rattle.eval_effects.specs.Inner.{tag_item}
 use Rattle.eval_effects.specs.Items.{item_name, text_items}
 
-turned : (a b : Text) → same_text a b ≡ same_text b a
-turned a b = by (same_text a b) (same_text b a) refl refl
+reversed : (a b : Text) → same_text a b ≡ same_text b a
+reversed a b = by (same_text a b) (same_text b a) refl refl
   where
     is_same : (c d : Text) → same_text c d ≡ true → c ≡ d
     is_same c d h = (bytes_decides c d).0 h
@@ -20,10 +20,10 @@ turned a b = by (same_text a b) (same_text b a) refl refl
     by false true e f = sym e ∙ same a b (sym (is_same b a f))
     by false false e f = refl
 
--- the first of some texts is left unless it was taken away
+-- the first of some texts is left unless it was removed
 first_left : (gone : List Text) (t : Text) (ts : List Text) → without_texts (t ∷ ts) gone ≡ cond (is_among gone t) (without_texts ts gone) (t ∷ without_texts ts gone)
 first_left [] t ts = refl
-first_left (g ∷ gone) t ts = by (same_text g t) (turned t g) (first_left gone t (without_text ts g))
+first_left (g ∷ gone) t ts = by (same_text g t) (reversed t g) (first_left gone t (without_text ts g))
   where
     by : (v : Bool) → same_text t g ≡ v
         → without_texts (t ∷ without_text ts g) gone ≡ cond (is_among gone t) (without_texts (without_text ts g) gone) (t ∷ without_texts (without_text ts g) gone)
@@ -33,14 +33,14 @@ first_left (g ∷ gone) t ts = by (same_text g t) (turned t g) (first_left gone 
         more
         ∙ ap (λ b. cond (b || is_among gone t) (without_texts (without_text ts g) gone) (t ∷ without_texts (without_text ts g) gone)) (sym e)
 
--- told one by one they are the tags that are left
-pub tags_told : (gone tags : List Text) → flat_map (tag_item gone) tags ≡ text_items (codes "tag") (without_texts tags gone)
-tags_told gone [] = ap (text_items (codes "tag")) (none gone)
+-- reported one by one they are the tags that are left
+pub tags_reported : (gone tags : List Text) → flat_map (tag_item gone) tags ≡ text_items (codes "tag") (without_texts tags gone)
+tags_reported gone [] = ap (text_items (codes "tag")) (none gone)
   where
     none : (gone : List Text) → [] ≡ without_texts [] gone
     none [] = refl
     none (g ∷ gone) = none gone
-tags_told gone (t ∷ tags) = by (is_among gone t) (sym (first_left gone t tags)) (tags_told gone tags)
+tags_reported gone (t ∷ tags) = by (is_among gone t) (sym (first_left gone t tags)) (tags_reported gone tags)
   where
     by : (v : Bool) → cond v (without_texts tags gone) (t ∷ without_texts tags gone) ≡ without_texts (t ∷ tags) gone
         → flat_map (tag_item gone) tags ≡ text_items (codes "tag") (without_texts tags gone)

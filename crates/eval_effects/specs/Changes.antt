@@ -10,19 +10,19 @@ use Rattle.eval_state.specs.Runs.{RunValue, run_kind, same_run}
 use Rattle.eval_state.specs.declared.made_runs.MadeRun.{MadeRun}
 use Rattle.eval_state.specs.declared.scene.Scene.{Scene}
 use Rattle.eval_effects.specs.Items.{items}
-use Rattle.eval_effects.specs.Items.{stands}
+use Rattle.eval_effects.specs.Items.{is_present}
 use Rattle.eval_effects.specs.Shown.{shown}
 
 -- what is compared between scenes: its items, its RUNs, those that udev made at their rules, and how many notes it
 -- has
-pub record Standing : Type 0 where
+pub record Snapshot : Type 0 where
   pub items : List Pair
   pub runs : List RunValue
   pub made : List MadeRun
   pub notes : ℕ
 
-abbrev pub standing : Scene → Standing
-standing s = record { items = items s; runs = s.runs; made = s.made; notes = length s.notes }
+abbrev pub snapshot : Scene → Snapshot
+snapshot s = record { items = items s; runs = s.runs; made = s.made; notes = length s.notes }
 
 -- what becomes of an item that takes a value: without one it is added
 abbrev pub value_part : Text → Text
@@ -35,7 +35,7 @@ set_text item = shown item.0 ++ value_part item.1
 
 -- an item that is there now is reported unless it was there like this before
 abbrev pub set_item : List Pair → Pair → List Text
-set_item was item = if stands item was then [] else set_text item ∷ []
+set_item was item = if is_present item was then [] else set_text item ∷ []
 
 -- the text of an item whose name is no longer there
 abbrev pub removed_text : Text → Text
@@ -97,5 +97,5 @@ abbrev pub made_changes : List MadeRun → List MadeRun → List Text
 made_changes was now = map (made_run (codes " added")) (drop (stayed was now) now) ++ removed_made (stayed was now) was
 
 -- all that changed
-abbrev pub changes : Standing → Scene → List Text
+abbrev pub changes : Snapshot → Scene → List Text
 changes was s = item_changes was.items (items s) ++ run_changes was.runs s.runs ++ made_changes was.made s.made

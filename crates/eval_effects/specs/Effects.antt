@@ -13,7 +13,7 @@ use Rattle.eval_state.specs.declared.notes.Note.{Note}
 use Rattle.eval_state.specs.declared.scene.Scene.{Scene}
 use Rattle.eval_assignments.specs.Finality.{final_key}
 use Rattle.eval_assignments.specs.Steps.{set_step}
-use Rattle.eval_effects.specs.Changes.{Standing, changes, standing}
+use Rattle.eval_effects.specs.Changes.{Snapshot, changes, snapshot}
 use Rattle.eval_effects.specs.Named.{change_key, final_name, rule_place}
 use Rattle.eval_effects.specs.Shown.{joined, shown}
 use Rattle.eval_effects.specs.Since.{Since, since_of}
@@ -37,8 +37,8 @@ changed_text c [] = change_key c ++ codes " changes nothing"
 changed_text c (text ∷ more) = joined (text ∷ more)
 
 -- the note after so many, if there is one
-abbrev pub note_behind : ℕ → Scene → Option Note
-note_behind count s = slice_get s.notes count
+abbrev pub note_after : ℕ → Scene → Option Note
+note_after count s = slice_get s.notes count
 
 -- what a note of an assignment is reported as
 abbrev pub said_of : Change → NoteKind → Text → List Text
@@ -59,18 +59,18 @@ said_left c (Some note) = said_of c note.kind note.word
 
 -- an assignment that was made or left a note, by what was there before it and the scene after it: what changed, and
 -- what was left out
-abbrev pub made_text : Change → Standing → Scene → Text
-made_text c was s = changed_text c (changes was s ++ said_left c (note_behind was.notes s))
+abbrev pub made_text : Change → Snapshot → Scene → Text
+made_text c was s = changed_text c (changes was s ++ said_left c (note_after was.notes s))
 
 -- an assignment, by its key if that was final, what was there before it, and the scene after it; a key that no
 -- earlier rule made final has been final since the rule itself
-abbrev pub effect_by : Since → Rule → Change → Option FinalKey → Standing → Scene → Text
+abbrev pub effect_by : Since → Rule → Change → Option FinalKey → Snapshot → Scene → Text
 effect_by since r c (Some key) was s = final_text key (unwrap_or (since_of since key) r)
 effect_by since r c None was s = made_text c was s
 
 -- what an assignment of a rule does over a scene
 unfoldable pub effect : Since → Rule → Scene → Assignment → Text
-effect since r s a = effect_by since r a.change (settled_key s.finals (final_key s.state.event.profile a.change)) (standing s) (set_step r s a)
+effect since r s a = effect_by since r a.change (settled_key s.finals (final_key s.state.event.profile a.change)) (snapshot s) (set_step r s a)
 
 -- what assignments do, each over the scene that the one before it left
 abbrev pub effects : Since → Rule → Scene → List Assignment → List Text

@@ -22,9 +22,9 @@ use Rattle.eval_assignments.specs.Steps.{emptied, is_ignored, lacks_number, set_
 use Rattle.eval_effects.specs.Effects.{note_left}
 
 -- whether an assignment of a text is skipped: by udev if the device has no number
-abbrev pub is_passed_over : Profile → Target → Scene → Bool
-is_passed_over Manual about s = false
-is_passed_over Udev about s = lacks_number about s.state.event.device.number
+abbrev pub is_skipped : Profile → Target → Scene → Bool
+is_skipped Manual about s = false
+is_skipped Udev about s = lacks_number about s.state.event.device.number
 
 -- what the text of an assignment is rendered to: by udev within its bound, and over the links that are left
 abbrev pub rendered_of : Profile → Rule → AssignOperator → Target → Template → Scene → Rendered
@@ -36,25 +36,25 @@ abbrev pub note_of : Rule → AssignOperator → Target → Template → Scene �
 note_of r o about template s = note_left (length s.notes) (set_step r s (record { operator = o; change = change.Text about template }))
 
 -- if there are no new notes, none was left
-abbrev pub TellsNone : Type 0
-TellsNone = (s t : Scene) → t.notes ≡ s.notes → note_left (length s.notes) t ≡ None
+abbrev pub ReportsNone : Type 0
+ReportsNone = (s t : Scene) → t.notes ≡ s.notes → note_left (length s.notes) t ≡ None
 
 -- an assignment that is skipped is reported as that, unless its key is final
-abbrev pub TellsPassedOver : Type 0
-TellsPassedOver =
-    (r : Rule) (o : AssignOperator) (about : Target) (template : Template) (s : Scene) → is_settled (final_target about) s.finals ≡ false → is_passed_over s.state.event.profile about s ≡ true
+abbrev pub ReportsSkipped : Type 0
+ReportsSkipped =
+    (r : Rule) (o : AssignOperator) (about : Target) (template : Template) (s : Scene) → is_settled (final_target about) s.finals ≡ false → is_skipped s.state.event.profile about s ≡ true
     → note_of r o about template s ≡ Some NoDeviceNumber
 
 -- a text that is too long is reported as that, unless its key is final or it is skipped
-abbrev pub TellsTooLong : Type 0
-TellsTooLong =
-    (r : Rule) (o : AssignOperator) (about : Target) (template : Template) (s : Scene) → is_settled (final_target about) s.finals ≡ false → is_passed_over s.state.event.profile about s ≡ false
+abbrev pub ReportsTooLong : Type 0
+ReportsTooLong =
+    (r : Rule) (o : AssignOperator) (about : Target) (template : Template) (s : Scene) → is_settled (final_target about) s.finals ≡ false → is_skipped s.state.event.profile about s ≡ false
     → rendered_of s.state.event.profile r o about template s ≡ rendered.TooLong
     → note_of r o about template s ≡ Some TextTooLong
 
 -- a NAME that is ignored is reported as that, unless its key is final, it is skipped, or its text is too long
-abbrev pub TellsIgnored : Type 0
-TellsIgnored =
-    (r : Rule) (o : AssignOperator) (about : Target) (template : Template) (s : Scene) (t : Text) → is_settled (final_target about) s.finals ≡ false → is_passed_over s.state.event.profile about s ≡ false
+abbrev pub ReportsIgnored : Type 0
+ReportsIgnored =
+    (r : Rule) (o : AssignOperator) (about : Target) (template : Template) (s : Scene) (t : Text) → is_settled (final_target about) s.finals ≡ false → is_skipped s.state.event.profile about s ≡ false
     → rendered_of s.state.event.profile r o about template s ≡ rendered.Text t → is_ignored s.state.event.profile about s ≡ true
     → note_of r o about template s ≡ Some NameIgnored

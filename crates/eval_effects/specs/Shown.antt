@@ -22,10 +22,10 @@ shown [] = double_quote ∷ double_quote ∷ []
 shown (byte ∷ text) = shortened (byte ∷ text)
 
 -- texts, each after a comma
-abbrev pub behind_commas : List Text → Text
-behind_commas texts = flat_map (λ text. codes ", " ++ text) texts
+abbrev pub after_commas : List Text → Text
+after_commas texts = flat_map (λ text. codes ", " ++ text) texts
 
 -- texts with commas between them
 abbrev pub joined : List Text → Text
 joined [] = []
-joined (text ∷ more) = text ++ behind_commas more
+joined (text ∷ more) = text ++ after_commas more

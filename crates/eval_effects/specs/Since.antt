@@ -38,8 +38,8 @@ since_either (Some first) final r = Some first
 since_either None final r = if final then Some r else None
 
 -- the same for all keys, by those that are final after the rule
-abbrev pub since_behind : Since → Rule → Finals → Since
-since_behind since r finals = record {
+abbrev pub since_after : Since → Rule → Finals → Since
+since_after since r finals = record {
   owner = since_either since.owner finals.owner r;
   group = since_either since.group finals.group r;
   mode = since_either since.mode finals.mode r;
@@ -52,4 +52,4 @@ since_behind since r finals = record {
 
 -- after rules one after another, each with the keys that are final after it
 abbrev pub since_over : List (Rule × Finals) → Since
-since_over stages = fold (λ since stage. since_behind since stage.0 stage.1) no_since stages
+since_over stages = fold (λ since stage. since_after since stage.0 stage.1) no_since stages

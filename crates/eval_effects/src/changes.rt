@@ -1,7 +1,7 @@
 //! Items that are there only now, and names that are no longer there.
 ghost use Rattle.std.specs.Prelude.{◌≡◌, ◌++◌, IfOk, OnOk, flat_map, is_some, option_map};
 ghost use Rattle.text_tables.specs.Pairs.{value_of};
-ghost use Rattle.eval_effects.specs.Items.{is_value, stands};
+ghost use Rattle.eval_effects.specs.Items.{is_present, is_value};
 ghost use Rattle.eval_effects.specs.Inner.{table_of};
 ghost use Rattle.eval_effects.specs.Changes.{item_changes, removed_item, removed_text, set_item, set_text, value_part};
 
@@ -34,8 +34,8 @@ fn is_value(value: Option<&[u8]>, text: &[u8]) -> bool
 }
 
 /// Whether an item is among others: its name has its value.
-fn stands(items: &Pairs<'_>, item: &Item) -> bool
-    ensures { result ≡ stands item.now items.now }
+fn is_present(items: &Pairs<'_>, item: &Item) -> bool
+    ensures { result ≡ is_present item.now items.now }
 {
     is_value(items.get(item.name()), item.value())
 }
@@ -82,14 +82,14 @@ fn removed_text(alloc: Global, name: &[u8]) -> Result<Bytes, AllocError>
 /// Adds the text of an item, unless it was there like this before.
 fn push_set(
     alloc: Global,
-    told: &mut Vec<Bytes>,
+    reported: &mut Vec<Bytes>,
     was: &Pairs<'_>,
     item: &Item,
 ) -> Result<(), AllocError>
-    ensures { OnOk result (told.new.items ≡ told.old.items ++ set_item was.now item.now) }
+    ensures { OnOk result (reported.new.items ≡ reported.old.items ++ set_item was.now item.now) }
 {
-    if !stands(was, item) {
-        told.push(set_text(alloc, item)?)?;
+    if !is_present(was, item) {
+        reported.push(set_text(alloc, item)?)?;
     }
     Ok(())
 }
@@ -97,14 +97,14 @@ fn push_set(
 /// Adds the text of an earlier item if its name is no longer there.
 fn push_removed(
     alloc: Global,
-    told: &mut Vec<Bytes>,
+    reported: &mut Vec<Bytes>,
     now: &Pairs<'_>,
     item: &Item,
 ) -> Result<(), AllocError>
-    ensures { OnOk result (told.new.items ≡ told.old.items ++ removed_item now.now item.now) }
+    ensures { OnOk result (reported.new.items ≡ reported.old.items ++ removed_item now.now item.now) }
 {
     if !is_named(now, item.name()) {
-        told.push(removed_text(alloc, item.name())?)?;
+        reported.push(removed_text(alloc, item.name())?)?;
     }
     Ok(())
 }
@@ -112,14 +112,14 @@ fn push_removed(
 /// Adds the texts of the items that were not there like this before.
 fn push_all_set(
     alloc: Global,
-    told: &mut Vec<Bytes>,
+    reported: &mut Vec<Bytes>,
     was: &Pairs<'_>,
     now: &[Item],
 ) -> Result<(), AllocError>
-    ensures { OnOk result (told.new.items ≡ told.old.items ++ flat_map (set_item was.now) now.now) }
+    ensures { OnOk result (reported.new.items ≡ reported.old.items ++ flat_map (set_item was.now) now.now) }
 {
     for item in now {
-        push_set(alloc, told, was, item)?;
+        push_set(alloc, reported, was, item)?;
     }
     Ok(())
 }
@@ -127,14 +127,14 @@ fn push_all_set(
 /// Adds the texts of the items whose names are no longer there.
 fn push_all_removed(
     alloc: Global,
-    told: &mut Vec<Bytes>,
+    reported: &mut Vec<Bytes>,
     was: &[Item],
     now: &Pairs<'_>,
 ) -> Result<(), AllocError>
-    ensures { OnOk result (told.new.items ≡ told.old.items ++ flat_map (removed_item now.now) was.now) }
+    ensures { OnOk result (reported.new.items ≡ reported.old.items ++ flat_map (removed_item now.now) was.now) }
 {
     for item in was {
-        push_removed(alloc, told, now, item)?;
+        push_removed(alloc, reported, now, item)?;
     }
     Ok(())
 }
@@ -142,15 +142,15 @@ fn push_all_removed(
 /// Adds the texts of what changed in items.
 pub(crate) fn push_item_changes(
     alloc: Global,
-    told: &mut Vec<Bytes>,
+    reported: &mut Vec<Bytes>,
     was: &[Item],
     now: &[Item],
 ) -> Result<(), AllocError>
-    ensures { OnOk result (told.new.items ≡ told.old.items ++ item_changes was.now now.now) }
+    ensures { OnOk result (reported.new.items ≡ reported.old.items ++ item_changes was.now now.now) }
 {
     let was_table = table_of(alloc, was)?;
-    push_all_set(alloc, told, &was_table, now)?;
+    push_all_set(alloc, reported, &was_table, now)?;
     let now_table = table_of(alloc, now)?;
-    push_all_removed(alloc, told, was, &now_table)?;
+    push_all_removed(alloc, reported, was, &now_table)?;
     Ok(())
 }

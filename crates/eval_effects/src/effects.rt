@@ -4,7 +4,7 @@ ghost use Rattle.eval_state.specs.Scenes.{blank};
 ghost use Rattle.eval_assignments.specs.Steps.{set_step};
 ghost use Rattle.eval_effects.specs.Changes.{changes};
 ghost use Rattle.eval_effects.specs.Named.{change_key};
-ghost use Rattle.eval_effects.specs.Effects.{changed_text, effect, effects, ending, ending_of, final_text, made_text, note_behind, said_left, said_of, settled_key};
+ghost use Rattle.eval_effects.specs.Effects.{changed_text, effect, effects, ending, ending_of, final_text, made_text, note_after, said_left, said_of, settled_key};
 ghost use Rattle.eval_effects.specs.Shown.{shown};
 
 use crate::changes::push_item_changes;
@@ -14,7 +14,7 @@ use crate::named::{final_name, push_change_key, push_rule};
 use crate::runs::push_run_changes;
 use crate::shown::{push_joined, push_shown};
 use crate::since::Since;
-use crate::standing::Standing;
+use crate::snapshot::Snapshot;
 use eval_assignments::{final_key, set_one};
 use eval_state::{FinalKey, Finals, Note, NoteKind, Scene};
 use rule_types::{Assignment, Change, Rule};
@@ -42,21 +42,21 @@ fn final_text(alloc: Global, key: FinalKey, rule: &Rule) -> Result<Bytes, AllocE
 }
 
 /// The note after so many, if there is one.
-fn note_behind<'s>(count: usize, scene: &'s Scene<'_>) -> Option<&'s Note>
-    ensures { option_map (λ note. note.now) result ≡ note_behind count scene.now }
+fn note_after<'s>(count: usize, scene: &'s Scene<'_>) -> Option<&'s Note>
+    ensures { option_map (λ note. note.now) result ≡ note_after count scene.now }
 {
     scene.notes.as_slice().get(count)
 }
 
 /// All that changed since a scene was like this.
-fn changes(alloc: Global, was: &Standing<'_>, scene: &Scene<'_>) -> Result<Vec<Bytes>, AllocError>
-    ensures { IfOk result (λ told. told.items ≡ changes was.now scene.now) }
+fn changes(alloc: Global, was: &Snapshot<'_>, scene: &Scene<'_>) -> Result<Vec<Bytes>, AllocError>
+    ensures { IfOk result (λ reported. reported.items ≡ changes was.now scene.now) }
 {
-    let mut told = Vec::new(alloc);
-    push_item_changes(alloc, &mut told, was.items(), &items_of(alloc, scene)?)?;
-    push_run_changes(alloc, &mut told, was.runs(), scene.runs.as_slice())?;
-    push_made_changes(alloc, &mut told, was.made(), scene.made.as_slice())?;
-    Ok(told)
+    let mut reported = Vec::new(alloc);
+    push_item_changes(alloc, &mut reported, was.items(), &items_of(alloc, scene)?)?;
+    push_run_changes(alloc, &mut reported, was.runs(), scene.runs.as_slice())?;
+    push_made_changes(alloc, &mut reported, was.made(), scene.made.as_slice())?;
+    Ok(reported)
 }
 
 /// The key of an assignment, and what is said about it.
@@ -82,7 +82,7 @@ fn changed_text(alloc: Global, change: &Change, changes: &[Bytes]) -> Result<Byt
 }
 
 /// The text of a link that was refused.
-fn link_told(alloc: Global, link: &[u8]) -> Result<Bytes, AllocError>
+fn link_report(alloc: Global, link: &[u8]) -> Result<Bytes, AllocError>
     ensures { IfOk result (λ text. text ≡ shown link.now ++ codes " ignored, no link") }
 {
     let mut text = Vec::new(alloc);
@@ -94,44 +94,44 @@ fn link_told(alloc: Global, link: &[u8]) -> Result<Bytes, AllocError>
 /// Adds a text of the key of an assignment and what is said about it.
 fn push_with_key(
     alloc: Global,
-    told: &mut Vec<Bytes>,
+    reported: &mut Vec<Bytes>,
     change: &Change,
     said: &[u8],
 ) -> Result<(), AllocError>
-    ensures { OnOk result (told.new.items ≡ told.old.items ++ (change_key change.now ++ said.now) ∷ []) }
+    ensures { OnOk result (reported.new.items ≡ reported.old.items ++ (change_key change.now ++ said.now) ∷ []) }
 {
-    told.push(key_with(alloc, change, said)?)?;
+    reported.push(key_with(alloc, change, said)?)?;
     Ok(())
 }
 
 /// Adds the text of a note of an assignment.
 fn push_said(
     alloc: Global,
-    told: &mut Vec<Bytes>,
+    reported: &mut Vec<Bytes>,
     change: &Change,
     kind: NoteKind,
     word: &[u8],
 ) -> Result<(), AllocError>
-    ensures { OnOk result (told.new.items ≡ told.old.items ++ said_of change.now kind word.now) }
+    ensures { OnOk result (reported.new.items ≡ reported.old.items ++ said_of change.now kind word.now) }
 {
     match kind {
-        NoteKind::TextTooLong => push_with_key(alloc, told, change, b" left out, too long"),
+        NoteKind::TextTooLong => push_with_key(alloc, reported, change, b" left out, too long"),
         NoteKind::NameIgnored => {
-            told.push(Bytes::copy_of(alloc, b"NAME ignored, no network device")?)?;
+            reported.push(Bytes::copy_of(alloc, b"NAME ignored, no network device")?)?;
             Ok(())
         }
         NoteKind::NoDeviceNumber => {
-            push_with_key(alloc, told, change, b" ignored, no device number")
+            push_with_key(alloc, reported, change, b" ignored, no device number")
         }
-        NoteKind::NoValue => push_with_key(alloc, told, change, b" ignored, no value"),
+        NoteKind::NoValue => push_with_key(alloc, reported, change, b" ignored, no value"),
         NoteKind::LinkIgnored => {
-            told.push(link_told(alloc, word)?)?;
+            reported.push(link_report(alloc, word)?)?;
             Ok(())
         }
-        NoteKind::ModeIgnored => push_with_key(alloc, told, change, b" ignored, no mode"),
-        NoteKind::TagIgnored => push_with_key(alloc, told, change, b" ignored, no tag"),
+        NoteKind::ModeIgnored => push_with_key(alloc, reported, change, b" ignored, no mode"),
+        NoteKind::TagIgnored => push_with_key(alloc, reported, change, b" ignored, no tag"),
         NoteKind::AttributeNotFound => {
-            push_with_key(alloc, told, change, b" ignored, no such attribute")
+            push_with_key(alloc, reported, change, b" ignored, no such attribute")
         }
         _ => Ok(()),
     }
@@ -140,14 +140,14 @@ fn push_said(
 /// Adds the text of the note of an assignment, if it left one.
 fn push_left(
     alloc: Global,
-    told: &mut Vec<Bytes>,
+    reported: &mut Vec<Bytes>,
     change: &Change,
     note: Option<&Note>,
 ) -> Result<(), AllocError>
-    ensures { OnOk result (told.new.items ≡ told.old.items ++ said_left change.now (option_map (λ n. n.now) note.entry)) }
+    ensures { OnOk result (reported.new.items ≡ reported.old.items ++ said_left change.now (option_map (λ n. n.now) note.entry)) }
 {
     match note {
-        Some(note) => push_said(alloc, told, change, note.kind, note.word.as_slice()),
+        Some(note) => push_said(alloc, reported, change, note.kind, note.word.as_slice()),
         None => Ok(()),
     }
 }
@@ -156,19 +156,19 @@ fn push_left(
 fn made_text(
     alloc: Global,
     change: &Change,
-    was: &Standing<'_>,
+    was: &Snapshot<'_>,
     scene: &Scene<'_>,
 ) -> Result<Bytes, AllocError>
     ensures { IfOk result (λ text. text ≡ made_text change.now was.now scene.now) }
 {
-    let mut told = changes(alloc, was, scene)?;
-    push_left(alloc, &mut told, change, note_behind(was.notes(), scene))?;
-    changed_text(alloc, change, &told)
+    let mut reported = changes(alloc, was, scene)?;
+    push_left(alloc, &mut reported, change, note_after(was.notes(), scene))?;
+    changed_text(alloc, change, &reported)
 }
 
 /// Makes an assignment, and returns a text of what it did.
 #[tactic(auto, unfolding(crate::specs::Effects::effect))]
-fn set_told<'a>(
+fn set_and_report<'a>(
     alloc: Global,
     rule: &'a Rule,
     since: &Since<'a>,
@@ -181,7 +181,7 @@ fn set_told<'a>(
 {
     let profile = scene.state.event.event().profile();
     let settled = settled_key(scene.finals, final_key(profile, &assignment.change));
-    let was = Standing::of(alloc, scene)?;
+    let was = Snapshot::of(alloc, scene)?;
     set_one(alloc, rule, assignment, scene)?;
     match settled {
         Some(key) => final_text(alloc, key, since.rule_or(key, rule)),
@@ -190,32 +190,32 @@ fn set_told<'a>(
 }
 
 /// Makes the assignments of a rule, one after another, and returns a text of what each did.
-fn set_all_told<'a>(
+fn set_all_and_report<'a>(
     alloc: Global,
     rule: &'a Rule,
     since: &Since<'a>,
     scene: &mut Scene<'a>,
 ) -> Result<Vec<Bytes>, AllocError>
     ensures scene { OnOk result (scene.new ≡ fold (set_step rule.now) scene.old rule.now.sets) }
-    ensures told { IfOk result (λ told. told.items ≡ effects since.now rule.now scene.old rule.now.sets) }
+    ensures reported { IfOk result (λ reported. reported.items ≡ effects since.now rule.now scene.old rule.now.sets) }
     ensures event { scene.new.state.event ≡ scene.old.state.event }
 {
-    let mut told = Vec::new(alloc);
+    let mut reported = Vec::new(alloc);
     for assignment in rule.sets() {
-        let text = set_told(alloc, rule, since, assignment, scene)?;
-        told.push(text)?;
+        let text = set_and_report(alloc, rule, since, assignment, scene)?;
+        reported.push(text)?;
     }
-    Ok(told)
+    Ok(reported)
 }
 
 /// The text of a rule whose end is reached, by what its assignments did.
-fn ending_of(alloc: Global, told: &[Bytes]) -> Result<Bytes, AllocError>
-    ensures { IfOk result (λ text. text ≡ ending_of told.now) }
+fn ending_of(alloc: Global, reported: &[Bytes]) -> Result<Bytes, AllocError>
+    ensures { IfOk result (λ text. text ≡ ending_of reported.now) }
 {
     let mut text = Vec::from_slice(alloc, b"reached its end")?;
-    if !told.is_empty() {
+    if !reported.is_empty() {
         text.extend_from_slice(b": ")?;
-        push_joined(&mut text, told)?;
+        push_joined(&mut text, reported)?;
     }
     Ok(Bytes::new(text))
 }
@@ -232,8 +232,8 @@ fn end_open<'a>(
     ensures text { IfOk result (λ text. text ≡ ending since.now rule.now scene.old) }
     ensures event { scene.new.state.event ≡ scene.old.state.event }
 {
-    let told = set_all_told(alloc, rule, since, scene)?;
-    ending_of(alloc, &told)
+    let reported = set_all_and_report(alloc, rule, since, scene)?;
+    ending_of(alloc, &reported)
 }
 
 /// Makes the assignments of a rule whose end is reached, as `set_all` does, and returns a text of what each of them
@@ -245,7 +245,7 @@ fn end_open<'a>(
 /// a key that no rule there made final has been final since this rule.
 ///
 /// If memory runs out, nothing is left of the scene but its event.
-pub fn end_told<'a>(
+pub fn end_and_report<'a>(
     alloc: Global,
     rule: &'a Rule,
     since: &Since<'a>,
@@ -255,9 +255,9 @@ pub fn end_told<'a>(
     ensures text { IfOk result (λ text. text ≡ ending since.now rule.now scene.old) }
     ensures refused { OnErr result (scene.new ≡ blank scene.old.state.event) }
 {
-    let told = end_open(alloc, rule, since, scene);
-    if told.is_err() {
+    let reported = end_open(alloc, rule, since, scene);
+    if reported.is_err() {
         scene.clear(alloc);
     }
-    told
+    reported
 }

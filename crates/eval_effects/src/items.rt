@@ -1,14 +1,16 @@
 //! What is in a scene, as items.
 ghost use Rattle.std.specs.Prelude.{◌≡◌, ◌++◌, ◌∷◌, [], codes, IfOk, OnOk};
+ghost use Rattle.text_bytes.specs.Names.{equals};
+ghost use Rattle.eval_state.specs.Texts.{filled};
 ghost use Rattle.eval_assignments.specs.Tags.{current_tags};
 ghost use Rattle.eval_effects.specs.Inner.{tag_item};
-ghost use Rattle.eval_effects.specs.Items.{given_item, item_name, items, node_items, pair_items, persist_item, priority_item, text_items, watch_item, watch_word};
+ghost use Rattle.eval_effects.specs.Items.{given_item, item_name, items, label_item, label_items, node_items, pair_items, persist_item, priority_item, text_items, watch_item, watch_word};
 
-use eval_state::Scene;
+use eval_state::{Label, Scene};
 use itoa::Buffer;
 use std::alloc::{AllocError, Global};
 use std::marker::Model;
-use text_bytes::Bytes;
+use text_bytes::{Bytes, Profile};
 use text_tables::{OwnedPairs, OwnedTexts};
 
 /// Something in a scene. Its name is the first word of its line, followed by what it is about if several items have
@@ -162,6 +164,66 @@ fn push_pairs(
     Ok(())
 }
 
+/// The label of a module with its module, `MODULE=TEXT`.
+fn label_text(alloc: Global, label: &Label) -> Result<Bytes, AllocError>
+    ensures { IfOk result (λ text. text ≡ label.now.0 ++ equals ∷ label.now.1) }
+{
+    let mut text = Vec::from_slice(alloc, label.name())?;
+    text.push(b'=')?;
+    text.extend_from_slice(label.text())?;
+    Ok(Bytes::new(text))
+}
+
+/// The label of a module as an item: by the manual its module has no other one, for udev the label itself is a part
+/// of the name.
+pub fn label_item(alloc: Global, profile: Profile, label: &Label) -> Result<Item, AllocError>
+    ensures { IfOk result (λ item. item ≡ label_item profile label.now) }
+{
+    match profile {
+        Profile::Manual => Ok(Item {
+            name: item_name(alloc, b"label", label.name())?,
+            value: Bytes::copy_of(alloc, label.text())?,
+        }),
+        Profile::Udev => {
+            let text = label_text(alloc, label)?;
+            Ok(Item {
+                name: item_name(alloc, b"label", text.as_slice())?,
+                value: Bytes::copy_of(alloc, b"")?,
+            })
+        }
+    }
+}
+
+/// Adds labels as items.
+fn push_labels(
+    alloc: Global,
+    items: &mut Vec<Item>,
+    profile: Profile,
+    labels: &[Label],
+) -> Result<(), AllocError>
+    ensures { OnOk result (items.new.items ≡ items.old.items ++ label_items profile labels.now) }
+{
+    for label in labels {
+        items.push(label_item(alloc, profile, label)?)?;
+    }
+    Ok(())
+}
+
+/// Adds the name of a device, if one was assigned that is not empty.
+fn push_name(alloc: Global, items: &mut Vec<Item>, name: &Option<Bytes>) -> Result<(), AllocError>
+    ensures { OnOk result (items.new.items ≡ items.old.items ++ given_item (codes "name") (filled name.now)) }
+{
+    match name {
+        Some(name) => {
+            if name.as_slice().is_empty() {
+                return Ok(());
+            }
+            push_word(alloc, items, b"name", name.as_slice())
+        }
+        None => Ok(()),
+    }
+}
+
 /// Adds a priority, if one was assigned.
 fn push_priority(
     alloc: Global,
@@ -213,7 +275,7 @@ fn push_persist(alloc: Global, items: &mut Vec<Item>, persist: bool) -> Result<(
 fn push_node(alloc: Global, items: &mut Vec<Item>, scene: &Scene<'_>) -> Result<(), AllocError>
     ensures { OnOk result (items.new.items ≡ items.old.items ++ node_items scene.now) }
 {
-    push_given(alloc, items, b"name", &scene.state.name)?;
+    push_name(alloc, items, &scene.state.name)?;
     push_given(alloc, items, b"owner", &scene.owner)?;
     push_given(alloc, items, b"group", &scene.group)?;
     push_given(alloc, items, b"mode", &scene.mode)?;
@@ -230,7 +292,8 @@ pub fn items_of(alloc: Global, scene: &Scene<'_>) -> Result<Vec<Item>, AllocErro
 {
     let mut found = Vec::new(alloc);
     push_node(alloc, &mut found, scene)?;
-    push_pairs(alloc, &mut found, b"label", &scene.labels)?;
+    let profile = scene.state.event.event().profile();
+    push_labels(alloc, &mut found, profile, scene.labels.as_slice())?;
     push_texts(alloc, &mut found, b"link", &scene.state.links)?;
     push_tags(alloc, &mut found, scene)?;
     push_pairs(alloc, &mut found, b"env", &scene.state.env)?;

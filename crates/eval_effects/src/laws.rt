@@ -6,7 +6,7 @@ ghost use Rattle.rule_types.specs.Rules.{Rule};
 ghost use Rattle.eval_state.specs.Finals.{is_final};
 ghost use Rattle.eval_state.specs.declared.finals.FinalKey.{FinalKey};
 ghost use Rattle.eval_state.specs.declared.finals.Finals.{Finals};
-ghost use Rattle.eval_effects.specs.Laws.{TellsIgnored, TellsNone, TellsPassedOver, TellsTooLong};
+ghost use Rattle.eval_effects.specs.Laws.{ReportsIgnored, ReportsNone, ReportsSkipped, ReportsTooLong};
 ghost use Rattle.eval_effects.specs.Since.{since_of, since_over};
 
 /// A key has been final since the first rule after which it is final.
@@ -16,9 +16,9 @@ pub fn final_since_the_first_rule()
 
 /// The note that an assignment leaves says that its text was too long or its NAME ignored, and for udev that the
 /// device has no number.
-pub fn notes_tell_what_is_left_out()
-    ensures none { TellsNone }
-    ensures passed_over { TellsPassedOver }
-    ensures too_long { TellsTooLong }
-    ensures ignored { TellsIgnored }
+pub fn notes_say_what_is_left_out()
+    ensures none { ReportsNone }
+    ensures skipped { ReportsSkipped }
+    ensures too_long { ReportsTooLong }
+    ensures ignored { ReportsIgnored }
 {}

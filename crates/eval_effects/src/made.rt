@@ -2,7 +2,7 @@
 ghost use Rattle.std.specs.Prelude.{◌≡◌, ◌≤◌, ◌++◌, length, map, OnOk};
 ghost use Rattle.eval_effects.specs.Changes.{made_changes, made_run, removed_made, same_made, stayed};
 
-use crate::runs::run_told;
+use crate::runs::run_report;
 use eval_state::MadeRun;
 use std::alloc::{AllocError, Global};
 use text_bytes::Bytes;
@@ -29,14 +29,14 @@ fn stayed(was: &[MadeRun<'_>], now: &[MadeRun<'_>]) -> usize
 /// Adds the texts of RUNs and what became of them.
 fn push_each(
     alloc: Global,
-    told: &mut Vec<Bytes>,
+    reported: &mut Vec<Bytes>,
     became: &[u8],
     runs: &[MadeRun<'_>],
 ) -> Result<(), AllocError>
-    ensures { OnOk result (told.new.items ≡ told.old.items ++ map (made_run became.now) runs.now) }
+    ensures { OnOk result (reported.new.items ≡ reported.old.items ++ map (made_run became.now) runs.now) }
 {
     for made in runs {
-        told.push(run_told(alloc, &made.run, became)?)?;
+        reported.push(run_report(alloc, &made.run, became)?)?;
     }
     Ok(())
 }
@@ -44,33 +44,33 @@ fn push_each(
 /// Adds the texts of the RUNs that are no longer there: one by one, unless none stayed.
 fn push_removed(
     alloc: Global,
-    told: &mut Vec<Bytes>,
+    reported: &mut Vec<Bytes>,
     stayed: usize,
     was: &[MadeRun<'_>],
 ) -> Result<(), AllocError>
     requires { stayed ≤ length was.now }
-    ensures { OnOk result (told.new.items ≡ told.old.items ++ removed_made stayed was.now) }
+    ensures { OnOk result (reported.new.items ≡ reported.old.items ++ removed_made stayed was.now) }
 {
     if was.is_empty() {
         return Ok(());
     }
     if stayed == 0 {
-        told.push(Bytes::copy_of(alloc, b"all runs removed")?)?;
+        reported.push(Bytes::copy_of(alloc, b"all runs removed")?)?;
         return Ok(());
     }
-    push_each(alloc, told, b" removed", was.split_at(stayed).1)
+    push_each(alloc, reported, b" removed", was.split_at(stayed).1)
 }
 
 /// Adds the texts of what changed in RUNs that udev made.
 pub(crate) fn push_made_changes(
     alloc: Global,
-    told: &mut Vec<Bytes>,
+    reported: &mut Vec<Bytes>,
     was: &[MadeRun<'_>],
     now: &[MadeRun<'_>],
 ) -> Result<(), AllocError>
-    ensures { OnOk result (told.new.items ≡ told.old.items ++ made_changes was.now now.now) }
+    ensures { OnOk result (reported.new.items ≡ reported.old.items ++ made_changes was.now now.now) }
 {
     let count = stayed(was, now);
-    push_each(alloc, told, b" added", now.split_at(count).1)?;
-    push_removed(alloc, told, count, was)
+    push_each(alloc, reported, b" added", now.split_at(count).1)?;
+    push_removed(alloc, reported, count, was)
 }

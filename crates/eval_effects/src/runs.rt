@@ -24,7 +24,7 @@ fn any_kept(was: &[Run<'_>], now: &[Run<'_>]) -> bool
 
 /// The text of a RUN, by its type and its written text, and what became of it.
 #[tactic(auto, unfolding(crate::specs::Changes::run_text))]
-pub(crate) fn run_told(alloc: Global, run: &Run<'_>, became: &[u8]) -> Result<Bytes, AllocError>
+pub(crate) fn run_report(alloc: Global, run: &Run<'_>, became: &[u8]) -> Result<Bytes, AllocError>
     ensures { IfOk result (λ text. text ≡ run_text run.now ++ became.now) }
 {
     let mut text = Vec::from_slice(alloc, b"run ")?;
@@ -38,14 +38,14 @@ pub(crate) fn run_told(alloc: Global, run: &Run<'_>, became: &[u8]) -> Result<By
 /// Adds the text of a RUN, unless it was there before.
 fn push_added(
     alloc: Global,
-    told: &mut Vec<Bytes>,
+    reported: &mut Vec<Bytes>,
     was: &[Run<'_>],
     run: &Run<'_>,
 ) -> Result<(), AllocError>
-    ensures { OnOk result (told.new.items ≡ told.old.items ++ added_run was.now run.now) }
+    ensures { OnOk result (reported.new.items ≡ reported.old.items ++ added_run was.now run.now) }
 {
     if !is_kept(was, run) {
-        told.push(run_told(alloc, run, b" added")?)?;
+        reported.push(run_report(alloc, run, b" added")?)?;
     }
     Ok(())
 }
@@ -53,14 +53,14 @@ fn push_added(
 /// Adds the text of an earlier RUN if it is no longer there.
 fn push_removed(
     alloc: Global,
-    told: &mut Vec<Bytes>,
+    reported: &mut Vec<Bytes>,
     now: &[Run<'_>],
     run: &Run<'_>,
 ) -> Result<(), AllocError>
-    ensures { OnOk result (told.new.items ≡ told.old.items ++ removed_run now.now run.now) }
+    ensures { OnOk result (reported.new.items ≡ reported.old.items ++ removed_run now.now run.now) }
 {
     if !is_kept(now, run) {
-        told.push(run_told(alloc, run, b" removed")?)?;
+        reported.push(run_report(alloc, run, b" removed")?)?;
     }
     Ok(())
 }
@@ -68,14 +68,14 @@ fn push_removed(
 /// Adds the texts of the RUNs that were not there before.
 fn push_all_added(
     alloc: Global,
-    told: &mut Vec<Bytes>,
+    reported: &mut Vec<Bytes>,
     was: &[Run<'_>],
     now: &[Run<'_>],
 ) -> Result<(), AllocError>
-    ensures { OnOk result (told.new.items ≡ told.old.items ++ flat_map (added_run was.now) now.now) }
+    ensures { OnOk result (reported.new.items ≡ reported.old.items ++ flat_map (added_run was.now) now.now) }
 {
     for run in now {
-        push_added(alloc, told, was, run)?;
+        push_added(alloc, reported, was, run)?;
     }
     Ok(())
 }
@@ -83,14 +83,14 @@ fn push_all_added(
 /// Adds, one by one, the texts of the RUNs that are no longer there.
 fn push_each_removed(
     alloc: Global,
-    told: &mut Vec<Bytes>,
+    reported: &mut Vec<Bytes>,
     was: &[Run<'_>],
     now: &[Run<'_>],
 ) -> Result<(), AllocError>
-    ensures { OnOk result (told.new.items ≡ told.old.items ++ flat_map (removed_run now.now) was.now) }
+    ensures { OnOk result (reported.new.items ≡ reported.old.items ++ flat_map (removed_run now.now) was.now) }
 {
     for run in was {
-        push_removed(alloc, told, now, run)?;
+        push_removed(alloc, reported, now, run)?;
     }
     Ok(())
 }
@@ -98,28 +98,28 @@ fn push_each_removed(
 /// Adds the texts of the RUNs that are no longer there: one by one, unless none of them stayed.
 fn push_all_removed(
     alloc: Global,
-    told: &mut Vec<Bytes>,
+    reported: &mut Vec<Bytes>,
     was: &[Run<'_>],
     now: &[Run<'_>],
 ) -> Result<(), AllocError>
-    ensures { OnOk result (told.new.items ≡ told.old.items ++ removed_runs was.now now.now) }
+    ensures { OnOk result (reported.new.items ≡ reported.old.items ++ removed_runs was.now now.now) }
 {
     if was.is_empty() || any_kept(was, now) {
-        return push_each_removed(alloc, told, was, now);
+        return push_each_removed(alloc, reported, was, now);
     }
-    told.push(Bytes::copy_of(alloc, b"all runs removed")?)?;
+    reported.push(Bytes::copy_of(alloc, b"all runs removed")?)?;
     Ok(())
 }
 
 /// Adds the texts of what changed in RUNs.
 pub(crate) fn push_run_changes(
     alloc: Global,
-    told: &mut Vec<Bytes>,
+    reported: &mut Vec<Bytes>,
     was: &[Run<'_>],
     now: &[Run<'_>],
 ) -> Result<(), AllocError>
-    ensures { OnOk result (told.new.items ≡ told.old.items ++ run_changes was.now now.now) }
+    ensures { OnOk result (reported.new.items ≡ reported.old.items ++ run_changes was.now now.now) }
 {
-    push_all_added(alloc, told, was, now)?;
-    push_all_removed(alloc, told, was, now)
+    push_all_added(alloc, reported, was, now)?;
+    push_all_removed(alloc, reported, was, now)
 }

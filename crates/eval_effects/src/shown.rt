@@ -1,6 +1,6 @@
 //! Texts as the lines of `--why` show them, and several of them in one line.
 ghost use Rattle.std.specs.Prelude.{◌≡◌, ◌++◌, ◌≤◌, length, OnOk};
-ghost use Rattle.eval_effects.specs.Shown.{behind_commas, cut, joined, shortened, shown};
+ghost use Rattle.eval_effects.specs.Shown.{after_commas, cut, joined, shortened, shown};
 
 use itoa::Buffer;
 use std::alloc::{AllocError, Global};
@@ -15,8 +15,8 @@ fn push_cut(alloc: Global, text: &mut Vec<u8>, about: &[u8]) -> Result<(), Alloc
     requires { MAX_SHOWN ≤ length about.now }
     ensures { OnOk result (text.new.items ≡ text.old.items ++ cut about.now) }
 {
-    let (front, _) = about.split_at(MAX_SHOWN);
-    text.extend_from_slice(&escape(alloc, front)?)?;
+    let (prefix, _) = about.split_at(MAX_SHOWN);
+    text.extend_from_slice(&escape(alloc, prefix)?)?;
     text.extend_from_slice(b".. (")?;
     text.extend_from_slice(Buffer::new().format(about.len()).as_bytes())?;
     text.extend_from_slice(b" bytes)")
@@ -46,8 +46,8 @@ pub fn push_shown(alloc: Global, text: &mut Vec<u8>, about: &[u8]) -> Result<(),
 }
 
 /// Appends texts, each after a comma.
-fn push_behind_commas(text: &mut Vec<u8>, more: &[Bytes]) -> Result<(), AllocError>
-    ensures { OnOk result (text.new.items ≡ text.old.items ++ behind_commas more.now) }
+fn push_after_commas(text: &mut Vec<u8>, more: &[Bytes]) -> Result<(), AllocError>
+    ensures { OnOk result (text.new.items ≡ text.old.items ++ after_commas more.now) }
 {
     for next in more {
         text.extend_from_slice(b", ")?;
@@ -64,5 +64,5 @@ pub fn push_joined(text: &mut Vec<u8>, texts: &[Bytes]) -> Result<(), AllocError
         return Ok(());
     };
     text.extend_from_slice(first.as_slice())?;
-    push_behind_commas(text, more)
+    push_after_commas(text, more)
 }

@@ -1,6 +1,6 @@
 //! The rule since which each key has been final.
 ghost use Rattle.std.specs.Prelude.{◌≡◌, option_map, unwrap_or};
-ghost use Rattle.eval_effects.specs.Since.{no_since, since_behind, since_either, since_of};
+ghost use Rattle.eval_effects.specs.Since.{no_since, since_after, since_either, since_of};
 
 use eval_state::{FinalKey, Finals};
 use rule_types::Rule;
@@ -66,8 +66,8 @@ impl<'a> Since<'a> {
     }
 
     /// Records a rule, with the keys that are final after it.
-    pub fn tell(&mut self, rule: &'a Rule, finals: Finals)
-        ensures { self.new ≡ since_behind self.old rule.now finals }
+    pub fn report(&mut self, rule: &'a Rule, finals: Finals)
+        ensures { self.new ≡ since_after self.old rule.now finals }
     {
         self.owner = since_either(self.owner, finals.owner, rule);
         self.group = since_either(self.group, finals.group, rule);

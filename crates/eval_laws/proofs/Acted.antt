@@ -1,7 +1,7 @@
 -- What a scene weighs after an act of a rule.
-use Rattle.std.proofs.Common.{◌≡◌, ℕ, ◌+◌, ◌≤◌, nat_le, Bool, true, false, ◌==◌, List, [], ◌∷◌, length, Option, Some, None, is_some, ◌||◌, ap, codes, if◌then◌else◌, refl, arith}
+use Rattle.std.proofs.Common.{◌≡◌, ℕ, ◌+◌, ◌≤◌, nat_le, Bool, true, false, ◌==◌, List, [], ◌∷◌, ◌++◌, length, Option, Some, None, is_some, ◌||◌, ap, codes, if◌then◌else◌, refl, arith}
 use Rattle.std.proofs.lemmas.Bool.{leb-true}
-use Rattle.std.proofs.lemmas.List.Sums.{sum_by-cons}
+use Rattle.std.proofs.lemmas.List.Sums.{sum_by-append, sum_by-cons}
 use Rattle.std.specs.List.{slice_get}
 use Rattle.text_bytes.specs.Names.{slash}
 use Rattle.text_bytes.specs.Texts.{begins_with}
@@ -16,10 +16,10 @@ use Rattle.text_core.specs.declared.reading.Reading.TheVariants.{Exact}
 use Rattle.rule_templates.specs.Template.{Parts as Template}
 use Rattle.hwdb_lookup.specs.declared.entry.Entry.{Entry}
 use Rattle.rule_types.specs.Names.{import_name}
-use Rattle.rule_types.specs.WrittenParts.{attribute_of_deed, key_of_deed, type_of}
+use Rattle.rule_types.specs.WrittenParts.{attribute_of_act_kind, key_of_act_kind, type_of}
 use Rattle.rule_types.specs.declared.part.Act.{Act}
-use Rattle.rule_types.specs.declared.part.Deed.{Deed}
-use Rattle.rule_types.specs.declared.part.Deed.TheVariants as deed
+use Rattle.rule_types.specs.declared.part.ActKind.{ActKind}
+use Rattle.rule_types.specs.declared.part.ActKind.TheVariants as act_kind
 use Rattle.rule_types.specs.declared.part.Import.{Import}
 use Rattle.rule_types.specs.declared.part.Import.TheVariants as import
 use Rattle.rule_types.specs.Rules.{Rule}
@@ -41,7 +41,7 @@ use Rattle.builtin_input.specs.Input.{input_id}
 use Rattle.builtin_net.specs.NetId.{lookup, net_id}
 use Rattle.builtin_path.specs.Path.{path_id}
 use Rattle.builtin_usb.specs.UsbId.{usb_id}
-use Rattle.eval_acts.specs.BuiltinRuns.{looked_up, most_set, need_noted, need_word, net_id_run, outcome_taken, path_id_run, properties_size, usb_id_run}
+use Rattle.eval_acts.specs.BuiltinRuns.{is_address_name, looked_up, most_set, need_noted, need_word, net_id_run, outcome_set, outcome_taken, path_id_run, properties_size, property_size, usb_id_run, with_maker}
 use Rattle.eval_acts.specs.Builtins.{builtin, builtin_of, hwdb_asked}
 use Rattle.eval_acts.specs.Hwdb.{hwdb_of}
 use Rattle.eval_acts.specs.Words.{command_words}
@@ -55,8 +55,8 @@ use Rattle.eval_acts.specs.ActTexts.{import_text, most_command_bytes, most_path_
 use Rattle.eval_acts.specs.Acts.{act_step, from_parent_by, imported, on_text, parent_imported, performed, program_imported, unrun}
 use Rattle.eval_acts.specs.Imports.{builtin_run, from_answer_or_noted, from_parent, from_program, names_fitting, not_run, run_builtin, with_found}
 use Rattle.eval_acts.specs.Printed.{printed_properties}
-use Rattle.eval_acts.specs.Questions.{answered_or_noted, asked, result_of, tested, tested_at, tested_by, tested_by_udev, with_result}
-use Rattle.eval_laws.specs.Allowances.{builtin_allowance, deed_allowance, entries_weight}
+use Rattle.eval_acts.specs.Questions.{answered_by_block, answered_or_noted, result_of, tested, tested_at, tested_by, tested_by_udev, with_result}
+use Rattle.eval_laws.specs.Allowances.{act_kind_allowance, builtin_allowance, entries_weight}
 use Rattle.eval_laws.specs.Inner.{Within, scene_weight}
 use Rattle.eval_laws.proofs.Tables.{with_value_light, with_values_light, without_name_light}
 use Rattle.eval_laws.proofs.Sums.{filter_light, fold_light}
@@ -95,6 +95,31 @@ parent_light : (event : EventValue) → pairs_weight (env_of (device_at event 1)
 unfolding event_weight
 parent_light event = let a = second_light event.device event.parents in omega (arith, a)
 
+-- what the database says about a text
+looked_up_light : (entries : List Entry) (text : Option Text) → properties_size (looked_up entries text) ≤ entries_weight entries
+looked_up_light entries None = omega arith
+looked_up_light entries (Some text) =
+    let a = query_light entries text in
+    let b : pairs_weight (query entries text) ≡ properties_size (query entries text) = refl in
+    omega (arith, a, b)
+
+-- properties with others after one of them
+with_maker_light : (found properties : List Pair) → properties_size (with_maker found properties) ≤ properties_size found + properties_size properties
+with_maker_light found [] = omega arith
+with_maker_light found (p ∷ ps) = by (is_address_name p) (with_maker_light found ps)
+  where
+    by : (b : Bool) → properties_size (with_maker found ps) ≤ properties_size found + properties_size ps
+        → properties_size (if◌then◌else◌ {A = List Pair} b (p ∷ found ++ ps) (p ∷ with_maker found ps)) ≤ properties_size found + properties_size (p ∷ ps)
+    by true rest =
+        let a = sum_by-cons property_size p (found ++ ps) in
+        let b = sum_by-append property_size found ps in
+        let c = sum_by-cons property_size p ps in
+        omega (arith, a, b, c)
+    by false rest =
+        let a = sum_by-cons property_size p (with_maker found ps) in
+        let c = sum_by-cons property_size p ps in
+        omega (arith, a, rest, c)
+
 -- what udev's builtins set and note
 module _ (event : EventValue) where
   set_within : (n : ℕ) (properties : List Pair) (s : Scene) → Within event n s → Within event (n + properties_size properties) (with_env (properties_set s.state.env properties) s)
@@ -108,26 +133,20 @@ module _ (event : EventValue) where
   need_within n r name [] s h = more event n (n + (length r.file + 56)) s (omega arith) h
   need_within n r name (need ∷ needs) s h = noted_within event n r BuiltinNeeds (need_word name need) s h
 
-  outcome_within : (n : ℕ) (r : Rule) (name : Text) (outcome : OutcomeValue) (s : Scene) → Within event n s → Within event (n + (most_set + (length r.file + 56))) (outcome_taken r name outcome s).0
-  outcome_within n r name outcome s h = by (nat_le (properties_size outcome.properties) most_set) refl
+  outcome_within : (n extra : ℕ) (r : Rule) (name : Text) (outcome : OutcomeValue) (properties : List Pair) (s : Scene) → properties_size properties ≤ extra + properties_size outcome.properties → Within event n s
+      → Within event (n + (extra + (most_set + (length r.file + 56)))) (outcome_set r name outcome properties s).0
+  outcome_within n extra r name outcome properties s few h = by (nat_le (properties_size outcome.properties) most_set) refl
     where
       set : Scene
-      set = with_env (properties_set s.state.env outcome.properties) s
+      set = with_env (properties_set s.state.env properties) s
 
       by : (b : Bool) → nat_le (properties_size outcome.properties) most_set ≡ b
-          → Within event (n + (most_set + (length r.file + 56))) (if◌then◌else◌ {A = Scene × Bool} b (need_noted r name outcome.needs set, outcome.is_done) (noted r TextTooLong name s, false)).0
+          → Within event (n + (extra + (most_set + (length r.file + 56)))) (if◌then◌else◌ {A = Scene × Bool} b (need_noted r name outcome.needs set, outcome.is_done) (noted r TextTooLong name s, false)).0
       by true fits =
           let a = leb-true (properties_size outcome.properties) most_set fits in
-          more event (n + properties_size outcome.properties + (length r.file + 56)) (n + (most_set + (length r.file + 56))) _ (omega (arith, a))
-          (need_within (n + properties_size outcome.properties) r name outcome.needs set (set_within n outcome.properties s h))
-      by false over = more event (n + (length r.file + 56)) (n + (most_set + (length r.file + 56))) _ (omega arith) (noted_within event n r TextTooLong name s h)
-
-  looked_up_within : (n : ℕ) (entries : List Entry) (text : Option Text) (s : Scene) → Within event n s → Within event (n + entries_weight entries) (looked_up entries text s)
-  looked_up_within n entries None s h = more event n (n + entries_weight entries) s (omega arith) h
-  looked_up_within n entries (Some text) s h =
-      let a = query_light entries text in
-      let b : pairs_weight (query entries text) ≡ properties_size (query entries text) = refl in
-      more event (n + properties_size (query entries text)) (n + entries_weight entries) _ (omega (arith, a, b)) (set_within n (query entries text) s h)
+          more event (n + properties_size properties + (length r.file + 56)) (n + (extra + (most_set + (length r.file + 56)))) _ (omega (arith, a, few))
+          (need_within (n + properties_size properties) r name outcome.needs set (set_within n properties s h))
+      by false over = more event (n + (length r.file + 56)) (n + (extra + (most_set + (length r.file + 56)))) _ (omega arith) (noted_within event n r TextTooLong name s h)
 
 module _ (event : EventValue) where
   module _ (n : ℕ) (r : Rule) (s : Scene) (h : Within event n s) (most : ℕ) (room : length r.file + 56 ≤ most) where
@@ -137,10 +156,10 @@ module _ (event : EventValue) where
     notes : (kind : NoteKind) (text : Text) → Within event (n + most) (noted r kind text s)
     notes kind text = more event (n + (length r.file + 56)) (n + most) _ (omega (arith, room)) (noted_within event n r kind text s h)
 
-    on_text_within : (d : Deed) (act : Text → Scene → Scene × Bool) (given : Rendered) → ((text : Text) → Within event (n + most) (act text s).0)
+    on_text_within : (d : ActKind) (act : Text → Scene → Scene × Bool) (given : Rendered) → ((text : Text) → Within event (n + most) (act text s).0)
         → Within event (n + most) (on_text r d act given s).0
     on_text_within d act (rendered.Text text) each = each text
-    on_text_within d act rendered.TooLong each = notes TextTooLong (word_of_key (key_of_deed d) (attribute_of_deed d))
+    on_text_within d act rendered.TooLong each = notes TextTooLong (word_of_key (key_of_act_kind d) (attribute_of_act_kind d))
 
     at_within : (place : Option ℕ) (name path : Text) → Within event (n + most) (tested_at place r name path s).0
     at_within None name path = notes TestNotMade path
@@ -173,7 +192,7 @@ module _ (event : EventValue) where
         by true = result_within (result_of s.state.event.profile answer.text)
         by false = stays
 
-    asked_within : (command : Text) → Within event (n + most) (asked r command s).0
+    asked_within : (command : Text) → Within event (n + most) (answered_by_block r command s).0
     asked_within command = answered_within command (value_of s.state.event.programs command)
 
     more_env : (profile : Profile) (properties : List Pair) → pairs_weight properties ≤ most → Within event (n + most) (record s { state = record s.state { env = with_found profile s.state.env properties } })
@@ -202,7 +221,8 @@ module _ (event : EventValue) where
         by false = notes BuiltinNotRun name
 
     taken_within : (name : Text) (outcome : OutcomeValue) → most_set + (length r.file + 56) ≤ most → Within event (n + most) (outcome_taken r name outcome s).0
-    taken_within name outcome light = more event (n + (most_set + (length r.file + 56))) (n + most) _ (omega (arith, light)) (outcome_within event n r name outcome s h)
+    taken_within name outcome light =
+        more event (n + (0 + (most_set + (length r.file + 56)))) (n + most) _ (omega (arith, light)) (outcome_within event n 0 r name outcome outcome.properties s (omega arith) h)
 
     usb_within : (ran : Option Bool) → most_set + (length r.file + 56) ≤ most → Within event (n + most) (usb_id_run ran r s).0
     unfolding scene_weight
@@ -218,9 +238,12 @@ module _ (event : EventValue) where
 
     net_within : (entries : List Entry) → entries_weight entries + (most_set + (length r.file + 56)) ≤ most → Within event (n + most) (net_id_run entries r s).0
     net_within entries light =
-        let text : Option Text = lookup s.state.event s.state.env in
-        more event (n + entries_weight entries + (most_set + (length r.file + 56))) (n + most) _ (omega (arith, light))
-        (outcome_within event (n + entries_weight entries) r (builtin_name NetId) (net_id s.state.event s.state.env) (looked_up entries text s) (looked_up_within event n entries text s h))
+        let names : OutcomeValue = net_id s.state.event s.state.env in
+        let found : List Pair = looked_up entries (lookup s.state.event s.state.env) in
+        let a = with_maker_light found names.properties in
+        let b = looked_up_light entries (lookup s.state.event s.state.env) in
+        more event (n + (entries_weight entries + (most_set + (length r.file + 56)))) (n + most) _ (omega (arith, light))
+        (outcome_within event n (entries_weight entries) r (builtin_name NetId) names (with_maker found names.properties) s (omega (arith, a, b)) h)
 
     meant_within : (entries : List Entry) (command : Text) (wanted : Builtin) → entries_weight entries + (most_set + (length r.file + 56)) ≤ most → Within event (n + most) (builtin_run entries r command wanted s).0
     meant_within entries command (asked_for.Hwdb hwdb) light = hwdb_within entries command (Some hwdb) (omega (arith, light))
@@ -239,7 +262,7 @@ module _ (event : EventValue) where
     not_run_within : (from : Import) → Within event (n + most) (not_run r from s).0
     not_run_within from = notes ImportNotRun (import_name (type_of from))
 
-    parent_by_within : (profile : Profile) (d : Deed) (names : List (List Item)) (text : Text) → pairs_weight (env_of (device_at s.state.event 1)) ≤ most
+    parent_by_within : (profile : Profile) (d : ActKind) (names : List (List Item)) (text : Text) → pairs_weight (env_of (device_at s.state.event 1)) ≤ most
         → Within event (n + most) (parent_imported profile r d names text s).0
     parent_by_within Manual d names text light = parent_within names (device_at s.state.event 1) light
     parent_by_within Udev d names text light =
@@ -253,7 +276,7 @@ module _ (event : EventValue) where
         by true = let a = printed_light answer.text in more_env Udev (printed_properties answer.text) (omega (arith, a, light))
         by false = stays
 
-    program_within : (profile : Profile) (d : Deed) (from : Import) (template : Template) → event_weight event ≤ most → Within event (n + most) (program_imported profile r d from template s).0
+    program_within : (profile : Profile) (d : ActKind) (from : Import) (template : Template) → event_weight event ≤ most → Within event (n + most) (program_imported profile r d from template s).0
     program_within Manual d from template short = not_run_within from
     program_within Udev d from template short =
         on_text_within d (from_program r) (import_text most_command_bytes template s.state)
@@ -261,20 +284,20 @@ module _ (event : EventValue) where
         let b = ap (λ e. answered_weight (value_of e.programs command)) h.same in
         printed_within command (value_of s.state.event.programs command) (omega (arith, a, b, short)))
 
-    unrun_within : (profile : Profile) (d : Deed) (from : Import) (bytes : ℕ) (template : Template) → Within event (n + most) (unrun profile r d from bytes template s).0
+    unrun_within : (profile : Profile) (d : ActKind) (from : Import) (bytes : ℕ) (template : Template) → Within event (n + most) (unrun profile r d from bytes template s).0
     unrun_within Manual d from bytes template = not_run_within from
     unrun_within Udev d from bytes template = on_text_within d (λ text. not_run r from) (import_text bytes template s.state) (λ text. not_run_within from)
 
-    import_within : (entries : List Entry) (from : Import) → entries_weight entries + (builtin_allowance event.profile + (length r.file + 56)) ≤ most → event_weight event ≤ most → Within event (n + most) (imported entries r (deed.Import from) from s).0
+    import_within : (entries : List Entry) (from : Import) → entries_weight entries + (builtin_allowance event.profile + (length r.file + 56)) ≤ most → event_weight event ≤ most → Within event (n + most) (imported entries r (act_kind.Import from) from s).0
     import_within entries (import.Builtin template) light short =
-        on_text_within (deed.Import (import.Builtin template)) (run_builtin entries r) (import_text most_command_bytes template s.state)
+        on_text_within (act_kind.Import (import.Builtin template)) (run_builtin entries r) (import_text most_command_bytes template s.state)
         (λ command. builtin_within s.state.event.profile entries command (let same = ap (λ e. builtin_allowance e.profile) h.same in omega (arith, same, light)))
     import_within entries (import.Parent names text) light short =
         let a = parent_light event in
         let b = ap (λ e. pairs_weight (env_of (device_at e 1))) h.same in
-        parent_by_within s.state.event.profile (deed.Import (import.Parent names text)) names text (omega (arith, a, b, short))
-    import_within entries (import.Program template) light short = program_within s.state.event.profile (deed.Import (import.Program template)) (import.Program template) template short
-    import_within entries (import.File template) light short = unrun_within s.state.event.profile (deed.Import (import.File template)) (import.File template) most_path_bytes template
+        parent_by_within s.state.event.profile (act_kind.Import (import.Parent names text)) names text (omega (arith, a, b, short))
+    import_within entries (import.Program template) light short = program_within s.state.event.profile (act_kind.Import (import.Program template)) (import.Program template) template short
+    import_within entries (import.File template) light short = unrun_within s.state.event.profile (act_kind.Import (import.File template)) (import.File template) most_path_bytes template
     import_within entries (import.Cmdline name) light short = not_run_within (import.Cmdline name)
     import_within entries (import.Db name) light short = not_run_within (import.Db name)
 
@@ -283,18 +306,18 @@ module _ (event : EventValue) where
   emptied n s h = record { same = h.same; light = h.light }
 
   module _ (len : ℕ) (short : event_weight event ≤ len) (entries : List Entry) where
-    deed_within : (n : ℕ) (r : Rule) (s : Scene) → Within event n s → (d : Deed) → Within event (n + deed_allowance event.profile len entries r d) (performed entries r d s).0
-    deed_within n r s h (deed.Test mask template) =
-        let most : ℕ = deed_allowance event.profile len entries r (deed.Test mask template) in
-        on_text_within n r s h most (omega arith) (deed.Test mask template) (tested r mask) (test_text template s.state) (tested_within n r s h most (omega arith) mask)
-    deed_within n r s h (deed.Program template) =
-        let most : ℕ = deed_allowance event.profile len entries r (deed.Program template) in
-        on_text_within n r (with_result [] s) (emptied n s h) most (omega arith) (deed.Program template) (asked r) (program_text template s.state)
+    act_kind_within : (n : ℕ) (r : Rule) (s : Scene) → Within event n s → (d : ActKind) → Within event (n + act_kind_allowance event.profile len entries r d) (performed entries r d s).0
+    act_kind_within n r s h (act_kind.Test mask template) =
+        let most : ℕ = act_kind_allowance event.profile len entries r (act_kind.Test mask template) in
+        on_text_within n r s h most (omega arith) (act_kind.Test mask template) (tested r mask) (test_text template s.state) (tested_within n r s h most (omega arith) mask)
+    act_kind_within n r s h (act_kind.Program template) =
+        let most : ℕ = act_kind_allowance event.profile len entries r (act_kind.Program template) in
+        on_text_within n r (with_result [] s) (emptied n s h) most (omega arith) (act_kind.Program template) (answered_by_block r) (program_text template s.state)
         (asked_within n r (with_result [] s) (emptied n s h) most (omega arith))
-    deed_within n r s h (deed.Import from) =
-        import_within n r s h (deed_allowance event.profile len entries r (deed.Import from)) (omega arith) entries from (omega arith) (omega (arith, short))
+    act_kind_within n r s h (act_kind.Import from) =
+        import_within n r s h (act_kind_allowance event.profile len entries r (act_kind.Import from)) (omega arith) entries from (omega arith) (omega (arith, short))
 
     -- an act
-    pub act_within : (r : Rule) (act : Act) (n : ℕ) (s : Scene) → Within event n s → Within event (n + deed_allowance event.profile len entries r act.deed) (act_step entries r act s).0
+    pub act_within : (r : Rule) (act : Act) (n : ℕ) (s : Scene) → Within event n s → Within event (n + act_kind_allowance event.profile len entries r act.kind) (act_step entries r act s).0
     unfolding act_step
-    act_within r act n s h = deed_within n r s h act.deed
+    act_within r act n s h = act_kind_within n r s h act.kind

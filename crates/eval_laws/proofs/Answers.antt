@@ -19,7 +19,7 @@ use Rattle.eval_laws.specs.Weights.{command_weight, note_weight, outcome_weight}
 use Rattle.engine_answers.specs.Lines.{event_line, note_line, pair_line, run_line, shown_line, text_line}
 use Rattle.engine_answers.specs.Answers.{answer, answer_lines}
 use Rattle.eval_laws.proofs.Lines.{escape_short, line_length, lines_short, note_line_short, pair_line_short, run_line_short, shown_line_short, text_line_short}
-use Rattle.eval_laws.proofs.Nodes.{behind, node_short}
+use Rattle.eval_laws.proofs.Nodes.{following, node_short}
 use Rattle.eval_laws.proofs.Priorities.{outcome_small}
 use Rattle.eval_laws.proofs.Weighing.{weight_by}
 
@@ -42,16 +42,16 @@ event_line_short event =
 pub answer_short : (event : EventValue) (o : Outcome) → IfSome o.priority (λ z. unsigned_abs z ≤ 2 ^ 31) → length (answer event o) ≤ 8 * outcome_weight o + 4 * event_weight event + 64
 unfolding answer_lines outcome_weight
 answer_short event o fits =
-    let head = behind _ _ _ _ (event_line_short event) (node_short o fits) in
-    let labels = behind _ _ _ _ head (lines_short pair_weight (pair_line (codes "label")) (λ p. pair_line_short (codes "label") p (omega arith)) o.labels) in
-    let links = behind _ _ _ _ labels (lines_short text_weight (text_line (codes "link")) (λ t. text_line_short (codes "link") t (omega arith)) o.links) in
-    let tags = behind _ _ _ _ links (lines_short text_weight (text_line (codes "tag")) (λ t. text_line_short (codes "tag") t (omega arith)) o.tags) in
-    let env = behind _ _ _ _ tags (lines_short pair_weight shown_line shown_line_short o.env) in
-    let attrs = behind _ _ _ _ env (lines_short pair_weight (pair_line (codes "attr")) (λ p. pair_line_short (codes "attr") p (omega arith)) o.attrs) in
-    let sysctls = behind _ _ _ _ attrs (lines_short pair_weight (pair_line (codes "sysctl")) (λ p. pair_line_short (codes "sysctl") p (omega arith)) o.sysctls) in
-    let runs = behind _ _ _ _ sysctls (lines_short command_weight (λ command. run_line command.kind command.text) run_line_short o.runs) in
-    let notes = behind _ _ _ _ runs (lines_short note_weight note_line note_line_short o.notes) in
-    let whole = behind _ (newline ∷ []) _ 1 notes (omega arith) in
+    let head = following _ _ _ _ (event_line_short event) (node_short o fits) in
+    let labels = following _ _ _ _ head (lines_short pair_weight (pair_line (codes "label")) (λ p. pair_line_short (codes "label") p (omega arith)) o.labels) in
+    let links = following _ _ _ _ labels (lines_short text_weight (text_line (codes "link")) (λ t. text_line_short (codes "link") t (omega arith)) o.links) in
+    let tags = following _ _ _ _ links (lines_short text_weight (text_line (codes "tag")) (λ t. text_line_short (codes "tag") t (omega arith)) o.tags) in
+    let env = following _ _ _ _ tags (lines_short pair_weight shown_line shown_line_short o.env) in
+    let attrs = following _ _ _ _ env (lines_short pair_weight (pair_line (codes "attr")) (λ p. pair_line_short (codes "attr") p (omega arith)) o.attrs) in
+    let sysctls = following _ _ _ _ attrs (lines_short pair_weight (pair_line (codes "sysctl")) (λ p. pair_line_short (codes "sysctl") p (omega arith)) o.sysctls) in
+    let runs = following _ _ _ _ sysctls (lines_short command_weight (λ command. run_line command.kind command.text) run_line_short o.runs) in
+    let notes = following _ _ _ _ runs (lines_short note_weight note_line note_line_short o.notes) in
+    let whole = following _ (newline ∷ []) _ 1 notes (omega arith) in
     omega (arith, whole)
 
 pub block_answer_short : (profile : Profile) (block : Text) (event : EventValue) (o : Outcome) → block_gives block ≡ Ok event → IfSome o.priority (λ z. unsigned_abs z ≤ 2 ^ 31)

@@ -6,7 +6,7 @@ use Rattle.text_tables.specs.Pairs.{value_of}
 use Rattle.device_core.specs.Values.{AnswerValue}
 use Rattle.hwdb_lookup.specs.declared.entry.Entry.{Entry}
 use Rattle.rule_templates.specs.Template.{Parts as Template}
-use Rattle.rule_types.specs.declared.part.Deed.TheVariants as deed
+use Rattle.rule_types.specs.declared.part.ActKind.TheVariants as act_kind
 use Rattle.rule_types.specs.Rules.{Rule}
 use Rattle.eval_state.specs.declared.scene.Scene.{Scene}
 use Rattle.eval_rendering.specs.declared.rendered.Rendered.{Rendered}
@@ -15,8 +15,8 @@ use Rattle.text_bytes.specs.declared.profile.Profile.{Profile}
 use Rattle.text_bytes.specs.declared.profile.Profile.TheVariants.{Manual, Udev}
 use Rattle.eval_acts.specs.ActTexts.{program_text}
 use Rattle.eval_acts.specs.Acts as acts
-use Rattle.eval_acts.specs.Acts.{act_step, came_too_long, going_on, goes_on, on_text}
-use Rattle.eval_acts.specs.Questions.{answered_or_noted, asked, result_of, with_result}
+use Rattle.eval_acts.specs.Acts.{act_step, came_too_long, proceeding, proceeds, on_text}
+use Rattle.eval_acts.specs.Questions.{answered_by_block, answered_or_noted, result_of, with_result}
 use Rattle.rule_types.specs.declared.roles.MatchOperator.TheVariants.{Equal}
 use Rattle.eval_laws.specs.Answered.{IsAnswered, program}
 
@@ -25,13 +25,13 @@ abbrev answer_with : ℕ → Text → Option AnswerValue
 answer_with n t = Some (record { status = n; text = t })
 
 module _ (r : Rule) (template : Template) (s : Scene) where
-  -- what PROGRAM comes to, by how its command is rendered
+  -- the result of PROGRAM, by how its command is rendered
   came : Rendered → Scene × Bool
-  came given = going_on (program template) (on_text r (deed.Program template) (asked r) given (with_result [] s))
+  came given = proceeding (program template) (on_text r (act_kind.Program template) (answered_by_block r) given (with_result [] s))
 
-  -- what comes of an answer, or of none
+  -- the result of an answer, or of none
   went_by : Scene × Bool → Scene × Bool
-  went_by went = going_on (program template) (acts.tried went)
+  went_by went = proceeding (program template) (acts.tried went)
 
   -- The act stops the rule and leaves no result.
   record Fails (went : Scene × Bool) : Type 0 where
@@ -53,7 +53,7 @@ module _ (r : Rule) (template : Template) (s : Scene) where
   by_answer command e None there = inr (record { stops = refl; empty = refl })
   by_answer command e (Some answer) there = by_status command answer e there (answer.status == 0) refl
 
-  too_long_stops : (profile : Profile) → goes_on Equal (came_too_long profile) ≡ false
+  too_long_stops : (profile : Profile) → proceeds Equal (came_too_long profile) ≡ false
   too_long_stops Manual = refl
   too_long_stops Udev = refl
 
@@ -66,8 +66,8 @@ module _ (r : Rule) (template : Template) (s : Scene) where
     pub answered : (text : Text) → IsAnswered template s text → act_step entries r (program template) s ≡ (with_result (result_of s.state.event.profile text) s, true)
     unfolding act_step
     answered text h =
-        ap (λ given. going_on (program template) (on_text r (deed.Program template) (asked r) given (with_result [] s))) h.rendered
-        ∙ ap (λ answer. going_on (program template) (acts.tried (answered_or_noted r h.command answer (with_result [] s)))) h.answered
+        ap (λ given. proceeding (program template) (on_text r (act_kind.Program template) (answered_by_block r) given (with_result [] s))) h.rendered
+        ∙ ap (λ answer. proceeding (program template) (acts.tried (answered_or_noted r h.command answer (with_result [] s)))) h.answered
 
     is_answered : ((text : Text) × IsAnswered template s text) ⊎ Fails (act_step entries r (program template) s)
     unfolding act_step came

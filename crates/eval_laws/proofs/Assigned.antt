@@ -1,6 +1,6 @@
 -- What a scene weighs after an assignment.
-use Rattle.std.proofs.Common.{◌≡◌, ℕ, zero, suc, ◌+◌, ◌≤◌, Bool, true, false, not, nat_lt, ltb-false, refl, List, [], ◌∷◌, ◌++◌, length, Option, Some, None, ◌==◌, if◌then◌else◌, ap, arith}
-use Rattle.std.proofs.lemmas.List.Sums.{sum_by-cons}
+use Rattle.std.proofs.Common.{◌≡◌, ℕ, zero, suc, ◌+◌, ◌≤◌, Bool, true, false, not, nat_lt, ltb-false, refl, List, [], ◌∷◌, ◌++◌, length, slice_get, Option, Some, None, ◌==◌, if◌then◌else◌, ap, arith}
+use Rattle.std.proofs.lemmas.List.Sums.{sum_by-cons, sum_by_push}
 use Rattle.std.specs.List.{slice_split}
 use Rattle.text_bytes.specs.Names.{space}
 use Rattle.text_bytes.specs.declared.profile.Profile.{Profile}
@@ -16,8 +16,8 @@ use Rattle.rule_types.specs.declared.roles.Target.{Target}
 use Rattle.rule_types.specs.declared.roles.Target.TheVariants as target
 use Rattle.rule_types.specs.Rules.{Rule}
 use Rattle.rule_types.specs.Topics.{mode_of}
-use Rattle.device_core.specs.Values.{EventValue}
-use Rattle.eval_laws.specs.DeviceWeights.{device_weight, event_weight, given_weight, pair_weight, pairs_weight, text_weight, texts_weight}
+use Rattle.device_core.specs.Values.{DeviceValue, EventValue}
+use Rattle.eval_laws.specs.DeviceWeights.{device_weight, devices_weight, event_weight, given_weight, pair_weight, pairs_weight, text_weight, texts_weight}
 use Rattle.eval_state.specs.Texts.{or_empty}
 use Rattle.eval_state.specs.Notes.{word_of_key}
 use Rattle.eval_state.specs.declared.note_kind.NoteKind.{NoteKind}
@@ -31,18 +31,19 @@ use Rattle.eval_rendering.specs.declared.rendered.Rendered.{Rendered}
 use Rattle.eval_rendering.specs.declared.rendered.Rendered.TheVariants as rendered
 use Rattle.rule_templates.specs.Reading.{left_of}
 use Rattle.eval_state.specs.declared.scene.Scene.{Scene}
-use Rattle.eval_assignments.specs.Assigning.{assigned, given, group_set, labels_before, link_text, or_written, owner_set}
+use Rattle.eval_assignments.specs.Assigning.{assigned, group_set, labels_before, link_text, or_written, owner_set, unless_empty}
+use Rattle.eval_state.specs.Chains.{device_at}
 use Rattle.eval_state.specs.Files.{starred}
-use Rattle.eval_assignments.specs.Attributes.{attribute_path, attribute_put, attribute_set, attribute_set_at, attribute_set_by, own_attribute_set}
+use Rattle.eval_assignments.specs.Attributes.{attribute_path, attribute_put, attribute_set, attribute_set_at, attribute_set_by, found_above, own_attribute_set}
 use Rattle.eval_assignments.specs.Bounds.{most_name_bytes, most_value_bytes}
 use Rattle.eval_assignments.specs.Links.{first_refused, link_noted, links_changed, plain_links, words}
-use Rattle.eval_assignments.specs.Lists.{changed, names, one_tag}
+use Rattle.eval_assignments.specs.Lists.{changed, link_names, one_tag}
 use Rattle.eval_assignments.specs.Modes.{mode_read, mode_set}
 use Rattle.eval_assignments.specs.Names.{name_text}
 use Rattle.eval_assignments.specs.Parameters.{parameter_name, parameter_put, parameter_set}
 use Rattle.eval_state.specs.Properties.{property_set}
 use Rattle.eval_assignments.specs.Properties.{appended, env_text, extended, property_added, property_changed, property_extended, property_joined, property_put, udev_property_changed}
-use Rattle.eval_assignments.specs.Tags.{is_tag, tag_added, tag_changed, tag_standing, without_tags}
+use Rattle.eval_assignments.specs.Tags.{is_tag, tag_added, tag_changed, with_tag, without_tags}
 use Rattle.eval_assignments.specs.declared.escapes.Escape.{Escape}
 use Rattle.eval_laws.specs.Allowances.{part_allowance, text_allowance}
 use Rattle.eval_laws.specs.Inner.{Within, scene_weight}
@@ -51,9 +52,9 @@ use Rattle.eval_laws.proofs.Tables.{with_text_light, with_texts_light, with_valu
 use Rattle.eval_laws.proofs.Rendered.{IsBounded, IsShort, bounded_short, rendered_short, within_short}
 use Rattle.eval_laws.proofs.Scenes.{more, note_within}
 use Rattle.eval_laws.proofs.Escaped.{env_same, link_same, name_same}
-use Rattle.eval_laws.proofs.Written.{IsNoLonger, named_shorter, parameter_light, plain_light, starred_light}
+use Rattle.eval_laws.proofs.Written.{IsNoLonger, attrs_of, named_shorter, parameter_light, plain_light, starred_light, whole_light}
 
-given_light : (t : Text) → given_weight (given t) ≤ length t + 1
+given_light : (t : Text) → given_weight (unless_empty t) ≤ length t + 1
 given_light [] = omega arith
 given_light (b ∷ t) = omega arith
 
@@ -61,7 +62,7 @@ tag_light : (t : Text) → texts_weight (one_tag t) ≤ length t + 1
 tag_light [] = omega arith
 tag_light (b ∷ t) = let a = sum_by-cons text_weight (b ∷ t) [] in omega (arith, a)
 
-names_light : (t : Text) → texts_weight (names t) ≤ length t + 1
+names_light : (t : Text) → texts_weight (link_names t) ≤ length t + 1
 names_light t =
     let a = filter_light text_weight (λ t. not (is_empty t)) (slice_split (λ b. b == space) t) in
     let b = split_light (λ b. b == space) t in
@@ -108,6 +109,27 @@ extended_short (Some value) t short = by (nat_lt most_value_bytes (length (value
 own_light : (event : EventValue) → pairs_weight event.device.attrs ≤ event_weight event
 unfolding event_weight device_weight
 own_light event = let a = sum_by-cons device_weight event.device event.parents in omega (arith, a)
+
+-- and so are those of the device at any place
+attrs_light : (d : DeviceValue) → pairs_weight d.attrs ≤ device_weight d
+unfolding device_weight
+attrs_light d = omega arith
+
+among_light : (devices : List DeviceValue) (place : ℕ) → pairs_weight (attrs_of (slice_get devices place)) ≤ devices_weight devices
+among_light [] zero = omega arith
+among_light [] (suc place) = omega arith
+among_light (d ∷ devices) zero =
+    let a = sum_by-cons device_weight d devices in
+    let b = attrs_light d in
+    omega (arith, a, b)
+among_light (d ∷ devices) (suc place) =
+    let a = sum_by-cons device_weight d devices in
+    let b = among_light devices place in
+    omega (arith, a, b)
+
+chain_light : (event : EventValue) (place : ℕ) → pairs_weight (attrs_of (device_at event place)) ≤ event_weight event
+unfolding event_weight
+chain_light event place = let a = among_light (event.device ∷ event.parents) place in omega (arith, a)
 
 module _ (event : EventValue) (n : ℕ) (r : Rule) (s : Scene) (h : Within event n s) where
   env_within : (env : List Pair) (k : ℕ) → pairs_weight env ≤ pairs_weight s.state.env + k → Within event (n + k) (with_env env s)
@@ -177,16 +199,16 @@ module _ (event : EventValue) (n : ℕ) (r : Rule) (s : Scene) (h : Within event
     mode_within [] = notes NoValue (word_of_key key.Mode None)
     mode_within (b ∷ t) = read_within (b ∷ t) (mode_of (b ∷ t))
 
-    standing_within : (t : Text) → length t ≤ 16384 → Within event (n + k) (tag_standing t s)
+    with_tag_within : (t : Text) → length t ≤ 16384 → Within event (n + k) (with_tag t s)
     unfolding scene_weight
-    standing_within t short = let a = h.light in let b = with_text_light s.state.tags t in record { same = h.same; light = omega (arith, a, b, room, short) }
+    with_tag_within t short = let a = h.light in let b = with_text_light s.state.tags t in record { same = h.same; light = omega (arith, a, b, room, short) }
 
     tag_within : (t : Text) → length t ≤ 16384 → Within event (n + k) (tag_added r t s)
     tag_within [] short = notes NoValue (word_of_key key.Tag None)
     tag_within (b ∷ t) short = by (is_tag (b ∷ t))
       where
-        by : (is : Bool) → Within event (n + k) (if is then tag_standing (b ∷ t) s else noted r TagIgnored (b ∷ t) s)
-        by true = standing_within (b ∷ t) short
+        by : (is : Bool) → Within event (n + k) (if is then with_tag (b ∷ t) s else noted r TagIgnored (b ∷ t) s)
+        by true = with_tag_within (b ∷ t) short
         by false = notes TagIgnored (b ∷ t)
 
     found_within : (name : Text) (found : Option Text) (t : Text) → (m : ℕ) → IsNoLonger m found → m + length t + 2 ≤ k → Within event (n + k) (attribute_put r name found t s)
@@ -261,7 +283,12 @@ module _ (event : EventValue) (n : ℕ) (r : Rule) (s : Scene) (h : Within event
     at_within : (place : Option ℕ) (is : NamedValue) → length is.attribute ≤ length name → Within event (n + most) (attribute_set_at place is r name t s)
     at_within None is shorter = own_within
     at_within (Some zero) is shorter = starred_within is.attribute shorter
-    at_within (Some (suc above)) is shorter = found_within event n r s h most (omega arith) name (Some name) t (length name) (omega arith) (omega (arith, short))
+    at_within (Some (suc above)) is shorter =
+        let a = chain_light event (suc above) in
+        let b = ap (λ (e : EventValue). pairs_weight (attrs_of (device_at e (suc above)))) h.same in
+        found_within event n r s h most (omega arith) name (found_above s.state.event (suc above) is name) t (length name + pairs_weight (attrs_of (device_at s.state.event (suc above))))
+        (whole_light is name shorter (device_at s.state.event (suc above)))
+        (omega (arith, a, b, short, fits))
 
     by_within : (is : Option NamedValue) → named name ≡ is → Within event (n + most) (attribute_set_by is r name t s)
     by_within None e = own_within
@@ -304,7 +331,7 @@ module _ (event : EventValue) (n : ℕ) (r : Rule) (s : Scene) (h : Within event
       record { same = h.same; light = omega (arith, a, b, c, short) }
   assigned_within Manual e o target.Symlink written t short =
       let a = h.light in
-      let b = changed_light o (names (link_text e t)) s.state.links in
+      let b = changed_light o (link_names (link_text e t)) s.state.links in
       let c = names_light (link_text e t) in
       let d = link_same e t in
       record { same = h.same; light = omega (arith, a, b, c, d, short) }
@@ -322,16 +349,15 @@ module _ (event : EventValue) (n : ℕ) (r : Rule) (s : Scene) (h : Within event
   assigned_within Udev e o target.Tag written t short = none_added (part_allowance r None) _ (tags_within (part_allowance r None) (omega arith) o t short)
   assigned_within Udev e o (target.Seclabel name) written t short =
       let a = h.light in
-      let b = with_value_light (labels_before o s.labels) name (or_written written t) in
+      let b = sum_by_push pair_weight (labels_before o s.labels) (name, or_written written t) in
       let c = labels_light o s.labels in
       let d = or_written_light written t in
       record { same = h.same; light = omega (arith, a, b, c, d, short) }
   assigned_within Udev e o (target.Env name) written t short = none_added (part_allowance r (Some name)) _ (udev_property_within event n r s h e o name written t short)
   assigned_within Udev e o target.Name written t short =
       let a = h.light in
-      let b = given_light (name_text Udev e t) in
-      let c = name_same Udev e t in
-      record { same = h.same; light = omega (arith, a, b, c, short) }
+      let b = name_same Udev e t in
+      record { same = h.same; light = omega (arith, a, b, short) }
   assigned_within Udev e o target.Symlink written t short = let a = link_same e t in none_added (part_allowance r None) _ (links_within (part_allowance r None) (omega arith) o (link_text e t) (omega (arith, a, short)))
   assigned_within Udev e o (target.Attr name) written t short = attribute_within name t short
   assigned_within Udev e o (target.Sysctl name) written t short = none_added (part_allowance r (Some name)) _ (named_within name t short)

@@ -3,7 +3,7 @@ use Rattle.std.proofs.Common.{◌≡◌, ℕ, ◌<◌, Bool, true, false, cond, 
 use Rattle.std.specs.List.{list_any}
 use Rattle.std.specs.Option.{option_and_then}
 use Rattle.std.proofs.lemmas.Bool.{lt-ltb}
-use Rattle.text_bytes.specs.Texts.{is_empty}
+use Rattle.text_bytes.specs.Texts.{is_empty, trimmed}
 use Rattle.text_bytes.specs.declared.profile.Profile.{Profile}
 use Rattle.text_bytes.specs.declared.profile.Profile.TheVariants.{Manual, Udev}
 use Rattle.text_tables.specs.Pairs.{value_of}
@@ -14,38 +14,38 @@ use Rattle.rule_templates.specs.declared.piece.Piece.{Piece}
 use Rattle.rule_templates.specs.declared.piece.Piece.TheVariants as piece
 use Rattle.eval_state.specs.Chains.{device_at}
 use Rattle.eval_state.specs.Named.{NamedValue, named, named_place}
-use Rattle.eval_state.specs.Texts.{or_empty, trimmed}
+use Rattle.eval_state.specs.Texts.{or_empty}
 use Rattle.eval_state.specs.declared.state.State.{State}
 use Rattle.eval_rendering.specs.Bounds.{bounded}
 use Rattle.eval_rendering.specs.Pieces.{attribute, attribute_as, attribute_named, attribute_of, has_long, is_long, most_attribute_bytes, named_attribute, piece_text}
-use Rattle.eval_rendering.specs.Rendering.{answer, render, text_in}
+use Rattle.eval_rendering.specs.Rendering.{as_rendered, render, text_in}
 use Rattle.text_links.specs.Safe.{attribute_marks, safe}
 use Rattle.eval_rendering.specs.declared.rendered.Mode.{Mode}
 use Rattle.eval_rendering.specs.declared.rendered.Rendered.TheVariants as rendered
 
-pub manual_renders : (template : Template) (state : State) (mode : Mode) → state.event.profile ≡ Manual → render template state mode ≡ answer mode (bounded (flat_map (text_in mode state) template.pieces))
+pub manual_renders : (template : Template) (state : State) (mode : Mode) → state.event.profile ≡ Manual → render template state mode ≡ as_rendered mode (bounded (flat_map (text_in mode state) template.pieces))
 unfolding render
 manual_renders template state mode manual =
-    ap (λ (p : Profile). cond (has_long p state template.pieces) rendered.TooLong (answer mode (bounded (flat_map (text_in mode state) template.pieces)))) manual
+    ap (λ (p : Profile). cond (has_long p state template.pieces) rendered.TooLong (as_rendered mode (bounded (flat_map (text_in mode state) template.pieces)))) manual
 
-any_among : {X : Type 0} (test : X → Bool) (before behind : List X) (x : X) → test x ≡ true → list_any test (before ++ x ∷ behind) ≡ true
-any_among test [] behind x h = ap (λ b. b || list_any test behind) h
-any_among test (y ∷ before) behind x h = by (test y) (any_among test before behind x h)
+any_among : {X : Type 0} (test : X → Bool) (before following : List X) (x : X) → test x ≡ true → list_any test (before ++ x ∷ following) ≡ true
+any_among test [] following x h = ap (λ b. b || list_any test following) h
+any_among test (y ∷ before) following x h = by (test y) (any_among test before following x h)
   where
-    by : (b : Bool) → list_any test (before ++ x ∷ behind) ≡ true → (b || list_any test (before ++ x ∷ behind)) ≡ true
+    by : (b : Bool) → list_any test (before ++ x ∷ following) ≡ true → (b || list_any test (before ++ x ∷ following)) ≡ true
     by true more = refl
     by false more = more
 
-pub long_is_too_long : (template : Template) (state : State) (mode : Mode) (before behind : List Piece) (name : Text) → state.event.profile ≡ Udev → template.pieces ≡ before ++ piece.Attr name ∷ behind
+pub long_is_too_long : (template : Template) (state : State) (mode : Mode) (before following : List Piece) (name : Text) → state.event.profile ≡ Udev → template.pieces ≡ before ++ piece.Attr name ∷ following
     → named_attribute name state.event ≡ None → 511 < length (or_empty (attribute name state)) → render template state mode ≡ rendered.TooLong
 unfolding render
-long_is_too_long template state mode before behind name udev whole none long =
-    let other = answer mode (bounded (flat_map (text_in mode state) template.pieces)) in
+long_is_too_long template state mode before following name udev whole none long =
+    let other = as_rendered mode (bounded (flat_map (text_in mode state) template.pieces)) in
     let found : attribute_as Udev name state ≡ or_empty (attribute name state) = ap (λ (o : Option Text). unwrap_or (option_map (take most_attribute_bytes) o) (or_empty (attribute name state))) none in
     let here : is_long state (piece.Attr name) ≡ true = ap (λ (t : Text). nat_lt most_attribute_bytes (length t)) found ∙ lt-ltb 511 (length (or_empty (attribute name state))) long in
     ap (λ (p : Profile). cond (has_long p state template.pieces) rendered.TooLong other) udev
     ∙ ap (λ (ps : List Piece). cond (list_any (is_long state) ps) rendered.TooLong other) whole
-    ∙ ap (λ (b : Bool). cond b rendered.TooLong other) (any_among (is_long state) before behind (piece.Attr name) here)
+    ∙ ap (λ (b : Bool). cond b rendered.TooLong other) (any_among (is_long state) before following (piece.Attr name) here)
 
 pub named_is_cut : (state : State) (name : Text) (is : NamedValue) (place : ℕ) (device : DeviceValue) → state.event.profile ≡ Udev → named name ≡ Some is → is_empty is.attribute ≡ false
     → named_place is state.event ≡ Some place → device_at state.event place ≡ Some device

@@ -9,8 +9,8 @@ use Rattle.eval_assignments.specs.Lists.{without_texts}
 is_same : (a b : Text) → same_text a b ≡ true → a ≡ b
 is_same a b h = (bytes_decides a b).0 h
 
-turned : (a b : Text) → same_text a b ≡ same_text b a
-turned a b = by (same_text a b) (same_text b a) refl refl
+reversed : (a b : Text) → same_text a b ≡ same_text b a
+reversed a b = by (same_text a b) (same_text b a) refl refl
   where
     same : (c d : Text) → c ≡ d → same_text c d ≡ true
     same c d h = (bytes_decides c d).1 h
@@ -67,8 +67,8 @@ known texts m x there = by (same_text x m) refl
     by false e = refl
 
 -- and one that was put after is not new any more
-behind_last : (texts : List Text) (m x : Text) → is_among texts m ≡ false → is_new (texts ++ m ∷ []) x ≡ (is_new (m ∷ []) x && is_new texts x)
-behind_last texts m x missing =
+after_last : (texts : List Text) (m x : Text) → is_among texts m ≡ false → is_new (texts ++ m ∷ []) x ≡ (is_new (m ∷ []) x && is_new texts x)
+after_last texts m x missing =
     ap not (sym (ap (λ b. is_among (cond b texts (texts ++ m ∷ [])) x) missing) ∙ among_added texts m x) ∙ by (is_among texts x) (same_text x m)
   where
     by : (a b : Bool) → not (a || b) ≡ (not (b || false) && not a)
@@ -78,10 +78,10 @@ behind_last texts m x missing =
     by false false = refl
 
 -- the new ones follow what is there, in the order in which they come, each once
-pub behind : (more texts : List Text) → with_texts texts more ≡ texts ++ filter (is_new texts) (with_texts [] more)
-behind [] texts = sym (append-nil texts)
-behind (m ∷ more) texts =
-    behind more (with_text texts m) ∙ by (is_among texts m) refl ∙ ap (λ ts. texts ++ filter (is_new texts) ts) (sym (behind more (m ∷ [])))
+pub following : (more texts : List Text) → with_texts texts more ≡ texts ++ filter (is_new texts) (with_texts [] more)
+following [] texts = sym (append-nil texts)
+following (m ∷ more) texts =
+    following more (with_text texts m) ∙ by (is_among texts m) refl ∙ ap (λ ts. texts ++ filter (is_new texts) ts) (sym (following more (m ∷ [])))
   where
     by : (b : Bool) → is_among texts m ≡ b
         → cond b texts (texts ++ m ∷ []) ++ filter (is_new (cond b texts (texts ++ m ∷ []))) (with_texts [] more)
@@ -90,15 +90,15 @@ behind (m ∷ more) texts =
         ap (λ ts. texts ++ ts) (sym (one_filter (is_new texts) (is_new (m ∷ [])) (is_new texts) (λ x. known texts m x e) (with_texts [] more)))
     by false e =
         append_assoc texts (m ∷ []) (filter (is_new (texts ++ m ∷ [])) (with_texts [] more))
-        ∙ ap (λ ts. texts ++ m ∷ ts) (sym (one_filter (is_new texts) (is_new (m ∷ [])) (is_new (texts ++ m ∷ [])) (λ x. behind_last texts m x e) (with_texts [] more)))
+        ∙ ap (λ ts. texts ++ m ∷ ts) (sym (one_filter (is_new texts) (is_new (m ∷ [])) (is_new (texts ++ m ∷ [])) (λ x. after_last texts m x e) (with_texts [] more)))
 
 -- ---- `=`
 
--- the first stands first, and no other is the same
+-- the first comes first, and no other is the same
 pub first_alone : (t : Text) (others : List Text) → with_texts [] (t ∷ others) ≡ t ∷ without_text (with_texts [] others) t
 first_alone t others =
-    behind others (t ∷ [])
-    ∙ ap (λ ts. t ∷ ts) (same_filter (is_new (t ∷ [])) (λ u. not (same_text t u)) (λ u. ap not (or_false (same_text u t) ∙ turned u t)) (with_texts [] others))
+    following others (t ∷ [])
+    ∙ ap (λ ts. t ∷ ts) (same_filter (is_new (t ∷ [])) (λ u. not (same_text t u)) (λ u. ap not (or_false (same_text u t) ∙ reversed u t)) (with_texts [] others))
 
 -- ---- `-=`
 
@@ -112,4 +112,4 @@ others_stay [] texts = sym (whole_filter (λ t. true) (λ t. refl) texts)
 others_stay (g ∷ gone) texts =
     others_stay gone (without_text texts g)
     ∙ one_filter (λ t. not (is_among gone t)) (λ t. not (same_text g t)) (λ t. not (is_among (g ∷ gone) t))
-    (λ t. ap (λ b. not (b || is_among gone t)) (turned t g) ∙ apart (same_text g t) (is_among gone t)) texts
+    (λ t. ap (λ b. not (b || is_among gone t)) (reversed t g) ∙ apart (same_text g t) (is_among gone t)) texts

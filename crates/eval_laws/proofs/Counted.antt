@@ -26,12 +26,12 @@ use Rattle.eval_state.specs.declared.note_kind.NoteKind.TheVariants.{AttributeNo
 use Rattle.eval_state.specs.declared.scene.Scene.{Scene}
 use Rattle.eval_acts.specs.Acts.{act_step}
 use Rattle.eval_matching.specs.Attributes.{is_not_read}
-use Rattle.eval_acts.specs.Reaching.{reached}
+use Rattle.eval_acts.specs.Reaching.{match_reached}
 use Rattle.eval_assignments.specs.Steps.{set_step}
 use Rattle.eval_rules.specs.Jumps.{is_passed, run, sought_after}
 use Rattle.eval_rules.specs.Outcomes.{late_note, late_notes, outcome, outcome_of, run_text}
 use Rattle.eval_rules.specs.Idle.{change_applies, is_idle, note_all, note_step}
-use Rattle.eval_rules.specs.Steps.{Went, apply, before_sets, only_noted, onward, plain_step, result_step, search, steps, walk}
+use Rattle.eval_rules.specs.Steps.{Went, apply, before_sets, if_proceeding, only_noted, plain_step, result_step, search, steps, walk}
 use Rattle.eval_laws.specs.Counts.{part_count}
 use Rattle.eval_laws.proofs.Sums.{sum_less}
 use Rattle.eval_laws.proofs.CountedActs.{act_counts}
@@ -55,8 +55,8 @@ module _ (w : Note → ℕ) (v : RunValue → ℕ) (c : Rule → ℕ) (light : (
   abbrev counted : Scene → ℕ
   counted s = measured w v s
 
-  onward_counts : (next : Scene → Went) (k n : ℕ) (went : Went) → counted went.0 ≤ n → ((s : Scene) → counted (next s).0 ≤ counted s + k) → counted (onward next went).0 ≤ n + k
-  onward_counts next k n went h each = by went.1
+  if_proceeding_counts : (next : Scene → Went) (k n : ℕ) (went : Went) → counted went.0 ≤ n → ((s : Scene) → counted (next s).0 ≤ counted s + k) → counted (if_proceeding next went).0 ≤ n + k
+  if_proceeding_counts next k n went h each = by went.1
     where
       by : (b : Bool) → counted (if b then next went.0 else went).0 ≤ n + k
       by true = let a = each went.0 in omega (arith, a, h)
@@ -67,12 +67,12 @@ module _ (w : Note → ℕ) (v : RunValue → ℕ) (c : Rule → ℕ) (light : (
     unfolding walk
     walk_counts [] s = omega arith
     walk_counts (p ∷ ps) s =
-        let a = onward_counts (walk step ps) (sum_by (λ (q : P). most) ps) (counted s + most) (step p s) (each p s) (walk_counts ps) in
+        let a = if_proceeding_counts (walk step ps) (sum_by (λ (q : P). most) ps) (counted s + most) (step p s) (each p s) (walk_counts ps) in
         let b = sum_by-cons (λ (q : P). most) p ps in
         omega (arith, a, b)
 
   module _ (r : Rule) where
-    reached_counts : (at : PlainKey) (s : Scene) → counted (reached r at s) ≤ counted s + c r
+    reached_counts : (at : PlainKey) (s : Scene) → counted (match_reached r at s) ≤ counted s + c r
     reached_counts (plain.Sysctl name) s = noted_more w v c light r s SysctlNotRead name
     reached_counts plain.Action s = omega arith
     reached_counts plain.Devpath s = omega arith
@@ -113,22 +113,22 @@ module _ (w : Note → ℕ) (v : RunValue → ℕ) (c : Rule → ℕ) (light : (
 
   -- a rule with its assignments, however these are made
   went_counts : (entries : List Entry) (r : Rule) (step : Scene → Assignment → Scene) → ((s : Scene) (a : Assignment) → counted (step s a) ≤ counted s + c r)
-      → (s : Scene) → counted (onward (λ (t : Scene). (fold step t r.sets, true)) (before_sets entries r s)).0 ≤ counted s + parts_most (c r) r
+      → (s : Scene) → counted (if_proceeding (λ (t : Scene). (fold step t r.sets, true)) (before_sets entries r s)).0 ≤ counted s + parts_most (c r) r
   went_counts entries r step each s =
       let most : ℕ = c r in
       let p : ℕ = counted s + sum_by (λ (x : PlainMatch). most) r.plain in
       let a : ℕ = p + sum_by (λ (x : Act). most) r.acts in
       let b : ℕ = a + sum_by (λ (x : Comparison). most) r.results in
       let plainly : Went = walk (plain_step r) r.plain s in
-      let found : Went = onward (search r.up) plainly in
-      let acted : Went = onward (walk (act_step entries r) r.acts) found in
-      let behind_plain = walk_counts most (plain_step r) (plain_counts r) r.plain s in
-      let behind_up = onward_counts (search r.up) 0 p plainly behind_plain (search_counts r r.up) in
-      let behind_acts =
-      onward_counts (walk (act_step entries r) r.acts) (sum_by (λ (x : Act). most) r.acts) p found (omega (arith, behind_up)) (walk_counts most (act_step entries r) (act_counts w v c light entries r) r.acts) in
-      let behind_results = onward_counts (walk result_step r.results) (sum_by (λ (x : Comparison). most) r.results) a acted behind_acts (walk_counts most result_step (result_counts r) r.results) in
-      let behind_sets = onward_counts (λ (t : Scene). (fold step t r.sets, true)) (sum_by (λ (x : Assignment). most) r.sets) b (before_sets entries r s) behind_results (sets_count r step each r.sets) in
-      omega (arith, behind_sets)
+      let found : Went = if_proceeding (search r.up) plainly in
+      let acted : Went = if_proceeding (walk (act_step entries r) r.acts) found in
+      let after_plain = walk_counts most (plain_step r) (plain_counts r) r.plain s in
+      let after_up = if_proceeding_counts (search r.up) 0 p plainly after_plain (search_counts r r.up) in
+      let after_acts =
+      if_proceeding_counts (walk (act_step entries r) r.acts) (sum_by (λ (x : Act). most) r.acts) p found (omega (arith, after_up)) (walk_counts most (act_step entries r) (act_counts w v c light entries r) r.acts) in
+      let after_results = if_proceeding_counts (walk result_step r.results) (sum_by (λ (x : Comparison). most) r.results) a acted after_acts (walk_counts most result_step (result_counts r) r.results) in
+      let after_sets = if_proceeding_counts (λ (t : Scene). (fold step t r.sets, true)) (sum_by (λ (x : Assignment). most) r.sets) b (before_sets entries r s) after_results (sets_count r step each r.sets) in
+      omega (arith, after_sets)
 
   note_counts : (r : Rule) (s : Scene) (a : Assignment) → counted (note_step r s a) ≤ counted s + c r
   note_counts r s a = by (change_applies a.change s.state.event.device)
@@ -137,18 +137,18 @@ module _ (w : Note → ℕ) (v : RunValue → ℕ) (c : Rule → ℕ) (light : (
       by true = omega arith
       by false = set_counts w v c light late r s a
 
-  -- a rule that is not passed over, and one that is, of which the notes are kept
+  -- a rule that is not skipped, and one that is, whose notes are kept
   steps_count : (entries : List Entry) (r : Rule) (s : Scene) → counted (steps entries r s).0 ≤ counted s + parts_most (c r) r
   unfolding steps
   steps_count entries r s = went_counts entries r (set_step r) (set_counts w v c light late r) s
 
-  notes_count : (entries : List Entry) (r : Rule) (s : Scene) → counted (onward (note_all r) (before_sets entries r s)).0 ≤ counted s + parts_most (c r) r
+  notes_count : (entries : List Entry) (r : Rule) (s : Scene) → counted (if_proceeding (note_all r) (before_sets entries r s)).0 ≤ counted s + parts_most (c r) r
   notes_count entries r s = went_counts entries r (note_step r) (note_counts r) s
 
 -- ---- rules one after another
 
 module _ (w : Note → ℕ) (c : Rule → ℕ) (light : (r : Rule) (kind : NoteKind) (text : Text) → w (note_about r kind text) ≤ c r) where
-  -- the notes of a rule that is passed over
+  -- the notes of a rule that is skipped
   pub noted_counts : (entries : List Entry) (r : Rule) (s : Scene) → sum_by w (only_noted entries r s).0.notes ≤ sum_by w s.notes + parts_most (c r) r
   noted_counts entries r s =
       let a = notes_count w (λ run. 0) c light (λ run. omega arith) entries r s in
@@ -179,14 +179,14 @@ module _ (w : Note → ℕ) (v : RunValue → ℕ) (c : Rule → ℕ) (light : (
 
       by : (b : Bool) → ((sought : Option Text) (s : Scene) → all (run entries sought rules s) ≤ all s + sum_by own rules)
           → all (if b then run entries sought rules s else run entries (sought_after (apply entries r s).1 r) rules (apply entries r s).0) ≤ all s + sum_by own (r ∷ rules)
-      by true behind =
+      by true following =
           let whole = sum_by-cons own r rules in
-          let a = behind sought s in
+          let a = following sought s in
           omega (arith, whole, a)
-      by false behind =
+      by false following =
           let whole = sum_by-cons own r rules in
           let first = rule_counts entries r s in
-          let a = behind (sought_after (apply entries r s).1 r) (apply entries r s).0 in
+          let a = following (sought_after (apply entries r s).1 r) (apply entries r s).0 in
           omega (arith, whole, first, a)
 
 -- ---- the end
@@ -203,7 +203,7 @@ lates_count state (kept ∷ runs) =
     let c = lates_count state runs in
     omega (arith, a, b, c)
 
--- where each part counts one
+-- if each part counts one
 parts_count : (r : Rule) → parts_most 1 r ≤ part_count r
 parts_count r =
     let a = ones r.plain in

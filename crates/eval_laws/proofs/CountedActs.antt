@@ -5,17 +5,17 @@ use Rattle.text_bytes.specs.Texts.{begins_with}
 use Rattle.text_bytes.specs.declared.profile.Profile.{Profile}
 use Rattle.text_bytes.specs.declared.profile.Profile.TheVariants.{Manual, Udev}
 use Rattle.text_tables.specs.Texts.{Text}
-use Rattle.text_tables.specs.Pairs.{value_of}
+use Rattle.text_tables.specs.Pairs.{Pair, value_of}
 use Rattle.text_core.specs.Fnmatch.{fnmatch_items}
 use Rattle.text_core.specs.declared.item.Item.{Item}
 use Rattle.text_core.specs.declared.reading.Reading.TheVariants.{Exact}
 use Rattle.hwdb_lookup.specs.declared.entry.Entry.{Entry}
 use Rattle.rule_types.specs.Names.{import_name}
 use Rattle.rule_templates.specs.Template.{Parts as Template}
-use Rattle.rule_types.specs.WrittenParts.{attribute_of_deed, key_of_deed, type_of}
+use Rattle.rule_types.specs.WrittenParts.{attribute_of_act_kind, key_of_act_kind, type_of}
 use Rattle.rule_types.specs.declared.part.Act.{Act}
-use Rattle.rule_types.specs.declared.part.Deed.{Deed}
-use Rattle.rule_types.specs.declared.part.Deed.TheVariants as deed
+use Rattle.rule_types.specs.declared.part.ActKind.{ActKind}
+use Rattle.rule_types.specs.declared.part.ActKind.TheVariants as act_kind
 use Rattle.rule_types.specs.declared.part.Import.{Import}
 use Rattle.rule_types.specs.declared.part.Import.TheVariants as import
 use Rattle.rule_types.specs.Rules.{Rule}
@@ -39,7 +39,7 @@ use Rattle.builtin_input.specs.Input.{input_id}
 use Rattle.builtin_net.specs.NetId.{lookup, net_id}
 use Rattle.builtin_path.specs.Path.{path_id}
 use Rattle.builtin_usb.specs.UsbId.{usb_id}
-use Rattle.eval_acts.specs.BuiltinRuns.{looked_up, most_set, need_noted, need_word, outcome_taken, path_id_run, properties_size, usb_id_run}
+use Rattle.eval_acts.specs.BuiltinRuns.{looked_up, most_set, need_noted, need_word, outcome_set, outcome_taken, path_id_run, properties_size, usb_id_run, with_maker}
 use Rattle.eval_acts.specs.Builtins.{builtin}
 use Rattle.eval_acts.specs.declared.builtin.Builtin.{Builtin}
 use Rattle.eval_acts.specs.declared.builtin.Builtin.TheVariants as asked_for
@@ -48,7 +48,7 @@ use Rattle.eval_acts.specs.ActTexts.{import_text, names_text, program_text, test
 use Rattle.eval_acts.specs.Acts.{act_step, from_parent_by, imported, on_text, parent_imported, performed, program_imported, unrun}
 use Rattle.eval_acts.specs.Imports.{builtin_run, from_answer_or_noted, from_parent, from_program, not_run, run_builtin}
 use Rattle.eval_acts.specs.Printed.{printed_properties}
-use Rattle.eval_acts.specs.Questions.{answered_or_noted, asked, result_of, tested, tested_at, tested_by, tested_by_udev, with_result}
+use Rattle.eval_acts.specs.Questions.{answered_by_block, answered_or_noted, result_of, tested, tested_at, tested_by, tested_by_udev, with_result}
 use Rattle.eval_laws.proofs.Measured.{measured, noted_more}
 
 module _ (w : Note → ℕ) (v : RunValue → ℕ) (c : Rule → ℕ) (light : (r : Rule) (kind : NoteKind) (text : Text) → w (note_about r kind text) ≤ c r) where
@@ -59,35 +59,34 @@ module _ (w : Note → ℕ) (v : RunValue → ℕ) (c : Rule → ℕ) (light : (
   need_counts r name [] s = omega arith
   need_counts r name (need ∷ needs) s = noted_more w v c light r s BuiltinNeeds (need_word name need)
 
-  outcome_counts : (r : Rule) (name : Text) (outcome : OutcomeValue) (s : Scene) → counted (outcome_taken r name outcome s).0 ≤ counted s + c r
-  outcome_counts r name outcome s = by (nat_le (properties_size outcome.properties) most_set)
+  outcome_counts : (r : Rule) (name : Text) (outcome : OutcomeValue) (properties : List Pair) (s : Scene) → counted (outcome_set r name outcome properties s).0 ≤ counted s + c r
+  outcome_counts r name outcome properties s = by (nat_le (properties_size outcome.properties) most_set)
     where
       set : Scene
-      set = with_env (properties_set s.state.env outcome.properties) s
+      set = with_env (properties_set s.state.env properties) s
 
       by : (b : Bool) → counted (if◌then◌else◌ {A = Scene × Bool} b (need_noted r name outcome.needs set, outcome.is_done) (noted r TextTooLong name s, false)).0 ≤ counted s + c r
       by true = need_counts r name outcome.needs set
       by false = noted_more w v c light r s TextTooLong name
 
-  looked_up_counts : (entries : List Entry) (text : Option Text) (s : Scene) → counted (looked_up entries text s) ≤ counted s
-  looked_up_counts entries None s = omega arith
-  looked_up_counts entries (Some text) s = omega arith
+  taken_counts : (r : Rule) (name : Text) (outcome : OutcomeValue) (s : Scene) → counted (outcome_taken r name outcome s).0 ≤ counted s + c r
+  taken_counts r name outcome s = outcome_counts r name outcome outcome.properties s
 
   usb_counts : (r : Rule) (ran : Option Bool) (s : Scene) → counted (usb_id_run ran r s).0 ≤ counted s + c r
   usb_counts r (Some done) s = omega arith
-  usb_counts r None s = outcome_counts r (builtin_name UsbId) (usb_id s.state.event (is_some (value_of s.state.env (codes "ID_BUS")))) s
+  usb_counts r None s = taken_counts r (builtin_name UsbId) (usb_id s.state.event (is_some (value_of s.state.env (codes "ID_BUS")))) s
 
   path_counts : (r : Rule) (ran : Option Bool) (s : Scene) → counted (path_id_run ran r s).0 ≤ counted s + c r
   path_counts r (Some done) s = omega arith
-  path_counts r None s = outcome_counts r (builtin_name PathId) (path_id s.state.event) s
+  path_counts r None s = taken_counts r (builtin_name PathId) (path_id s.state.event) s
 
   module _ (r : Rule) (s : Scene) where
     notes : (kind : NoteKind) (text : Text) → counted (noted r kind text s) ≤ counted s + c r
     notes kind text = noted_more w v c light r s kind text
 
-    on_text_counts : (d : Deed) (act : Text → Scene → Scene × Bool) (given : Rendered) → ((text : Text) → counted (act text s).0 ≤ counted s + c r) → counted (on_text r d act given s).0 ≤ counted s + c r
+    on_text_counts : (d : ActKind) (act : Text → Scene → Scene × Bool) (given : Rendered) → ((text : Text) → counted (act text s).0 ≤ counted s + c r) → counted (on_text r d act given s).0 ≤ counted s + c r
     on_text_counts d act (rendered.Text text) each = each text
-    on_text_counts d act rendered.TooLong each = notes TextTooLong (word_of_key (key_of_deed d) (attribute_of_deed d))
+    on_text_counts d act rendered.TooLong each = notes TextTooLong (word_of_key (key_of_act_kind d) (attribute_of_act_kind d))
 
     test_at_counts : (place : Option ℕ) (name path : Text) → counted (tested_at place r name path s).0 ≤ counted s + c r
     test_at_counts None name path = notes TestNotMade path
@@ -118,12 +117,10 @@ module _ (w : Note → ℕ) (v : RunValue → ℕ) (c : Rule → ℕ) (light : (
 
     builtin_counts : (entries : List Entry) (command : Text) (wanted : Builtin) → counted (builtin_run entries r command wanted s).0 ≤ counted s + c r
     builtin_counts entries command (asked_for.Hwdb hwdb) = omega arith
-    builtin_counts entries command asked_for.InputId = outcome_counts r (builtin_name InputId) (input_id s.state.event) s
+    builtin_counts entries command asked_for.InputId = taken_counts r (builtin_name InputId) (input_id s.state.event) s
     builtin_counts entries command asked_for.NetId =
-        let text : Option Text = lookup s.state.event s.state.env in
-        let a = outcome_counts r (builtin_name NetId) (net_id s.state.event s.state.env) (looked_up entries text s) in
-        let b = looked_up_counts entries text s in
-        omega (arith, a, b)
+        let names : OutcomeValue = net_id s.state.event s.state.env in
+        outcome_counts r (builtin_name NetId) names (with_maker (looked_up entries (lookup s.state.event s.state.env)) names.properties) s
     builtin_counts entries command asked_for.PathId = path_counts r s.ran.path_id s
     builtin_counts entries command asked_for.UsbId = usb_counts r s.ran.usb_id s
     builtin_counts entries command (asked_for.Other name) = notes BuiltinNotRun name
@@ -136,7 +133,7 @@ module _ (w : Note → ℕ) (v : RunValue → ℕ) (c : Rule → ℕ) (light : (
     not_run_counts : (from : Import) → counted (not_run r from s).0 ≤ counted s + c r
     not_run_counts from = notes ImportNotRun (import_name (type_of from))
 
-    parent_by_counts : (profile : Profile) (d : Deed) (names : List (List Item)) (text : Text) → counted (parent_imported profile r d names text s).0 ≤ counted s + c r
+    parent_by_counts : (profile : Profile) (d : ActKind) (names : List (List Item)) (text : Text) → counted (parent_imported profile r d names text s).0 ≤ counted s + c r
     parent_by_counts Manual d names text = parent_counts names (device_at s.state.event 1)
     parent_by_counts Udev d names text = on_text_counts d from_parent_by (names_text text s.state) (λ found. parent_counts (fnmatch_items Exact found 0 ∷ []) (device_at s.state.event 1))
 
@@ -148,16 +145,16 @@ module _ (w : Note → ℕ) (v : RunValue → ℕ) (c : Rule → ℕ) (light : (
         by true = omega arith
         by false = omega arith
 
-    program_counts : (profile : Profile) (d : Deed) (from : Import) (template : Template) → counted (program_imported profile r d from template s).0 ≤ counted s + c r
+    program_counts : (profile : Profile) (d : ActKind) (from : Import) (template : Template) → counted (program_imported profile r d from template s).0 ≤ counted s + c r
     program_counts Manual d from template = not_run_counts from
     program_counts Udev d from template =
         on_text_counts d (from_program r) (import_text act_texts.most_command_bytes template s.state) (λ command. printed_counts command (value_of s.state.event.programs command))
 
-    unrun_counts : (profile : Profile) (d : Deed) (from : Import) (bytes : ℕ) (template : Template) → counted (unrun profile r d from bytes template s).0 ≤ counted s + c r
+    unrun_counts : (profile : Profile) (d : ActKind) (from : Import) (bytes : ℕ) (template : Template) → counted (unrun profile r d from bytes template s).0 ≤ counted s + c r
     unrun_counts Manual d from bytes template = not_run_counts from
     unrun_counts Udev d from bytes template = on_text_counts d (λ text. not_run r from) (import_text bytes template s.state) (λ text. not_run_counts from)
 
-    import_counts : (entries : List Entry) (d : Deed) (from : Import) → counted (imported entries r d from s).0 ≤ counted s + c r
+    import_counts : (entries : List Entry) (d : ActKind) (from : Import) → counted (imported entries r d from s).0 ≤ counted s + c r
     import_counts entries d (import.Builtin template) =
         on_text_counts d (run_builtin entries r) (import_text act_texts.most_command_bytes template s.state) (λ command. builtin_counts entries command (builtin s.state.event.profile command))
     import_counts entries d (import.Parent names text) = parent_by_counts s.state.event.profile d names text
@@ -166,14 +163,14 @@ module _ (w : Note → ℕ) (v : RunValue → ℕ) (c : Rule → ℕ) (light : (
     import_counts entries d (import.Cmdline name) = not_run_counts (import.Cmdline name)
     import_counts entries d (import.Db name) = not_run_counts (import.Db name)
 
-  deed_counts : (entries : List Entry) (r : Rule) (s : Scene) (d : Deed) → counted (performed entries r d s).0 ≤ counted s + c r
-  deed_counts entries r s (deed.Test mask template) = on_text_counts r s (deed.Test mask template) (tested r mask) (test_text template s.state) (tested_counts r s mask)
-  deed_counts entries r s (deed.Program template) =
-      on_text_counts r (with_result [] s) (deed.Program template) (asked r) (program_text template s.state)
+  act_kind_counts : (entries : List Entry) (r : Rule) (s : Scene) (d : ActKind) → counted (performed entries r d s).0 ≤ counted s + c r
+  act_kind_counts entries r s (act_kind.Test mask template) = on_text_counts r s (act_kind.Test mask template) (tested r mask) (test_text template s.state) (tested_counts r s mask)
+  act_kind_counts entries r s (act_kind.Program template) =
+      on_text_counts r (with_result [] s) (act_kind.Program template) (answered_by_block r) (program_text template s.state)
       (λ command. answered_counts r (with_result [] s) command (value_of s.state.event.programs command))
-  deed_counts entries r s (deed.Import from) = import_counts r s entries (deed.Import from) from
+  act_kind_counts entries r s (act_kind.Import from) = import_counts r s entries (act_kind.Import from) from
 
   -- an act of a rule
   pub act_counts : (entries : List Entry) (r : Rule) (act : Act) (s : Scene) → counted (act_step entries r act s).0 ≤ counted s + c r
   unfolding act_step
-  act_counts entries r act s = deed_counts entries r s act.deed
+  act_counts entries r act s = act_kind_counts entries r s act.kind

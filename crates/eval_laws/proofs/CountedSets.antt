@@ -41,7 +41,7 @@ use Rattle.eval_state.specs.declared.note_kind.NoteKind.TheVariants.{AttributeNo
 use Rattle.eval_state.specs.declared.scene.Scene.{Scene}
 use Rattle.eval_assignments.specs.Assigning.{assigned, group_set, link_text, owner_set, with_option}
 use Rattle.eval_state.specs.Files.{starred}
-use Rattle.eval_assignments.specs.Attributes.{attribute_path, attribute_put, attribute_set_at, attribute_set_by, own_attribute_set}
+use Rattle.eval_assignments.specs.Attributes.{attribute_path, attribute_put, attribute_set_at, attribute_set_by, found_above, own_attribute_set}
 use Rattle.eval_assignments.specs.Bounds.{most_bytes_of, most_command_bytes, most_name_bytes}
 use Rattle.eval_assignments.specs.Escapes.{escape_of}
 use Rattle.eval_assignments.specs.Escapes as escapes
@@ -53,7 +53,7 @@ use Rattle.eval_assignments.specs.Parameters.{parameter_put}
 use Rattle.eval_assignments.specs.Properties.{appended, env_text, extended, property_added, property_changed, property_extended, property_joined, property_put, udev_property_changed}
 use Rattle.eval_assignments.specs.Runs.{command_made, made_before, run_made, run_of}
 use Rattle.eval_assignments.specs.Steps.{emptied, finally_too_long, is_ignored, lacks_number, run_step, set_step, step_by, text_given, text_rendered, text_set, text_step}
-use Rattle.eval_assignments.specs.Tags.{is_tag, tag_added, tag_changed, tag_standing, without_tags}
+use Rattle.eval_assignments.specs.Tags.{is_tag, tag_added, tag_changed, with_tag, without_tags}
 use Rattle.eval_assignments.specs.declared.escapes.Escape.{Escape}
 use Rattle.eval_rules.specs.Jumps.{run}
 use Rattle.eval_laws.proofs.Measured.{measured, noted_more}
@@ -92,6 +92,7 @@ module _ (w : Note → ℕ) (v : RunValue → ℕ) (c : Rule → ℕ) (light : (
   option_counts option.DbPersist s = omega arith
   option_counts option.KeepEscapes s = omega arith
   option_counts option.ReplaceEscapes s = omega arith
+  option_counts option.LogLevel s = omega arith
   option_counts option.Ignored s = omega arith
 
   emptied_counts : (o : AssignOperator) (about : Target) (s : Scene) → counted (emptied o about s) ≤ counted s
@@ -148,7 +149,7 @@ module _ (w : Note → ℕ) (v : RunValue → ℕ) (c : Rule → ℕ) (light : (
     tag_counts [] = noted_more w v c light r s NoValue (word_of_key key.Tag None)
     tag_counts (b ∷ t) = by (is_tag (b ∷ t))
       where
-        by : (is : Bool) → counted (if is then tag_standing (b ∷ t) s else noted r TagIgnored (b ∷ t) s) ≤ counted s + c r
+        by : (is : Bool) → counted (if is then with_tag (b ∷ t) s else noted r TagIgnored (b ∷ t) s) ≤ counted s + c r
         by true = omega arith
         by false = noted_more w v c light r s TagIgnored (b ∷ t)
 
@@ -170,7 +171,7 @@ module _ (w : Note → ℕ) (v : RunValue → ℕ) (c : Rule → ℕ) (light : (
     at_counts : (place : Option ℕ) (is : NamedValue) (name t : Text) → counted (attribute_set_at place is r name t s) ≤ counted s + c r
     at_counts None is name t = own_counts name t
     at_counts (Some zero) is name t = found_counts name (starred s.state.event.device is.attribute) t
-    at_counts (Some (suc above)) is name t = found_counts name (Some name) t
+    at_counts (Some (suc above)) is name t = found_counts name (found_above s.state.event (suc above) is name) t
 
     by_counts : (is : Option NamedValue) (name t : Text) → counted (attribute_set_by is r name t s) ≤ counted s + c r
     by_counts None name t = own_counts name t
@@ -180,9 +181,9 @@ module _ (w : Note → ℕ) (v : RunValue → ℕ) (c : Rule → ℕ) (light : (
     parameter_counts name rendered.TooLong t = noted_more w v c light r s TextTooLong (word_of_key key.Sysctl (Some name))
     parameter_counts name (rendered.Text text) t = omega arith
 
-    behind_counts : (profile : Profile) (o : AssignOperator) (about : Target) (u : Scene) → counted (finally_too_long profile o about u) ≤ counted u
-    behind_counts Manual o about u = omega arith
-    behind_counts Udev o about u = finally_counts o (final_target about) u
+    after_counts : (profile : Profile) (o : AssignOperator) (about : Target) (u : Scene) → counted (finally_too_long profile o about u) ≤ counted u
+    after_counts Manual o about u = omega arith
+    after_counts Udev o about u = finally_counts o (final_target about) u
 
     command_counts : (braces : Option RunType) (template : Template) (text : Text) (ws : List Text) → counted (command_made r braces template text ws s) ≤ counted s + c r
     command_counts braces template text [] = noted_more w v c light r s NoValue (word_of_key key.Run (option_map run_name braces))
@@ -238,7 +239,7 @@ module _ (w : Note → ℕ) (v : RunValue → ℕ) (c : Rule → ℕ) (light : (
     text_counts profile e o about written (rendered.Text t) = given_counts profile e o about written t
     text_counts profile e o about written rendered.TooLong =
         let word : Text = word_of_key (key_of_target about) (attribute_of_target about) in
-        let a = behind_counts r s profile o about (noted r TextTooLong word s) in
+        let a = after_counts r s profile o about (noted r TextTooLong word s) in
         let b = noted_more w v c light r s TextTooLong word in
         omega (arith, a, b)
 

@@ -7,36 +7,36 @@ use Rattle.device_core.specs.Runs.{complete_runs, rest_of, not_empty}
 use Rattle.eval_laws.specs.Cuts.{HasNoEmptyLine, IsCompleteRun, IsCutInto}
 use Rattle.device_core.specs.Holding.{begins_after}
 use Rattle.device_core.proofs.Law.{complete_runs-append, rest_of-append, byte_stays, byte_ends, begins_after-push}
-use Rattle.device_core.proofs.Chunks.{GoesOn, chunk_stays}
+use Rattle.device_core.proofs.Chunks.{Proceeds, chunk_stays}
 
--- where no byte is the newline of an empty line, no two newlines are in a row
-goes_on-in_a_row : (start : Bool) (before behind : List ℕ) → GoesOn start (before ++ 10 ∷ 10 ∷ behind) → ⊥
-goes_on-in_a_row start [] behind g = let both : true ≡ false = g.1.0 in absurd cc
-goes_on-in_a_row start (byte ∷ before) behind g = goes_on-in_a_row (byte == 10) before behind g.1
+-- if no byte is the newline of an empty line, no two newlines are in a row
+proceeds-in_a_row : (start : Bool) (before following : List ℕ) → Proceeds start (before ++ 10 ∷ 10 ∷ following) → ⊥
+proceeds-in_a_row start [] following g = let both : true ≡ false = g.1.0 in absurd cc
+proceeds-in_a_row start (byte ∷ before) following g = proceeds-in_a_row (byte == 10) before following g.1
 
-no_empty_line : (text : List ℕ) → GoesOn true text → HasNoEmptyLine text
+no_empty_line : (text : List ℕ) → Proceeds true text → HasNoEmptyLine text
 no_empty_line text g = record {
-  begins = λ behind e. let first : true ≡ false = (subst (GoesOn true) e g).0 in absurd cc;
-  in_a_row = λ before behind e. goes_on-in_a_row true before behind (subst (GoesOn true) e g);
+  begins = λ following e. let first : true ≡ false = (subst (Proceeds true) e g).0 in absurd cc;
+  in_a_row = λ before following e. proceeds-in_a_row true before following (subst (Proceeds true) e g);
 }
 
 -- and the other way round
-stays_by : (start newline : Bool) (byte : ℕ) (text : List ℕ) → (byte == 10) ≡ newline → (start ≡ true → (behind : List ℕ) → byte ∷ text ≢ 10 ∷ behind) → (start && newline) ≡ false
+stays_by : (start newline : Bool) (byte : ℕ) (text : List ℕ) → (byte == 10) ≡ newline → (start ≡ true → (following : List ℕ) → byte ∷ text ≢ 10 ∷ following) → (start && newline) ≡ false
 stays_by true true byte text e first = absurd (first refl text (ap (λ b. b ∷ text) (eqb-true byte 10 e)))
 stays_by true false byte text e first = refl
 stays_by false newline byte text e first = refl
 
-goes_on : (start : Bool) (text : List ℕ) → (start ≡ true → (behind : List ℕ) → text ≢ 10 ∷ behind) → ((before behind : List ℕ) → text ≢ before ++ 10 ∷ 10 ∷ behind) → GoesOn start text
-goes_on start [] first row = tt
-goes_on start (byte ∷ text) first row = (
+proceeds : (start : Bool) (text : List ℕ) → (start ≡ true → (following : List ℕ) → text ≢ 10 ∷ following) → ((before following : List ℕ) → text ≢ before ++ 10 ∷ 10 ∷ following) → Proceeds start text
+proceeds start [] first row = tt
+proceeds start (byte ∷ text) first row = (
   stays_by start (byte == 10) byte text refl first,
-  goes_on (byte == 10) text
-      (λ e behind is. row [] behind (ap (λ b. b ∷ text) (eqb-true byte 10 e) ∙ ap (λ l. 10 ∷ l) is))
-      (λ before behind is. row (byte ∷ before) behind (ap (λ l. byte ∷ l) is)),
+  proceeds (byte == 10) text
+      (λ e following is. row [] following (ap (λ b. b ∷ text) (eqb-true byte 10 e) ∙ ap (λ l. 10 ∷ l) is))
+      (λ before following is. row (byte ∷ before) following (ap (λ l. byte ∷ l) is)),
 )
 
-pub goes_on-is : (text : List ℕ) → HasNoEmptyLine text → GoesOn true text
-goes_on-is text h = goes_on true text (λ _. h.begins) h.in_a_row
+pub proceeds-is : (text : List ℕ) → HasNoEmptyLine text → Proceeds true text
+proceeds-is text h = proceeds true text (λ _. h.begins) h.in_a_row
 
 -- newlines in front change nothing
 newlines_before : (count : ℕ) (text : List ℕ) → (complete_runs (replicate count 10 ++ text) ≡ complete_runs text) × (rest_of (replicate count 10 ++ text) ≡ rest_of text)
@@ -45,7 +45,7 @@ newlines_before (suc count) text = newlines_before count text
 
 -- nor does a text without an empty line have a run
 rest_alone : (rest : List ℕ) → HasNoEmptyLine rest → (complete_runs rest ≡ []) × (rest_of rest ≡ rest)
-rest_alone rest h = chunk_stays [] [] rest true refl refl (goes_on-is rest h)
+rest_alone rest h = chunk_stays [] [] rest true refl refl (proceeds-is rest h)
 
 begins_after-ends : (run before : List ℕ) → run ≡ before ++ 10 ∷ [] → true ≡ begins_after true run
 begins_after-ends run before e = sym (ap (begins_after true) e ∙ begins_after-push true before 10)
@@ -131,9 +131,9 @@ rest-open : (text : List ℕ) (runs : List (List ℕ)) (rest : List ℕ) → IsC
 rest-open text [] rest cut = cut.2
 rest-open text (run ∷ runs) rest cut = rest-open cut.1 runs rest cut.4
 
-goes_on-push : (start : Bool) (text : List ℕ) (byte : ℕ) → GoesOn start text → (begins_after start text && (byte == 10)) ≡ false → GoesOn start (text ++ byte ∷ [])
-goes_on-push start [] byte g e = (e, tt)
-goes_on-push start (first ∷ text) byte g e = (g.0, goes_on-push (first == 10) text byte g.1 e)
+proceeds-push : (start : Bool) (text : List ℕ) (byte : ℕ) → Proceeds start text → (begins_after start text && (byte == 10)) ≡ false → Proceeds start (text ++ byte ∷ [])
+proceeds-push start [] byte g e = (e, tt)
+proceeds-push start (first ∷ text) byte g e = (g.0, proceeds-push (first == 10) text byte g.1 e)
 
 -- the text is cut into its complete runs and its rest
 abbrev pub IsCut : List ℕ → Type 0
@@ -147,7 +147,7 @@ and_true false newline e = absurd cc
 cut_one_more_by : (text : List ℕ) (byte : ℕ) (ends : Bool) → (begins_after true (rest_of text) && (byte == 10)) ≡ ends → IsCut text → IsCut (text ++ byte ∷ [])
 cut_one_more_by text byte false e cut =
     let p = byte_stays text (rest_of text) (begins_after true (rest_of text)) byte refl refl e in
-    let unbroken = no_empty_line (rest_of text ++ byte ∷ []) (goes_on-push true (rest_of text) byte (goes_on-is (rest_of text) (rest-open text (complete_runs text) (rest_of text) cut)) e) in
+    let unbroken = no_empty_line (rest_of text ++ byte ∷ []) (proceeds-push true (rest_of text) byte (proceeds-is (rest_of text) (rest-open text (complete_runs text) (rest_of text) cut)) e) in
     rw (p.0, p.1) (cut_byte_stays text (complete_runs text) (rest_of text) byte cut unbroken)
 cut_one_more_by text byte true e cut =
     let p = byte_ends text (rest_of text) (begins_after true (rest_of text)) byte refl refl e in

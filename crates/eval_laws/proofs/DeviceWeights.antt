@@ -6,14 +6,14 @@ use Rattle.std.proofs.lemmas.List.Quantifiers.{position-Some}
 use Rattle.std.specs.Option.{option_and_then}
 use Rattle.std.specs.List.{sum_by, filter_map, cons_option, zip, position, onto_first}
 use Rattle.text_bytes.specs.Names.{newline, colon, space, equals}
-use Rattle.text_bytes.specs.Texts.{is_empty, split_once}
+use Rattle.text_bytes.specs.Texts.{first, is_empty, split_once}
 use Rattle.text_bytes.specs.Lines.{lines}
 use Rattle.text_tables.specs.Texts.{Text}
 use Rattle.text_tables.specs.Pairs.{Pair}
 use Rattle.device_core.specs.Values.{NumberValue, DeviceValue, AnswerValue, EventValue}
 use Rattle.device_core.specs.Lines.{Row, kind_of, row_from, row_of}
 use Rattle.device_core.specs.Parts.{with_name, pair_of, is_part, with_parts, number_of, number_below, answer_parts, with_status, answer_of}
-use Rattle.device_core.specs.Blocks.{is_kind, text_in, texts, pairs, numbers, answers, first, before_device, groups, device, devices, programs, event}
+use Rattle.device_core.specs.Blocks.{is_kind, text_in, texts, pairs, numbers, answers, before_device, groups, device, devices, programs, event}
 use Rattle.device_core.specs.RunBlocks.{is_too_long}
 use Rattle.device_core.specs.Faults.{given_by, block_gives}
 use Rattle.eval_laws.specs.DeviceWeights.{text_weight, given_weight, pair_weight, number_weight, device_weight, devices_weight, answer_weight, event_weight}
@@ -41,11 +41,11 @@ cut_at : (byte : ℕ) (text : Text) (o : Option ℕ) (p : Pair) → position (λ
 cut_at byte text None p found e = cc
 cut_at byte text (Some n) p found e =
     let here = (position-Some (λ b. b == byte) text n 0 found).0 in
-    let front : length p.0 ≡ length (take n text) = cc in
+    let beginning : length p.0 ≡ length (take n text) = cc in
     let back : length p.1 ≡ length (drop (n + 1) text) = cc in
     let a = length-take n text in
     let b = length-drop (n + 1) text in
-    rw (front, back, a, b) (grind arith)
+    rw (beginning, back, a, b) (grind arith)
 
 cut_long : (byte : ℕ) (text : Text) (p : Pair) → split_once byte text ≡ Some p → length p.0 + length p.1 + 1 ≡ length text
 unfolding split_once

@@ -1,19 +1,21 @@
 -- What an answer weighs, by the scene that it is made of.
-use Rattle.std.proofs.Common.{◌≡◌, ◌+◌, ◌≤◌, List, [], ◌∷◌, map, option_map, refl, arith}
+use Rattle.std.proofs.Common.{◌≡◌, ◌+◌, ◌≤◌, List, [], ◌∷◌, Option, Some, None, map, option_map, refl, arith}
 use Rattle.std.proofs.lemmas.List.Sums.{sum_by-cons, sum_by-append}
 use Rattle.std.specs.List.{sum_by}
 use Rattle.text_tables.specs.Pairs.{Pair}
+use Rattle.text_tables.specs.Texts.{Text}
 use Rattle.rule_types.specs.Names.{run_name}
 use Rattle.rule_types.specs.declared.keys.Key.TheVariants as key
 use Rattle.rule_types.specs.declared.types.RunType.{RunType}
 use Rattle.rule_types.specs.declared.types.RunType.TheVariants.{Program, Builtin}
-use Rattle.eval_laws.specs.DeviceWeights.{pair_weight, pairs_weight, text_weight}
+use Rattle.eval_laws.specs.DeviceWeights.{given_weight, pair_weight, pairs_weight, text_weight}
 use Rattle.eval_state.specs.declared.state.State.{State}
 use Rattle.eval_rendering.specs.declared.rendered.Mode.TheVariants.{Plain}
 use Rattle.eval_rendering.specs.declared.rendered.Rendered.{Rendered}
 use Rattle.eval_rendering.specs.declared.rendered.Rendered.TheVariants as rendered
 use Rattle.eval_state.specs.Notes.{note_about, word_of_key}
 use Rattle.eval_state.specs.Runs.{RunValue, run_kind}
+use Rattle.eval_state.specs.Texts.{filled}
 use Rattle.eval_state.specs.declared.note_kind.NoteKind.TheVariants.{TextTooLong}
 use Rattle.eval_state.specs.declared.made_runs.MadeRun.{MadeRun}
 use Rattle.eval_state.specs.declared.scene.Scene.{Scene}
@@ -64,6 +66,11 @@ made_light (run ∷ made) =
     let c = made_light made in
     omega (arith, a, b, c)
 
+filled_light : (text : Option Text) → given_weight (filled text) ≤ given_weight text
+filled_light None = omega arith
+filled_light (Some []) = omega arith
+filled_light (Some (b ∷ t)) = omega arith
+
 pub outcome_light : (s : Scene) → outcome_weight (outcome_of s) ≤ scene_weight s
 unfolding outcome_weight outcome_of scene_weight
 outcome_light s =
@@ -73,4 +80,5 @@ outcome_light s =
     let d = sum_by-append command_weight (commands s.state s.runs) (map made_command s.made) in
     let e = made_light s.made in
     let f = without_texts_light s.state.tags s.gone in
-    omega (arith, a, b, c, d, e, f)
+    let g = filled_light s.state.name in
+    omega (arith, a, b, c, d, e, f, g)

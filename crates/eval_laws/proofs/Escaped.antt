@@ -9,28 +9,28 @@ use Rattle.text_links.proofs.Places.{length-safe}
 use Rattle.eval_assignments.specs.declared.escapes.Escape.{Escape}
 use Rattle.eval_assignments.specs.declared.escapes.Escape.TheVariants as escape
 use Rattle.eval_assignments.specs.Assigning.{link_text}
-use Rattle.eval_assignments.specs.Escapes.{turned}
+use Rattle.eval_assignments.specs.Escapes.{with_underscores}
 use Rattle.eval_assignments.specs.Names.{name_byte, name_text}
 use Rattle.eval_assignments.specs.Properties.{env_text, unslashed_byte}
 
-turned_same : (t : Text) → length (turned t) ≡ length t
-turned_same [] = omega arith
-turned_same (b ∷ t) = let a = turned_same t in omega (arith, a)
+reversed_same : (t : Text) → length (with_underscores t) ≡ length t
+reversed_same [] = omega arith
+reversed_same (b ∷ t) = let a = reversed_same t in omega (arith, a)
 
 pub name_same : (profile : Profile) (e : Escape) (t : Text) → length (name_text profile e t) ≡ length t
 name_same Manual escape.Keep t = refl
 name_same Udev escape.Keep t = refl
-name_same Manual escape.Usual t = turned_same t
-name_same Manual escape.Replace t = turned_same t
+name_same Manual escape.Usual t = reversed_same t
+name_same Manual escape.Replace t = reversed_same t
 name_same Udev escape.Usual t = length-map t name_byte
 name_same Udev escape.Replace t = length-map t name_byte
 
 pub link_same : (e : Escape) (t : Text) → length (link_text e t) ≡ length t
 link_same escape.Keep t = refl
 link_same escape.Usual t = refl
-link_same escape.Replace t = turned_same t
+link_same escape.Replace t = reversed_same t
 
 pub env_same : (e : Escape) (t : Text) → length (env_text e t) ≡ length t
 env_same escape.Keep t = refl
 env_same escape.Usual t = refl
-env_same escape.Replace t = length-map (turned (safe link_marks t)) unslashed_byte ∙ turned_same (safe link_marks t) ∙ length-safe link_marks t
+env_same escape.Replace t = length-map (with_underscores (safe link_marks t)) unslashed_byte ∙ reversed_same (safe link_marks t) ∙ length-safe link_marks t

@@ -38,7 +38,8 @@ use Rattle.eval_assignments.specs.Finality.{final_key, final_option, final_targe
 use Rattle.eval_assignments.specs.Runs.{made_before, run_made, run_of}
 use Rattle.eval_assignments.specs.Steps.{emptied, finally_too_long, is_ignored, lacks_number, run_step, set_step, step_by, text_given, text_rendered, text_set, text_step}
 use Rattle.eval_laws.specs.AssignmentLaws.{Keeps, may_be_final}
-use Rattle.eval_laws.proofs.Untouched.{At, Kept, value, event, Other, assigned_finals, emptied_finals, itself, made_finals, run_same, same_finally, step_same, through}
+use Rattle.eval_laws.proofs.KeptParts.{At, Kept, value, event, Other, itself, same_finally, through}
+use Rattle.eval_laws.proofs.Untouched.{assigned_finals, emptied_finals, made_finals, run_same, step_same}
 
 -- a key that is made final leaves the others final
 made_final_stays : (k j : FinalKey) (f : Finals) → is_final f k ≡ true → is_final (made_final f j) k ≡ true
@@ -174,6 +175,7 @@ module _ (k : Kept) (s : Scene) where
   option_same option.DbPersist other = persist_same
   option_same option.KeepEscapes other = itself k s
   option_same option.ReplaceEscapes other = itself k s
+  option_same option.LogLevel other = itself k s
   option_same option.Ignored other = itself k s
 
 -- an assignment to another key
@@ -204,6 +206,7 @@ manual_key k Udev (change.Option option.NoWatch) may other = other
 manual_key k Udev (change.Option option.DbPersist) may other = other
 manual_key k Udev (change.Option option.KeepEscapes) may other = other
 manual_key k Udev (change.Option option.ReplaceEscapes) may other = other
+manual_key k Udev (change.Option option.LogLevel) may other = other
 manual_key k Udev (change.Option option.Ignored) may other = other
 
 -- the event stays whatever is assigned

@@ -9,7 +9,7 @@ use Rattle.text_tables.specs.Texts.{Text}
 use Rattle.text_tables.specs.Pairs.{Pair}
 use Rattle.hwdb_lookup.specs.declared.entry.Entry.{Entry}
 use Rattle.eval_state.specs.declared.state.State.{State}
-use Rattle.eval_acts.specs.LookUps.{Candidate, answer, candidates, count_before_usb, first_found, found, is_last, modaliases, modaliases_by, modaliases_in, texts, through, udev_modaliases_of}
+use Rattle.eval_acts.specs.LookUps.{Candidate, candidates, count_before_usb, counted_properties, first_found, found, is_last, modaliases, modaliases_by, modaliases_in, texts, through, udev_modaliases_of}
 use Rattle.eval_acts.specs.declared.hwdb.Hwdb.{Hwdb}
 use Rattle.eval_laws.specs.LookUps.{IsFirstAnswer, texts_of}
 
@@ -22,18 +22,18 @@ nothing_in (p ∷ properties) e = absurd (true≢false (sym e))
 empty_is : (properties : List Pair) → properties ≡ [] → is_empty properties ≡ true
 empty_is properties e = ap is_empty e
 
-front_empty : (a b : List Pair) → a ++ b ≡ [] → a ≡ []
-front_empty [] b e = refl
-front_empty (p ∷ a) b e = absurd (cc)
+prefix_empty : (a b : List Pair) → a ++ b ≡ [] → a ≡ []
+prefix_empty [] b e = refl
+prefix_empty (p ∷ a) b e = absurd (cc)
 
 back_empty : (a b : List Pair) → a ++ b ≡ [] → b ≡ []
 back_empty [] b e = e
 back_empty (p ∷ a) b e = absurd (cc)
 
 module _ (f : Text → List Pair) where
-  -- an answer that is empty is passed over, and one that is not is found
-  passed_over : (t : Text) (ts : List Text) → is_empty (f t) ≡ true → first_found (map f (t ∷ ts)) ≡ first_found (map f ts)
-  passed_over t ts e = ap (λ b. unwrap_or (cond (not b) (Some (f t)) (find (λ properties. not (is_empty properties)) (map f ts))) []) e
+  -- an answer that is empty is skipped, and one that is not is found
+  skipped : (t : Text) (ts : List Text) → is_empty (f t) ≡ true → first_found (map f (t ∷ ts)) ≡ first_found (map f ts)
+  skipped t ts e = ap (λ b. unwrap_or (cond (not b) (Some (f t)) (find (λ properties. not (is_empty properties)) (map f ts))) []) e
 
   taken : (t : Text) (ts : List Text) → is_empty (f t) ≡ false → first_found (map f (t ∷ ts)) ≡ f t
   taken t ts e = ap (λ b. unwrap_or (cond (not b) (Some (f t)) (find (λ properties. not (is_empty properties)) (map f ts))) []) e
@@ -42,8 +42,8 @@ module _ (f : Text → List Pair) where
   pub record IsFirst (ts : List Text) (properties : List Pair) : Type 0 where
     pub before : List Text
     pub text : Text
-    pub behind : List Text
-    pub whole : ts ≡ before ++ text ∷ behind
+    pub following : List Text
+    pub whole : ts ≡ before ++ text ∷ following
     pub nothing : flat_map f before ≡ []
     pub gives : f text ≡ properties
 
@@ -52,27 +52,27 @@ module _ (f : Text → List Pair) where
   first (t ∷ ts) properties some e = by (is_empty (f t)) refl (first ts properties some)
     where
       by : (b : Bool) → is_empty (f t) ≡ b → (first_found (map f ts) ≡ properties → IsFirst ts properties) → IsFirst (t ∷ ts) properties
-      by false is more = record { before = []; text = t; behind = ts; whole = refl; nothing = refl; gives = sym (taken t ts is) ∙ e }
+      by false is more = record { before = []; text = t; following = ts; whole = refl; nothing = refl; gives = sym (taken t ts is) ∙ e }
       by true is more =
-          let h = more (sym (passed_over t ts is) ∙ e) in
+          let h = more (sym (skipped t ts is) ∙ e) in
           record {
             before = t ∷ h.before;
             text = h.text;
-            behind = h.behind;
+            following = h.following;
             whole = ap (λ us. t ∷ us) h.whole;
             nothing = ap (λ p. p ++ flat_map f h.before) (nothing_in (f t) is) ∙ h.nothing;
             gives = h.gives;
           }
 
-  first_behind : (before : List Text) (t : Text) (behind : List Text) → flat_map f before ≡ [] → is_empty (f t) ≡ false → first_found (map f (before ++ t ∷ behind)) ≡ f t
-  first_behind [] t behind nothing some = taken t behind some
-  first_behind (b ∷ before) t behind nothing some =
-      passed_over b (before ++ t ∷ behind) (empty_is (f b) (front_empty (f b) (flat_map f before) nothing))
-      ∙ first_behind before t behind (back_empty (f b) (flat_map f before) nothing) some
+  first_after : (before : List Text) (t : Text) (following : List Text) → flat_map f before ≡ [] → is_empty (f t) ≡ false → first_found (map f (before ++ t ∷ following)) ≡ f t
+  first_after [] t following nothing some = taken t following some
+  first_after (b ∷ before) t following nothing some =
+      skipped b (before ++ t ∷ following) (empty_is (f b) (prefix_empty (f b) (flat_map f before) nothing))
+      ∙ first_after before t following (back_empty (f b) (flat_map f before) nothing) some
 
   pub first_back : (ts : List Text) (properties : List Pair) → is_empty properties ≡ false → IsFirst ts properties → first_found (map f ts) ≡ properties
   first_back ts properties some h =
-      ap (λ us. first_found (map f us)) h.whole ∙ first_behind h.before h.text h.behind h.nothing (ap is_empty h.gives ∙ some) ∙ h.gives
+      ap (λ us. first_found (map f us)) h.whole ∙ first_after h.before h.text h.following h.nothing (ap is_empty h.gives ∙ some) ∙ h.gives
 
   pub none_given : (ts : List Text) → first_found (map f ts) ≡ [] → flat_map f ts ≡ []
   none_given [] e = refl
@@ -80,24 +80,24 @@ module _ (f : Text → List Pair) where
     where
       by : (b : Bool) → is_empty (f t) ≡ b → (first_found (map f ts) ≡ [] → flat_map f ts ≡ []) → f t ++ flat_map f ts ≡ []
       by false is more = absurd (true≢false (sym (empty_is (f t) (sym (taken t ts is) ∙ e)) ∙ is))
-      by true is more = ap (λ p. p ++ flat_map f ts) (nothing_in (f t) is) ∙ more (sym (passed_over t ts is) ∙ e)
+      by true is more = ap (λ p. p ++ flat_map f ts) (nothing_in (f t) is) ∙ more (sym (skipped t ts is) ∙ e)
 
   pub none_found : (ts : List Text) → flat_map f ts ≡ [] → first_found (map f ts) ≡ []
   none_found [] e = refl
-  none_found (t ∷ ts) e = passed_over t ts (empty_is (f t) (front_empty (f t) (flat_map f ts) e)) ∙ none_found ts (back_empty (f t) (flat_map f ts) e)
+  none_found (t ∷ ts) e = skipped t ts (empty_is (f t) (prefix_empty (f t) (flat_map f ts) e)) ∙ none_found ts (back_empty (f t) (flat_map f ts) e)
 
 pub first_is_found : (entries : List Entry) (hwdb : Hwdb) (state : State) (properties : List Pair) → is_empty properties ≡ false
     → (found entries hwdb state ≡ properties) ↔ IsFirstAnswer entries hwdb (texts hwdb state) properties
 unfolding found
 first_is_found entries hwdb state properties some = (
-  λ e. let h = first (answer entries hwdb) (texts hwdb state) properties some e in
-      record { before = h.before; text = h.text; behind = h.behind; whole = h.whole; nothing = h.nothing; gives = h.gives },
-  λ h. first_back (answer entries hwdb) (texts hwdb state) properties some (record { before = h.before; text = h.text; behind = h.behind; whole = h.whole; nothing = h.nothing; gives = h.gives }),
+  λ e. let h = first (counted_properties entries hwdb) (texts hwdb state) properties some e in
+      record { before = h.before; text = h.text; following = h.following; whole = h.whole; nothing = h.nothing; gives = h.gives },
+  λ h. first_back (counted_properties entries hwdb) (texts hwdb state) properties some (record { before = h.before; text = h.text; following = h.following; whole = h.whole; nothing = h.nothing; gives = h.gives }),
 )
 
-pub none_is_found : (entries : List Entry) (hwdb : Hwdb) (state : State) → (found entries hwdb state ≡ []) ↔ (flat_map (answer entries hwdb) (texts hwdb state) ≡ [])
+pub none_is_found : (entries : List Entry) (hwdb : Hwdb) (state : State) → (found entries hwdb state ≡ []) ↔ (flat_map (counted_properties entries hwdb) (texts hwdb state) ≡ [])
 unfolding found
-none_is_found entries hwdb state = (none_given (answer entries hwdb) (texts hwdb state), none_found (answer entries hwdb) (texts hwdb state))
+none_is_found entries hwdb state = (none_given (counted_properties entries hwdb) (texts hwdb state), none_found (counted_properties entries hwdb) (texts hwdb state))
 
 -- ---- devices
 
@@ -110,24 +110,24 @@ module _ {X : Type 0} (test : X → Bool) where
       by true e more = absurd (true≢false e)
       by false e more = ap (λ ys. x ∷ ys) (more e)
 
-  through_last : (before : List X) (x : X) (behind : List X) → list_any test before ≡ false → test x ≡ true → through test (before ++ x ∷ behind) ≡ before ++ x ∷ []
-  through_last [] x behind e is = ap (λ b. if b then x ∷ [] else x ∷ through test behind) is
-  through_last (y ∷ before) x behind e is = by (test y) e (λ h. through_last before x behind h is)
+  through_last : (before : List X) (x : X) (following : List X) → list_any test before ≡ false → test x ≡ true → through test (before ++ x ∷ following) ≡ before ++ x ∷ []
+  through_last [] x following e is = ap (λ b. if b then x ∷ [] else x ∷ through test following) is
+  through_last (y ∷ before) x following e is = by (test y) e (λ h. through_last before x following h is)
     where
-      by : (b : Bool) → (b || list_any test before) ≡ false → (list_any test before ≡ false → through test (before ++ x ∷ behind) ≡ before ++ x ∷ [])
-          → (if b then y ∷ [] else y ∷ through test (before ++ x ∷ behind)) ≡ y ∷ (before ++ x ∷ [])
+      by : (b : Bool) → (b || list_any test before) ≡ false → (list_any test before ≡ false → through test (before ++ x ∷ following) ≡ before ++ x ∷ [])
+          → (if b then y ∷ [] else y ∷ through test (before ++ x ∷ following)) ≡ y ∷ (before ++ x ∷ [])
       by true e more = absurd (true≢false e)
       by false e more = ap (λ ys. y ∷ ys) (more e)
 
-  -- how many stand before the first that passes
-  count_here : (before : List X) (x : X) (behind : List X) → list_any test before ≡ false → test x ≡ true → position_or_len test (before ++ x ∷ behind) ≡ length before
-  count_here [] x behind e is = ap (λ b. cond (not b) (1 + position_or_len test behind) 0) is
-  count_here (y ∷ before) x behind e is = by (test y) e (λ h. count_here before x behind h is)
+  -- how many come before the first that passes
+  count_here : (before : List X) (x : X) (following : List X) → list_any test before ≡ false → test x ≡ true → position_or_len test (before ++ x ∷ following) ≡ length before
+  count_here [] x following e is = ap (λ b. cond (not b) (1 + position_or_len test following) 0) is
+  count_here (y ∷ before) x following e is = by (test y) e (λ h. count_here before x following h is)
     where
-      by : (b : Bool) → (b || list_any test before) ≡ false → (list_any test before ≡ false → position_or_len test (before ++ x ∷ behind) ≡ length before)
-          → cond (not b) (1 + position_or_len test (before ++ x ∷ behind)) 0 ≡ suc (length before)
+      by : (b : Bool) → (b || list_any test before) ≡ false → (list_any test before ≡ false → position_or_len test (before ++ x ∷ following) ≡ length before)
+          → cond (not b) (1 + position_or_len test (before ++ x ∷ following)) 0 ≡ suc (length before)
       by true e more = absurd (true≢false e)
-      by false e more = let n : position_or_len test (before ++ x ∷ behind) ≡ length before = more e in omega (arith, n)
+      by false e more = let n : position_or_len test (before ++ x ∷ following) ≡ length before = more e in omega (arith, n)
 
   count_all : (xs : List X) → list_any test xs ≡ false → position_or_len test xs ≡ length xs
   count_all [] e = refl
@@ -149,37 +149,37 @@ module _ (hwdb : Hwdb) where
   pub text_given : (state : State) (modalias : Text) → hwdb.modalias ≡ Some modalias → texts hwdb state ≡ (hwdb.prefix ++ modalias) ∷ []
   text_given state modalias e = ap (λ given. map prefixed (modaliases state.event.profile hwdb given (candidates state))) e
 
-  pub texts_up_to : (state : State) (before behind : List Candidate) (last : Candidate) → state.event.profile ≡ Manual → hwdb.modalias ≡ None → candidates state ≡ before ++ last ∷ behind
+  pub texts_up_to : (state : State) (before following : List Candidate) (last : Candidate) → state.event.profile ≡ Manual → hwdb.modalias ≡ None → candidates state ≡ before ++ last ∷ following
       → list_any (is_last hwdb.subsystem) before ≡ false → is_last hwdb.subsystem last ≡ true → texts hwdb state ≡ texts_of hwdb (before ++ last ∷ [])
-  texts_up_to state before behind last manual none are others is =
+  texts_up_to state before following last manual none are others is =
       by_devices state none
       ∙ ap (λ p. map prefixed (modaliases_by p hwdb.subsystem (candidates state))) manual
       ∙ ap (λ ds. texts_of hwdb (through (is_last hwdb.subsystem) ds)) are
-      ∙ ap (texts_of hwdb) (through_last (is_last hwdb.subsystem) before last behind others is)
+      ∙ ap (texts_of hwdb) (through_last (is_last hwdb.subsystem) before last following others is)
 
   -- those of some devices, and then the first of others
-  two_parts : (before behind : List Candidate)
-      → map prefixed (modaliases_in hwdb.subsystem before ++ take 1 (modaliases_in hwdb.subsystem behind)) ≡ texts_of hwdb before ++ take 1 (texts_of hwdb behind)
-  two_parts before behind =
-      map-append prefixed (modaliases_in hwdb.subsystem before) (take 1 (modaliases_in hwdb.subsystem behind))
-      ∙ ap (λ ts. texts_of hwdb before ++ ts) (sym (take-map prefixed 1 (modaliases_in hwdb.subsystem behind)))
+  two_parts : (before following : List Candidate)
+      → map prefixed (modaliases_in hwdb.subsystem before ++ take 1 (modaliases_in hwdb.subsystem following)) ≡ texts_of hwdb before ++ take 1 (texts_of hwdb following)
+  two_parts before following =
+      map-append prefixed (modaliases_in hwdb.subsystem before) (take 1 (modaliases_in hwdb.subsystem following))
+      ∙ ap (λ ts. texts_of hwdb before ++ ts) (sym (take-map prefixed 1 (modaliases_in hwdb.subsystem following)))
 
   -- devices that are parted so, by how many come first
-  parted : (before behind : List Candidate) (n : ℕ) → length before ≡ n
-      → map prefixed (modaliases_in hwdb.subsystem (take n (before ++ behind)) ++ take 1 (modaliases_in hwdb.subsystem (drop n (before ++ behind))))
-      ≡ texts_of hwdb before ++ take 1 (texts_of hwdb behind)
-  parted before behind n is =
-      ap (λ ds. map prefixed (modaliases_in hwdb.subsystem ds ++ take 1 (modaliases_in hwdb.subsystem (drop n (before ++ behind))))) (take_at before behind n is)
-      ∙ ap (λ ds. map prefixed (modaliases_in hwdb.subsystem before ++ take 1 (modaliases_in hwdb.subsystem ds))) (drop_at before behind n is)
-      ∙ two_parts before behind
+  parted : (before following : List Candidate) (n : ℕ) → length before ≡ n
+      → map prefixed (modaliases_in hwdb.subsystem (take n (before ++ following)) ++ take 1 (modaliases_in hwdb.subsystem (drop n (before ++ following))))
+      ≡ texts_of hwdb before ++ take 1 (texts_of hwdb following)
+  parted before following n is =
+      ap (λ ds. map prefixed (modaliases_in hwdb.subsystem ds ++ take 1 (modaliases_in hwdb.subsystem (drop n (before ++ following))))) (take_at before following n is)
+      ∙ ap (λ ds. map prefixed (modaliases_in hwdb.subsystem before ++ take 1 (modaliases_in hwdb.subsystem ds))) (drop_at before following n is)
+      ∙ two_parts before following
 
-  pub texts_from_usb : (state : State) (before behind : List Candidate) (last : Candidate) → state.event.profile ≡ Udev → hwdb.modalias ≡ None → candidates state ≡ before ++ last ∷ behind
-      → list_any (is_last hwdb.subsystem) before ≡ false → is_last hwdb.subsystem last ≡ true → texts hwdb state ≡ texts_of hwdb before ++ take 1 (texts_of hwdb (last ∷ behind))
-  texts_from_usb state before behind last udev none are others is =
+  pub texts_from_usb : (state : State) (before following : List Candidate) (last : Candidate) → state.event.profile ≡ Udev → hwdb.modalias ≡ None → candidates state ≡ before ++ last ∷ following
+      → list_any (is_last hwdb.subsystem) before ≡ false → is_last hwdb.subsystem last ≡ true → texts hwdb state ≡ texts_of hwdb before ++ take 1 (texts_of hwdb (last ∷ following))
+  texts_from_usb state before following last udev none are others is =
       by_devices state none
       ∙ ap (λ p. map prefixed (modaliases_by p hwdb.subsystem (candidates state))) udev
       ∙ ap (λ ds. map prefixed (udev_modaliases_of hwdb.subsystem ds)) are
-      ∙ parted before (last ∷ behind) (count_before_usb hwdb.subsystem (before ++ last ∷ behind)) (sym (count_here (is_last hwdb.subsystem) before last behind others is))
+      ∙ parted before (last ∷ following) (count_before_usb hwdb.subsystem (before ++ last ∷ following)) (sym (count_here (is_last hwdb.subsystem) before last following others is))
 
   none_of_usb : (profile : Profile) (devices : List Candidate) → list_any (is_last hwdb.subsystem) devices ≡ false → map prefixed (modaliases_by profile hwdb.subsystem devices) ≡ texts_of hwdb devices
   none_of_usb Manual devices others = ap (texts_of hwdb) (through_all (is_last hwdb.subsystem) devices others)

@@ -19,16 +19,16 @@ use Rattle.eval_rules.specs.Jumps.{run, sought_after}
 use Rattle.eval_rules.specs.Outcomes.{command, commands, made_command, outcome_of, run_text}
 use Rattle.device_core.specs.Values.{EventValue}
 use Rattle.eval_rules.specs.Idle.{is_idle, is_idle_by}
-use Rattle.eval_rules.specs.Steps.{apply, only_noted, onward, plain_step, result_step, search, set_all, steps, walk}
+use Rattle.eval_rules.specs.Steps.{apply, if_proceeding, only_noted, plain_step, result_step, search, set_all, steps, walk}
 
 -- a rule of assignments alone
 steps_alone : (es : List Entry) (r : Rule) (s : Scene) → r.plain ≡ [] → r.up ≡ [] → r.acts ≡ [] → r.results ≡ [] → steps es r s ≡ (fold (set_step r) s r.sets, true)
 unfolding steps walk
 steps_alone es r s plain up acts results =
-    ap (λ ps. onward (set_all r) (onward (walk result_step r.results) (onward (walk (act_step es r) r.acts) (onward (search r.up) (walk (plain_step r) ps s))))) plain
-    ∙ ap (λ ps. onward (set_all r) (onward (walk result_step r.results) (onward (walk (act_step es r) r.acts) (search ps s)))) up
-    ∙ ap (λ ps. onward (set_all r) (onward (walk result_step r.results) (walk (act_step es r) ps s))) acts
-    ∙ ap (λ ps. onward (set_all r) (walk result_step ps s)) results
+    ap (λ ps. if_proceeding (set_all r) (if_proceeding (walk result_step r.results) (if_proceeding (walk (act_step es r) r.acts) (if_proceeding (search r.up) (walk (plain_step r) ps s))))) plain
+    ∙ ap (λ ps. if_proceeding (set_all r) (if_proceeding (walk result_step r.results) (if_proceeding (walk (act_step es r) r.acts) (search ps s)))) up
+    ∙ ap (λ ps. if_proceeding (set_all r) (if_proceeding (walk result_step r.results) (walk (act_step es r) ps s))) acts
+    ∙ ap (λ ps. if_proceeding (set_all r) (walk result_step ps s)) results
 
 pub assignments_alone : (es : List Entry) (r : Rule) (s : Scene) → is_idle r s.state.event ≡ false → r.plain ≡ [] → r.up ≡ [] → r.acts ≡ [] → r.results ≡ []
     → apply es r s ≡ (fold (set_step r) s r.sets, true)
@@ -39,7 +39,7 @@ never_idle : (r : Rule) (event : EventValue) → event.profile ≡ Manual → is
 unfolding is_idle_by
 never_idle r event e = ap (λ (p : Profile). is_idle_by p r event) e
 
--- by the manual no rule is passed over
+-- by the manual no rule is skipped
 pub manual_alone : (es : List Entry) (r : Rule) (s : Scene) → s.state.event.profile ≡ Manual → r.plain ≡ [] → r.up ≡ [] → r.acts ≡ [] → r.results ≡ []
     → apply es r s ≡ (fold (set_step r) s r.sets, true)
 manual_alone es r s manual = assignments_alone es r s (never_idle r s.state.event manual)
@@ -59,17 +59,17 @@ unfolding run
 plain_follows es r rs s h = ap (λ (l : Option Text). run es l rs (apply es r s).0) (no_jump r (apply es r s).1 h)
 
 -- a RUN among others
-pub one_command : (s : Scene) (before behind : List RunValue) (kept : RunValue) (text : Text) → s.runs ≡ before ++ kept ∷ behind → render kept.template (record s.state { selected = kept.selected }) Plain ≡ rendered.Text text
-    → (outcome_of s).runs ≡ commands s.state before ++ record { kind = run_kind kept.braces; text = text } ∷ (commands s.state behind ++ map made_command s.made)
+pub one_command : (s : Scene) (before following : List RunValue) (kept : RunValue) (text : Text) → s.runs ≡ before ++ kept ∷ following → render kept.template (record s.state { selected = kept.selected }) Plain ≡ rendered.Text text
+    → (outcome_of s).runs ≡ commands s.state before ++ record { kind = run_kind kept.braces; text = text } ∷ (commands s.state following ++ map made_command s.made)
 unfolding outcome_of
-one_command s before behind kept text split is =
+one_command s before following kept text split is =
     ap (λ cs. cs ++ map made_command s.made)
     (ap (commands s.state) split
-    ∙ flat_map-append (λ (k : RunValue). command k (run_text s.state k)) before (kept ∷ behind)
-    ∙ ap (λ (x : Rendered). commands s.state before ++ (command kept x ++ commands s.state behind)) is)
-    ∙ append_assoc (commands s.state before) (record { kind = run_kind kept.braces; text = text } ∷ commands s.state behind) (map made_command s.made)
+    ∙ flat_map-append (λ (k : RunValue). command k (run_text s.state k)) before (kept ∷ following)
+    ∙ ap (λ (x : Rendered). commands s.state before ++ (command kept x ++ commands s.state following)) is)
+    ∙ append_assoc (commands s.state before) (record { kind = run_kind kept.braces; text = text } ∷ commands s.state following) (map made_command s.made)
 
--- commands that were made at their rules, where no other is kept
-pub made_stand : (s : Scene) → s.runs ≡ [] → (outcome_of s).runs ≡ map made_command s.made
+-- commands that were made at their rules, if no other is kept
+pub made_set : (s : Scene) → s.runs ≡ [] → (outcome_of s).runs ≡ map made_command s.made
 unfolding outcome_of
-made_stand s none = ap (λ (runs : List RunValue). commands s.state runs ++ map made_command s.made) none
+made_set s none = ap (λ (runs : List RunValue). commands s.state runs ++ map made_command s.made) none

@@ -9,7 +9,7 @@ use Rattle.hwdb_lookup.specs.Query.{fitting, property, put, query, winner, winne
 use Rattle.hwdb_lookup.specs.declared.entry.Entry.{Entry}
 use Rattle.eval_laws.specs.DeviceWeights.{pair_weight, pairs_weight}
 use Rattle.eval_state.specs.declared.state.State.{State}
-use Rattle.eval_acts.specs.LookUps.{answer, counts, first_found, found, texts}
+use Rattle.eval_acts.specs.LookUps.{counted_properties, counts, first_found, found, texts}
 use Rattle.eval_acts.specs.declared.hwdb.Hwdb.{Hwdb}
 use Rattle.eval_laws.specs.Allowances.{entries_weight, entry_weight}
 use Rattle.eval_laws.proofs.Sums.{filter_light, fold_light, put_light}
@@ -41,7 +41,7 @@ query_light entries text =
     let b = winners_light entries text in
     omega (arith, a, b)
 
-answer_light : (entries : List Entry) (hwdb : Hwdb) (text : Text) → pairs_weight (answer entries hwdb text) ≤ entries_weight entries
+answer_light : (entries : List Entry) (hwdb : Hwdb) (text : Text) → pairs_weight (counted_properties entries hwdb text) ≤ entries_weight entries
 answer_light entries hwdb text =
     let a = filter_light pair_weight (λ p. counts hwdb.filter p.0) (query entries text) in
     let b = query_light entries text in
@@ -58,4 +58,4 @@ first_light most give each (text ∷ texts) = by (not (is_empty (give text))) (f
 
 pub found_light : (entries : List Entry) (hwdb : Hwdb) (state : State) → pairs_weight (found entries hwdb state) ≤ entries_weight entries
 unfolding found
-found_light entries hwdb state = first_light (entries_weight entries) (answer entries hwdb) (answer_light entries hwdb) (texts hwdb state)
+found_light entries hwdb state = first_light (entries_weight entries) (counted_properties entries hwdb) (answer_light entries hwdb) (texts hwdb state)

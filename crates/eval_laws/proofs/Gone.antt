@@ -1,4 +1,4 @@
--- Texts that are there already, and texts that were taken away.
+-- Texts that are there already, and texts that were removed.
 use Rattle.std.proofs.Common.{◌≡◌, Bool, true, false, cond, not, ◌||◌, ◌&&◌, List, [], ◌∷◌, ◌++◌, refl, sym, ◌∙◌, ap}
 use Rattle.std.specs.List.{All}
 use Rattle.std.proofs.lemmas.List.Elements.{All-head, All-tail}
@@ -15,7 +15,7 @@ all_there [] texts h = refl
 all_there (t ∷ more) texts h = ap (λ ts. with_texts ts more) (there t texts (All-head (λ u. is_among texts u ≡ true) t more h))
     ∙ all_there more texts (All-tail (λ u. is_among texts u ≡ true) t more h)
 
--- what is not there is not there once more is taken away
+-- what is not there is still not there once more is removed
 still_gone : (gone texts : List Text) (t : Text) → is_among texts t ≡ false → is_among (without_texts texts gone) t ≡ false
 still_gone [] texts t h = h
 still_gone (g ∷ gone) texts t h = still_gone gone (without_text texts g) t (among_removed texts g t ∙ by (not (same_text t g)))
@@ -24,7 +24,7 @@ still_gone (g ∷ gone) texts t h = still_gone gone (without_text texts g) t (am
     by true = h
     by false = refl
 
--- texts that were taken away are not there
+-- texts that were removed are not there
 pub all_gone : (gone texts : List Text) (t : Text) → is_among gone t ≡ true → is_among (without_texts texts gone) t ≡ false
 all_gone [] texts t h = cc
 all_gone (g ∷ gone) texts t h = by (same_text t g) refl (all_gone gone (without_text texts g) t)

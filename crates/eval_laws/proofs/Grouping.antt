@@ -31,7 +31,7 @@ each_group [] = tt
 each_group (row ∷ rows) = by (is_kind Device row) refl (each_group rows)
   where
     by : (b : Bool) → is_kind Device row ≡ b → AllByRecursion IsGroup (groups rows) → AllByRecursion IsGroup (if b then (row ∷ before_device rows) ∷ groups rows else groups rows)
-    by true e more = (record { head = row; tail = before_device rows; stands = refl; begins = e; alone = none_before rows }, more)
+    by true e more = (record { head = row; tail = before_device rows; is_present = refl; begins = e; alone = none_before rows }, more)
     by false e more = more
 
 pub grouped : (rows : List Row) → AreGrouped rows

@@ -6,7 +6,7 @@ use Rattle.text_bytes.specs.Texts.{begins_with}
 use Rattle.text_bytes.specs.declared.profile.Profile.{Profile}
 use Rattle.text_bytes.specs.declared.profile.Profile.TheVariants.{Manual, Udev}
 use Rattle.text_tables.specs.Texts.{Text}
-use Rattle.text_tables.specs.Pairs.{value_of}
+use Rattle.text_tables.specs.Pairs.{Pair, value_of}
 use Rattle.text_core.specs.Fnmatch.{fnmatch_items}
 use Rattle.text_core.specs.declared.item.Item.{Item}
 use Rattle.text_core.specs.declared.reading.Reading.TheVariants.{Exact}
@@ -17,8 +17,8 @@ use Rattle.rule_types.specs.declared.roles.PlainKey.{PlainKey}
 use Rattle.rule_types.specs.declared.roles.PlainKey.TheVariants as plain
 use Rattle.rule_types.specs.declared.part.Act.{Act}
 use Rattle.rule_types.specs.declared.part.Comparison.{Comparison}
-use Rattle.rule_types.specs.declared.part.Deed.{Deed}
-use Rattle.rule_types.specs.declared.part.Deed.TheVariants as deed
+use Rattle.rule_types.specs.declared.part.ActKind.{ActKind}
+use Rattle.rule_types.specs.declared.part.ActKind.TheVariants as act_kind
 use Rattle.rule_types.specs.declared.part.Import.{Import}
 use Rattle.rule_types.specs.declared.part.Import.TheVariants as import
 use Rattle.rule_types.specs.declared.part.PlainMatch.{PlainMatch}
@@ -47,18 +47,18 @@ use Rattle.eval_state.specs.declared.scene.Scene.{Scene}
 use Rattle.eval_matching.specs.Attributes.{is_not_read}
 use Rattle.eval_acts.specs.ActTexts.{import_text, most_command_bytes, names_text, program_text}
 use Rattle.eval_acts.specs.Acts.{act_step, from_parent_by, imported, on_text, parent_imported, performed, program_imported, unrun}
-use Rattle.eval_acts.specs.BuiltinRuns.{looked_up, most_set, need_noted, need_word, outcome_taken, path_id_run, properties_size, usb_id_run}
+use Rattle.eval_acts.specs.BuiltinRuns.{looked_up, most_set, need_noted, need_word, outcome_set, outcome_taken, path_id_run, properties_size, usb_id_run, with_maker}
 use Rattle.eval_acts.specs.Imports.{builtin_run, from_answer_or_noted, from_parent, from_program, not_run, run_builtin}
 use Rattle.eval_acts.specs.Printed.{printed_properties}
-use Rattle.eval_acts.specs.Questions.{answered_or_noted, asked, result_of, tested, tested_at, tested_by, tested_by_udev, with_result}
-use Rattle.eval_acts.specs.Reaching.{reached}
+use Rattle.eval_acts.specs.Questions.{answered_by_block, answered_or_noted, result_of, tested, tested_at, tested_by, tested_by_udev, with_result}
+use Rattle.eval_acts.specs.Reaching.{match_reached}
 use Rattle.eval_laws.specs.AssignmentLaws.{Keeps, SameAt}
 use Rattle.eval_assignments.specs.Steps.{set_step}
-use Rattle.eval_laws.proofs.Untouched.{value, itself, same_notes}
-use Rattle.eval_laws.proofs.Untouched as untouched
+use Rattle.eval_laws.proofs.KeptParts.{value, itself, same_notes}
+use Rattle.eval_laws.proofs.KeptParts as kept
 use Rattle.eval_laws.proofs.Finality.{Lasts, fold_event, fold_keeps, lasts_on}
 use Rattle.eval_rules.specs.Idle.{is_idle}
-use Rattle.eval_rules.specs.Steps.{Went, apply, before_sets, only_noted, onward, plain_step, result_step, search, set_all, steps, walk}
+use Rattle.eval_rules.specs.Steps.{Went, apply, before_sets, if_proceeding, only_noted, plain_step, result_step, search, set_all, steps, walk}
 use Rattle.eval_rules.specs.Jumps.{is_passed, run, sought_after}
 
 -- nothing that a key may make final differs: neither what is collected nor which keys are final
@@ -82,7 +82,7 @@ keeps : (k : FinalKey) (s t : Scene) → Same s t → is_final s.finals k ≡ tr
 keeps k s t h f = record { same = same_at k s t h; stays = ap (λ (x : Scene). is_final x.finals k) h ∙ f }
 
 both : (k : FinalKey) (s t u : Scene) → Keeps k s t → Keeps k t u → Keeps k s u
-both k s t u a b = record { same = untouched.through (value k) s t u a.same b.same; stays = b.stays }
+both k s t u a b = record { same = kept.through (value k) s t u a.same b.same; stays = b.stays }
 
 -- ---- what acts
 
@@ -90,7 +90,7 @@ chosen : (s t u : Scene) (a b c : Bool) → Same s t → Same s u → Same s (co
 chosen s t u a b true h k = h
 chosen s t u a b false h k = k
 
-on_text_same : (r : Rule) (d : Deed) (act : Text → Scene → Scene × Bool) → ((t : Text) (s : Scene) → Same s (act t s).0) → (text : Rendered) (s : Scene) → Same s (on_text r d act text s).0
+on_text_same : (r : Rule) (d : ActKind) (act : Text → Scene → Scene × Bool) → ((t : Text) (s : Scene) → Same s (act t s).0) → (text : Rendered) (s : Scene) → Same s (on_text r d act text s).0
 on_text_same r d act h (rendered.Text t) s = h t s
 on_text_same r d act h rendered.TooLong s = refl
 
@@ -121,34 +121,33 @@ need_same : (r : Rule) (name : Text) (needs : List Text) (s : Scene) → Same s 
 need_same r name [] s = refl
 need_same r name (need ∷ needs) s = refl
 
-outcome_same : (r : Rule) (name : Text) (o : OutcomeValue) (s : Scene) → Same s (outcome_taken r name o s).0
-outcome_same r name o s = by (nat_le (properties_size o.properties) most_set)
+outcome_same : (r : Rule) (name : Text) (o : OutcomeValue) (properties : List Pair) (s : Scene) → Same s (outcome_set r name o properties s).0
+outcome_same r name o properties s = by (nat_le (properties_size o.properties) most_set)
   where
     set : Scene
-    set = with_env (properties_set s.state.env o.properties) s
+    set = with_env (properties_set s.state.env properties) s
 
     by : (b : Bool) → Same s (cond {A = Scene × Bool} b (need_noted r name o.needs set, o.is_done) (noted r TextTooLong name s, false)).0
     by true = need_same r name o.needs set
     by false = refl
 
+taken_same : (r : Rule) (name : Text) (o : OutcomeValue) (s : Scene) → Same s (outcome_taken r name o s).0
+taken_same r name o s = outcome_same r name o o.properties s
+
 usb_same : (ran : Option Bool) (r : Rule) (s : Scene) → Same s (usb_id_run ran r s).0
-usb_same None r s = through s _ _ (outcome_same r (builtin_name UsbId) (usb_id s.state.event (is_some (value_of s.state.env (codes "ID_BUS")))) s) refl
+usb_same None r s = through s _ _ (taken_same r (builtin_name UsbId) (usb_id s.state.event (is_some (value_of s.state.env (codes "ID_BUS")))) s) refl
 usb_same (Some done) r s = refl
 
 path_same : (ran : Option Bool) (r : Rule) (s : Scene) → Same s (path_id_run ran r s).0
-path_same None r s = through s _ _ (outcome_same r (builtin_name PathId) (path_id s.state.event) s) refl
+path_same None r s = through s _ _ (taken_same r (builtin_name PathId) (path_id s.state.event) s) refl
 path_same (Some done) r s = refl
-
-looked_up_same : (es : List Entry) (text : Option Text) (s : Scene) → Same s (looked_up es text s)
-looked_up_same es None s = refl
-looked_up_same es (Some text) s = refl
 
 builtin_same : (es : List Entry) (r : Rule) (t : Text) (b : Builtin) (s : Scene) → Same s (builtin_run es r t b s).0
 builtin_same es r t (builtin.Hwdb h) s = refl
-builtin_same es r t builtin.InputId s = outcome_same r (builtin_name InputId) (input_id s.state.event) s
+builtin_same es r t builtin.InputId s = taken_same r (builtin_name InputId) (input_id s.state.event) s
 builtin_same es r t builtin.NetId s =
-    let found : Scene = looked_up es (lookup s.state.event s.state.env) s in
-    through s found _ (looked_up_same es (lookup s.state.event s.state.env) s) (outcome_same r (builtin_name NetId) (net_id s.state.event s.state.env) found)
+    let names : OutcomeValue = net_id s.state.event s.state.env in
+    outcome_same r (builtin_name NetId) names (with_maker (looked_up es (lookup s.state.event s.state.env)) names.properties) s
 builtin_same es r t builtin.PathId s = path_same s.ran.path_id r s
 builtin_same es r t builtin.UsbId s = usb_same s.ran.usb_id r s
 builtin_same es r t (builtin.Other name) s = refl
@@ -158,7 +157,7 @@ parent_same : (names : List (List Item)) (d : Option DeviceValue) (s : Scene) �
 parent_same names None s = refl
 parent_same names (Some d) s = refl
 
-parent_by_same : (profile : Profile) (r : Rule) (d : Deed) (names : List (List Item)) (text : Text) (s : Scene) → Same s (parent_imported profile r d names text s).0
+parent_by_same : (profile : Profile) (r : Rule) (d : ActKind) (names : List (List Item)) (text : Text) (s : Scene) → Same s (parent_imported profile r d names text s).0
 parent_by_same Manual r d names text s = parent_same names (device_at s.state.event 1) s
 parent_by_same Udev r d names text s = on_text_same r d from_parent_by (λ found u. parent_same (fnmatch_items Exact found 0 ∷ []) (device_at u.state.event 1) u) (names_text text s.state) s
 
@@ -166,15 +165,15 @@ printed_same : (r : Rule) (t : Text) (a : Option AnswerValue) (s : Scene) → Sa
 printed_same r t None s = refl
 printed_same r t (Some a) s = chosen s (with_env (properties_set s.state.env (printed_properties a.text)) s) s true false _ refl refl
 
-program_by_same : (profile : Profile) (r : Rule) (d : Deed) (i : Import) (template : Template) (s : Scene) → Same s (program_imported profile r d i template s).0
+program_by_same : (profile : Profile) (r : Rule) (d : ActKind) (i : Import) (template : Template) (s : Scene) → Same s (program_imported profile r d i template s).0
 program_by_same Manual r d i template s = refl
 program_by_same Udev r d i template s = on_text_same r d (from_program r) (λ c u. printed_same r c (value_of u.state.event.programs c) u) (import_text most_command_bytes template s.state) s
 
-unrun_same : (profile : Profile) (r : Rule) (d : Deed) (i : Import) (bytes : ℕ) (template : Template) (s : Scene) → Same s (unrun profile r d i bytes template s).0
+unrun_same : (profile : Profile) (r : Rule) (d : ActKind) (i : Import) (bytes : ℕ) (template : Template) (s : Scene) → Same s (unrun profile r d i bytes template s).0
 unrun_same Manual r d i bytes template s = refl
 unrun_same Udev r d i bytes template s = on_text_same r d (λ text. not_run r i) (λ text u. refl) (import_text bytes template s.state) s
 
-imported_same : (es : List Entry) (r : Rule) (d : Deed) (i : Import) (s : Scene) → Same s (imported es r d i s).0
+imported_same : (es : List Entry) (r : Rule) (d : ActKind) (i : Import) (s : Scene) → Same s (imported es r d i s).0
 imported_same es r d (import.Builtin t) s = on_text_same r d (run_builtin es r) (λ c u. builtin_same es r c _ u) _ s
 imported_same es r d (import.Parent names text) s = parent_by_same s.state.event.profile r d names text s
 imported_same es r d (import.Program t) s = program_by_same s.state.event.profile r d (import.Program t) t s
@@ -182,21 +181,21 @@ imported_same es r d (import.File t) s = unrun_same s.state.event.profile r d (i
 imported_same es r d (import.Cmdline name) s = refl
 imported_same es r d (import.Db name) s = refl
 
-performed_same : (es : List Entry) (r : Rule) (d : Deed) (s : Scene) → Same s (performed es r d s).0
-performed_same es r (deed.Test mask t) s = on_text_same r (deed.Test mask t) (tested r mask) (tested_same r mask) _ s
-performed_same es r (deed.Program t) s =
+performed_same : (es : List Entry) (r : Rule) (d : ActKind) (s : Scene) → Same s (performed es r d s).0
+performed_same es r (act_kind.Test mask t) s = on_text_same r (act_kind.Test mask t) (tested r mask) (tested_same r mask) _ s
+performed_same es r (act_kind.Program t) s =
     let text : Rendered = program_text t s.state in
-    through s (with_result [] s) (on_text r (deed.Program t) (asked r) text (with_result [] s)).0 refl
-    (on_text_same r (deed.Program t) (asked r) (λ c u. answered_same r c (value_of u.state.event.programs c) u) text (with_result [] s))
-performed_same es r (deed.Import i) s = imported_same es r (deed.Import i) i s
+    through s (with_result [] s) (on_text r (act_kind.Program t) (answered_by_block r) text (with_result [] s)).0 refl
+    (on_text_same r (act_kind.Program t) (answered_by_block r) (λ c u. answered_same r c (value_of u.state.event.programs c) u) text (with_result [] s))
+performed_same es r (act_kind.Import i) s = imported_same es r (act_kind.Import i) i s
 
 act_same : (es : List Entry) (r : Rule) (act : Act) (s : Scene) → Same s (act_step es r act s).0
 unfolding act_step
-act_same es r act s = performed_same es r act.deed s
+act_same es r act s = performed_same es r act.kind s
 
 -- ---- matches
 
-reached_same : (r : Rule) (k : PlainKey) (s : Scene) → Same s (reached r k s)
+reached_same : (r : Rule) (k : PlainKey) (s : Scene) → Same s (match_reached r k s)
 reached_same r (plain.Sysctl name) s = refl
 reached_same r (plain.Attr name) s = by (is_not_read name s.state.event)
   where
@@ -219,8 +218,8 @@ search_same (part ∷ parts) s = refl
 
 -- ---- steps, and rules one after another
 
-onward_same : (f : Scene → Went) → ((s : Scene) → Same s (f s).0) → (s : Scene) (w : Went) → Same s w.0 → Same s (onward f w).0
-onward_same f h s w k = by w.1
+if_proceeding_same : (f : Scene → Went) → ((s : Scene) → Same s (f s).0) → (s : Scene) (w : Went) → Same s w.0 → Same s (if_proceeding f w).0
+if_proceeding_same f h s w k = by w.1
   where
     by : (b : Bool) → Same s (cond b (f w.0) w).0
     by true = through s w.0 (f w.0).0 k (h w.0)
@@ -229,14 +228,14 @@ onward_same f h s w k = by w.1
 walk_same : {P : Type 0} (step : P → Scene → Went) → ((p : P) (s : Scene) → Same s (step p s).0) → (ps : List P) (s : Scene) → Same s (walk step ps s).0
 unfolding walk
 walk_same step h [] s = refl
-walk_same step h (p ∷ ps) s = onward_same (walk step ps) (walk_same step h ps) s (step p s) (h p s)
+walk_same step h (p ∷ ps) s = if_proceeding_same (walk step ps) (walk_same step h ps) s (step p s) (h p s)
 
--- what a rule has come to before its assignments
+-- the scene before a rule's assignments
 pub before_same : (es : List Entry) (r : Rule) (s : Scene) → Same s (before_sets es r s).0
 before_same es r s =
-    onward_same (walk result_step r.results) (walk_same result_step result_same r.results) s _
-    (onward_same (walk (act_step es r) r.acts) (walk_same (act_step es r) (act_same es r) r.acts) s _
-    (onward_same (search r.up) (search_same r.up) s _
+    if_proceeding_same (walk result_step r.results) (walk_same result_step result_same r.results) s _
+    (if_proceeding_same (walk (act_step es r) r.acts) (walk_same (act_step es r) (act_same es r) r.acts) s _
+    (if_proceeding_same (search r.up) (search_same r.up) s _
     (walk_same (plain_step r) (plain_same r) r.plain s)))
 
 module _ (es : List Entry) (r : Rule) where

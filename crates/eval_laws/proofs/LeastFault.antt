@@ -61,10 +61,10 @@ none_or : {P : Type 0} (fault : Option BlockFaultKind) → ((kind : BlockFaultKi
 none_or None wrong never = refl
 none_or (Some kind) wrong never = never (wrong kind refl)
 
-given_behind : (above : List Text) (line : Text) (below : List Text) → given_by (above ++ line ∷ below) ≡ given_below [] (above ++ line ∷ below)
+given_after : (above : List Text) (line : Text) (below : List Text) → given_by (above ++ line ∷ below) ≡ given_below [] (above ++ line ∷ below)
 unfolding given_by
-given_behind [] line below = refl
-given_behind (first ∷ above) line below = refl
+given_after [] line below = refl
+given_after (first ∷ above) line below = refl
 
 fails_here : (rows : List Row) (line : Text) (below : List Text) (kind : BlockFaultKind) → line_fault rows line below ≡ Some kind → given_below rows (line ∷ below) ≡ Err (record { line = length rows + 1; kind = kind })
 unfolding given_below
@@ -80,7 +80,7 @@ module _ (lines : List Text) (fault : BlockFault) (h : IsLeastFault lines fault)
             above = above;
             line = line;
             below = below ++ h.faulty.line ∷ h.faulty.below;
-            stands = h.faulty.stands ∙ ap (λ ls. ls ++ h.faulty.line ∷ h.faulty.below) e ∙ append_assoc above (line ∷ below) (h.faulty.line ∷ h.faulty.below);
+            is_present = h.faulty.is_present ∙ ap (λ ls. ls ++ h.faulty.line ∷ h.faulty.below) e ∙ append_assoc above (line ∷ below) (h.faulty.line ∷ h.faulty.below);
             counted = refl;
             wrong = wrong;
           }) in
@@ -93,8 +93,8 @@ module _ (lines : List Text) (fault : BlockFault) (h : IsLeastFault lines fault)
       let rest = h.faulty.line ∷ h.faulty.below in
       let long = as_long rest h.faulty.above [] clean_above in
       let count : length (rows_of h.faulty.above) + 1 ≡ fault.line = omega (arith, long, h.faulty.counted) in
-      ap given_by h.faulty.stands
-      ∙ given_behind h.faulty.above h.faulty.line h.faulty.below
+      ap given_by h.faulty.is_present
+      ∙ given_after h.faulty.above h.faulty.line h.faulty.below
       ∙ passed rest h.faulty.above [] clean_above
       ∙ fails_here (rows_of h.faulty.above) h.faulty.line h.faulty.below fault.kind h.faulty.wrong
       ∙ ap (λ n. Err (record { line = n; kind = fault.kind })) count
@@ -109,7 +109,7 @@ clean_all lines faultless above line below e = none_or {P = ⊥} (line_fault (ro
       above = above;
       line = line;
       below = below ++ [];
-      stands = e ∙ ap (λ ls. above ++ line ∷ ls) (sym (append-nil below));
+      is_present = e ∙ ap (λ ls. above ++ line ∷ ls) (sym (append-nil below));
       counted = refl;
       wrong = wrong;
     })
@@ -130,7 +130,7 @@ fault_free : (n : ℕ) (fault : Option BlockFaultKind) (whole : Result EventValu
 fault_free n None whole ok = (refl, ok)
 fault_free n (Some kind) whole ok = cc
 
--- where lines give an event, none of them is faulty
+-- if lines give an event, none of them is faulty
 ok_clean : (above : List Text) (line : Text) (below : List Text) (rows : List Row) → IsOk (given_below rows (above ++ line ∷ below)) → line_fault (rows ++ rows_of above) line below ≡ None
 unfolding given_below
 ok_clean [] line below rows ok = ap (λ rs. line_fault rs line below) (append-nil rows) ∙ (fault_free (length rows + 1) (line_fault rows line below) (given_below (rows ++ option_to_list (row_of line)) below) ok).0
@@ -144,7 +144,7 @@ ok_all line below ok above next after e = ok_clean above next (after ++ []) [] (
 
 ok_faultless : (lines : List Text) → IsOk (given_by lines) → AreFaultless lines
 ok_faultless lines ok number kind f =
-    let none = ok_clean f.above f.line f.below [] (subst (λ (r : Result EventValue BlockFault). IsOk r) (ap given_by f.stands ∙ given_behind f.above f.line f.below) ok) in
+    let none = ok_clean f.above f.line f.below [] (subst (λ (r : Result EventValue BlockFault). IsOk r) (ap given_by f.is_present ∙ given_after f.above f.line f.below) ok) in
     let both : None ≡ Some kind = sym none ∙ f.wrong in
     cc
 

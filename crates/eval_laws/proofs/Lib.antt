@@ -17,6 +17,7 @@ pub mod Compared
 pub mod TextEnds
 pub mod Runs
 pub mod Gone
+pub mod KeptParts
 pub mod Untouched
 pub mod Finality
 pub mod Keeping

@@ -36,12 +36,12 @@ escape_short (b ∷ t) =
     omega (arith, a, c, d)
 
 -- no more digits are written than there is room for
-digits_short : (k n : ℕ) (behind : List ℕ) → length (digits_onto k 10 false n behind) ≤ k + length behind
-digits_short zero n behind = omega arith
-digits_short (suc k) n behind = by (n / 10 == 0) (digits_short k (n / 10) (digit_glyph false (n % 10) ∷ behind))
+digits_short : (k n : ℕ) (following : List ℕ) → length (digits_onto k 10 false n following) ≤ k + length following
+digits_short zero n following = omega arith
+digits_short (suc k) n following = by (n / 10 == 0) (digits_short k (n / 10) (digit_glyph false (n % 10) ∷ following))
   where
-    by : (last : Bool) → length (digits_onto k 10 false (n / 10) (digit_glyph false (n % 10) ∷ behind)) ≤ k + length (digit_glyph false (n % 10) ∷ behind)
-        → length (cond last (digit_glyph false (n % 10) ∷ behind) (digits_onto k 10 false (n / 10) (digit_glyph false (n % 10) ∷ behind))) ≤ suc k + length behind
+    by : (last : Bool) → length (digits_onto k 10 false (n / 10) (digit_glyph false (n % 10) ∷ following)) ≤ k + length (digit_glyph false (n % 10) ∷ following)
+        → length (cond last (digit_glyph false (n % 10) ∷ following) (digits_onto k 10 false (n / 10) (digit_glyph false (n % 10) ∷ following))) ≤ suc k + length following
     by true more = omega arith
     by false more = omega (arith, more)
 
@@ -141,11 +141,11 @@ note_line_short note =
     omega (arith, a, b, c, d, e, f)
 
 -- a line for each of several things
-pub lines_short : {X : Type 0} (weight : X → ℕ) (told : X → Text) → ((x : X) → length (told x) ≤ 8 * weight x) → (xs : List X) → length (flat_map told xs) ≤ 8 * sum_by weight xs
-lines_short weight told each [] = omega arith
-lines_short weight told each (x ∷ xs) =
-    let a = length-append (told x) (flat_map told xs) in
+pub lines_short : {X : Type 0} (weight : X → ℕ) (reported : X → Text) → ((x : X) → length (reported x) ≤ 8 * weight x) → (xs : List X) → length (flat_map reported xs) ≤ 8 * sum_by weight xs
+lines_short weight reported each [] = omega arith
+lines_short weight reported each (x ∷ xs) =
+    let a = length-append (reported x) (flat_map reported xs) in
     let b = sum_by-cons weight x xs in
     let c = each x in
-    let d = lines_short weight told each xs in
+    let d = lines_short weight reported each xs in
     omega (arith, a, b, c, d)

@@ -34,7 +34,7 @@ use Rattle.eval_rendering.specs.declared.rendered.Mode.{Mode}
 use Rattle.eval_rendering.specs.declared.rendered.Mode.TheVariants.{Plain}
 use Rattle.eval_rendering.specs.declared.rendered.Rendered.{Rendered}
 use Rattle.eval_rendering.specs.declared.rendered.Rendered.TheVariants as rendered
-use Rattle.eval_assignments.specs.Assigning.{assigned, given, group_set, owner_set, with_option}
+use Rattle.eval_assignments.specs.Assigning.{assigned, group_set, owner_set, unless_empty, with_option}
 use Rattle.eval_assignments.specs.Bounds.{most_bytes_of, most_command_bytes, most_value_bytes}
 use Rattle.eval_assignments.specs.Escapes.{escape_of, mode_of}
 use Rattle.eval_assignments.specs.Finality.{final_key, final_option, final_target, finally, is_settled, settled}
@@ -116,7 +116,7 @@ module _ (r : Rule) (k : FinalKey) (s : Scene) (open_key : is_final s.finals k �
   change_final (change.Text about template) h = template_final s.state.event.profile about template h
   change_final (change.Run braces template) h = run_final s.state.event.profile braces template h
 
-  -- `:=` makes its key final where it is made
+  -- `:=` makes its key final if it is made
   pub step_final : (a : Assignment) → a.operator ≡ AssignFinal → final_key s.state.event.profile a.change ≡ Some k → is_final (set_step r s a).finals k ≡ is_made r a.change s
   step_final a o h =
       ap (λ (t : Scene). is_final t.finals k) (open_step r s a (ap (λ j. is_settled j s.finals) h ∙ open_key))
@@ -221,7 +221,7 @@ step_finals r a s other = by (is_settled (final_key s.state.event.profile a.chan
 
 -- ---- OWNER, GROUP and MODE
 
-given_is : (t : Text) → given t ≡ (if is_empty t then None else Some t)
+given_is : (t : Text) → unless_empty t ≡ (if is_empty t then None else Some t)
 given_is [] = refl
 given_is (b ∷ t) = refl
 
@@ -266,7 +266,7 @@ finally_made AssignFinal (Some k) s = refl
 finally_made o k s = refl
 
 module _ (r : Rule) (o : AssignOperator) (template : Template) (s : Scene) (t : Text) where
-  -- a text that is rendered as it stands, by the manual
+  -- a text that is rendered as it is, by the manual
   set_text : s.state.event.profile ≡ Manual → (about : Target) → is_settled (final_target about) s.finals ≡ false → mode_of Manual about (escape_of r.sets) ≡ Plain → render template s.state Plain ≡ rendered.Text t
       → set_step r s (record { operator = o; change = change.Text about template }) ≡ text_given Manual r (escape_of r.sets) o about template.written t s
   set_text manual about open_key plain text =
@@ -274,20 +274,20 @@ module _ (r : Rule) (o : AssignOperator) (template : Template) (s : Scene) (t : 
       ∙ ap (λ (p : Profile). text_step p r o about template s) manual
       ∙ ap (λ (x : Rendered). text_set Manual r (escape_of r.sets) o about template.written x s) (ap (λ (m : Mode). render template s.state m) plain ∙ text)
 
-  pub owner_stands : s.state.event.profile ≡ Manual → is_final s.finals key.Owner ≡ false → render template s.state Plain ≡ rendered.Text t
+  pub owner_in_place : s.state.event.profile ≡ Manual → is_final s.finals key.Owner ≡ false → render template s.state Plain ≡ rendered.Text t
       → (set_step r s (record { operator = o; change = change.Text target.Owner template })).owner ≡ (if is_empty t then None else Some t)
-  owner_stands manual open_key text =
-      ap (λ (u : Scene). u.owner) (set_text manual target.Owner open_key (plain_owner Manual (escape_of r.sets)) text) ∙ finally_owner o (Some key.Owner) (record s { owner = given t }) ∙ given_is t
+  owner_in_place manual open_key text =
+      ap (λ (u : Scene). u.owner) (set_text manual target.Owner open_key (plain_owner Manual (escape_of r.sets)) text) ∙ finally_owner o (Some key.Owner) (record s { owner = unless_empty t }) ∙ given_is t
 
-  pub group_stands : s.state.event.profile ≡ Manual → is_final s.finals key.Group ≡ false → render template s.state Plain ≡ rendered.Text t
+  pub group_in_place : s.state.event.profile ≡ Manual → is_final s.finals key.Group ≡ false → render template s.state Plain ≡ rendered.Text t
       → (set_step r s (record { operator = o; change = change.Text target.Group template })).group ≡ (if is_empty t then None else Some t)
-  group_stands manual open_key text =
-      ap (λ (u : Scene). u.group) (set_text manual target.Group open_key (plain_group Manual (escape_of r.sets)) text) ∙ finally_group o (Some key.Group) (record s { group = given t }) ∙ given_is t
+  group_in_place manual open_key text =
+      ap (λ (u : Scene). u.group) (set_text manual target.Group open_key (plain_group Manual (escape_of r.sets)) text) ∙ finally_group o (Some key.Group) (record s { group = unless_empty t }) ∙ given_is t
 
-  pub mode_stands : s.state.event.profile ≡ Manual → is_final s.finals key.Mode ≡ false → render template s.state Plain ≡ rendered.Text t
+  pub mode_in_place : s.state.event.profile ≡ Manual → is_final s.finals key.Mode ≡ false → render template s.state Plain ≡ rendered.Text t
       → (set_step r s (record { operator = o; change = change.Text target.Mode template })).mode ≡ (if is_empty t then None else Some t)
-  mode_stands manual open_key text =
-      ap (λ (u : Scene). u.mode) (set_text manual target.Mode open_key (plain_mode Manual (escape_of r.sets)) text) ∙ finally_mode o (Some key.Mode) (record s { mode = given t }) ∙ given_is t
+  mode_in_place manual open_key text =
+      ap (λ (u : Scene). u.mode) (set_text manual target.Mode open_key (plain_mode Manual (escape_of r.sets)) text) ∙ finally_mode o (Some key.Mode) (record s { mode = unless_empty t }) ∙ given_is t
 
   -- the same by udev, of a device with a number
   udev_text : s.state.event.profile ≡ Udev → (number : NumberValue) → s.state.event.device.number ≡ Some number → (about : Target) → (emptied o about s ≡ s)

@@ -12,7 +12,7 @@ use Rattle.eval_matching.proofs.Finding.{found_first}
 use Rattle.eval_state.specs.declared.scene.Scene.{Scene}
 use Rattle.eval_acts.specs.Acts.{act_step}
 use Rattle.eval_rules.specs.Idle.{is_idle}
-use Rattle.eval_rules.specs.Steps.{Went, apply, only_noted, onward, plain_step, result_step, search, set_all, steps, walk}
+use Rattle.eval_rules.specs.Steps.{Went, apply, if_proceeding, only_noted, plain_step, result_step, search, set_all, steps, walk}
 use Rattle.eval_rules.specs.Laws.{IsMetByOneDevice}
 use Rattle.eval_laws.proofs.Unmatched.{walk_same}
 
@@ -31,7 +31,7 @@ searched part parts s = by (found_place (part ∷ parts) s.state) refl
     by (Some place) e h = record { place = place; first = met (part ∷ parts) s.state place e }
 
 -- a rule that goes on after a step went on before it
-went_on : (f : Scene → Went) (s : Scene) (b : Bool) → (onward f (s, b)).1 ≡ true → (b ≡ true) × ((f s).1 ≡ true)
+went_on : (f : Scene → Went) (s : Scene) (b : Bool) → (if_proceeding f (s, b)).1 ≡ true → (b ≡ true) × ((f s).1 ≡ true)
 went_on f s true h = (refl, h)
 went_on f s false h = absurd (true≢false (sym h))
 
@@ -40,9 +40,9 @@ steps_end : (es : List Entry) (r : Rule) (s : Scene) (part : UpMatch) (parts : L
 unfolding steps
 steps_end es r s part parts up h =
     let a : Went = walk (plain_step r) r.plain s in
-    let b : Went = onward (search r.up) a in
-    let c : Went = onward (walk (act_step es r) r.acts) b in
-    let d : Went = onward (walk result_step r.results) c in
+    let b : Went = if_proceeding (search r.up) a in
+    let c : Went = if_proceeding (walk (act_step es r) r.acts) b in
+    let d : Went = if_proceeding (walk result_step r.results) c in
     let on_d = went_on (set_all r) d.0 d.1 h in
     let on_c = went_on (walk result_step r.results) c.0 c.1 on_d.0 in
     let on_b = went_on (walk (act_step es r) r.acts) b.0 b.1 on_c.0 in

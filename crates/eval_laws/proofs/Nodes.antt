@@ -32,16 +32,16 @@ priority_short (Some priority) fits =
     omega (arith, a, b)
 
 -- lines after others
-pub behind : (others one : Text) (m n : ℕ) → length others ≤ m → length one ≤ n → length (others ++ one) ≤ m + n
-behind others one m n a b = let c = length-append others one in omega (arith, a, b, c)
+pub following : (others one : Text) (m n : ℕ) → length others ≤ m → length one ≤ n → length (others ++ one) ≤ m + n
+following others one m n a b = let c = length-append others one in omega (arith, a, b, c)
 
 pub node_short : (o : Outcome) → IfSome o.priority (λ z. unsigned_abs z ≤ 2 ^ 31)
     → length (node_lines o) ≤ 8 * given_weight o.name + 8 * given_weight o.owner + 8 * given_weight o.group + 8 * given_weight o.mode + 21 + 8 + 8
 unfolding node_lines
 node_short o fits =
-    let a = behind _ _ _ _ (given_line_short (codes "name") o.name (omega arith)) (given_line_short (codes "owner") o.owner (omega arith)) in
-    let b = behind _ _ _ _ a (given_line_short (codes "group") o.group (omega arith)) in
-    let c = behind _ _ _ _ b (given_line_short (codes "mode") o.mode (omega arith)) in
-    let d = behind _ _ _ 21 c (priority_short o.priority fits) in
-    let e = behind _ _ _ 8 d (watch_short o.watch) in
-    behind _ _ _ 8 e (persist_short o.persist)
+    let a = following _ _ _ _ (given_line_short (codes "name") o.name (omega arith)) (given_line_short (codes "owner") o.owner (omega arith)) in
+    let b = following _ _ _ _ a (given_line_short (codes "group") o.group (omega arith)) in
+    let c = following _ _ _ _ b (given_line_short (codes "mode") o.mode (omega arith)) in
+    let d = following _ _ _ 21 c (priority_short o.priority fits) in
+    let e = following _ _ _ 8 d (watch_short o.watch) in
+    following _ _ _ 8 e (persist_short o.persist)

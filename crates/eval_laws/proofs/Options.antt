@@ -13,7 +13,7 @@ use Rattle.text_core.specs.Spell.{spell}
 use Rattle.text_core.specs.declared.glob_fault.GlobFault.{GlobFault}
 use Rattle.text_core.specs.declared.item.Item.{Item}
 use Rattle.eval_state.specs.Texts.{or_empty}
-use Rattle.eval_acts.specs.Hwdb.{as_pattern, at_most_one, filter_of, filter_option, hwdb_of, is_unknown, last_value, modaliases, prefix_option, subsystem_option, value_beside, value_in, with_parts}
+use Rattle.eval_acts.specs.Hwdb.{as_pattern, at_most_one, filter_of, filter_option, hwdb_of, is_unknown, last_value, operands, prefix_option, subsystem_option, value_beside, value_in, with_parts}
 use Rattle.eval_acts.specs.declared.hwdb.Hwdb.{Hwdb}
 use Rattle.eval_laws.specs.LookUps.{HasNoValue, IsLastValue, option_word}
 
@@ -40,7 +40,7 @@ module _ (name : Text) (plain : list_any (λ b. b == equals) name ≡ false) whe
       named : (n : ℕ) → position (λ b. b == equals) word ≡ Some n → (b : Bool) → same_text (take n word) name ≡ b
           → (if b then Some (drop (n + 1) word) else None) ≡ Some value → word ≡ option_word name value
       named n at true is e =
-          cut n at ∙ ap (λ front. front ++ equals ∷ drop (n + 1) word) ((bytes_decides (take n word) name).0 is)
+          cut n at ∙ ap (λ beginning. beginning ++ equals ∷ drop (n + 1) word) ((bytes_decides (take n word) name).0 is)
           ∙ ap (λ rest. name ++ equals ∷ rest) (some_same (drop (n + 1) word) value e)
       named n at false is e = absurd (none_some value e)
 
@@ -67,12 +67,12 @@ module _ (name : Text) (plain : list_any (λ b. b == equals) name ≡ false) whe
       let within : length name < length word = omega (arith, long) in
       let place : position (λ b. b == equals) word ≡ Some (length name) =
       ap (λ (k : ℕ). cond (nat_lt k (length word)) (Some k) None) at ∙ ap (λ (b : Bool). cond b (Some (length name)) None) (lt-ltb (length name) (length word) within) in
-      let front : take (length name) word ≡ name = take_at name (equals ∷ value) (length name) refl in
-      let behind : drop (length name + 1) word ≡ value =
+      let beginning : take (length name) word ≡ name = take_at name (equals ∷ value) (length name) refl in
+      let following : drop (length name + 1) word ≡ value =
       ap (drop (length name + 1)) (sym (append_assoc name (equals ∷ []) value)) ∙ drop_at (name ++ equals ∷ []) value (length name + 1) (length-append name (equals ∷ [])) in
       ap (option_map (λ (n : ℕ). (take n word, drop (n + 1) word))) place
-      ∙ ap (λ (l : Text). Some (l, drop (length name + 1) word)) front
-      ∙ ap (λ (l : Text). Some (name, l)) behind
+      ∙ ap (λ (l : Text). Some (l, drop (length name + 1) word)) beginning
+      ∙ ap (λ (l : Text). Some (name, l)) following
 
   word_gives : (value : Text) → value_in name (option_word name value) ≡ Some value
   word_gives value =
@@ -89,13 +89,13 @@ module _ (name : Text) (plain : list_any (λ b. b == equals) name ≡ false) whe
   left_some None b e = absurd (true≢false (sym e))
   left_some (Some v) b e = refl
 
-  has_value : (before : List Text) (value : Text) (behind : List Text) → is_some (last_value name (before ++ option_word name value ∷ behind)) ≡ true
-  has_value [] value behind = or_some (last_value name behind) (value_in name (option_word name value)) (ap is_some (word_gives value))
-  has_value (word ∷ before) value behind = left_some (last_value name (before ++ option_word name value ∷ behind)) (value_in name word) (has_value before value behind)
+  has_value : (before : List Text) (value : Text) (following : List Text) → is_some (last_value name (before ++ option_word name value ∷ following)) ≡ true
+  has_value [] value following = or_some (last_value name following) (value_in name (option_word name value)) (ap is_some (word_gives value))
+  has_value (word ∷ before) value following = left_some (last_value name (before ++ option_word name value ∷ following)) (value_in name word) (has_value before value following)
 
   none_has_no_value : (words : List Text) → last_value name words ≡ None → HasNoValue name words
-  none_has_no_value words e before value behind whole =
-      true≢false (sym (has_value before value behind) ∙ ap (λ ws. is_some (last_value name ws)) (sym whole) ∙ ap is_some e)
+  none_has_no_value words e before value following whole =
+      true≢false (sym (has_value before value following) ∙ ap (λ ws. is_some (last_value name ws)) (sym whole) ∙ ap is_some e)
 
   found_last : (words : List Text) (value : Text) → last_value name words ≡ Some value → IsLastValue name words value
   found_last [] value e = absurd (none_some value e)
@@ -104,26 +104,26 @@ module _ (name : Text) (plain : list_any (λ b. b == equals) name ≡ false) whe
       by : (o : Option Text) → last_value name words ≡ o → option_or o (value_in name word) ≡ Some value → ((v : Text) → last_value name words ≡ Some v → IsLastValue name words v) → IsLastValue name (word ∷ words) value
       by (Some v) is e more =
           let h = more value (is ∙ e) in
-          record { before = word ∷ h.before; behind = h.behind; whole = ap (λ ws. word ∷ ws) h.whole; last = h.last }
-      by None is e more = record { before = []; behind = words; whole = ap (λ w. w ∷ words) (gives_word word value e); last = none_has_no_value words is }
+          record { before = word ∷ h.before; following = h.following; whole = ap (λ ws. word ∷ ws) h.whole; last = h.last }
+      by None is e more = record { before = []; following = words; whole = ap (λ w. w ∷ words) (gives_word word value e); last = none_has_no_value words is }
 
   no_value_is_none : (words : List Text) → HasNoValue name words → last_value name words ≡ None
   no_value_is_none words none = by (last_value name words) refl
     where
       by : (o : Option Text) → last_value name words ≡ o → last_value name words ≡ None
       by None e = e
-      by (Some value) e = let h = found_last words value e in absurd (none h.before value h.behind h.whole)
+      by (Some value) e = let h = found_last words value e in absurd (none h.before value h.following h.whole)
 
-  last_behind : (before : List Text) (value : Text) (behind : List Text) → last_value name behind ≡ None → last_value name (before ++ option_word name value ∷ behind) ≡ Some value
-  last_behind [] value behind none = ap (λ o. option_or o (value_in name (option_word name value))) none ∙ word_gives value
-  last_behind (word ∷ before) value behind none = ap (λ o. option_or o (value_in name word)) (last_behind before value behind none)
+  last_after : (before : List Text) (value : Text) (following : List Text) → last_value name following ≡ None → last_value name (before ++ option_word name value ∷ following) ≡ Some value
+  last_after [] value following none = ap (λ o. option_or o (value_in name (option_word name value))) none ∙ word_gives value
+  last_after (word ∷ before) value following none = ap (λ o. option_or o (value_in name word)) (last_after before value following none)
 
   last_found : (words : List Text) (value : Text) → IsLastValue name words value → last_value name words ≡ Some value
-  last_found words value h = ap (last_value name) h.whole ∙ last_behind h.before value h.behind (no_value_is_none h.behind h.last)
+  last_found words value h = ap (last_value name) h.whole ∙ last_after h.before value h.following (no_value_is_none h.following h.last)
 
 -- ---- the options
 
--- What good words come to.
+-- What good words give.
 record AreOptions (words : List Text) (hwdb : Hwdb) : Type 0 where
   subsystem : hwdb.subsystem ≡ last_value subsystem_option words
   prefix : hwdb.prefix ≡ or_empty (last_value prefix_option words)
@@ -140,9 +140,9 @@ options words hwdb e = by (list_any is_unknown words) e
         let same : _ ≡ hwdb = some_same _ hwdb e in
         record { subsystem = sym (ap (λ h. h.subsystem) same); prefix = sym (ap (λ h. h.prefix) same); filter = is ∙ ap (λ h. Some h.filter) same }
 
-    by : (b : Bool) → (if b then None else with_parts words (at_most_one (modaliases words)) (filter_of (last_value filter_option words))) ≡ Some hwdb → AreOptions words hwdb
+    by : (b : Bool) → (if b then None else with_parts words (at_most_one (operands words)) (filter_of (last_value filter_option words))) ≡ Some hwdb → AreOptions words hwdb
     by true e = absurd (none_some hwdb e)
-    by false e = parts (at_most_one (modaliases words)) (filter_of (last_value filter_option words)) refl e
+    by false e = parts (at_most_one (operands words)) (filter_of (last_value filter_option words)) refl e
 
 pub subsystem_is_last : (words : List Text) (hwdb : Hwdb) (value : Text) → hwdb_of words ≡ Some hwdb → (hwdb.subsystem ≡ Some value) ↔ IsLastValue subsystem_option words value
 subsystem_is_last words hwdb value e =

@@ -8,8 +8,8 @@ use Rattle.text_tables.specs.Pairs.{value_of}
 use Rattle.device_core.specs.Values.{AnswerValue}
 use Rattle.hwdb_lookup.specs.declared.entry.Entry.{Entry}
 use Rattle.rule_templates.specs.Template.{Parts as Template}
-use Rattle.rule_types.specs.declared.part.Deed.{Deed}
-use Rattle.rule_types.specs.declared.part.Deed.TheVariants as deed
+use Rattle.rule_types.specs.declared.part.ActKind.{ActKind}
+use Rattle.rule_types.specs.declared.part.ActKind.TheVariants as act_kind
 use Rattle.rule_types.specs.declared.part.Import.TheVariants as import
 use Rattle.rule_types.specs.declared.roles.MatchOperator.{MatchOperator}
 use Rattle.rule_types.specs.declared.roles.MatchOperator.TheVariants.{Equal}
@@ -21,7 +21,7 @@ use Rattle.eval_state.specs.Scenes.{with_env}
 use Rattle.eval_state.specs.declared.scene.Scene.{Scene}
 use Rattle.eval_acts.specs.ActTexts.{import_text, most_command_bytes}
 use Rattle.eval_acts.specs.Acts as acts
-use Rattle.eval_acts.specs.Acts.{act_step, came_too_long, going_on, goes_on, on_text, program_imported}
+use Rattle.eval_acts.specs.Acts.{act_step, came_too_long, proceeding, proceeds, on_text, program_imported}
 use Rattle.eval_acts.specs.Imports.{from_answer_or_noted, from_program}
 use Rattle.eval_acts.specs.Printed.{printed_properties}
 use Rattle.eval_acts.specs.declared.came.Came.TheVariants.{Tried}
@@ -32,33 +32,33 @@ abbrev answer_with : ℕ → Text → Option AnswerValue
 answer_with n t = Some (record { status = n; text = t })
 
 module _ (r : Rule) (operator : MatchOperator) (template : Template) (s : Scene) where
-  abbrev here : Deed
-  here = deed.Import (import.Program template)
+  abbrev here : ActKind
+  here = act_kind.Import (import.Program template)
 
   -- a scene with the properties of what was printed
   abbrev taken : Text → Scene
   taken text = with_env (properties_set s.state.env (printed_properties text)) s
 
-  -- what the import comes to with udev, by how its command is rendered
+  -- the result of the import with udev, by how its command is rendered
   came : Rendered → Scene × Bool
-  came given = going_on (program_import operator template) (on_text r here (from_program r) given s)
+  came given = proceeding (program_import operator template) (on_text r here (from_program r) given s)
 
-  -- what comes of an answer, or of none
+  -- the result of an answer, or of none
   went_by : Scene × Bool → Scene × Bool
-  went_by went = going_on (program_import operator template) (acts.tried went)
+  went_by went = proceeding (program_import operator template) (acts.tried went)
 
   step_is : (entries : List Entry) → s.state.event.profile ≡ Udev → act_step entries r (program_import operator template) s ≡ came (import_text most_command_bytes template s.state)
   unfolding act_step came
-  step_is entries e = ap (λ p. going_on (program_import operator template) (program_imported p r here (import.Program template) template s)) e
+  step_is entries e = ap (λ p. proceeding (program_import operator template) (program_imported p r here (import.Program template) template s)) e
 
-  came_answered : (text : Text) → IsPrinted template s text → came (import_text most_command_bytes template s.state) ≡ (taken text, goes_on operator (Tried true))
+  came_answered : (text : Text) → IsPrinted template s text → came (import_text most_command_bytes template s.state) ≡ (taken text, proceeds operator (Tried true))
   unfolding came
   came_answered text h =
-      ap (λ given. going_on (program_import operator template) (on_text r here (from_program r) given s)) h.rendered
-      ∙ ap (λ answer. going_on (program_import operator template) (acts.tried (from_answer_or_noted r h.command answer s))) h.answered
+      ap (λ given. proceeding (program_import operator template) (on_text r here (from_program r) given s)) h.rendered
+      ∙ ap (λ answer. proceeding (program_import operator template) (acts.tried (from_answer_or_noted r h.command answer s))) h.answered
 
   pub answered : (entries : List Entry) (text : Text) → s.state.event.profile ≡ Udev → IsPrinted template s text
-      → act_step entries r (program_import operator template) s ≡ (taken text, goes_on operator (Tried true))
+      → act_step entries r (program_import operator template) s ≡ (taken text, proceeds operator (Tried true))
   answered entries text e h = step_is entries e ∙ came_answered text h
 
 -- with `==`
@@ -87,7 +87,7 @@ module _ (r : Rule) (template : Template) (s : Scene) where
       → ((text : Text) × IsPrinted template s text) ⊎ Fails (came r Equal template s given)
   unfolding came went_by
   by_command p (outcome.Text command) e = by_answer command e (value_of s.state.event.programs command) refl
-  by_command p outcome.TooLong e = inr (record { stops = ap (λ profile. goes_on Equal (came_too_long profile)) p; same = refl })
+  by_command p outcome.TooLong e = inr (record { stops = ap (λ profile. proceeds Equal (came_too_long profile)) p; same = refl })
 
   module _ (entries : List Entry) (p : s.state.event.profile ≡ Udev) where
     is_printed : ((text : Text) × IsPrinted template s text) ⊎ Fails (came r Equal template s (import_text most_command_bytes template s.state))

@@ -27,18 +27,18 @@ bare_padded t some =
     let short : n ≤ length t = prefix_len-le-length is_blank t in
     let size : length u ≡ length t - n = length-drop n t in
     let within : s ≤ length u = suffix_len-le-length is_blank u in
-    let turned : length (reverse u) ≡ length u = length-reverse u in
+    let reversed : length (reverse u) ≡ length u = length-reverse u in
     let there : 0 < m = not_empty m u some in
     let step : m ≡ suc (m - 1) = omega (arith, there) in
     let next : m ≡ m - 1 + 1 = omega (arith, there) in
-    let front_size : length (take n t) ≡ n = omega (arith, length-take n t, short) in
+    let prefix_size : length (take n t) ≡ n = omega (arith, length-take n t, short) in
     let end_size : length (drop m u) ≡ s = omega (arith, length-drop m u, within) in
     record {
       before = take n t;
-      behind = drop m u;
+      following = drop m u;
       cut = sym (take-append-drop n t) ∙ ap (λ v. take n t ++ v) (sym (take-append-drop m u));
-      blank_before = λ k d l. ap is_blank (get_or-take n t k d (omega (arith, l, front_size))) ∙ prefix_len_passes is_blank t k d (omega (arith, l, front_size));
-      blank_behind = λ k d l.
+      blank_before = λ k d l. ap is_blank (get_or-take n t k d (omega (arith, l, prefix_size))) ∙ prefix_len_passes is_blank t k d (omega (arith, l, prefix_size));
+      blank_after = λ k d l.
           let place : length u - 1 - (length u - 1 - (m + k)) ≡ m + k = omega (arith, l, end_size, within, there) in
           ap is_blank (get_or-drop m u k d ∙ ap (λ j. get_or u j d) (sym place) ∙ sym (get_or-reverse u (length u - 1 - (m + k)) d (omega (arith, l, end_size, within, there))))
           ∙ prefix_len_passes is_blank (reverse u) (length u - 1 - (m + k)) d (omega (arith, l, end_size, within, there));
@@ -46,13 +46,13 @@ bare_padded t some =
       rest = take (m - 1) (drop (n + 1) t);
       starts = ap (take m) (drop_more t n 0 (omega (arith, size, there, within))) ∙ ap (λ k. take k (get_or t n 0 ∷ drop (n + 1) t)) step;
       dark_first = prefix_len_stops is_blank t 0 (omega (arith, size, there, within));
-      front = take (m - 1) u;
+      beginning = take (m - 1) u;
       last = get_or u (m - 1) 0;
       ends = ap (λ k. take k u) next ∙ take_more u (m - 1) 0 (omega (arith, there, within));
       dark_last =
           let place : length u - 1 - s ≡ m - 1 = omega (arith, there, within) in
           ap is_blank (ap (λ j. get_or u j 0) (sym place) ∙ sym (get_or-reverse u s 0 (omega (arith, there, within))))
-          ∙ prefix_len_stops is_blank (reverse u) 0 (omega (arith, there, within, turned));
+          ∙ prefix_len_stops is_blank (reverse u) 0 (omega (arith, there, within, reversed));
     }
   where
     not_empty : (m : ℕ) (u : Text) → is_empty (take m u) ≡ false → 0 < m
@@ -96,10 +96,10 @@ record IsMade (name written : Text) (property : Pair) : Type 0 where
   is_name : name ≡ property.0
   meant : IsWritten written property.1
 
-made_of : (name written : Text) (property : Pair) → property_of name written ≡ Some property → IsMade name written property
-made_of [] written property e = cc
-made_of (b ∷ name) [] property e = cc
-made_of (b ∷ name) (c ∷ written) property e = by (unquoted (c ∷ written)) refl e
+made_from : (name written : Text) (property : Pair) → property_of name written ≡ Some property → IsMade name written property
+made_from [] written property e = cc
+made_from (b ∷ name) [] property e = cc
+made_from (b ∷ name) (c ∷ written) property e = by (unquoted (c ∷ written)) refl e
   where
     by : (o : Option Text) → unquoted (c ∷ written) ≡ o → option_map {U = Pair} (λ v. (b ∷ name, v)) o ≡ Some property → IsMade (b ∷ name) (c ∷ written) property
     by None is e = cc
@@ -115,29 +115,29 @@ line_gives line property e = by_comment (begins_with hash (unindented line)) ref
         → option_and_then property_cut (option_map {U = Text × Text} (λ n. (take n line, drop (n + 1) line)) place) ≡ Some property → IsGiven line property
     by_place plain None at e = cc
     by_place plain (Some n) at e =
-        let front : Text = take n line in
-        let behind : Text = drop (n + 1) line in
+        let beginning : Text = take n line in
+        let following : Text = drop (n + 1) line in
         let h = position-Some (λ b. b == equals) line n 0 at in
         let here : get_or line n 0 ≡ equals = eqb-true (get_or line n 0) equals h.1 in
-        let cut : line ≡ front ++ equals ∷ behind = sym (take-append-drop n line) ∙ ap (λ t. front ++ t) (drop_more line n 0 h.0 ∙ ap (λ b. b ∷ behind) here) in
-        let size : length front ≡ n = omega (arith, length-take n line, h.0) in
-        let made : IsMade (bare front) (bare behind) property = made_of (bare front) (bare behind) property e in
-        let name : IsPadded front (bare front) = bare_padded front made.some_name in
-        let rest : Text = name.rest ++ (name.behind ++ equals ∷ behind) in
+        let cut : line ≡ beginning ++ equals ∷ following = sym (take-append-drop n line) ∙ ap (λ t. beginning ++ t) (drop_more line n 0 h.0 ∙ ap (λ b. b ∷ following) here) in
+        let size : length beginning ≡ n = omega (arith, length-take n line, h.0) in
+        let made : IsMade (bare beginning) (bare following) property = made_from (bare beginning) (bare following) property e in
+        let name : IsPadded beginning (bare beginning) = bare_padded beginning made.some_name in
+        let rest : Text = name.rest ++ (name.following ++ equals ∷ following) in
         let whole : line ≡ name.before ++ name.first ∷ rest =
-        cut ∙ ap (λ f. f ++ equals ∷ behind) (name.cut ∙ ap (λ t. name.before ++ (t ++ name.behind)) name.starts)
-        ∙ append_assoc name.before (name.first ∷ (name.rest ++ name.behind)) (equals ∷ behind)
-        ∙ ap (λ t. name.before ++ name.first ∷ t) (append_assoc name.rest name.behind (equals ∷ behind)) in
+        cut ∙ ap (λ f. f ++ equals ∷ following) (name.cut ∙ ap (λ t. name.before ++ (t ++ name.following)) name.starts)
+        ∙ append_assoc name.before (name.first ∷ (name.rest ++ name.following)) (equals ∷ following)
+        ∙ ap (λ t. name.before ++ name.first ∷ t) (append_assoc name.rest name.following (equals ∷ following)) in
         let dark : (name.first == hash) ≡ false = sym (begins_so name.before name.first rest line whole name.blank_before name.dark_first) ∙ plain in
         record {
-          front = front;
-          behind = behind;
+          beginning = beginning;
+          following = following;
           cut = cut;
-          first = list_any_none (λ b. b == equals) front (λ k d l. ap (λ b. b == equals) (get_or-take n line k d (omega (arith, l, size)) ∙ get_or_default line k d 0 (omega (arith, l, size, h.0))) ∙ h.2 k (omega (arith, l, size)));
-          name = subst (IsPadded front) made.is_name name;
+          first = list_any_none (λ b. b == equals) beginning (λ k d l. ap (λ b. b == equals) (get_or-take n line k d (omega (arith, l, size)) ∙ get_or_default line k d 0 (omega (arith, l, size, h.0))) ∙ h.2 k (omega (arith, l, size)));
+          name = subst (IsPadded beginning) made.is_name name;
           no_comment = ap (begins_with hash) (sym made.is_name ∙ name.starts) ∙ dark;
-          written = bare behind;
-          value = bare_padded behind made.some_written;
+          written = bare following;
+          value = bare_padded following made.some_written;
           meant = made.meant;
         }
 

@@ -18,7 +18,7 @@ use Rattle.eval_laws.proofs.Options.{word_cut}
 
 -- ---- blanks
 
--- what follows blanks, where it does not begin with one
+-- what follows blanks, if it does not begin with one
 unindented_is : (before : Text) (b : ℕ) (t : Text) → All (λ b. is_blank b ≡ true) before → is_blank b ≡ false → unindented (before ++ b ∷ t) ≡ b ∷ t
 unindented_is before b t blank dark =
     let long : length (before ++ b ∷ t) ≡ length before + suc (length t) = length-append before (b ∷ t) in
@@ -28,27 +28,27 @@ unindented_is before b t blank dark =
     (λ l. ap is_blank (get_or_at before b t 0 (length before) refl) ∙ dark) in
     drop_at before (b ∷ t) (prefix_len is_blank (before ++ b ∷ t)) (sym n)
 
--- what stands before blanks, where it does not end in one
-unspaced_is : (front : Text) (b : ℕ) (behind : Text) → All (λ b. is_blank b ≡ true) behind → is_blank b ≡ false → unspaced ((front ++ b ∷ []) ++ behind) ≡ front ++ b ∷ []
-unspaced_is front b behind blank dark =
-    let text : Text = front ++ b ∷ [] in
-    let whole : Text = text ++ behind in
-    let size : length text ≡ length front + 1 = length-append front (b ∷ []) in
-    let long : length whole ≡ length text + length behind = length-append text behind in
+-- what comes before blanks, if it does not end in one
+unspaced_is : (beginning : Text) (b : ℕ) (following : Text) → All (λ b. is_blank b ≡ true) following → is_blank b ≡ false → unspaced ((beginning ++ b ∷ []) ++ following) ≡ beginning ++ b ∷ []
+unspaced_is beginning b following blank dark =
+    let text : Text = beginning ++ b ∷ [] in
+    let whole : Text = text ++ following in
+    let size : length text ≡ length beginning + 1 = length-append beginning (b ∷ []) in
+    let long : length whole ≡ length text + length following = length-append text following in
     let n : suffix_len is_blank whole ≡ length whole - length text =
     suffix_len_is is_blank whole (length text) 0 (omega (arith, long))
-    (λ k from l. ap is_blank (get_or-append_right text behind (length text) k 0 refl from) ∙ blank (k - length text) 0 (omega (arith, long, from, l)))
-    (λ some. ap is_blank (get_or_append_left text behind 0 (length text - 1) (omega (arith, size)) ∙ get_or_at front b [] 0 (length text - 1) (omega (arith, size))) ∙ dark) in
+    (λ k from l. ap is_blank (get_or-append_right text following (length text) k 0 refl from) ∙ blank (k - length text) 0 (omega (arith, long, from, l)))
+    (λ some. ap is_blank (get_or_append_left text following 0 (length text - 1) (omega (arith, size)) ∙ get_or_at beginning b [] 0 (length text - 1) (omega (arith, size))) ∙ dark) in
     let left : length text ≡ length whole - suffix_len is_blank whole = omega (arith, n, long) in
-    take_at text behind (length whole - suffix_len is_blank whole) left
+    take_at text following (length whole - suffix_len is_blank whole) left
 
 padded_bare : (whole text : Text) → IsPadded whole text → bare whole ≡ text
 padded_bare whole text h =
-    let tail : Text = h.rest ++ h.behind in
-    ap (λ t. bare t) (h.cut ∙ ap (λ t. h.before ++ (t ++ h.behind)) h.starts)
+    let tail : Text = h.rest ++ h.following in
+    ap (λ t. bare t) (h.cut ∙ ap (λ t. h.before ++ (t ++ h.following)) h.starts)
     ∙ ap unspaced (unindented_is h.before h.first tail h.blank_before h.dark_first)
-    ∙ ap (λ t. unspaced (t ++ h.behind)) (sym h.starts ∙ h.ends)
-    ∙ unspaced_is h.front h.last h.behind h.blank_behind h.dark_last
+    ∙ ap (λ t. unspaced (t ++ h.following)) (sym h.starts ∙ h.ends)
+    ∙ unspaced_is h.beginning h.last h.following h.blank_after h.dark_last
     ∙ sym h.ends
 
 -- ---- values
@@ -87,7 +87,7 @@ property_is name written value b c t u some_name some_written is =
     ∙ ap (λ e. if e then None else option_map {U = Pair} (λ v. (name, v)) (unquoted written)) (ap is_empty some_written)
     ∙ ap (option_map {U = Pair} (λ v. (name, v))) is
 
--- a line that begins so after blanks is no comment
+-- a line that begins in this way after blanks is not a comment
 pub begins_so : (before : Text) (b : ℕ) (t line : Text) → line ≡ before ++ b ∷ t → All (λ b. is_blank b ≡ true) before → is_blank b ≡ false → begins_with hash (unindented line) ≡ (b == hash)
 begins_so before b t line whole blank dark = ap (λ l. begins_with hash (unindented l)) whole ∙ ap (begins_with hash) (unindented_is before b t blank dark)
 
@@ -96,18 +96,18 @@ unfolding line_property
 given_read line property h =
     let n = h.name in
     let v = h.value in
-    let rest : Text = n.rest ++ (n.behind ++ equals ∷ h.behind) in
+    let rest : Text = n.rest ++ (n.following ++ equals ∷ h.following) in
     let whole : line ≡ n.before ++ n.first ∷ rest =
-    h.cut ∙ ap (λ f. f ++ equals ∷ h.behind) (n.cut ∙ ap (λ t. n.before ++ (t ++ n.behind)) n.starts)
-    ∙ append_assoc n.before (n.first ∷ (n.rest ++ n.behind)) (equals ∷ h.behind)
-    ∙ ap (λ t. n.before ++ n.first ∷ t) (append_assoc n.rest n.behind (equals ∷ h.behind)) in
+    h.cut ∙ ap (λ f. f ++ equals ∷ h.following) (n.cut ∙ ap (λ t. n.before ++ (t ++ n.following)) n.starts)
+    ∙ append_assoc n.before (n.first ∷ (n.rest ++ n.following)) (equals ∷ h.following)
+    ∙ ap (λ t. n.before ++ n.first ∷ t) (append_assoc n.rest n.following (equals ∷ h.following)) in
     let no_comment : begins_with hash (unindented line) ≡ false =
     begins_so n.before n.first rest line whole n.blank_before n.dark_first ∙ sym (ap (begins_with hash) n.starts) ∙ h.no_comment in
-    let cut : split_once equals line ≡ Some (h.front, h.behind) = ap (split_once equals) h.cut ∙ word_cut h.front h.first h.behind in
+    let cut : split_once equals line ≡ Some (h.beginning, h.following) = ap (split_once equals) h.cut ∙ word_cut h.beginning h.first h.following in
     ap (λ b. if b then None else option_and_then property_cut (split_once equals line)) no_comment
     ∙ ap (option_and_then property_cut) cut
-    ∙ ap (λ t. property_of t (bare h.behind)) (padded_bare h.front property.0 n)
-    ∙ ap (property_of property.0) (padded_bare h.behind h.written v)
+    ∙ ap (λ t. property_of t (bare h.following)) (padded_bare h.beginning property.0 n)
+    ∙ ap (property_of property.0) (padded_bare h.following h.written v)
     ∙ property_is property.0 h.written property.1 n.first v.first n.rest v.rest n.starts v.starts (written_read h.written property.1 h.meant)
 
 all_passed : (line : Text) → list_any (λ b. b == equals) line ≡ false → prefix_len (λ b. not (b == equals)) line ≡ length line

@@ -1,4 +1,4 @@
--- The priority that an event comes to by rules of files is a number of 32 bits.
+-- The priority that rules of files give an event is a number of 32 bits.
 use Rattle.std.proofs.Common.{◌≡◌, Bool, true, false, cond, List, [], ◌∷◌, Option, None, IfSome, refl, sym, ap, subst}
 use Rattle.std.specs.List.{fold}
 use Rattle.text_bytes.specs.declared.profile.Profile.{Profile}
@@ -28,7 +28,8 @@ use Rattle.eval_rules.specs.Jumps.{is_passed, run, sought_after}
 use Rattle.eval_rules.specs.Outcomes.{outcome, outcome_of}
 use Rattle.eval_laws.proofs.Keeping.{before_same}
 use Rattle.eval_laws.proofs.Small.{ChangeFits, IsSmall, RulesFit, SetsFit, set_fits}
-use Rattle.eval_laws.proofs.Untouched.{Other, value, run_same, same_finally, step_same}
+use Rattle.eval_laws.proofs.KeptParts.{Other, value, same_finally}
+use Rattle.eval_laws.proofs.Untouched.{run_same, step_same}
 
 -- two scenes have the same priority
 abbrev Same : Scene → Scene → Type 0
@@ -121,7 +122,7 @@ rules_kept es sought (r ∷ rs) s fits h = by (is_passed sought r) (rules_kept e
     by true x y = x
     by false x y = y
 
--- what an event comes to
+-- the priority of the outcome of an event
 pub outcome_small : (profile : Profile) (files : List SourceFile) (entries : List Entry) (event : EventValue) → IfSome (outcome (set_of_as profile files).rules entries event).priority IsSmall
 unfolding outcome_of
 outcome_small profile files entries event = rules_kept entries None (set_of_as profile files).rules (start event) (set_fits profile files) tt

@@ -7,7 +7,7 @@ use Rattle.rule_templates.specs.Template.{Parts as Template}
 use Rattle.eval_state.specs.declared.state.State.{State}
 use Rattle.eval_rendering.specs.Bounds.{bounded, most_bytes, within}
 use Rattle.eval_rendering.specs.Pieces.{has_long}
-use Rattle.eval_rendering.specs.Rendering.{answer, finished, render, text_in}
+use Rattle.eval_rendering.specs.Rendering.{as_rendered, finished_text, render, text_in}
 use Rattle.eval_rendering.specs.declared.rendered.Mode.{Mode}
 use Rattle.eval_rendering.specs.declared.rendered.Mode.TheVariants.{Plain, Link}
 use Rattle.eval_rendering.specs.declared.rendered.Rendered.{Rendered}
@@ -30,11 +30,11 @@ bounded_short text = by (nat_lt most_bytes (length text)) refl
     by true e = tt
     by false e = ltb-false most_bytes (length text) e
 
-finished_same : (mode : Mode) (text : Text) → length (finished mode text) ≡ length text
+finished_same : (mode : Mode) (text : Text) → length (finished_text mode text) ≡ length text
 finished_same Plain text = refl
 finished_same Link text = length-safe link_marks text
 
-answer_short : (mode : Mode) (whole : Option Text) → IsBounded whole → IsShort (answer mode whole)
+answer_short : (mode : Mode) (whole : Option Text) → IsBounded whole → IsShort (as_rendered mode whole)
 answer_short mode None short = tt
 answer_short mode (Some text) short = let same = finished_same mode text in omega (arith, same, short)
 
@@ -45,7 +45,7 @@ rendered_short template state mode = by (has_long state.event.profile state temp
     found : Option Text
     found = bounded (flat_map (text_in mode state) template.pieces)
 
-    by : (b : Bool) → IsShort (if b then rendered.TooLong else answer mode found)
+    by : (b : Bool) → IsShort (if b then rendered.TooLong else as_rendered mode found)
     by true = tt
     by false = answer_short mode found (bounded_short (flat_map (text_in mode state) template.pieces))
 

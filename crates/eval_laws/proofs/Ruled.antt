@@ -18,14 +18,14 @@ use Rattle.eval_laws.specs.DeviceWeights.{event_weight}
 use Rattle.eval_state.specs.declared.note_kind.NoteKind.TheVariants.{AttributeNotRead, SysctlNotRead}
 use Rattle.eval_state.specs.declared.scene.Scene.{Scene}
 use Rattle.eval_acts.specs.Acts.{act_step}
-use Rattle.eval_acts.specs.Reaching.{reached}
+use Rattle.eval_acts.specs.Reaching.{match_reached}
 use Rattle.eval_matching.specs.Attributes.{is_not_read}
 use Rattle.eval_state.specs.Scenes.{noted}
 use Rattle.eval_assignments.specs.Steps.{set_step}
 use Rattle.eval_rules.specs.Jumps.{is_passed, run, sought_after}
 use Rattle.eval_rules.specs.Idle.{is_idle}
-use Rattle.eval_rules.specs.Steps.{Went, apply, only_noted, onward, plain_step, result_step, search, set_all, steps, walk}
-use Rattle.eval_laws.specs.Allowances.{deed_allowance, part_allowance, rule_allowance, set_allowance}
+use Rattle.eval_rules.specs.Steps.{Went, apply, if_proceeding, only_noted, plain_step, result_step, search, set_all, steps, walk}
+use Rattle.eval_laws.specs.Allowances.{act_kind_allowance, part_allowance, rule_allowance, set_allowance}
 use Rattle.eval_laws.specs.Inner.{Within, scene_weight}
 use Rattle.eval_laws.specs.Weights.{note_weight}
 use Rattle.eval_laws.proofs.Counted.{noted_counts, parts_most}
@@ -36,8 +36,8 @@ use Rattle.eval_laws.proofs.Acted.{act_within}
 
 module _ (event : EventValue) where
   -- one step after another
-  onward_within : (next : Scene → Went) (k n : ℕ) (went : Went) → Within event n went.0 → ((s : Scene) → Within event n s → Within event (n + k) (next s).0) → Within event (n + k) (onward next went).0
-  onward_within next k n went h each = by went.1
+  if_proceeding_within : (next : Scene → Went) (k n : ℕ) (went : Went) → Within event n went.0 → ((s : Scene) → Within event n s → Within event (n + k) (next s).0) → Within event (n + k) (if_proceeding next went).0
+  if_proceeding_within next k n went h each = by went.1
     where
       by : (b : Bool) → Within event (n + k) (if b then next went.0 else went).0
       by true = each went.0 h
@@ -51,10 +51,10 @@ module _ (event : EventValue) where
     walk_within (p ∷ ps) n s h =
         let a = sum_by-cons own p ps in
         more event (n + own p + sum_by own ps) (n + sum_by own (p ∷ ps)) _ (omega (arith, a))
-        (onward_within (walk step ps) (sum_by own ps) (n + own p) (step p s) (each p n s h) (λ t within. walk_within ps (n + own p) t within))
+        (if_proceeding_within (walk step ps) (sum_by own ps) (n + own p) (step p s) (each p n s h) (λ t within. walk_within ps (n + own p) t within))
 
   module _ (r : Rule) where
-    reached_within : (key : PlainKey) (n : ℕ) (s : Scene) → Within event n s → Within event (n + (length r.file + 56)) (reached r key s)
+    reached_within : (key : PlainKey) (n : ℕ) (s : Scene) → Within event n s → Within event (n + (length r.file + 56)) (match_reached r key s)
     reached_within (plain.Sysctl name) n s h = noted_within event n r SysctlNotRead name s h
     reached_within plain.Action n s h = more event n (n + (length r.file + 56)) s (omega arith) h
     reached_within plain.Devpath n s h = more event n (n + (length r.file + 56)) s (omega arith) h
@@ -94,26 +94,26 @@ module _ (event : EventValue) where
         more event (n + own a + sum_by own sets) (n + sum_by own (a ∷ sets)) _ (omega (arith, all)) (sets_within r sets (n + own a) (set_step r s a) (set_within event len short n r s h a))
 
   module _ (len : ℕ) (short : event_weight event ≤ len) (entries : List Entry) where
-    -- a rule that is not passed over
+    -- a rule that is not skipped
     steps_within : (r : Rule) (n : ℕ) (s : Scene) → Within event n s → Within event (n + rule_allowance event.profile len entries r) (steps entries r s).0
     unfolding steps rule_allowance
     steps_within r n s h =
         let plain_own : PlainMatch → ℕ = λ m. part_allowance r (attribute_of_plain m.key) in
-        let act_own : Act → ℕ = λ act. deed_allowance event.profile len entries r act.deed in
+        let act_own : Act → ℕ = λ act. act_kind_allowance event.profile len entries r act.kind in
         let result_own : Comparison → ℕ = λ c. part_allowance r None in
         let set_own : Assignment → ℕ = set_allowance event.profile len r in
         let p : ℕ = n + sum_by plain_own r.plain in
         let a : ℕ = p + sum_by act_own r.acts in
         let q : ℕ = a + sum_by result_own r.results in
         let b : ℕ = q + sum_by set_own r.sets in
-        let behind_plain = walk_within (plain_step r) plain_own (plain_within r) r.plain n s h in
-        let behind_up = onward_within (search r.up) 0 p (walk (plain_step r) r.plain s) behind_plain (λ t within. more event p (p + 0) _ (omega arith) (search_within r r.up p t within)) in
-        let behind_acts =
-        onward_within (walk (act_step entries r) r.acts) (sum_by act_own r.acts) p _ (more event (p + 0) p _ (omega arith) behind_up)
+        let after_plain = walk_within (plain_step r) plain_own (plain_within r) r.plain n s h in
+        let after_up = if_proceeding_within (search r.up) 0 p (walk (plain_step r) r.plain s) after_plain (λ t within. more event p (p + 0) _ (omega arith) (search_within r r.up p t within)) in
+        let after_acts =
+        if_proceeding_within (walk (act_step entries r) r.acts) (sum_by act_own r.acts) p _ (more event (p + 0) p _ (omega arith) after_up)
         (λ t within. walk_within (act_step entries r) act_own (λ act m u inside. act_within event len short entries r act m u inside) r.acts p t within) in
-        let behind_results = onward_within (walk result_step r.results) (sum_by result_own r.results) a _ behind_acts (λ t within. walk_within result_step result_own (result_within r) r.results a t within) in
-        let behind_sets = onward_within (set_all r) (sum_by set_own r.sets) q _ behind_results (λ t within. sets_within len short r r.sets q t within) in
-        more event b (n + rule_allowance event.profile len entries r) _ (omega arith) behind_sets
+        let after_results = if_proceeding_within (walk result_step r.results) (sum_by result_own r.results) a _ after_acts (λ t within. walk_within result_step result_own (result_within r) r.results a t within) in
+        let after_sets = if_proceeding_within (set_all r) (sum_by set_own r.sets) q _ after_results (λ t within. sets_within len short r r.sets q t within) in
+        more event b (n + rule_allowance event.profile len entries r) _ (omega arith) after_sets
 
     -- what the notes of all parts weigh
     notes_fit : (r : Rule) → parts_most (length r.file + 56) r ≤ rule_allowance event.profile len entries r
@@ -121,12 +121,12 @@ module _ (event : EventValue) where
     notes_fit r =
         let most : ℕ = length r.file + 56 in
         let a = sum_less (λ (m : PlainMatch). most) (λ m. part_allowance r (attribute_of_plain m.key)) (λ m. omega arith) r.plain in
-        let b = sum_less (λ (m : Act). most) (λ act. deed_allowance event.profile len entries r act.deed) (λ act. omega arith) r.acts in
+        let b = sum_less (λ (m : Act). most) (λ act. act_kind_allowance event.profile len entries r act.kind) (λ act. omega arith) r.acts in
         let c = sum_less (λ (m : Comparison). most) (λ m. part_allowance r None) (λ m. omega arith) r.results in
         let d = sum_less (λ (m : Assignment). most) (set_allowance event.profile len r) (λ a. omega arith) r.sets in
         omega (arith, a, b, c, d)
 
-    -- a rule that is passed over
+    -- a rule that is skipped
     passed_within : (r : Rule) (n : ℕ) (s : Scene) → Within event n s → Within event (n + rule_allowance event.profile len entries r) (only_noted entries r s).0
     unfolding scene_weight
     passed_within r n s h =
@@ -160,7 +160,7 @@ module _ (event : EventValue) where
 
         by : (b : Bool) → ((sought : Option Text) (n : ℕ) (s : Scene) → Within event n s → Within event (n + rest) (run entries sought rules s))
             → Within event (n + sum_by (rule_allowance event.profile len entries) (r ∷ rules)) (if b then run entries sought rules s else run entries (sought_after (apply entries r s).1 r) rules (apply entries r s).0)
-        by true behind = more event (n + rest) (n + sum_by (rule_allowance event.profile len entries) (r ∷ rules)) _ (omega (arith, all)) (behind sought n s h)
-        by false behind =
+        by true following = more event (n + rest) (n + sum_by (rule_allowance event.profile len entries) (r ∷ rules)) _ (omega (arith, all)) (following sought n s h)
+        by false following =
             more event (n + own + rest) (n + sum_by (rule_allowance event.profile len entries) (r ∷ rules)) _ (omega (arith, all))
-            (behind (sought_after (apply entries r s).1 r) (n + own) (apply entries r s).0 (rule_within r n s h))
+            (following (sought_after (apply entries r s).1 r) (n + own) (apply entries r s).0 (rule_within r n s h))

@@ -8,7 +8,7 @@ use Rattle.std.proofs.lemmas.List.{get_or-drop}
 use Rattle.text_bytes.specs.Names.{backslash, space, underscore, is_whitespace}
 use Rattle.bstr.specs.Utf8.{Decoded, bad, continues, decoded, second}
 use Rattle.bstr.proofs.lemmas.PieceLemmas.{Shape, decoded_by-shape}
-use Rattle.text_links.specs.Safe.{is_hex_escape, is_in_sequence, is_plain, is_reached, safe, safe_byte, sequence_len, stays}
+use Rattle.text_links.specs.Safe.{is_hex_escape, is_in_sequence, stays_anywhere, is_reached, safe, safe_byte, sequence_len, stays}
 use Rattle.text_links.proofs.Places.{safe-at}
 use Rattle.eval_laws.specs.SafeTexts.{IsInCharacter, IsMadeSafe, IsSafe, IsSafeByte, letter_or_digit, mark, blank, escape, character}
 use Rattle.eval_laws.proofs.Sequences.{several, sequence_len-four}
@@ -157,7 +157,7 @@ either_right true b e = refl
 either_right false true e = refl
 either_right false false e = absurd (cc)
 
-plain_is_safe : (marks t : List ℕ) (k : ℕ) → is_plain marks (slice_index t k) ≡ true → IsSafeByte marks t k
+plain_is_safe : (marks t : List ℕ) (k : ℕ) → stays_anywhere marks (slice_index t k) ≡ true → IsSafeByte marks t k
 plain_is_safe marks t k e = ⊎_elim (λ a. letter_or_digit a) (λ m. mark m) (either (is_ascii_alphanumeric (slice_index t k)) (list_any (λ m. m == slice_index t k) marks) e)
 
 escape_is_safe : (marks t : List ℕ) (k : ℕ) → is_hex_escape t k ≡ true → IsSafeByte marks t k
@@ -168,9 +168,9 @@ escape_is_safe marks t k e =
 
 stays_is_safe : (marks t : List ℕ) (k : ℕ) → stays marks t k ≡ true → IsSafeByte marks t k
 unfolding stays
-stays_is_safe marks t k e = go (one_of (is_plain marks (slice_index t k)) (is_hex_escape t k) (is_in_sequence t k) e)
+stays_is_safe marks t k e = go (one_of (stays_anywhere marks (slice_index t k)) (is_hex_escape t k) (is_in_sequence t k) e)
   where
-    go : (is_plain marks (slice_index t k) ≡ true) ⊎ ((is_hex_escape t k ≡ true) ⊎ (is_in_sequence t k ≡ true)) → IsSafeByte marks t k
+    go : (stays_anywhere marks (slice_index t k) ≡ true) ⊎ ((is_hex_escape t k ≡ true) ⊎ (is_in_sequence t k ≡ true)) → IsSafeByte marks t k
     go (inl p) = plain_is_safe marks t k p
     go (inr (inl h)) = escape_is_safe marks t k h
     go (inr (inr q)) = character (in_sequence_is_character t k q)
@@ -182,7 +182,7 @@ left_is_safe marks t k (inr e) = stays_is_safe marks t k e
 escape_stays : (marks t : List ℕ) (k : ℕ) → slice_index t k ≡ backslash → slice_index t (k + 1) ≡ 120 → stays marks t k ≡ true
 unfolding stays is_hex_escape
 escape_stays marks t k e x =
-    second_holds (is_plain marks (slice_index t k)) (is_hex_escape t k) (is_in_sequence t k)
+    second_holds (stays_anywhere marks (slice_index t k)) (is_hex_escape t k) (is_in_sequence t k)
     (both (slice_index t k == backslash) (slice_index t (k + 1) == 120) (subst (λ b. (b == backslash) ≡ true) (sym e) refl) (subst (λ b. (b == 120) ≡ true) (sym x) refl))
 
 safe_is_left : (marks t : List ℕ) (k : ℕ) → IsSafeByte marks t k → IsLeft marks t k
@@ -192,8 +192,8 @@ safe_is_left marks t k (blank e) = inl e
 safe_is_left marks t k (escape e x) = inr (escape_stays marks t k e x)
 safe_is_left marks t k (character h) = inr (character_stays marks t k h)
 
--- a text made safe is safe, where `_` is a mark
-pub safe-is_safe : (marks t : List ℕ) → is_plain marks underscore ≡ true → IsSafe marks (safe marks t)
+-- a text made safe is safe, if `_` is a mark
+pub safe-is_safe : (marks t : List ℕ) → stays_anywhere marks underscore ≡ true → IsSafe marks (safe marks t)
 safe-is_safe marks t plain k within = left_is_safe marks (safe marks t) k (safe-are_left marks t plain k within)
 
 -- a safe text is left as it is
@@ -201,7 +201,7 @@ pub is_safe-same : (marks t : List ℕ) → IsSafe marks t → safe marks t ≡ 
 is_safe-same marks t h = safe-same marks t (λ k within. safe_is_left marks t k (h k within))
 
 -- and one that is left as it is was safe
-pub same-is_safe : (marks t : List ℕ) → is_plain marks underscore ≡ true → safe marks t ≡ t → IsSafe marks t
+pub same-is_safe : (marks t : List ℕ) → stays_anywhere marks underscore ≡ true → safe marks t ≡ t → IsSafe marks t
 same-is_safe marks t plain e = subst (IsSafe marks) e (safe-is_safe marks t plain)
 
 -- what becomes of each byte

@@ -1,4 +1,4 @@
--- What a scene weighs with a note more, and where what changes has no weight.
+-- What a scene weighs with one more note, and if what changes has no weight.
 use Rattle.std.proofs.Common.{ℕ, ◌+◌, ◌≤◌, length, take, arith}
 use Rattle.std.proofs.lemmas.List.{length-take}
 use Rattle.std.proofs.lemmas.List.Sums.{sum_by_push}

@@ -27,7 +27,7 @@ by_answers none ascii low high two paired three third four fourth one code2 code
     (bad 2))))
     (bad 1))))))
 
--- the third and the fourth answer count only where so many bytes are decoded
+-- the third and the fourth answer count only if so many bytes are decoded
 pub several_same : (none ascii low high two paired three third four fourth : Bool) (one c2 c3 c4 : ℕ) (below_e0 below_f0 : Bool) (third' fourth' : Bool) (d2 d3 d4 : ℕ)
     → 0 < several (by_answers none ascii low high two paired three third four fourth one c2 c3 c4 below_e0 below_f0)
     → (2 < several (by_answers none ascii low high two paired three third four fourth one c2 c3 c4 below_e0 below_f0) → third' ≡ third)

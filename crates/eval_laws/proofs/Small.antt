@@ -21,7 +21,8 @@ use Rattle.rule_types.specs.declared.roles.Role.TheVariants as role
 use Rattle.rule_jumps.specs.Jumps.{landings}
 use Rattle.rule_jumps.specs.declared.jumps.Landing.{Landing}
 use Rattle.rule_templates.specs.Integers.{integer_of}
-use Rattle.rule_parts.specs.Options.{as_priority, behind, beside, is_ignored, level_of, number_by, number_of, option_by, option_of, other_option, priority_of, udev_option, udev_other, words}
+use Rattle.text_bytes.specs.Texts.{following}
+use Rattle.rule_parts.specs.Options.{as_priority, beside, is_ignored, level_of, number_by, number_of, option_by, option_of, other_option, priority_of, udev_option, udev_other, words}
 use Rattle.rule_parts.specs.Refusals.{refusal_by}
 use Rattle.rule_parts.specs.Parts.{comparison, if_found, ignores_case, import_by, is_match, made, meaning_of, part_by, part_of, role_as, unless_refused, value_part}
 use Rattle.rule_parts.specs.Values.{as_option, finding, read_name, read_option, read_template}
@@ -34,7 +35,7 @@ use Rattle.rule_types.specs.declared.part.Change.TheVariants as change
 use Rattle.rule_types.specs.declared.part.Part.{Part}
 use Rattle.rule_types.specs.declared.part.Part.TheVariants as part
 use Rattle.rule_core.specs.Effects.{lacks_effect}
-use Rattle.rule_core.specs.Ends.{given_up}
+use Rattle.rule_core.specs.Ends.{abandoned}
 use Rattle.rule_core.specs.Drafts.{Draft, assignment_in, draft, draft_of, draft_with, items_as, most_bytes, part_of_item, parts_of, tokens_of, with_part}
 use Rattle.rule_core.specs.Turns.{assignment_turns, assignments_by_turn, of_turn, turn_of_assignment, turns_from}
 use Rattle.rule_types.specs.Rules.{Rule}
@@ -103,12 +104,12 @@ decimal_fits bound text = by (is_decimal text) (nat_lt (decimal text) bound) ref
 
 number_fits : (text : List ℕ) → IfSome (number_of text) IsSmall
 unfolding number_of
-number_fits text = by (behind (codes "-") text)
+number_fits text = by (following (codes "-") text)
   where
     by : (rest : Option (List ℕ)) → IfSome (number_by text rest) IsSmall
     by (Some digits) = below_fits (decimal_below (2 ^ 31 + 1) digits) (decimal_fits (2 ^ 31 + 1) digits)
     by None =
-        let digits : List ℕ = unwrap_or (behind (codes "+") text) text in
+        let digits : List ℕ = unwrap_or (following (codes "+") text) text in
         from_fits (decimal_below (2 ^ 31) digits) (decimal_fits (2 ^ 31) digits)
 
 priority_fits : (o : Option ℤ) → IfSome o IsSmall → IfSome (option_map option.LinkPriority o) OptionFits
@@ -154,7 +155,7 @@ signed_fits : (o : Option ℤ) → IfSome (option_and_then as_priority o) IsSmal
 signed_fits None = tt
 signed_fits (Some n) = as_fits n
 
-level_fits : (o : Option ℤ) → IfSome (option_map (λ n. option.Ignored) o) OptionFits
+level_fits : (o : Option ℤ) → IfSome (option_map (λ n. option.LogLevel) o) OptionFits
 level_fits None = tt
 level_fits (Some n) = tt
 
@@ -169,12 +170,12 @@ udev_other_fits text None = known_else (other_option text) (other_fits text)
 udev_fits : (text : List ℕ) (rest : Option (List ℕ)) → IfSome (udev_option text rest) OptionFits
 unfolding priority_of
 udev_fits text (Some number) = priority_fits (priority_of number) (signed_fits (integer_of number))
-udev_fits text None = udev_other_fits text (behind (codes "log_level=") text)
+udev_fits text None = udev_other_fits text (following (codes "log_level=") text)
 
 option_fits : (profile : Profile) (text : List ℕ) → IfSome (option_of profile text) OptionFits
 unfolding option_of
-option_fits Manual text = manual_fits text (behind (codes "link_priority=") text)
-option_fits Udev text = udev_fits text (behind (codes "link_priority=") text)
+option_fits Manual text = manual_fits text (following (codes "link_priority=") text)
+option_fits Udev text = udev_fits text (following (codes "link_priority=") text)
 
 -- ---- a part
 
@@ -310,7 +311,7 @@ lines_fit profile name (l ∷ lines) (landing ∷ ls) =
     each_append (λ (r : Rule). SetsFit r.sets) (line_rules name l.number (draft_of profile l.text) landing) _ (line_fits name l.number (draft_of profile l.text) landing (draft_fits profile l.text)) (lines_fit profile name lines ls)
 
 file_fits : (profile : Profile) (f : SourceFile) → RulesFit (file_rules profile f)
-file_fits profile f = by (given_up profile f.bytes)
+file_fits profile f = by (abandoned profile f.bytes)
   where
     by : (line : Option ℕ) → RulesFit (rules_unless profile f line)
     by (Some line) = tt

@@ -5,12 +5,12 @@ use Rattle.text_tables.specs.Texts.{Text}
 use Rattle.text_tables.specs.Pairs.{Pair, with_values}
 use Rattle.device_core.specs.Values.{EventValue, NumberValue}
 use Rattle.eval_laws.specs.DeviceWeights.{device_weight, event_weight, given_weight, number_weight, pair_weight, pairs_weight, text_weight}
-use Rattle.eval_state.specs.Start.{given, node_path, start_env, told_by}
+use Rattle.eval_state.specs.Start.{node_path, pair_if, reported_by, start_env}
 use Rattle.eval_state.specs.Scenes.{start}
 use Rattle.eval_laws.specs.Inner.{Within, scene_weight}
 use Rattle.eval_laws.proofs.Tables.{with_texts_light, with_values_light}
 
-given_light : (name : Text) (value : Option Text) → pairs_weight (given name value) ≤ given_weight value + (length name + 1)
+given_light : (name : Text) (value : Option Text) → pairs_weight (pair_if name value) ≤ given_weight value + (length name + 1)
 given_light name None = omega arith
 given_light name (Some value) = let a = sum_by-cons pair_weight (name, value) [] in omega (arith, a)
 
@@ -30,10 +30,10 @@ four_light first second third fourth =
     let c = sum_by-append pair_weight first second in
     omega (arith, a, b, c)
 
-told_light : (subsystem node major minor : Option Text) → pairs_weight (given (codes "SUBSYSTEM") subsystem ++ given (codes "DEVNAME") node ++ given (codes "MAJOR") major ++ given (codes "MINOR") minor)
+reported_light : (subsystem node major minor : Option Text) → pairs_weight (pair_if (codes "SUBSYSTEM") subsystem ++ pair_if (codes "DEVNAME") node ++ pair_if (codes "MAJOR") major ++ pair_if (codes "MINOR") minor)
     ≤ given_weight subsystem + given_weight node + given_weight major + given_weight minor + 30
-told_light subsystem node major minor =
-    let a = four_light (given (codes "SUBSYSTEM") subsystem) (given (codes "DEVNAME") node) (given (codes "MAJOR") major) (given (codes "MINOR") minor) in
+reported_light subsystem node major minor =
+    let a = four_light (pair_if (codes "SUBSYSTEM") subsystem) (pair_if (codes "DEVNAME") node) (pair_if (codes "MAJOR") major) (pair_if (codes "MINOR") minor) in
     let b = given_light (codes "SUBSYSTEM") subsystem in
     let c = given_light (codes "DEVNAME") node in
     let d = given_light (codes "MAJOR") major in
@@ -47,20 +47,20 @@ two_light action path rest =
     omega (arith, a, b)
 
 -- what an event says of its device is in the event once
-event_told : (event : EventValue) → pairs_weight (told_by event) ≤ text_weight event.action + text_weight event.device.path + given_weight event.device.subsystem + given_weight event.device.node + number_weight event.device.number + 50
-event_told event =
+event_reported : (event : EventValue) → pairs_weight (reported_by event) ≤ text_weight event.action + text_weight event.device.path + given_weight event.device.subsystem + given_weight event.device.node + number_weight event.device.number + 50
+event_reported event =
     let a = two_light event.action event.device.path
-    (given (codes "SUBSYSTEM") event.device.subsystem ++ given (codes "DEVNAME") (option_map node_path event.device.node)
-    ++ given (codes "MAJOR") (option_map (λ n. n.major) event.device.number) ++ given (codes "MINOR") (option_map (λ n. n.minor) event.device.number)) in
-    let b = told_light event.device.subsystem (option_map node_path event.device.node) (option_map (λ n. n.major) event.device.number) (option_map (λ n. n.minor) event.device.number) in
+    (pair_if (codes "SUBSYSTEM") event.device.subsystem ++ pair_if (codes "DEVNAME") (option_map node_path event.device.node)
+    ++ pair_if (codes "MAJOR") (option_map (λ n. n.major) event.device.number) ++ pair_if (codes "MINOR") (option_map (λ n. n.minor) event.device.number)) in
+    let b = reported_light event.device.subsystem (option_map node_path event.device.node) (option_map (λ n. n.major) event.device.number) (option_map (λ n. n.minor) event.device.number) in
     let c = node_light event.device.node in
     let d = numbers_light event.device.number in
     omega (arith, a, b, c, d)
 
-env_light : (event : EventValue) → pairs_weight (start_env event) ≤ pairs_weight event.device.env + pairs_weight (told_by event)
+env_light : (event : EventValue) → pairs_weight (start_env event) ≤ pairs_weight event.device.env + pairs_weight (reported_by event)
 unfolding start_env
 env_light event =
-    let a = with_values_light (with_values [] event.device.env) (told_by event) in
+    let a = with_values_light (with_values [] event.device.env) (reported_by event) in
     let b = with_values_light [] event.device.env in
     omega (arith, a, b)
 
@@ -72,7 +72,7 @@ pub start_within : (event : EventValue) → Within event (event_weight event + 5
 unfolding scene_weight device_weight
 start_within event =
     let a = env_light event in
-    let b = event_told event in
+    let b = event_reported event in
     let c = with_texts_light [] event.device.links in
     let d = with_texts_light [] event.device.tags in
     let e = own_light event in

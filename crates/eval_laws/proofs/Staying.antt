@@ -4,11 +4,11 @@ use Rattle.std.proofs.lemmas.Bool.{ltb-true, lt-ltb, le-leb, eqb-true, cases_lt}
 use Rattle.std.proofs.lemmas.List.{get_or-drop, get_or_past, length-drop}
 use Rattle.std.proofs.lemmas.Grind.{same_number_lists}
 use Rattle.text_bytes.specs.Names.{backslash, space, underscore, is_whitespace}
-use Rattle.text_links.specs.Safe.{is_plain, is_hex_escape, is_in_sequence, is_reached, safe, safe_byte, sequence_len, stays}
+use Rattle.text_links.specs.Safe.{stays_anywhere, is_hex_escape, is_in_sequence, is_reached, safe, safe_byte, sequence_len, stays}
 use Rattle.text_links.proofs.Places.{length-safe, safe-at}
 use Rattle.eval_laws.proofs.Sequences.{sequence_len-four, sequence_len-same, sequence_len-within}
 
--- a byte is a space, or one that stays where it stands
+-- a byte is a space, or one that stays at its place
 abbrev pub IsLeft : List ℕ → List ℕ → ℕ → Type 0
 IsLeft marks text place = (slice_index text place ≡ space) ⊎ (stays marks text place ≡ true)
 
@@ -52,7 +52,7 @@ third_holds false false false e = absurd (cc)
 reached_is_in : (t : List ℕ) (k back : ℕ) → back < 4 → is_reached t k back ≡ true → is_in_sequence t k ≡ true
 reached_is_in t k back l e = go (is_reached t k 0) (is_reached t k 1) (is_reached t k 2) (is_reached t k 3) (which back l e)
   where
-    go : (a b c d : Bool) → ((a ≡ true) ⊎ (b ≡ true)) ⊎ ((c ≡ true) ⊎ (d ≡ true)) → (a || b || c || d) ≡ true
+    go : (a b c d : Bool) → ((a ≡ true) ⊎ (b ≡ true)) ⊎ ((c ≡ true) ⊎ (d ≡ true)) → (a || (b || (c || (d || false)))) ≡ true
     go true b c d h = refl
     go false true c d h = refl
     go false false true d h = refl
@@ -73,7 +73,7 @@ reached_is_in t k back l e = go (is_reached t k 0) (is_reached t k 1) (is_reache
 pub in_is_reached : (t : List ℕ) (k : ℕ) → is_in_sequence t k ≡ true → ((is_reached t k 0 ≡ true) ⊎ (is_reached t k 1 ≡ true)) ⊎ ((is_reached t k 2 ≡ true) ⊎ (is_reached t k 3 ≡ true))
 in_is_reached t k e = go (is_reached t k 0) (is_reached t k 1) (is_reached t k 2) (is_reached t k 3) e
   where
-    go : (a b c d : Bool) → (a || b || c || d) ≡ true → ((a ≡ true) ⊎ (b ≡ true)) ⊎ ((c ≡ true) ⊎ (d ≡ true))
+    go : (a b c d : Bool) → (a || (b || (c || (d || false)))) ≡ true → ((a ≡ true) ⊎ (b ≡ true)) ⊎ ((c ≡ true) ⊎ (d ≡ true))
     go true b c d e = inl (inl refl)
     go false true c d e = inl (inr refl)
     go false false true d e = inr (inl refl)
@@ -92,12 +92,12 @@ pub in_sequence-stays : (marks t : List ℕ) (s j : ℕ) → j < sequence_len (d
 unfolding stays
 in_sequence-stays marks t s j l =
     let four = sequence_len-four (drop s t) in
-    third_holds (is_plain marks (slice_index t (s + j))) (is_hex_escape t (s + j)) (is_in_sequence t (s + j))
+    third_holds (stays_anywhere marks (slice_index t (s + j))) (is_hex_escape t (s + j)) (is_in_sequence t (s + j))
     (reached_is_in t (s + j) j (omega (arith, l, four)) (reached t s j l))
 
-pub plain-stays : (marks t : List ℕ) (k : ℕ) → is_plain marks (slice_index t k) ≡ true → stays marks t k ≡ true
+pub plain-stays : (marks t : List ℕ) (k : ℕ) → stays_anywhere marks (slice_index t k) ≡ true → stays marks t k ≡ true
 unfolding stays
-plain-stays marks t k e = first_holds (is_plain marks (slice_index t k)) (is_hex_escape t k) (is_in_sequence t k) e
+plain-stays marks t k e = first_holds (stays_anywhere marks (slice_index t k)) (is_hex_escape t k) (is_in_sequence t k) e
 
 -- a byte that stays, or a space, is left as it is
 byte_same : (b : ℕ) (s : Bool) → (b ≡ space) ⊎ (s ≡ true) → (if s then b else if is_whitespace b then space else underscore) ≡ b
@@ -148,30 +148,30 @@ unfolding is_hex_escape
 hex_escape-again marks t k within kept e =
     let parts = each_of (slice_index t k == backslash) (slice_index t (k + 1) == 120) e in
     let is_x : slice_index t (k + 1) ≡ 120 = eqb-true (slice_index t (k + 1)) 120 parts.1 in
-    let plain : is_plain marks (slice_index t (k + 1)) ≡ true = subst (λ b. is_plain marks b ≡ true) (sym is_x) refl in
+    let plain : stays_anywhere marks (slice_index t (k + 1)) ≡ true = subst (λ b. stays_anywhere marks b ≡ true) (sym is_x) refl in
     both (slice_index (safe marks t) k == backslash) (slice_index (safe marks t) (k + 1) == 120)
     (subst (λ b. (b == backslash) ≡ true) (sym (stays-at marks t k within kept)) parts.0)
     (next (cases_lt (k + 1) (length t)) is_x plain)
   where
-    next : (k + 1 < length t) ⊎ (length t ≤ k + 1) → slice_index t (k + 1) ≡ 120 → is_plain marks (slice_index t (k + 1)) ≡ true → (slice_index (safe marks t) (k + 1) == 120) ≡ true
+    next : (k + 1 < length t) ⊎ (length t ≤ k + 1) → slice_index t (k + 1) ≡ 120 → stays_anywhere marks (slice_index t (k + 1)) ≡ true → (slice_index (safe marks t) (k + 1) == 120) ≡ true
     next (inl inside) is_x plain =
         subst (λ b. (b == 120) ≡ true) (sym (stays-at marks t (k + 1) inside (plain-stays marks t (k + 1) plain) ∙ is_x)) refl
     next (inr past) is_x plain = let nothing = get_or_past t (k + 1) 0 past in absurd (omega (arith, is_x, nothing))
 
 stays-again : (marks t : List ℕ) (k : ℕ) → k < length t → stays marks t k ≡ true → stays marks (safe marks t) k ≡ true
 unfolding stays
-stays-again marks t k within e = go (one_of (is_plain marks (slice_index t k)) (is_hex_escape t k) (is_in_sequence t k) e)
+stays-again marks t k within e = go (one_of (stays_anywhere marks (slice_index t k)) (is_hex_escape t k) (is_in_sequence t k) e)
   where
-    go : (is_plain marks (slice_index t k) ≡ true) ⊎ ((is_hex_escape t k ≡ true) ⊎ (is_in_sequence t k ≡ true)) → stays marks (safe marks t) k ≡ true
-    go (inl p) = first_holds (is_plain marks (slice_index (safe marks t) k)) (is_hex_escape (safe marks t) k) (is_in_sequence (safe marks t) k)
-        (subst (λ b. is_plain marks b ≡ true) (sym (stays-at marks t k within e)) p)
-    go (inr (inl h)) = second_holds (is_plain marks (slice_index (safe marks t) k)) (is_hex_escape (safe marks t) k) (is_in_sequence (safe marks t) k)
+    go : (stays_anywhere marks (slice_index t k) ≡ true) ⊎ ((is_hex_escape t k ≡ true) ⊎ (is_in_sequence t k ≡ true)) → stays marks (safe marks t) k ≡ true
+    go (inl p) = first_holds (stays_anywhere marks (slice_index (safe marks t) k)) (is_hex_escape (safe marks t) k) (is_in_sequence (safe marks t) k)
+        (subst (λ b. stays_anywhere marks b ≡ true) (sym (stays-at marks t k within e)) p)
+    go (inr (inl h)) = second_holds (stays_anywhere marks (slice_index (safe marks t) k)) (is_hex_escape (safe marks t) k) (is_in_sequence (safe marks t) k)
         (hex_escape-again marks t k within e h)
-    go (inr (inr q)) = third_holds (is_plain marks (slice_index (safe marks t) k)) (is_hex_escape (safe marks t) k) (is_in_sequence (safe marks t) k)
+    go (inr (inr q)) = third_holds (stays_anywhere marks (slice_index (safe marks t) k)) (is_hex_escape (safe marks t) k) (is_in_sequence (safe marks t) k)
         (in_sequence-again marks t k q)
 
--- a text made safe has spaces and bytes that stay, where `_` stays
-pub safe-are_left : (marks t : List ℕ) → is_plain marks underscore ≡ true → AreLeft marks (safe marks t)
+-- a text made safe has spaces and bytes that stay, if `_` stays
+pub safe-are_left : (marks t : List ℕ) → stays_anywhere marks underscore ≡ true → AreLeft marks (safe marks t)
 unfolding safe_byte
 safe-are_left marks t plain k inside =
     let within : k < length t = subst (λ n. k < n) (length-safe marks t) inside in
@@ -179,7 +179,7 @@ safe-are_left marks t plain k inside =
   where
     made : (w : Bool) → slice_index (safe marks t) k ≡ (if w then space else underscore) → (slice_index (safe marks t) k ≡ space) ⊎ (stays marks (safe marks t) k ≡ true)
     made true e = inl e
-    made false e = inr (plain-stays marks (safe marks t) k (subst (λ b. is_plain marks b ≡ true) (sym e) plain))
+    made false e = inr (plain-stays marks (safe marks t) k (subst (λ b. stays_anywhere marks b ≡ true) (sym e) plain))
 
     go : k < length t → (s : Bool) → stays marks t k ≡ s → slice_index (safe marks t) k ≡ (if s then slice_index t k else if is_whitespace (slice_index t k) then space else underscore)
         → (slice_index (safe marks t) k ≡ space) ⊎ (stays marks (safe marks t) k ≡ true)

@@ -97,6 +97,7 @@ module _ (event : EventValue) (len : ℕ) (fits : event_weight event ≤ len) wh
   option_within n option.DbPersist s h = record { same = h.same; light = h.light }
   option_within n option.KeepEscapes s h = h
   option_within n option.ReplaceEscapes s h = h
+  option_within n option.LogLevel s h = h
   option_within n option.Ignored s h = h
 
   module _ (n : ℕ) (r : Rule) (s : Scene) (h : Within event n s) where

@@ -5,7 +5,8 @@ use Rattle.std.proofs.lemmas.List.Splits.{length-slice_split}
 use Rattle.std.specs.List.{sum_by, slice_split, onto_first}
 use Rattle.std.specs.declared.cmp.Ordering.{Ordering}
 use Rattle.std.specs.declared.cmp.Ordering.TheVariants.{Less, Equal, Greater}
-use Rattle.text_bytes.specs.Insertion.{by_order, put_by, text_order}
+use Rattle.text_bytes.specs.Insertion.{put_by, text_order}
+use Rattle.std.specs.Ordering.{match_ordering}
 use Rattle.text_tables.specs.Texts.{Text}
 use Rattle.eval_laws.specs.DeviceWeights.{text_weight}
 
@@ -32,14 +33,14 @@ module _ {X : Type 0} (weight : X → ℕ) where
           omega (arith, a, b, more)
       by false more = let b = sum_by-cons weight x xs in omega (arith, b, more)
 
-  -- an element in its place, where the winner of two weighs no more than both
+  -- an element in its place, if the winner of two weighs no more than both
   pub put_light : (text : X → List ℕ) (winner : X → X → X) → ((x new : X) → weight (winner x new) ≤ weight x + weight new) → (xs : List X) (new : X)
       → sum_by weight (put_by text winner xs new) ≤ sum_by weight xs + weight new
   put_light text winner light [] new = let a = sum_by-cons weight new [] in omega (arith, a)
   put_light text winner light (x ∷ xs) new = by (text_order (text x) (text new)) (put_light text winner light xs new)
     where
       by : (o : Ordering) → sum_by weight (put_by text winner xs new) ≤ sum_by weight xs + weight new
-          → sum_by weight (by_order o (x ∷ put_by text winner xs new) (winner x new ∷ xs) (new ∷ x ∷ xs)) ≤ sum_by weight (x ∷ xs) + weight new
+          → sum_by weight (match_ordering o (x ∷ put_by text winner xs new) (winner x new ∷ xs) (new ∷ x ∷ xs)) ≤ sum_by weight (x ∷ xs) + weight new
       by Less more =
           let a = sum_by-cons weight x (put_by text winner xs new) in
           let b = sum_by-cons weight x xs in

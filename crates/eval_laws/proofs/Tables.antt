@@ -1,4 +1,4 @@
--- What tables weigh as names are set and texts added or taken away.
+-- What tables weigh as names are set and texts added or removed.
 use Rattle.std.proofs.Common.{◌+◌, ◌≤◌, Bool, true, false, not, List, [], ◌∷◌, ◌++◌, if◌then◌else◌, arith}
 use Rattle.std.proofs.lemmas.List.Sums.{sum_by-cons, sum_by_push}
 use Rattle.text_tables.specs.Texts.{Text, is_among, same_text, with_text, with_texts, without_text}
@@ -41,7 +41,7 @@ with_texts_light texts more = fold_light text_weight text_weight with_text with_
 pub without_text_light : (texts : List Text) (text : Text) → texts_weight (without_text texts text) ≤ texts_weight texts + text_weight text
 without_text_light texts text = let a = filter_light text_weight (λ other. not (same_text text other)) texts in omega (arith, a)
 
--- texts without those that were taken away
+-- texts without those that were removed
 pub without_texts_light : (texts gone : List Text) → texts_weight (without_texts texts gone) ≤ texts_weight texts
 without_texts_light texts [] = omega arith
 without_texts_light texts (text ∷ gone) =

@@ -1,4 +1,4 @@
--- Tags that were taken away with udev, and tags that stand.
+-- Tags that were removed with udev, and tags that are left.
 use Rattle.std.proofs.Common.{◌≡◌, Bool, true, false, cond, not, ◌||◌, ◌&&◌, List, [], ◌∷◌, Option, Some, None, refl, ap, ◌∙◌}
 use Rattle.std.specs.Cmp.Lexicographic.{bytes_decides}
 use Rattle.text_bytes.specs.Texts.{is_empty}
@@ -27,7 +27,7 @@ use Rattle.eval_assignments.specs.Bounds.{most_name_bytes}
 use Rattle.eval_assignments.specs.Escapes.{escape_of, mode_of}
 use Rattle.eval_assignments.specs.Lists.{without_texts}
 use Rattle.eval_assignments.specs.Steps.{emptied, lacks_number, set_step, step_by, text_rendered, text_set}
-use Rattle.eval_assignments.specs.Tags.{current_tags, is_tag, tag_added, tag_changed, tag_standing, without_tags}
+use Rattle.eval_assignments.specs.Tags.{current_tags, is_tag, tag_added, tag_changed, with_tag, without_tags}
 use Rattle.eval_assignments.specs.declared.escapes.Escape.{Escape}
 use Rattle.eval_assignments.specs.declared.escapes.Escape.TheVariants as escape
 use Rattle.eval_laws.proofs.Gone.{all_gone}
@@ -79,32 +79,32 @@ module _ (r : Rule) (template : Template) (s : Scene) (t : Text) (udev : s.state
   added : (texts : List Text) → is_among (with_text texts t) t ≡ true
   added texts = among_added texts t t ∙ or_last (is_among texts t) (same_text t t) itself
 
-  pub no_more_told : is_among (current_tags (set_step r s (record { operator = Remove; change = change.Text target.Tag template }))) t ≡ false
-  no_more_told = ap (λ (u : Scene). is_among (current_tags u) t) (tag_step Remove) ∙ all_gone (with_text s.gone t) s.state.tags t (added s.gone)
+  pub no_more_reported : is_among (current_tags (set_step r s (record { operator = Remove; change = change.Text target.Tag template }))) t ≡ false
+  no_more_reported = ap (λ (u : Scene). is_among (current_tags u) t) (tag_step Remove) ∙ all_gone (with_text s.gone t) s.state.tags t (added s.gone)
 
-  -- a text that is there stays where others are taken away
-  stands : (texts gone : List Text) → is_among texts t ≡ true → is_among gone t ≡ false → is_among (without_texts texts gone) t ≡ true
-  stands texts [] there kept = there
-  stands texts (other ∷ gone) there kept = by (same_text t other) refl kept (stands (without_text texts other) gone)
+  -- a text that is there stays if others are removed
+  is_present : (texts gone : List Text) → is_among texts t ≡ true → is_among gone t ≡ false → is_among (without_texts texts gone) t ≡ true
+  is_present texts [] there kept = there
+  is_present texts (other ∷ gone) there kept = by (same_text t other) refl kept (is_present (without_text texts other) gone)
     where
       by : (b : Bool) → same_text t other ≡ b → (b || is_among gone t) ≡ false → (is_among (without_text texts other) t ≡ true → is_among gone t ≡ false → is_among (without_texts (without_text texts other) gone) t ≡ true)
           → is_among (without_texts (without_text texts other) gone) t ≡ true
       by true e h more = cc
       by false e h more = more (among_removed texts other t ∙ ap (λ b. not b && is_among texts t) e ∙ there) h
 
-  told_again : (u : Scene) → is_among (current_tags (tag_standing t u)) t ≡ true
-  told_again u = stands (with_text u.state.tags t) (without_text u.gone t) (added u.state.tags) (among_removed u.gone t t ∙ ap (λ b. not b && is_among u.gone t) itself)
+  reported_again : (u : Scene) → is_among (current_tags (with_tag t u)) t ≡ true
+  reported_again u = is_present (with_text u.state.tags t) (without_text u.gone t) (added u.state.tags) (among_removed u.gone t t ∙ ap (λ b. not b && is_among u.gone t) itself)
 
-  is_standing : (u : Scene) (x : Text) → is_empty x ≡ false → is_tag x ≡ true → tag_added r x u ≡ tag_standing x u
-  is_standing u [] some tag = cc
-  is_standing u (b ∷ x) some tag = ap (λ w. cond w (tag_standing (b ∷ x) u) (noted r TagIgnored (b ∷ x) u)) tag
+  is_with_tag : (u : Scene) (x : Text) → is_empty x ≡ false → is_tag x ≡ true → tag_added r x u ≡ with_tag x u
+  is_with_tag u [] some tag = cc
+  is_with_tag u (b ∷ x) some tag = ap (λ w. cond w (with_tag (b ∷ x) u) (noted r TagIgnored (b ∷ x) u)) tag
 
-  pub told : (o : AssignOperator) → (o ≡ Remove → ⊥) → is_empty t ≡ false → is_tag t ≡ true
+  pub reported : (o : AssignOperator) → (o ≡ Remove → ⊥) → is_empty t ≡ false → is_tag t ≡ true
       → is_among (current_tags (set_step r s (record { operator = o; change = change.Text target.Tag template }))) t ≡ true
-  told o other some tag = ap (λ (u : Scene). is_among (current_tags u) t) (tag_step o) ∙ by o other
+  reported o other some tag = ap (λ (u : Scene). is_among (current_tags u) t) (tag_step o) ∙ by o other
     where
       by : (p : AssignOperator) → (p ≡ Remove → ⊥) → is_among (current_tags (tag_changed r p t s)) t ≡ true
       by Remove h = absurd (h refl)
-      by Add h = ap (λ (u : Scene). is_among (current_tags u) t) (is_standing s t some tag) ∙ told_again s
-      by Assign h = ap (λ (u : Scene). is_among (current_tags u) t) (is_standing (without_tags s) t some tag) ∙ told_again (without_tags s)
-      by AssignFinal h = ap (λ (u : Scene). is_among (current_tags u) t) (is_standing (without_tags s) t some tag) ∙ told_again (without_tags s)
+      by Add h = ap (λ (u : Scene). is_among (current_tags u) t) (is_with_tag s t some tag) ∙ reported_again s
+      by Assign h = ap (λ (u : Scene). is_among (current_tags u) t) (is_with_tag (without_tags s) t some tag) ∙ reported_again (without_tags s)
+      by AssignFinal h = ap (λ (u : Scene). is_among (current_tags u) t) (is_with_tag (without_tags s) t some tag) ∙ reported_again (without_tags s)

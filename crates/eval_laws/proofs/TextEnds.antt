@@ -9,24 +9,24 @@ use Rattle.text_bytes.specs.Names.{is_whitespace}
 use Rattle.text_tables.specs.Texts.{Text}
 use Rattle.text_core.specs.declared.item.Item.{Item}
 use Rattle.text_core.specs.declared.item.Item.TheVariants as item
-use Rattle.eval_state.specs.Texts.{trimmed}
+use Rattle.text_bytes.specs.Texts.{trimmed}
 use Rattle.eval_matching.specs.Holding.{ends_in_whitespace, is_whitespace_item}
 use Rattle.eval_matching.specs.Udev.{last_is, passes}
 use Rattle.eval_laws.specs.Comparing.{EndsInWhitespace, HasLast, IsWhitespace, IsWhitespaceItem, IsWithoutItsEnd}
 
 -- ---- last elements
 
-last_of : {A : Type 0} (front : List A) (x : A) → slice_get (front ++ x ∷ []) (length (front ++ x ∷ []) - 1) ≡ Some x
-last_of front x =
-    let long : length (front ++ x ∷ []) ≡ length front + 1 = length-append front (x ∷ []) in
-    let place : length (front ++ x ∷ []) - 1 ≡ length front = omega (arith, long) in
-    ap (slice_get (front ++ x ∷ [])) place
-    ∙ slice_get_read (front ++ x ∷ []) (length front + 1) (length front) x (sym long) (omega arith) (sym (get_or-append_seam front x [] x))
+last_of : {A : Type 0} (beginning : List A) (x : A) → slice_get (beginning ++ x ∷ []) (length (beginning ++ x ∷ []) - 1) ≡ Some x
+last_of beginning x =
+    let long : length (beginning ++ x ∷ []) ≡ length beginning + 1 = length-append beginning (x ∷ []) in
+    let place : length (beginning ++ x ∷ []) - 1 ≡ length beginning = omega (arith, long) in
+    ap (slice_get (beginning ++ x ∷ [])) place
+    ∙ slice_get_read (beginning ++ x ∷ []) (length beginning + 1) (length beginning) x (sym long) (omega arith) (sym (get_or-append_seam beginning x [] x))
 
 module _ {A : Type 0} (test : A → Bool) (Meets : A → Type 0) where
-  -- where the last element passes, there is one, and it meets what the test tells
+  -- if the last element passes, there is one, and it meets what the test shows
   last_found : ((x : A) → test x ≡ true → Meets x) → (xs : List A) → last_is test xs ≡ true → HasLast Meets xs
-  last_found tells xs e = by (slice_get xs (length xs - 1)) refl e
+  last_found reports xs e = by (slice_get xs (length xs - 1)) refl e
     where
       by : (o : Option A) → slice_get xs (length xs - 1) ≡ o → passes test o ≡ true → HasLast Meets xs
       by None at e = absurd (true≢false (sym e))
@@ -35,12 +35,12 @@ module _ {A : Type 0} (test : A → Bool) (Meets : A → Type 0) where
           let whole : xs ≡ take (length xs - 1) xs ++ x ∷ [] =
           sym (take_all (length xs - 1 + 1) xs (omega (arith, within))) ∙ take_more xs (length xs - 1) x within
           ∙ ap (λ y. take (length xs - 1) xs ++ y ∷ []) (get_or_from_slice_get xs (length xs - 1) x x at) in
-          record { front = take (length xs - 1) xs; last = x; whole = whole; meets = tells x e }
+          record { beginning = take (length xs - 1) xs; last = x; whole = whole; meets = reports x e }
 
-  -- the last element passes where there is one that meets what the test tells
+  -- the last element passes if there is one that meets what the test shows
   last_seen : ((x : A) → Meets x → test x ≡ true) → (xs : List A) → HasLast Meets xs → last_is test xs ≡ true
   last_seen shows xs h =
-      ap (λ l. passes test (slice_get l (length l - 1))) h.whole ∙ ap (passes test) (last_of h.front h.last) ∙ shows h.last h.meets
+      ap (λ l. passes test (slice_get l (length l - 1))) h.whole ∙ ap (passes test) (last_of h.beginning h.last) ∙ shows h.last h.meets
 
 -- ---- choices
 

@@ -9,7 +9,7 @@ use Rattle.text_tables.specs.Texts.{Text}
 use Rattle.eval_state.specs.Texts.{or_empty}
 use Rattle.text_links.specs.Underscores.{underscored, words}
 use Rattle.eval_rendering.specs.Words.{from_word, word_at, word_len}
-use Rattle.text_links.proofs.JoinedWords.{front, kept, others, words_begin}
+use Rattle.text_links.proofs.JoinedWords.{beginning, kept, others, words_begin}
 use Rattle.eval_laws.specs.TextWords.{BeginsWithGap, BeginsWithWord, HasNoWhitespace, HasWords, IsEndFromWord, IsGap}
 
 -- ---- a byte more
@@ -45,9 +45,9 @@ split_at_gap b t e = ap (λ w. cond w ([] ∷ slice_split is_whitespace t) (onto
 split_at_word : (b : ℕ) (t : Text) → is_whitespace b ≡ false → slice_split is_whitespace (b ∷ t) ≡ onto_first b (slice_split is_whitespace t)
 split_at_word b t e = ap (λ w. cond w ([] ∷ slice_split is_whitespace t) (onto_first b (slice_split is_whitespace t))) e
 
-front_onto : (b : ℕ) (parts : List Text) → front (onto_first b parts) ≡ b ∷ front parts
-front_onto b [] = refl
-front_onto b (part ∷ parts) = refl
+prefix_onto : (b : ℕ) (parts : List Text) → beginning (onto_first b parts) ≡ b ∷ beginning parts
+prefix_onto b [] = refl
+prefix_onto b (part ∷ parts) = refl
 
 others_onto : (b : ℕ) (parts : List Text) → others (onto_first b parts) ≡ others parts
 others_onto b [] = refl
@@ -56,7 +56,7 @@ others_onto b (part ∷ parts) = refl
 words_at_gap : (b : ℕ) (t : Text) → is_whitespace b ≡ true → words (b ∷ t) ≡ words t
 words_at_gap b t e = ap kept (split_at_gap b t e)
 
-words_at_word : (b : ℕ) (t : Text) → is_whitespace b ≡ false → words (b ∷ t) ≡ (b ∷ front (slice_split is_whitespace t)) ∷ kept (others (slice_split is_whitespace t))
+words_at_word : (b : ℕ) (t : Text) → is_whitespace b ≡ false → words (b ∷ t) ≡ (b ∷ beginning (slice_split is_whitespace t)) ∷ kept (others (slice_split is_whitespace t))
 words_at_word b t e = ap kept (split_at_word b t e) ∙ words_begin b t
 
 -- ---- words are found
@@ -64,8 +64,8 @@ words_at_word b t e = ap kept (split_at_word b t e) ∙ words_begin b t
 -- whitespace more before the first word
 gap_more : (b : ℕ) (t : Text) (found : List Text) → is_whitespace b ≡ true → HasWords t found → HasWords (b ∷ t) found
 gap_more b t [] e h = both (is_whitespace b) (list_all is_whitespace t) e h
-gap_more b t (word ∷ more) e (behind, h, rest) = (
-  behind,
+gap_more b t (word ∷ more) e (following, h, rest) = (
+  following,
   record {
     gap = b ∷ h.gap;
     whole = ap (λ u. b ∷ u) h.whole;
@@ -78,26 +78,26 @@ gap_more b t (word ∷ more) e (behind, h, rest) = (
 )
 
 -- What goes on at the start of a text: a part without whitespace, perhaps none, and after it the further words.
-record GoesOn (t : Text) : Type 0 where
-  behind : Text
-  whole : t ≡ front (slice_split is_whitespace t) ++ behind
-  unbroken : HasNoWhitespace (front (slice_split is_whitespace t))
-  ends : BeginsWithGap behind
-  rest : HasWords behind (kept (others (slice_split is_whitespace t)))
+record Proceeds (t : Text) : Type 0 where
+  following : Text
+  whole : t ≡ beginning (slice_split is_whitespace t) ++ following
+  unbroken : HasNoWhitespace (beginning (slice_split is_whitespace t))
+  ends : BeginsWithGap following
+  rest : HasWords following (kept (others (slice_split is_whitespace t)))
 
-cut_found : (t : Text) → HasWords t (words t) × GoesOn t
-cut_found [] = (refl, record { behind = []; whole = refl; unbroken = refl; ends = tt; rest = refl })
+cut_found : (t : Text) → HasWords t (words t) × Proceeds t
+cut_found [] = (refl, record { following = []; whole = refl; unbroken = refl; ends = tt; rest = refl })
 cut_found (b ∷ t) = by (is_whitespace b) refl (cut_found t)
   where
-    by : (w : Bool) → is_whitespace b ≡ w → HasWords t (words t) × GoesOn t → HasWords (b ∷ t) (words (b ∷ t)) × GoesOn (b ∷ t)
+    by : (w : Bool) → is_whitespace b ≡ w → HasWords t (words t) × Proceeds t → HasWords (b ∷ t) (words (b ∷ t)) × Proceeds (b ∷ t)
     by true e (h, on) =
         let more : HasWords (b ∷ t) (words t) = gap_more b t (words t) e h in
         let cut = split_at_gap b t e in (
           subst (HasWords (b ∷ t)) (sym (words_at_gap b t e)) more,
           record {
-            behind = b ∷ t;
-            whole = ap (λ parts. front parts ++ (b ∷ t)) (sym cut);
-            unbroken = ap (λ parts. list_any is_whitespace (front parts)) cut;
+            following = b ∷ t;
+            whole = ap (λ parts. beginning parts ++ (b ∷ t)) (sym cut);
+            unbroken = ap (λ parts. list_any is_whitespace (beginning parts)) cut;
             ends = e;
             rest = subst (λ parts. HasWords (b ∷ t) (kept (others parts))) (sym cut) more;
           },
@@ -105,67 +105,67 @@ cut_found (b ∷ t) = by (is_whitespace b) refl (cut_found t)
     by false e (h, on) =
         let parts = slice_split is_whitespace t in
         let cut = split_at_word b t e in
-        let first : front (slice_split is_whitespace (b ∷ t)) ≡ b ∷ front parts = ap front cut ∙ front_onto b parts in
+        let first : beginning (slice_split is_whitespace (b ∷ t)) ≡ b ∷ beginning parts = ap beginning cut ∙ prefix_onto b parts in
         let further : others (slice_split is_whitespace (b ∷ t)) ≡ others parts = ap others cut ∙ others_onto b parts in
-        let whole : b ∷ t ≡ (b ∷ front parts) ++ on.behind = ap (λ u. b ∷ u) on.whole in
-        let unbroken : HasNoWhitespace (b ∷ front parts) = neither (is_whitespace b) (list_any is_whitespace (front parts)) e on.unbroken in (
-          subst (HasWords (b ∷ t)) (sym (words_at_word b t e)) (on.behind, record { gap = []; whole = whole; before = refl; some = refl; unbroken = unbroken; ends = on.ends }, on.rest),
+        let whole : b ∷ t ≡ (b ∷ beginning parts) ++ on.following = ap (λ u. b ∷ u) on.whole in
+        let unbroken : HasNoWhitespace (b ∷ beginning parts) = neither (is_whitespace b) (list_any is_whitespace (beginning parts)) e on.unbroken in (
+          subst (HasWords (b ∷ t)) (sym (words_at_word b t e)) (on.following, record { gap = []; whole = whole; before = refl; some = refl; unbroken = unbroken; ends = on.ends }, on.rest),
           record {
-            behind = on.behind;
-            whole = whole ∙ ap (λ part. part ++ on.behind) (sym first);
+            following = on.following;
+            whole = whole ∙ ap (λ part. part ++ on.following) (sym first);
             unbroken = ap (list_any is_whitespace) first ∙ unbroken;
             ends = on.ends;
-            rest = subst (λ ps. HasWords on.behind (kept ps)) (sym further) on.rest;
+            rest = subst (λ ps. HasWords on.following (kept ps)) (sym further) on.rest;
           },
         )
 
 -- ---- and no others
 
 -- whitespace before a text adds no word
-words_behind_gap : (gap t : Text) → IsGap gap → words (gap ++ t) ≡ words t
-words_behind_gap [] t e = refl
-words_behind_gap (b ∷ gap) t e =
+words_after_gap : (gap t : Text) → IsGap gap → words (gap ++ t) ≡ words t
+words_after_gap [] t e = refl
+words_after_gap (b ∷ gap) t e =
     words_at_gap b (gap ++ t) (all_first (is_whitespace b) (list_all is_whitespace gap) e)
-    ∙ words_behind_gap gap t (all_rest (is_whitespace b) (list_all is_whitespace gap) e)
+    ∙ words_after_gap gap t (all_rest (is_whitespace b) (list_all is_whitespace gap) e)
 
 words_of_gap : (gap : Text) → IsGap gap → words gap ≡ []
-words_of_gap gap e = ap words (sym (append-nil gap)) ∙ words_behind_gap gap [] e
+words_of_gap gap e = ap words (sym (append-nil gap)) ∙ words_after_gap gap [] e
 
 -- a part without whitespace, before what begins with whitespace, is the first part
-record IsCut (word behind : Text) : Type 0 where
-  first : front (slice_split is_whitespace (word ++ behind)) ≡ word
-  further : kept (others (slice_split is_whitespace (word ++ behind))) ≡ words behind
+record IsCut (word following : Text) : Type 0 where
+  first : beginning (slice_split is_whitespace (word ++ following)) ≡ word
+  further : kept (others (slice_split is_whitespace (word ++ following))) ≡ words following
 
-cut_behind : (word behind : Text) → HasNoWhitespace word → BeginsWithGap behind → IsCut word behind
-cut_behind [] [] e ends = record { first = refl; further = refl }
-cut_behind [] (b ∷ t) e ends = record {
-  first = ap front (split_at_gap b t ends);
+cut_after : (word following : Text) → HasNoWhitespace word → BeginsWithGap following → IsCut word following
+cut_after [] [] e ends = record { first = refl; further = refl }
+cut_after [] (b ∷ t) e ends = record {
+  first = ap beginning (split_at_gap b t ends);
   further = ap (λ parts. kept (others parts)) (split_at_gap b t ends) ∙ sym (words_at_gap b t ends);
 }
-cut_behind (b ∷ word) behind e ends =
+cut_after (b ∷ word) following e ends =
     let own = first_of (is_whitespace b) (list_any is_whitespace word) e in
-    let on = cut_behind word behind (rest_of (is_whitespace b) (list_any is_whitespace word) e) ends in
-    let parts = slice_split is_whitespace (word ++ behind) in
-    let cut = split_at_word b (word ++ behind) own in
+    let on = cut_after word following (rest_of (is_whitespace b) (list_any is_whitespace word) e) ends in
+    let parts = slice_split is_whitespace (word ++ following) in
+    let cut = split_at_word b (word ++ following) own in
     record {
-      first = ap front cut ∙ front_onto b parts ∙ ap (λ u. b ∷ u) on.first;
+      first = ap beginning cut ∙ prefix_onto b parts ∙ ap (λ u. b ∷ u) on.first;
       further = ap (λ ps. kept (others ps)) cut ∙ ap kept (others_onto b parts) ∙ on.further;
     }
 
 -- a word is the first, and the words after it follow
-words_with_first : (word behind : Text) → is_empty word ≡ false → HasNoWhitespace word → BeginsWithGap behind → words (word ++ behind) ≡ word ∷ words behind
-words_with_first [] behind some e ends = absurd (true≢false some)
-words_with_first (b ∷ word) behind some e ends =
+words_with_first : (word following : Text) → is_empty word ≡ false → HasNoWhitespace word → BeginsWithGap following → words (word ++ following) ≡ word ∷ words following
+words_with_first [] following some e ends = absurd (true≢false some)
+words_with_first (b ∷ word) following some e ends =
     let own = first_of (is_whitespace b) (list_any is_whitespace word) e in
-    let on = cut_behind word behind (rest_of (is_whitespace b) (list_any is_whitespace word) e) ends in
-    words_at_word b (word ++ behind) own ∙ ap (λ u. (b ∷ u) ∷ kept (others (slice_split is_whitespace (word ++ behind)))) on.first ∙ ap (λ ws. (b ∷ word) ∷ ws) on.further
+    let on = cut_after word following (rest_of (is_whitespace b) (list_any is_whitespace word) e) ends in
+    words_at_word b (word ++ following) own ∙ ap (λ u. (b ∷ u) ∷ kept (others (slice_split is_whitespace (word ++ following)))) on.first ∙ ap (λ ws. (b ∷ word) ∷ ws) on.further
 
 pub words_are : (text : Text) (found : List Text) → HasWords text found → words text ≡ found
 words_are text [] h = words_of_gap text h
-words_are text (word ∷ more) (behind, h, rest) =
-    ap words h.whole ∙ words_behind_gap h.gap (word ++ behind) h.before
-    ∙ words_with_first word behind h.some h.unbroken h.ends
-    ∙ ap (λ ws. word ∷ ws) (words_are behind more rest)
+words_are text (word ∷ more) (following, h, rest) =
+    ap words h.whole ∙ words_after_gap h.gap (word ++ following) h.before
+    ∙ words_with_first word following h.some h.unbroken h.ends
+    ∙ ap (λ ws. word ∷ ws) (words_are following more rest)
 
 pub words_found : (text : Text) (found : List Text) → words text ≡ found → HasWords text found
 words_found text found e = subst (HasWords text) e (cut_found text).0
@@ -178,10 +178,10 @@ joined_by_underscores text found h = ap (join_with_byte underscore) (words_are t
 
 join_whole : (text : Text) (found : List Text) → HasWords text found → HasNoWhitespace (join_with_byte underscore found)
 join_whole text [] h = refl
-join_whole text (word ∷ []) (behind, h, rest) = h.unbroken
-join_whole text (word ∷ next ∷ more) (behind, h, rest) =
+join_whole text (word ∷ []) (following, h, rest) = h.unbroken
+join_whole text (word ∷ next ∷ more) (following, h, rest) =
     list_any-append is_whitespace word (underscore ∷ join_with_byte underscore (next ∷ more))
-    ∙ neither (list_any is_whitespace word) (list_any is_whitespace (underscore ∷ join_with_byte underscore (next ∷ more))) h.unbroken (join_whole behind (next ∷ more) rest)
+    ∙ neither (list_any is_whitespace word) (list_any is_whitespace (underscore ∷ join_with_byte underscore (next ∷ more))) h.unbroken (join_whole following (next ∷ more) rest)
 
 pub underscored_whole : (text : Text) → HasNoWhitespace (underscored text)
 unfolding underscored
@@ -239,18 +239,18 @@ all_other (b ∷ t) h =
     neither (is_whitespace b) (list_any is_whitespace t) (not_true (is_whitespace b) (all_first (not (is_whitespace b)) (list_all (λ b. not (is_whitespace b)) t) h))
     (all_other t (all_rest (not (is_whitespace b)) (list_all (λ b. not (is_whitespace b)) t) h))
 
-words_behind_start : (t : Text) → words (skip_while is_whitespace t) ≡ words t
-words_behind_start t =
-    sym (words_behind_gap (take (prefix_len is_whitespace t) t) (skip_while is_whitespace t) (passed is_whitespace t).passes)
+words_after_start : (t : Text) → words (skip_while is_whitespace t) ≡ words t
+words_after_start t =
+    sym (words_after_gap (take (prefix_len is_whitespace t) t) (skip_while is_whitespace t) (passed is_whitespace t).passes)
     ∙ ap words (take-append-drop (prefix_len is_whitespace t) t)
 
 -- The first word of a text that begins with one, and the words after it.
 record IsFirstWord (t : Text) : Type 0 where
   word : take (word_len t) t ≡ or_empty (slice_get (words t) 0)
-  behind : words (drop (word_len t) t) ≡ drop 1 (words t)
+  following : words (drop (word_len t) t) ≡ drop 1 (words t)
 
 first_word : (t : Text) → BeginsWithWord t → IsFirstWord t
-first_word [] h = record { word = refl; behind = refl }
+first_word [] h = record { word = refl; following = refl }
 first_word (b ∷ t) h =
     let n : ℕ = word_len (b ∷ t) in
     let cut = passed (λ x. not (is_whitespace x)) (b ∷ t) in
@@ -260,30 +260,30 @@ first_word (b ∷ t) h =
     ap words (sym (take-append-drop (word_len (b ∷ t)) (b ∷ t)))
     ∙ words_with_first (take (word_len (b ∷ t)) (b ∷ t)) (drop (word_len (b ∷ t)) (b ∷ t)) some
     (all_other (take (word_len (b ∷ t)) (b ∷ t)) cut.passes) (begins_with_gap (drop (word_len (b ∷ t)) (b ∷ t)) cut.stops) in
-    record { word = ap (λ ws. or_empty (slice_get ws 0)) (sym are); behind = ap (drop 1) (sym are) }
+    record { word = ap (λ ws. or_empty (slice_get ws 0)) (sym are); following = ap (drop 1) (sym are) }
 
 pub end_from_word : (number : ℕ) (text : Text) → IsEndFromWord number text (from_word number text)
 end_from_word zero text = record {
-  front = take (prefix_len is_whitespace text) text;
+  beginning = take (prefix_len is_whitespace text) text;
   whole = sym (take-append-drop (prefix_len is_whitespace text) text);
   begins = begins_with_word (skip_while is_whitespace text) (passed is_whitespace text).stops;
-  words_are = words_behind_start text;
+  words_are = words_after_start text;
 }
 end_from_word (suc number) text =
     let last = end_from_word number text in
     let start : Text = from_word number text in
     let word : Text = take (word_len start) start in
-    let behind : Text = drop (word_len start) start in
-    let gap : Text = take (prefix_len is_whitespace behind) behind in
-    let end : Text = skip_while is_whitespace behind in
-    let cut : start ≡ word ++ (gap ++ end) = sym (take-append-drop (word_len start) start) ∙ ap (λ u. word ++ u) (sym (take-append-drop (prefix_len is_whitespace behind) behind)) in
-    let joined : (last.front ++ (word ++ gap)) ++ end ≡ last.front ++ (word ++ (gap ++ end)) = append_assoc last.front (word ++ gap) end ∙ ap (λ u. last.front ++ u) (append_assoc word gap end) in
+    let following : Text = drop (word_len start) start in
+    let gap : Text = take (prefix_len is_whitespace following) following in
+    let end : Text = skip_while is_whitespace following in
+    let cut : start ≡ word ++ (gap ++ end) = sym (take-append-drop (word_len start) start) ∙ ap (λ u. word ++ u) (sym (take-append-drop (prefix_len is_whitespace following) following)) in
+    let joined : (last.beginning ++ (word ++ gap)) ++ end ≡ last.beginning ++ (word ++ (gap ++ end)) = append_assoc last.beginning (word ++ gap) end ∙ ap (λ u. last.beginning ++ u) (append_assoc word gap end) in
     let next : number + 1 ≡ suc number = omega arith in
     record {
-      front = last.front ++ (word ++ gap);
-      whole = last.whole ∙ ap (λ u. last.front ++ u) cut ∙ sym joined;
-      begins = begins_with_word end (passed is_whitespace behind).stops;
-      words_are = words_behind_start behind ∙ (first_word start last.begins).behind ∙ ap (drop 1) last.words_are ∙ drop-drop 1 number (words text) ∙ ap (λ n. drop n (words text)) next;
+      beginning = last.beginning ++ (word ++ gap);
+      whole = last.whole ∙ ap (λ u. last.beginning ++ u) cut ∙ sym joined;
+      begins = begins_with_word end (passed is_whitespace following).stops;
+      words_are = words_after_start following ∙ (first_word start last.begins).following ∙ ap (drop 1) last.words_are ∙ drop-drop 1 number (words text) ∙ ap (λ n. drop n (words text)) next;
     }
 
 first_of_dropped : (n : ℕ) (ws : List Text) → slice_get (drop n ws) 0 ≡ slice_get ws n

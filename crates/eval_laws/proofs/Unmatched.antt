@@ -12,12 +12,12 @@ use Rattle.eval_matching.specs.Subjects.{plain_subject}
 use Rattle.eval_state.specs.declared.notes.Note.{Note}
 use Rattle.eval_state.specs.declared.scene.Scene.{Scene}
 use Rattle.eval_acts.specs.Acts.{act_step}
-use Rattle.eval_acts.specs.Reaching.{reached}
+use Rattle.eval_acts.specs.Reaching.{match_reached}
 use Rattle.eval_matching.specs.Attributes.{is_not_read}
 use Rattle.eval_state.specs.Scenes.{noted}
 use Rattle.eval_state.specs.declared.note_kind.NoteKind.TheVariants.{AttributeNotRead}
 use Rattle.eval_rules.specs.Idle.{is_idle}
-use Rattle.eval_rules.specs.Steps.{Went, apply, only_noted, onward, plain_step, result_step, search, set_all, steps, walk}
+use Rattle.eval_rules.specs.Steps.{Went, apply, if_proceeding, only_noted, plain_step, result_step, search, set_all, steps, walk}
 use Rattle.eval_rules.specs.Jumps.{run, sought_after}
 use Rattle.eval_rules.specs.Laws.{SameButNotes, SameOutcomeButNotes, plain_hold}
 use Rattle.eval_rules.specs.Outcomes.{outcome_of}
@@ -29,7 +29,7 @@ noting notes s = record s { notes = notes }
 abbrev all_hold : State → List PlainMatch → Bool
 all_hold state parts = list_all (λ part. holds (plain_subject part.key state) part.wanted) parts
 
-reached_same : (r : Rule) (k : PlainKey) (notes : List Note) (s : Scene) → noting notes (reached r k s) ≡ noting notes s
+reached_same : (r : Rule) (k : PlainKey) (notes : List Note) (s : Scene) → noting notes (match_reached r k s) ≡ noting notes s
 reached_same r (plain.Sysctl name) notes s = refl
 reached_same r (plain.Attr name) notes s = by (is_not_read name s.state.event)
   where
@@ -38,37 +38,37 @@ reached_same r (plain.Attr name) notes s = by (is_not_read name s.state.event)
     by false = refl
 reached_same r k notes s = refl
 
-reached_state : (r : Rule) (k : PlainKey) (s : Scene) → (reached r k s).state ≡ s.state
+reached_state : (r : Rule) (k : PlainKey) (s : Scene) → (match_reached r k s).state ≡ s.state
 reached_state r k s = ap (λ (t : Scene). t.state) (reached_same r k [] s)
 
 step_same : (r : Rule) (part : PlainMatch) (notes : List Note) (s : Scene) → noting notes (plain_step r part s).0 ≡ noting notes s
 unfolding plain_step
 step_same r part notes s = reached_same r part.key notes s
 
-onward_same : (f : Scene → Went) (notes : List Note) → ((t : Scene) → noting notes (f t).0 ≡ noting notes t) → (s t : Scene) (b : Bool) → noting notes t ≡ noting notes s → noting notes (onward f (t, b)).0 ≡ noting notes s
-onward_same f notes h s t true e = h t ∙ e
-onward_same f notes h s t false e = e
+if_proceeding_same : (f : Scene → Went) (notes : List Note) → ((t : Scene) → noting notes (f t).0 ≡ noting notes t) → (s t : Scene) (b : Bool) → noting notes t ≡ noting notes s → noting notes (if_proceeding f (t, b)).0 ≡ noting notes s
+if_proceeding_same f notes h s t true e = h t ∙ e
+if_proceeding_same f notes h s t false e = e
 
 -- matches one after another change nothing else
 pub walk_same : (r : Rule) (parts : List PlainMatch) (notes : List Note) (s : Scene) → noting notes (walk (plain_step r) parts s).0 ≡ noting notes s
 unfolding walk
 walk_same r [] notes s = refl
 walk_same r (part ∷ parts) notes s =
-    onward_same (walk (plain_step r) parts) notes (walk_same r parts notes) s (plain_step r part s).0 (plain_step r part s).1 (step_same r part notes s)
+    if_proceeding_same (walk (plain_step r) parts) notes (walk_same r parts notes) s (plain_step r part s).0 (plain_step r part s).1 (step_same r part notes s)
 
--- and the rule goes on where all of them hold
+-- and the rule goes on exactly if all of them hold
 pub walk_holds : (r : Rule) (parts : List PlainMatch) (s : Scene) → (walk (plain_step r) parts s).1 ≡ all_hold s.state parts
 unfolding walk plain_step
 walk_holds r [] s = refl
-walk_holds r (part ∷ parts) s = by (holds (plain_subject part.key s.state) part.wanted) (walk_holds r parts (reached r part.key s))
+walk_holds r (part ∷ parts) s = by (holds (plain_subject part.key s.state) part.wanted) (walk_holds r parts (match_reached r part.key s))
   where
-    by : (b : Bool) → (walk (plain_step r) parts (reached r part.key s)).1 ≡ all_hold (reached r part.key s).state parts
-        → (onward (walk (plain_step r) parts) (reached r part.key s, b)).1 ≡ (b && all_hold s.state parts)
+    by : (b : Bool) → (walk (plain_step r) parts (match_reached r part.key s)).1 ≡ all_hold (match_reached r part.key s).state parts
+        → (if_proceeding (walk (plain_step r) parts) (match_reached r part.key s, b)).1 ≡ (b && all_hold s.state parts)
     by true h = h ∙ ap (λ state. all_hold state parts) (reached_state r part.key s)
     by false h = refl
 
-stopped : (f g h i : Scene → Went) (w : Went) → w.1 ≡ false → onward f (onward g (onward h (onward i w))) ≡ w
-stopped f g h i w n = ap (λ b. onward f (onward g (onward h (onward i (w.0, b))))) n ∙ ap (λ b. (w.0, b)) (sym n)
+stopped : (f g h i : Scene → Went) (w : Went) → w.1 ≡ false → if_proceeding f (if_proceeding g (if_proceeding h (if_proceeding i w))) ≡ w
+stopped f g h i w n = ap (λ b. if_proceeding f (if_proceeding g (if_proceeding h (if_proceeding i (w.0, b))))) n ∙ ap (λ b. (w.0, b)) (sym n)
 
 steps_stop : (es : List Entry) (r : Rule) (s : Scene) → plain_hold s.state r ≡ false → steps es r s ≡ walk (plain_step r) r.plain s
 unfolding steps

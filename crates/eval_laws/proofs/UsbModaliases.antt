@@ -12,7 +12,7 @@ use Rattle.text_tables.specs.Texts.{Text}
 use Rattle.text_tables.specs.Pairs.{Pair, value_of}
 use Rattle.device_core.specs.Values.{DeviceValue}
 use Rattle.builtin_devices.specs.Devices.{is_of}
-use Rattle.builtin_devices.specs.Numbers.{Written, digit_value, digits_in, is_digit_in, natural, number_behind, number_in, size_in, unsigned, written}
+use Rattle.builtin_devices.specs.Numbers.{Written, digit_value, digits_in, is_digit_in, natural, number_after, number_in, size_in, unsigned, written}
 use Rattle.builtin_devices.specs.declared.numbers.Base.TheVariants.{Hexadecimal}
 use Rattle.eval_state.specs.Texts.{or_empty}
 use Rattle.eval_acts.specs.LookUps.{candidate}
@@ -80,20 +80,20 @@ module _ (a b c d k l m n : ℕ) (first : IsDigit a k) (second : IsDigit b l) (t
       ∙ ap (λ v. v && (is_digit_in 16 d && true)) third.digit
       ∙ ap (λ v. v && true) fourth.digit
 
-  number_is : number_behind 16 0 text ≡ 16 * (16 * (16 * k + l) + m) + n
+  number_is : number_after 16 0 text ≡ 16 * (16 * (16 * k + l) + m) + n
   number_is =
-      ap (λ (x : ℕ). number_behind 16 (16 * 0 + x) (b ∷ c ∷ d ∷ [])) first.is_value
-      ∙ ap (λ (x : ℕ). number_behind 16 (16 * (16 * 0 + k) + x) (c ∷ d ∷ [])) second.is_value
-      ∙ ap (λ (x : ℕ). number_behind 16 (16 * (16 * (16 * 0 + k) + l) + x) (d ∷ [])) third.is_value
+      ap (λ (x : ℕ). number_after 16 (16 * 0 + x) (b ∷ c ∷ d ∷ [])) first.is_value
+      ∙ ap (λ (x : ℕ). number_after 16 (16 * (16 * 0 + k) + x) (c ∷ d ∷ [])) second.is_value
+      ∙ ap (λ (x : ℕ). number_after 16 (16 * (16 * (16 * 0 + k) + l) + x) (d ∷ [])) third.is_value
       ∙ ap (λ (x : ℕ). 16 * (16 * (16 * (16 * 0 + k) + l) + m) + x) fourth.is_value
       ∙ omega arith
 
   reads_as : (whole : ℕ) → 16 * (16 * (16 * k + l) + m) + n ≡ whole → whole ≤ 65535 → number_in Hexadecimal 65535 text ≡ Some whole
   unfolding number_in digits_in
   reads_as whole e most =
-      let is : number_behind 16 0 text ≡ whole = number_is ∙ e in
+      let is : number_after 16 0 text ≡ whole = number_is ∙ e in
       let digits : digits_in 16 65535 text ≡ Some whole =
-      ap (λ v. if v && nat_le (number_behind 16 0 text) 65535 then Some (number_behind 16 0 text) else None) all_digits
+      ap (λ v. if v && nat_le (number_after 16 0 text) 65535 then Some (number_after 16 0 text) else None) all_digits
       ∙ ap (λ (x : ℕ). if nat_le x 65535 then Some x else None) is
       ∙ ap (λ v. if v then Some whole else None) (le-leb whole 65535 most) in
       ap (λ t. option_and_then (natural (begins_with minus t)) (size_in Hexadecimal 65535 t)) bare

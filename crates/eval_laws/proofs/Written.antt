@@ -1,5 +1,5 @@
 -- What udev makes of the words, names and paths in a text weighs no more than the text.
-use Rattle.std.proofs.Common.{◌≡◌, ℕ, zero, suc, ◌+◌, ◌≤◌, Bool, true, false, not, ◌==◌, ◌&&◌, List, [], ◌∷◌, ◌++◌, length, map, take, drop, Option, Some, None, if◌then◌else◌, option_map, position, subst, ap, arith, length-append}
+use Rattle.std.proofs.Common.{◌≡◌, ℕ, zero, suc, ◌+◌, ◌-◌, ◌≤◌, Bool, true, false, not, ◌==◌, ◌&&◌, List, [], ◌∷◌, ◌++◌, length, map, take, drop, Option, Some, None, if◌then◌else◌, option_map, position, subst, ap, arith, length-append, length-take-le}
 use Rattle.std.proofs.lemmas.List.{length-map}
 use Rattle.std.proofs.lemmas.List.Sums.{sum_by-cons, sum_by-append}
 use Rattle.std.specs.Option.{option_and_then, option_or}
@@ -9,9 +9,10 @@ use Rattle.text_bytes.specs.Texts.{begins_with, is_empty, skip_while, split_once
 use Rattle.text_tables.specs.Texts.{Text, same_text}
 use Rattle.text_tables.specs.Pairs.{Pair, names}
 use Rattle.device_core.specs.Values.{DeviceValue}
-use Rattle.eval_state.specs.Named.{NamedValue, behind_slash, named, named_behind, named_by}
-use Rattle.eval_state.specs.Files.{behind_component, first_component, first_folder, folder_before, folder_between, is_folder, lies_at, star_place, starred, starred_at}
-use Rattle.eval_assignments.specs.Links.{behind_dev, below_dev, components, is_barred, is_between, is_step, listed, path_of, plain_link, plain_links, words}
+use Rattle.eval_state.specs.Named.{NamedValue, after_slash, named, named_after, named_by}
+use Rattle.eval_state.specs.Files.{after_component, first_component, first_folder, folder_before, folder_between, is_folder, lies_at, star_place, starred, starred_at}
+use Rattle.eval_assignments.specs.Attributes.{named_whole}
+use Rattle.eval_assignments.specs.Links.{after_dev, below_dev, components, is_barred, is_between, is_step, listed, path_of, plain_link, plain_links, words}
 use Rattle.eval_assignments.specs.Parameters.{exchanged, is_separator, parameter_name, with_slashes}
 use Rattle.eval_laws.specs.DeviceWeights.{pair_weight, pairs_weight, text_weight, texts_weight}
 use Rattle.eval_laws.proofs.Sums.{filter_light, split_light}
@@ -39,9 +40,9 @@ joined_light byte text (next ∷ texts) =
     let c = length-append text (byte ∷ join_with_byte byte (next ∷ texts)) in
     omega (arith, a, b, c)
 
-behind_light : (parts : List Text) → texts_weight (behind_dev parts) ≤ texts_weight parts
-behind_light [] = omega arith
-behind_light (part ∷ parts) = by (same_text part _)
+after_light : (parts : List Text) → texts_weight (after_dev parts) ≤ texts_weight parts
+after_light [] = omega arith
+after_light (part ∷ parts) = by (same_text part _)
   where
     by : (b : Bool) → texts_weight (if b then parts else []) ≤ texts_weight (part ∷ parts)
     by true = let a = sum_by-cons text_weight part parts in omega (arith, a)
@@ -50,8 +51,8 @@ behind_light (part ∷ parts) = by (same_text part _)
 below_light : (path : Text) → texts_weight (below_dev path) ≤ length path + 1
 below_light path = by (begins_with slash path)
   where
-    by : (b : Bool) → texts_weight (if b then behind_dev (components path) else components path) ≤ length path + 1
-    by true = let a = behind_light (components path) in let b = components_light path in omega (arith, a, b)
+    by : (b : Bool) → texts_weight (if b then after_dev (components path) else components path) ≤ length path + 1
+    by true = let a = after_light (components path) in let b = components_light path in omega (arith, a, b)
     by false = components_light path
 
 path_light : (parts : List Text) → texts_weight (listed (path_of parts)) ≤ texts_weight parts
@@ -143,31 +144,31 @@ longer n m up None h = tt
 longer n m up (Some found) h = omega (arith, up, h)
 
 before_light : (rest path : Text) → IsNoLonger (length path) (folder_before rest path)
-before_light rest path = by (is_folder (first_component path) && lies_at rest (behind_component path))
+before_light rest path = by (is_folder (first_component path) && lies_at rest (after_component path))
   where
     by : (b : Bool) → IsNoLonger (length path) (if◌then◌else◌ {A = Option Text} b (Some (first_component path)) None)
     by true = component_light path
     by false = tt
 
-between_light : (front rest name : Text) → IsNoLonger (length name) (folder_between front rest name)
-between_light front rest name = by (same_text (take (length front) name) front)
+between_light : (beginning rest name : Text) → IsNoLonger (length name) (folder_between beginning rest name)
+between_light beginning rest name = by (same_text (take (length beginning) name) beginning)
   where
-    by : (b : Bool) → IsNoLonger (length name) (option_and_then (folder_before rest) (if◌then◌else◌ {A = Option Text} b (Some (drop (length front) name)) None))
+    by : (b : Bool) → IsNoLonger (length name) (option_and_then (folder_before rest) (if◌then◌else◌ {A = Option Text} b (Some (drop (length beginning) name)) None))
     by true =
-        longer (length (drop (length front) name)) (length name) (drop_light (length front) name) (folder_before rest (drop (length front) name))
-        (before_light rest (drop (length front) name))
+        longer (length (drop (length beginning) name)) (length name) (drop_light (length beginning) name) (folder_before rest (drop (length beginning) name))
+        (before_light rest (drop (length beginning) name))
     by false = tt
 
 either_light : (n m : ℕ) (a b : Option Text) → IsNoLonger n a → IsNoLonger m b → IsNoLonger (n + m) (option_or a b)
 either_light n m None b h k = longer m (n + m) (omega arith) b k
 either_light n m (Some found) b h k = omega (arith, h)
 
-first_light : (front rest : Text) (others : List Text) → IsNoLonger (texts_weight others) (first_folder front rest others)
-first_light front rest [] = tt
-first_light front rest (name ∷ others) =
+first_light : (beginning rest : Text) (others : List Text) → IsNoLonger (texts_weight others) (first_folder beginning rest others)
+first_light beginning rest [] = tt
+first_light beginning rest (name ∷ others) =
     let a = sum_by-cons text_weight name others in
-    longer (length name + texts_weight others) (texts_weight (name ∷ others)) (omega (arith, a)) (first_folder front rest (name ∷ others))
-    (either_light (length name) (texts_weight others) (folder_between front rest name) (first_folder front rest others) (between_light front rest name) (first_light front rest others))
+    longer (length name + texts_weight others) (texts_weight (name ∷ others)) (omega (arith, a)) (first_folder beginning rest (name ∷ others))
+    (either_light (length name) (texts_weight others) (folder_between beginning rest name) (first_folder beginning rest others) (between_light beginning rest name) (first_light beginning rest others))
 
 put_light : (name : Text) (place most : ℕ) (folder : Option Text) → IsNoLonger most folder → IsNoLonger (length name + most) (option_map (λ found. take place name ++ found ++ drop (place + 1) name) folder)
 put_light name place most None h = tt
@@ -185,14 +186,32 @@ starred_by : (found : Option ℕ) (device : DeviceValue) (name : Text) → IsNoL
 starred_by None device name = omega arith
 starred_by (Some place) device name =
     let a = names_light device.attrs in
-    let front : Text = take place name in
+    let beginning : Text = take place name in
     let rest : Text = drop (place + 1) name in
     longer (length name + texts_weight (names device.attrs)) (length name + pairs_weight device.attrs) (omega (arith, a)) (starred_at (Some place) device name)
-    (put_light name place (texts_weight (names device.attrs)) (first_folder front rest (names device.attrs)) (first_light front rest (names device.attrs)))
+    (put_light name place (texts_weight (names device.attrs)) (first_folder beginning rest (names device.attrs)) (first_light beginning rest (names device.attrs)))
 
 -- a name with its `*` filled in by the names of a device
 pub starred_light : (device : DeviceValue) (name : Text) → IsNoLonger (length name + pairs_weight device.attrs) (starred device name)
 starred_light device name = starred_by (star_place name) device name
+
+-- the attributes of a device, if there is one
+abbrev pub attrs_of : Option DeviceValue → List Pair
+attrs_of None = []
+attrs_of (Some device) = device.attrs
+
+-- an attribute that is found for a device, with what comes before it in its name
+pub whole_light : (is : NamedValue) (name : Text) → length is.attribute ≤ length name → (of : Option DeviceValue)
+    → IsNoLonger (length name + pairs_weight (attrs_of of)) (option_map (named_whole is name) (option_and_then (λ device. starred device is.attribute) of))
+whole_light is name shorter None = tt
+whole_light is name shorter (Some device) = by (starred device is.attribute) (starred_light device is.attribute)
+  where
+    by : (found : Option Text) → IsNoLonger (length is.attribute + pairs_weight device.attrs) found → IsNoLonger (length name + pairs_weight device.attrs) (option_map (named_whole is name) found)
+    by None h = tt
+    by (Some found) h =
+        let a = length-append (take (length name - length is.attribute) name) found in
+        let b = length-take-le (length name - length is.attribute) name (omega arith) in
+        omega (arith, a, b, h, shorter)
 
 -- what follows a cut is no longer than this, if there is a cut
 abbrev IsCutWithin : ℕ → Option (Text × Text) → Type 0
@@ -212,8 +231,8 @@ split_short byte text = by (position (λ b. b == byte) text)
     by None = tt
     by (Some n) = drop_light (n + 1) text
 
-behind_short : (text : Text) → length (behind_slash text) ≤ length text
-behind_short text = by (begins_with slash text)
+after_short : (text : Text) → length (after_slash text) ≤ length text
+after_short text = by (begins_with slash text)
   where
     by : (b : Bool) → length (if b then drop 1 text else text) ≤ length text
     by true = drop_light 1 text
@@ -221,15 +240,15 @@ behind_short text = by (begins_with slash text)
 
 by_short : (most : ℕ) (subsystem : Text) (cut : Option (Text × Text)) → IsCutWithin most cut → IsNamedWithin most (named_by subsystem cut)
 by_short most subsystem None h = tt
-by_short most subsystem (Some cut) h = let a = behind_short cut.1 in omega (arith, a, h)
+by_short most subsystem (Some cut) h = let a = after_short cut.1 in omega (arith, a, h)
 
 within_named : (n m : ℕ) → n ≤ m → (is : Option NamedValue) → IsNamedWithin n is → IsNamedWithin m is
 within_named n m up None h = tt
 within_named n m up (Some is) h = omega (arith, up, h)
 
-named_behind_short : (most : ℕ) (cut : Option (Text × Text)) → IsCutWithin most cut → IsNamedWithin most (named_behind cut)
-named_behind_short most None h = tt
-named_behind_short most (Some cut) h =
+named_after_short : (most : ℕ) (cut : Option (Text × Text)) → IsCutWithin most cut → IsNamedWithin most (named_after cut)
+named_after_short most None h = tt
+named_after_short most (Some cut) h =
     within_named (length cut.1) most h (named_by cut.0 (split_once close_bracket cut.1)) (by_short (length cut.1) cut.0 (split_once close_bracket cut.1) (split_short close_bracket cut.1))
 
 named_short : (name : Text) → IsNamedWithin (length name) (named name)
@@ -237,8 +256,8 @@ unfolding named
 named_short [] = tt
 named_short (b ∷ text) = by (begins_with open_bracket (b ∷ text))
   where
-    by : (is : Bool) → IsNamedWithin (length (b ∷ text)) (if is then named_behind (split_once slash text) else None)
-    by true = within_named (length text) (length (b ∷ text)) (omega arith) (named_behind (split_once slash text)) (named_behind_short (length text) (split_once slash text) (split_short slash text))
+    by : (is : Bool) → IsNamedWithin (length (b ∷ text)) (if is then named_after (split_once slash text) else None)
+    by true = within_named (length text) (length (b ∷ text)) (omega arith) (named_after (split_once slash text)) (named_after_short (length text) (split_once slash text) (split_short slash text))
     by false = tt
 
 -- the attribute of a device that is named is in the name

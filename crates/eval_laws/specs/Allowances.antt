@@ -6,14 +6,14 @@ use Rattle.text_bytes.specs.declared.profile.Profile.TheVariants.{Manual, Udev}
 use Rattle.text_tables.specs.Texts.{Text}
 use Rattle.hwdb_lookup.specs.declared.entry.Entry.{Entry}
 use Rattle.rule_types.specs.Written.{attribute_of_plain, attribute_of_up}
-use Rattle.rule_types.specs.WrittenParts.{attribute_of_change, attribute_of_deed}
+use Rattle.rule_types.specs.WrittenParts.{attribute_of_act_kind, attribute_of_change}
 use Rattle.rule_types.specs.declared.roles.Target.{Target}
 use Rattle.rule_types.specs.declared.roles.Target.TheVariants as target
 use Rattle.rule_types.specs.declared.part.Assignment.{Assignment}
 use Rattle.rule_types.specs.declared.part.Change.{Change}
 use Rattle.rule_types.specs.declared.part.Change.TheVariants as change
-use Rattle.rule_types.specs.declared.part.Deed.{Deed}
-use Rattle.rule_types.specs.declared.part.Deed.TheVariants as deed
+use Rattle.rule_types.specs.declared.part.ActKind.{ActKind}
+use Rattle.rule_types.specs.declared.part.ActKind.TheVariants as act_kind
 use Rattle.rule_types.specs.Rules.{Rule}
 use Rattle.eval_acts.specs.BuiltinRuns.{most_set}
 use Rattle.eval_laws.specs.DeviceWeights.{text_weight}
@@ -41,14 +41,14 @@ builtin_allowance Manual = 0
 builtin_allowance Udev = most_set
 
 -- what IMPORT may add in addition, by a profile and for a block of so many bytes
-abbrev pub import_allowance : Profile → ℕ → List Entry → Deed → ℕ
-import_allowance profile len entries (deed.Import i) = 2 * len + entries_weight entries + builtin_allowance profile
-import_allowance profile len entries (deed.Test mask t) = 0
-import_allowance profile len entries (deed.Program t) = 0
+abbrev pub import_allowance : Profile → ℕ → List Entry → ActKind → ℕ
+import_allowance profile len entries (act_kind.Import i) = 2 * len + entries_weight entries + builtin_allowance profile
+import_allowance profile len entries (act_kind.Test mask t) = 0
+import_allowance profile len entries (act_kind.Program t) = 0
 
 -- something that is done
-abbrev pub deed_allowance : Profile → ℕ → List Entry → Rule → Deed → ℕ
-deed_allowance profile len entries r d = part_allowance r (attribute_of_deed d) + import_allowance profile len entries d
+abbrev pub act_kind_allowance : Profile → ℕ → List Entry → Rule → ActKind → ℕ
+act_kind_allowance profile len entries r d = part_allowance r (attribute_of_act_kind d) + import_allowance profile len entries d
 
 -- what udev may add in addition if a text is assigned, by the text as it is written, for a block of so many bytes: a
 -- label that is rendered to nothing is as it is written, and the name of an attribute may come from the block
@@ -77,7 +77,7 @@ unfoldable pub rule_allowance : Profile → ℕ → List Entry → Rule → ℕ
 rule_allowance profile len entries r =
     sum_by (λ m. part_allowance r (attribute_of_plain m.key)) r.plain
     + sum_by (λ m. part_allowance r (attribute_of_up m.key)) r.up
-    + sum_by (λ act. deed_allowance profile len entries r act.deed) r.acts
+    + sum_by (λ act. act_kind_allowance profile len entries r act.kind) r.acts
     + sum_by (λ comparison. part_allowance r None) r.results
     + sum_by (set_allowance profile len r) r.sets
 

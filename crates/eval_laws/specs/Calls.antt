@@ -2,7 +2,7 @@
 use Rattle.std.specs.Prelude.{◌≡◌, ◌<◌, List, ℕ, [], ◌∷◌, ◌++◌, length, take}
 use Rattle.device_core.specs.Runs.{complete_runs, rest_of, runs}
 use Rattle.device_core.specs.RunBlocks.{blocks_of, is_too_long, most_bytes, line_of_excess}
-use Rattle.device_core.specs.Splits.{Split, Takes, given}
+use Rattle.device_core.specs.Splits.{Split, SplitTakes, completed}
 use Rattle.device_core.specs.declared.splitter.Taken.{Taken}
 
 -- a call: the piece, its outcome, and the splitter after it
@@ -14,7 +14,7 @@ pub record Call : Type 0 where
 -- each call goes on where the one before it stopped
 abbrev pub TakesAll : Split → List Call → Split → Type 0
 TakesAll old [] new = old ≡ new
-TakesAll old (call ∷ calls) new = Takes old call.piece call.taken call.after × TakesAll call.after calls new
+TakesAll old (call ∷ calls) new = SplitTakes old call.piece call.taken call.after × TakesAll call.after calls new
 
 -- all bytes that the calls used, in order
 abbrev pub used_by : List Call → List ℕ
@@ -24,7 +24,7 @@ used_by (call ∷ calls) = take call.taken.used call.piece ++ used_by calls
 -- all blocks that they gave, in order
 abbrev pub given_by : List Call → List (List ℕ)
 given_by [] = []
-given_by (call ∷ calls) = given call.taken.whole call.after.block ++ given_by calls
+given_by (call ∷ calls) = completed call.taken.whole call.after.block ++ given_by calls
 
 -- The blocks given are the complete runs of the bytes used, and the rest is pending.
 pub record GiveRuns (calls : List Call) (now : Split) : Type 0 where

@@ -28,14 +28,14 @@ abbrev pub equal_to : Bool → Text → List (List Item) → Comparison
 equal_to blind written choice = record { operator = Equal; blind = blind; written = written; choice = choice }
 
 -- `==` holds if and only if the choice fits one of the texts, each as it is
-abbrev pub ComparesAsItStands : Subject → Type 0
-ComparesAsItStands subject = (blind : Bool) (written : Text) (choice : List (List Item)) → holds subject (equal_to blind written choice) ≡ list_any (choice_fits choice) (texts_of subject)
+abbrev pub ComparesAsItIs : Subject → Type 0
+ComparesAsItIs subject = (blind : Bool) (written : Text) (choice : List (List Item)) → holds subject (equal_to blind written choice) ≡ list_any (choice_fits choice) (texts_of subject)
 
 -- A list has a last element, and that meets a condition.
 pub record HasLast {A : Type 0} (Meets : A → Type 0) (xs : List A) : Type 0 where
-  pub front : List A
+  pub beginning : List A
   pub last : A
-  pub whole : xs ≡ front ++ last ∷ []
+  pub whole : xs ≡ beginning ++ last ∷ []
   pub meets : Meets last
 
 -- a byte is whitespace

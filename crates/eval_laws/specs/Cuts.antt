@@ -4,8 +4,8 @@ use Rattle.text_bytes.specs.Names.{newline}
 
 -- No line is empty: the text begins with no newline, and no two are in a row.
 pub record HasNoEmptyLine (text : List ℕ) : Type 0 where
-  pub begins : (behind : List ℕ) → text ≢ newline ∷ behind
-  pub in_a_row : (before behind : List ℕ) → text ≢ before ++ newline ∷ newline ∷ behind
+  pub begins : (following : List ℕ) → text ≢ newline ∷ following
+  pub in_a_row : (before following : List ℕ) → text ≢ before ++ newline ∷ newline ∷ following
 
 -- A complete run ends in a newline, that of its last line. The newline of the empty line after it does not belong to
 -- it.

@@ -18,7 +18,7 @@ pub record IsFaulty (lines : List Text) (number : ℕ) (kind : BlockFaultKind) :
   pub above : List Text
   pub line : Text
   pub below : List Text
-  pub stands : lines ≡ above ++ line ∷ below
+  pub is_present : lines ≡ above ++ line ∷ below
   pub counted : number ≡ length above + 1
   pub wrong : line_fault (rows_of above) line below ≡ Some kind
 
@@ -39,7 +39,7 @@ has_device rows = list_any (is_kind Device) rows
 pub record IsGroup (group : List Row) : Type 0 where
   pub head : Row
   pub tail : List Row
-  pub stands : group ≡ head ∷ tail
+  pub is_present : group ≡ head ∷ tail
   pub begins : is_kind Device head ≡ true
   pub alone : has_device tail ≡ false
 

@@ -5,17 +5,17 @@ use Rattle.text_bytes.specs.Names.{equals}
 use Rattle.text_tables.specs.Texts.{Text}
 use Rattle.text_tables.specs.Pairs.{Pair}
 use Rattle.hwdb_lookup.specs.declared.entry.Entry.{Entry}
-use Rattle.eval_acts.specs.LookUps.{Candidate, answer, is_wanted}
+use Rattle.eval_acts.specs.LookUps.{Candidate, counted_properties, is_wanted}
 use Rattle.eval_acts.specs.declared.hwdb.Hwdb.{Hwdb}
 
 -- One of the texts is answered with these properties, and those before it give none.
 pub record IsFirstAnswer (entries : List Entry) (hwdb : Hwdb) (texts : List Text) (properties : List Pair) : Type 0 where
   pub before : List Text
   pub text : Text
-  pub behind : List Text
-  pub whole : texts ≡ before ++ text ∷ behind
-  pub nothing : flat_map (answer entries hwdb) before ≡ []
-  pub gives : answer entries hwdb text ≡ properties
+  pub following : List Text
+  pub whole : texts ≡ before ++ text ∷ following
+  pub nothing : flat_map (counted_properties entries hwdb) before ≡ []
+  pub gives : counted_properties entries hwdb text ≡ properties
 
 -- the texts of devices, nearest first: the modalias of each that is wanted and has one, after the prefix
 abbrev pub texts_of : Hwdb → List Candidate → List Text
@@ -27,11 +27,11 @@ option_word name value = name ++ equals ∷ value
 
 -- none of the words gives an option a value
 abbrev pub HasNoValue : Text → List Text → Type 0
-HasNoValue name words = (before : List Text) (value : Text) (behind : List Text) → ¬ (words ≡ before ++ option_word name value ∷ behind)
+HasNoValue name words = (before : List Text) (value : Text) (following : List Text) → ¬ (words ≡ before ++ option_word name value ∷ following)
 
 -- The last of the words that give an option a value gives it this one.
 pub record IsLastValue (name : Text) (words : List Text) (value : Text) : Type 0 where
   pub before : List Text
-  pub behind : List Text
-  pub whole : words ≡ before ++ option_word name value ∷ behind
-  pub last : HasNoValue name behind
+  pub following : List Text
+  pub whole : words ≡ before ++ option_word name value ∷ following
+  pub last : HasNoValue name following

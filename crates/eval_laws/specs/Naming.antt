@@ -13,7 +13,7 @@ HasNone byte text = list_any (λ b. b == byte) text ≡ false
 
 -- a subsystem and a kernel's name in brackets, and a text after them
 abbrev pub bracketed : Text → Text → Text → Text
-bracketed subsystem kernel behind = open_bracket ∷ (subsystem ++ slash ∷ (kernel ++ close_bracket ∷ behind))
+bracketed subsystem kernel following = open_bracket ∷ (subsystem ++ slash ∷ (kernel ++ close_bracket ∷ following))
 
 -- A name is written like this: the subsystem has no slash and the kernel's name no `]`, and the attribute follows
 -- them, perhaps after a slash.

@@ -8,50 +8,50 @@ use Rattle.text_tables.specs.Pairs.{Pair, value_of}
 use Rattle.rule_templates.specs.Template.{Parts as Template}
 use Rattle.rule_types.specs.declared.roles.MatchOperator.{MatchOperator}
 use Rattle.rule_types.specs.declared.part.Act.{Act}
-use Rattle.rule_types.specs.declared.part.Deed.TheVariants as deed
+use Rattle.rule_types.specs.declared.part.ActKind.TheVariants as act_kind
 use Rattle.rule_types.specs.declared.part.Import.TheVariants as import
 use Rattle.eval_state.specs.declared.scene.Scene.{Scene}
 use Rattle.eval_acts.specs.ActTexts.{import_text, most_command_bytes}
 use Rattle.eval_acts.specs.Words.{is_quote}
 use Rattle.eval_rendering.specs.declared.rendered.Rendered.TheVariants as outcome
 
--- Between blanks a text stands that neither begins nor ends with one, and is not empty.
+-- Between blanks there is a text that neither begins nor ends with one, and is not empty.
 pub record IsPadded (whole text : Text) : Type 0 where
   pub before : Text
-  pub behind : Text
-  pub cut : whole ≡ before ++ (text ++ behind)
+  pub following : Text
+  pub cut : whole ≡ before ++ (text ++ following)
   pub blank_before : All (λ b. is_blank b ≡ true) before
-  pub blank_behind : All (λ b. is_blank b ≡ true) behind
+  pub blank_after : All (λ b. is_blank b ≡ true) following
   pub first : ℕ
   pub rest : Text
   pub starts : text ≡ first ∷ rest
   pub dark_first : is_blank first ≡ false
-  pub front : Text
+  pub beginning : Text
   pub last : ℕ
-  pub ends : text ≡ front ++ last ∷ []
+  pub ends : text ≡ beginning ++ last ∷ []
   pub dark_last : is_blank last ≡ false
 
--- a value is written as it is, where it does not begin with a quote, or between two quotes of one kind, and may then be anything
+-- a value is written as it is, if it does not begin with a quote, or between two quotes of one kind, and may then be anything
 abbrev pub IsWritten : (written value : Text) → Type 0
 IsWritten written value =
     ((written ≡ value) × (list_any is_quote (take 1 written) ≡ false))
     ⊎ ((quote : ℕ) × (is_quote quote ≡ true) × (written ≡ quote ∷ value ++ quote ∷ []))
 
--- A line gives a property: it is no comment, before its first `=` the name stands, and after that the value is written.
+-- A line gives a property: it is not a comment, the name is before its first `=`, and the value is written after that.
 pub record IsGiven (line : Text) (property : Pair) : Type 0 where
-  pub front : Text
-  pub behind : Text
-  pub cut : line ≡ front ++ equals ∷ behind
-  pub first : list_any (λ b. b == equals) front ≡ false
-  pub name : IsPadded front property.0
+  pub beginning : Text
+  pub following : Text
+  pub cut : line ≡ beginning ++ equals ∷ following
+  pub first : list_any (λ b. b == equals) beginning ≡ false
+  pub name : IsPadded beginning property.0
   pub no_comment : begins_with hash property.0 ≡ false
   pub written : Text
-  pub value : IsPadded behind written
+  pub value : IsPadded following written
   pub meant : IsWritten written property.1
 
 -- an IMPORT{program} with an operator and a command
 abbrev pub program_import : MatchOperator → Template → Act
-program_import operator template = record { operator = operator; deed = deed.Import (import.Program template) }
+program_import operator template = record { operator = operator; kind = act_kind.Import (import.Program template) }
 
 -- The command of an IMPORT{program} is not too long, and the event's block answers it with status 0 and this text.
 pub record IsPrinted (template : Template) (s : Scene) (text : Text) : Type 0 where

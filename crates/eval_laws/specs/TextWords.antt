@@ -25,23 +25,23 @@ BeginsWithWord [] = Unit {0}
 BeginsWithWord (b ∷ text) = is_whitespace b ≡ false
 
 -- A word is at the first place of a text that is not whitespace, and reaches up to the next whitespace or to the end.
-pub record HasFirst (text word behind : Text) : Type 0 where
+pub record HasFirst (text word following : Text) : Type 0 where
   pub gap : Text
-  pub whole : text ≡ gap ++ (word ++ behind)
+  pub whole : text ≡ gap ++ (word ++ following)
   pub before : IsGap gap
   pub some : is_empty word ≡ false
   pub unbroken : HasNoWhitespace word
-  pub ends : BeginsWithGap behind
+  pub ends : BeginsWithGap following
 
 -- a text has these words, one after another, and whitespace around them
 abbrev pub HasWords : Text → List Text → Type 0
 HasWords text [] = IsGap text
-HasWords text (word ∷ more) = (behind : Text) × HasFirst text word behind × HasWords behind more
+HasWords text (word ∷ more) = (following : Text) × HasFirst text word following × HasWords following more
 
 -- A text has this end, which begins at the word with a number, the first having the number 0: before it come the
 -- words before that one. If there are no more words, the end is empty.
 pub record IsEndFromWord (number : ℕ) (text end : Text) : Type 0 where
-  pub front : Text
-  pub whole : text ≡ front ++ end
+  pub beginning : Text
+  pub whole : text ≡ beginning ++ end
   pub begins : BeginsWithWord end
   pub words_are : words end ≡ drop number (words text)

@@ -50,8 +50,8 @@ pub fn runs_that_are_there_stay_alone()
 
 /// With udev a tag that `-=` removes is not in the answer, but matches of tags still find it. `+=` leaves a tag
 /// that is in the answer and found, whether it was removed before or not, and so does `=`.
-pub fn a_tag_that_is_taken_away_is_met_and_not_told()
+pub fn a_tag_that_is_taken_away_is_met_and_not_reported()
     ensures met { (r : Rule) (template : templates.Parts) (s : Scene) (t : Text) → s.state.event.profile ≡ Udev → within most_name_bytes (render template s.state Plain) ≡ rendered.Text t → (set_step r s (record { operator = Remove; change = change.Text target.Tag template })).state.tags ≡ s.state.tags }
-    ensures not_told { (r : Rule) (template : templates.Parts) (s : Scene) (t : Text) → s.state.event.profile ≡ Udev → within most_name_bytes (render template s.state Plain) ≡ rendered.Text t → is_among (current_tags (set_step r s (record { operator = Remove; change = change.Text target.Tag template }))) t ≡ false }
-    ensures told { (r : Rule) (o : AssignOperator) (template : templates.Parts) (s : Scene) (t : Text) → s.state.event.profile ≡ Udev → within most_name_bytes (render template s.state Plain) ≡ rendered.Text t → o ≢ Remove → is_empty t ≡ false → is_tag t ≡ true → is_among (current_tags (set_step r s (record { operator = o; change = change.Text target.Tag template }))) t ≡ true }
+    ensures not_reported { (r : Rule) (template : templates.Parts) (s : Scene) (t : Text) → s.state.event.profile ≡ Udev → within most_name_bytes (render template s.state Plain) ≡ rendered.Text t → is_among (current_tags (set_step r s (record { operator = Remove; change = change.Text target.Tag template }))) t ≡ false }
+    ensures reported { (r : Rule) (o : AssignOperator) (template : templates.Parts) (s : Scene) (t : Text) → s.state.event.profile ≡ Udev → within most_name_bytes (render template s.state Plain) ≡ rendered.Text t → o ≢ Remove → is_empty t ≡ false → is_tag t ≡ true → is_among (current_tags (set_step r s (record { operator = o; change = change.Text target.Tag template }))) t ≡ true }
 {}

@@ -4,7 +4,7 @@ ghost use Rattle.std.specs.Prelude.{◌≡◌, ◌<◌, ◌+◌, ◌↔◌, ◌�
 ghost use Rattle.device_core.specs.Runs.{lines_inclusive, complete_runs, rest_of, runs};
 ghost use Rattle.eval_laws.specs.Cuts.{IsCutInto};
 ghost use Rattle.device_core.specs.RunBlocks.{blocks_of, up_to_faulty, most_bytes, is_too_long, line_of_excess, FindsAll, FindsFaulty};
-ghost use Rattle.device_core.specs.Splits.{Split, opened, given, Ends, FailsBy};
+ghost use Rattle.device_core.specs.Splits.{Split, opened, completed, SplitEnds, SplitFailsBy};
 ghost use Rattle.eval_laws.specs.Calls.{Call, TakesAll, used_by, given_by, GiveRuns, GiveAll, EndsTooLong};
 ghost use Rattle.device_core.specs.declared.splitter.SplitFault.TheVariants.{TooLong};
 
@@ -42,7 +42,7 @@ pub fn other_faults_end_the_blocks_sooner()
 {}
 
 /// The first excess byte of a run is in the last line of its first 65,537 bytes.
-pub fn excess_stands_in_the_last_line()
+pub fn excess_is_in_the_last_line()
     ensures { (run : List ℕ) → most_bytes < length run
         → line_of_excess run ≡ length (lines_inclusive (take (most_bytes + 1) run)) }
 {}
@@ -53,8 +53,8 @@ pub fn excess_stands_in_the_last_line()
 pub fn calls_give_the_blocks()
     ensures takes { (calls : List Call) (now : Split) → TakesAll opened calls now → GiveRuns calls now }
     ensures end { (calls : List Call) (now last : Split) (some : Bool)
-        → TakesAll opened calls now → Ends now some last → GiveAll calls (given some last.block) }
+        → TakesAll opened calls now → SplitEnds now some last → GiveAll calls (completed some last.block) }
     ensures too_long { (calls : List Call) (now last : Split) (piece : List ℕ) (line : ℕ)
-        → TakesAll opened calls now → FailsBy (TooLong line) now piece last
+        → TakesAll opened calls now → SplitFailsBy (TooLong line) now piece last
         → (later : List ℕ) → EndsTooLong (used_by calls ++ piece ++ later) (given_by calls) line }
 {}

@@ -45,7 +45,7 @@ pub fn assigned_texts_are_alone()
 
 /// `+=` leaves tags and links as they are, in their order, and adds after them those that are given and not there,
 /// as `=` leaves these.
-pub fn added_texts_stand_behind()
+pub fn added_texts_come_last()
     ensures order { (more texts : List Text) → changed Add more texts ≡ texts ++ filter (λ t. not (is_among texts t)) (changed Assign more []) }
     ensures members { (more texts : List Text) (t : Text) → is_among (changed Add more texts) t ≡ (is_among texts t || is_among more t) }
 {}
@@ -65,7 +65,7 @@ pub fn a_final_assignment_makes_its_key_final()
 
 /// An assignment of OWNER, GROUP or MODE that is made leaves its text, and with the empty text none. With udev the
 /// empty text keeps what was there, and so does an invalid mode; a mode is reported with four octal digits.
-pub fn assigned_texts_stand()
+pub fn assigned_texts_are_there()
     ensures owner { (r : Rule) (o : AssignOperator) (template : templates.Parts) (s : Scene) (t : Text) → s.state.event.profile ≡ Manual → is_final s.finals key.Owner ≡ false → render template s.state Plain ≡ rendered.Text t → (set_step r s (record { operator = o; change = change.Text target.Owner template })).owner ≡ (if is_empty t then None else Some t) }
     ensures group { (r : Rule) (o : AssignOperator) (template : templates.Parts) (s : Scene) (t : Text) → s.state.event.profile ≡ Manual → is_final s.finals key.Group ≡ false → render template s.state Plain ≡ rendered.Text t → (set_step r s (record { operator = o; change = change.Text target.Group template })).group ≡ (if is_empty t then None else Some t) }
     ensures mode { (r : Rule) (o : AssignOperator) (template : templates.Parts) (s : Scene) (t : Text) → s.state.event.profile ≡ Manual → is_final s.finals key.Mode ≡ false → render template s.state Plain ≡ rendered.Text t → (set_step r s (record { operator = o; change = change.Text target.Mode template })).mode ≡ (if is_empty t then None else Some t) }
@@ -77,7 +77,7 @@ pub fn assigned_texts_stand()
 /// A RUN that is not there, and whose written text is not empty, is the last of the runs after `+=`, and the only
 /// one after any other operator. One whose written text is empty is not added. udev adds the text that it is
 /// rendered to at its rule, if that has a word, after those that the operator leaves.
-pub fn new_runs_stand_last()
+pub fn new_runs_come_last()
     ensures added { (runs : List RunValue) (run : RunValue) → is_empty run.template.written ≡ false → list_any (same_run run) runs ≡ false → runs_after Add runs run ≡ runs ++ run ∷ [] }
     ensures alone { (o : AssignOperator) (runs : List RunValue) (run : RunValue) → o ≢ Add → is_empty run.template.written ≡ false → runs_after o runs run ≡ run ∷ [] }
     ensures empty { (runs : List RunValue) (run : RunValue) → is_empty run.template.written ≡ true → runs_after Add runs run ≡ runs }

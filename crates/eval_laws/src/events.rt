@@ -1,7 +1,7 @@
 //! What an author of rules relies on, whatever the rules, the event and the database are.
 //!
 //! Each function here is empty: its contract is the law.
-ghost use Rattle.std.specs.Prelude.{◌≡◌, ◌∷◌, ◌++◌, true, false, List, Option, Some, None};
+ghost use Rattle.std.specs.Prelude.{◌≡◌, ◌∷◌, ◌++◌, true, false, List, Option, Some};
 ghost use Rattle.std.specs.List.{list_any};
 ghost use Rattle.text_tables.specs.Texts.{Text};
 ghost use Rattle.hwdb_lookup.specs.declared.entry.Entry.{Entry};
@@ -14,7 +14,7 @@ ghost use Rattle.eval_state.specs.Scenes.{start};
 ghost use Rattle.eval_state.specs.declared.finals.FinalKey.{FinalKey};
 ghost use Rattle.eval_state.specs.declared.scene.Scene.{Scene};
 ghost use Rattle.eval_laws.specs.AssignmentLaws.{Keeps, may_be_final};
-ghost use Rattle.eval_rules.specs.Jumps.{run};
+ghost use Rattle.eval_rules.specs.Jumps.{run, run_all};
 ghost use Rattle.eval_rules.specs.Laws.{IsMetByOneDevice, NamesRise, SameButNotes, SameOutcomeButNotes, plain_hold};
 ghost use Rattle.eval_rules.specs.Outcomes.{outcome, outcome_of};
 ghost use Rattle.eval_rules.specs.Steps.{apply};
@@ -39,7 +39,7 @@ pub fn unmatched_events_stay_as_they_are()
 /// the rules between them are skipped. That this rule is in the same file is a law of rules as they are read,
 /// `jumps_stay_in_their_files`.
 pub fn jumps_lead_to_the_next_label()
-    ensures { (entries : List Entry) (name : Text) (landing : Rule) (behind : List Rule) → landing.label ≡ Some name → (r : Rule) (between : List Rule) (s : Scene) → r.goto ≡ Some name → (apply entries r s).1 ≡ true → ¬ HasLabel name between → run entries None (r ∷ (between ++ landing ∷ behind)) s ≡ run entries None (landing ∷ behind) (apply entries r s).0 }
+    ensures { (entries : List Entry) (name : Text) (landing : Rule) (following : List Rule) → landing.label ≡ Some name → (r : Rule) (between : List Rule) (s : Scene) → r.goto ≡ Some name → (apply entries r s).1 ≡ true → ¬ HasLabel name between → run_all entries (r ∷ (between ++ landing ∷ following)) s ≡ run_all entries (landing ∷ following) (apply entries r s).0 }
 {}
 
 /// A key that is final keeps its value through any further rules, of whatever files, and stays final. For udev the

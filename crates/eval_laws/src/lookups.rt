@@ -17,7 +17,7 @@ ghost use Rattle.builtin_devices.specs.declared.numbers.Base.TheVariants.{Hexade
 ghost use Rattle.eval_state.specs.Texts.{or_empty};
 ghost use Rattle.eval_state.specs.declared.state.State.{State};
 ghost use Rattle.eval_acts.specs.Hwdb.{hwdb_of};
-ghost use Rattle.eval_acts.specs.LookUps.{Candidate, answer, candidate, candidates, found, is_last, texts};
+ghost use Rattle.eval_acts.specs.LookUps.{Candidate, candidate, candidates, counted_properties, found, is_last, texts};
 ghost use Rattle.eval_acts.specs.UsbModalias.{four_digits, number_of};
 ghost use Rattle.eval_acts.specs.declared.hwdb.Hwdb.{Hwdb};
 ghost use Rattle.eval_laws.specs.LookUps.{HasNoValue, IsFirstAnswer, IsLastValue, texts_of};
@@ -26,24 +26,24 @@ ghost use Rattle.eval_laws.specs.LookUps.{HasNoValue, IsFirstAnswer, IsLastValue
 /// only if no text has one.
 pub fn the_first_answer_is_found()
     ensures some { (entries : List Entry) (hwdb : Hwdb) (state : State) (properties : List Pair) → is_empty properties ≡ false → (found entries hwdb state ≡ properties) ↔ IsFirstAnswer entries hwdb (texts hwdb state) properties }
-    ensures none { (entries : List Entry) (hwdb : Hwdb) (state : State) → (found entries hwdb state ≡ []) ↔ (flat_map (answer entries hwdb) (texts hwdb state) ≡ []) }
+    ensures none { (entries : List Entry) (hwdb : Hwdb) (state : State) → (found entries hwdb state ≡ []) ↔ (flat_map (counted_properties entries hwdb) (texts hwdb state) ≡ []) }
 {}
 
 /// A modalias that is given is the only text, after the prefix. Without one, the texts are the modaliases
 /// of the wanted devices, nearest first, each after the prefix: up to the first wanted device whose
-/// subsystem is `usb` and whose DEVTYPE is `usb_device`, with that one, and where there is none, of all.
+/// subsystem is `usb` and whose DEVTYPE is `usb_device`, with that one, or of all if there is none.
 /// With udev the first text of that device or one after it is still looked up, and none after that.
-pub fn no_device_behind_a_usb_device_is_asked()
+pub fn no_device_after_a_usb_device_is_asked()
     ensures given { (hwdb : Hwdb) (state : State) (modalias : Text) → hwdb.modalias ≡ Some modalias → texts hwdb state ≡ (hwdb.prefix ++ modalias) ∷ [] }
-    ensures up_to { (hwdb : Hwdb) (state : State) (before behind : List Candidate) (last : Candidate) → state.event.profile ≡ Manual → hwdb.modalias ≡ None → candidates state ≡ before ++ last ∷ behind → list_any (is_last hwdb.subsystem) before ≡ false → is_last hwdb.subsystem last ≡ true → texts hwdb state ≡ texts_of hwdb (before ++ last ∷ []) }
-    ensures udev { (hwdb : Hwdb) (state : State) (before behind : List Candidate) (last : Candidate) → state.event.profile ≡ Udev → hwdb.modalias ≡ None → candidates state ≡ before ++ last ∷ behind → list_any (is_last hwdb.subsystem) before ≡ false → is_last hwdb.subsystem last ≡ true → texts hwdb state ≡ texts_of hwdb before ++ take 1 (texts_of hwdb (last ∷ behind)) }
+    ensures up_to { (hwdb : Hwdb) (state : State) (before following : List Candidate) (last : Candidate) → state.event.profile ≡ Manual → hwdb.modalias ≡ None → candidates state ≡ before ++ last ∷ following → list_any (is_last hwdb.subsystem) before ≡ false → is_last hwdb.subsystem last ≡ true → texts hwdb state ≡ texts_of hwdb (before ++ last ∷ []) }
+    ensures udev { (hwdb : Hwdb) (state : State) (before following : List Candidate) (last : Candidate) → state.event.profile ≡ Udev → hwdb.modalias ≡ None → candidates state ≡ before ++ last ∷ following → list_any (is_last hwdb.subsystem) before ≡ false → is_last hwdb.subsystem last ≡ true → texts hwdb state ≡ texts_of hwdb before ++ take 1 (texts_of hwdb (last ∷ following)) }
     ensures all { (hwdb : Hwdb) (state : State) → hwdb.modalias ≡ None → list_any (is_last hwdb.subsystem) (candidates state) ≡ false → texts hwdb state ≡ texts_of hwdb (candidates state) }
 {}
 
 /// A device that has the property MODALIAS is looked up by it. With udev a USB device without it has `usb:v`, four
-/// digits, `p`, four digits, a colon and the product's name, cut off after 2,047 bytes, where both attributes are
-/// numbers of at most 65,535; the digits are those of these numbers. By the manual it has none, and neither has any
-/// other device with udev.
+/// digits, `p`, four digits, a colon and the product's name, cut off after 2,047 bytes, if both attributes are
+/// numbers of at most 65,535; the digits are those of these numbers. By the manual it has none, and with udev no other
+/// device has one.
 pub fn a_usb_device_may_have_a_modalias_made_up()
     ensures own { (profile : Profile) (device : DeviceValue) (env : List Pair) (modalias : Text) → value_of env (codes "MODALIAS") ≡ Some modalias → (candidate profile device env).modalias ≡ Some modalias }
     ensures made { (device : DeviceValue) (env : List Pair) (vendor product : ℕ) → value_of env (codes "MODALIAS") ≡ None → is_of (codes "usb") (Some (codes "usb_device")) device ≡ true → number_of device (codes "idVendor") ≡ Some vendor → number_of device (codes "idProduct") ≡ Some product → (candidate Udev device env).modalias ≡ Some (take 2047 (codes "usb:v" ++ four_digits vendor ++ codes "p" ++ four_digits product ++ codes ":" ++ or_empty (value_of device.attrs (codes "product")))) }

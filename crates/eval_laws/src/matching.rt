@@ -15,7 +15,7 @@ ghost use Rattle.rule_types.specs.declared.part.Comparison.{Comparison};
 ghost use Rattle.rule_types.specs.declared.part.UpMatch.{UpMatch};
 ghost use Rattle.eval_state.specs.Chains.{device_at};
 ghost use Rattle.eval_state.specs.declared.state.State.{State};
-ghost use Rattle.eval_laws.specs.Comparing.{ComparesAsItStands, ComparesWithoutItsEnd};
+ghost use Rattle.eval_laws.specs.Comparing.{ComparesAsItIs, ComparesWithoutItsEnd};
 ghost use Rattle.eval_matching.specs.Holding.{agrees, holds, members, one};
 ghost use Rattle.eval_matching.specs.Laws.{IsFirstToMeet, NoneMeets};
 ghost use Rattle.eval_matching.specs.Subjects.{found_place, is_known, plain_subject, up_subject};
@@ -37,16 +37,16 @@ pub fn a_list_differs_where_no_member_fits()
 
 /// `==` of any key except ATTR and ATTRS holds if and only if the choice fits a text that the key looks at, as it
 /// is. With udev that is so for keys other than SUBSYSTEM, and those of links and tags.
-pub fn texts_are_compared_as_they_stand()
-    ensures event { (key : PlainKey) (state : State) → state.event.profile ≡ Manual → ((name : Text) → ¬ (key ≡ plain.Attr name)) → ComparesAsItStands (plain_subject key state) }
-    ensures device { (key : UpKey) (state : State) (place : ℕ) → state.event.profile ≡ Manual → ((name : Text) → ¬ (key ≡ up.Attrs name)) → ComparesAsItStands (up_subject key state place) }
-    ensures udev_event { (key : PlainKey) (state : State) → ((name : Text) → ¬ (key ≡ plain.Attr name)) → key ≢ plain.Subsystem → key ≢ plain.Symlink → key ≢ plain.Tag → ComparesAsItStands (plain_subject key state) }
-    ensures udev_device { (key : UpKey) (state : State) (place : ℕ) → ((name : Text) → ¬ (key ≡ up.Attrs name)) → key ≢ up.Tags → ComparesAsItStands (up_subject key state place) }
-    ensures program { (state : State) → ComparesAsItStands (one state.result) }
+pub fn texts_are_compared_as_they_are()
+    ensures event { (key : PlainKey) (state : State) → state.event.profile ≡ Manual → ((name : Text) → ¬ (key ≡ plain.Attr name)) → ComparesAsItIs (plain_subject key state) }
+    ensures device { (key : UpKey) (state : State) (place : ℕ) → state.event.profile ≡ Manual → ((name : Text) → ¬ (key ≡ up.Attrs name)) → ComparesAsItIs (up_subject key state place) }
+    ensures udev_event { (key : PlainKey) (state : State) → ((name : Text) → ¬ (key ≡ plain.Attr name)) → key ≢ plain.Subsystem → key ≢ plain.Symlink → key ≢ plain.Tag → ComparesAsItIs (plain_subject key state) }
+    ensures udev_device { (key : UpKey) (state : State) (place : ℕ) → ((name : Text) → ¬ (key ≡ up.Attrs name)) → key ≢ up.Tags → ComparesAsItIs (up_subject key state place) }
+    ensures program { (state : State) → ComparesAsItIs (one state.result) }
 {}
 
 /// CONST looks at the constant of its name as it is, and if the event gives none, `==` fails and `!=` holds.
-pub fn constants_are_compared_as_they_stand()
+pub fn constants_are_compared_as_they_are()
     ensures given { (name text : Text) (state : State) (wanted : Comparison) → is_known name ≡ true → value_of state.event.constants name ≡ Some text → holds (plain_subject (plain.Const name) state) wanted ≡ agrees wanted.operator (choice_fits wanted.choice text) }
     ensures absent { (name : Text) (state : State) (wanted : Comparison) → is_known name ≡ true → value_of state.event.constants name ≡ None → holds (plain_subject (plain.Const name) state) wanted ≡ agrees wanted.operator false }
 {}

@@ -30,8 +30,8 @@ pub fn a_written_property_is_read_back()
     ensures comment { (blanks rest : Text) → All (λ b. is_blank b ≡ true) blanks → line_property (blanks ++ hash ∷ rest) ≡ None }
 {}
 
-/// With udev IMPORT{program} sets the properties of what its command printed, where the event's block answers it with
-/// status 0, and nothing else: neither the result of a PROGRAM nor a link, with either operator. Where it fails, the
+/// With udev IMPORT{program} sets the properties of what its command printed, if the event's block answers it with
+/// status 0, and nothing else: neither the result of a PROGRAM nor a link, with either operator. If it fails, the
 /// properties are as they were.
 pub fn a_program_that_is_imported_sets_what_it_printed()
     ensures answered { (entries : List Entry) (rule : Rule) (operator : MatchOperator) (template : templates.Parts) (scene : Scene) (text : Text) → scene.state.event.profile ≡ Udev → IsPrinted template scene text → (act_step entries rule (program_import operator template) scene).0 ≡ with_env (properties_set scene.state.env (printed_properties text)) scene }

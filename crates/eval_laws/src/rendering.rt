@@ -1,6 +1,6 @@
 //! What is true of a rendered text, whatever the template and the event.
 ghost use Rattle.std.specs.Prelude.{◌≡◌, ◌<◌, ◌∷◌, ◌++◌, false, flat_map, length, take, List, None, Some, ℕ};
-ghost use Rattle.text_bytes.specs.Texts.{is_empty};
+ghost use Rattle.text_bytes.specs.Texts.{is_empty, trimmed};
 ghost use Rattle.text_bytes.specs.declared.profile.Profile.TheVariants.{Manual, Udev};
 ghost use Rattle.text_tables.specs.Pairs.{value_of};
 ghost use Rattle.text_tables.specs.Texts.{Text};
@@ -9,13 +9,13 @@ ghost use Rattle.rule_templates.specs.declared.piece.Piece.{Piece};
 ghost use Rattle.rule_templates.specs.declared.piece.Piece.TheVariants as piece;
 ghost use Rattle.eval_state.specs.Chains.{device_at};
 ghost use Rattle.eval_state.specs.Named.{NamedValue, named, named_place};
-ghost use Rattle.eval_state.specs.Texts.{or_empty, trimmed};
+ghost use Rattle.eval_state.specs.Texts.{or_empty};
 ghost use Rattle.eval_rendering.specs.Bounds.{bounded};
 ghost use Rattle.eval_rendering.specs.Pieces.{attribute, named_attribute, piece_text};
 ghost use Rattle.text_links.specs.Safe.{attribute_marks, link_marks, safe};
 ghost use Rattle.rule_templates.specs.Template as templates;
 ghost use Rattle.eval_state.specs.declared.state.State as states;
-ghost use Rattle.eval_rendering.specs.Rendering.{answer, render, text_in};
+ghost use Rattle.eval_rendering.specs.Rendering.{as_rendered, render, text_in};
 ghost use Rattle.eval_rendering.specs.declared.rendered.Mode.{Mode};
 ghost use Rattle.eval_rendering.specs.declared.rendered.Mode.TheVariants.{Link};
 ghost use Rattle.eval_rendering.specs.declared.rendered.Rendered.TheVariants as rendered;
@@ -34,8 +34,8 @@ pub fn rendered_links_are_safe()
 /// By the manual a text is rendered piece by piece, and too long only if the whole of it is. For udev a text is
 /// also too long if it has an attribute of over 511 bytes that is not named with its device.
 pub fn long_attributes_are_too_long()
-    ensures manual { (template : templates.Parts) (state : states.State) (mode : Mode) → state.event.profile ≡ Manual → render template state mode ≡ answer mode (bounded (flat_map (text_in mode state) template.pieces)) }
-    ensures udev { (template : templates.Parts) (state : states.State) (mode : Mode) (before behind : List Piece) (name : Text) → state.event.profile ≡ Udev → template.pieces ≡ before ++ piece.Attr name ∷ behind → named_attribute name state.event ≡ None → 511 < length (or_empty (attribute name state)) → render template state mode ≡ rendered.TooLong }
+    ensures manual { (template : templates.Parts) (state : states.State) (mode : Mode) → state.event.profile ≡ Manual → render template state mode ≡ as_rendered mode (bounded (flat_map (text_in mode state) template.pieces)) }
+    ensures udev { (template : templates.Parts) (state : states.State) (mode : Mode) (before following : List Piece) (name : Text) → state.event.profile ≡ Udev → template.pieces ≡ before ++ piece.Attr name ∷ following → named_attribute name state.event ≡ None → 511 < length (or_empty (attribute name state)) → render template state mode ≡ rendered.TooLong }
 {}
 
 /// With udev an attribute that is named with its device is that of this device in any text, made safe, up to its

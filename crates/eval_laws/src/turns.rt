@@ -14,7 +14,7 @@ ghost use Rattle.eval_rendering.specs.Rendering.{render};
 ghost use Rattle.eval_rendering.specs.declared.rendered.Mode.TheVariants.{Plain};
 ghost use Rattle.eval_rendering.specs.declared.rendered.Rendered.TheVariants as rendered;
 ghost use Rattle.eval_assignments.specs.Steps.{set_step};
-ghost use Rattle.eval_rules.specs.Jumps.{run};
+ghost use Rattle.eval_rules.specs.Jumps.{run_all};
 ghost use Rattle.eval_rules.specs.Idle.{is_idle};
 ghost use Rattle.eval_rules.specs.Outcomes.{by_name, commands, made_command, outcome_of};
 ghost use Rattle.eval_rules.specs.Steps.{apply};
@@ -28,8 +28,8 @@ pub fn a_rule_of_assignments_makes_them()
 
 /// A rule whose end is not reached, or that has no jump, is followed by the next one.
 pub fn the_next_rule_follows()
-    ensures stopped { (entries : List Entry) (r : Rule) (rules : List Rule) (s : Scene) → (apply entries r s).1 ≡ false → run entries None (r ∷ rules) s ≡ run entries None rules (apply entries r s).0 }
-    ensures plain { (entries : List Entry) (r : Rule) (rules : List Rule) (s : Scene) → r.goto ≡ None → run entries None (r ∷ rules) s ≡ run entries None rules (apply entries r s).0 }
+    ensures stopped { (entries : List Entry) (r : Rule) (rules : List Rule) (s : Scene) → (apply entries r s).1 ≡ false → run_all entries (r ∷ rules) s ≡ run_all entries rules (apply entries r s).0 }
+    ensures plain { (entries : List Entry) (r : Rule) (rules : List Rule) (s : Scene) → r.goto ≡ None → run_all entries (r ∷ rules) s ≡ run_all entries rules (apply entries r s).0 }
 {}
 
 /// Properties have the same values when they are sorted.
@@ -41,6 +41,6 @@ pub fn sorted_properties_have_their_values()
 /// known about the event, with the device that was selected when its rule was reached. Those that udev rendered at
 /// their rules follow them, in their order.
 pub fn commands_are_rendered_in_the_end()
-    ensures kept { (s : Scene) (before behind : List RunValue) (kept : RunValue) (text : Text) → s.runs ≡ before ++ kept ∷ behind → render kept.template (record s.state { selected = kept.selected }) Plain ≡ rendered.Text text → (outcome_of s).runs ≡ commands s.state before ++ record { kind = run_kind kept.braces; text = text } ∷ (commands s.state behind ++ map made_command s.made) }
+    ensures kept { (s : Scene) (before following : List RunValue) (kept : RunValue) (text : Text) → s.runs ≡ before ++ kept ∷ following → render kept.template (record s.state { selected = kept.selected }) Plain ≡ rendered.Text text → (outcome_of s).runs ≡ commands s.state before ++ record { kind = run_kind kept.braces; text = text } ∷ (commands s.state following ++ map made_command s.made) }
     ensures made { (s : Scene) → s.runs ≡ [] → (outcome_of s).runs ≡ map made_command s.made }
 {}

@@ -9,7 +9,8 @@ use Rattle.text_bytes.specs.Names.{bar}
 use Rattle.text_bytes.specs.Texts.{is_empty}
 use Rattle.text_tables.specs.Texts.{Text}
 use Rattle.text_core.specs.Choices.{is_bar}
-use Rattle.eval_matching.specs.Udev.{first_part, is_cut, last_is, passes, without_end}
+use Rattle.rule_templates.specs.Integers.{is_separator}
+use Rattle.eval_matching.specs.Udev.{first_part, last_is, passes, without_end}
 
 no_byte : {A : Type 0} → false ≡ true → A
 no_byte h = absurd (true≢false (sym h))
@@ -20,8 +21,8 @@ passing p [] rest h stops = stops
 passing p (b ∷ run) rest h stops = by (p b) h (λ h. passing p run rest h stops)
   where
     by : (c : Bool) → (c && list_all p run) ≡ true → (list_all p run ≡ true → prefix_len p (run ++ rest) ≡ length run) → cond c (1 + prefix_len p (run ++ rest)) 0 ≡ suc (length run)
-    by true h behind = let more : prefix_len p (run ++ rest) ≡ length run = behind h in omega (arith, more)
-    by false h behind = no_byte h
+    by true h following = let more : prefix_len p (run ++ rest) ≡ length run = following h in omega (arith, more)
+    by false h following = no_byte h
 
 -- bytes of which none is a bar
 others : (part : Text) → list_any is_bar part ≡ false → list_all (λ b. not (is_bar b)) part ≡ true
@@ -29,8 +30,8 @@ others [] h = refl
 others (b ∷ part) h = by (is_bar b) h (others part)
   where
     by : (c : Bool) → (c || list_any is_bar part) ≡ false → (list_any is_bar part ≡ false → list_all (λ b. not (is_bar b)) part ≡ true) → (not c && list_all (λ b. not (is_bar b)) part) ≡ true
-    by true h behind = no_byte (sym h)
-    by false h behind = behind h
+    by true h following = no_byte (sym h)
+    by false h following = following h
 
 drop_run : (run rest : Text) → drop (length run) (run ++ rest) ≡ rest
 drop_run [] rest = refl
@@ -55,13 +56,13 @@ before part rest h stops =
     ap (λ n. take n (part ++ rest)) (passing (λ b. not (is_bar b)) part rest (others part h) stops) ∙ take-append_seam part rest
 
 -- what follows bars
-behind : (bars rest : Text) → list_all is_bar bars ≡ true → prefix_len is_bar rest ≡ 0 → drop (prefix_len is_bar (bars ++ rest)) (bars ++ rest) ≡ rest
-behind bars rest h stops = ap (λ n. drop n (bars ++ rest)) (passing is_bar bars rest h stops) ∙ drop_run bars rest
+following : (bars rest : Text) → list_all is_bar bars ≡ true → prefix_len is_bar rest ≡ 0 → drop (prefix_len is_bar (bars ++ rest)) (bars ++ rest) ≡ rest
+following bars rest h stops = ap (λ n. drop n (bars ++ rest)) (passing is_bar bars rest h stops) ∙ drop_run bars rest
 
 between : (bars part rest : Text) → list_all is_bar bars ≡ true → list_any is_bar part ≡ false → prefix_len is_bar (part ++ rest) ≡ 0 → prefix_len (λ b. not (is_bar b)) rest ≡ 0
     → first_part (bars ++ (part ++ rest)) ≡ part
 between bars part rest all none some stops =
-    ap (λ t. take (prefix_len (λ b. not (is_bar b)) t) t) (behind bars (part ++ rest) all some) ∙ before part rest none stops
+    ap (λ t. take (prefix_len (λ b. not (is_bar b)) t) t) (following bars (part ++ rest) all some) ∙ before part rest none stops
 
 pub first_of_several : (bars part rest : Text) → list_all is_bar bars ≡ true → list_any is_bar part ≡ false → is_empty part ≡ false → first_part (bars ++ (part ++ bar ∷ rest)) ≡ part
 first_of_several bars part rest all none some = between bars part (bar ∷ rest) all none (no_bar part (bar ∷ rest) none some) refl
@@ -75,41 +76,41 @@ first_alone bars part all none = ap (λ t. first_part (bars ++ t)) (sym (append_
 
 -- ---- ends
 
-not_last : (text : Text) → last_is is_cut text ≡ false → 0 < length text → is_cut (get_or text (length text - 1) 0) ≡ false
+not_last : (text : Text) → last_is is_separator text ≡ false → 0 < length text → is_separator (get_or text (length text - 1) 0) ≡ false
 not_last text h some =
-    ap (passes is_cut) (sym (slice_get-get_or text (length text - 1) 0 (omega (arith, some)))) ∙ h
+    ap (passes is_separator) (sym (slice_get-get_or text (length text - 1) 0 (omega (arith, some)))) ∙ h
 
-pub cut_off : (text end : Text) → list_all is_cut end ≡ true → last_is is_cut text ≡ false → without_end (text ++ end) ≡ text
+pub cut_off : (text end : Text) → list_all is_separator end ≡ true → last_is is_separator text ≡ false → without_end (text ++ end) ≡ text
 cut_off text end all last = ap (λ n. take n (text ++ end)) kept ∙ take-append_seam text end
   where
     size : length (text ++ end) ≡ length text + length end
     size = length-append text end
 
-    cut : (k : ℕ) → length text ≤ k → k < length (text ++ end) → is_cut (get_or (text ++ end) k 0) ≡ true
+    cut : (k : ℕ) → length text ≤ k → k < length (text ++ end) → is_separator (get_or (text ++ end) k 0) ≡ true
     cut k low high =
-        ap is_cut (get_or-append_right text end (length text) k 0 refl low) ∙ each (k - length text) (omega (arith, size, low, high))
+        ap is_separator (get_or-append_right text end (length text) k 0 refl low) ∙ each (k - length text) (omega (arith, size, low, high))
       where
-        at : (xs : Text) (i : ℕ) → list_all is_cut xs ≡ true → i < length xs → is_cut (get_or xs i 0) ≡ true
+        at : (xs : Text) (i : ℕ) → list_all is_separator xs ≡ true → i < length xs → is_separator (get_or xs i 0) ≡ true
         at [] i h few = absurd (omega (arith, few))
-        at (b ∷ xs) zero h few = first (is_cut b) h
+        at (b ∷ xs) zero h few = first (is_separator b) h
           where
-            first : (c : Bool) → (c && list_all is_cut xs) ≡ true → c ≡ true
+            first : (c : Bool) → (c && list_all is_separator xs) ≡ true → c ≡ true
             first true h = refl
             first false h = no_byte h
-        at (b ∷ xs) (suc i) h few = at xs i (rest (is_cut b) h) (omega (arith, few))
+        at (b ∷ xs) (suc i) h few = at xs i (rest (is_separator b) h) (omega (arith, few))
           where
-            rest : (c : Bool) → (c && list_all is_cut xs) ≡ true → list_all is_cut xs ≡ true
+            rest : (c : Bool) → (c && list_all is_separator xs) ≡ true → list_all is_separator xs ≡ true
             rest true h = h
             rest false h = no_byte h
 
-        each : (i : ℕ) → i < length end → is_cut (get_or end i 0) ≡ true
+        each : (i : ℕ) → i < length end → is_separator (get_or end i 0) ≡ true
         each i few = at end i all few
 
-    stops : 0 < length text → is_cut (get_or (text ++ end) (length text - 1) 0) ≡ false
-    stops some = ap is_cut (get_or_append_left text end 0 (length text - 1) (omega (arith, some))) ∙ not_last text last some
+    stops : 0 < length text → is_separator (get_or (text ++ end) (length text - 1) 0) ≡ false
+    stops some = ap is_separator (get_or_append_left text end 0 (length text - 1) (omega (arith, some))) ∙ not_last text last some
 
-    count : suffix_len is_cut (text ++ end) ≡ length (text ++ end) - length text
-    count = suffix_len_is is_cut (text ++ end) (length text) 0 (omega (arith, size)) cut stops
+    count : suffix_len is_separator (text ++ end) ≡ length (text ++ end) - length text
+    count = suffix_len_is is_separator (text ++ end) (length text) 0 (omega (arith, size)) cut stops
 
-    kept : length (text ++ end) - suffix_len is_cut (text ++ end) ≡ length text
+    kept : length (text ++ end) - suffix_len is_separator (text ++ end) ≡ length text
     kept = omega (arith, size, count)

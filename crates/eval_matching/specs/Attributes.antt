@@ -1,13 +1,13 @@
 -- Which attribute a match of ATTR or ATTRS looks at.
-use Rattle.std.specs.Prelude.{ℕ, Bool, false, not, ◌&&◌, ◌||◌, ◌==◌, if◌then◌else◌, is_none, List, Option, Some, None, option_map}
-use Rattle.std.specs.List.{list_any}
+use Rattle.std.specs.Prelude.{ℕ, Bool, false, not, ◌&&◌, if◌then◌else◌, is_none, List, Option, Some, None, option_map}
 use Rattle.std.specs.Option.{option_and_then}
-use Rattle.text_bytes.specs.Names.{dollar, open_bracket, percent}
+use Rattle.text_bytes.specs.Names.{open_bracket}
 use Rattle.text_bytes.specs.Texts.{begins_with, is_empty}
 use Rattle.text_bytes.specs.declared.profile.Profile.{Profile}
 use Rattle.text_bytes.specs.declared.profile.Profile.TheVariants as profile
 use Rattle.text_tables.specs.Texts.{Text}
 use Rattle.text_tables.specs.Pairs.{Pair, value_of}
+use Rattle.rule_templates.specs.Substituted.{has_sign}
 use Rattle.device_core.specs.Values.{EventValue}
 use Rattle.eval_state.specs.Chains.{device_at}
 use Rattle.eval_state.specs.Named.{NamedValue, named, named_place}
@@ -21,15 +21,11 @@ use Rattle.eval_matching.specs.Udev.{capped}
 abbrev pub attribute_of : EventValue → Text → ℕ → Option Text
 attribute_of event name place = option_and_then (λ device. value_of device.attrs name) (device_at event place)
 
--- whether a name has a byte that begins a substitution
-abbrev pub has_sign : Text → Bool
-has_sign name = list_any (λ b. b == dollar || b == percent) name
-
 -- whether udev renders a name: one that does not begin with `[`, and has such a byte
 abbrev pub is_rendered : Text → Bool
 is_rendered name = not (begins_with open_bracket name) && has_sign name
 
--- what udev finds by a name: of one that it renders by what comes of that, where it is not too long
+-- what udev finds by a name: for a name that it renders, by the result, if that is not too long
 unfoldable pub udev_value : Text → State → List Pair → Option Text
 udev_value name state attrs = if is_rendered name then option_and_then (value_of attrs) (short (name_text name state)) else value_of attrs name
 
@@ -47,7 +43,7 @@ abbrev pub is_elsewhere : EventValue → Option NamedValue → Bool
 is_elsewhere event None = false
 is_elsewhere event (Some n) = not (is_empty n.attribute) && is_none (named_place n event)
 
--- whether udev would read an attribute of this name where a dry run does not: one of a device that the block does not have
+-- whether udev would read an attribute of this name and a dry run does not: one of a device that the block does not have
 abbrev pub is_unknown : Text → EventValue → Bool
 is_unknown name event = begins_with open_bracket name && is_elsewhere event (named name)
 

@@ -9,7 +9,7 @@ use Rattle.text_core.specs.declared.item.Item.TheVariants as item
 use Rattle.rule_types.specs.declared.roles.MatchOperator.{MatchOperator}
 use Rattle.rule_types.specs.declared.roles.MatchOperator.TheVariants.{Equal, NotEqual}
 use Rattle.rule_types.specs.declared.part.Comparison.{Comparison}
-use Rattle.eval_state.specs.Texts.{trimmed}
+use Rattle.text_bytes.specs.Texts.{trimmed}
 use Rattle.eval_matching.specs.Udev.{compared_with, last_is, members_fit, subsystem_fits}
 
 -- what a match looks at: one text; an attribute or a constant, each of which may be absent; texts, of which some

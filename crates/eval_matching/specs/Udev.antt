@@ -1,11 +1,12 @@
 -- How udev of systemd 257 compares, where this differs from the manual.
-use Rattle.std.specs.Prelude.{ℕ, ◌-◌, Bool, false, not, ◌||◌, ◌==◌, if◌then◌else◌, List, length, map, take, slice_get, Option, Some, None, codes}
+use Rattle.std.specs.Prelude.{ℕ, ◌-◌, Bool, false, not, ◌||◌, if◌then◌else◌, List, length, map, take, slice_get, Option, Some, None, codes}
 use Rattle.std.specs.Char.{to_ascii_lowercase}
 use Rattle.std.specs.List.{prefix_len, suffix_len, list_any}
-use Rattle.text_bytes.specs.Names.{carriage_return, is_blank, is_whitespace, newline}
+use Rattle.text_bytes.specs.Names.{is_whitespace}
 use Rattle.text_bytes.specs.Texts.{skip_while}
 use Rattle.text_tables.specs.Texts.{Text, same_text}
 use Rattle.text_core.specs.Choices.{choice_fits, is_bar}
+use Rattle.rule_templates.specs.Integers.{is_separator}
 use Rattle.rule_types.specs.declared.part.Comparison.{Comparison}
 
 -- whether there is an element, and it passes
@@ -36,15 +37,11 @@ members_fit wanted texts = same_text wanted.written (codes "?*") || list_any (ch
 
 -- the first of the texts between bars that is not empty; the empty text if there is none
 abbrev pub first_part : Text → Text
-first_part value = let behind = skip_while is_bar value in take (prefix_len (λ b. not (is_bar b)) behind) behind
+first_part value = let following = skip_while is_bar value in take (prefix_len (λ b. not (is_bar b)) following) following
 
 -- whether an attribute is compared without the white space at its end: the first of the texts between bars that is not empty has none at its own
 abbrev pub trims : Text → Bool
 trims value = last_is (λ b. not (is_whitespace b)) (first_part value)
-
--- a byte that is cut off at the end of an attribute: a space, a tab, a line feed or a carriage return
-abbrev pub is_cut : ℕ → Bool
-is_cut b = is_blank b || (b == newline || b == carriage_return)
 
 -- the most bytes of an attribute that are compared if it is compared without its end
 abbrev pub most_compared : ℕ
@@ -54,9 +51,9 @@ most_compared = 511
 abbrev pub capped : Text → Text
 capped text = take most_compared text
 
--- a text without the bytes at its end that are cut off
+-- a text without the spaces, tabs and ends of lines at its end
 abbrev pub without_end : Text → Text
-without_end text = take (length text - suffix_len is_cut text) text
+without_end text = take (length text - suffix_len is_separator text) text
 
 -- an attribute as it is compared with a value
 abbrev pub compared_with : Text → Text → Text

@@ -6,9 +6,9 @@ ghost use Rattle.rule_types.specs.declared.roles.PlainKey.TheVariants as plain;
 ghost use Rattle.rule_types.specs.declared.roles.UpKey.TheVariants as up;
 ghost use Rattle.eval_state.specs.Named.{named, named_place};
 ghost use Rattle.eval_state.specs.Texts.{or_empty};
-ghost use Rattle.eval_matching.specs.Attributes.{attribute_by, attribute_of, found_value, has_sign, is_elsewhere, is_not_read, is_rendered, is_unknown, named_value, own_attribute, sought, udev_subject, udev_value, value_by};
+ghost use Rattle.eval_matching.specs.Attributes.{attribute_by, attribute_of, found_value, is_elsewhere, is_not_read, is_rendered, is_unknown, named_value, own_attribute, sought, udev_subject, udev_value, value_by};
 ghost use Rattle.eval_matching.specs.Holding.{holds};
-ghost use Rattle.eval_matching.specs.Lent.{lent_subject};
+ghost use Rattle.eval_matching.specs.Borrowed.{borrowed_subject};
 ghost use Rattle.eval_matching.specs.Subjects.{plain_subject, up_subject};
 ghost use Rattle.eval_matching.specs.Udev.{capped};
 ghost use Rattle.eval_state.specs.Chains.{device_at};
@@ -18,6 +18,7 @@ use crate::holding::attribute_holds;
 use crate::udev;
 use eval_rendering::rendered_name;
 use eval_state::{Chain, Named, State};
+use rule_templates::has_sign;
 use rule_types::Comparison;
 use text_bytes::{Profile, begins_with};
 use text_tables::Pairs;
@@ -38,13 +39,6 @@ fn attribute_of<'a>(chain: &Chain<'a>, name: &[u8], place: usize) -> Option<&'a 
     ensures { option_map (λ value. value.now) result ≡ attribute_of chain.now name.now place }
 {
     chain.device_at(place)?.attrs().get(name)
-}
-
-/// Whether a name has a byte that begins a substitution.
-fn has_sign(name: &[u8]) -> bool
-    ensures { result ≡ has_sign name.now }
-{
-    name.iter().any(|byte| *byte == b'$' || *byte == b'%')
 }
 
 /// Whether a name is that of an attribute of a device that is not in the chain.
@@ -115,7 +109,7 @@ fn named_value<'a>(chain: &Chain<'a>, named: Option<Named<'_>>) -> Option<&'a [u
     found_value(chain, named.attribute, chain.named_place(&named))
 }
 
-/// The value of a name once that is rendered, where the device at a place is selected, or none.
+/// The value of a name once that is rendered, with the device at a place selected, or with none selected.
 fn value_of_rendered<'a>(
     state: &State<'_>,
     selected: Option<usize>,
@@ -200,7 +194,7 @@ fn udev_attribute<'a>(
     place: usize,
     name: &[u8],
 ) -> Attribute<'a>
-    ensures { lent_subject result ≡ udev_subject name.now state.now.event (own_attribute name.now (record state.now { selected = selected }) place) }
+    ensures { borrowed_subject result ≡ udev_subject name.now state.now.event (own_attribute name.now (record state.now { selected = selected }) place) }
 {
     if is_unknown(name, &state.event) {
         Attribute::NotRead
@@ -209,15 +203,15 @@ fn udev_attribute<'a>(
     }
 }
 
-/// What a match of an attribute looks at, at a place of the chain, where the device at another place is selected, or
-/// none.
+/// What a match of an attribute looks at, at a place of the chain, with the device at another place selected, or with
+/// none selected.
 fn attribute_by<'a>(
     state: &State<'a>,
     selected: Option<usize>,
     place: usize,
     name: &[u8],
 ) -> Attribute<'a>
-    ensures { lent_subject result ≡ attribute_by state.now.event.profile name.now state.now.event (own_attribute name.now (record state.now { selected = selected }) place) }
+    ensures { borrowed_subject result ≡ attribute_by state.now.event.profile name.now state.now.event (own_attribute name.now (record state.now { selected = selected }) place) }
 {
     match state.event.event().profile() {
         Profile::Manual => Attribute::Manual(own_attribute(state, selected, place, name)),
@@ -226,11 +220,11 @@ fn attribute_by<'a>(
 }
 
 /// What a match of ATTR looks at: by the manual the attribute of the event device that has this name. As udev of
-/// systemd 257 has it, a name with a `$` or a `%` is rendered first, and no attribute has one that comes to more than
+/// systemd 257 has it, a name with a `$` or a `%` is rendered first, and no attribute has a name that is then longer than
 /// 511 bytes; but `[SUBSYSTEM/KERNEL]ATTRIBUTE` is an attribute of a device of the chain, its first 511 bytes, and
-/// empty where that device has none.
+/// empty if that device does not have it.
 pub fn event_attribute<'a>(state: &State<'a>, name: &[u8]) -> Attribute<'a>
-    ensures { lent_subject result ≡ plain_subject (plain.Attr name.now) state.now }
+    ensures { borrowed_subject result ≡ plain_subject (plain.Attr name.now) state.now }
 {
     attribute_by(state, state.selected, 0, name)
 }
@@ -238,15 +232,15 @@ pub fn event_attribute<'a>(state: &State<'a>, name: &[u8]) -> Attribute<'a>
 /// What a match of ATTRS looks at, at a place of the chain: what ATTR would look at if the device there were the event
 /// device, and were selected.
 pub fn attribute_at<'a>(state: &State<'a>, place: usize, name: &[u8]) -> Attribute<'a>
-    ensures { lent_subject result ≡ up_subject (up.Attrs name.now) state.now place }
+    ensures { borrowed_subject result ≡ up_subject (up.Attrs name.now) state.now place }
 {
     attribute_by(state, Some(place), place, name)
 }
 
 /// Whether a comparison holds for what a match of ATTR or ATTRS looks at.
 #[tactic(auto, unfolding(crate::specs::Holding::holds))]
-pub(crate) fn lent_holds(wanted: &Comparison, attribute: &Attribute<'_>) -> bool
-    ensures { result ≡ holds (lent_subject attribute.now) wanted.now }
+pub(crate) fn borrowed_holds(wanted: &Comparison, attribute: &Attribute<'_>) -> bool
+    ensures { result ≡ holds (borrowed_subject attribute.now) wanted.now }
 {
     match attribute {
         Attribute::Manual(value) => attribute_holds(wanted, *value),

@@ -11,7 +11,7 @@ pub fn some_values()
     ensures empty { trims (codes "") ≡ false }
     ensures first { trims (codes "a |b") ≡ false }
     ensures last { trims (codes "a|b ") ≡ true }
-    ensures behind_bars { trims (codes "||x|y ") ≡ true }
+    ensures after_bars { trims (codes "||x|y ") ≡ true }
     ensures bars { trims (codes "||") ≡ false }
 {}
 

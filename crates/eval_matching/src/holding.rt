@@ -5,9 +5,8 @@ ghost use Rattle.text_core.specs.Choices.{choice_fits};
 ghost use Rattle.eval_matching.specs.Holding.{agrees, as_compared, attribute, constant, ends_in_whitespace, holds, is_whitespace_item, members, one, unread};
 ghost use Rattle.eval_matching.specs.Udev.{last_is};
 
-use eval_state::trimmed;
 use rule_types::{Comparison, MatchOperator};
-use text_bytes::is_whitespace;
+use text_bytes::{is_whitespace, trimmed};
 use text_core::{Choice, Item, Pattern};
 
 /// An answer, by an operator: `==` leaves it as it is, and `!=` negates it.

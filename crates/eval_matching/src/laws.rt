@@ -8,6 +8,8 @@ ghost use Rattle.text_core.specs.Choices.{is_bar};
 ghost use Rattle.text_tables.specs.Texts.{Text, same_text};
 ghost use Rattle.text_tables.specs.Pairs.{Pair, value_of};
 ghost use Rattle.device_core.specs.Values.{DeviceValue, EventValue};
+ghost use Rattle.rule_templates.specs.Integers.{is_separator};
+ghost use Rattle.rule_templates.specs.Substituted.{has_sign};
 ghost use Rattle.rule_types.specs.declared.part.Comparison.{Comparison};
 ghost use Rattle.rule_types.specs.declared.roles.PlainKey.TheVariants as plain;
 ghost use Rattle.rule_types.specs.declared.roles.UpKey.TheVariants as up;
@@ -16,10 +18,10 @@ ghost use Rattle.eval_state.specs.Named.{NamedValue, named, named_place};
 ghost use Rattle.eval_state.specs.Texts.{or_empty};
 ghost use Rattle.eval_state.specs.declared.state.State.{State};
 ghost use Rattle.eval_rendering.specs.Names.{name_text};
-ghost use Rattle.eval_matching.specs.Attributes.{has_sign, udev_subject, udev_value};
+ghost use Rattle.eval_matching.specs.Attributes.{udev_subject, udev_value};
 ghost use Rattle.eval_matching.specs.Holding.{holds, udev_attribute, udev_unread};
 ghost use Rattle.eval_matching.specs.Subjects.{plain_subject, up_subject};
-ghost use Rattle.eval_matching.specs.Udev.{capped, first_part, is_cut, last_is, without_end};
+ghost use Rattle.eval_matching.specs.Udev.{capped, first_part, last_is, without_end};
 
 /// For udev, ATTR with an attribute that the device does not have fails, with `==` and with `!=`.
 pub fn an_absent_attribute_fails_both()
@@ -56,12 +58,12 @@ pub fn a_device_that_is_tried_is_selected()
 {}
 
 /// The first part of a value follows its first bars, and before the next one or its end.
-pub fn the_first_part_stands_between_bars()
+pub fn the_first_part_is_between_bars()
     ensures last { (bars part : Text) → list_all is_bar bars ≡ true → list_any is_bar part ≡ false → first_part (bars ++ part) ≡ part }
     ensures others { (bars part rest : Text) → list_all is_bar bars ≡ true → list_any is_bar part ≡ false → is_empty part ≡ false → first_part (bars ++ (part ++ bar ∷ rest)) ≡ part }
 {}
 
-/// What is cut off at the end of an attribute is all of its bytes there that may be cut off, and no other.
+/// What is cut off at the end of an attribute is all of the spaces, tabs and ends of lines there, and no other byte.
 pub fn all_that_may_be_cut_off_is()
-    ensures { (text end : Text) → list_all is_cut end ≡ true → last_is is_cut text ≡ false → without_end (text ++ end) ≡ text }
+    ensures { (text end : Text) → list_all is_separator end ≡ true → last_is is_separator text ≡ false → without_end (text ++ end) ≡ text }
 {}

@@ -19,7 +19,7 @@ pub use holding::agrees;
 pub use laws::{
     a_device_that_is_tried_is_selected, a_name_with_a_sign_is_rendered,
     a_named_device_is_looked_at, a_plain_name_looks_at_the_device, all_that_may_be_cut_off_is,
-    an_absent_attribute_fails_both, the_first_part_stands_between_bars,
+    an_absent_attribute_fails_both, the_first_part_is_between_bars,
 };
 pub use plain::{is_known_constant, plain_holds, result_holds};
 pub use upward::{driver_at, found_place, holds_at, subsystem_at};

@@ -4,7 +4,7 @@ ghost use Rattle.eval_state.specs.Texts.{or_empty};
 ghost use Rattle.eval_matching.specs.Holding.{holds, one};
 ghost use Rattle.eval_matching.specs.Subjects.{is_known, members_by, named_constant, plain_subject, subsystem_by};
 
-use crate::attributes::{event_attribute, lent_holds};
+use crate::attributes::{borrowed_holds, event_attribute};
 use crate::holding::{constant_holds, members_hold, text_holds, unread_holds};
 use crate::udev;
 use eval_state::State;
@@ -62,15 +62,15 @@ pub(crate) fn kept_hold(wanted: &Comparison, state: &State<'_>, texts: &[Vec<u8>
 }
 
 /// Whether a match of the event holds, as udev(7) has it: for each key what it looks at is compared
-/// with the choice. Of SYMLINK and TAG, `!=` holds where no member fits; an absent attribute or constant
-/// fails `==` and meets `!=`; whitespace at the end of an attribute counts only where the choice ends in
+/// with the choice. Of SYMLINK and TAG, `!=` holds if no member fits; an absent attribute or constant
+/// fails `==` and meets `!=`; whitespace at the end of an attribute counts only if the choice ends in
 /// whitespace; SYSCTL is not read, and counts as absent.
 ///
 /// Of an event of udev's as udev of systemd 257 has it: substitutions in the name of an attribute are made; an attribute
-/// that is absent or not read fails `==` and `!=`; of an attribute that is there at most 511 bytes are compared, without the spaces, tabs, line feeds and carriage
-/// returns at its end, unless the first of the texts between bars that is not empty ends in whitespace, or all are
-/// empty; `subsystem`, `bus` and `class`, each alone in a value of SUBSYSTEM, fit each of the three; `?*` fits SYMLINK
-/// and TAG also where there are none.
+/// that is absent or not read fails `==` and `!=`; of an attribute that is there at most 511 bytes are compared,
+/// without the spaces, tabs, line feeds and carriage returns at its end, unless the first of the texts between bars
+/// that is not empty ends in whitespace, or all are empty; `subsystem`, `bus` and `class`, each alone in a value of
+/// SUBSYSTEM, fit each of the three; `?*` fits SYMLINK and TAG even if there are none.
 pub fn plain_holds(part: &PlainMatch, state: &State<'_>) -> bool
     ensures { result ≡ holds (plain_subject part.now.key state.now) part.now.wanted }
 {
@@ -85,7 +85,7 @@ pub fn plain_holds(part: &PlainMatch, state: &State<'_>) -> bool
         PlainKey::Name => text_holds(wanted, name(state)),
         PlainKey::Symlink => kept_hold(wanted, state, state.links.as_slice()),
         PlainKey::Tag => kept_hold(wanted, state, state.tags.as_slice()),
-        PlainKey::Attr(name) => lent_holds(wanted, &event_attribute(state, name.as_slice())),
+        PlainKey::Attr(name) => borrowed_holds(wanted, &event_attribute(state, name.as_slice())),
         PlainKey::Sysctl(_) => unread_holds(wanted),
         PlainKey::Env(name) => text_holds(wanted, state.property(name.as_slice())),
         PlainKey::Const(name) => named_constant_holds(wanted, name.as_slice(), state),

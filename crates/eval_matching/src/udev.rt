@@ -4,12 +4,14 @@ ghost use Rattle.std.specs.Char.{to_ascii_lowercase};
 ghost use Rattle.std.specs.List.{list_any, prefix_len, suffix_len};
 ghost use Rattle.text_tables.specs.Texts.{same_text};
 ghost use Rattle.text_core.specs.Choices.{choice_fits, is_bar};
+ghost use Rattle.rule_templates.specs.Integers.{is_separator};
 ghost use Rattle.eval_matching.specs.Holding.{holds, udev_attribute, udev_members, udev_subsystem};
-ghost use Rattle.eval_matching.specs.Udev.{as_spelled, capped, compared_with, first_part, is_cut, means_each, members_fit, subsystem_fits, trims, without_end};
+ghost use Rattle.eval_matching.specs.Udev.{as_spelled, capped, compared_with, first_part, means_each, members_fit, subsystem_fits, trims, without_end};
 
 use crate::holding::{agrees, some_fits, some_given_fits};
+use rule_templates::is_separator;
 use rule_types::Comparison;
-use text_bytes::{is_blank, is_whitespace};
+use text_bytes::is_whitespace;
 
 /// The most bytes of an attribute that are compared if it is compared without its end.
 const MAX_COMPARED: usize = 511;
@@ -124,8 +126,8 @@ fn before_bar(text: &[u8]) -> usize
 fn first_part(value: &[u8]) -> &[u8]
     ensures { result.now ≡ first_part value.now }
 {
-    let (_, behind) = value.split_at(leading_bars(value));
-    behind.split_at(before_bar(behind)).0
+    let (_, following) = value.split_at(leading_bars(value));
+    following.split_at(before_bar(following)).0
 }
 
 /// Whether an attribute is compared without the white space at its end.
@@ -138,23 +140,18 @@ fn trims(value: &[u8]) -> bool
     }
 }
 
-/// Whether a byte is cut off at the end of an attribute: a space, a tab, a line feed or a carriage
-/// return.
-fn is_cut(byte: u8) -> bool
-    ensures { result ≡ is_cut byte }
-{
-    is_blank(byte) || byte == b'\n' || byte == b'\r'
-}
-
-/// How many bytes are cut off at the end of an attribute.
+/// How many spaces, tabs and ends of lines a text ends in.
 fn end_len(text: &[u8]) -> usize
-    ensures value { result ≡ suffix_len is_cut text.now }
+    ensures value { result ≡ suffix_len is_separator text.now }
     ensures within { result ≤ length text.now }
 {
-    text.iter().rev().take_while(|byte| is_cut(**byte)).count()
+    text.iter()
+        .rev()
+        .take_while(|byte| is_separator(**byte))
+        .count()
 }
 
-/// A text without the bytes at its end that are cut off.
+/// A text without the spaces, tabs and ends of lines at its end.
 fn without_end(text: &[u8]) -> &[u8]
     ensures { result.now ≡ without_end text.now }
 {

@@ -7,7 +7,7 @@ ghost use Rattle.eval_state.specs.Chains.{device_at};
 ghost use Rattle.eval_matching.specs.Holding.{holds, one};
 ghost use Rattle.eval_matching.specs.Subjects.{found_place, holds_at, members_by, tags_at, up_subject};
 
-use crate::attributes::{attribute_at, lent_holds};
+use crate::attributes::{attribute_at, borrowed_holds};
 use crate::holding::{given_members_hold, text_holds};
 use crate::plain::kept_hold;
 use crate::udev;
@@ -71,7 +71,7 @@ pub fn holds_at(part: &UpMatch, state: &State<'_>, place: usize) -> bool
         UpKey::Subsystems => text_holds(wanted, subsystem_at(state, place)),
         UpKey::Drivers => text_holds(wanted, driver_at(state, place)),
         UpKey::Tags => tags_hold(wanted, state, place),
-        UpKey::Attrs(name) => lent_holds(wanted, &attribute_at(state, place, name.as_slice())),
+        UpKey::Attrs(name) => borrowed_holds(wanted, &attribute_at(state, place, name.as_slice())),
     }
 }
 

@@ -5,7 +5,7 @@ use Rattle.std.proofs.lemmas.List.{append-nil}
 use Rattle.std.specs.List.{list_any}
 use Rattle.text_tables.specs.Texts.{Text}
 use Rattle.rule_templates.specs.Bare.{has_close, is_attribute}
-use Rattle.rule_templates.specs.Reading.{kept, left_of, udev_front}
+use Rattle.rule_templates.specs.Reading.{kept, left_of, udev_first}
 use Rattle.rule_templates.specs.declared.piece.Piece.{Piece}
 use Rattle.rule_templates.specs.declared.piece.Piece.TheVariants as piece
 use Rattle.rule_templates.proofs.Bare.{no_attribute}
@@ -15,7 +15,7 @@ use Rattle.eval_rendering.specs.Bounds.{bounded, most_bytes}
 use Rattle.eval_rendering.specs.Lengthened.{lengthened}
 use Rattle.eval_rendering.specs.Names.{name_piece, name_text, short}
 use Rattle.eval_rendering.specs.Pieces.{has_long}
-use Rattle.eval_rendering.specs.Rendering.{answer, render, rendered_as_udev, text_in}
+use Rattle.eval_rendering.specs.Rendering.{as_rendered, render, rendered_as_udev, text_in}
 use Rattle.eval_rendering.specs.declared.rendered.Mode.TheVariants.{Plain}
 use Rattle.eval_rendering.specs.declared.rendered.Rendered.TheVariants as rendered
 
@@ -38,31 +38,36 @@ lengthened_twice (Some t) a b = short_then (t ++ a) b ∙ ap short (append_assoc
 pub lengthened_nothing : (s : Option Text) (a : Text) → lengthened (lengthened s a) [] ≡ lengthened s a
 lengthened_nothing s a = lengthened_twice s a [] ∙ ap (lengthened s) (append-nil a)
 
+-- a name that is too long stays that
+pub long_stays : (s : Option Text) (more : Text) → s ≡ None → lengthened s more ≡ s
+long_stays None more e = refl
+long_stays (Some t) more e = cc
+
 module _ (state : State) where
   -- the first piece, and the others
-  name_first : (b : ℕ) (t rest : Text) (p : Piece) (next : Text) → rest ≡ b ∷ t → kept b t (udev_front b t) ≡ Some (p, next) → name_text rest state ≡ name_piece state p ++ name_text next state
+  name_first : (b : ℕ) (t rest : Text) (p : Piece) (next : Text) → rest ≡ b ∷ t → kept b t (udev_first b t) ≡ Some (p, next) → name_text rest state ≡ name_piece state p ++ name_text next state
   unfolding name_text
   name_first b t rest p next e found = ap (flat_map (name_piece state)) (sym (left_first b t rest p next e found))
 
   -- one piece more is put after a name
-  pub name_goes_on : (b : ℕ) (t rest : Text) (p : Piece) (next : Text) (s now : Option Text) → rest ≡ b ∷ t → kept b t (udev_front b t) ≡ Some (p, next) → now ≡ lengthened s (name_piece state p)
+  pub name_proceeds : (b : ℕ) (t rest : Text) (p : Piece) (next : Text) (s now : Option Text) → rest ≡ b ∷ t → kept b t (udev_first b t) ≡ Some (p, next) → now ≡ lengthened s (name_piece state p)
       → lengthened now (name_text next state) ≡ lengthened s (name_text rest state)
-  name_goes_on b t rest p next s now e found is =
+  name_proceeds b t rest p next s now e found is =
       ap (λ n. lengthened n (name_text next state)) is
       ∙ lengthened_twice s (name_piece state p) (name_text next state)
       ∙ ap (lengthened s) (sym (name_first b t rest p next e found))
 
-  -- where reading stops nothing more is in the name
-  pub name_stops : (b : ℕ) (t rest : Text) (s : Option Text) → rest ≡ b ∷ t → kept b t (udev_front b t) ≡ None → lengthened s [] ≡ s → lengthened s (name_text rest state) ≡ s
+  -- if reading stops, nothing more is in the name
+  pub name_stops : (b : ℕ) (t rest : Text) (s : Option Text) → rest ≡ b ∷ t → kept b t (udev_first b t) ≡ None → lengthened s [] ≡ s → lengthened s (name_text rest state) ≡ s
   unfolding name_text
   name_stops b t rest s e none fits = ap (λ ps. lengthened s (flat_map (name_piece state) ps)) (left_stops [] b t rest e none) ∙ fits
 
-  -- and where its end is reached
+  -- and if its end is reached
   pub name_ends : (rest : Text) (s : Option Text) → length rest ≡ 0 → lengthened s [] ≡ s → lengthened s (name_text rest state) ≡ s
   unfolding name_text
   name_ends rest s end fits = ap (λ ps. lengthened s (flat_map (name_piece state) ps)) (left_all [] rest end) ∙ fits
 
-  -- a piece that is no attribute is in a name as in any text
+  -- a piece that is not an attribute is in a name as in any text
   same_piece : (p : Piece) → is_attribute p ≡ false → name_piece state p ≡ text_in Plain state p
   same_piece (piece.Attr name) h = absurd (true≢false h)
   same_piece (piece.Plain text) h = refl
@@ -94,10 +99,10 @@ module _ (state : State) where
       by false e h more = ap (λ t. t ++ flat_map (name_piece state) ps) (same_piece p e) ∙ ap (λ t. text_in Plain state p ++ t) (more h)
 
   -- a text that is not too long is answered as it is
-  answered : (text whole : Text) → answer Plain (bounded whole) ≡ rendered.Text text → whole ≡ text
+  answered : (text whole : Text) → as_rendered Plain (bounded whole) ≡ rendered.Text text → whole ≡ text
   answered text whole = by (nat_lt most_bytes (length whole))
     where
-      by : (b : Bool) → answer Plain (cond b None (Some whole)) ≡ rendered.Text text → whole ≡ text
+      by : (b : Bool) → as_rendered Plain (cond b None (Some whole)) ≡ rendered.Text text → whole ≡ text
       by true h = cc
       by false h = cc
 
@@ -105,6 +110,6 @@ module _ (state : State) where
   unfolding name_text render
   rendered_name name text bare is = same_pieces (left_of name) (no_attribute name bare) ∙ by (has_long state.event.profile state (left_of name)) is
     where
-      by : (b : Bool) → cond b rendered.TooLong (answer Plain (bounded (flat_map (text_in Plain state) (left_of name)))) ≡ rendered.Text text → flat_map (text_in Plain state) (left_of name) ≡ text
+      by : (b : Bool) → cond b rendered.TooLong (as_rendered Plain (bounded (flat_map (text_in Plain state) (left_of name)))) ≡ rendered.Text text → flat_map (text_in Plain state) (left_of name) ≡ text
       by true h = cc
       by false h = answered text (flat_map (text_in Plain state) (left_of name)) h

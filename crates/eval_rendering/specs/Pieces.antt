@@ -3,7 +3,7 @@ use Rattle.std.specs.Prelude.{ℕ, ◌-◌, Bool, false, nat_lt, if◌then◌els
 use Rattle.std.specs.List.{list_any}
 use Rattle.std.specs.Option.{option_and_then}
 use Rattle.text_bytes.specs.Numbers.{is_digit}
-use Rattle.text_bytes.specs.Texts.{is_empty}
+use Rattle.text_bytes.specs.Texts.{is_empty, trimmed}
 use Rattle.text_bytes.specs.declared.profile.Profile.{Profile}
 use Rattle.text_bytes.specs.declared.profile.Profile.TheVariants.{Manual, Udev}
 use Rattle.text_tables.specs.Texts.{Text, same_text}
@@ -13,7 +13,7 @@ use Rattle.text_links.specs.Safe.{attribute_marks, safe}
 use Rattle.device_core.specs.Values.{DeviceValue, EventValue}
 use Rattle.rule_templates.specs.declared.piece.Piece.{Piece}
 use Rattle.rule_templates.specs.declared.piece.Piece.TheVariants as piece
-use Rattle.eval_state.specs.Texts.{or_empty, trimmed}
+use Rattle.eval_state.specs.Texts.{or_empty}
 use Rattle.eval_state.specs.Chains.{device_at, kernel_of}
 use Rattle.eval_state.specs.Named.{NamedValue, named, named_place}
 use Rattle.eval_state.specs.Start.{node_path}

@@ -24,29 +24,29 @@ is_raw (piece.From number) = true
 is_raw other = false
 
 -- whether a piece is put in as one word: in a link, unless it is raw
-abbrev pub is_word : Mode → Piece → Bool
-is_word Plain p = false
-is_word Link p = not (is_raw p)
+abbrev pub is_one_word : Mode → Piece → Bool
+is_one_word Plain p = false
+is_one_word Link p = not (is_raw p)
 
 -- what a piece is replaced with
 abbrev pub text_in : Mode → State → Piece → Text
-text_in mode state p = if is_word mode p then underscored (piece_text state p) else piece_text state p
+text_in mode state p = if is_one_word mode p then underscored (piece_text state p) else piece_text state p
 
 -- a whole text: in a link it is made safe
-abbrev pub finished : Mode → Text → Text
-finished Plain text = text
-finished Link text = safe link_marks text
+abbrev pub finished_text : Mode → Text → Text
+finished_text Plain text = text
+finished_text Link text = safe link_marks text
 
 -- a text as it is returned
-abbrev pub answer : Mode → Option Text → Rendered
-answer mode None = rendered.TooLong
-answer mode (Some text) = rendered.Text (finished mode text)
+abbrev pub as_rendered : Mode → Option Text → Rendered
+as_rendered mode None = rendered.TooLong
+as_rendered mode (Some text) = rendered.Text (finished_text mode text)
 
 -- a template with each substitution made, unless that is too long
 unfoldable pub render : Template → State → Mode → Rendered
 render template state mode =
     if has_long state.event.profile state template.pieces then rendered.TooLong
-    else answer mode (bounded (flat_map (text_in mode state) template.pieces))
+    else as_rendered mode (bounded (flat_map (text_in mode state) template.pieces))
 
 -- a text that udev renders only as it evaluates a rule, taking what reading leaves of it
 abbrev pub rendered_as_udev : Text → State → Rendered

@@ -3,10 +3,10 @@ use Rattle.std.specs.Prelude.{map}
 use Rattle.text_tables.specs.Texts.{Text}
 use Rattle.eval_rendering.specs.declared.pieces.PieceText.{PieceText}
 use Rattle.eval_rendering.specs.Words.{spaced}
-use Rattle.eval_rendering.specs.declared.pieces.PieceText.TheVariants.{Lent, Made, Spaced}
+use Rattle.eval_rendering.specs.declared.pieces.PieceText.TheVariants.{Borrowed, Made, Spaced}
 
 -- the text that a piece has
 abbrev pub shown : PieceText → Text
-shown (Lent text) = text.now
+shown (Borrowed text) = text.now
 shown (Made text) = text.items
 shown (Spaced texts) = spaced (map (λ t. t.items) texts.now)

@@ -17,7 +17,7 @@ use crate::words::{from_word, number_as, word_at};
 use eval_state::State;
 use rule_templates::{Cut, Piece, kept};
 
-/// The kernel's name of the device at the place that is selected, empty where none is.
+/// The kernel's name of the device at the place that is selected, empty if none is.
 fn kernel_at<'s>(state: &'s State<'_>, selected: Option<usize>) -> &'s [u8]
     ensures { result.now ≡ or_empty (option_map kernel_of (selected_device (record state.now { selected = selected }))) }
 {
@@ -27,7 +27,7 @@ fn kernel_at<'s>(state: &'s State<'_>, selected: Option<usize>) -> &'s [u8]
     }
 }
 
-/// The driver of the device at the place that is selected, empty where there is none.
+/// The driver of the device at the place that is selected, empty if there is none.
 fn driver_at<'a>(state: &State<'a>, selected: Option<usize>) -> &'a [u8]
     ensures { result.now ≡ or_empty (option_and_then (λ device. device.driver) (selected_device (record state.now { selected = selected }))) }
 {
@@ -95,7 +95,7 @@ fn push_cut(state: &State<'_>, selected: Option<usize>, cut: &Cut<'_>, text: &mu
     }
 }
 
-/// The name of an attribute with its substitutions made, as udev of systemd 257 makes them where a match asks for it:
+/// The name of an attribute with its substitutions made, as udev of systemd 257 makes them when a match asks for it:
 /// all after a fault is left out, and `$id` and `$driver` stand for the device at the place that is given as selected.
 pub fn rendered_name(state: &State<'_>, selected: Option<usize>, name: &[u8]) -> ShortName
     ensures { result ≡ short (name_text name.now (record state.now { selected = selected })) }

@@ -16,17 +16,17 @@ use crate::attributes::{attribute_as, selected_device};
 use crate::bounded_text::BoundedText;
 use crate::spaced_words::spaced_word;
 use crate::words::{from_word, number_as, word_at};
-use eval_state::{State, node_path, trimmed};
+use eval_state::{State, node_path};
 use rule_templates::Piece;
 use std::alloc::{AllocError, Global};
-use text_bytes::Profile;
+use text_bytes::{Profile, trimmed};
 use text_links::{attribute_safe, underscored};
 
 /// The text of a piece.
 #[derive(Debug, Drop)]
 pub(crate) enum PieceText<'s> {
     /// One that is borrowed.
-    Lent(&'s [u8]),
+    Borrowed(&'s [u8]),
     /// One that was made for the piece.
     Made(Vec<u8>),
     /// Several that are borrowed, joined by spaces.
@@ -39,7 +39,7 @@ impl<'s> PieceText<'s> {
         ensures { OnOk result (text.new ≡ joined text.old (shown self.now)) }
     {
         match self {
-            PieceText::Lent(found) => text.push(found),
+            PieceText::Borrowed(found) => text.push(found),
             PieceText::Made(found) => text.push(found),
             PieceText::Spaced(found) => text.push_spaced(found),
         }
@@ -50,7 +50,7 @@ impl<'s> PieceText<'s> {
         ensures { IfOk result (λ word. bounded word.items ≡ bounded (underscored (shown self.now))) }
     {
         match self {
-            PieceText::Lent(found) => underscored(alloc, found),
+            PieceText::Borrowed(found) => underscored(alloc, found),
             PieceText::Made(found) => underscored(alloc, found),
             PieceText::Spaced(found) => spaced_word(alloc, found),
         }
@@ -146,7 +146,7 @@ pub(crate) fn piece_text<'s>(
     ensures { IfOk result (λ text. shown text ≡ piece_text state.now piece.now) }
 {
     let profile = state.event.event().profile();
-    let lent = match piece {
+    let borrowed = match piece {
         Piece::Plain(text) => text.as_slice(),
         Piece::Kernel => state.event.kernel(),
         Piece::Number => number_as(profile, state.event.kernel()),
@@ -172,5 +172,5 @@ pub(crate) fn piece_text<'s>(
             return Ok(PieceText::Made(devnode(alloc, state.event.device().node())?));
         }
     };
-    Ok(PieceText::Lent(lent))
+    Ok(PieceText::Borrowed(borrowed))
 }

@@ -1,7 +1,7 @@
 //! A template, rendered.
 ghost use Rattle.std.specs.Prelude.{◌≡◌, IfOk, OnOk, option_map};
 ghost use Rattle.eval_rendering.specs.Bounds.{joined};
-ghost use Rattle.eval_rendering.specs.Rendering.{answer, finished, is_raw, is_word, render, rendered_as_udev, text_in};
+ghost use Rattle.eval_rendering.specs.Rendering.{as_rendered, finished_text, is_one_word, is_raw, render, rendered_as_udev, text_in};
 
 use crate::attributes::has_long;
 use crate::bounded_text::BoundedText;
@@ -27,8 +27,8 @@ fn is_raw(piece: &Piece) -> bool
 }
 
 /// Whether a piece is put in as one word.
-fn is_word(mode: Mode, piece: &Piece) -> bool
-    ensures { result ≡ is_word mode piece.now }
+fn is_one_word(mode: Mode, piece: &Piece) -> bool
+    ensures { result ≡ is_one_word mode piece.now }
 {
     match mode {
         Mode::Plain => false,
@@ -47,7 +47,7 @@ fn push_piece(
     ensures { OnOk result (text.new ≡ joined text.old (text_in mode state.now piece.now)) }
 {
     let found = piece_text(alloc, state, piece)?;
-    if is_word(mode, piece) {
+    if is_one_word(mode, piece) {
         let word = found.to_word(alloc)?;
         text.push(&word)
     } else {
@@ -56,8 +56,8 @@ fn push_piece(
 }
 
 /// A whole text: in a link it is made safe.
-fn finished(alloc: Global, text: Vec<u8>, mode: Mode) -> Result<Vec<u8>, AllocError>
-    ensures { IfOk result (λ whole. whole.items ≡ finished mode text.items) }
+fn finished_text(alloc: Global, text: Vec<u8>, mode: Mode) -> Result<Vec<u8>, AllocError>
+    ensures { IfOk result (λ whole. whole.items ≡ finished_text mode text.items) }
 {
     match mode {
         Mode::Plain => Ok(text),
@@ -66,11 +66,11 @@ fn finished(alloc: Global, text: Vec<u8>, mode: Mode) -> Result<Vec<u8>, AllocEr
 }
 
 /// A text as it is returned.
-fn answer(alloc: Global, text: Option<Vec<u8>>, mode: Mode) -> Result<Rendered, AllocError>
-    ensures { IfOk result (λ rendered. rendered ≡ answer mode (option_map (λ t. t.items) text)) }
+fn as_rendered(alloc: Global, text: Option<Vec<u8>>, mode: Mode) -> Result<Rendered, AllocError>
+    ensures { IfOk result (λ rendered. rendered ≡ as_rendered mode (option_map (λ t. t.items) text)) }
 {
     match text {
-        Some(text) => Ok(Rendered::Text(Bytes::new(finished(alloc, text, mode)?))),
+        Some(text) => Ok(Rendered::Text(Bytes::new(finished_text(alloc, text, mode)?))),
         None => Ok(Rendered::TooLong),
     }
 }
@@ -103,7 +103,7 @@ pub fn render(
             return Ok(Rendered::TooLong);
         }
     }
-    answer(alloc, text.into_text(), mode)
+    as_rendered(alloc, text.into_text(), mode)
 }
 
 /// A text that udev renders only as it evaluates a rule, such as the name of a parameter: it is read as udev reads

@@ -45,12 +45,16 @@ impl ShortName {
         }
     }
 
-    /// Puts texts, each with a space before it, after the name.
+    /// Puts texts, each with a space before it, after the name; once that is too long, no more are looked at.
+    #[tactic(auto, using(crate::proofs::Naming::long_stays))]
     fn push_others(&mut self, others: &[Vec<u8>])
         requires { lengthened self.old [] ≡ self.old }
         ensures { self.new ≡ lengthened self.old (flat_map (λ other. space ∷ other.items) others.now) }
     {
         for other in others {
+            if !self.fits {
+                return;
+            }
             self.push(b" ");
             self.push(other);
         }

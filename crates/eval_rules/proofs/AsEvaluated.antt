@@ -1,4 +1,4 @@
--- A rule that is passed over leaves what it would leave if it were evaluated, but for the device that is selected and the keys that are
+-- A rule that is skipped leaves what it would leave if it were evaluated, except for the device that is selected and the keys that are
 -- final.
 use Rattle.std.proofs.Common.{◌≡◌, Bool, true, false, cond, not, ◌&&◌, ◌||◌, List, [], ◌∷◌, is_some, refl, ap, sym, ◌∙◌}
 use Rattle.std.specs.List.{fold, list_any}
@@ -15,11 +15,11 @@ use Rattle.rule_types.specs.declared.part.Change.TheVariants as change
 use Rattle.rule_types.specs.Rules.{Rule}
 use Rattle.eval_state.specs.declared.scene.Scene.{Scene}
 use Rattle.eval_assignments.specs.Steps.{set_step}
-use Rattle.eval_rules.specs.Idle.{applies, change_applies, change_counts, deed_counts, is_idle, is_idle_by, is_of_device, is_removal, note_all, note_step}
-use Rattle.eval_rules.specs.Steps.{Went, apply, only_noted, onward, set_all, steps, before_sets, with_selected}
-use Rattle.eval_rules.proofs.PassedOver.{Still, by_udev, note_still, noted_still, same_event, still_noted, tried_idle}
+use Rattle.eval_rules.specs.Idle.{act_kind_counts, applies, change_applies, change_counts, is_idle, is_idle_by, is_of_device, is_removal, note_all, note_step}
+use Rattle.eval_rules.specs.Steps.{Went, apply, only_noted, if_proceeding, set_all, steps, before_sets, with_selected}
+use Rattle.eval_rules.proofs.Skipped.{Still, by_udev, note_still, noted_still, same_event, still_noted, tried_idle}
 
--- an assignment of a text does not count where its key does not apply, unless the device goes
+-- an assignment of a text does not count if its key does not apply, unless the device is removed
 not_applying : (a b gone : Bool) → (a && not (b && gone)) ≡ false → gone ≡ false → a ≡ false
 not_applying false b gone h g = refl
 not_applying true true true h g = cc g
@@ -34,7 +34,7 @@ option_as r o t = refl
 noted_as : (r : Rule) (a : Assignment) (t : Scene) → change_applies a.change t.state.event.device ≡ false → note_step r t a ≡ set_step r t a
 noted_as r a t h = ap (λ b. cond b t (set_step r t a)) h
 
--- what comes of an assignment that does not count, in place of making it
+-- the result of an assignment that does not count, in place of making it
 step_as : (r : Rule) (t : Scene) (o : AssignOperator) (c : Change) → is_removal t.state.event ≡ false → change_counts c t.state.event ≡ false
     → note_step r t (record { operator = o; change = c }) ≡ set_step r t (record { operator = o; change = c })
 step_as r t o (change.Option Ignored) g n = option_as r o t
@@ -62,11 +62,11 @@ sets_as r t (a ∷ sets) udev g n =
     (ap (λ e. list_any (λ a. change_counts a.change e) sets) same ∙ neither_second (change_counts a.change t.state.event) _ n)
     ∙ ap (λ v. fold (set_step r) v sets) (step_as r t a.operator a.change g (neither_first (change_counts a.change t.state.event) _ n))
 
--- in a rule that is passed over no assignment counts
+-- in a rule that is skipped no assignment counts
 no_set_counts : (p : Profile) (r : Rule) (event : EventValue) → is_idle_by p r event ≡ true → list_any (λ a. change_counts a.change event) r.sets ≡ false
 unfolding is_idle_by
 no_set_counts Manual r event h = cc h
-no_set_counts Udev r event h = by (is_some r.goto) (list_any (λ act. deed_counts act.deed) r.acts) (list_any (λ a. change_counts a.change event) r.sets) h
+no_set_counts Udev r event h = by (is_some r.goto) (list_any (λ act. act_kind_counts act.kind) r.acts) (list_any (λ a. change_counts a.change event) r.sets) h
   where
     by : (a b c : Bool) → not (a || (b || c)) ≡ true → c ≡ false
     by true b c h = cc h
@@ -75,25 +75,25 @@ no_set_counts Udev r event h = by (is_some r.goto) (list_any (λ act. deed_count
     by false false false h = refl
 
 module _ (entries : List Entry) (r : Rule) (s : Scene) (idle : is_idle r s.state.event ≡ true) where
-  ends_as : (w : Went) → Still s w.0 → is_removal s.state.event ≡ false → (onward (note_all r) w).0 ≡ (onward (set_all r) w).0
+  ends_as : (w : Went) → Still s w.0 → is_removal s.state.event ≡ false → (if_proceeding (note_all r) w).0 ≡ (if_proceeding (set_all r) w).0
   ends_as w h g = by w.1
     where
       same : w.0.state.event ≡ s.state.event
       same = same_event s w.0 h
 
-      by : (b : Bool) → (onward (note_all r) (w.0, b)).0 ≡ (onward (set_all r) (w.0, b)).0
+      by : (b : Bool) → (if_proceeding (note_all r) (w.0, b)).0 ≡ (if_proceeding (set_all r) (w.0, b)).0
       by true =
           sets_as r w.0 r.sets (ap (λ (e : EventValue). e.profile) same ∙ by_udev s.state.event.profile r s.state.event idle) (ap is_removal same ∙ g)
           (ap (λ e. list_any (λ a. change_counts a.change e) r.sets) same ∙ no_set_counts s.state.event.profile r s.state.event idle)
       by false = refl
 
-  -- a rule that is passed over
+  -- a rule that is skipped
   pub passed_as : is_removal s.state.event ≡ false
       → apply entries r s ≡ (record (steps entries r s).0 { finals = s.finals; state = with_selected s.state.selected (steps entries r s).0.state }, false)
   unfolding apply steps
   passed_as g =
       ap (λ b. cond b (only_noted entries r s) (steps entries r s)) idle
-      ∙ ap (λ (t : Scene). (t, false)) (sym (still_noted s (onward (note_all r) (before_sets entries r s)).0 (noted_still entries r s idle)))
+      ∙ ap (λ (t : Scene). (t, false)) (sym (still_noted s (if_proceeding (note_all r) (before_sets entries r s)).0 (noted_still entries r s idle)))
       ∙ ap (λ (t : Scene). (record t { finals = s.finals; state = with_selected s.state.selected t.state }, false)) (ends_as (before_sets entries r s) (tried_idle entries r s idle) g)
 
 -- a rule by the manual

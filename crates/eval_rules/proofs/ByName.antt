@@ -3,7 +3,7 @@ use Rattle.std.proofs.Common.{◌≡◌, suc, ◌+◌, Bool, true, false, cond, 
 use Rattle.std.specs.List.{AllByRecursion, IsDistinct}
 use Rattle.std.specs.List.Sorted.{IsPermutation, IsSorted, IsStrictlySortedBy}
 use Rattle.std.specs.Map.{IsKeyTest, keys_of, lookup}
-use Rattle.std.specs.Ordering.{is_lt, ordering_reverse}
+use Rattle.std.specs.Ordering.{is_lt, match_ordering, ordering_reverse}
 use Rattle.std.specs.declared.cmp.Ordering.{Ordering}
 use Rattle.std.specs.declared.cmp.Ordering.TheVariants.{Less, Equal, Greater}
 use Rattle.std.specs.Cmp.Lexicographic.{bytes_decides, on_texts_equal}
@@ -14,10 +14,10 @@ use Rattle.std.proofs.lemmas.Option.{same_Some}
 use Rattle.std.proofs.lemmas.Map.Keys.{IsDistinct-IsPermutation}
 use Rattle.std.proofs.lemmas.Map.Lookups.{exact_bytes}
 use Rattle.indexmap.proofs.MapLemmas.{lookup_permutation}
-use Rattle.text_bytes.specs.Insertion.{by_order, text_order}
+use Rattle.text_bytes.specs.Insertion.{text_order}
 use Rattle.text_tables.specs.Texts.{Text, same_text, AreOnce}
 use Rattle.text_tables.specs.Pairs.{Pair, named, names, value_of, with_value, with_values}
-use Rattle.text_tables.proofs.Found.{set_behind, value_set}
+use Rattle.text_tables.proofs.Found.{set_after, value_set}
 use Rattle.text_tables.proofs.Held.{once}
 use Rattle.eval_rules.specs.Laws.{NamesRise}
 use Rattle.eval_rules.specs.Outcomes.{by_name, put}
@@ -51,8 +51,8 @@ apart a b l = by (same_text a b) refl
     by true e = absurd (differ a b l (is_same a b e))
     by false e = refl
 
-turned : (a b : Text) → text_order a b ≡ Greater → text_order b a ≡ Less
-turned a b h = nat_list_cmp_total.antisymm b a ∙ ap ordering_reverse h
+reversed : (a b : Text) → text_order a b ≡ Greater → text_order b a ≡ Less
+reversed a b h = nat_list_cmp_total.antisymm b a ∙ ap ordering_reverse h
 
 -- ---- names that rise
 
@@ -70,8 +70,8 @@ made : (t : Text) (ts : List Text) → AboveAll t ts → IsStrictlySortedBy text
 unfolding IsStrictlySortedBy
 made t ts a h = (a, h)
 
-rises_behind : (p : Pair) (ps : List Pair) → NamesRise (p ∷ ps) → Above p.0 ps × NamesRise ps
-rises_behind p ps h = parted p.0 (names ps) h
+rises_after : (p : Pair) (ps : List Pair) → NamesRise (p ∷ ps) → Above p.0 ps × NamesRise ps
+rises_after p ps h = parted p.0 (names ps) h
 
 rises_before : (p : Pair) (ps : List Pair) → Above p.0 ps → NamesRise ps → NamesRise (p ∷ ps)
 rises_before p ps a h = made p.0 (names ps) a h
@@ -90,7 +90,7 @@ above_further low high ps l h = further low high (names ps) l h
 -- ---- what is put in its place
 
 abbrev placed : Ordering → Pair → Pair → List Pair → List Pair → List Pair
-placed o e p ps behind = by_order o (p ∷ behind) (e ∷ ps) (e ∷ p ∷ ps)
+placed o e p ps following = match_ordering o (p ∷ following) (e ∷ ps) (e ∷ p ∷ ps)
 
 above_put : (name : Text) (ps : List Pair) (e : Pair) → Above name ps → text_order name e.0 ≡ Less → Above name (put ps e)
 above_put name [] e h he = (he, tt)
@@ -103,14 +103,14 @@ above_put name (p ∷ ps) e h he = by (text_order p.0 e.0) (above_put name ps e 
 
 put_rises : (ps : List Pair) (e : Pair) → NamesRise ps → NamesRise (put ps e)
 put_rises [] e h = rises_before e [] tt h
-put_rises (p ∷ ps) e h = by (text_order p.0 e.0) refl (put_rises ps e (rises_behind p ps h).1)
+put_rises (p ∷ ps) e h = by (text_order p.0 e.0) refl (put_rises ps e (rises_after p ps h).1)
   where
     by : (o : Ordering) → text_order p.0 e.0 ≡ o → NamesRise (put ps e) → NamesRise (placed o e p ps (put ps e))
-    by Less is more = rises_before p (put ps e) (above_put p.0 ps e (rises_behind p ps h).0 is) more
-    by Equal is more = rises_before e ps (subst (λ n. Above n ps) (exact_bytes p.0 e.0 is) (rises_behind p ps h).0) (rises_behind p ps h).1
+    by Less is more = rises_before p (put ps e) (above_put p.0 ps e (rises_after p ps h).0 is) more
+    by Equal is more = rises_before e ps (subst (λ n. Above n ps) (exact_bytes p.0 e.0 is) (rises_after p ps h).0) (rises_after p ps h).1
     by Greater is more =
-        let less : text_order e.0 p.0 ≡ Less = turned p.0 e.0 is in
-        rises_before e (p ∷ ps) (less, above_further e.0 p.0 ps less (rises_behind p ps h).0) h
+        let less : text_order e.0 p.0 ≡ Less = reversed p.0 e.0 is in
+        rises_before e (p ∷ ps) (less, above_further e.0 p.0 ps less (rises_after p ps h).0) h
 
 put_value : (ps : List Pair) (e : Pair) (name : Text) → value_of (put ps e) name ≡ cond (same_text name e.0) (Some e.1) (value_of ps name)
 put_value [] e name = refl
@@ -164,26 +164,26 @@ one_list : (ps qs : List Pair) → NamesRise ps → NamesRise qs → ((n : Text)
 one_list [] [] up up' same = refl
 one_list [] (q ∷ qs) up up' same = cc (same q.0 ∙ first q qs)
 one_list (p ∷ ps) [] up up' same = cc (sym (first p ps) ∙ same p.0)
-one_list (p ∷ ps) (q ∷ qs) up up' same = by (text_order p.0 q.0) refl (one_list ps qs (rises_behind p ps up).1 (rises_behind q qs up').1)
+one_list (p ∷ ps) (q ∷ qs) up up' same = by (text_order p.0 q.0) refl (one_list ps qs (rises_after p ps up).1 (rises_after q qs up').1)
   where
     tail : (n : Text) (name : p.0 ≡ q.0) → value_of ps n ≡ value_of qs n
     tail n name = elim_same (same_text n p.0) refl
       where
         elim_same : (b : Bool) → same_text n p.0 ≡ b → value_of ps n ≡ value_of qs n
         elim_same true e =
-            ap (value_of ps) (is_same n p.0 e) ∙ absent p.0 ps (rises_behind p ps up).0
-            ∙ sym (ap (value_of qs) (is_same n p.0 e ∙ name) ∙ absent q.0 qs (rises_behind q qs up').0)
+            ap (value_of ps) (is_same n p.0 e) ∙ absent p.0 ps (rises_after p ps up).0
+            ∙ sym (ap (value_of qs) (is_same n p.0 e ∙ name) ∙ absent q.0 qs (rises_after q qs up').0)
         elim_same false e =
             sym (ap (λ b. cond b (Some p.1) (value_of ps n)) e) ∙ same n
             ∙ ap (λ b. cond b (Some q.1) (value_of qs n)) (ap (same_text n) (sym name) ∙ e)
 
     by : (o : Ordering) → text_order p.0 q.0 ≡ o → (((n : Text) → value_of ps n ≡ value_of qs n) → ps ≡ qs) → p ∷ ps ≡ q ∷ qs
     by Less is more =
-        let there : Some p.1 ≡ None = sym (first p ps) ∙ same p.0 ∙ absent p.0 (q ∷ qs) (is, above_further p.0 q.0 qs is (rises_behind q qs up').0) in
+        let there : Some p.1 ≡ None = sym (first p ps) ∙ same p.0 ∙ absent p.0 (q ∷ qs) (is, above_further p.0 q.0 qs is (rises_after q qs up').0) in
         cc there
     by Greater is more =
-        let less : text_order q.0 p.0 ≡ Less = turned p.0 q.0 is in
-        let there : Some q.1 ≡ None = sym (first q qs) ∙ sym (same q.0) ∙ absent q.0 (p ∷ ps) (less, above_further q.0 p.0 ps less (rises_behind p ps up).0) in
+        let less : text_order q.0 p.0 ≡ Less = reversed p.0 q.0 is in
+        let there : Some q.1 ≡ None = sym (first q qs) ∙ sym (same q.0) ∙ absent q.0 (p ∷ ps) (less, above_further q.0 p.0 ps less (rises_after p ps up).0) in
         cc there
     by Equal is more =
         let name : p.0 ≡ q.0 = exact_bytes p.0 q.0 is in
@@ -215,12 +215,12 @@ module _ {K : Type 0} (text value : K → Text) where
   still_missing held k [] m d = tt
   still_missing held k (j ∷ ks) m d = (one_more held (text k, value k) (text j) m.0 (flips (text j) (text k) ∙ d.0), still_missing held k ks m.1 d.1)
 
-  set_behind_all : (held : List Pair) (ks : List K) → Missing held ks → IsDistinct same_text (map text ks) → set_each held ks ≡ held ++ shown ks
+  set_after_all : (held : List Pair) (ks : List K) → Missing held ks → IsDistinct same_text (map text ks) → set_each held ks ≡ held ++ shown ks
   unfolding IsDistinct
-  set_behind_all held [] m d = sym (append-nil held)
-  set_behind_all held (k ∷ ks) m d =
-      ap (λ h. set_each h ks) (set_behind held (text k) (value k) m.0)
-      ∙ set_behind_all (held ++ (text k, value k) ∷ []) ks (still_missing held k ks m.1 d.0) d.1
+  set_after_all held [] m d = sym (append-nil held)
+  set_after_all held (k ∷ ks) m d =
+      ap (λ h. set_each h ks) (set_after held (text k) (value k) m.0)
+      ∙ set_after_all (held ++ (text k, value k) ∷ []) ks (still_missing held k ks m.1 d.0) d.1
       ∙ append_assoc held ((text k, value k) ∷ []) (shown ks)
 
   none_held : (ks : List K) → Missing [] ks
@@ -229,15 +229,15 @@ module _ {K : Type 0} (text value : K → Text) where
 
   -- names that are once are set one after another
   pub set_in_order : (ks : List K) → IsDistinct same_text (map text ks) → set_each [] ks ≡ shown ks
-  set_in_order ks d = set_behind_all [] ks (none_held ks) d
+  set_in_order ks d = set_after_all [] ks (none_held ks) d
 
   names_shown : (ks : List K) → names (shown ks) ≡ map text ks
   names_shown [] = refl
   names_shown (k ∷ ks) = ap (λ ns. text k ∷ ns) (names_shown ks)
 
 module _ {K : Type 0} (text : K → Text) where
-  behind : (k : K) (ks : List K) → IsSorted (λ a b. text_order (text a) (text b)) (k ∷ ks) → IsSorted (λ a b. text_order (text a) (text b)) ks
-  behind k ks s n e low h =
+  following : (k : K) (ks : List K) → IsSorted (λ a b. text_order (text a) (text b)) (k ∷ ks) → IsSorted (λ a b. text_order (text a) (text b)) ks
+  following k ks s n e low h =
       let next : suc n + 1 ≡ suc (n + 1) = omega arith in
       subst (λ m. is_lt (text_order (text (get_or (k ∷ ks) m e)) (text (get_or ks n e))) ≡ false) next (s (suc n) e (omega arith) (omega (arith, h)))
 
@@ -247,14 +247,14 @@ module _ {K : Type 0} (text : K → Text) where
   strict [] s d = rises_none
   strict (k ∷ []) s d = made (text k) [] tt rises_none
   strict (k ∷ j ∷ ks) s d =
-      let up : IsStrictlySortedBy text_order (map text (j ∷ ks)) = strict (j ∷ ks) (behind k (j ∷ ks) s) d.1 in
+      let up : IsStrictlySortedBy text_order (map text (j ∷ ks)) = strict (j ∷ ks) (following k (j ∷ ks) s) d.1 in
       let less : text_order (text k) (text j) ≡ Less = by (text_order (text k) (text j)) refl in
       made (text k) (map text (j ∷ ks)) (less, further (text k) (text j) (map text ks) less (parted (text j) (map text ks) up).0) up
     where
       by : (o : Ordering) → text_order (text k) (text j) ≡ o → text_order (text k) (text j) ≡ Less
       by Less e = e
       by Equal e = absurd (true≢false (sym (are_same (text k) (text j) (exact_bytes (text k) (text j) e)) ∙ d.0.0))
-      by Greater e = absurd (true≢false (sym (ap is_lt (turned (text k) (text j) e)) ∙ s 0 k (omega arith) (omega arith)))
+      by Greater e = absurd (true≢false (sym (ap is_lt (reversed (text k) (text j) e)) ∙ s 0 k (omega arith) (omega arith)))
 
 same_pairs : (pairs : List Pair) → shown (λ (p : Pair). p.0) (λ (p : Pair). p.1) pairs ≡ pairs
 same_pairs [] = refl

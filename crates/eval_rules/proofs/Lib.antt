@@ -3,5 +3,5 @@ pub mod ByName
 pub mod Rendering
 pub mod Walks
 pub mod Staying
-pub mod PassedOver
+pub mod Skipped
 pub mod AsEvaluated

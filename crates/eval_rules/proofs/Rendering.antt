@@ -1,4 +1,4 @@
--- What is kept of each RUN, rendered one by one, and the outcome that then stands.
+-- What is kept of each RUN, rendered one by one, and the outcome after that.
 use Rattle.std.proofs.Common.{◌≡◌, ℕ, ◌+◌, ◌<◌, List, [], ◌++◌, map, length, drop, get_or, append_assoc, ap, sym, ◌∙◌}
 use Rattle.std.specs.List.{flat_map}
 use Rattle.std.proofs.lemmas.List.{drop_more}
@@ -10,7 +10,7 @@ use Rattle.eval_state.specs.declared.notes.Note.{Note}
 use Rattle.eval_state.specs.declared.scene.Scene.{Scene}
 use Rattle.eval_rules.specs.Steps.{with_selected}
 use Rattle.eval_rules.specs.Outcomes.{by_name, commands, late_notes, made_command, outcome_of, run_text}
-use Rattle.eval_rules.specs.Inner.{made_of, unselected, with_notes}
+use Rattle.eval_rules.specs.Inner.{made_from, unselected, with_notes}
 use Rattle.eval_rules.specs.declared.outcome.Command.{Command}
 
 module _ {A : Type 0} (give : RunValue → Rendered → List A) where
@@ -40,10 +40,10 @@ noted_only s t notes same more = ap (λ (b : Scene). record b { notes = s.notes 
 
 -- the outcome, once all is rendered and sorted
 pub finished : (s t : Scene) (runs left : List RunValue) (env sorted : List Pair) (done : List Command) → runs ≡ s.runs → left ≡ []
-    → unselected t ≡ with_notes (late_notes s.state runs) (unselected (record s { runs = left })) → env ≡ t.state.env → sorted ≡ by_name env → done ≡ commands s.state runs ++ map made_command t.made → made_of t sorted done ≡ outcome_of s
+    → unselected t ≡ with_notes (late_notes s.state runs) (unselected (record s { runs = left })) → env ≡ t.state.env → sorted ≡ by_name env → done ≡ commands s.state runs ++ map made_command t.made → made_from t sorted done ≡ outcome_of s
 unfolding outcome_of
 finished s t runs left env sorted done all none same taken is rendered =
-    ap (λ e. made_of t e done) (is ∙ ap by_name taken)
-    ∙ ap (λ (u : Scene). made_of u (by_name u.state.env) done) same
-    ∙ ap (λ d. made_of (with_notes (late_notes s.state runs) s) (by_name s.state.env) d) (rendered ∙ ap (λ (u : Scene). commands s.state runs ++ map made_command u.made) same)
-    ∙ ap (λ rs. made_of (with_notes (late_notes s.state rs) s) (by_name s.state.env) (commands s.state rs ++ map made_command s.made)) all
+    ap (λ e. made_from t e done) (is ∙ ap by_name taken)
+    ∙ ap (λ (u : Scene). made_from u (by_name u.state.env) done) same
+    ∙ ap (λ d. made_from (with_notes (late_notes s.state runs) s) (by_name s.state.env) d) (rendered ∙ ap (λ (u : Scene). commands s.state runs ++ map made_command u.made) same)
+    ∙ ap (λ rs. made_from (with_notes (late_notes s.state rs) s) (by_name s.state.env) (commands s.state rs ++ map made_command s.made)) all

@@ -11,7 +11,7 @@ use Rattle.eval_rules.specs.Jumps.{is_passed, run, sought_after}
 use Rattle.eval_rules.specs.Inner.{landing}
 
 module _ (es : List Entry) where
-  -- rules are passed over up to the first that is not
+  -- rules are skipped up to the first that is not
   passed : (sought : Option Text) (rules : List Rule) (s : Scene) → run es sought rules s ≡ run es None (drop (prefix_len (is_passed sought) rules) rules) s
   unfolding run
   passed sought [] s = refl

@@ -8,7 +8,7 @@ use Rattle.text_bytes.specs.declared.profile.Profile.TheVariants.{Manual, Udev}
 use Rattle.text_core.specs.Fnmatch.{fnmatch_items}
 use Rattle.text_core.specs.declared.reading.Reading.TheVariants.{Exact}
 use Rattle.text_tables.specs.Texts.{Text}
-use Rattle.text_tables.specs.Pairs.{value_of}
+use Rattle.text_tables.specs.Pairs.{Pair, value_of}
 use Rattle.hwdb_lookup.specs.declared.entry.Entry.{Entry}
 use Rattle.device_core.specs.Values.{AnswerValue, DeviceValue}
 use Rattle.rule_types.specs.declared.roles.PlainKey.{PlainKey}
@@ -16,8 +16,8 @@ use Rattle.rule_types.specs.declared.roles.PlainKey.TheVariants as plain
 use Rattle.rule_types.specs.declared.part.Act.{Act}
 use Rattle.rule_types.specs.declared.part.Assignment.{Assignment}
 use Rattle.rule_types.specs.declared.part.Comparison.{Comparison}
-use Rattle.rule_types.specs.declared.part.Deed.{Deed}
-use Rattle.rule_types.specs.declared.part.Deed.TheVariants as deed
+use Rattle.rule_types.specs.declared.part.ActKind.{ActKind}
+use Rattle.rule_types.specs.declared.part.ActKind.TheVariants as act_kind
 use Rattle.rule_types.specs.declared.part.Import.{Import}
 use Rattle.rule_types.specs.declared.part.Import.TheVariants as import
 use Rattle.rule_types.specs.declared.part.PlainMatch.{PlainMatch}
@@ -43,14 +43,14 @@ use Rattle.eval_state.specs.declared.note_kind.NoteKind.TheVariants.{AttributeNo
 use Rattle.eval_state.specs.declared.scene.Scene.{Scene}
 use Rattle.eval_acts.specs.Acts.{act_step, from_parent_by, imported, on_text, parent_imported, performed, program_imported, unrun}
 use Rattle.eval_acts.specs.ActTexts.{most_path_bytes}
-use Rattle.eval_acts.specs.BuiltinRuns.{looked_up, most_set, need_noted, need_word, outcome_taken, path_id_run, properties_size, usb_id_run}
+use Rattle.eval_acts.specs.BuiltinRuns.{looked_up, most_set, need_noted, need_word, outcome_set, outcome_taken, path_id_run, properties_size, usb_id_run, with_maker}
 use Rattle.eval_acts.specs.Imports.{builtin_run, from_answer_or_noted, from_parent, from_program, not_run, run_builtin}
 use Rattle.eval_acts.specs.Printed.{printed_properties}
-use Rattle.eval_acts.specs.Questions.{answered_or_noted, asked, result_of, tested, tested_at, tested_by, tested_by_udev, with_result}
-use Rattle.eval_acts.specs.Reaching.{reached}
+use Rattle.eval_acts.specs.Questions.{answered_by_block, answered_or_noted, result_of, tested, tested_at, tested_by, tested_by_udev, with_result}
+use Rattle.eval_acts.specs.Reaching.{match_reached}
 use Rattle.eval_assignments.specs.Steps.{set_step}
 use Rattle.eval_rules.specs.Idle.{change_applies, is_idle, note_step}
-use Rattle.eval_rules.specs.Steps.{Went, apply, only_noted, onward, plain_step, result_step, search, set_all, steps, before_sets, walk}
+use Rattle.eval_rules.specs.Steps.{Went, apply, only_noted, if_proceeding, plain_step, result_step, search, set_all, steps, before_sets, walk}
 use Rattle.eval_assignments.proofs.Staying.{Stays, set_stays}
 
 either : (s : Scene) (c : Bool) (x y : Scene × Bool) → Stays s x.0 → Stays s y.0 → Stays s (cond c x y).0
@@ -59,7 +59,7 @@ either s false x y h k = k
 
 -- ---- what acts
 
-text_stays : (r : Rule) (d : Deed) (act : Text → Scene → Scene × Bool) → ((t : Text) (s : Scene) → Stays s (act t s).0) → (text : Rendered) (s : Scene) → Stays s (on_text r d act text s).0
+text_stays : (r : Rule) (d : ActKind) (act : Text → Scene → Scene × Bool) → ((t : Text) (s : Scene) → Stays s (act t s).0) → (text : Rendered) (s : Scene) → Stays s (on_text r d act text s).0
 text_stays r d act h (rendered.Text t) s = h t s
 text_stays r d act h rendered.TooLong s = refl
 
@@ -86,29 +86,28 @@ need_stays : (r : Rule) (name : Text) (needs : List Text) (s : Scene) → Stays 
 need_stays r name [] s = refl
 need_stays r name (need ∷ needs) s = refl
 
-outcome_stays : (r : Rule) (name : Text) (o : OutcomeValue) (s : Scene) → Stays s (outcome_taken r name o s).0
-outcome_stays r name o s =
-    let set : Scene = with_env (properties_set s.state.env o.properties) s in
+outcome_stays : (r : Rule) (name : Text) (o : OutcomeValue) (properties : List Pair) (s : Scene) → Stays s (outcome_set r name o properties s).0
+outcome_stays r name o properties s =
+    let set : Scene = with_env (properties_set s.state.env properties) s in
     either s (nat_le (properties_size o.properties) most_set) (need_noted r name o.needs set, o.is_done) (noted r TextTooLong name s, false) (need_stays r name o.needs set) refl
 
+taken_stays : (r : Rule) (name : Text) (o : OutcomeValue) (s : Scene) → Stays s (outcome_taken r name o s).0
+taken_stays r name o s = outcome_stays r name o o.properties s
+
 usb_stays : (ran : Option Bool) (r : Rule) (s : Scene) → Stays s (usb_id_run ran r s).0
-usb_stays None r s = outcome_stays r (builtin_name UsbId) (usb_id s.state.event (is_some (value_of s.state.env (codes "ID_BUS")))) s
+usb_stays None r s = taken_stays r (builtin_name UsbId) (usb_id s.state.event (is_some (value_of s.state.env (codes "ID_BUS")))) s
 usb_stays (Some done) r s = refl
 
 path_stays : (ran : Option Bool) (r : Rule) (s : Scene) → Stays s (path_id_run ran r s).0
-path_stays None r s = outcome_stays r (builtin_name PathId) (path_id s.state.event) s
+path_stays None r s = taken_stays r (builtin_name PathId) (path_id s.state.event) s
 path_stays (Some done) r s = refl
-
-looked_up_stays : (es : List Entry) (text : Option Text) (s : Scene) → Stays s (looked_up es text s)
-looked_up_stays es None s = refl
-looked_up_stays es (Some text) s = refl
 
 builtin_stays : (es : List Entry) (r : Rule) (t : Text) (b : Builtin) (s : Scene) → Stays s (builtin_run es r t b s).0
 builtin_stays es r t (builtin.Hwdb h) s = refl
-builtin_stays es r t builtin.InputId s = outcome_stays r (builtin_name InputId) (input_id s.state.event) s
+builtin_stays es r t builtin.InputId s = taken_stays r (builtin_name InputId) (input_id s.state.event) s
 builtin_stays es r t builtin.NetId s =
-    let found : Scene = looked_up es (lookup s.state.event s.state.env) s in
-    outcome_stays r (builtin_name NetId) (net_id s.state.event s.state.env) found ∙ looked_up_stays es (lookup s.state.event s.state.env) s
+    let names : OutcomeValue = net_id s.state.event s.state.env in
+    outcome_stays r (builtin_name NetId) names (with_maker (looked_up es (lookup s.state.event s.state.env)) names.properties) s
 builtin_stays es r t builtin.PathId s = path_stays s.ran.path_id r s
 builtin_stays es r t builtin.UsbId s = usb_stays s.ran.usb_id r s
 builtin_stays es r t (builtin.Other name) s = refl
@@ -118,7 +117,7 @@ parent_stays : (names : _) (d : Option DeviceValue) (s : Scene) → Stays s (fro
 parent_stays names None s = refl
 parent_stays names (Some d) s = refl
 
-parents_stay : (p : Profile) (r : Rule) (d : Deed) (names : _) (text : Text) (s : Scene) → Stays s (parent_imported p r d names text s).0
+parents_stay : (p : Profile) (r : Rule) (d : ActKind) (names : _) (text : Text) (s : Scene) → Stays s (parent_imported p r d names text s).0
 parents_stay Manual r d names text s = parent_stays names _ s
 parents_stay Udev r d names text s = text_stays r d from_parent_by (λ t u. parent_stays (fnmatch_items Exact t 0 ∷ []) (device_at u.state.event 1) u) _ s
 
@@ -126,15 +125,15 @@ printed_stays : (r : Rule) (t : Text) (a : Option AnswerValue) (s : Scene) → S
 printed_stays r t None s = refl
 printed_stays r t (Some a) s = either s (a.status == 0) (with_env (properties_set s.state.env (printed_properties a.text)) s, true) (s, false) refl refl
 
-programs_stay : (p : Profile) (r : Rule) (d : Deed) (i : Import) (template : _) (s : Scene) → Stays s (program_imported p r d i template s).0
+programs_stay : (p : Profile) (r : Rule) (d : ActKind) (i : Import) (template : _) (s : Scene) → Stays s (program_imported p r d i template s).0
 programs_stay Manual r d i template s = refl
 programs_stay Udev r d i template s = text_stays r d (from_program r) (λ c u. printed_stays r c (value_of u.state.event.programs c) u) _ s
 
-unrun_stays : (p : Profile) (r : Rule) (d : Deed) (i : Import) (most : ℕ) (template : _) (s : Scene) → Stays s (unrun p r d i most template s).0
+unrun_stays : (p : Profile) (r : Rule) (d : ActKind) (i : Import) (most : ℕ) (template : _) (s : Scene) → Stays s (unrun p r d i most template s).0
 unrun_stays Manual r d i most template s = refl
 unrun_stays Udev r d i most template s = text_stays r d (λ text. not_run r i) (λ t u. refl) _ s
 
-imported_stays : (es : List Entry) (r : Rule) (d : Deed) (i : Import) (s : Scene) → Stays s (imported es r d i s).0
+imported_stays : (es : List Entry) (r : Rule) (d : ActKind) (i : Import) (s : Scene) → Stays s (imported es r d i s).0
 imported_stays es r d (import.Builtin t) s = text_stays r d (run_builtin es r) (λ c u. builtin_stays es r c _ u) _ s
 imported_stays es r d (import.Parent names text) s = parents_stay s.state.event.profile r d names text s
 imported_stays es r d (import.Program t) s = programs_stay s.state.event.profile r d (import.Program t) t s
@@ -142,20 +141,20 @@ imported_stays es r d (import.File t) s = unrun_stays s.state.event.profile r d 
 imported_stays es r d (import.Cmdline name) s = refl
 imported_stays es r d (import.Db name) s = refl
 
-performed_stays : (es : List Entry) (r : Rule) (d : Deed) (s : Scene) → Stays s (performed es r d s).0
-performed_stays es r (deed.Test mask t) s = text_stays r (deed.Test mask t) (tested r mask) (tested_stays r mask) _ s
-performed_stays es r (deed.Program t) s = text_stays r (deed.Program t) (asked r) (λ c u. answered_stays r c (value_of u.state.event.programs c) u) _ (with_result [] s)
-performed_stays es r (deed.Import i) s = imported_stays es r (deed.Import i) i s
+performed_stays : (es : List Entry) (r : Rule) (d : ActKind) (s : Scene) → Stays s (performed es r d s).0
+performed_stays es r (act_kind.Test mask t) s = text_stays r (act_kind.Test mask t) (tested r mask) (tested_stays r mask) _ s
+performed_stays es r (act_kind.Program t) s = text_stays r (act_kind.Program t) (answered_by_block r) (λ c u. answered_stays r c (value_of u.state.event.programs c) u) _ (with_result [] s)
+performed_stays es r (act_kind.Import i) s = imported_stays es r (act_kind.Import i) i s
 
 -- an act
 pub act_stays : (es : List Entry) (r : Rule) (act : Act) (s : Scene) → Stays s (act_step es r act s).0
 unfolding act_step
-act_stays es r act s = performed_stays es r act.deed s
+act_stays es r act s = performed_stays es r act.kind s
 
 -- ---- matches
 
 -- a match that is reached
-pub reached_stays : (r : Rule) (k : PlainKey) (s : Scene) → Stays s (reached r k s)
+pub reached_stays : (r : Rule) (k : PlainKey) (s : Scene) → Stays s (match_reached r k s)
 reached_stays r (plain.Sysctl name) s = refl
 reached_stays r (plain.Attr name) s = by (is_not_read name s.state.event)
   where
@@ -192,8 +191,8 @@ note_stays r a s = by (change_applies a.change s.state.event.device)
 
 -- ---- steps, and a rule
 
-onward_stays : (f : Scene → Went) → ((s : Scene) → Stays s (f s).0) → (s : Scene) (w : Went) → Stays s w.0 → Stays s (onward f w).0
-onward_stays f h s w k = by w.1
+if_proceeding_stays : (f : Scene → Went) → ((s : Scene) → Stays s (f s).0) → (s : Scene) (w : Went) → Stays s w.0 → Stays s (if_proceeding f w).0
+if_proceeding_stays f h s w k = by w.1
   where
     by : (b : Bool) → Stays s (cond b (f w.0) w).0
     by true = h w.0 ∙ k
@@ -202,20 +201,20 @@ onward_stays f h s w k = by w.1
 walk_stays : {P : Type 0} (step : P → Scene → Went) → ((p : P) (s : Scene) → Stays s (step p s).0) → (ps : List P) (s : Scene) → Stays s (walk step ps s).0
 unfolding walk
 walk_stays step h [] s = refl
-walk_stays step h (p ∷ ps) s = onward_stays (walk step ps) (walk_stays step h ps) s (step p s) (h p s)
+walk_stays step h (p ∷ ps) s = if_proceeding_stays (walk step ps) (walk_stays step h ps) s (step p s) (h p s)
 
 -- a rule up to its assignments
 pub tried_stays : (es : List Entry) (r : Rule) (s : Scene) → Stays s (before_sets es r s).0
 tried_stays es r s =
-    onward_stays (walk result_step r.results) (walk_stays result_step result_stays r.results) s _
-    (onward_stays (walk (act_step es r) r.acts) (walk_stays (act_step es r) (act_stays es r) r.acts) s _
-    (onward_stays (search r.up) (search_stays r.up) s _
+    if_proceeding_stays (walk result_step r.results) (walk_stays result_step result_stays r.results) s _
+    (if_proceeding_stays (walk (act_step es r) r.acts) (walk_stays (act_step es r) (act_stays es r) r.acts) s _
+    (if_proceeding_stays (search r.up) (search_stays r.up) s _
     (walk_stays (plain_step r) (plain_stays r) r.plain s)))
 
 -- a rule in its steps
 pub steps_stay : (es : List Entry) (r : Rule) (s : Scene) → Stays s (steps es r s).0
 unfolding steps
-steps_stay es r s = onward_stays (set_all r) (sets_stay r r.sets) s (before_sets es r s) (tried_stays es r s)
+steps_stay es r s = if_proceeding_stays (set_all r) (sets_stay r r.sets) s (before_sets es r s) (tried_stays es r s)
 
 -- a rule
 pub event_stays : (es : List Entry) (r : Rule) (s : Scene) → Stays s (apply es r s).0

@@ -10,8 +10,8 @@ use Rattle.rule_types.specs.declared.rule_option.RuleOption.TheVariants.{Ignored
 use Rattle.rule_types.specs.declared.part.Assignment.{Assignment}
 use Rattle.rule_types.specs.declared.part.Change.{Change}
 use Rattle.rule_types.specs.declared.part.Change.TheVariants as change
-use Rattle.rule_types.specs.declared.part.Deed.{Deed}
-use Rattle.rule_types.specs.declared.part.Deed.TheVariants as deed
+use Rattle.rule_types.specs.declared.part.ActKind.{ActKind}
+use Rattle.rule_types.specs.declared.part.ActKind.TheVariants as act_kind
 use Rattle.rule_types.specs.Rules.{Rule}
 use Rattle.device_core.specs.Values.{DeviceValue, EventValue}
 use Rattle.eval_state.specs.declared.scene.Scene.{Scene}
@@ -46,7 +46,7 @@ applies t device = true
 abbrev pub text_counts : Target → EventValue → Bool
 text_counts about event = applies about event.device && not (is_of_device about && is_removal event)
 
--- whether an assignment counts for an event: an option that changes nothing does not
+-- whether an assignment counts for an event: an option that is ignored does not
 abbrev pub change_counts : Change → EventValue → Bool
 change_counts (change.Option Ignored) event = false
 change_counts (change.Option known) event = true
@@ -54,14 +54,14 @@ change_counts (change.Text about template) event = text_counts about event
 change_counts (change.Run braces template) event = true
 
 -- whether an act counts: TEST only asks
-abbrev pub deed_counts : Deed → Bool
-deed_counts (deed.Test mask template) = false
-deed_counts d = true
+abbrev pub act_kind_counts : ActKind → Bool
+act_kind_counts (act_kind.Test mask template) = false
+act_kind_counts d = true
 
 -- whether something in a rule counts for an event: its GOTO, what acts, or an assignment
 abbrev pub something_counts : Rule → EventValue → Bool
 something_counts r event =
-    is_some r.goto || (list_any (λ act. deed_counts act.deed) r.acts || list_any (λ a. change_counts a.change event) r.sets)
+    is_some r.goto || (list_any (λ act. act_kind_counts act.kind) r.acts || list_any (λ a. change_counts a.change event) r.sets)
 
 -- whether a rule is skipped: by the manual none is, for udev one in which nothing counts for the event
 unfoldable pub is_idle_by : Profile → Rule → EventValue → Bool

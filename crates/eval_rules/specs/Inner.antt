@@ -3,6 +3,7 @@ use Rattle.std.specs.Prelude.{ℕ, ◌+◌, List, ◌++◌, Option, None, drop}
 use Rattle.std.specs.List.{prefix_len}
 use Rattle.text_tables.specs.Texts.{Text}
 use Rattle.text_tables.specs.Pairs.{Pair}
+use Rattle.eval_state.specs.Texts.{filled}
 use Rattle.eval_state.specs.declared.notes.Note.{Note}
 use Rattle.eval_state.specs.declared.scene.Scene.{Scene}
 use Rattle.eval_assignments.specs.Tags.{current_tags}
@@ -21,9 +22,9 @@ abbrev pub with_notes : List Note → Scene → Scene
 with_notes notes s = record s { notes = s.notes ++ notes }
 
 -- an outcome that is made of a scene, of properties and of commands
-abbrev pub made_of : Scene → List Pair → List Command → Outcome
-made_of s env runs = record {
-  name = s.state.name;
+abbrev pub made_from : Scene → List Pair → List Command → Outcome
+made_from s env runs = record {
+  name = filled s.state.name;
   owner = s.owner;
   group = s.group;
   mode = s.mode;

@@ -27,3 +27,7 @@ run entries sought [] s = s
 run entries sought (r ∷ rs) s =
     if is_passed sought r then run entries sought rs s
     else run entries (sought_after (apply entries r s).1 r) rs (apply entries r s).0
+
+-- all of these rules, one after another: at their start no label is sought
+abbrev pub run_all : List Entry → List Rule → Scene → Scene
+run_all entries rules s = run entries None rules s

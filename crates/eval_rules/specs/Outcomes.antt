@@ -1,5 +1,5 @@
 -- The outcome of an event.
-use Rattle.std.specs.Prelude.{List, [], ◌∷◌, ◌++◌, None, map, option_map, flat_map, fold}
+use Rattle.std.specs.Prelude.{List, [], ◌∷◌, ◌++◌, map, option_map, flat_map, fold}
 use Rattle.text_bytes.specs.Insertion.{put_by}
 use Rattle.text_tables.specs.Pairs.{Pair}
 use Rattle.hwdb_lookup.specs.declared.entry.Entry.{Entry}
@@ -15,13 +15,14 @@ use Rattle.eval_rendering.specs.declared.rendered.Rendered.TheVariants as render
 use Rattle.eval_state.specs.Notes.{note_about, word_of_key}
 use Rattle.eval_state.specs.Runs.{RunValue, run_kind}
 use Rattle.eval_state.specs.Scenes.{start}
+use Rattle.eval_state.specs.Texts.{filled}
 use Rattle.eval_state.specs.declared.note_kind.NoteKind.TheVariants.{TextTooLong}
 use Rattle.eval_state.specs.declared.made_runs.MadeRun.{MadeRun}
 use Rattle.eval_state.specs.declared.notes.Note.{Note}
 use Rattle.eval_state.specs.declared.scene.Scene.{Scene}
 use Rattle.eval_assignments.specs.Tags.{current_tags}
 use Rattle.eval_rules.specs.Steps.{with_selected}
-use Rattle.eval_rules.specs.Jumps.{run}
+use Rattle.eval_rules.specs.Jumps.{run_all}
 use Rattle.eval_rules.specs.declared.outcome.Command.{Command}
 use Rattle.eval_rules.specs.declared.outcome.Outcome.{Outcome}
 
@@ -59,11 +60,11 @@ put pairs pair = put_by (λ p. p.0) (λ earlier later. later) pairs pair
 abbrev pub by_name : List Pair → List Pair
 by_name pairs = fold put [] pairs
 
--- the outcome of a scene when no rule is left: without the tags that were removed, and with the commands that were
--- made at their rules after those that are rendered now
+-- the outcome of a scene when no rule is left: without a name that is empty and the tags that were removed, and with
+-- the commands that were made at their rules after those that are rendered now
 unfoldable pub outcome_of : Scene → Outcome
 outcome_of s = record {
-  name = s.state.name;
+  name = filled s.state.name;
   owner = s.owner;
   group = s.group;
   mode = s.mode;
@@ -82,4 +83,4 @@ outcome_of s = record {
 
 -- the outcome of an event: all rules run over it from its start, and at the end what they keep is rendered
 abbrev pub outcome : List Rule → List Entry → EventValue → Outcome
-outcome rules entries event = outcome_of (run entries None rules (start event))
+outcome rules entries event = outcome_of (run_all entries rules (start event))

@@ -10,7 +10,7 @@ use Rattle.eval_matching.specs.Holding.{holds, one}
 use Rattle.eval_matching.specs.Subjects.{found_place, plain_subject}
 use Rattle.eval_state.specs.declared.scene.Scene.{Scene}
 use Rattle.eval_acts.specs.Acts.{act_step}
-use Rattle.eval_acts.specs.Reaching.{reached}
+use Rattle.eval_acts.specs.Reaching.{match_reached}
 use Rattle.eval_assignments.specs.Steps.{set_step}
 use Rattle.eval_rules.specs.Idle.{is_idle, note_all}
 
@@ -19,17 +19,17 @@ abbrev pub Went : Type 0
 Went = Scene × Bool
 
 -- what a rule does next, if it goes on; if it does not, what was changed until then stays
-abbrev pub onward : (Scene → Went) → Went → Went
-onward next went = if went.1 then next went.0 else went
+abbrev pub if_proceeding : (Scene → Went) → Went → Went
+if_proceeding next went = if went.1 then next went.0 else went
 
 -- the parts of a rule that are of one step, one after another
 unfoldable pub walk : {P : Type 0} → (P → Scene → Went) → List P → Scene → Went
 walk step [] s = (s, true)
-walk step (p ∷ ps) s = onward (walk step ps) (step p s)
+walk step (p ∷ ps) s = if_proceeding (walk step ps) (step p s)
 
 -- a match of the event: one of what is not read leaves its note, and the rule goes on if the match holds
 unfoldable pub plain_step : Rule → PlainMatch → Scene → Went
-plain_step r part s = (reached r part.key s, holds (plain_subject part.key s.state) part.wanted)
+plain_step r part s = (match_reached r part.key s, holds (plain_subject part.key s.state) part.wanted)
 
 -- a match of the result of the last program
 unfoldable pub result_step : Comparison → Scene → Went
@@ -54,18 +54,16 @@ set_all r s = (fold (set_step r) s r.sets, true)
 -- result; and whether all of them let the rule go on
 abbrev pub before_sets : List Entry → Rule → Scene → Went
 before_sets entries r s =
-    onward (walk result_step r.results)
-    (onward (walk (act_step entries r) r.acts)
-    (onward (search r.up)
-    (walk (plain_step r) r.plain s)))
+    fold (λ went step. if_proceeding step went) (s, true)
+    (walk (plain_step r) r.plain ∷ search r.up ∷ walk (act_step entries r) r.acts ∷ walk result_step r.results ∷ [])
 
 -- a rule in its five steps, the assignments last; and whether its end was reached
 unfoldable pub steps : List Entry → Rule → Scene → Went
-steps entries r s = onward (set_all r) (before_sets entries r s)
+steps entries r s = if_proceeding (set_all r) (before_sets entries r s)
 
 -- a rule that is skipped: it leaves its notes and changes nothing else, and its end is not reached
 abbrev pub only_noted : List Entry → Rule → Scene → Went
-only_noted entries r s = (record s { notes = (onward (note_all r) (before_sets entries r s)).0.notes }, false)
+only_noted entries r s = (record s { notes = (if_proceeding (note_all r) (before_sets entries r s)).0.notes }, false)
 
 -- a rule over a scene: udev skips it if nothing in it counts for the event
 unfoldable pub apply : List Entry → Rule → Scene → Went

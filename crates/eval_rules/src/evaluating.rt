@@ -1,10 +1,11 @@
 //! An event, from its start to its outcome.
 ghost use Rattle.std.specs.Prelude.{◌≡◌, ◌++◌, OnOk, IfOk, map, option_map};
 ghost use Rattle.rule_types.specs.Names.{run_name};
+ghost use Rattle.eval_state.specs.Texts.{filled};
 ghost use Rattle.eval_rules.specs.Steps.{with_selected};
 ghost use Rattle.eval_rules.specs.Outcomes.{command, commands, late_note, late_notes, made_command, outcome, outcome_of, run_text};
 ghost use Rattle.eval_assignments.specs.Lists.{without_texts};
-ghost use Rattle.eval_rules.specs.Inner.{made_of, unselected, with_notes};
+ghost use Rattle.eval_rules.specs.Inner.{made_from, unselected, with_notes};
 
 use crate::outcome::{Command, Commands, Outcome};
 use crate::rules::run;
@@ -113,7 +114,7 @@ fn all_commands(
 
 /// What is to be run, rendered, and the properties, sorted, once no rule is left.
 fn rendered(alloc: Global, scene: &mut Scene<'_>) -> Result<(Commands, OwnedPairs), AllocError>
-    ensures { IfOk result (λ done. made_of scene.new done.1 done.0 ≡ outcome_of scene.old) }
+    ensures { IfOk result (λ done. made_from scene.new done.1 done.0 ≡ outcome_of scene.old) }
 {
     let runs = mem::replace(&mut scene.runs, Runs::new(alloc));
     let commands = all_commands(alloc, runs.as_slice(), scene)?;
@@ -131,9 +132,25 @@ fn present_tags(mut tags: OwnedTexts, gone: &OwnedTexts) -> OwnedTexts
     tags
 }
 
+/// A text that is there and has a byte.
+fn filled(text: Option<Bytes>) -> Option<Bytes>
+    ensures { result ≡ filled text }
+{
+    match text {
+        Some(text) => {
+            if text.as_slice().is_empty() {
+                None
+            } else {
+                Some(text)
+            }
+        }
+        None => None,
+    }
+}
+
 /// The outcome that is made of a scene, of commands and of properties.
 fn outcome_with(scene: Scene<'_>, commands: Commands, env: OwnedPairs) -> Outcome
-    ensures { result ≡ made_of scene.entry env commands }
+    ensures { result ≡ made_from scene.entry env commands }
 {
     let Scene {
         state,
@@ -163,7 +180,7 @@ fn outcome_with(scene: Scene<'_>, commands: Commands, env: OwnedPairs) -> Outcom
         env: _,
     } = state;
     Outcome {
-        name,
+        name: filled(name),
         owner,
         group,
         mode,
@@ -194,7 +211,7 @@ pub fn finish(alloc: Global, mut scene: Scene<'_>) -> Result<Outcome, AllocError
     }
 }
 
-/// What an event comes to, where rules and event are lent for one time.
+/// The outcome of an event, with the rules and the event borrowed for the same lifetime.
 fn evaluate<'a, L: Lookup>(
     alloc: Global,
     rules: &'a RuleSet,

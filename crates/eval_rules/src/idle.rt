@@ -1,13 +1,13 @@
 //! Rules that udev skips, since nothing in them counts for the event.
 ghost use Rattle.std.specs.Prelude.{◌≡◌, OnOk, OnErr, fold};
 ghost use Rattle.std.specs.List.{list_any};
-ghost use Rattle.eval_rules.specs.Idle.{applies, change_applies, change_counts, deed_counts, is_idle, is_idle_by, is_of_device, is_removal, note_all, note_step, something_counts, text_counts};
-ghost use Rattle.eval_rules.specs.Steps.{onward};
+ghost use Rattle.eval_rules.specs.Idle.{act_kind_counts, applies, change_applies, change_counts, is_idle, is_idle_by, is_of_device, is_removal, note_all, note_step, something_counts, text_counts};
+ghost use Rattle.eval_rules.specs.Steps.{if_proceeding};
 
 use device_core::{Device, Event};
 use eval_assignments::{is_interface, set_one};
 use eval_state::Scene;
-use rule_types::{Act, Assignment, Change, Deed, Rule, RuleOption, Target};
+use rule_types::{Act, ActKind, Assignment, Change, Rule, RuleOption, Target};
 use std::alloc::{AllocError, Global};
 use text_bytes::Profile;
 
@@ -50,7 +50,7 @@ fn text_counts(target: &Target, event: &Event<'_>) -> bool
     applies(target, event.device()) && !(is_of_device(target) && is_removal(event))
 }
 
-/// Whether an assignment counts for an event: an option that changes nothing does not.
+/// Whether an assignment counts for an event: an option that is ignored does not.
 fn change_counts(change: &Change, event: &Event<'_>) -> bool
     ensures { result ≡ change_counts change.now event.now }
 {
@@ -63,20 +63,20 @@ fn change_counts(change: &Change, event: &Event<'_>) -> bool
 }
 
 /// Whether an act counts: TEST only asks.
-fn deed_counts(deed: &Deed) -> bool
-    ensures { result ≡ deed_counts deed.now }
+fn act_kind_counts(act_kind: &ActKind) -> bool
+    ensures { result ≡ act_kind_counts act_kind.now }
 {
-    match deed {
-        Deed::Test(_, _) => false,
+    match act_kind {
+        ActKind::Test(_, _) => false,
         _ => true,
     }
 }
 
 /// Whether one of these acts counts.
 fn acts_count(acts: &[Act]) -> bool
-    ensures { result ≡ list_any (λ act. deed_counts act.deed) acts.now }
+    ensures { result ≡ list_any (λ act. act_kind_counts act.kind) acts.now }
 {
-    acts.iter().any(|act| deed_counts(&act.deed))
+    acts.iter().any(|act| act_kind_counts(&act.kind))
 }
 
 /// Whether one of these assignments counts for an event.
@@ -95,8 +95,8 @@ fn something_counts(rule: &Rule, event: &Event<'_>) -> bool
 
 /// Whether a rule is skipped before its matches are looked at: for udev (systemd 257) one that neither jumps, nor
 /// runs a program, nor imports, nor assigns anything that counts for the event. OWNER, GROUP, MODE and SYMLINK count
-/// for a device with a number, NAME for a network interface, and none of them on `remove`; `static_node` counts for
-/// no event. By the manual no rule is skipped.
+/// for a device with a number, NAME for a network interface, and none of them on `remove`; `static_node` and an
+/// option that udev does not know count for no event. By the manual no rule is skipped.
 #[tactic(auto, unfolding(crate::specs::Idle::is_idle_by))]
 pub fn is_idle(rule: &Rule, event: &Event<'_>) -> bool
     ensures { result ≡ is_idle rule.now event.now }
@@ -147,17 +147,17 @@ fn note_each<'a>(alloc: Global, rule: &'a Rule, scene: &mut Scene<'a>) -> Result
 /// The end of a rule that is skipped: if its keys let it go on to its assignments, those that do not apply to the
 /// device leave their notes, and none is made.
 ///
-/// There is an error only if memory runs out; the event then stays.
+/// If memory runs out, the event stays.
 pub fn note_all<'a>(
     alloc: Global,
     rule: &'a Rule,
-    goes_on: bool,
+    proceeds: bool,
     scene: &mut Scene<'a>,
 ) -> Result<(), AllocError>
-    ensures scene { OnOk result (scene.new ≡ (onward (note_all rule.now) (scene.old, goes_on)).0) }
+    ensures scene { OnOk result (scene.new ≡ (if_proceeding (note_all rule.now) (scene.old, proceeds)).0) }
     ensures refused { OnErr result (scene.new.state.event ≡ scene.old.state.event) }
 {
-    if goes_on {
+    if proceeds {
         note_each(alloc, rule, scene)
     } else {
         Ok(())

@@ -19,7 +19,7 @@ mod steps;
 
 pub use evaluating::{evaluate_plain, finish, made_command, run_text};
 pub use idle::{is_idle, note_all};
-pub use laws::{manual_evaluates_every_rule, passed_over_rule_lacks_nothing};
+pub use laws::{manual_evaluates_every_rule, skipped_rule_lacks_nothing};
 pub use outcome::{Command, Commands, Outcome};
 pub use rules::{is_passed, sought_after};
 pub use steps::{apply, plain_step, search};

@@ -1,7 +1,7 @@
 //! The outcome of an event.
 ghost use Rattle.std.specs.Prelude.{◌≡◌, ◌++◌, ◌∷◌, [], OnOk, OnErr};
 
-use eval_state::Notes;
+use eval_state::{Labels, Notes};
 use rule_types::RunType;
 use std::alloc::{AllocError, Global};
 use std::marker::Model;
@@ -92,8 +92,9 @@ pub struct Outcome {
     pub watch: Option<bool>,
     /// Whether what is known about the device stays in udev's database (`db_persist`).
     pub persist: bool,
-    /// The labels of security modules, by module, in the order in which these were named first.
-    pub labels: OwnedPairs,
+    /// The labels of security modules: by the manual one for each, in the order in which these were named first; for
+    /// udev each that was set, in their order.
+    pub labels: Labels,
     /// The links to the device's node.
     pub links: OwnedTexts,
     /// The tags.

@@ -2,9 +2,9 @@
 //!
 //! The rules of all files are one list: a jump looks for its label below its rule, and the next rule
 //! that has it is in the same file. Most rules end without a jump, and then the next one follows.
-ghost use Rattle.std.specs.Prelude.{◌≡◌, ◌≤◌, None, OnOk, length, option_map};
+ghost use Rattle.std.specs.Prelude.{◌≡◌, ◌≤◌, OnOk, length, option_map};
 ghost use Rattle.std.specs.List.{prefix_len};
-ghost use Rattle.eval_rules.specs.Jumps.{is_passed, run, sought_after};
+ghost use Rattle.eval_rules.specs.Jumps.{is_passed, run_all, sought_after};
 ghost use Rattle.eval_rules.specs.Inner.{landing};
 
 use crate::steps::apply;
@@ -46,10 +46,10 @@ fn passed_len(sought: Option<&[u8]>, rules: &[Rule]) -> usize
 fn landing(sought: Option<&[u8]>, rules: &[Rule], from: usize) -> usize
     requires { from ≤ length rules.now }
     ensures place { result ≡ landing (option_map (λ t. t.now) sought.entry) rules.now from }
-    ensures behind { from ≤ result }
+    ensures following { from ≤ result }
 {
-    let (_, behind) = rules.split_at(from);
-    from + passed_len(sought, behind)
+    let (_, following) = rules.split_at(from);
+    from + passed_len(sought, following)
 }
 
 /// Evaluates rules, one after another. After a rule that jumps and whose end was reached, those between it and the
@@ -61,7 +61,7 @@ pub(crate) fn run<'a, L: Lookup>(
     lookup: &L,
     scene: &mut Scene<'a>,
 ) -> Result<(), AllocError>
-    ensures { OnOk result (scene.new ≡ run (L.entries lookup.now) None rules.now scene.old) }
+    ensures { OnOk result (scene.new ≡ run_all (L.entries lookup.now) rules.now scene.old) }
 {
     let mut place = 0;
     while place < rules.len() {

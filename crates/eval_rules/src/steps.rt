@@ -10,7 +10,7 @@ ghost use Rattle.eval_rules.specs.Idle.{is_idle};
 ghost use Rattle.eval_rules.specs.Steps.{apply, only_noted, plain_step, result_step, search, steps, before_sets, walk};
 
 use crate::idle::{is_idle, note_all};
-use eval_acts::{act_step, reached};
+use eval_acts::{act_step, match_reached};
 use eval_assignments::set_all;
 use eval_matching::{found_place, plain_holds, result_holds};
 use eval_state::{Scene, State};
@@ -33,7 +33,7 @@ pub fn plain_step(
     ensures refused { OnErr result (scene.new ≡ scene.old) }
 {
     let holds = plain_holds(part, &scene.state);
-    reached(alloc, rule, part, scene)?;
+    match_reached(alloc, rule, part, scene)?;
     Ok(holds)
 }
 
@@ -158,8 +158,8 @@ fn pass_over<'a, L: Lookup>(
 {
     let selected = scene.state.selected;
     let finals = scene.finals;
-    let goes_on = try_rule(alloc, rule, lookup, scene)?;
-    note_all(alloc, rule, goes_on, scene)?;
+    let proceeds = try_rule(alloc, rule, lookup, scene)?;
+    note_all(alloc, rule, proceeds, scene)?;
     scene.state.selected = selected;
     scene.finals = finals;
     Ok(())

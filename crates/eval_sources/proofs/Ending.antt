@@ -8,6 +8,6 @@ free : (s : Scene) → outcome_of (unselected s) ≡ outcome_of s
 unfolding outcome_of
 free s = refl
 
--- two scenes that are one but for the selected device come to the same
+-- two scenes that are the same except for the selected device have the same outcome
 pub one_outcome : (s t : Scene) → unselected s ≡ unselected t → outcome_of s ≡ outcome_of t
 one_outcome s t e = sym (free s) ∙ ap outcome_of e ∙ free t

@@ -1,14 +1,14 @@
--- What is kept of items tells where they come from.
+-- What is kept of items says where they come from.
 use Rattle.std.proofs.Common.{◌≡◌, Bool, true, false, List, [], ◌∷◌, ◌++◌, Option, Some, None, option_map, is_some, cond, fold, refl, ap, sym, ◌∙◌}
 use Rattle.std.specs.Option.{option_or}
 use Rattle.std.specs.Cmp.Lexicographic.{bytes_decides}
 use Rattle.text_tables.specs.Texts.{Text, same_text}
 use Rattle.text_tables.specs.Pairs.{Pair, named, value_of, with_value}
 use Rattle.text_tables.proofs.Found.{named_is, value_set}
-use Rattle.eval_sources.specs.Inner.{GoesOn, Keeps}
-use Rattle.eval_sources.specs.Sources.{Kept, Source, Stage, Tells, kept_behind, kept_of, source_by, source_in, source_of, with_kept}
-use Rattle.eval_effects.specs.Items.{is_value, stands}
-use Rattle.eval_sources.proofs.Standing.{source_more, source_none}
+use Rattle.eval_sources.specs.Inner.{Keeps, Proceeds}
+use Rattle.eval_sources.specs.Sources.{Kept, Reports, Source, Stage, kept_after, kept_of, source_by, source_in, source_of, with_kept}
+use Rattle.eval_effects.specs.Items.{is_present, is_value}
+use Rattle.eval_sources.proofs.Placement.{source_more, source_none}
 
 is_same : (a b : Text) → same_text a b ≡ true → a ≡ b
 is_same a b h = (bytes_decides a b).0 h
@@ -42,31 +42,31 @@ kept_more held name kept other = by (named held name) (same_text other name) ref
     by false false e s = value_set held name kept other ∙ ap (λ b. cond b (Some kept) (value_of held other)) s ∙ or_none (value_of held other)
 
 module _ (before : List (Text × Kept)) (source : Source) where
-  abbrev told : Text → Text → Kept
-  told name value = (value, source_in before source (name, value))
+  abbrev reported : Text → Text → Kept
+  reported name value = (value, source_in before source (name, value))
 
   kept_all : (items : List Pair) (held : List (Text × Kept)) (name : Text)
-      → value_of (fold (λ held item. with_kept held item.0 (kept_of before source item)) held items) name ≡ option_or (value_of held name) (option_map (told name) (value_of items name))
+      → value_of (fold (λ held item. with_kept held item.0 (kept_of before source item)) held items) name ≡ option_or (value_of held name) (option_map (reported name) (value_of items name))
   kept_all [] held name = or_none (value_of held name)
   kept_all (item ∷ items) held name =
       kept_all items (with_kept held item.0 (kept_of before source item)) name
-      ∙ ap (λ o. option_or o (option_map (told name) (value_of items name))) (kept_more held item.0 (kept_of before source item) name)
+      ∙ ap (λ o. option_or o (option_map (reported name) (value_of items name))) (kept_more held item.0 (kept_of before source item) name)
       ∙ by (same_text name item.0) refl (value_of held name)
     where
       by : (s : Bool) → same_text name item.0 ≡ s → (o : Option Kept)
-          → option_or (option_or o (cond s (Some (kept_of before source item)) None)) (option_map (told name) (value_of items name)) ≡ option_or o (option_map (told name) (cond s (Some item.1) (value_of items name)))
-      by true e None = ap (λ n. Some (told n item.1)) (sym (is_same name item.0 e))
+          → option_or (option_or o (cond s (Some (kept_of before source item)) None)) (option_map (reported name) (value_of items name)) ≡ option_or o (option_map (reported name) (cond s (Some item.1) (value_of items name)))
+      by true e None = ap (λ n. Some (reported n item.1)) (sym (is_same name item.0 e))
       by true e (Some x) = refl
       by false e None = refl
       by false e (Some x) = refl
 
   -- what is kept after a stage
-  pub kept_is : (items : List Pair) (name : Text) → value_of (kept_behind before source items) name ≡ option_map (told name) (value_of items name)
-  unfolding kept_behind
+  pub kept_is : (items : List Pair) (name : Text) → value_of (kept_after before source items) name ≡ option_map (reported name) (value_of items name)
+  unfolding kept_after
   kept_is items name = kept_all items [] name
 
 -- what is kept at the start
-pub keeps_start : (items : List Pair) (held : List (Text × Kept)) → held ≡ kept_behind [] None items → Keeps ((None, items) ∷ []) items held
+pub keeps_start : (items : List Pair) (held : List (Text × Kept)) → held ≡ kept_after [] None items → Keeps ((None, items) ∷ []) items held
 unfolding Keeps source_of
 keeps_start items held is name = ap (λ h. value_of h name) is ∙ kept_is [] None items name ∙ by (value_of items name)
   where
@@ -74,12 +74,12 @@ keeps_start items held is name = ap (λ h. value_of h name) is ∙ kept_is [] No
     none true = refl
     none false = refl
 
-    by : (o : Option Text) → option_map (told [] None name) o ≡ option_map (λ value. (value, source_of ((None, items) ∷ []) (name, value))) o
+    by : (o : Option Text) → option_map (reported [] None name) o ≡ option_map (λ value. (value, source_of ((None, items) ∷ []) (name, value))) o
     by None = refl
     by (Some value) = ap (λ (s : Source). Some (value, s)) (none _)
 
 module _ (was : List Pair) (source : Source) where
-  -- an item that stands comes from where it came from, if it stood before, and else from the new stage
+  -- an item that is there comes from where it came from, if it was there before, and otherwise from the new stage
   pub from_where : (now : List Pair) (before : List Stage) (last : Source) (held : List (Text × Kept)) → Keeps (before ++ (last, was) ∷ []) was held
       → (name value : Text) → value_of now name ≡ Some value → source_in held source (name, value) ≡ source_of (before ++ (last, was) ∷ (source, now) ∷ []) (name, value)
   unfolding Keeps
@@ -100,24 +100,24 @@ module _ (was : List Pair) (source : Source) where
       by (Some v) = same v (same_text v value) refl
 
   -- what is kept after one stage more
-  pub keeps_on : (now : List Pair) (held held_now : List (Text × Kept)) → held_now ≡ kept_behind held source now → GoesOn was source now held held_now
-  unfolding GoesOn Keeps
+  pub keeps_on : (now : List Pair) (held held_now : List (Text × Kept)) → held_now ≡ kept_after held source now → Proceeds was source now held held_now
+  unfolding Proceeds Keeps
   keeps_on now held held_now is before last keeps name = ap (λ h. value_of h name) is ∙ kept_is held source now name ∙ by (value_of now name) refl
     where
-      by : (o : Option Text) → value_of now name ≡ o → option_map (told held source name) o ≡ option_map (λ value. (value, source_of (before ++ (last, was) ∷ (source, now) ∷ []) (name, value))) o
+      by : (o : Option Text) → value_of now name ≡ o → option_map (reported held source name) o ≡ option_map (λ value. (value, source_of (before ++ (last, was) ∷ (source, now) ∷ []) (name, value))) o
       by None e = refl
       by (Some value) e = ap (λ (s : Source). Some (value, s)) (from_where now before last held keeps name value e)
 
-  -- where nothing has changed, what is kept stays
-  pub keeps_same : (now : List Pair) (held : List (Text × Kept)) → now ≡ was → GoesOn was source now held held
-  unfolding GoesOn Keeps
+  -- if nothing has changed, what is kept stays
+  pub keeps_same : (now : List Pair) (held : List (Text × Kept)) → now ≡ was → Proceeds was source now held held
+  unfolding Proceeds Keeps
   keeps_same now held is before last keeps name = keeps name ∙ ap (option_map (old name)) (ap (λ items. value_of items name) (sym is)) ∙ by (value_of now name) refl
     where
       old : Text → Text → Kept
       old name value = (value, source_of (before ++ (last, was) ∷ []) (name, value))
 
-      stood : (value : Text) → value_of now name ≡ Some value → stands (name, value) was ≡ true
-      stood value e = ap (λ o. is_value o value) (ap (λ items. value_of items name) (sym is) ∙ e) ∙ same_self value
+      was_present : (value : Text) → value_of now name ≡ Some value → is_present (name, value) was ≡ true
+      was_present value e = ap (λ o. is_value o value) (ap (λ items. value_of items name) (sym is) ∙ e) ∙ same_self value
 
       by : (o : Option Text) → value_of now name ≡ o → option_map (old name) o ≡ option_map (λ value. (value, source_of (before ++ (last, was) ∷ (source, now) ∷ []) (name, value))) o
       by None e = refl
@@ -125,12 +125,12 @@ module _ (was : List Pair) (source : Source) where
           ap (λ (s : Source). Some (value, s))
           (sym
           (source_more (name, value) before (last, was) (source, now) (ap (λ o. is_value o value) e ∙ same_self value)
-          ∙ ap (λ b. cond b (source_of (before ++ (last, was) ∷ []) (name, value)) source) (stood value e)))
+          ∙ ap (λ b. cond b (source_of (before ++ (last, was) ∷ []) (name, value)) source) (was_present value e)))
 
 -- what is kept in the end says about each item
-pub tells : (before : List Stage) (last : Source) (items : List Pair) (held : List (Text × Kept)) → Keeps (before ++ (last, items) ∷ []) items held → Tells (before ++ (last, items) ∷ []) held
-unfolding Keeps Tells
-tells before last items held keeps item = ap (λ o. source_by o None item.1) (keeps item.0) ∙ by (value_of items item.0) refl
+pub reports : (before : List Stage) (last : Source) (items : List Pair) (held : List (Text × Kept)) → Keeps (before ++ (last, items) ∷ []) items held → Reports (before ++ (last, items) ∷ []) held
+unfolding Keeps Reports
+reports before last items held keeps item = ap (λ o. source_by o None item.1) (keeps item.0) ∙ by (value_of items item.0) refl
   where
     old : Text → Source
     old v = source_of (before ++ (last, items) ∷ []) (item.0, v)

@@ -1,4 +1,4 @@
-pub mod Standing
+pub mod Placement
 pub mod Keeping
 pub mod Quiet
 pub mod Passing

@@ -8,13 +8,13 @@ use Rattle.eval_state.specs.declared.scene.Scene.{Scene}
 use Rattle.eval_rules.specs.Steps.{Went, apply}
 use Rattle.eval_rules.specs.Jumps.{is_passed, run, sought_after}
 use Rattle.eval_effects.specs.Items.{items}
-use Rattle.eval_sources.specs.Inner.{GoesOn, Halfway, Keeps}
-use Rattle.eval_sources.specs.Sources.{Kept, Source, Stage, Tells}
-use Rattle.eval_sources.specs.Told.{stages_from, stages_over}
-use Rattle.eval_sources.proofs.Keeping.{tells}
+use Rattle.eval_sources.specs.Inner.{Halfway, Keeps, Proceeds}
+use Rattle.eval_sources.specs.Sources.{Kept, Reports, Source, Stage}
+use Rattle.eval_sources.specs.Reported.{stages_from, stages_over}
+use Rattle.eval_sources.proofs.Keeping.{reports}
 
 module _ (es : List Entry) (rules : List Rule) (first : Scene) where
-  -- no rule was come to yet
+  -- no rule was reached yet
   pub at_first : (held : List (Text × Kept)) → Keeps ((None, items first) ∷ []) (items first) held → Halfway es rules rules None first first held
   at_first held h = record { before = []; last = None; keeps = h; whole = refl; ran = refl }
 
@@ -25,7 +25,7 @@ module _ (es : List Entry) (rules : List Rule) (first : Scene) where
     next : drop i rules ≡ r ∷ rest
     next = drop_more rules i r within ∙ ap (λ x. x ∷ rest) (sym is)
 
-    -- a rule is passed over
+    -- a rule is skipped
     pub one_passed : (sought : Option Text) (s : Scene) (held : List (Text × Kept)) → is_passed sought r ≡ true → Halfway es rules (drop i rules) sought first s held → Halfway es rules rest sought first s held
     unfolding run stages_from
     one_passed sought s held e h =
@@ -42,9 +42,9 @@ module _ (es : List Entry) (rules : List Rule) (first : Scene) where
 
     -- a rule is evaluated
     pub one_more : (sought wanted : Option Text) (s t : Scene) (reached : Bool) (held now : List (Text × Kept)) → is_passed sought r ≡ false → (t, reached) ≡ apply es r s → wanted ≡ sought_after reached r
-        → GoesOn (items s) (Some r) (items t) held now → Halfway es rules (drop i rules) sought first s held → Halfway es rules rest wanted first t now
-    unfolding run stages_from GoesOn
-    one_more sought wanted s t reached held now e to for goes h =
+        → Proceeds (items s) (Some r) (items t) held now → Halfway es rules (drop i rules) sought first s held → Halfway es rules rest wanted first t now
+    unfolding run stages_from Proceeds
+    one_more sought wanted s t reached held now e to for advances h =
         let on : Halfway es rules (r ∷ rest) sought first s held = subst (λ left. Halfway es rules left sought first s held) next h in
         let last : Source = Some r in
         let ran =
@@ -59,7 +59,7 @@ module _ (es : List Entry) (rules : List Rule) (first : Scene) where
         record {
           before = on.before ++ step;
           last = last;
-          keeps = subst (λ all. Keeps all (items t) now) (sym (append_assoc on.before step ((last, items t) ∷ []))) (goes on.before on.last on.keeps);
+          keeps = subst (λ all. Keeps all (items t) now) (sym (append_assoc on.before step ((last, items t) ∷ []))) (advances on.before on.last on.keeps);
           whole = append_assoc on.before step ((last, items t) ∷ stages_from es wanted rest t) ∙ ap (λ later. on.before ++ (on.last, items s) ∷ later) stages ∙ on.whole;
           ran = ran ∙ on.ran;
         }
@@ -73,6 +73,6 @@ module _ (es : List Entry) (rules : List Rule) (first : Scene) where
     unfolding run
     ran_all = done.ran
 
-    pub told_all : Tells (stages_over es rules first) held
+    pub reported_all : Reports (stages_over es rules first) held
     unfolding stages_from
-    told_all = subst (λ stages. Tells stages held) done.whole (tells done.before done.last (items s) held done.keeps)
+    reported_all = subst (λ stages. Reports stages held) done.whole (reports done.before done.last (items s) held done.keeps)

@@ -15,10 +15,10 @@ use Rattle.eval_state.specs.Scenes.{noted}
 use Rattle.eval_state.specs.declared.note_kind.NoteKind.TheVariants.{AttributeNotRead}
 use Rattle.eval_state.specs.declared.scene.Scene.{Scene}
 use Rattle.eval_acts.specs.Acts.{act_step}
-use Rattle.eval_acts.specs.Reaching.{reached}
+use Rattle.eval_acts.specs.Reaching.{match_reached}
 use Rattle.eval_assignments.specs.Steps.{set_step}
 use Rattle.eval_rules.specs.Idle.{is_idle}
-use Rattle.eval_rules.specs.Steps.{Went, apply, only_noted, onward, plain_step, result_step, search, set_all, steps, before_sets, walk, with_selected}
+use Rattle.eval_rules.specs.Steps.{Went, apply, only_noted, if_proceeding, plain_step, result_step, search, set_all, steps, before_sets, walk, with_selected}
 use Rattle.eval_sources.specs.Inner.{can_change}
 use Rattle.eval_effects.specs.Items.{items, node_items}
 
@@ -30,7 +30,7 @@ items_quiet : (s : Scene) → items (quiet s) ≡ items s
 unfolding items node_items
 items_quiet s = refl
 
-reached_quiet : (r : Rule) (k : PlainKey) (s : Scene) → quiet (reached r k s) ≡ quiet s
+reached_quiet : (r : Rule) (k : PlainKey) (s : Scene) → quiet (match_reached r k s) ≡ quiet s
 reached_quiet r (plain.Sysctl name) s = refl
 reached_quiet r (plain.Attr name) s = by (is_not_read name s.state.event)
   where
@@ -51,8 +51,8 @@ search_quiet : (parts : List UpMatch) (s : Scene) → quiet (search parts s).0 �
 search_quiet [] s = refl
 search_quiet (part ∷ parts) s = refl
 
-onward_quiet : (next : Scene → Went) → ((t : Scene) → quiet (next t).0 ≡ quiet t) → (s : Scene) (w : Went) → quiet w.0 ≡ quiet s → quiet (onward next w).0 ≡ quiet s
-onward_quiet next h s w e = by w.1
+if_proceeding_quiet : (next : Scene → Went) → ((t : Scene) → quiet (next t).0 ≡ quiet t) → (s : Scene) (w : Went) → quiet w.0 ≡ quiet s → quiet (if_proceeding next w).0 ≡ quiet s
+if_proceeding_quiet next h s w e = by w.1
   where
     by : (b : Bool) → quiet (cond b (next w.0) w).0 ≡ quiet s
     by true = h w.0 ∙ e
@@ -61,7 +61,7 @@ onward_quiet next h s w e = by w.1
 walk_quiet : {P : Type 0} (step : P → Scene → Went) → ((p : P) (t : Scene) → quiet (step p t).0 ≡ quiet t) → (parts : List P) (s : Scene) → quiet (walk step parts s).0 ≡ quiet s
 unfolding walk
 walk_quiet step h [] s = refl
-walk_quiet step h (part ∷ parts) s = onward_quiet (walk step parts) (walk_quiet step h parts) s (step part s) (h part s)
+walk_quiet step h (part ∷ parts) s = if_proceeding_quiet (walk step parts) (walk_quiet step h parts) s (step part s) (h part s)
 
 acts_quiet : (entries : List Entry) (r : Rule) (acts : List Act) (s : Scene) → not (is_empty acts) ≡ false → quiet (walk (act_step entries r) acts s).0 ≡ quiet s
 unfolding walk
@@ -72,7 +72,7 @@ sets_quiet : (r : Rule) (sets : List Assignment) (s : Scene) → not (is_empty s
 sets_quiet r [] s h = refl
 sets_quiet r (set ∷ sets) s h = cc
 
-end_quiet : (r : Rule) (s : Scene) (w : Went) → quiet w.0 ≡ quiet s → ((onward (set_all r) w).1 && not (is_empty r.sets)) ≡ false → quiet (onward (set_all r) w).0 ≡ quiet s
+end_quiet : (r : Rule) (s : Scene) (w : Went) → quiet w.0 ≡ quiet s → ((if_proceeding (set_all r) w).1 && not (is_empty r.sets)) ≡ false → quiet (if_proceeding (set_all r) w).0 ≡ quiet s
 end_quiet r s w e h = by w.1 h
   where
     by : (b : Bool) → ((cond b (set_all r w.0) w).1 && not (is_empty r.sets)) ≡ false → quiet (cond b (set_all r w.0) w).0 ≡ quiet s
@@ -91,9 +91,9 @@ unfolding steps
 steps_quiet entries r s h =
     let none = neither (not (is_empty r.acts)) ((steps entries r s).1 && not (is_empty r.sets)) h in
     let plains = walk_quiet (plain_step r) (plain_quiet r) r.plain s in
-    let ups = onward_quiet (search r.up) (search_quiet r.up) s _ plains in
-    let acted = onward_quiet (walk (act_step entries r) r.acts) (λ u. acts_quiet entries r r.acts u none.0) s _ ups in
-    let results = onward_quiet (walk result_step r.results) (walk_quiet result_step result_quiet r.results) s _ acted in
+    let ups = if_proceeding_quiet (search r.up) (search_quiet r.up) s _ plains in
+    let acted = if_proceeding_quiet (walk (act_step entries r) r.acts) (λ u. acts_quiet entries r r.acts u none.0) s _ ups in
+    let results = if_proceeding_quiet (walk result_step r.results) (walk_quiet result_step result_quiet r.results) s _ acted in
     end_quiet r s (before_sets entries r s) results none.1
 
 apply_quiet : (entries : List Entry) (r : Rule) (s : Scene) → Quietly r s (apply entries r s)

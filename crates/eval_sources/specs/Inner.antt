@@ -1,23 +1,23 @@
 -- Serves inner proofs only: what is kept while rules run.
-use Rattle.std.specs.Prelude.{◌≡◌, Bool, not, ◌||◌, ◌&&◌, List, [], ◌∷◌, ◌++◌, Option, None, option_map}
+use Rattle.std.specs.Prelude.{◌≡◌, Bool, not, ◌||◌, ◌&&◌, List, [], ◌∷◌, ◌++◌, Option, option_map}
 use Rattle.text_bytes.specs.Texts.{is_empty}
 use Rattle.text_tables.specs.Texts.{Text}
 use Rattle.text_tables.specs.Pairs.{Pair, value_of}
 use Rattle.hwdb_lookup.specs.declared.entry.Entry.{Entry}
 use Rattle.rule_types.specs.Rules.{Rule}
 use Rattle.eval_state.specs.declared.scene.Scene.{Scene}
-use Rattle.eval_rules.specs.Jumps.{run}
+use Rattle.eval_rules.specs.Jumps.{run, run_all}
 use Rattle.eval_effects.specs.Items.{items}
 use Rattle.eval_sources.specs.Sources.{Kept, Source, Stage, source_of}
-use Rattle.eval_sources.specs.Told.{stages_from, stages_over}
+use Rattle.eval_sources.specs.Reported.{stages_from, stages_over}
 
 -- for each name that is there its value is kept, with where it comes from
 unfoldable pub Keeps : List Stage → List Pair → List (Text × Kept) → Type 0
 Keeps stages items held = (name : Text) → value_of held name ≡ option_map (λ value. (value, source_of stages (name, value))) (value_of items name)
 
 -- from what is kept when these items are there follows what is kept after one more stage, whatever stages came before
-unfoldable pub GoesOn : List Pair → Source → List Pair → List (Text × Kept) → List (Text × Kept) → Type 0
-GoesOn was source now held held_now =
+unfoldable pub Proceeds : List Pair → Source → List Pair → List (Text × Kept) → List (Text × Kept) → Type 0
+Proceeds was source now held held_now =
     (before : List Stage) (last : Source) → Keeps (before ++ (last, was) ∷ []) was held → Keeps (before ++ (last, was) ∷ (source, now) ∷ []) now held_now
 
 -- whether a rule can have changed an item: it acts, or its end was reached and it assigns
@@ -31,4 +31,4 @@ pub record Halfway (entries : List Entry) (rules left : List Rule) (sought : Opt
   pub last : Source
   pub keeps : Keeps (before ++ (last, items s) ∷ []) (items s) held
   pub whole : before ++ (last, items s) ∷ stages_from entries sought left s ≡ stages_over entries rules first
-  pub ran : run entries sought left s ≡ run entries None rules first
+  pub ran : run entries sought left s ≡ run_all entries rules first

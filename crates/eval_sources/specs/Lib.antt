@@ -1,3 +1,3 @@
 pub mod Sources
-pub mod Told
+pub mod Reported
 pub mod Inner

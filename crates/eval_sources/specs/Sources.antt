@@ -4,7 +4,7 @@ use Rattle.std.specs.List.{list_all}
 use Rattle.text_tables.specs.Texts.{Text, same_text}
 use Rattle.text_tables.specs.Pairs.{Pair, named, value_of, with_value}
 use Rattle.rule_types.specs.Rules.{Rule}
-use Rattle.eval_effects.specs.Items.{stands}
+use Rattle.eval_effects.specs.Items.{is_present}
 
 -- a source: a rule, or none for something that was there from the start
 abbrev pub Source : Type 0
@@ -15,13 +15,13 @@ abbrev pub Stage : Type 0
 Stage = Source × List Pair
 
 -- whether an item is there at all of these stages
-abbrev pub stands_throughout : Pair → List Stage → Bool
-stands_throughout item stages = list_all (λ stage. stands item stage.1) stages
+abbrev pub is_present_throughout : Pair → List Stage → Bool
+is_present_throughout item stages = list_all (λ stage. is_present item stage.1) stages
 
 -- where an item comes from: the first of these stages from which on it is there at all of them
 unfoldable pub source_of : List Stage → Pair → Source
 source_of [] item = None
-source_of (stage ∷ later) item = if stands_throughout item (stage ∷ later) then stage.0 else source_of later item
+source_of (stage ∷ later) item = if is_present_throughout item (stage ∷ later) then stage.0 else source_of later item
 
 -- what is kept for the name of an item: its value, and where it comes from
 abbrev pub Kept : Type 0
@@ -46,9 +46,9 @@ abbrev pub kept_of : List (Text × Kept) → Source → Pair → Kept
 kept_of before source item = (item.1, source_in before source item)
 
 -- what is kept after one more rule, for the items that are there after it
-unfoldable pub kept_behind : List (Text × Kept) → Source → List Pair → List (Text × Kept)
-kept_behind before source items = fold (λ held item. with_kept held item.0 (kept_of before source item)) [] items
+unfoldable pub kept_after : List (Text × Kept) → Source → List Pair → List (Text × Kept)
+kept_after before source items = fold (λ held item. with_kept held item.0 (kept_of before source item)) [] items
 
 -- what is kept says about each item where it comes from
-unfoldable pub Tells : List Stage → List (Text × Kept) → Type 0
-Tells stages held = (item : Pair) → source_in held None item ≡ source_of stages item
+unfoldable pub Reports : List Stage → List (Text × Kept) → Type 0
+Reports stages held = (item : Pair) → source_in held None item ≡ source_of stages item

@@ -2,7 +2,7 @@
 ghost use Rattle.std.specs.Prelude.{◌≡◌, ◌++◌, None, IfOk, OnOk, map};
 ghost use Rattle.eval_rules.specs.Outcomes.{command};
 ghost use Rattle.eval_rules.specs.Steps.{with_selected};
-ghost use Rattle.eval_sources.specs.Told.{sourced_commands, sourced_made};
+ghost use Rattle.eval_sources.specs.Reported.{sourced_commands, sourced_made};
 
 use eval_rendering::Rendered;
 use eval_rules::{Command, made_command, run_text};

@@ -1,14 +1,14 @@
 //! An event, from its start to its outcome and where that comes from.
-ghost use Rattle.std.specs.Prelude.{◌≡◌, None, IfOk, OnOk};
+ghost use Rattle.std.specs.Prelude.{◌≡◌, IfOk, OnOk};
 ghost use Rattle.eval_rules.specs.Inner.{unselected};
-ghost use Rattle.eval_rules.specs.Jumps.{run};
+ghost use Rattle.eval_rules.specs.Jumps.{run_all};
 ghost use Rattle.eval_rules.specs.Outcomes.{outcome};
-ghost use Rattle.eval_sources.specs.Sources.{Tells};
-ghost use Rattle.eval_sources.specs.Told.{commands_over, event_commands, stages, stages_over};
+ghost use Rattle.eval_sources.specs.Sources.{Reports};
+ghost use Rattle.eval_sources.specs.Reported.{commands_over, event_commands, stages, stages_over};
 
 use crate::commands::{SourcedCommand, add_made, sourced_commands};
+use crate::reporting::{begin, run};
 use crate::sources::Sources;
-use crate::telling::{begin, run};
 use device_core::Event;
 use eval_rules::{Outcome, finish};
 use eval_state::Scene;
@@ -36,9 +36,9 @@ fn run_sourced<'a, L: Lookup>(
     lookup: &L,
     scene: &mut Scene<'a>,
 ) -> Result<(Sources<'a>, Vec<SourcedCommand<'a>>), AllocError>
-    ensures scene { OnOk result (unselected scene.new ≡ unselected (run (L.entries lookup.now) None rules.now scene.old)) }
-    ensures sources { IfOk result (λ told. Tells (stages_over (L.entries lookup.now) rules.now scene.old) told.0) }
-    ensures commands { IfOk result (λ told. told.1.items ≡ commands_over (L.entries lookup.now) rules.now scene.old) }
+    ensures scene { OnOk result (unselected scene.new ≡ unselected (run_all (L.entries lookup.now) rules.now scene.old)) }
+    ensures sources { IfOk result (λ reported. Reports (stages_over (L.entries lookup.now) rules.now scene.old) reported.0) }
+    ensures commands { IfOk result (λ reported. reported.1.items ≡ commands_over (L.entries lookup.now) rules.now scene.old) }
 {
     let mut sources = begin(alloc, scene)?;
     run(alloc, rules, lookup, scene, &mut sources)?;
@@ -58,7 +58,7 @@ pub fn evaluate_sources<'a, L: Lookup>(
     lookup: &L,
 ) -> Result<Sourced<'a>, AllocError>
     ensures outcome { IfOk result (λ s. s.outcome ≡ outcome rules.now.rules (L.entries lookup.now) event.now) }
-    ensures sources { IfOk result (λ s. Tells (stages rules.now.rules (L.entries lookup.now) event.now) s.sources) }
+    ensures sources { IfOk result (λ s. Reports (stages rules.now.rules (L.entries lookup.now) event.now) s.sources) }
     ensures commands { IfOk result (λ s. s.commands.items ≡ event_commands rules.now.rules (L.entries lookup.now) event.now) }
 {
     let mut scene = Scene::new(alloc, event)?;

@@ -9,8 +9,8 @@
 
 mod commands;
 mod evaluating;
+mod reporting;
 mod sources;
-mod telling;
 
 pub use commands::SourcedCommand;
 pub use evaluating::{Sourced, evaluate_sources};

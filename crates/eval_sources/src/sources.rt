@@ -1,7 +1,7 @@
 //! A table that keeps for each item where it comes from.
 ghost use Rattle.std.specs.Prelude.{◌≡◌, [], None, IfOk, OnOk, option_map};
 ghost use Rattle.text_tables.specs.Pairs.{named, value_of, with_value};
-ghost use Rattle.eval_sources.specs.Sources.{kept_behind, kept_of, source_by, source_in, with_kept};
+ghost use Rattle.eval_sources.specs.Sources.{kept_after, kept_of, source_by, source_in, with_kept};
 
 use eval_effects::Item;
 use indexmap::IndexMap;
@@ -131,14 +131,14 @@ impl<'a> Sources<'a> {
     }
 
     /// Keeps the items that are there after one more rule, and no others.
-    #[tactic(auto, unfolding(crate::specs::Sources::kept_behind))]
-    pub(crate) fn tell(
+    #[tactic(auto, unfolding(crate::specs::Sources::kept_after))]
+    pub(crate) fn report(
         &mut self,
         alloc: Global,
         rule: Option<&'a Rule>,
         items: Vec<Item>,
     ) -> Result<(), AllocError>
-        ensures { OnOk result (self.new ≡ kept_behind self.old (option_map (λ r. r.now) rule.entry) items.items) }
+        ensures { OnOk result (self.new ≡ kept_after self.old (option_map (λ r. r.now) rule.entry) items.items) }
     {
         let mut kept = Sources::new(alloc);
         for item in items {

@@ -4,8 +4,8 @@ use Rattle.std.specs.Prelude.{ℕ, ◌+◌, ◌-◌, Bool, false, not, ◌==◌,
 use Rattle.std.specs.List.{list_any, prefix_len, range_with_len, starts_with}
 use Rattle.std.specs.Option.{option_and_then, option_or}
 use Rattle.text_bytes.specs.Names.{dot, slash, star}
-use Rattle.text_bytes.specs.Texts.{begins_with, is_empty}
-use Rattle.text_tables.specs.Texts.{Text, same_text}
+use Rattle.text_bytes.specs.Texts.{begins_with, following, is_empty}
+use Rattle.text_tables.specs.Texts.{Text}
 use Rattle.text_tables.specs.Pairs.{names}
 use Rattle.device_core.specs.Values.{DeviceValue}
 
@@ -17,17 +17,13 @@ is_star name place = starts_with nat_eq (drop place name) (star ∷ slash ∷ []
 unfoldable pub star_place : Text → Option ℕ
 star_place name = position (is_star name) (range_with_len 0 (length name))
 
--- what follows the front of a text, if it begins with that
-abbrev pub behind : Text → Text → Option Text
-behind front text = if same_text (take (length front) text) front then Some (drop (length front) text) else None
-
 -- the first component of a path: what comes before its first slash
 abbrev pub first_component : Text → Text
 first_component path = take (prefix_len (λ b. not (b == slash)) path) path
 
 -- what follows that
-abbrev pub behind_component : Text → Text
-behind_component path = drop (prefix_len (λ b. not (b == slash)) path) path
+abbrev pub after_component : Text → Text
+after_component path = drop (prefix_len (λ b. not (b == slash)) path) path
 
 -- whether a component is a folder that `*` may stand for: there is one, and it does not begin with a dot
 abbrev pub is_folder : Text → Bool
@@ -40,21 +36,21 @@ is_end (Some rest) = is_empty rest || begins_with slash rest
 
 -- whether a path is this one, or that of something in a folder of this path
 abbrev pub lies_at : Text → Text → Bool
-lies_at path other = is_end (behind path other)
+lies_at path other = is_end (following path other)
 
 -- the folder that a path begins with, if `*` may stand for it and a path is after it
 abbrev pub folder_before : Text → Text → Option Text
 folder_before rest path =
-    if is_folder (first_component path) && lies_at rest (behind_component path) then Some (first_component path) else None
+    if is_folder (first_component path) && lies_at rest (after_component path) then Some (first_component path) else None
 
 -- the folder that is in a name between two texts
 abbrev pub folder_between : Text → Text → Text → Option Text
-folder_between front rest name = option_and_then (folder_before rest) (behind front name)
+folder_between prefix rest name = option_and_then (folder_before rest) (following prefix name)
 
 -- the folder of the first of these names that has one between two texts
 abbrev pub first_folder : Text → Text → List Text → Option Text
-first_folder front rest [] = None
-first_folder front rest (name ∷ others) = option_or (folder_between front rest name) (first_folder front rest others)
+first_folder prefix rest [] = None
+first_folder prefix rest (name ∷ others) = option_or (folder_between prefix rest name) (first_folder prefix rest others)
 
 -- a name with a folder instead of the `*` at a place, if a device has one there
 abbrev pub starred_at : Option ℕ → DeviceValue → Text → Option Text

@@ -14,24 +14,24 @@ pub record NamedValue : Type 0 where
   pub attribute : Text
 
 -- a text without the slash that it begins with, if it begins with one
-abbrev pub behind_slash : Text → Text
-behind_slash text = if begins_with slash text then drop 1 text else text
+abbrev pub after_slash : Text → Text
+after_slash text = if begins_with slash text then drop 1 text else text
 
 -- a subsystem, and a text that is cut at the first `]`
 abbrev pub named_by : Text → Option (Text × Text) → Option NamedValue
 named_by subsystem None = None
-named_by subsystem (Some cut) = Some (record { subsystem = subsystem; kernel = cut.0; attribute = behind_slash cut.1 })
+named_by subsystem (Some cut) = Some (record { subsystem = subsystem; kernel = cut.0; attribute = after_slash cut.1 })
 
 -- what follows `[`, cut at its first slash
-abbrev pub named_behind : Option (Text × Text) → Option NamedValue
-named_behind None = None
-named_behind (Some cut) = named_by cut.0 (split_once close_bracket cut.1)
+abbrev pub named_after : Option (Text × Text) → Option NamedValue
+named_after None = None
+named_after (Some cut) = named_by cut.0 (split_once close_bracket cut.1)
 
 -- what a name of an attribute names, if it names a device: the subsystem comes before the first slash, the kernel's
 -- name before the first `]` after that, and one slash after it is not part of the attribute
 unfoldable pub named : Text → Option NamedValue
 named [] = None
-named (b ∷ text) = if begins_with open_bracket (b ∷ text) then named_behind (split_once slash text) else None
+named (b ∷ text) = if begins_with open_bracket (b ∷ text) then named_after (split_once slash text) else None
 
 -- whether there is a subsystem, and it is this one
 abbrev pub is_subsystem : Text → Option Text → Bool

@@ -9,17 +9,17 @@ use Rattle.rule_types.specs.declared.types.RunType.TheVariants.{Program, Builtin
 use Rattle.eval_state.specs.Runs.{RunValue, run_kind, same_kind, same_run}
 
 kinds_equal : IsEquivalence same_kind
-kinds_equal = record { refl = itself; symm = turned; congr = through }
+kinds_equal = record { refl = itself; symm = reversed; congr = through }
   where
     itself : (k : RunType) → same_kind k k ≡ true
     itself Program = refl
     itself Builtin = refl
 
-    turned : (k j : RunType) → same_kind k j ≡ same_kind j k
-    turned Program Program = refl
-    turned Program Builtin = refl
-    turned Builtin Program = refl
-    turned Builtin Builtin = refl
+    reversed : (k j : RunType) → same_kind k j ≡ same_kind j k
+    reversed Program Program = refl
+    reversed Program Builtin = refl
+    reversed Builtin Program = refl
+    reversed Builtin Builtin = refl
 
     through : (k j i : RunType) → same_kind k j ≡ true → same_kind k i ≡ same_kind j i
     through Program Program i h = refl

@@ -5,7 +5,7 @@ use Rattle.text_tables.specs.Texts.{Text}
 use Rattle.text_tables.specs.Pairs.{Pair}
 use Rattle.device_core.specs.Values.{EventValue}
 use Rattle.rule_types.specs.Rules.{Rule}
-use Rattle.eval_state.specs.Start as states
+use Rattle.eval_state.specs.Start.{blank_state, start_state}
 use Rattle.eval_state.specs.Finals.{no_finals}
 use Rattle.eval_state.specs.Ran.{none_ran}
 use Rattle.rule_types.specs.declared.keys.Key.{Key}
@@ -16,7 +16,7 @@ use Rattle.eval_state.specs.declared.scene.Scene.{Scene}
 -- a scene in which nothing is left but the event itself
 abbrev pub blank : EventValue → Scene
 blank event = record {
-  state = states.blank event;
+  state = blank_state event;
   owner = None;
   group = None;
   mode = None;
@@ -36,7 +36,7 @@ blank event = record {
 
 -- the outcome of an event before any rule has run: its state as it begins, and nothing collected
 abbrev pub start : EventValue → Scene
-start event = record (blank event) { state = states.start event }
+start event = record (blank event) { state = start_state event }
 
 -- one more note: that something in a rule was not done, reported with a text
 abbrev pub noted : Rule → NoteKind → Text → Scene → Scene

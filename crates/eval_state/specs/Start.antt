@@ -6,34 +6,34 @@ use Rattle.device_core.specs.Values.{EventValue}
 use Rattle.eval_state.specs.declared.state.State.{State}
 
 -- a property, if it has a value
-abbrev pub given : Text → Option Text → List Pair
-given name None = []
-given name (Some value) = (name, value) ∷ []
+abbrev pub pair_if : Text → Option Text → List Pair
+pair_if name None = []
+pair_if name (Some value) = (name, value) ∷ []
 
 -- the path of a node below `/dev`
 abbrev pub node_path : Text → Text
 node_path node = codes "/dev/" ++ node
 
 -- what the event itself says about its device
-abbrev pub told_by : EventValue → List Pair
-told_by event =
+abbrev pub reported_by : EventValue → List Pair
+reported_by event =
     (codes "ACTION", event.action) ∷ (codes "DEVPATH", event.device.path)
-    ∷ (given (codes "SUBSYSTEM") event.device.subsystem
-    ++ given (codes "DEVNAME") (option_map node_path event.device.node)
-    ++ given (codes "MAJOR") (option_map (λ number. number.major) event.device.number)
-    ++ given (codes "MINOR") (option_map (λ number. number.minor) event.device.number))
+    ∷ (pair_if (codes "SUBSYSTEM") event.device.subsystem
+    ++ pair_if (codes "DEVNAME") (option_map node_path event.device.node)
+    ++ pair_if (codes "MAJOR") (option_map (λ number. number.major) event.device.number)
+    ++ pair_if (codes "MINOR") (option_map (λ number. number.minor) event.device.number))
 
 -- the properties that an event begins with: those of its device, and what the event says set over them
 unfoldable pub start_env : EventValue → List Pair
-start_env event = with_values (with_values [] event.device.env) (told_by event)
+start_env event = with_values (with_values [] event.device.env) (reported_by event)
 
 -- what is known if nothing is left but the event itself
-abbrev pub blank : EventValue → State
-blank event = record { event = event; selected = None; result = []; name = None; env = []; links = []; tags = [] }
+abbrev pub blank_state : EventValue → State
+blank_state event = record { event = event; selected = None; result = []; name = None; env = []; links = []; tags = [] }
 
 -- what is known about an event before any rule has run
-abbrev pub start : EventValue → State
-start event = record (blank event) {
+abbrev pub start_state : EventValue → State
+start_state event = record (blank_state event) {
   env = start_env event;
   links = with_texts [] event.device.links;
   tags = with_texts [] event.device.tags;

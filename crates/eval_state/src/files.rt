@@ -3,11 +3,11 @@ ghost use Rattle.std.specs.Prelude.{◌≡◌, ◌≤◌, ◌<◌, ◌==◌, not
 ghost use Rattle.std.specs.List.{list_any, prefix_len};
 ghost use Rattle.text_bytes.specs.Names.{slash};
 ghost use Rattle.text_tables.specs.Pairs.{names};
-ghost use Rattle.eval_state.specs.Files.{behind, behind_component, first_component, first_folder, folder_before, folder_between, has_file, has_name, is_folder, is_star, lies_at, star_place, starred};
+ghost use Rattle.eval_state.specs.Files.{after_component, first_component, first_folder, folder_before, folder_between, has_file, has_name, is_folder, is_star, lies_at, star_place, starred};
 
 use device_core::Device;
 use std::alloc::{AllocError, Global};
-use text_bytes::{Bytes, begins_with};
+use text_bytes::{Bytes, begins_with, following};
 use text_tables::Pairs;
 
 /// Whether a whole component `*` is at a place of a name, and a slash after it.
@@ -27,13 +27,6 @@ fn star_place(name: &[u8]) -> Option<usize>
     (0..name.len()).position(|place| is_star(name, place))
 }
 
-/// What follows the front of a text, if it begins with that.
-fn behind<'a>(front: &[u8], text: &'a [u8]) -> Option<&'a [u8]>
-    ensures { option_map (λ t. t.now) result ≡ behind front.now text.now }
-{
-    text.strip_prefix(front)
-}
-
 /// How many bytes the first component of a path has.
 fn component_len(path: &[u8]) -> usize
     ensures value { result ≡ prefix_len (λ b. not (b == slash)) path.now }
@@ -45,7 +38,7 @@ fn component_len(path: &[u8]) -> usize
 /// The first component of a path, and what follows it.
 fn cut_component(path: &[u8]) -> (&[u8], &[u8])
     ensures first { result.0.now ≡ first_component path.now }
-    ensures behind { result.1.now ≡ behind_component path.now }
+    ensures following { result.1.now ≡ after_component path.now }
 {
     path.split_at(component_len(path))
 }
@@ -61,7 +54,7 @@ fn is_folder(component: &[u8]) -> bool
 fn lies_at(path: &[u8], other: &[u8]) -> bool
     ensures { result ≡ lies_at path.now other.now }
 {
-    match behind(path, other) {
+    match following(path, other) {
         Some(rest) => rest.is_empty() || begins_with(b'/', rest),
         None => false,
     }
@@ -80,18 +73,18 @@ fn folder_before<'a>(rest: &[u8], path: &'a [u8]) -> Option<&'a [u8]>
 }
 
 /// The folder that is in a name between two texts.
-fn folder_between<'a>(front: &[u8], rest: &[u8], name: &'a [u8]) -> Option<&'a [u8]>
-    ensures { option_map (λ t. t.now) result ≡ folder_between front.now rest.now name.now }
+fn folder_between<'a>(prefix: &[u8], rest: &[u8], name: &'a [u8]) -> Option<&'a [u8]>
+    ensures { option_map (λ t. t.now) result ≡ folder_between prefix.now rest.now name.now }
 {
-    folder_before(rest, behind(front, name)?)
+    folder_before(rest, following(prefix, name)?)
 }
 
 /// The folder of the first of these names that has one between two texts.
-fn first_folder<'a>(front: &[u8], rest: &[u8], pairs: &Pairs<'a>) -> Option<&'a [u8]>
-    ensures { option_map (λ t. t.now) result ≡ first_folder front.now rest.now (names pairs.now) }
+fn first_folder<'a>(prefix: &[u8], rest: &[u8], pairs: &Pairs<'a>) -> Option<&'a [u8]>
+    ensures { option_map (λ t. t.now) result ≡ first_folder prefix.now rest.now (names pairs.now) }
 {
     for (name, _) in pairs.as_map().iter() {
-        if let Some(folder) = folder_between(front, rest, name) {
+        if let Some(folder) = folder_between(prefix, rest, name) {
             return Some(folder);
         }
     }
@@ -107,12 +100,12 @@ pub fn starred(alloc: Global, device: &Device<'_>, name: &[u8]) -> Result<Option
     let Some(place) = star_place(name) else {
         return Ok(Some(Bytes::copy_of(alloc, name)?));
     };
-    let (front, _) = name.split_at(place);
+    let (prefix, _) = name.split_at(place);
     let (_, rest) = name.split_at(place + 1);
-    let Some(folder) = first_folder(front, rest, device.attrs()) else {
+    let Some(folder) = first_folder(prefix, rest, device.attrs()) else {
         return Ok(None);
     };
-    let mut found = Vec::from_slice(alloc, front)?;
+    let mut found = Vec::from_slice(alloc, prefix)?;
     found.extend_from_slice(folder)?;
     found.extend_from_slice(rest)?;
     Ok(Some(Bytes::new(found)))

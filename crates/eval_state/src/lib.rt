@@ -6,6 +6,7 @@
 mod chain;
 mod files;
 mod finals;
+mod labels;
 mod laws;
 mod made_runs;
 mod named;
@@ -17,11 +18,11 @@ mod runs;
 mod scene;
 mod start;
 mod state;
-mod texts;
 
 pub use chain::Chain;
 pub use files::{has_file, starred};
 pub use finals::{FinalKey, Finals};
+pub use labels::{Label, Labels};
 pub use laws::starred_names_are_there;
 pub use made_runs::{MadeRun, MadeRuns};
 pub use named::Named;
@@ -33,4 +34,3 @@ pub use runs::{Run, Runs};
 pub use scene::Scene;
 pub use start::node_path;
 pub use state::State;
-pub use texts::trimmed;

@@ -3,7 +3,7 @@ ghost use Rattle.std.specs.Prelude.{◌≡◌, option_copied, option_map};
 ghost use Rattle.text_bytes.specs.Texts.{split_once};
 ghost use Rattle.text_bytes.specs.Names.{slash};
 ghost use Rattle.eval_state.specs.Chains.{device_at, kernel_of};
-ghost use Rattle.eval_state.specs.Named.{behind_slash, is_named, is_subsystem, named, named_behind, named_by, named_place};
+ghost use Rattle.eval_state.specs.Named.{after_slash, is_named, is_subsystem, named, named_after, named_by, named_place};
 
 use crate::chain::Chain;
 use std::marker::Model;
@@ -29,25 +29,25 @@ impl<'a> Model for Named<'a> {
 }
 
 /// A text without the slash that it begins with, if it begins with one.
-fn behind_slash(text: &[u8]) -> &[u8]
-    ensures { result.now ≡ behind_slash text.now }
+fn after_slash(text: &[u8]) -> &[u8]
+    ensures { result.now ≡ after_slash text.now }
 {
     match text.split_first() {
-        Some((first, behind)) => { if *first == b'/' { behind } else { text } }
+        Some((first, following)) => { if *first == b'/' { following } else { text } }
         None => text,
     }
 }
 
 /// What follows `[`, read up to its first slash and the first `]` after that.
-fn named_behind(text: &[u8]) -> Option<Named<'_>>
-    ensures { result ≡ named_behind (split_once slash text.now) }
+fn named_after(text: &[u8]) -> Option<Named<'_>>
+    ensures { result ≡ named_after (split_once slash text.now) }
 {
     let (subsystem, rest) = split_once(b'/', text)?;
-    let (kernel, behind) = split_once(b']', rest)?;
+    let (kernel, following) = split_once(b']', rest)?;
     Some(Named {
         subsystem,
         kernel,
-        attribute: behind_slash(behind),
+        attribute: after_slash(following),
     })
 }
 
@@ -63,7 +63,7 @@ impl<'a> Named<'a> {
             return None;
         }
         let (_, text) = name.split_first()?;
-        named_behind(text)
+        named_after(text)
     }
 }
 

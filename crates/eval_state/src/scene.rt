@@ -5,6 +5,7 @@ ghost use Rattle.eval_state.specs.Scenes.{blank, noted, noted_key, start};
 ghost use Rattle.eval_state.specs.declared.note_kind.NoteKind.TheVariants.{TextTooLong};
 
 use crate::finals::Finals;
+use crate::labels::Labels;
 use crate::made_runs::MadeRuns;
 use crate::note_kind::NoteKind;
 use crate::notes::{Note, Notes, word_of_key};
@@ -36,8 +37,8 @@ pub struct Scene<'a> {
     pub persist: bool,
     /// For udev alone: the tags that were removed, which matches of tags still find.
     pub gone: OwnedTexts,
-    /// Labels of security modules.
-    pub labels: OwnedPairs,
+    /// Labels of security modules: by the manual one for each, for udev as many as were set.
+    pub labels: Labels,
     /// Attributes to be written.
     pub attrs: OwnedPairs,
     /// Kernel parameters to be written.
@@ -68,7 +69,7 @@ impl<'a> Scene<'a> {
             watch: None,
             persist: false,
             gone: OwnedTexts::new(alloc),
-            labels: OwnedPairs::new(alloc),
+            labels: Labels::new(alloc),
             attrs: OwnedPairs::new(alloc),
             sysctls: OwnedPairs::new(alloc),
             runs: Runs::new(alloc),

@@ -2,7 +2,7 @@
 ghost use Rattle.std.specs.Prelude.{◌≡◌, [], OnOk, IfOk, option_map, codes};
 ghost use Rattle.text_tables.specs.Pairs.{with_values};
 ghost use Rattle.text_tables.specs.Texts.{with_texts};
-ghost use Rattle.eval_state.specs.Start.{given, node_path, start, start_env, told_by};
+ghost use Rattle.eval_state.specs.Start.{node_path, pair_if, reported_by, start_env, start_state};
 
 use crate::chain::Chain;
 use crate::state::State;
@@ -18,7 +18,7 @@ fn set_given(
     name: &[u8],
     value: Option<&[u8]>,
 ) -> Result<(), AllocError>
-    ensures { OnOk result (env.new ≡ with_values env.old (given name.now (option_map (λ v. v.now) value.entry))) }
+    ensures { OnOk result (env.new ≡ with_values env.old (pair_if name.now (option_map (λ v. v.now) value.entry))) }
 {
     match value {
         Some(value) => env.set(alloc, name, value),
@@ -37,7 +37,7 @@ pub fn node_path(alloc: Global, node: &[u8]) -> Result<Bytes, AllocError>
 
 /// Sets the path of the node, if there is one.
 fn set_node(alloc: Global, env: &mut OwnedPairs, node: Option<&[u8]>) -> Result<(), AllocError>
-    ensures { OnOk result (env.new ≡ with_values env.old (given (codes "DEVNAME") (option_map (λ n. node_path n.now) node.entry))) }
+    ensures { OnOk result (env.new ≡ with_values env.old (pair_if (codes "DEVNAME") (option_map (λ n. node_path n.now) node.entry))) }
 {
     match node {
         Some(node) => env.put(alloc, b"DEVNAME", node_path(alloc, node)?),
@@ -46,8 +46,8 @@ fn set_node(alloc: Global, env: &mut OwnedPairs, node: Option<&[u8]>) -> Result<
 }
 
 /// Sets what the event itself says about its device.
-fn set_told(alloc: Global, env: &mut OwnedPairs, event: &Event<'_>) -> Result<(), AllocError>
-    ensures { OnOk result (env.new ≡ with_values env.old (told_by event.now)) }
+fn set_reported(alloc: Global, env: &mut OwnedPairs, event: &Event<'_>) -> Result<(), AllocError>
+    ensures { OnOk result (env.new ≡ with_values env.old (reported_by event.now)) }
 {
     let device = event.device();
     env.set(alloc, b"ACTION", event.action())?;
@@ -75,7 +75,7 @@ fn set_env(alloc: Global, env: &mut OwnedPairs, event: &Event<'_>) -> Result<(),
     ensures { OnOk result (env.new ≡ start_env event.now) }
 {
     env.set_all(alloc, event.device().env())?;
-    set_told(alloc, env, event)
+    set_reported(alloc, env, event)
 }
 
 /// Sets the properties that an event begins with, the links and the tags.
@@ -101,7 +101,7 @@ impl<'a> State<'a> {
     /// ACTION, DEVPATH and, if given, SUBSYSTEM, DEVNAME (`/dev/` and the node), MAJOR and MINOR set over them; its
     /// links and its tags; no result, no name and no selected device.
     pub fn new(alloc: Global, event: &'a Event<'_>) -> Result<State<'a>, AllocError>
-        ensures { IfOk result (λ state. state ≡ start event.now) }
+        ensures { IfOk result (λ state. state ≡ start_state event.now) }
     {
         let chain = Chain::new(alloc, event)?;
         let mut env = OwnedPairs::new(alloc);

@@ -1,7 +1,7 @@
 //! What is known about an event.
 ghost use Rattle.std.specs.Prelude.{◌≡◌};
 ghost use Rattle.text_tables.specs.Pairs.{value_of};
-ghost use Rattle.eval_state.specs.Start.{blank};
+ghost use Rattle.eval_state.specs.Start.{blank_state};
 ghost use Rattle.eval_state.specs.Texts.{or_empty};
 
 use crate::chain::Chain;
@@ -19,7 +19,7 @@ pub struct State<'a> {
     pub selected: Option<usize>,
     /// What the last program answered; empty if none did.
     pub result: Bytes,
-    /// The name that was assigned.
+    /// The name that was assigned; for udev it may be empty.
     pub name: Option<Bytes>,
     /// The properties as they are now.
     pub env: OwnedPairs,
@@ -42,7 +42,7 @@ impl<'a> State<'a> {
 
     /// Forgets all but the event itself.
     pub fn clear(&mut self, alloc: Global)
-        ensures { self.new ≡ blank self.old.event }
+        ensures { self.new ≡ blank_state self.old.event }
     {
         self.selected = None;
         self.result = Bytes::new(Vec::new(alloc));

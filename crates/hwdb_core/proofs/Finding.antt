@@ -19,7 +19,7 @@ position_none {X} p xs h = by_test (ltb (position_or_len p xs) (length xs)) refl
   by_test true e q = cc
   by_test false e q = ltb-false (position_or_len p xs) (length xs) e
 
--- a text up to a byte is all of it where the byte is not there
+-- a text up to a byte is all of it if the byte is not there
 pub before_none : (p : ℕ → Bool) (t : List ℕ) → position p t ≡ None → t ≡ take_while (λ b. not (p b)) t
 before_none p t e = sym (take_all (position_or_len p t) t (position_none p t e))
 

@@ -125,21 +125,21 @@ returned {T} a b p r y e f g h = subst (λ (x : Result T HwdbFault). Adds {T = T
 
 module _ {X : Type 0} (f : X → Found) where
   -- how far a loop over a list has come
-  abbrev pub GoesOn : Held → Held → List X → List X → Type 0
-  GoesOn start now xs left = onto now (found_in f left) ≡ onto start (found_in f xs)
+  abbrev pub Proceeds : Held → Held → List X → List X → Type 0
+  Proceeds start now xs left = onto now (found_in f left) ≡ onto start (found_in f xs)
 
-  pub goes_on : (start now next : Held) (xs left : List X) (x : X) (more : List X) → GoesOn start now xs left → left ≡ x ∷ more → next ≡ onto now (f x) → GoesOn start next xs more
+  pub proceeds : (start now next : Held) (xs left : List X) (x : X) (more : List X) → Proceeds start now xs left → left ≡ x ∷ more → next ≡ onto now (f x) → Proceeds start next xs more
   unfolding found_in
-  goes_on start now next xs left x more h e a =
+  proceeds start now next xs left x more h e a =
       ap (λ (y : Held). onto y (found_in f more)) a ∙ onto_join now (f x) (found_in f more) ∙ ap (λ (ys : List X). onto now (found_in f ys)) (sym e) ∙ h
 
-  pub fails : (start now : Held) (xs left : List X) (x : X) (more : List X) (e : HwdbFault) → GoesOn start now xs left → left ≡ x ∷ more → FailsAt now (f x) e → FailsAt start (found_in f xs) e
+  pub fails : (start now : Held) (xs left : List X) (x : X) (more : List X) (e : HwdbFault) → Proceeds start now xs left → left ≡ x ∷ more → FailsAt now (f x) e → FailsAt start (found_in f xs) e
   unfolding found_in
   fails start now xs left x more TooMany h e a =
       λ k. a (kept_before (onto now (f x)) (found_in f more) (subst IsKept (sym (onto_join now (f x) (found_in f more) ∙ ap (λ (ys : List X). onto now (found_in f ys)) (sym e) ∙ h)) k))
   fails start now xs left x more Memory h e a = tt
 
-  pub ends : (start now : Held) (xs left : List X) → GoesOn start now xs left → length left ≡ 0 → now ≡ onto start (found_in f xs)
+  pub ends : (start now : Held) (xs left : List X) → Proceeds start now xs left → length left ≡ 0 → now ≡ onto start (found_in f xs)
   unfolding found_in
   ends start now xs [] h e = sym (onto_nothing now) ∙ h
   ends start now xs (x ∷ more) h e = absurd (omega arith)

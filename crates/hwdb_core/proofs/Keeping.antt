@@ -13,9 +13,9 @@ use Rattle.hwdb_core.specs.Found.{Adds, FailsAt, Held, IsKept, counting, counts,
 use Rattle.hwdb_core.proofs.Joining.{counting_nil, found_as, same_held}
 
 -- a message more
-pub told : (h : Held) (m : Message) → record h { messages = h.messages ++ m ∷ [] } ≡ onto h (only_messages (m ∷ []))
+pub reported : (h : Held) (m : Message) → record h { messages = h.messages ++ m ∷ [] } ≡ onto h (only_messages (m ∷ []))
 unfolding onto
-told h m =
+reported h m =
     same_held h.wanted h.entries (h.entries ++ counting h.wanted []) h.count (h.count + 0) h.match_bytes (h.match_bytes + 0) h.text_bytes (h.text_bytes + 0) (h.messages ++ m ∷ []) (h.messages ++ m ∷ [])
     (sym (append-nil h.entries) ∙ ap (λ (es : List Entry). h.entries ++ es) (sym (counting_nil h.wanted))) (sym (add-zero h.count)) (sym (add-zero h.match_bytes)) (sym (add-zero h.text_bytes)) refl
 
@@ -30,14 +30,14 @@ pub too_many_match_bytes : (h : Held) (len : ℕ) → h.match_bytes ≤ max_matc
 unfolding onto
 too_many_match_bytes h len fits over k = omega (arith, k.match_bytes)
 
--- an entry more, where it counts and where it does not
+-- one more entry, if it counts and if it does not
 counted_alone : (w : Option (List ℕ)) (n : ℕ) (p : Property) → counts w p.pattern ≡ true → counting w (entry_at n p ∷ []) ≡ entry_at n p ∷ []
 counted_alone None n p e = refl
 counted_alone (Some modalias) n p e = rw e refl
 
-passed_over : (w : Option (List ℕ)) (n : ℕ) (p : Property) → counts w p.pattern ≡ false → counting w (entry_at n p ∷ []) ≡ []
-passed_over None n p e = cc
-passed_over (Some modalias) n p e = rw e refl
+skipped : (w : Option (List ℕ)) (n : ℕ) (p : Property) → counts w p.pattern ≡ false → counting w (entry_at n p ∷ []) ≡ []
+skipped None n p e = cc
+skipped (Some modalias) n p e = rw e refl
 
 sum_alone : (p : Property) → sum_by text_len (p ∷ []) ≡ text_len p
 sum_alone p = omega arith
@@ -49,12 +49,12 @@ entry_added h p e =
     (h.text_bytes + text_len p) (h.text_bytes + sum_by text_len (p ∷ [])) h.messages (h.messages ++ [])
     (ap (λ (es : List Entry). h.entries ++ es) (sym (counted_alone h.wanted h.count p e))) refl (sym (add-zero h.match_bytes)) (ap (λ (n : ℕ). h.text_bytes + n) (sym (sum_alone p))) (sym (append-nil h.messages))
 
-pub entry_passed_over : (h : Held) (p : Property) → counts h.wanted p.pattern ≡ false → one_more (text_len p) h ≡ onto h (found_as (p ∷ []) [] 0)
+pub entry_skipped : (h : Held) (p : Property) → counts h.wanted p.pattern ≡ false → one_more (text_len p) h ≡ onto h (found_as (p ∷ []) [] 0)
 unfolding onto
-entry_passed_over h p e =
+entry_skipped h p e =
     same_held h.wanted h.entries (h.entries ++ counting h.wanted (entry_at h.count p ∷ [])) (h.count + 1) (h.count + 1) h.match_bytes (h.match_bytes + 0)
     (h.text_bytes + text_len p) (h.text_bytes + sum_by text_len (p ∷ [])) h.messages (h.messages ++ [])
-    (sym (append-nil h.entries) ∙ ap (λ (es : List Entry). h.entries ++ es) (sym (passed_over h.wanted h.count p e))) refl (sym (add-zero h.match_bytes)) (ap (λ (n : ℕ). h.text_bytes + n) (sym (sum_alone p))) (sym (append-nil h.messages))
+    (sym (append-nil h.entries) ∙ ap (λ (es : List Entry). h.entries ++ es) (sym (skipped h.wanted h.count p e))) refl (sym (add-zero h.match_bytes)) (ap (λ (n : ℕ). h.text_bytes + n) (sym (sum_alone p))) (sym (append-nil h.messages))
 
 pub too_many : (h : Held) (p : Property) (len : ℕ) → len ≡ text_len p → (max_entries ≤ h.count) ⊎ (max_text_bytes < h.text_bytes + len) → IsKept (onto h (found_as (p ∷ []) [] 0)) → ⊥
 unfolding onto
@@ -65,18 +65,18 @@ pub too_many_at : (h : Held) (p : Property) (len : ℕ) (e : HwdbFault) → len 
 too_many_at h p len TooMany e o = too_many h p len e o
 too_many_at h p len Memory e o = tt
 
--- ---- the same, where what was held before has another name
+-- ---- the same, if what was held before has another name
 
-pub told_as : (h start : Held) (now : List Message) (made m : Message) → made ≡ m → now ≡ h.messages ++ made ∷ [] → h ≡ start → record h { messages = now } ≡ onto start (only_messages (m ∷ []))
-told_as h start now made m e n s =
-    ap (λ (ms : List Message). record h { messages = ms }) (n ∙ ap (λ (x : Message). h.messages ++ x ∷ []) e) ∙ told h m ∙ ap (λ (x : Held). onto x (only_messages (m ∷ []))) s
+pub reported_as : (h start : Held) (now : List Message) (made m : Message) → made ≡ m → now ≡ h.messages ++ made ∷ [] → h ≡ start → record h { messages = now } ≡ onto start (only_messages (m ∷ []))
+reported_as h start now made m e n s =
+    ap (λ (ms : List Message). record h { messages = ms }) (n ∙ ap (λ (x : Message). h.messages ++ x ∷ []) e) ∙ reported h m ∙ ap (λ (x : Held). onto x (only_messages (m ∷ []))) s
 
 pub match_counted_as : (h start : Held) (len : ℕ) → h ≡ start → record h { match_bytes = h.match_bytes + len } ≡ onto start (found_as [] [] len)
 match_counted_as h start len s = match_counted h len ∙ ap (λ (x : Held). onto x (found_as [] [] len)) s
 
-pub entry_passed_over_as : (h mid : Held) (p : Property) (len : ℕ) → len ≡ text_len p → mid ≡ one_more len h → false ≡ counts mid.wanted p.pattern → mid ≡ onto h (found_as (p ∷ []) [] 0)
-entry_passed_over_as h mid p len l m e =
-    m ∙ ap (λ (n : ℕ). one_more n h) l ∙ entry_passed_over h p (sym (e ∙ ap (λ (x : Held). counts x.wanted p.pattern) m))
+pub entry_skipped_as : (h mid : Held) (p : Property) (len : ℕ) → len ≡ text_len p → mid ≡ one_more len h → false ≡ counts mid.wanted p.pattern → mid ≡ onto h (found_as (p ∷ []) [] 0)
+entry_skipped_as h mid p len l m e =
+    m ∙ ap (λ (n : ℕ). one_more n h) l ∙ entry_skipped h p (sym (e ∙ ap (λ (x : Held). counts x.wanted p.pattern) m))
 
 pub entry_added_as : (h mid now : Held) (p : Property) (len : ℕ) (e : Entry) → len ≡ text_len p → mid ≡ one_more len h → true ≡ counts mid.wanted p.pattern
     → e ≡ entry_at h.count p → now ≡ with_entry e mid → now ≡ onto h (found_as (p ∷ []) [] 0)
@@ -87,5 +87,5 @@ entry_added_as h mid now p len e l m k i n =
 -- an entry that is counted alone, or was not
 pub counted_adds : {T : Type 0} (h now : Held) (p : Property) (len : ℕ) (r : Result T HwdbFault) → len ≡ text_len p → counts h.wanted p.pattern ≡ false
     → OnOk r (now ≡ one_more len h) → OnErr r ((max_entries ≤ h.count) ⊎ (max_text_bytes < h.text_bytes + len)) → Adds h now (found_as (p ∷ []) [] 0) r
-counted_adds h now p len (Ok x) l u counted many = counted ∙ ap (λ (n : ℕ). one_more n h) l ∙ entry_passed_over h p u
+counted_adds h now p len (Ok x) l u counted many = counted ∙ ap (λ (n : ℕ). one_more n h) l ∙ entry_skipped h p u
 counted_adds h now p len (Err e) l u counted many = too_many_at h p len e l many

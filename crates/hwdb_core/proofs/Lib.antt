@@ -4,5 +4,6 @@ pub mod Finding
 pub mod Joining
 pub mod Showing
 pub mod Orders
+pub mod Bounds
 pub mod Totals
 pub mod RuledOut

@@ -77,10 +77,10 @@ rises_none k d h = absurd (omega arith)
 next_is : (k : ℕ) → k + 1 ≡ suc k
 next_is k = omega arith
 
-rises_behind : (e : Entry) (es : List Entry) → From (e.order + 1) es → Rises es → Rises (e ∷ es)
-rises_behind e [] f r k d h = absurd (omega arith)
-rises_behind e (x ∷ es) f r zero d h = subst (λ (n : ℕ). e.order < (get_or (e ∷ x ∷ es) n d).order) (sym (next_is 0)) (let b : e.order + 1 ≤ x.order = f 0 x (omega arith) in omega arith)
-rises_behind e (x ∷ es) f r (suc k) d h =
+rises_after : (e : Entry) (es : List Entry) → From (e.order + 1) es → Rises es → Rises (e ∷ es)
+rises_after e [] f r k d h = absurd (omega arith)
+rises_after e (x ∷ es) f r zero d h = subst (λ (n : ℕ). e.order < (get_or (e ∷ x ∷ es) n d).order) (sym (next_is 0)) (let b : e.order + 1 ≤ x.order = f 0 x (omega arith) in omega arith)
+rises_after e (x ∷ es) f r (suc k) d h =
     subst (λ (n : ℕ). (get_or (x ∷ es) k d).order < (get_or (e ∷ x ∷ es) n d).order) (sym (next_is (suc k)))
     (subst (λ (n : ℕ). (get_or (x ∷ es) k d).order < (get_or (x ∷ es) n d).order) (next_is k) (r k d (omega arith)))
 
@@ -97,7 +97,7 @@ module _ (p : Entry → Bool) where
   from_entries n (q ∷ ps) = from_more (p (entry_at n q)) n q (filter p (entries_from (n + 1) ps)) (from_entries (n + 1) ps)
 
   rises_more : (b : Bool) (n : ℕ) (q : Property) (es : List Entry) → From (n + 1) es → Rises es → Rises (cond b (entry_at n q ∷ es) es)
-  rises_more true n q es h r = rises_behind (entry_at n q) es h r
+  rises_more true n q es h r = rises_after (entry_at n q) es h r
   rises_more false n q es h r = r
 
   rises_filter : (n : ℕ) (ps : List Property) → Rises (filter p (entries_from n ps))

@@ -4,47 +4,47 @@ use Rattle.std.specs.List.{position, position_or_len}
 use Rattle.std.proofs.lemmas.Bool.{le-ltb, leb-true}
 use Rattle.text_bytes.specs.Names.{open_bracket, question_mark, star}
 use Rattle.text_core.specs.Fits.{fits}
-use Rattle.text_core.specs.Spell.{front, items_at, max_len, spell, spell_by, with_item}
+use Rattle.text_core.specs.Spell.{first_item, items_at, max_len, spell, spell_by, with_item}
 use Rattle.text_core.specs.declared.glob_fault.GlobFault.{GlobFault}
 use Rattle.text_core.specs.declared.item.Item.{Item}
 use Rattle.text_core.specs.declared.item.Item.TheVariants.{Byte, Many, One}
 use Rattle.text_core.specs.declared.reading.Reading.TheVariants.{Exact}
 use Rattle.hwdb_core.proofs.Finding.{position_none}
-use Rattle.hwdb_core.specs.Ruling.{IsPassed, differs_at_front, is_faultless, is_ruled_out, is_special, passes_over}
+use Rattle.hwdb_core.specs.Ruling.{IsPassed, differs_in_prefix, is_faultless, is_ruled_out, is_special, passes_over}
 
--- what is in front of a text, where its first byte means itself
-plain_front : (at b : ℕ) (t : List ℕ) → is_special b ≡ false → items_at Exact (b ∷ t) zero at ≡ with_item (Byte b) (items_at Exact t zero (at + 1))
-unfolding front
-plain_front at b t e = by_star (b == star) (b == question_mark) (b == open_bracket) refl refl refl e where
+-- what is at the front of a text, if its first byte means itself
+plain_first : (at b : ℕ) (t : List ℕ) → is_special b ≡ false → items_at Exact (b ∷ t) zero at ≡ with_item (Byte b) (items_at Exact t zero (at + 1))
+unfolding first_item
+plain_first at b t e = by_star (b == star) (b == question_mark) (b == open_bracket) refl refl refl e where
   by_star : (s q o : Bool) → (b == star) ≡ s → (b == question_mark) ≡ q → (b == open_bracket) ≡ o → (s || q) || o ≡ false → items_at Exact (b ∷ t) zero at ≡ with_item (Byte b) (items_at Exact t zero (at + 1))
   by_star true q o es eq eo h = cc
   by_star false true o es eq eo h = cc
   by_star false false true es eq eo h = cc
   by_star false false false es eq eo h = rw (es, eq, eo) refl
 
--- what an item and the rest of a text come to, where they are a pattern
+-- an item and the rest of a text, if together they are a pattern
 with_plain : (r : Result (List Item) GlobFault) (x : Item) (items : List Item) → with_item x r ≡ Ok items → (C : List Item → Type 0) → ((others : List Item) → r ≡ Ok others → C (x ∷ others)) → C items
 with_plain (Ok others) x items e C k =
     let same : x ∷ others ≡ items = cc in
     subst C same (k others refl)
 with_plain (Err f) x items e C k = cc
 
-differing : (at : ℕ) (t m : List ℕ) (items : List Item) → differs_at_front t m ≡ true → items_at Exact t zero at ≡ Ok items → fits items m ≡ false
+differing : (at : ℕ) (t m : List ℕ) (items : List Item) → differs_in_prefix t m ≡ true → items_at Exact t zero at ≡ Ok items → fits items m ≡ false
 differing at [] [] items d e = cc
 differing at [] (c ∷ m) [] d e = refl
 differing at [] (c ∷ m) (x ∷ items) d e = cc
 differing at (b ∷ t) [] items d e = by_test (is_special b) refl d where
   by_test : (s : Bool) → is_special b ≡ s → not s ≡ true → fits items [] ≡ false
   by_test true q n = cc
-  by_test false q n = with_plain (items_at Exact t zero (at + 1)) (Byte b) items (sym (plain_front at b t q) ∙ e) (λ xs. fits xs [] ≡ false) (λ others h. refl)
+  by_test false q n = with_plain (items_at Exact t zero (at + 1)) (Byte b) items (sym (plain_first at b t q) ∙ e) (λ xs. fits xs [] ≡ false) (λ others h. refl)
 differing at (b ∷ t) (c ∷ m) items d e = by_test (is_special b) (b == c) refl refl d (differing (at + 1) t m) where
-  by_test : (s same : Bool) → is_special b ≡ s → (b == c) ≡ same → cond s false (cond same (differs_at_front t m) true) ≡ true
-      → ((others : List Item) → differs_at_front t m ≡ true → items_at Exact t zero (at + 1) ≡ Ok others → fits others m ≡ false) → fits items (c ∷ m) ≡ false
+  by_test : (s same : Bool) → is_special b ≡ s → (b == c) ≡ same → cond s false (cond same (differs_in_prefix t m) true) ≡ true
+      → ((others : List Item) → differs_in_prefix t m ≡ true → items_at Exact t zero (at + 1) ≡ Ok others → fits others m ≡ false) → fits items (c ∷ m) ≡ false
   by_test true same q r n later = cc
   by_test false true q r n later =
-      with_plain (items_at Exact t zero (at + 1)) (Byte b) items (sym (plain_front at b t q) ∙ e) (λ xs. fits xs (c ∷ m) ≡ false) (λ others h. rw r (later others n h))
+      with_plain (items_at Exact t zero (at + 1)) (Byte b) items (sym (plain_first at b t q) ∙ e) (λ xs. fits xs (c ∷ m) ≡ false) (λ others h. rw r (later others n h))
   by_test false false q r n later =
-      with_plain (items_at Exact t zero (at + 1)) (Byte b) items (sym (plain_front at b t q) ∙ e) (λ xs. fits xs (c ∷ m) ≡ false) (λ others h. rw r refl)
+      with_plain (items_at Exact t zero (at + 1)) (Byte b) items (sym (plain_first at b t q) ∙ e) (λ xs. fits xs (c ∷ m) ≡ false) (λ others h. rw r refl)
 
 -- ---- a text without a set is a pattern
 
@@ -53,7 +53,7 @@ record Spelled (at : ℕ) (t : List ℕ) : Type 0 where
   is : items_at Exact t zero at ≡ Ok items
 
 one_more : (at b : ℕ) (t : List ℕ) → (b == open_bracket) ≡ false → Spelled (at + 1) t → Spelled at (b ∷ t)
-unfolding front
+unfolding first_item
 one_more at b t n s = by_test (b == star) (b == question_mark) refl refl where
   by_test : (v q : Bool) → (b == star) ≡ v → (b == question_mark) ≡ q → Spelled at (b ∷ t)
   by_test true q es eq = record { items = Many ∷ s.items; is = rw (es, s.is) refl }
@@ -65,11 +65,11 @@ setless at [] h = record { items = []; is = refl }
 setless at (b ∷ t) h = by_test (b == open_bracket) refl (setless (at + 1) t) where
   by_test : (v : Bool) → (b == open_bracket) ≡ v → (length t ≤ position_or_len (λ b. b == open_bracket) t → Spelled (at + 1) t) → Spelled at (b ∷ t)
   by_test true e later =
-      let front : position_or_len (λ b. b == open_bracket) (b ∷ t) ≡ 0 = rw e refl in
-      absurd (omega (arith, h, front))
+      let first_item : position_or_len (λ b. b == open_bracket) (b ∷ t) ≡ 0 = rw e refl in
+      absurd (omega (arith, h, first_item))
   by_test false e later =
-      let front : position_or_len (λ b. b == open_bracket) (b ∷ t) ≡ 1 + position_or_len (λ b. b == open_bracket) t = rw e refl in
-      one_more at b t e (later (omega (arith, h, front)))
+      let first_item : position_or_len (λ b. b == open_bracket) (b ∷ t) ≡ 1 + position_or_len (λ b. b == open_bracket) t = rw e refl in
+      one_more at b t e (later (omega (arith, h, first_item)))
 
 first_so : (a b : Bool) → a && b ≡ true → a ≡ true
 first_so true b e = refl
@@ -83,12 +83,12 @@ none_so : (o : Option ℕ) → is_none o ≡ true → o ≡ None
 none_so None e = refl
 none_so (Some n) e = cc
 
-pub passed_over : (wanted : Option (List ℕ)) (t : List ℕ) → passes_over wanted t ≡ true → IsPassed wanted t
+pub skipped : (wanted : Option (List ℕ)) (t : List ℕ) → passes_over wanted t ≡ true → IsPassed wanted t
 unfolding is_ruled_out spell spell_by
-passed_over None t e = cc
-passed_over (Some m) t e =
-    let differs : differs_at_front t m ≡ true = first_so (differs_at_front t m) (is_faultless t) e in
-    let faultless : is_faultless t ≡ true = second_so (differs_at_front t m) (is_faultless t) e in
+skipped None t e = cc
+skipped (Some m) t e =
+    let differs : differs_in_prefix t m ≡ true = first_so (differs_in_prefix t m) (is_faultless t) e in
+    let faultless : is_faultless t ≡ true = second_so (differs_in_prefix t m) (is_faultless t) e in
     let short : nat_le (length t) max_len ≡ true = first_so (nat_le (length t) max_len) (is_none (position (λ b. b == open_bracket) t)) faultless in
     let none : position (λ b. b == open_bracket) t ≡ None = none_so (position (λ b. b == open_bracket) t) (second_so (nat_le (length t) max_len) (is_none (position (λ b. b == open_bracket) t)) faultless) in
     let s : Spelled 0 t = setless 0 t (position_none (λ b. b == open_bracket) t none) in

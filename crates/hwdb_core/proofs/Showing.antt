@@ -47,9 +47,9 @@ pair_given file pattern l n pair e f =
 pub pair_missing : (file : List ℕ) (pattern : List Item) (l : NumberedLine) (kind : MessageKind) → pair_of l ≡ Err kind → pair_found file pattern l ≡ nothing
 pair_missing file pattern l kind e = ap (λ (r : Result Pair MessageKind). found_as (from_pair file pattern l.number r) [] 0) e
 
-pub property_told : (file : List ℕ) (l : NumberedLine) (n : ℕ) (word : List ℕ) (kind : MessageKind) → pair_of l ≡ Err kind → n ≡ l.number → word ≡ property_text l
+pub property_reported : (file : List ℕ) (l : NumberedLine) (n : ℕ) (word : List ℕ) (kind : MessageKind) → pair_of l ≡ Err kind → n ≡ l.number → word ≡ property_text l
     → only_messages (message file n kind word ∷ []) ≡ property_found file l
-property_told file l n word kind e f g =
+property_reported file l n word kind e f g =
     same_message file kind n l.number word (property_text l) f g
     ∙ ap (λ (r : Result Pair MessageKind). only_messages (about_pair file l r)) (sym e)
 
@@ -74,16 +74,16 @@ unfolding join
 cut_joined file c =
     let early : found_in (early_found file) c.early ≡ only_messages (map (about_early file) c.early) =
     found_in_messages (λ l. about_early file l ∷ []) c.early ∙ ap only_messages (flat_map_single (about_early file) c.early) in
-    let told : found_in (property_found file) c.properties ≡ only_messages (flat_map (about_property file) c.properties) = found_in_messages (about_property file) c.properties in
+    let reported : found_in (property_found file) c.properties ≡ only_messages (flat_map (about_property file) c.properties) = found_in_messages (about_property file) c.properties in
     let read : found_in (match_found file c.properties) c.matches ≡ found_as (cut_properties file c) (flat_map (about_match file) c.matches) (cut_match_bytes c) = found_in_is (match_found file c.properties) c.matches in
     ap (λ (x : Found). join x (join (bare_found file c.matches c.properties) (join (found_in (match_found file c.properties) c.matches) (join (found_in (property_found file) c.properties) (rest_found file c.rest))))) early
     ∙ ap (λ (x : Found). join (only_messages (map (about_early file) c.early)) (join (bare_found file c.matches c.properties) (join x (join (found_in (property_found file) c.properties) (rest_found file c.rest))))) read
-    ∙ ap (λ (x : Found). join (only_messages (map (about_early file) c.early)) (join (bare_found file c.matches c.properties) (join (found_as (cut_properties file c) (flat_map (about_match file) c.matches) (cut_match_bytes c)) (join x (rest_found file c.rest))))) told
+    ∙ ap (λ (x : Found). join (only_messages (map (about_early file) c.early)) (join (bare_found file c.matches c.properties) (join (found_as (cut_properties file c) (flat_map (about_match file) c.matches) (cut_match_bytes c)) (join x (rest_found file c.rest))))) reported
     ∙ same_found (cut_properties file c ++ []) (cut_properties file c) (cut_messages file c) (cut_messages file c) (0 + (0 + (cut_match_bytes c + 0))) (cut_match_bytes c) (append-nil (cut_properties file c)) refl (omega arith)
 
 pub nothing_left : {X : Type 0} (xs : List X) (i : ℕ) → length xs ≤ i → length (drop i xs) ≡ 0
 nothing_left xs i h = omega (arith, length-drop i xs)
 
-pub empty_at_front : {X : Type 0} (xs : List X) → slice_get xs 0 ≡ None → xs ≡ []
-empty_at_front [] e = refl
-empty_at_front (x ∷ xs) e = cc
+pub empty_at_start : {X : Type 0} (xs : List X) → slice_get xs 0 ≡ None → xs ≡ []
+empty_at_start [] e = refl
+empty_at_start (x ∷ xs) e = cc

@@ -11,6 +11,7 @@ use Rattle.hwdb_core.specs.Found.{FailsAt, Found, Held, IsKept, begun, counting,
 use Rattle.hwdb_core.specs.Parts.{cut_found, file_found}
 use Rattle.hwdb_core.specs.declared.fault.HwdbFault.{HwdbFault}
 use Rattle.hwdb_core.specs.declared.fault.HwdbFault.TheVariants.{TooMany, Memory}
+use Rattle.hwdb_core.proofs.Bounds.{HoldFew, few_within, within_few}
 use Rattle.hwdb_core.proofs.Joining.{found_as, found_in_is}
 
 pub all_found : (files : List SourceFile) → found_in file_found files ≡ found_as (properties_of files) (messages_of files) (match_bytes_of files)
@@ -21,7 +22,7 @@ all_found (f ∷ fs) =
     ∙ ap (λ (x : Found). join (found_as (flat_map (cut_properties f.name) (cuts_of f)) (flat_map (cut_messages f.name) (cuts_of f)) (sum_by cut_match_bytes (cuts_of f))) x) (all_found fs)
     ∙ ap (λ (n : ℕ). found_as (properties_of (f ∷ fs)) (messages_of (f ∷ fs)) n) (sym (sum_by-cons (λ f. sum_by cut_match_bytes (cuts_of f)) f fs))
 
--- what a reading from the start comes to
+-- the result of reading from the start
 pub read_all : (w : Option (List ℕ)) (now : Held) (files : List SourceFile) → now ≡ onto (begun w) (found_in file_found files) → now ≡ onto (begun w) (found_as (properties_of files) (messages_of files) (match_bytes_of files))
 read_all w now files e = e ∙ ap (onto (begun w)) (all_found files)
 
@@ -37,11 +38,12 @@ pub within : (w : Option (List ℕ)) (now : Held) (files : List SourceFile) → 
 unfolding onto
 within w now files e k n =
     let kept : IsKept (onto (begun w) (found_as (properties_of files) (messages_of files) (match_bytes_of files))) = subst IsKept (read_all w now files e) k in
-    record { entries = omega (arith, kept.entries); match_bytes = omega (arith, kept.match_bytes); text_bytes = omega (arith, kept.text_bytes); name_bytes = n }
+    few_within files (record { entries = omega (arith, kept.entries); match_bytes = omega (arith, kept.match_bytes); text_bytes = omega (arith, kept.text_bytes); name_bytes = n })
 
 pub beyond : (w : Option (List ℕ)) (files : List SourceFile) → (IsKept (onto (begun w) (found_in file_found files)) → ⊥) → WithinBounds files → ⊥
 unfolding onto
-beyond w files h b =
+beyond w files h within =
+    let b : HoldFew files = within_few files within in
     let kept : IsKept (onto (begun w) (found_as (properties_of files) (messages_of files) (match_bytes_of files))) =
     record { entries = omega (arith, b.entries); match_bytes = omega (arith, b.match_bytes); text_bytes = omega (arith, b.text_bytes) } in
     h (subst IsKept (sym (ap (onto (begun w)) (all_found files))) kept)

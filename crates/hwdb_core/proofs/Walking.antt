@@ -34,7 +34,7 @@ pub found_lines_of : (file bytes : List ℕ) → found_in (cut_found file) (map 
 unfolding lines_found
 found_lines_of file bytes = found_in-map (cut_found file) cut (paragraphs (lines_of bytes))
 
--- an empty list of lines is no paragraph, and nothing is found in it
+-- an empty list of lines is not a paragraph, and nothing is found in it
 one_more : (file : List ℕ) (p : List NumberedLine) (ps : List (List NumberedLine))
     → found_in (paragraph_found file) (filter has_lines (p ∷ ps)) ≡ join (paragraph_found file p) (found_in (paragraph_found file) (filter has_lines ps))
 unfolding found_in

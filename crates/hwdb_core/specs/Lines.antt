@@ -1,9 +1,8 @@
 -- What is left of the lines of a database file once they are cleaned.
-use Rattle.std.specs.Prelude.{ℕ, ◌-◌, Bool, not, ◌==◌, List, length, take, take_while, map, filter}
-use Rattle.std.specs.List.{suffix_len}
-use Rattle.text_bytes.specs.Names.{hash, is_whitespace}
+use Rattle.std.specs.Prelude.{ℕ, Bool, not, ◌==◌, List, take_while, map, filter}
+use Rattle.text_bytes.specs.Names.{hash}
 use Rattle.text_bytes.specs.Lines.{NumberedLine, numbered_lines}
-use Rattle.text_bytes.specs.Texts.{begins_with}
+use Rattle.text_bytes.specs.Texts.{begins_with, trimmed}
 
 -- whether a text begins with `#`
 abbrev pub is_comment : List ℕ → Bool
@@ -12,10 +11,6 @@ is_comment t = begins_with hash t
 -- a text up to its first `#`
 abbrev pub before_comment : List ℕ → List ℕ
 before_comment t = take_while (λ b. not (b == hash)) t
-
--- a text without the whitespace at its end
-abbrev pub trimmed : List ℕ → List ℕ
-trimmed t = take (length t - suffix_len is_whitespace t) t
 
 -- a line without its comment, and without the whitespace before that
 abbrev pub cleaned : NumberedLine → NumberedLine

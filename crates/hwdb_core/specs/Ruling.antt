@@ -11,11 +11,11 @@ is_special b = b == star || b == question_mark || b == open_bracket
 
 -- whether a match and a modalias differ before the first byte of the match that means something other than itself, or
 -- one ends where the other goes on
-abbrev pub differs_at_front : List ℕ → List ℕ → Bool
-differs_at_front [] [] = false
-differs_at_front [] (c ∷ m) = true
-differs_at_front (b ∷ t) [] = not (is_special b)
-differs_at_front (b ∷ t) (c ∷ m) = if is_special b then false else if b == c then differs_at_front t m else true
+abbrev pub differs_in_prefix : List ℕ → List ℕ → Bool
+differs_in_prefix [] [] = false
+differs_in_prefix [] (c ∷ m) = true
+differs_in_prefix (b ∷ t) [] = not (is_special b)
+differs_in_prefix (b ∷ t) (c ∷ m) = if is_special b then false else if b == c then differs_in_prefix t m else true
 
 -- whether a match can have no fault: no set, and not too many bytes
 abbrev pub is_faultless : List ℕ → Bool
@@ -23,7 +23,7 @@ is_faultless t = nat_le (length t) max_len && is_none (position (λ b. b == open
 
 -- whether a match is known not to fit
 unfoldable pub is_ruled_out : List ℕ → List ℕ → Bool
-is_ruled_out modalias t = differs_at_front t modalias && is_faultless t
+is_ruled_out modalias t = differs_in_prefix t modalias && is_faultless t
 
 -- the same, if just one modalias is asked for
 abbrev pub passes_over : Option (List ℕ) → List ℕ → Bool

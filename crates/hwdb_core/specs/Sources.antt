@@ -1,5 +1,5 @@
 -- What database files say, taken together.
-use Rattle.std.specs.Prelude.{ℕ, ◌+◌, ◌≤◌, List, [], ◌∷◌, length, map, flat_map, sum_by}
+use Rattle.std.specs.Prelude.{ℕ, ◌+◌, Bool, ◌&&◌, nat_le, IsTrue, List, [], ◌∷◌, length, map, flat_map, sum_by}
 use Rattle.text_bytes.specs.declared.Message.{Message}
 use Rattle.text_bytes.specs.declared.SourceFile.{SourceFile}
 use Rattle.hwdb_lookup.specs.Bounds.{max_entries, max_match_bytes, max_name_bytes, max_text_bytes}
@@ -42,9 +42,15 @@ text_len p = length p.key + length p.value
 abbrev pub match_bytes_of : List SourceFile → ℕ
 match_bytes_of files = sum_by (λ f. sum_by cut_match_bytes (cuts_of f)) files
 
--- files that are not too many: by their entries, the matches that give these, their keys and values, and the files' names
-pub record WithinBounds (files : List SourceFile) : Type 0 where
-  pub entries : length (properties_of files) ≤ max_entries
-  pub match_bytes : match_bytes_of files ≤ max_match_bytes
-  pub text_bytes : sum_by text_len (properties_of files) ≤ max_text_bytes
-  pub name_bytes : sum_by (λ f. length f.name) files ≤ max_name_bytes
+-- whether files hold no more than a database may: entries, bytes of the matches that give these, of their keys and
+-- values, and of the files' names
+unfoldable pub are_few : List SourceFile → Bool
+are_few files =
+    nat_le (length (properties_of files)) max_entries
+    && nat_le (match_bytes_of files) max_match_bytes
+    && nat_le (sum_by text_len (properties_of files)) max_text_bytes
+    && nat_le (sum_by (λ f. length f.name) files) max_name_bytes
+
+-- files that hold no more
+abbrev pub WithinBounds : List SourceFile → Type 0
+WithinBounds files = IsTrue (are_few files)

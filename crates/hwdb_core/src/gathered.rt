@@ -20,7 +20,7 @@ use text_core::PackedPattern;
 
 /// Entries and messages, in order.
 #[derive(Debug, Drop)]
-pub struct Gathered {
+pub(crate) struct Gathered {
     wanted: Option<Bytes>,
     entries: Vec<Entry>,
     count: usize,
@@ -84,7 +84,7 @@ impl Gathered {
     }
 
     /// Adds a message about a line of a file.
-    pub fn tell(
+    pub fn report(
         &mut self,
         alloc: Global,
         file: &[u8],

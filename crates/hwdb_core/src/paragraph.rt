@@ -10,13 +10,13 @@ use text_bytes::{Line, MessageKind, find};
 
 /// A key and its value, both of a line.
 #[derive(Debug, Drop)]
-pub struct Pair<'a> {
+pub(crate) struct Pair<'a> {
     pub key: &'a [u8],
     pub value: &'a [u8],
 }
 
 /// What a property says, or what is wrong with it.
-pub fn pair_of<'a>(line: &Line<'a>) -> Result<Pair<'a>, MessageKind>
+pub(crate) fn pair_of<'a>(line: &Line<'a>) -> Result<Pair<'a>, MessageKind>
     ensures { MatchResult result (λ p. pair_of line.now ≡ Ok (record { key = p.key.now; value = p.value.now })) (λ kind. pair_of line.now ≡ Err kind) }
 {
     let text = property_text(line);
@@ -31,7 +31,7 @@ pub fn pair_of<'a>(line: &Line<'a>) -> Result<Pair<'a>, MessageKind>
 }
 
 /// How many lines at the front are properties.
-pub fn property_run(lines: &[Line<'_>]) -> usize
+pub(crate) fn property_run(lines: &[Line<'_>]) -> usize
     ensures value { result ≡ prefix_len is_property lines.now }
     ensures within { result ≤ length lines.now }
 {
@@ -39,7 +39,7 @@ pub fn property_run(lines: &[Line<'_>]) -> usize
 }
 
 /// How many lines at the front are matches.
-pub fn match_run(lines: &[Line<'_>]) -> usize
+pub(crate) fn match_run(lines: &[Line<'_>]) -> usize
     ensures value { result ≡ prefix_len is_match lines.now }
     ensures within { result ≤ length lines.now }
 {
@@ -48,7 +48,7 @@ pub fn match_run(lines: &[Line<'_>]) -> usize
 
 /// The four parts of a paragraph, in order.
 #[derive(Debug, Drop)]
-pub struct Parts<'l, 'a> {
+pub(crate) struct Parts<'l, 'a> {
     pub early: &'l [Line<'a>],
     pub matches: &'l [Line<'a>],
     pub properties: &'l [Line<'a>],
@@ -56,12 +56,12 @@ pub struct Parts<'l, 'a> {
 }
 
 /// Cuts a paragraph.
-pub fn parts_of<'l, 'a>(lines: &'l [Line<'a>]) -> Parts<'l, 'a>
+pub(crate) fn parts_of<'l, 'a>(lines: &'l [Line<'a>]) -> Parts<'l, 'a>
     ensures { record { early = result.early.now; matches = result.matches.now; properties = result.properties.now; rest = result.rest.now } ≡ cut lines.now }
 {
-    let (early, behind) = lines.split_at(property_run(lines));
-    let (matches, behind) = behind.split_at(match_run(behind));
-    let (properties, rest) = behind.split_at(property_run(behind));
+    let (early, following) = lines.split_at(property_run(lines));
+    let (matches, following) = following.split_at(match_run(following));
+    let (properties, rest) = following.split_at(property_run(following));
     Parts {
         early,
         matches,

@@ -21,7 +21,11 @@ use text_bytes::{Line, Lines, MessageKind, SourceFile};
 use text_core::{GlobFault, PackedPattern};
 
 /// Reads a file.
-pub fn read_file(alloc: Global, found: &mut Gathered, file: &SourceFile) -> Result<(), HwdbFault>
+pub(crate) fn read_file(
+    alloc: Global,
+    found: &mut Gathered,
+    file: &SourceFile,
+) -> Result<(), HwdbFault>
     ensures { Adds found.old found.new (file_found file.now) result }
 {
     let name = file.name.as_slice();
@@ -69,7 +73,7 @@ fn read_early(
 {
     for line in early {
         let kind = MessageKind::PropertyWithoutMatch;
-        found.tell(alloc, file, line.number(), kind, property_text(line))?;
+        found.report(alloc, file, line.number(), kind, property_text(line))?;
     }
     Ok(())
 }
@@ -87,7 +91,7 @@ fn read_bare(
     match matches.first() {
         Some(line) if properties.is_empty() => {
             let kind = MessageKind::MatchWithoutProperty;
-            found.tell(alloc, file, line.number(), kind, line.text())
+            found.report(alloc, file, line.number(), kind, line.text())
         }
         _ => Ok(()),
     }
@@ -130,7 +134,7 @@ fn read_match(
         Err(GlobFault::Memory) => Err(HwdbFault::Memory),
         Err(_) => {
             let kind = MessageKind::PatternNotSupported;
-            found.tell(alloc, file, line.number(), kind, line.text())
+            found.report(alloc, file, line.number(), kind, line.text())
         }
     }
 }
@@ -248,7 +252,7 @@ fn read_property(
 {
     match pair_of(line) {
         Ok(_) => Ok(()),
-        Err(kind) => found.tell(alloc, file, line.number(), kind, property_text(line)),
+        Err(kind) => found.report(alloc, file, line.number(), kind, property_text(line)),
     }
 }
 
@@ -265,7 +269,7 @@ fn read_rest(
         None => Ok(()),
         Some(line) => {
             let kind = MessageKind::UnindentedLine;
-            found.tell(alloc, file, line.number(), kind, line.text())
+            found.report(alloc, file, line.number(), kind, line.text())
         }
     }
 }

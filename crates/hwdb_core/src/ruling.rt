@@ -1,7 +1,7 @@
 //! Which matches are known not to fit a modalias before they are read as patterns: for any one device, most of a
 //! database.
 ghost use Rattle.std.specs.Prelude.{◌≡◌};
-ghost use Rattle.hwdb_core.specs.Ruling.{differs_at_front, is_faultless, is_ruled_out, is_special};
+ghost use Rattle.hwdb_core.specs.Ruling.{differs_in_prefix, is_faultless, is_ruled_out, is_special};
 
 use text_bytes::find;
 
@@ -16,8 +16,8 @@ fn is_special(byte: u8) -> bool
 }
 
 /// Whether a match and a modalias differ before the first byte of the match that means something other than itself.
-fn differs_at_front(text: &[u8], modalias: &[u8]) -> bool
-    ensures { result ≡ differs_at_front text.now modalias.now }
+fn differs_in_prefix(text: &[u8], modalias: &[u8]) -> bool
+    ensures { result ≡ differs_in_prefix text.now modalias.now }
 {
     let mut rest = modalias;
     for byte in text {
@@ -25,11 +25,11 @@ fn differs_at_front(text: &[u8], modalias: &[u8]) -> bool
             return false;
         }
         match rest.split_first() {
-            Some((first, behind)) => {
+            Some((first, following)) => {
                 if *byte != *first {
                     return true;
                 }
-                rest = behind;
+                rest = following;
             }
             None => return true,
         }
@@ -49,5 +49,5 @@ fn is_faultless(text: &[u8]) -> bool
 pub(crate) fn is_ruled_out(modalias: &[u8], text: &[u8]) -> bool
     ensures { result ≡ is_ruled_out modalias.now text.now }
 {
-    differs_at_front(text, modalias) && is_faultless(text)
+    differs_in_prefix(text, modalias) && is_faultless(text)
 }

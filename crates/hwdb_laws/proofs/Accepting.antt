@@ -6,7 +6,7 @@ use Rattle.trie_build.specs.Sizes.{KeepsBounds, index_len}
 use Rattle.index_reading.specs.Accepted.{Accepted}
 use Rattle.index_reading.specs.Header.{whole_len}
 use Rattle.index_reading.specs.Written.{SaysDraft, written}
-use Rattle.index_reading.proofs.Standing.{written_says}
+use Rattle.index_reading.proofs.Placement.{written_says}
 use Rattle.trie_core.specs.Entries.{AreTyped}
 use Rattle.trie_core.specs.Image.{draft_of, image}
 use Rattle.trie_core.proofs.Fitting.{few_values, sets_len, sound, text_len, writable}

@@ -103,7 +103,7 @@ rest_begins_so : (rest : List NumberedLine) → StopsAt is_property rest → Emp
 rest_begins_so [] h = tt
 rest_begins_so (l ∷ ls) h = ap not h
 
--- where no match is taken from what no property begins, nothing is there
+-- if no match is taken from what no property begins, nothing is there
 no_match : (q : List NumberedLine) → StopsAt is_property q → take_while is_match q ≡ [] → take_while is_property (skip_while is_match q) ≡ []
 no_match [] s e = refl
 no_match (l ∷ ls) s e =

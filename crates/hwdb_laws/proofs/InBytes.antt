@@ -19,63 +19,63 @@ use Rattle.index_reading.specs.Header.{header_of, text_start}
 use Rattle.index_reading.specs.Records.{text_of, value}
 use Rattle.index_reading.specs.declared.records.Span.{Span}
 use Rattle.index_reading.proofs.Nodes.{length_values, value_is}
-use Rattle.hwdb_laws.specs.Parts.{IsPartOf, StandsIn}
+use Rattle.hwdb_laws.specs.Parts.{IsFoundIn, IsPartOf}
 
 module _ (bytes : List ℕ) where
-  text_stands : (s : Span) → IsPartOf bytes (text_of bytes s)
-  text_stands s =
+  text_in_place : (s : Span) → IsPartOf bytes (text_of bytes s)
+  text_in_place s =
       let from : ℕ = text_start (header_of bytes) + s.place in
       record {
         before = take from bytes;
-        behind = drop s.len (drop from bytes);
+        following = drop s.len (drop from bytes);
         whole =
             sym (append_assoc (take from bytes) (take s.len (drop from bytes)) (drop s.len (drop from bytes))
             ∙ ap (λ (l : List ℕ). take from bytes ++ l) (take-append-drop s.len (drop from bytes)) ∙ take-append-drop from bytes);
       }
 
-  nothing_stands : IsPartOf bytes []
-  nothing_stands = record { before = []; behind = bytes; whole = refl }
+  nothing_in_place : IsPartOf bytes []
+  nothing_in_place = record { before = []; following = bytes; whole = refl }
 
   -- the texts of a value
-  record Stands (v : Value) : Type 0 where
+  record IsPresent (v : Value) : Type 0 where
     key : IsPartOf bytes v.key
     value : IsPartOf bytes v.value
     file : IsPartOf bytes v.file
 
-  value_stands : (j : ℕ) → Stands (value_at (contents bytes).values j)
-  value_stands j = elim (leb_tells (header_of bytes).values j) [
+  value_in_place : (j : ℕ) → IsPresent (value_at (contents bytes).values j)
+  value_in_place j = elim (leb_tells (header_of bytes).values j) [
     | inl over ↦
         let none : value_at (contents bytes).values j ≡ no_value = get_or-eq_default (contents bytes).values no_value (omega (arith, over.1, length_values bytes (contents bytes) refl)) in
-        subst Stands (sym none) (record { key = nothing_stands; value = nothing_stands; file = nothing_stands })
+        subst IsPresent (sym none) (record { key = nothing_in_place; value = nothing_in_place; file = nothing_in_place })
     | inr within ↦
         let own : value_at (contents bytes).values j ≡ value_of bytes j = value_is bytes (contents bytes) refl j within.1 in
-        subst Stands (sym own) (record { key = text_stands (value bytes j).key; value = text_stands (value bytes j).value; file = text_stands (value bytes j).file })
+        subst IsPresent (sym own) (record { key = text_in_place (value bytes j).key; value = text_in_place (value bytes j).value; file = text_in_place (value bytes j).file })
   ]
 
   abbrev all_listed : List Entry
   all_listed = listed (contents bytes).nodes (contents bytes).values
 
-  entry_stands : (e : Entry) → IsIn e all_listed → StandsIn bytes (origin e)
-  entry_stands e i =
+  entry_in_place : (e : Entry) → IsIn e all_listed → IsFoundIn bytes (origin e)
+  entry_in_place e i =
       let c : Contents = contents bytes in
       let a = in_flat_map (λ n. map (entry (path c.nodes n)) (values_of c.nodes c.values n)) e (numbers c.nodes) i in
       let b = in_map (entry (path c.nodes a.0)) e (values_of c.nodes c.values a.0) a.2 in
       let v = in_map (value_at c.values) b.0 (range_with_len (node_at c.nodes a.0).first_value (node_at c.nodes a.0).values) b.1 in
-      let stands : Stands b.0 = subst Stands (sym v.2) (value_stands v.0) in
-      subst (λ (x : Entry). StandsIn bytes (origin x)) (sym b.2) (record { key = stands.key; value = stands.value; file = stands.file })
+      let is_present : IsPresent b.0 = subst IsPresent (sym v.2) (value_in_place v.0) in
+      subst (λ (x : Entry). IsFoundIn bytes (origin x)) (sym b.2) (record { key = is_present.key; value = is_present.value; file = is_present.file })
 
   module _ (m : List ℕ) where
-    won_stands : All (λ (e : Entry). StandsIn bytes (origin e)) (winners all_listed m)
-    won_stands =
-        All-weaker (Counts all_listed m) (λ (e : Entry). StandsIn bytes (origin e))
-        (λ e counts. entry_stands e (subst (IsIn e) (sym counts.listed) (append_right e counts.before (e ∷ counts.after) (inl refl))))
+    won_in_place : All (λ (e : Entry). IsFoundIn bytes (origin e)) (winners all_listed m)
+    won_in_place =
+        All-weaker (Counts all_listed m) (λ (e : Entry). IsFoundIn bytes (origin e))
+        (λ e counts. entry_in_place e (subst (IsIn e) (sym counts.listed) (append_right e counts.before (e ∷ counts.after) (inl refl))))
         (winners all_listed m) (winners_answer all_listed m).counts
 
-    pub sources_stand : All (StandsIn bytes) (sourced all_listed m)
-    sources_stand = All-map (StandsIn bytes) origin (winners all_listed m) won_stands
+    pub sources_in_place : All (IsFoundIn bytes) (sourced all_listed m)
+    sources_in_place = All-map (IsFoundIn bytes) origin (winners all_listed m) won_in_place
 
-    pub query_stands : All (λ (p : List ℕ × List ℕ). IsPartOf bytes p.0 × IsPartOf bytes p.1) (query all_listed m)
-    query_stands =
+    pub query_in_place : All (λ (p : List ℕ × List ℕ). IsPartOf bytes p.0 × IsPartOf bytes p.1) (query all_listed m)
+    query_in_place =
         let P : List ℕ × List ℕ → Type 0 = λ p. IsPartOf bytes p.0 × IsPartOf bytes p.1 in
         All-map P property (winners all_listed m)
-        (All-weaker (λ (e : Entry). StandsIn bytes (origin e)) (λ (e : Entry). P (property e)) (λ e stands. (stands.key, stands.value)) (winners all_listed m) won_stands)
+        (All-weaker (λ (e : Entry). IsFoundIn bytes (origin e)) (λ (e : Entry). P (property e)) (λ e is_present. (is_present.key, is_present.value)) (winners all_listed m) won_in_place)

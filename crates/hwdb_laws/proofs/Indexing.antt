@@ -23,8 +23,8 @@ module _ (files : List SourceFile) (within : WithinBounds files) where
   abbrev es : List Entry
   es = entries_of files
 
-  abbrev told : List Entry
-  told = listed (contents (image es)).nodes (contents (image es)).values
+  abbrev reported : List Entry
+  reported = listed (contents (image es)).nodes (contents (image es)).values
 
   rising : Rising es
   rising = rising_counting None files
@@ -41,11 +41,11 @@ module _ (files : List SourceFile) (within : WithinBounds files) where
   pub short : length (image es) ≤ max_index_len
   short = omega (arith, image_len es rising bounds typed, bounds.index)
 
-  pub lists : IsPermutation es told
+  pub lists : IsPermutation es reported
   lists = image_permutes es rising bounds typed
 
-  pub answers : (modalias : List ℕ) → query told modalias ≡ query es modalias
+  pub answers : (modalias : List ℕ) → query reported modalias ≡ query es modalias
   answers modalias = query_is es rising bounds typed modalias
 
-  pub tells : (modalias : List ℕ) → sourced told modalias ≡ sourced es modalias
-  tells modalias = sources_are es rising bounds typed modalias
+  pub reports : (modalias : List ℕ) → sourced reported modalias ≡ sourced es modalias
+  reports modalias = sources_are es rising bounds typed modalias

@@ -3,7 +3,7 @@ pub mod Listing
 pub mod Accepting
 pub mod Saying
 pub mod Answering
-pub mod Telling
+pub mod Reporting
 pub mod Cuts
 pub mod Indexing
 pub mod Typing

@@ -45,8 +45,8 @@ module _ (bytes : List ℕ) (first : Accepted1 bytes) where
   nodes_are = map_range_same (node_of bytes) (node_1 bytes) 0 (header_of bytes).nodes (λ k from below. node_same k)
 
   -- a value as an entry, by the definitions for both versions
-  value_told : (pattern : List Item) (j : ℕ) → entry pattern (value_of bytes j) ≡ entry_1 bytes pattern j
-  value_told pattern j =
+  value_reported : (pattern : List Item) (j : ℕ) → entry pattern (value_of bytes j) ≡ entry_1 bytes pattern j
+  value_reported pattern j =
       let v = value_1 bytes j in
       ap (λ (r : ValueRecord). record {
         pattern = pattern;
@@ -60,14 +60,14 @@ module _ (bytes : List ℕ) (first : Accepted1 bytes) where
       ∙ ap (λ (value : List ℕ). as_entry pattern (text_1 bytes v.key_place v.key_len) value v.order) (text_is bytes version v.value_place v.value_len)
 
   -- the entries of one node
-  node_told : (pattern : List Item) (i : ℕ) → i < (header_of bytes).nodes
+  node_reported : (pattern : List Item) (i : ℕ) → i < (header_of bytes).nodes
       → map (entry pattern) (values_of nodes values i) ≡ map (entry_1 bytes pattern) (range_with_len (node bytes i).first_value (node bytes i).values)
-  node_told pattern i h =
+  node_reported pattern i h =
       let own : node_at nodes i ≡ node_of bytes i = node_is bytes (contents bytes) refl i h in
       let among : (node bytes i).first_value + (node bytes i).values ≤ (header_of bytes).values = values_within bytes i (first Shape) h in
       ap (λ (n : Node). map (entry pattern) (map (value_at values) (range_with_len n.first_value n.values))) own
       ∙ mapped_range_same (entry pattern) (value_at values) (entry_1 bytes pattern) (node bytes i).first_value (node bytes i).values (λ j from below.
-      ap (entry pattern) (listed_value_is bytes (contents bytes) refl j (omega (arith, among))) ∙ value_told pattern j)
+      ap (entry pattern) (listed_value_is bytes (contents bytes) refl j (omega (arith, among))) ∙ value_reported pattern j)
 
   pub lists_the_same : listed nodes values ≡ listed_1 bytes
   lists_the_same =
@@ -75,5 +75,5 @@ module _ (bytes : List ℕ) (first : Accepted1 bytes) where
       ∙ flat_range_same
       (λ i. map (entry (path nodes i)) (values_of nodes values i))
       (λ i. map (entry_1 bytes (path nodes i)) (range_with_len (node bytes i).first_value (node bytes i).values))
-      0 (header_of bytes).nodes (λ i from below. node_told (path nodes i) i (omega arith))
+      0 (header_of bytes).nodes (λ i from below. node_reported (path nodes i) i (omega arith))
       ∙ ap (λ (ns : List Node). flat_map (λ i. map (entry_1 bytes (path ns i)) (range_with_len (node bytes i).first_value (node bytes i).values)) (range_with_len 0 (header_of bytes).nodes)) nodes_are

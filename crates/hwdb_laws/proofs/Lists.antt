@@ -19,8 +19,3 @@ flat_range_same f g a zero same = refl
 flat_range_same f g a (suc n) same =
     ap (λ x. x ++ flat_map f (range_with_len (a + 1) n)) (same a (omega arith) (omega arith))
     ∙ ap (λ l. g a ++ l) (flat_range_same f g (a + 1) n (λ k from below. same k (omega arith) (omega arith)))
-
--- a list mapped twice
-pub map_twice : {X Y Z : Type 0} (g : Y → Z) (f : X → Y) (xs : List X) → map (λ x. g (f x)) xs ≡ map g (map f xs)
-map_twice g f [] = refl
-map_twice g f (x ∷ xs) = ap (λ l. g (f x) ∷ l) (map_twice g f xs)

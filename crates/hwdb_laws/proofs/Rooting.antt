@@ -40,8 +40,8 @@ module _ (nodes : List Node) where
 
 module _ (nodes : List Node) (s : Shape nodes) where
   -- a child follows its parent, and among the nodes
-  behind : (p i : ℕ) → Contains (children nodes p) i → p < i
-  behind p i w =
+  following : (p i : ℕ) → Contains (children nodes p) i → p < i
+  following p i w =
       let child : (j : ℕ) × IsChild nodes i p j = child_of nodes p i w in
       omega (arith, s.later p child.1.parent, child.1.place)
 
@@ -53,7 +53,7 @@ module _ (nodes : List Node) (s : Shape nodes) where
   grows : (p i : ℕ) → Contains (children nodes p) i → path nodes i ≡ path nodes p ++ (node_at nodes i).label ∷ []
   grows p i w =
       let child : (j : ℕ) × IsChild nodes i p j = child_of nodes p i w in
-      let below : p < i = behind p i w in
+      let below : p < i = following p i w in
       path_on nodes s i (omega (arith, below)) (within p i w)
       ∙ ap (λ k. path nodes k ++ (node_at nodes i).label ∷ []) (up_is nodes s i p child.0 child.1)
 
@@ -69,7 +69,7 @@ module _ (nodes : List Node) (s : Shape nodes) where
       let here : Contains (children nodes w.0) i = among_children nodes w.0 i w.1.0 w.1.1 in
       record {
         parent = w.0;
-        before = behind w.0 i here;
+        before = following w.0 i here;
         child = here;
         only = λ other among.
             let child : (j : ℕ) × IsChild nodes i other j = child_of nodes other i among in
@@ -77,4 +77,4 @@ module _ (nodes : List Node) (s : Shape nodes) where
       }
 
   pub no_parent : (i : ℕ) → Contains (children nodes i) 0 → ⊥
-  no_parent i w = let below : i < 0 = behind i 0 w in omega (arith, below)
+  no_parent i w = let below : i < 0 = following i 0 w in omega (arith, below)

@@ -15,7 +15,7 @@ use Rattle.index_reading.specs.Written.{Draft, IsWritable, SaysDraft, written}
 use Rattle.index_reading.specs.declared.header.Header.{Header}
 use Rattle.index_reading.specs.declared.records.NodeRecord.{NodeRecord}
 use Rattle.index_reading.specs.declared.records.ValueRecord.{ValueRecord}
-use Rattle.index_reading.proofs.Standing.{no_node, no_set, no_value, node_of_draft, set_of_draft, value_of_draft, written_says}
+use Rattle.index_reading.proofs.Placement.{no_node, no_set, no_value, node_of_draft, set_of_draft, value_of_draft, written_says}
 
 module _ (bytes : List ℕ) (d : Draft) (says : SaysDraft bytes d) (s : IsSound d) where
   node_count : (header_of bytes).nodes ≡ length d.nodes
@@ -24,7 +24,7 @@ module _ (bytes : List ℕ) (d : Draft) (says : SaysDraft bytes d) (s : IsSound 
   value_count : (header_of bytes).values ≡ length d.values
   value_count = ap (λ (h : Header). h.values) says.header
 
-  -- a label of the draft, which names a set only where there is one
+  -- a label of the draft, which names a set only if there is one
   label_said : (n : NodeRecord) → (n.kind ≡ 4 → n.set < length d.sets) → label_of bytes n ≡ said_label d.sets n
   label_said n within = elim (eqb_tells n.kind 4) [
     | inl e ↦ ap (λ x. cond (eqb n.kind 1) (Byte n.byte) (cond (eqb n.kind 3) Many (cond (eqb n.kind 4) (Among x) One))) (set_of_draft bytes d says n.set no_set (within e.1))

@@ -12,13 +12,15 @@ use Rattle.text_bytes.specs.declared.SourceFile.{SourceFile}
 use Rattle.text_bytes.specs.Lines.{NumberedLine}
 use Rattle.hwdb_core.specs.Properties.{Pair, Property, cut_properties, from_line, from_pair, from_spelled, pair_of}
 use Rattle.hwdb_core.specs.Sources.{WithinBounds, cuts_of, entries_from, entries_of, entry_at, properties_of}
+use Rattle.hwdb_core.proofs.Bounds.{within_few}
 use Rattle.hwdb_lookup.specs.declared.entry.Entry.{Entry}
 use Rattle.trie_build.specs.Distinct.{IsDistinctOf, IsIn}
 use Rattle.trie_build.specs.Paths.{paths_of, patterns_of}
-use Rattle.trie_build.specs.Sizes.{last_label, set_in, sets_of, text_cmp}
+use Rattle.trie_build.specs.Sizes.{last_label, set_in, sets_of}
+use Rattle.text_bytes.specs.Insertion.{text_order}
 use Rattle.trie_build.proofs.Distinguishing.{all_in, distinct_is, get_in, in_flat_map, in_map}
 use Rattle.trie_build.proofs.Orders.{texts_order}
-use Rattle.trie_build.proofs.Paths.{path_is_front}
+use Rattle.trie_build.proofs.Paths.{path_is_prefix}
 use Rattle.hwdb_lookup.specs.Bounds.{set_len}
 use Rattle.index_reading.specs.Numbers.{IsSmall}
 use Rattle.trie_core.specs.Entries.{AreTyped}
@@ -57,11 +59,11 @@ entry_is n [] e i = absurd i
 entry_is n (p ∷ ps) e (inl same) = (p, inl refl, n, omega arith, same)
 entry_is n (p ∷ ps) e (inr i) = let w = entry_is (n + 1) ps e i in (w.0, inr w.1, w.2, omega (arith, w.3), w.4)
 
-in_front : {A : Type 0} (x : A) (n : ℕ) (xs : List A) → IsIn x (take n xs) → IsIn x xs
-in_front x zero xs i = absurd i
-in_front x (suc n) [] i = absurd i
-in_front x (suc n) (y ∷ ys) (inl e) = inl e
-in_front x (suc n) (y ∷ ys) (inr i) = inr (in_front x n ys i)
+prepended : {A : Type 0} (x : A) (n : ℕ) (xs : List A) → IsIn x (take n xs) → IsIn x xs
+prepended x zero xs i = absurd i
+prepended x (suc n) [] i = absurd i
+prepended x (suc n) (y ∷ ys) (inl e) = inl e
+prepended x (suc n) (y ∷ ys) (inr i) = inr (prepended x n ys i)
 
 module _ (files : List SourceFile) where
   abbrev es : List Entry
@@ -77,15 +79,15 @@ module _ (files : List SourceFile) where
   whole_path : (p : List Item) → IsIn p (paths_of es) → IsWhole (last_label p)
   whole_path [] i = tt
   whole_path (x ∷ p) i =
-      let w = path_is_front (patterns_of es) (x ∷ p) i (omega arith) in
+      let w = path_is_prefix (patterns_of es) (x ∷ p) i (omega arith) in
       let label : Item = last_label (x ∷ p) in
       let last : IsIn label (x ∷ p) = get_in One (x ∷ p) (length (x ∷ p) - 1) (omega arith) in
-      all_in IsWhole label w.0 (whole_pattern w.0 w.1) (in_front label (length (x ∷ p)) w.0 (subst (IsIn label) w.3 last))
+      all_in IsWhole label w.0 (whole_pattern w.0 w.1) (prepended label (length (x ∷ p)) w.0 (subst (IsIn label) w.3 last))
 
   whole_set : (bits : List ℕ) → IsIn bits (sets_of es) → length bits ≡ set_len
   whole_set bits i =
       let written : List (List ℕ) = flat_map (λ p. set_in (last_label p)) (paths_of es) in
-      let is : IsDistinctOf text_cmp written (sets_of es) = distinct_is text_cmp texts_order written in
+      let is : IsDistinctOf text_order written (sets_of es) = distinct_is text_order texts_order written in
       let w = in_flat_map (λ p. set_in (last_label p)) bits (paths_of es) (is.only bits i) in
       all_in (λ (b : List ℕ). length b ≡ set_len) bits (set_in (last_label w.0)) (whole_path w.0 w.1) w.2
 
@@ -94,7 +96,7 @@ module _ (files : List SourceFile) where
     orders = λ k d h.
         let w = entry_is 0 (properties_of files) (get_or es k d) (get_in d es k h) in
         let order : (get_or es k d).order ≡ w.2 = ap (λ (e : Entry). e.order) w.4 in
-        omega (arith, order, w.3, within.entries);
+        omega (arith, order, w.3, (within_few files within).entries);
     lines = λ k d h.
         let w = entry_is 0 (properties_of files) (get_or es k d) (get_in d es k h) in
         subst IsSmall (sym (ap (λ (e : Entry). e.line) w.4)) (typed_property files w.0 w.1).line;

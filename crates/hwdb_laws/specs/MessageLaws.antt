@@ -15,5 +15,5 @@ code_number PatternNotSupported = 6
 code_number _ = 0
 
 -- a message is about a line before another's, or about the same line and of a lesser code
-abbrev pub StandsBefore : Message → Message → Type 0
-StandsBefore m n = (m.line < n.line) ⊎ ((m.line ≡ n.line) × (code_number m.kind < code_number n.kind))
+abbrev pub ComesBefore : Message → Message → Type 0
+ComesBefore m n = (m.line < n.line) ⊎ ((m.line ≡ n.line) × (code_number m.kind < code_number n.kind))

@@ -5,11 +5,11 @@ use Rattle.hwdb_lookup.specs.Query.{Origin}
 -- a text is a part of other bytes: these are what comes before it, the text, and what follows it
 pub record IsPartOf (bytes text : List ℕ) : Type 0 where
   pub before : List ℕ
-  pub behind : List ℕ
-  pub whole : bytes ≡ before ++ text ++ behind
+  pub following : List ℕ
+  pub whole : bytes ≡ before ++ text ++ following
 
 -- the texts of an answer are parts of some bytes
-pub record StandsIn (bytes : List ℕ) (answer : Origin) : Type 0 where
+pub record IsFoundIn (bytes : List ℕ) (answer : Origin) : Type 0 where
   pub key : IsPartOf bytes answer.key
   pub value : IsPartOf bytes answer.value
   pub file : IsPartOf bytes answer.file

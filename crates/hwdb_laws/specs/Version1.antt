@@ -5,10 +5,11 @@ use Rattle.std.specs.Prelude.{◌≡◌, ℕ, ◌+◌, ◌*◌, ◌<◌, ◌≤�
 use Rattle.std.specs.List.{range_with_len, starts_with}
 use Rattle.text_core.specs.declared.item.Item.{Item}
 use Rattle.text_core.specs.declared.item.Item.TheVariants.{Byte, One, Many, Among}
+use Rattle.hwdb_lookup.specs.Bounds.{max_entries, max_nodes}
 use Rattle.hwdb_lookup.specs.declared.entry.Entry.{Entry}
 use Rattle.trie_nodes.specs.declared.node.Node.{Node}
 use Rattle.trie_nodes.specs.Tree.{path}
-use Rattle.index_reading.specs.Accepted.{HasShape, IsLabelled, max_nodes, max_sets, max_values}
+use Rattle.index_reading.specs.Accepted.{HasShape, IsLabelled}
 use Rattle.index_reading.specs.Header.{header_of, magic}
 use Rattle.index_reading.specs.Kinds.{byte_kind, many_kind, among_kind}
 use Rattle.index_reading.specs.Numbers.{number_at}
@@ -67,8 +68,8 @@ pub record HasTexts1 (len : ℕ) (v : Value1) : Type 0 where
 pub record HasSize1 (bytes : List ℕ) : Type 0 where
   pub some : 0 < (header_of bytes).nodes
   pub nodes : (header_of bytes).nodes ≤ max_nodes
-  pub values : (header_of bytes).values ≤ max_values
-  pub sets : (header_of bytes).sets ≤ max_sets
+  pub values : (header_of bytes).values ≤ max_entries
+  pub sets : (header_of bytes).sets ≤ max_nodes
   pub reserved : (header_of bytes).reserved ≡ 0
   pub whole : length bytes ≡ len_1 bytes
 

@@ -12,13 +12,13 @@ ghost use Rattle.trie_build.specs.Tree.{IsLevelByLevel, IsTree};
 
 /// The nodes' paths are the prefixes of the patterns, each once, by their length and then label by
 /// label.
-pub fn paths_stand_once()
+pub fn paths_occur_once()
     ensures { (patterns : List (List Item)) → IsDistinctOf path_cmp ([] ∷ flat_map prefixes patterns) (paths_among patterns) }
 {}
 
 /// The children of a tree's paths, path by path, are all its paths but the root's: so nodes that
 /// are in the order of their paths have their children one after another.
-pub fn trees_stand_level_by_level()
+pub fn trees_are_laid_out_level_by_level()
     ensures { (ps : List (List Item)) → IsTree ps → IsLevelByLevel ps }
 {}
 

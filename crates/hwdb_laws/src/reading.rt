@@ -8,7 +8,7 @@ ghost use Rattle.index_reading.specs.declared.fault.IndexFault.{IndexFault};
 ghost use Rattle.index_reading.specs.Header.{header_of};
 ghost use Rattle.index_reading.specs.Contents.{contents, value_of};
 ghost use Rattle.hwdb_laws.specs.Version1.{Accepted1, Holds1, listed_1, nodes_1};
-ghost use Rattle.hwdb_laws.specs.Parts.{IsPartOf, StandsIn};
+ghost use Rattle.hwdb_laws.specs.Parts.{IsFoundIn, IsPartOf};
 ghost use Rattle.hwdb_laws.specs.Rows.{bare_entry, bare_entry_index};
 
 /// The law of version 1.
@@ -42,7 +42,7 @@ pub fn indexes_of_version_1_are_kept()
 /// The law of the texts of answers.
 ///
 /// Each text of an answer, the names of files too, is in the bytes of the file that was queried.
-pub fn answers_stand_in_the_file()
+pub fn answers_are_in_the_file()
     ensures query { (bytes modalias : List ℕ) → All (λ p. IsPartOf bytes p.0 × IsPartOf bytes p.1) (query (listed (contents bytes).nodes (contents bytes).values) modalias) }
-    ensures sources { (bytes modalias : List ℕ) → All (StandsIn bytes) (sourced (listed (contents bytes).nodes (contents bytes).values) modalias) }
+    ensures sources { (bytes modalias : List ℕ) → All (IsFoundIn bytes) (sourced (listed (contents bytes).nodes (contents bytes).values) modalias) }
 {}

@@ -3,8 +3,7 @@ ghost use Rattle.std.specs.Prelude.{◌≡◌, ◌<◌, ℕ, length, map};
 ghost use Rattle.trie_nodes.specs.Tree.{numbers, path};
 ghost use Rattle.trie_nodes.specs.Values.{values_of};
 ghost use Rattle.trie_build.specs.Content.{Content, IsTrie, all_values, value_of};
-ghost use Rattle.trie_build.specs.Paths.{paths_of};
-ghost use Rattle.trie_core.specs.Image.{ending_at};
+ghost use Rattle.trie_build.specs.Paths.{ending_at, paths_of};
 
 /// The law of tries.
 ///

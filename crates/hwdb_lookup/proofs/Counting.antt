@@ -7,14 +7,16 @@ use Rattle.std.specs.declared.cmp.Ordering.TheVariants.{Less, Equal, Greater}
 use Rattle.std.proofs.lemmas.List.Elements.{All-nil, All-cons, All-tail, All-append, All-weaker, All-push, All-same, All-map, All-contains, All-contains_itself, Contains-push_cases}
 use Rattle.text_core.specs.Fits.{fits}
 use Rattle.hwdb_lookup.specs.declared.entry.Entry.{Entry}
-use Rattle.hwdb_lookup.specs.Query.{fitting, key_order, placed, put, winner, winners}
+use Rattle.hwdb_lookup.specs.Query.{fitting, put, winner, winners}
+use Rattle.hwdb_lookup.specs.Places.{placed}
+use Rattle.text_bytes.specs.Insertion.{text_order}
 use Rattle.hwdb_lookup.specs.Winning.{Applies, Counts, IsAnswer, KeysRise}
-use Rattle.hwdb_lookup.proofs.Keys.{before_trans, turned, itself, same_key}
+use Rattle.hwdb_lookup.proofs.Keys.{before_trans, reversed, itself, same_key}
 use Rattle.hwdb_lookup.proofs.Placing.{put_rises, rises_head, rises_tail}
 
 -- a key that comes before another is not that one
-pub differs : (a b : List ℕ) → key_order a b ≡ Less → a ≢ b
-differs a b h same = let tie : key_order a b ≡ Equal = ap (λ k. key_order a k) (sym same) ∙ itself a in cc
+pub differs : (a b : List ℕ) → text_order a b ≡ Less → a ≢ b
+differs a b h same = let tie : text_order a b ≡ Equal = ap (λ k. text_order a k) (sym same) ∙ itself a in cc
 
 module _ (m : List ℕ) where
   -- what counts still does with one entry more, unless that one wins
@@ -28,7 +30,7 @@ module _ (m : List ℕ) where
     later = All-push (λ (other : Entry). Applies m w.key other → other.order < w.order) c.after e c.later below;
   }
 
-  -- the entry that is listed last counts where none has a greater order
+  -- the entry that is listed last counts if none has a greater order
   counts_last : (es : List Entry) (e : Entry) → fits e.pattern m ≡ true → All (λ (other : Entry). Applies m e.key other → other.order ≤ e.order) es → Counts (es ++ e ∷ []) m e
   counts_last es e fit below = record {
     before = es;
@@ -62,7 +64,7 @@ module _ (m : List ℕ) where
       (All-weaker (λ (other : Entry). Applies m x.key other → other.order ≤ x.order) (λ (other : Entry). Applies m e.key other → other.order ≤ e.order)
       (λ o h a. let under : o.order ≤ x.order = h (record { applies = a.applies; has_key = a.has_key ∙ sym same }) in omega arith) es (none_above es x c))
 
-  -- All that count do so with the entry put among them. It is new where no other has its key.
+  -- All that count do so with the entry put among them. It is new if no other has its key.
   put_counts : (es : List Entry) (e : Entry) (xs : List Entry) → fits e.pattern m ≡ true → KeysRise xs → All (Counts es m) xs
       → (All (λ (x : Entry). x.key ≢ e.key) xs → All (λ (other : Entry). Applies m e.key other → ⊥) es) → All (Counts (es ++ e ∷ []) m) (put xs e)
   put_counts es e [] fit rises counts fresh =
@@ -72,7 +74,7 @@ module _ (m : List ℕ) where
       (All-nil (Counts (es ++ e ∷ []) m))
   put_counts es e (x ∷ xs) fit rises counts fresh =
       by (λ (f : All (λ (y : Entry). y.key ≢ e.key) xs → All (λ (other : Entry). Applies m e.key other → ⊥) es). put_counts es e xs fit (rises_tail x xs rises) (All-tail (Counts es m) x xs counts) f)
-      (key_order x.key e.key) refl where
+      (text_order x.key e.key) refl where
         own : Counts es m x
         own = counts zero x (omega arith)
 
@@ -80,7 +82,7 @@ module _ (m : List ℕ) where
         others = All-tail (Counts es m) x xs counts
 
         by : ((All (λ (y : Entry). y.key ≢ e.key) xs → All (λ (other : Entry). Applies m e.key other → ⊥) es) → All (Counts (es ++ e ∷ []) m) (put xs e))
-            → (o : Ordering) → key_order x.key e.key ≡ o → All (Counts (es ++ e ∷ []) m) (placed o e x xs (put xs e))
+            → (o : Ordering) → text_order x.key e.key ≡ o → All (Counts (es ++ e ∷ []) m) (placed o e x xs (put xs e))
         by rest Less h =
             All-cons (Counts (es ++ e ∷ []) m) x (put xs e) (counts_still es x e own (λ a. absurd (differs x.key e.key h (sym a.has_key))))
             (rest (λ apart. fresh (All-cons (λ (y : Entry). y.key ≢ e.key) x xs (differs x.key e.key h) apart)))
@@ -89,7 +91,7 @@ module _ (m : List ℕ) where
             All-cons (Counts (es ++ e ∷ []) m) (winner x e) xs (winner_counts es x e fit same own (nat_lt e.order x.order) refl)
             (others_still es e xs others (λ k d within is. differs x.key (get_or xs k d).key (rises_head x xs rises k d within) (same ∙ sym is)))
         by rest Greater h =
-            let back : key_order e.key x.key ≡ Less = turned x.key e.key h in
+            let back : text_order e.key x.key ≡ Less = reversed x.key e.key h in
             let apart : All (λ (y : Entry). y.key ≢ e.key) (x ∷ xs) =
             All-cons (λ (y : Entry). y.key ≢ e.key) x xs (λ is. differs e.key x.key back (sym is))
             (λ k d within is. differs e.key (get_or xs k d).key (before_trans e.key x.key (get_or xs k d).key back (rises_head x xs rises k d within)) (sym is)) in
@@ -99,8 +101,8 @@ module _ (m : List ℕ) where
 
 module _ {A : Type 0} where
   -- an element after another
-  pub behind : (x : A) (xs : List A) (y : A) → Contains xs y → Contains (x ∷ xs) y
-  behind x xs y c = (suc c.0, omega (arith, c.1), c.2)
+  pub following : (x : A) (xs : List A) (y : A) → Contains xs y → Contains (x ∷ xs) y
+  following x xs y c = (suc c.0, omega (arith, c.1), c.2)
 
   -- an element is the first, or after it
   pub first_or : (x : A) (xs : List A) (y : A) → Contains (x ∷ xs) y → (x ≡ y) ⊎ Contains xs y
@@ -119,24 +121,24 @@ winner_key x e same = elim (nat_lt e.order x.order) as (λ b. (cond b x e).key �
 -- what is put is there by its key
 put_has : (xs : List Entry) (e : Entry) → Contains (keys (put xs e)) e.key
 put_has [] e = (zero, omega arith, refl)
-put_has (x ∷ xs) e = by (put_has xs e) (key_order x.key e.key) refl where
-  by : Contains (keys (put xs e)) e.key → (o : Ordering) → key_order x.key e.key ≡ o → Contains (keys (placed o e x xs (put xs e))) e.key
-  by rest Less h = behind x.key (keys (put xs e)) e.key rest
+put_has (x ∷ xs) e = by (put_has xs e) (text_order x.key e.key) refl where
+  by : Contains (keys (put xs e)) e.key → (o : Ordering) → text_order x.key e.key ≡ o → Contains (keys (placed o e x xs (put xs e))) e.key
+  by rest Less h = following x.key (keys (put xs e)) e.key rest
   by rest Equal h = (zero, omega arith, winner_key x e (same_key x.key e.key h))
   by rest Greater h = (zero, omega arith, refl)
 
--- and the keys that stood there still do
+-- and the keys that were there still are
 put_keeps : (xs : List Entry) (e : Entry) (key : List ℕ) → Contains (keys xs) key → Contains (keys (put xs e)) key
 put_keeps [] e key c = absurd (omega (arith, c.1))
-put_keeps (x ∷ xs) e key c = by (put_keeps xs e key) (key_order x.key e.key) refl where
-  by : (Contains (keys xs) key → Contains (keys (put xs e)) key) → (o : Ordering) → key_order x.key e.key ≡ o → Contains (keys (placed o e x xs (put xs e))) key
-  by rest Less h = ⊎_elim (λ is. (zero, omega arith, is)) (λ later. behind x.key (keys (put xs e)) key (rest later)) (first_or x.key (keys xs) key c)
+put_keeps (x ∷ xs) e key c = by (put_keeps xs e key) (text_order x.key e.key) refl where
+  by : (Contains (keys xs) key → Contains (keys (put xs e)) key) → (o : Ordering) → text_order x.key e.key ≡ o → Contains (keys (placed o e x xs (put xs e))) key
+  by rest Less h = ⊎_elim (λ is. (zero, omega arith, is)) (λ later. following x.key (keys (put xs e)) key (rest later)) (first_or x.key (keys xs) key c)
   by rest Equal h =
       let same : x.key ≡ e.key = same_key x.key e.key h in
-      ⊎_elim (λ is. (zero, omega arith, winner_key x e same ∙ sym same ∙ is)) (λ later. behind (winner x e).key (keys xs) key later) (first_or x.key (keys xs) key c)
-  by rest Greater h = behind e.key (keys (x ∷ xs)) key c
+      ⊎_elim (λ is. (zero, omega arith, winner_key x e same ∙ sym same ∙ is)) (λ later. following (winner x e).key (keys xs) key later) (first_or x.key (keys xs) key c)
+  by rest Greater h = following e.key (keys (x ∷ xs)) key c
 
--- where no winner has the key, no entry that fits has it
+-- if no winner has the key, no entry that fits has it
 fresh : (es : List Entry) (m : List ℕ) (xs : List Entry) (e : Entry) → IsAnswer es m xs → All (λ (x : Entry). x.key ≢ e.key) xs → All (λ (other : Entry). Applies m e.key other → ⊥) es
 fresh es m xs e answer apart =
     All-weaker (Contains es) (λ (other : Entry). Applies m e.key other → ⊥)

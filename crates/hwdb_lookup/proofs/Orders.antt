@@ -16,7 +16,7 @@ rising_by es false answer keys = (
       answer.2 some ∙ sym up),
 )
 
--- each key is not empty, where the test of them all says so
+-- each key is not empty, if the test of them all says so
 pub keys_kept : (es : List Entry) (r : Bool) → r ≡ true → MatchBool r (AllWithin (λ (e : Entry). 0 < length e.key) es 0 (length es)) ((k : ℕ) × (k < length es) × HoldsAt (λ (e : Entry). length e.key ≡ 0) es k)
     → All (λ (e : Entry). e.key ≢ []) es
 keys_kept es true _ all = λ k d within is. absurd (omega (arith, all k d (omega arith) within, ap length is))

@@ -6,26 +6,28 @@ use Rattle.std.specs.Ordering.{is_lt}
 use Rattle.std.specs.declared.cmp.Ordering.{Ordering}
 use Rattle.std.specs.declared.cmp.Ordering.TheVariants.{Less, Equal, Greater}
 use Rattle.hwdb_lookup.specs.declared.entry.Entry.{Entry}
-use Rattle.hwdb_lookup.specs.Query.{key_order, placed, put, winner}
+use Rattle.hwdb_lookup.specs.Query.{put, winner}
+use Rattle.hwdb_lookup.specs.Places.{placed}
+use Rattle.text_bytes.specs.Insertion.{text_order}
 use Rattle.hwdb_lookup.specs.Winning.{KeysRise}
-use Rattle.hwdb_lookup.proofs.Counting.{behind, differs}
-use Rattle.hwdb_lookup.proofs.Keys.{before_trans, turned, itself, same_key}
+use Rattle.hwdb_lookup.proofs.Counting.{differs, following}
+use Rattle.hwdb_lookup.proofs.Keys.{before_trans, reversed, itself, same_key}
 use Rattle.hwdb_lookup.proofs.Placing.{put_all, put_rises, rises_head, rises_tail}
 use Rattle.hwdb_lookup.proofs.Unique.{one_list}
 
 -- whether an entry has a key, by how the two compare
 abbrev pub alike : List ℕ → Entry → Bool
-alike key e = not (is_lt (key_order key e.key)) && not (is_lt (key_order e.key key))
+alike key e = not (is_lt (text_order key e.key)) && not (is_lt (text_order e.key key))
 
 alike_same : (k : List ℕ) (e : Entry) → alike k e ≡ true → k ≡ e.key
-alike_same k e h = by (key_order k e.key) refl where
-  by : (o : Ordering) → key_order k e.key ≡ o → k ≡ e.key
-  by Less o = let first : not (is_lt (key_order k e.key)) ≡ false = ap (λ (v : Ordering). not (is_lt v)) o in absurd (let clash : false && not (is_lt (key_order e.key k)) ≡ true = ap (λ b. b && not (is_lt (key_order e.key k))) (sym first) ∙ h in cc)
+alike_same k e h = by (text_order k e.key) refl where
+  by : (o : Ordering) → text_order k e.key ≡ o → k ≡ e.key
+  by Less o = let first : not (is_lt (text_order k e.key)) ≡ false = ap (λ (v : Ordering). not (is_lt v)) o in absurd (let clash : false && not (is_lt (text_order e.key k)) ≡ true = ap (λ b. b && not (is_lt (text_order e.key k))) (sym first) ∙ h in cc)
   by Equal o = same_key k e.key o
   by Greater o =
-      let second : not (is_lt (key_order e.key k)) ≡ false = ap (λ (v : Ordering). not (is_lt v)) (turned k e.key o) in
-      let first : not (is_lt (key_order k e.key)) ≡ true = ap (λ (v : Ordering). not (is_lt v)) o in
-      absurd (let clash : true && false ≡ true = ap (λ b. b && false) (sym first) ∙ ap (λ b. not (is_lt (key_order k e.key)) && b) (sym second) ∙ h in cc)
+      let second : not (is_lt (text_order e.key k)) ≡ false = ap (λ (v : Ordering). not (is_lt v)) (reversed k e.key o) in
+      let first : not (is_lt (text_order k e.key)) ≡ true = ap (λ (v : Ordering). not (is_lt v)) o in
+      absurd (let clash : true && false ≡ true = ap (λ b. b && false) (sym first) ∙ ap (λ b. not (is_lt (text_order k e.key)) && b) (sym second) ∙ h in cc)
 
 alike_own : (e : Entry) → alike e.key e ≡ true
 alike_own e = ap (λ (o : Ordering). not (is_lt o) && not (is_lt o)) (itself e.key)
@@ -47,40 +49,40 @@ module _ (k : List ℕ) where
 
   winner_alike : (x e : Entry) → x.key ≡ e.key → alike k (winner x e) ≡ alike k e
   winner_alike x e same = elim (nat_lt e.order x.order) as (λ b. alike k (cond b x e) ≡ alike k e) [
-    | true ↦ ap (λ key. not (is_lt (key_order k key)) && not (is_lt (key_order key k))) same
+    | true ↦ ap (λ key. not (is_lt (text_order k key)) && not (is_lt (text_order key k))) same
     | false ↦ refl
   ]
 
   -- an entry of another key changes nothing among those alike
   put_unlike : (xs : List Entry) (e : Entry) → alike k e ≡ false → alikes (put xs e) ≡ alikes xs
   put_unlike [] e h = ap (λ b. cond b (e ∷ []) []) h
-  put_unlike (x ∷ xs) e h = by (put_unlike xs e h) (key_order x.key e.key) refl where
-    by : alikes (put xs e) ≡ alikes xs → (o : Ordering) → key_order x.key e.key ≡ o → alikes (placed o e x xs (put xs e)) ≡ alikes (x ∷ xs)
+  put_unlike (x ∷ xs) e h = by (put_unlike xs e h) (text_order x.key e.key) refl where
+    by : alikes (put xs e) ≡ alikes xs → (o : Ordering) → text_order x.key e.key ≡ o → alikes (placed o e x xs (put xs e)) ≡ alikes (x ∷ xs)
     by rest Less o = ap (λ (l : List Entry). cond (alike k x) (x ∷ l) l) rest
     by rest Equal o =
         let same : x.key ≡ e.key = same_key x.key e.key o in
         ap (λ b. cond b (winner x e ∷ alikes xs) (alikes xs)) (winner_alike x e same ∙ h)
-        ∙ sym (ap (λ b. cond b (x ∷ alikes xs) (alikes xs)) (ap (λ key. not (is_lt (key_order k key)) && not (is_lt (key_order key k))) same ∙ h))
+        ∙ sym (ap (λ b. cond b (x ∷ alikes xs) (alikes xs)) (ap (λ key. not (is_lt (text_order k key)) && not (is_lt (text_order key k))) same ∙ h))
     by rest Greater o = ap (λ b. cond b (e ∷ alikes (x ∷ xs)) (alikes (x ∷ xs))) h
 
   -- one with the key is put among those alike
   put_alike : (xs : List Entry) (e : Entry) → alike k e ≡ true → KeysRise xs → alikes (put xs e) ≡ put (alikes xs) e
   put_alike [] e h rises = ap (λ b. cond b (e ∷ []) []) h
-  put_alike (x ∷ xs) e h rises = by (put_alike xs e h (rises_tail x xs rises)) (key_order x.key e.key) refl where
+  put_alike (x ∷ xs) e h rises = by (put_alike xs e h (rises_tail x xs rises)) (text_order x.key e.key) refl where
     is : k ≡ e.key
     is = alike_same k e h
 
-    by : alikes (put xs e) ≡ put (alikes xs) e → (o : Ordering) → key_order x.key e.key ≡ o → alikes (placed o e x xs (put xs e)) ≡ put (alikes (x ∷ xs)) e
+    by : alikes (put xs e) ≡ put (alikes xs) e → (o : Ordering) → text_order x.key e.key ≡ o → alikes (placed o e x xs (put xs e)) ≡ put (alikes (x ∷ xs)) e
     by rest Less o =
         let out : alike k x ≡ false = unlike k x (λ same. differs x.key e.key o (sym same ∙ is)) in
         ap (λ b. cond b (x ∷ alikes (put xs e)) (alikes (put xs e))) out ∙ rest ∙ sym (ap (λ b. put (cond b (x ∷ alikes xs) (alikes xs)) e) out)
     by rest Equal o =
         let same : x.key ≡ e.key = same_key x.key e.key o in
-        let own : alike k x ≡ true = ap (λ key. not (is_lt (key_order k key)) && not (is_lt (key_order key k))) same ∙ h in
+        let own : alike k x ≡ true = ap (λ key. not (is_lt (text_order k key)) && not (is_lt (text_order key k))) same ∙ h in
         ap (λ b. cond b (winner x e ∷ alikes xs) (alikes xs)) (winner_alike x e same ∙ h)
         ∙ sym (ap (λ b. put (cond b (x ∷ alikes xs) (alikes xs)) e) own ∙ ap (λ (v : Ordering). placed v e x (alikes xs) (put (alikes xs) e)) o)
     by rest Greater o =
-        let back : key_order e.key x.key ≡ Less = turned x.key e.key o in
+        let back : text_order e.key x.key ≡ Less = reversed x.key e.key o in
         let none : alikes (x ∷ xs) ≡ [] = filter_none (alike k) (x ∷ xs) (All-cons (λ (y : Entry). alike k y ≡ false) x xs
         (unlike k x (λ same. differs e.key x.key back (sym is ∙ same)))
         (λ i d within. unlike k (get_or xs i d) (λ same. differs e.key (get_or xs i d).key (before_trans e.key x.key (get_or xs i d).key back (rises_head x xs rises i d within)) (sym is ∙ same)))) in
@@ -111,7 +113,7 @@ filter_has : (p : Entry → Bool) (xs : List Entry) (k : ℕ) (d : Entry) → k 
 filter_has p [] k d within h = absurd (omega arith)
 filter_has p (x ∷ xs) zero d within h = subst (λ b. Contains (cond b (x ∷ filter p xs) (filter p xs)) x) (sym h) (zero, omega arith, refl)
 filter_has p (x ∷ xs) (suc k) d within h = elim (p x) as (λ b. Contains (cond b (x ∷ filter p xs) (filter p xs)) (get_or xs k d)) [
-  | true ↦ behind x (filter p xs) (get_or xs k d) (filter_has p xs k d (omega arith) h)
+  | true ↦ following x (filter p xs) (get_or xs k d) (filter_has p xs k d (omega arith) h)
   | false ↦ filter_has p xs k d (omega arith) h
 ]
 

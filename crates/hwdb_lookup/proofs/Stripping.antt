@@ -3,12 +3,14 @@ use Rattle.std.proofs.Common.{◌≡◌, nat_lt, true, false, cond, List, ◌∷
 use Rattle.std.specs.declared.cmp.Ordering.{Ordering}
 use Rattle.std.specs.declared.cmp.Ordering.TheVariants.{Less, Equal, Greater}
 use Rattle.hwdb_lookup.specs.Found.{stripped}
-use Rattle.hwdb_lookup.specs.Query.{fitting, key_order, placed, put, winners}
+use Rattle.hwdb_lookup.specs.Query.{fitting, put, winners}
+use Rattle.hwdb_lookup.specs.Places.{placed}
+use Rattle.text_bytes.specs.Insertion.{text_order}
 use Rattle.hwdb_lookup.specs.declared.entry.Entry.{Entry}
 
 put_same : (es : List Entry) (e : Entry) → map stripped (put es e) ≡ put (map stripped es) (stripped e)
 put_same [] e = refl
-put_same (x ∷ es) e = by (put_same es e) (key_order x.key e.key) where
+put_same (x ∷ es) e = by (put_same es e) (text_order x.key e.key) where
   by : map stripped (put es e) ≡ put (map stripped es) (stripped e)
       → (o : Ordering) → map stripped (placed o e x es (put es e)) ≡ placed o (stripped e) (stripped x) (map stripped es) (put (map stripped es) (stripped e))
   by rest Less = ap (λ (l : List Entry). stripped x ∷ l) rest
@@ -24,7 +26,7 @@ pub same_stripped : {A : Type 0} (f : Entry → A) → ((e : Entry) → f (strip
 same_stripped f same [] = refl
 same_stripped f same (e ∷ es) = ap (λ x. x ∷ map f (map stripped es)) (same e) ∙ ap (λ l. f e ∷ l) (same_stripped f same es)
 
--- what is reported for those that count, where they were found without their patterns
-pub told_of_winners : {A : Type 0} (f : Entry → A) → ((e : Entry) → f (stripped e) ≡ f e) → (won es : List Entry) (m : List ℕ)
+-- what is reported for those that count, if they were found without their patterns
+pub reported_for_winners : {A : Type 0} (f : Entry → A) → ((e : Entry) → f (stripped e) ≡ f e) → (won es : List Entry) (m : List ℕ)
     → won ≡ fold put [] (map stripped (fitting es m)) → map f won ≡ map f (winners es m)
-told_of_winners f same won es m is = ap (map f) (is ∙ sym (fold_same [] (fitting es m))) ∙ same_stripped f same (winners es m)
+reported_for_winners f same won es m is = ap (map f) (is ∙ sym (fold_same [] (fitting es m))) ∙ same_stripped f same (winners es m)

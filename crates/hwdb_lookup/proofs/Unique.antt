@@ -9,7 +9,8 @@ use Rattle.std.proofs.lemmas.List.Elements.{All-contains, Contains-append_right}
 use Rattle.std.specs.List.{Contains}
 use Rattle.std.specs.declared.cmp.Ordering.TheVariants.{Less}
 use Rattle.hwdb_lookup.specs.declared.entry.Entry.{Entry}
-use Rattle.hwdb_lookup.specs.Query.{key_order, winners}
+use Rattle.hwdb_lookup.specs.Query.{winners}
+use Rattle.text_bytes.specs.Insertion.{text_order}
 use Rattle.hwdb_lookup.specs.Winning.{Applies, Counts, IsAnswer, KeysRise}
 use Rattle.hwdb_lookup.proofs.Counting.{differs, first_or, winners_answer}
 use Rattle.hwdb_lookup.proofs.Keys.{before_trans}
@@ -17,8 +18,8 @@ use Rattle.hwdb_lookup.proofs.Placing.{rises_head, rises_tail}
 
 module _ (es : List Entry) (m : List ℕ) where
   -- of two entries that count with one key, none is listed after the other
-  not_behind : (w v : Entry) (c : Counts es m w) (d : Counts es m v) → w.key ≡ v.key → length c.before < length d.before → ⊥
-  not_behind w v c d same less =
+  not_after : (w v : Entry) (c : Counts es m w) (d : Counts es m v) → w.key ≡ v.key → length c.before < length d.before → ⊥
+  not_after w v c d same less =
       let j : ℕ = length d.before - (length c.before + 1) in
       let place : length d.before ≡ length c.before + suc j = omega arith in
       let listed : c.before ++ w ∷ c.after ≡ d.before ++ v ∷ d.after = sym c.listed ∙ d.listed in
@@ -41,7 +42,7 @@ module _ (es : List Entry) (m : List ℕ) where
 
   -- so they are one
   same_entry : (w v : Entry) → Counts es m w → Counts es m v → w.key ≡ v.key → w ≡ v
-  same_entry w v c d same = ⊎_elim one (⊎_elim (λ less. absurd (not_behind w v c d same less)) (λ more. absurd (not_behind v w d c (sym same) more))) (cases_order (length c.before) (length d.before)) where
+  same_entry w v c d same = ⊎_elim one (⊎_elim (λ less. absurd (not_after w v c d same less)) (λ more. absurd (not_after v w d c (sym same) more))) (cases_order (length c.before) (length d.before)) where
     one : length c.before ≡ length d.before → w ≡ v
     one place =
         sym (get_or-append_seam c.before w c.after v)
@@ -75,8 +76,8 @@ one_list (x ∷ xs) (y ∷ ys) up up' to fro =
       heads : x ≡ y
       heads = ⊎_elim sym (λ x_later. ⊎_elim (λ is. is)
           (λ y_later. absurd (differs x.key x.key (before_trans x.key y.key x.key
-          (All-contains (λ (z : Entry). key_order x.key z.key ≡ Less) xs y (rises_head x xs up) y_later)
-          (All-contains (λ (z : Entry). key_order y.key z.key ≡ Less) ys x (rises_head y ys up') x_later)) refl))
+          (All-contains (λ (z : Entry). text_order x.key z.key ≡ Less) xs y (rises_head x xs up) y_later)
+          (All-contains (λ (z : Entry). text_order y.key z.key ≡ Less) ys x (rises_head y ys up') x_later)) refl))
           (first_or x xs y (fro zero y (omega arith)))) (first_or y ys x (to zero x (omega arith)))
 
       tails : (x : Entry) (xs : List Entry) (y : Entry) (ys : List Entry) → KeysRise (x ∷ xs) → All (Contains (y ∷ ys)) (x ∷ xs) → x ≡ y → All (Contains ys) xs

@@ -5,6 +5,10 @@ use Rattle.std.specs.Prelude.{ℕ, ◌-◌, ◌^◌, ◌==◌, if◌then◌else�
 abbrev pub max_entries : ℕ
 max_entries = 2 ^ 24
 
+-- nodes of its trie, and sets by which some of these are reached
+abbrev pub max_nodes : ℕ
+max_nodes = 2 ^ 26
+
 -- bytes of the matches that give an entry
 abbrev pub max_match_bytes : ℕ
 max_match_bytes = 2 ^ 25 - 1

@@ -4,12 +4,12 @@ use Rattle.hwdb_lookup.specs.declared.entry.Entry.{Entry}
 use Rattle.hwdb_lookup.specs.declared.found.Found.{Found}
 
 -- a property that was found, as an entry
-abbrev pub seen : Found → Entry
-seen f = record { pattern = []; key = f.key.now; value = f.value.now; order = f.order; file = f.file.now; line = f.line }
+abbrev pub found_entry : Found → Entry
+found_entry f = record { pattern = []; key = f.key.now; value = f.value.now; order = f.order; file = f.file.now; line = f.line }
 
 -- properties that were found, as entries
-abbrev pub all_seen : List Found → List Entry
-all_seen fs = map seen fs
+abbrev pub found_entries : List Found → List Entry
+found_entries fs = map found_entry fs
 
 -- an entry without its pattern
 abbrev pub stripped : Entry → Entry

@@ -1,15 +1,10 @@
 -- What a database answers for a modalias.
-use Rattle.std.specs.Prelude.{ℕ, nat_lt, if◌then◌else◌, List, ◌∷◌, [], map, filter, fold}
+use Rattle.std.specs.Prelude.{ℕ, nat_lt, if◌then◌else◌, List, [], map, filter, fold}
 use Rattle.std.specs.Borrow.{Bor}
-use Rattle.std.specs.declared.cmp.Ordering.{Ordering}
-use Rattle.text_bytes.specs.Insertion.{by_order, put_by, text_order}
+use Rattle.text_bytes.specs.Insertion.{put_by}
 use Rattle.text_core.specs.Fits.{fits}
 use Rattle.hwdb_lookup.specs.declared.entry.Entry.{Entry}
 use Rattle.hwdb_lookup.specs.declared.lookup.Sourced.{Sourced}
-
--- how a key compares with another, byte by byte
-abbrev pub key_order : List ℕ → List ℕ → Ordering
-key_order key other = text_order key other
 
 -- the entries for a device: those whose pattern its modalias fits
 abbrev pub fitting : List Entry → List ℕ → List Entry
@@ -22,10 +17,6 @@ winner earlier later = if nat_lt later.order earlier.order then earlier else lat
 -- an entry in its place among others, all listed earlier, that are sorted by key
 abbrev pub put : List Entry → Entry → List Entry
 put entries later = put_by (λ e. e.key) winner entries later
-
--- serves inner proofs only: one step of `put`, by how the key of x compares with that of e
-abbrev pub placed : Ordering → Entry → Entry → List Entry → List Entry → List Entry
-placed order e x xs behind = by_order order (x ∷ behind) (winner x e ∷ xs) (e ∷ x ∷ xs)
 
 -- the entries that fit, for each key the one that counts, sorted by key
 abbrev pub winners : List Entry → List ℕ → List Entry

@@ -2,12 +2,12 @@
 use Rattle.std.specs.Prelude.{◌≡◌, ◌≤◌, ◌<◌, ℕ, true, List, ◌∷◌, ◌++◌, All, AllPairs, Contains, map}
 use Rattle.std.specs.declared.cmp.Ordering.TheVariants.{Less}
 use Rattle.text_core.specs.Fits.{fits}
-use Rattle.hwdb_lookup.specs.Query.{key_order}
+use Rattle.text_bytes.specs.Insertion.{text_order}
 use Rattle.hwdb_lookup.specs.declared.entry.Entry.{Entry}
 
 -- each key comes before all later ones, so that none is there twice
 abbrev pub KeysRise : List Entry → Type 0
-KeysRise entries = AllPairs (λ (e later : Entry). key_order e.key later.key ≡ Less) entries
+KeysRise entries = AllPairs (λ (e later : Entry). text_order e.key later.key ≡ Less) entries
 
 -- an entry applies to a device, and has a key
 pub record Applies (modalias key : List ℕ) (e : Entry) : Type 0 where

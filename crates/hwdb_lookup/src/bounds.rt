@@ -6,6 +6,9 @@
 /// How many entries there may be.
 pub const MAX_ENTRIES: usize = 1 << 24;
 
+/// How many nodes its trie may have, and how many sets by which some of these are reached.
+pub const MAX_NODES: usize = 1 << 26;
+
 /// How many bytes the matches that give an entry may have.
 pub const MAX_MATCH_BYTES: usize = (1 << 25) - 1;
 

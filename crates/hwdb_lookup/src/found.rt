@@ -3,8 +3,8 @@
 //! They are gathered in the order in which they are listed, then sorted stably by key, so that one pass more leaves
 //! for each key the one that counts.
 ghost use Rattle.std.specs.Prelude.{◌≡◌, [], IfOk, OnOk, fold};
-ghost use Rattle.hwdb_lookup.specs.Found.{all_seen, seen, stripped};
-ghost use Rattle.hwdb_lookup.specs.Places.{NoneBehind};
+ghost use Rattle.hwdb_lookup.specs.Found.{found_entries, found_entry, stripped};
+ghost use Rattle.hwdb_lookup.specs.Places.{NoneAfter};
 ghost use Rattle.hwdb_lookup.specs.Query.{put};
 ghost use Rattle.hwdb_lookup.specs.Winning.{KeysRise};
 
@@ -29,7 +29,7 @@ pub struct Found<'a> {
 impl<'a> Found<'a> {
     /// The property that an entry gives.
     pub fn of(entry: &'a Entry) -> Found<'a>
-        ensures { seen result ≡ stripped entry.now }
+        ensures { found_entry result ≡ stripped entry.now }
     {
         Found {
             key: entry.key.as_slice(),
@@ -46,7 +46,7 @@ impl<'a> Found<'a> {
 ///
 /// Fails only if there is no memory for the answer.
 pub fn settle<'a>(alloc: Global, mut found: Vec<Found<'a>>) -> Result<Vec<Found<'a>>, AllocError>
-    ensures { IfOk result (λ won. all_seen won.items ≡ fold put [] (all_seen found.entry.items)) }
+    ensures { IfOk result (λ won. found_entries won.items ≡ fold put [] (found_entries found.entry.items)) }
 {
     found.sort_by(|property, other| property.key.cmp(other.key))?;
     let mut won = Vec::new(alloc);
@@ -59,9 +59,9 @@ pub fn settle<'a>(alloc: Global, mut found: Vec<Found<'a>>) -> Result<Vec<Found<
 /// Adds a property to those that count, none of whose keys comes after its own: it replaces the last one if that
 /// has its key, unless that is of a greater order.
 fn put_last<'a>(won: &mut Vec<Found<'a>>, found: Found<'a>) -> Result<(), AllocError>
-    requires rise { KeysRise (all_seen won.old.items) }
-    requires last { NoneBehind (all_seen won.old.items) found.key.now }
-    ensures { OnOk result (all_seen won.new.items ≡ put (all_seen won.old.items) (seen found.entry)) }
+    requires rise { KeysRise (found_entries won.old.items) }
+    requires last { NoneAfter (found_entries won.old.items) found.key.now }
+    ensures { OnOk result (found_entries won.new.items ≡ put (found_entries won.old.items) (found_entry found.entry)) }
 {
     match won.last() {
         Some(last) if last.key == found.key => {

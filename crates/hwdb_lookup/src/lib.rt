@@ -16,7 +16,7 @@ mod plain;
 mod shared;
 mod winners;
 
-pub use bounds::{MAX_ENTRIES, MAX_MATCH_BYTES, MAX_NAME_BYTES, MAX_TEXT_BYTES};
+pub use bounds::{MAX_ENTRIES, MAX_MATCH_BYTES, MAX_NAME_BYTES, MAX_NODES, MAX_TEXT_BYTES};
 pub use entry::Entry;
 pub use found::{Found, settle};
 pub use law::winners_are_the_answer;

@@ -30,8 +30,8 @@ impl SharedBytes {
         })
     }
 
-    /// The same bytes for one owner more, so that it takes no memory. It fails only where there are as
-    /// many owners as a `usize` counts.
+    /// The same bytes for one more owner, which takes no memory. It fails only if there are as many owners as a `usize`
+    /// counts.
     pub fn share(&self) -> Result<SharedBytes, AllocError>
         ensures { IfOk result (λ b. b ≡ self.now) }
     {

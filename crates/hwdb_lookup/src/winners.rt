@@ -2,7 +2,7 @@
 //!
 //! One pass over all entries gathers those that fit; of these, those that count are kept.
 ghost use Rattle.std.specs.Prelude.{◌≡◌, [], IfOk, fold, map};
-ghost use Rattle.hwdb_lookup.specs.Found.{all_seen, stripped};
+ghost use Rattle.hwdb_lookup.specs.Found.{found_entries, stripped};
 ghost use Rattle.hwdb_lookup.specs.Query.{fitting, put};
 
 use crate::entry::Entry;
@@ -15,7 +15,7 @@ pub(crate) fn winners<'a>(
     entries: &'a [Entry],
     modalias: &[u8],
 ) -> Result<Vec<Found<'a>>, AllocError>
-    ensures { IfOk result (λ won. all_seen won.items ≡ fold put [] (map stripped (fitting entries.now modalias.now))) }
+    ensures { IfOk result (λ won. found_entries won.items ≡ fold put [] (map stripped (fitting entries.now modalias.now))) }
 {
     let mut found = Vec::new(alloc);
     for entry in entries {

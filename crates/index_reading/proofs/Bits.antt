@@ -6,7 +6,7 @@ use Rattle.text_core.specs.Items.{set_has}
 use Rattle.index_reading.specs.Header.{header_of}
 use Rattle.index_reading.specs.Records.{set, set_start}
 
--- a set has a byte where its bit is 1
+-- a set has a byte exactly if its bit is 1
 pub bit_is : (bytes : List ℕ) (s b : ℕ) → b / 8 < 32 → eqb (bit_and (get_or bytes (set_start (header_of bytes) s + b / 8) 0 / 2 ^ (b % 8)) 1) 1 ≡ set_has (set bytes s) b
 unfolding set
 bit_is bytes s b h =

@@ -16,7 +16,7 @@ children_more bytes i = sum_more (λ k. (node bytes k).count) i
 pub values_more : (bytes : List ℕ) (i : ℕ) → values_before bytes (i + 1) ≡ values_before bytes i + (node bytes i).values
 values_more bytes i = sum_more (λ k. (node bytes k).values) i
 
--- the sum over more numbers is no less
+-- the sum over more numbers is not less
 sum_grows : (f : ℕ → ℕ) (i d : ℕ) → sum (map f (range_with_len 0 i)) ≤ sum (map f (range_with_len 0 (i + d)))
 sum_grows f i zero = rw add-zero (omega arith)
 sum_grows f i (suc d) =

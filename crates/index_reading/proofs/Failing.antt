@@ -1,12 +1,12 @@
 -- The first check that a file fails, once its header is right.
 use Rattle.std.proofs.Common.{ℕ, ◌<◌, List, arith}
-use Rattle.index_reading.specs.Accepted.{FailsFirst, HasShape, Holds, place}
+use Rattle.index_reading.specs.Accepted.{FailsFirst, HasShape, Holds, check_place}
 use Rattle.index_reading.specs.Framed.{IsFramed}
 use Rattle.index_reading.specs.declared.fault.IndexFault.{IndexFault}
 use Rattle.index_reading.specs.declared.fault.IndexFault.TheVariants.{Short, Magic, Version, Size, Shape, Label, Text, Order}
 
 module _ (bytes : List ℕ) (framed : IsFramed bytes) (shape : HasShape bytes) where
-  before_label : (other : IndexFault) → place other < 5 → Holds other bytes
+  before_label : (other : IndexFault) → check_place other < 5 → Holds other bytes
   before_label Short h = framed.short
   before_label Magic h = framed.magic
   before_label Version h = framed.version
@@ -16,7 +16,7 @@ module _ (bytes : List ℕ) (framed : IsFramed bytes) (shape : HasShape bytes) w
   before_label Text h = absurd (omega arith)
   before_label Order h = absurd (omega arith)
 
-  before_text : Holds Label bytes → (other : IndexFault) → place other < 6 → Holds other bytes
+  before_text : Holds Label bytes → (other : IndexFault) → check_place other < 6 → Holds other bytes
   before_text label Label h = label
   before_text label Text h = absurd (omega arith)
   before_text label Order h = absurd (omega arith)
@@ -26,7 +26,7 @@ module _ (bytes : List ℕ) (framed : IsFramed bytes) (shape : HasShape bytes) w
   before_text label Size h = framed.size
   before_text label Shape h = shape
 
-  before_order : Holds Label bytes → Holds Text bytes → (other : IndexFault) → place other < 7 → Holds other bytes
+  before_order : Holds Label bytes → Holds Text bytes → (other : IndexFault) → check_place other < 7 → Holds other bytes
   before_order label text Text h = text
   before_order label text Order h = absurd (omega arith)
   before_order label text Short h = framed.short

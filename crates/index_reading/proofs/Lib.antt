@@ -1,6 +1,6 @@
 mod Written
 pub mod Reading
-pub mod Standing
+pub mod Placement
 pub mod CheckSums
 pub mod Bits
 pub mod Failing

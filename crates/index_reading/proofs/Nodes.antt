@@ -12,7 +12,7 @@ use Rattle.index_reading.specs.Header.{header_of}
 use Rattle.index_reading.specs.Records.{node}
 use Rattle.index_reading.specs.declared.fault.IndexFault.TheVariants.{Shape as ShapeCheck, Label as LabelCheck, Size as SizeCheck}
 use Rattle.index_reading.proofs.Labels.{label_one}
-use Rattle.index_reading.proofs.Sums.{sum_front}
+use Rattle.index_reading.proofs.Sums.{sum_prefix}
 use Rattle.index_reading.proofs.CheckSums.{sum_more}
 
 -- a sum over the numbers below i, of what the nodes have
@@ -43,7 +43,7 @@ module _ (bytes : List ℕ) (v : Contents) (says : contents bytes ≡ v) where
   unfolding contents
   all = ap (λ (w : Contents). sum_by (λ (n : Node). n.count) w.nodes) (sym says) ∙ sums (λ (n : Node). n.count) (node_of bytes) ((header_of bytes).nodes)
 
-  -- the root has a label that is no star
+  -- the root has a label that is not a star
   module _ (accepted : Accepted bytes) where
     root_is : label_of bytes (node bytes 0) ≡ One
     root_is =
@@ -74,4 +74,4 @@ module _ (bytes : List ℕ) (v : Contents) (says : contents bytes ≡ v) where
 
 -- a node's children are among all
 pub children_within : (nodes : List Node) (i : ℕ) → Shape nodes → i < length nodes → (node_at nodes i).first + (node_at nodes i).count ≤ length nodes
-children_within nodes i s h = omega (arith, s.first i h, s.all, sum_front (λ (n : Node). n.count) nodes i nowhere h)
+children_within nodes i s h = omega (arith, s.first i h, s.all, sum_prefix (λ (n : Node). n.count) nodes i nowhere h)

@@ -1,7 +1,7 @@
 -- Which files are an index: eight conditions; any other file fails one of them first.
-use Rattle.std.specs.Prelude.{◌≡◌, ◌≢◌, ◌↔◌, ◌⊎◌, ℕ, ◌+◌, ◌^◌, ◌<◌, ◌≤◌, List, IsTrue, length, map, nat_eq, sum}
+use Rattle.std.specs.Prelude.{◌≡◌, ◌≢◌, ◌↔◌, ◌⊎◌, ℕ, ◌+◌, ◌<◌, ◌≤◌, List, IsTrue, length, map, nat_eq, sum}
 use Rattle.std.specs.List.{range_with_len, starts_with}
-use Rattle.hwdb_lookup.specs.Bounds.{first_version, header_len, second_version}
+use Rattle.hwdb_lookup.specs.Bounds.{first_version, header_len, max_entries, max_nodes, second_version}
 use Rattle.index_reading.specs.Header.{header_of, magic, whole_len}
 use Rattle.index_reading.specs.Kinds.{root_kind, byte_kind, among_kind}
 use Rattle.index_reading.specs.Records.{node, value}
@@ -11,22 +11,12 @@ use Rattle.index_reading.specs.declared.records.Span.{Span}
 use Rattle.index_reading.specs.declared.fault.IndexFault.{IndexFault}
 use Rattle.index_reading.specs.declared.fault.IndexFault.TheVariants.{Short, Magic, Version, Size, Shape, Label, Text, Order}
 
--- how many nodes, values and sets there may be
-abbrev pub max_nodes : ℕ
-max_nodes = 2 ^ 26
-
-abbrev pub max_values : ℕ
-max_values = 2 ^ 24
-
-abbrev pub max_sets : ℕ
-max_sets = 2 ^ 26
-
 -- at least one node, not too many of each, a reserved field of 0, and the length that follows from these numbers
 pub record HasSize (bytes : List ℕ) : Type 0 where
   pub some : 0 < (header_of bytes).nodes
   pub nodes : (header_of bytes).nodes ≤ max_nodes
-  pub values : (header_of bytes).values ≤ max_values
-  pub sets : (header_of bytes).sets ≤ max_sets
+  pub values : (header_of bytes).values ≤ max_entries
+  pub sets : (header_of bytes).sets ≤ max_nodes
   pub reserved : (header_of bytes).reserved ≡ 0
   pub whole : length bytes ≡ whole_len (header_of bytes)
 
@@ -88,15 +78,15 @@ Holds Text bytes = (j : ℕ) → j < (header_of bytes).values → HasTexts (head
 Holds Order bytes = (i : ℕ) → i < (header_of bytes).nodes → OrdersRise bytes (node bytes i)
 
 -- the place of a check among all
-abbrev pub place : IndexFault → ℕ
-place Short = 0
-place Magic = 1
-place Version = 2
-place Size = 3
-place Shape = 4
-place Label = 5
-place Text = 6
-place Order = 7
+abbrev pub check_place : IndexFault → ℕ
+check_place Short = 0
+check_place Magic = 1
+check_place Version = 2
+check_place Size = 3
+check_place Shape = 4
+check_place Label = 5
+check_place Text = 6
+check_place Order = 7
 
 -- a file is an index if each check holds
 abbrev pub Accepted : List ℕ → Type 0
@@ -104,5 +94,5 @@ Accepted bytes = (check : IndexFault) → Holds check bytes
 
 -- a check is the first that a file fails: it does not hold, and all before it do
 pub record FailsFirst (bytes : List ℕ) (check : IndexFault) : Type 0 where
-  pub earlier : (other : IndexFault) → place other < place check → Holds other bytes
+  pub earlier : (other : IndexFault) → check_place other < check_place check → Holds other bytes
   pub fails : Holds check bytes → ⊥

@@ -11,16 +11,8 @@ ghost use Rattle.index_reading.specs.Framed.{IsFramed};
 use crate::fault::IndexFault;
 use crate::header::{HEADER_LEN, Header, MAGIC, NODE_LEN, Places, SET_LEN, VERSION};
 use crate::records::{NodeRecord, Span, ValueRecord};
+use hwdb_lookup::{MAX_ENTRIES, MAX_NODES};
 use std::marker::Model;
-
-/// How many nodes there may be.
-const MAX_NODES: u32 = 1 << 26;
-
-/// How many values there may be.
-const MAX_VALUES: u32 = 1 << 24;
-
-/// How many sets there may be.
-const MAX_SETS: u32 = 1 << 26;
 
 /// The records of a file whose header is right, and whose length is as the header says.
 #[derive(Debug, Drop)]
@@ -47,9 +39,9 @@ fn has_size(header: &Header, bytes: &[u8]) -> bool
     ensures { IsTrue result ↔ HasSize bytes.now }
 {
     header.nodes > 0
-        && header.nodes <= MAX_NODES
-        && header.values <= MAX_VALUES
-        && header.sets <= MAX_SETS
+        && header.nodes as usize <= MAX_NODES
+        && header.values as usize <= MAX_ENTRIES
+        && header.sets as usize <= MAX_NODES
         && header.reserved == 0
         && bytes.len() == header.places().end
 }

@@ -135,7 +135,7 @@ fn entries_rise_by_their_orders_and_have_keys(rt: HostRuntime) -> Result<(), Fai
 }
 
 #[test]
-fn bytes_stand_before_stars(rt: HostRuntime) -> Result<(), Fail> {
+fn bytes_come_before_stars(rt: HostRuntime) -> Result<(), Fail> {
     let byte = packed(rt.alloc(), b"\xff")?;
     let star = packed(rt.alloc(), b"*?")?;
     let alone = packed(rt.alloc(), b"*")?;
@@ -308,8 +308,8 @@ fn an_index_answers_its_caller(rt: HostRuntime) -> Result<(), Fail> {
     // the root alone, the byte and the star after a, the star after b and after c
     let (active, sum) = index.visits(alloc, b"abc")?;
     assert!(rt; active.last() == Some(&2) && sum == 5);
-    let behind_nul = with_zero(alloc, 57)?;
-    let index = Index::open(&behind_nul).map_err(|_fault| "no index")?;
+    let after_nul = with_zero(alloc, 57)?;
+    let index = Index::open(&after_nul).map_err(|_fault| "no index")?;
     assert_eq!(rt; index.query(alloc, b"\0bc")?.len(), 1);
     let nameless = with_zero(alloc, 128)?;
     let index = Index::open(&nameless).map_err(|_fault| "no index")?;

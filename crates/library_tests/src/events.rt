@@ -18,8 +18,8 @@ fn blocks_of(
     let mut blocks = Vec::new(alloc);
     let mut later = input;
     for _ in 0..input.len() {
-        let (piece, behind) = later.split_at(size.min(later.len()));
-        later = behind;
+        let (piece, following) = later.split_at(size.min(later.len()));
+        later = following;
         let mut left = piece;
         for _ in 0..piece.len() {
             match splitter.take(left) {

@@ -27,7 +27,7 @@ const PATH: SessionFault = SessionFault::Block(
 );
 
 #[test]
-fn faults_with_places_tell_them(rt: HostRuntime) -> Result<(), Fail> {
+fn faults_with_places_report_them(rt: HostRuntime) -> Result<(), Fail> {
     let alloc = rt.alloc();
     assert!(rt;
         says(
@@ -48,7 +48,7 @@ fn faults_with_places_tell_them(rt: HostRuntime) -> Result<(), Fail> {
 }
 
 #[test]
-fn faults_are_told_in_words(rt: HostRuntime) -> Result<(), Fail> {
+fn faults_are_reported_in_words(rt: HostRuntime) -> Result<(), Fail> {
     let alloc = rt.alloc();
     assert!(rt; says(alloc, &HwdbFault::TooMany, "too many entries")?);
     assert!(rt; says(alloc, &TrieFault::TooLarge, "trie too large")?);

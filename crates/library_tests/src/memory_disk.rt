@@ -1,7 +1,7 @@
 //! A disk over memory.
 
 use devdry_files::{
-    Disk, DiskFault, MemoryDisk, MemoryEntry, MemoryPlace, ReadFault, Stands, read_all, wanted,
+    Disk, DiskFault, DiskNode, MemoryDisk, MemoryEntry, MemoryPlace, ReadFault, read_all, wanted,
 };
 use engine_ends::{Format, Line, Verb};
 use std::alloc::{AllocError, Global};
@@ -30,23 +30,23 @@ const ENTRIES: [MemoryEntry; 4] = [
 const PLACES: [MemoryPlace; 5] = [
     MemoryPlace {
         path: "/r/etc/udev/rules.d",
-        stands: Stands::Folder(&ENTRIES),
+        disk_node: DiskNode::Folder(&ENTRIES),
     },
     MemoryPlace {
         path: "/r/etc/udev/rules.d/b.rules",
-        stands: Stands::File(b"B"),
+        disk_node: DiskNode::File(b"B"),
     },
     MemoryPlace {
         path: "/r/etc/udev/rules.d/.rules",
-        stands: Stands::File(b"dot"),
+        disk_node: DiskNode::File(b"dot"),
     },
     MemoryPlace {
         path: "/s/run/udev/rules.d",
-        stands: Stands::Unreadable,
+        disk_node: DiskNode::Unreadable,
     },
     MemoryPlace {
         path: "/t/usr/lib/udev/rules.d",
-        stands: Stands::Folder(&ENTRIES),
+        disk_node: DiskNode::Folder(&ENTRIES),
     },
 ];
 
@@ -102,7 +102,7 @@ fn answers_what_it_holds(rt: HostRuntime) -> Result<(), Fail> {
 }
 
 #[test]
-fn tells_why_it_has_no_answer(rt: HostRuntime) -> Result<(), Fail> {
+fn says_why_it_has_no_answer(rt: HostRuntime) -> Result<(), Fail> {
     for (path, unlisted, unread) in [
         ("/r", DiskFault::Absent, DiskFault::Absent),
         (

@@ -99,7 +99,7 @@ fn quotes_that_ignore_case(rt: HostRuntime) {
 }
 
 #[test]
-fn a_fault_stands_at_the_first_byte_of_its_token(rt: HostRuntime) {
+fn a_fault_is_at_the_first_byte_of_its_token(rt: HostRuntime) {
     refuses(&rt, b"", TokenFaultKind::Syntax);
     refuses(&rt, br#" A="x""#, TokenFaultKind::Syntax);
     refuses(&rt, br#"KERNEL=="a"#, TokenFaultKind::Syntax);

@@ -114,7 +114,7 @@ fn whole_texts_go_out(rt: HostRuntime) -> Result<(), Fail> {
 }
 
 #[test]
-fn texts_are_flushed_one_behind_another(rt: HostRuntime) -> Result<(), Fail> {
+fn texts_are_flushed_one_after_another(rt: HostRuntime) -> Result<(), Fail> {
     let mut sink = MemorySink::new(rt.alloc(), 9, 2)?;
     assert!(rt; hand_on(&mut sink, b"abc").is_ok());
     assert_eq!(rt; sink.bytes_flushed(), b"abc".as_slice());

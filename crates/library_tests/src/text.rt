@@ -26,7 +26,7 @@ fn choice_has_fault(alloc: Global, choice: &[u8], fault: GlobFault) -> bool {
 }
 
 #[test]
-fn bytes_are_made_of_a_list_and_give_it_back(rt: HostRuntime) -> Result<(), Fail> {
+fn bytes_are_made_from_a_list_and_give_it_back(rt: HostRuntime) -> Result<(), Fail> {
     let bytes = Bytes::new(vec![in rt.alloc(); b'a'; 2]?);
     assert!(rt; bytes.as_slice() == b"aa".as_slice());
     assert!(rt; bytes.into_vec().as_slice() == b"aa".as_slice());

@@ -18,13 +18,13 @@ use Rattle.rule_core.specs.declared.fault.RulesFault.TheVariants.{TooMany, Memor
 split_at : {X : Type 0} (xs : List X) (i : ℕ) (x : X) → i < length xs → x ≡ get_or xs i x → xs ≡ take i xs ++ x ∷ drop (i + 1) xs
 split_at {X = X} xs i x h e =
     let next : i + 1 ≡ suc i = omega arith in
-    let behind : drop i xs ≡ x ∷ drop (i + 1) xs = drop-cons xs i x h ∙ ap (λ (y : X). y ∷ drop (suc i) xs) (sym e) ∙ ap (λ (n : ℕ). x ∷ drop n xs) (sym next) in
-    sym (take-append-drop i xs) ∙ ap (λ (ys : List X). take i xs ++ ys) behind
+    let following : drop i xs ≡ x ∷ drop (i + 1) xs = drop-cons xs i x h ∙ ap (λ (y : X). y ∷ drop (suc i) xs) (sym e) ∙ ap (λ (n : ℕ). x ∷ drop n xs) (sym next) in
+    sym (take-append-drop i xs) ∙ ap (λ (ys : List X). take i xs ++ ys) following
 
 flat_map_at : {X Y : Type 0} (f : X → List Y) (xs : List X) (i : ℕ) (x : X) → i < length xs → x ≡ get_or xs i x → flat_map f xs ≡ flat_map f (take i xs) ++ (f x ++ flat_map f (drop (i + 1) xs))
 flat_map_at {X = X} f xs i x h e = ap (flat_map f) (split_at xs i x h e) ∙ flat_map-append f (take i xs) (x ∷ drop (i + 1) xs)
 
--- where a part of rules can't be put after others, all of them can't
+-- if a part of rules can't be put after others, all of them can't
 part_failed : (start now before part rest whole : List Rule) (e : RulesFault) → now ≡ start ++ before → whole ≡ before ++ (part ++ rest) → FailsAt now part e → FailsAt start whole e
 part_failed start now before part rest whole TooMany a b h =
     let one : tokens_in (now ++ part) ≡ tokens_in now + tokens_in part = sum_by-append rule_tokens now part in

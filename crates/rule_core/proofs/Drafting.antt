@@ -29,41 +29,41 @@ draft_made by line parts d acts sets said e a s f =
     λ i. record { label = (e i).label; goto = (e i).goto; plain = (e i).plain; up = (e i).up; acts = by_acts i; results = (e i).results; sets = by_sets i; findings = all_said i }
 
 -- parts in front of those that follow
-abbrev pub in_front_of : List Part → Result (List Part) Finding → Result (List Part) Finding
-in_front_of parts (Ok more) = Ok (parts ++ more)
-in_front_of parts (Err wrong) = Err wrong
+abbrev pub prepended_to : List Part → Result (List Part) Finding → Result (List Part) Finding
+prepended_to parts (Ok more) = Ok (parts ++ more)
+prepended_to parts (Err wrong) = Err wrong
 
-one_more : (parts : List Part) (p : Part) (rest : Result (List Part) Finding) → in_front_of (parts ++ p ∷ []) rest ≡ in_front_of parts (with_part (Ok p) rest)
+one_more : (parts : List Part) (p : Part) (rest : Result (List Part) Finding) → prepended_to (parts ++ p ∷ []) rest ≡ prepended_to parts (with_part (Ok p) rest)
 one_more parts p (Ok more) = ap Ok (append_assoc parts (p ∷ []) more)
 one_more parts p (Err wrong) = refl
 
-pub none_before : (rest : Result (List Part) Finding) → in_front_of [] rest ≡ rest
+pub none_before : (rest : Result (List Part) Finding) → prepended_to [] rest ≡ rest
 none_before (Ok more) = refl
 none_before (Err wrong) = refl
 
 -- a part more is read
 pub part_read : (by : Profile) (line : List ℕ) (before now : List Part) (p : Part) (i : Item) (left more : List Item) (all : Result (List Part) Finding)
-    → in_front_of before (parts_of by line left) ≡ all → left ≡ i ∷ more → part_of_item by line i ≡ Ok p → now ≡ before ++ p ∷ [] → in_front_of now (parts_of by line more) ≡ all
+    → prepended_to before (parts_of by line left) ≡ all → left ≡ i ∷ more → part_of_item by line i ≡ Ok p → now ≡ before ++ p ∷ [] → prepended_to now (parts_of by line more) ≡ all
 part_read by line before now p i left more all h e f g =
-    ap (λ (x : List Part). in_front_of x (parts_of by line more)) g
+    ap (λ (x : List Part). prepended_to x (parts_of by line more)) g
     ∙ one_more before p (parts_of by line more)
-    ∙ ap (λ (x : Result Part Finding). in_front_of before (with_part x (parts_of by line more))) (sym f)
-    ∙ ap (λ (x : List Item). in_front_of before (parts_of by line x)) (sym e)
+    ∙ ap (λ (x : Result Part Finding). prepended_to before (with_part x (parts_of by line more))) (sym f)
+    ∙ ap (λ (x : List Item). prepended_to before (parts_of by line x)) (sym e)
     ∙ h
 
 -- an item has a fault
 pub item_wrong : (by : Profile) (line : List ℕ) (before : List Part) (wrong : Finding) (i : Item) (left more : List Item) (all : Result (List Part) Finding)
-    → in_front_of before (parts_of by line left) ≡ all → left ≡ i ∷ more → part_of_item by line i ≡ Err wrong → all ≡ Err wrong
+    → prepended_to before (parts_of by line left) ≡ all → left ≡ i ∷ more → part_of_item by line i ≡ Err wrong → all ≡ Err wrong
 item_wrong by line before wrong i left more all h e f =
     sym h
-    ∙ ap (λ (x : List Item). in_front_of before (parts_of by line x)) e
-    ∙ ap (λ (x : Result Part Finding). in_front_of before (with_part x (parts_of by line more))) f
+    ∙ ap (λ (x : List Item). prepended_to before (parts_of by line x)) e
+    ∙ ap (λ (x : Result Part Finding). prepended_to before (with_part x (parts_of by line more))) f
 
 -- no item is left
 pub items_ended : (by : Profile) (line : List ℕ) (before : List Part) (left : List Item) (all : Result (List Part) Finding)
-    → in_front_of before (parts_of by line left) ≡ all → left ≡ [] → all ≡ Ok before
+    → prepended_to before (parts_of by line left) ≡ all → left ≡ [] → all ≡ Ok before
 items_ended by line before left all h e =
-    sym h ∙ ap (λ (x : List Item). in_front_of before (parts_of by line x)) e ∙ ap Ok (append-nil before)
+    sym h ∙ ap (λ (x : List Item). prepended_to before (parts_of by line x)) e ∙ ap Ok (append-nil before)
 
 -- a line that is too long
 pub too_long : (by : Profile) (line : List ℕ) (f : Finding) → most_bytes by < length line → f ≡ finding LineTooLong [] → draft_of by line ≡ Err f

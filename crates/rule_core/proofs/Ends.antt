@@ -10,7 +10,7 @@ at_last b x (c ∷ []) (suc k) l e = absurd (omega arith)
 at_last b x (c ∷ d ∷ rest) zero l e = absurd (omega arith)
 at_last b x (c ∷ d ∷ rest) (suc k) l e = at_last b x (d ∷ rest) k (omega arith) e
 
--- a text ends in a byte where that is what is read at its last place
+-- a text ends in a byte exactly if that byte is read at its last place
 pub ends_in_last : (b x : ℕ) (xs : List ℕ) → Some x ≡ slice_get xs (length xs - 1) → (x == b) ≡ ends_in b xs
 ends_in_last b x [] e = cc
 ends_in_last b x (c ∷ rest) e = at_last b x (c ∷ rest) (length (c ∷ rest) - 1) (omega arith) e

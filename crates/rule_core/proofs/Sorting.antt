@@ -20,7 +20,7 @@ module _ {X : Type 0} (turn : X → ℕ) where
       let first : u ≤ turn x = r.0 in
       (omega arith, r.1)
 
-  -- those of another turn are passed over
+  -- those of another turn are skipped
   of_other : (x : X) (xs : List X) (t : ℕ) → (turn x == t) ≡ false → of_turn turn (x ∷ xs) t ≡ of_turn turn xs t
   of_other x xs t e = ap (λ b. cond b (x ∷ of_turn turn xs t) (of_turn turn xs t)) e
 
@@ -59,14 +59,14 @@ module _ {X : Type 0} (turn : X → ℕ) where
   none_left u zero = refl
   none_left u (suc n) = none_left (u + 1) n
 
-  -- those whose turns rise stand turn by turn
-  stand_by_turn : (u n : ℕ) (xs : List X) → RisesFrom turn u xs → AllBelow (u + n) xs → xs ≡ flat_map (of_turn turn xs) (turns_from u n)
-  stand_by_turn u zero [] r b = refl
-  stand_by_turn u zero (x ∷ xs) r b =
+  -- elements whose turns rise are listed turn by turn
+  in_turn_order : (u n : ℕ) (xs : List X) → RisesFrom turn u xs → AllBelow (u + n) xs → xs ≡ flat_map (of_turn turn xs) (turns_from u n)
+  in_turn_order u zero [] r b = refl
+  in_turn_order u zero (x ∷ xs) r b =
       let first : u ≤ turn x = r.0 in
       let last : turn x < u + 0 = b.0 in
       absurd (omega arith)
-  stand_by_turn u (suc n) xs r b = by (λ ys s c. stand_by_turn (u + 1) n ys s c) xs r b
+  in_turn_order u (suc n) xs r b = by (λ ys s c. in_turn_order (u + 1) n ys s c) xs r b
     where
       more : (k : ℕ) (ys : List X) → AllBelow (u + suc n) ys → AllBelow (u + 1 + n) ys
       more k [] b = tt
@@ -161,7 +161,7 @@ module _ {X : Type 0} (turn : X → ℕ) where
   -- what a stable sort by turns gives
   pub sorted_by_turn : (n : ℕ) → ((x : X) → turn x < n) → (xs ys : List X) → IsNonDecreasingBy turn ys → IsStableByKey turn nat_cmp xs ys → ys ≡ by_turn turn n xs
   sorted_by_turn n below xs ys up s =
-      stand_by_turn 0 n ys (rises_so 0 ys up (λ d h. omega arith)) (all_below (0 + n) (λ x. let h = below x in omega (arith, h)) ys)
+      in_turn_order 0 n ys (rises_so 0 ys up (λ d h. omega arith)) (all_below (0 + n) (λ x. let h = below x in omega (arith, h)) ys)
       ∙ same_turns xs ys (each_stable xs ys s) 0 n
 
   -- ---- the order
@@ -235,7 +235,7 @@ module _ {X : Type 0} (turn : X → ℕ) where
   rising b u zero xs h = tt
   rising b u (suc n) xs h = turn_first b u xs (flat_map (of_turn turn xs) (turns_from (u + 1) n)) h (rising u (u + 1) n xs (omega arith))
 
-  -- those that stand turn by turn are in order
+  -- elements that are listed turn by turn are in order
   pub are_in_order : (n : ℕ) → ((x : X) → turn x < n) → (xs : List X) → IsInOrder turn xs (by_turn turn n xs)
   are_in_order n below xs = record {
     each = λ t. by t (cases_lt t n);

@@ -5,19 +5,19 @@ use Rattle.text_bytes.specs.Messages.{capped}
 use Rattle.text_bytes.specs.declared.profile.Profile.{Profile}
 use Rattle.text_bytes.specs.declared.profile.Profile.TheVariants.{Manual, Udev}
 use Rattle.rule_core.specs.Lines.{Joined, NumberedLine, Piece, is_comment, is_empty, is_open, joined, joined_as, joined_lines, kept, lines, lines_of_runs, numbered_from, open_number, open_of_runs, piece_of, run_number, run_text, runs, unindented}
-use Rattle.rule_core.specs.Steps.{SoFar, after, ended, line_of, number_of_both, sofar, told_open}
+use Rattle.rule_core.specs.Steps.{SoFar, after, ended, line_of, number_of_both, reported_open, sofar}
 
 abbrev piece : ℕ → List ℕ → Bool → Piece
 piece n t c = record { number = n; text = t; continues = c }
 
 -- the open piece in front of those that follow
-abbrev behind_open : Option Piece → List Piece → List Piece
-behind_open None ps = ps
-behind_open (Some q) ps = piece q.number q.text true ∷ ps
+abbrev after_open : Option Piece → List Piece → List Piece
+after_open None ps = ps
+after_open (Some q) ps = piece q.number q.text true ∷ ps
 
 -- what the lines so far and the pieces that follow make together, in a file whose last line has this number
 unfoldable pub whole : Profile → ℕ → SoFar → List Piece → Joined
-whole by last s ps = joined_as (s.lines ++ lines_of_runs by (runs (behind_open s.pending ps))) (open_of_runs by last (runs (behind_open s.pending ps)))
+whole by last s ps = joined_as (s.lines ++ lines_of_runs by (runs (after_open s.pending ps))) (open_of_runs by last (runs (after_open s.pending ps)))
 
 -- a piece alone is reported by its number
 number_alone : (by : Profile) (p : Piece) → run_number by (p ∷ []) ≡ p.number
@@ -84,16 +84,16 @@ step : (by : Profile) (last : ℕ) (s : SoFar) (p : Piece) (ps : List Piece) →
 step by last s p ps = step_of by last s.lines s.pending p.number p.text p.continues ps
 
 -- no piece more
-told_alone : (by : Profile) (last : ℕ) (p : Piece) → open_number by last (p ∷ []) ≡ told_open by last p.number
-told_alone Manual last p = refl
-told_alone Udev last p = refl
+reported_alone : (by : Profile) (last : ℕ) (p : Piece) → open_number by last (p ∷ []) ≡ reported_open by last p.number
+reported_alone Manual last p = refl
+reported_alone Udev last p = refl
 
 end_of : (by : Profile) (last : ℕ) (ls : List NumberedLine) (o : Option Piece) → whole by last (sofar ls o) [] ≡ ended by last (sofar ls o)
 unfolding whole
 end_of by last ls None = ap (λ (x : List NumberedLine). joined_as x None) (append-nil ls)
 end_of by last ls (Some q) =
     ap (λ (x : List NumberedLine). joined_as x (Some (capped (open_number by last (piece q.number q.text true ∷ []))))) (append-nil ls)
-    ∙ ap (λ (k : ℕ). joined_as ls (Some (capped k))) (told_alone by last (piece q.number q.text true))
+    ∙ ap (λ (k : ℕ). joined_as ls (Some (capped k))) (reported_alone by last (piece q.number q.text true))
 
 start_of : (by : Profile) (last : ℕ) (ps : List Piece) → whole by last (sofar [] None) ps ≡ joined by last ps
 unfolding whole

@@ -1,6 +1,7 @@
 -- A joined line read as a rule, before its jumps are followed.
 use Rattle.std.specs.Prelude.{ℕ, nat_lt, if◌then◌else◌, List, [], ◌∷◌, ◌++◌, drop, filter_map, length, Option, Some, None, Result, Ok, Err}
 use Rattle.std.specs.List.{prefix_len}
+use Rattle.text_bytes.specs.Texts.{first, last}
 use Rattle.text_bytes.specs.declared.profile.Profile.{Profile}
 use Rattle.text_bytes.specs.declared.profile.Profile.TheVariants.{Manual, Udev}
 use Rattle.text_bytes.specs.declared.message.MessageKind.TheVariants.{BadSyntax, BadPrefix, LineTooLong, GivenTwice, RuleWithoutEffect}
@@ -100,17 +101,6 @@ abbrev pub goto_in : Part → Option (List ℕ)
 goto_in (part.Goto name) = Some name
 goto_in _ = None
 
--- the first of these, if there is one
-abbrev pub first : {X : Type 0} → List X → Option X
-first [] = None
-first (x ∷ xs) = Some x
-
--- the last of these, if there is one
-abbrev pub last : {X : Type 0} → List X → Option X
-last [] = None
-last (x ∷ []) = Some x
-last (x ∷ y ∷ ys) = last (y ∷ ys)
-
 -- the label that counts of those that a rule gives: the first, for udev the last
 abbrev pub label_among : Profile → List (List ℕ) → Option (List ℕ)
 label_among Manual names = first names
@@ -138,9 +128,9 @@ again_in by before (part.Goto name) = given_again (filter_map goto_in before) na
 again_in by before _ = []
 
 -- the names that are given again among parts after others, in written order
-abbrev pub given_again_behind : Profile → List Part → List Part → List Finding
-given_again_behind by before [] = []
-given_again_behind by before (p ∷ parts) = again_in by before p ++ given_again_behind by (before ++ p ∷ []) parts
+abbrev pub given_again_after : Profile → List Part → List Part → List Finding
+given_again_after by before [] = []
+given_again_after by before (p ∷ parts) = again_in by before p ++ given_again_after by (before ++ p ∷ []) parts
 
 -- the draft of the parts and the tokens of a line: of several jumps the first counts
 abbrev pub draft : Profile → List ℕ → List Part → Draft
@@ -152,7 +142,7 @@ draft by line parts = record {
   acts = acts_by_turn (filter_map act_in parts);
   results = filter_map result_in parts;
   sets = assignments_by_turn by (filter_map assignment_in parts);
-  findings = given_again_behind by [] parts ++ style_findings by line (tokens_of (items_as by line));
+  findings = given_again_after by [] parts ++ style_findings by line (tokens_of (items_as by line));
 }
 
 -- the draft of parts that were read, or what is wrong with them: udev also drops a rule without effect

@@ -27,16 +27,16 @@ end_size (b ∷ text) =
     else nul_size (b ∷ text))
 
 -- the bytes after so many of an end of a line, each further end as one newline
-abbrev pub as_read_behind : ℕ → List ℕ → List ℕ
-as_read_behind passed [] = []
-as_read_behind (suc passed) (b ∷ text) = as_read_behind passed text
-as_read_behind zero (b ∷ text) =
-    if end_size (b ∷ text) == 0 then b ∷ as_read_behind zero text
-    else newline ∷ as_read_behind (end_size (b ∷ text) - 1) text
+abbrev pub as_read_after : ℕ → List ℕ → List ℕ
+as_read_after passed [] = []
+as_read_after (suc passed) (b ∷ text) = as_read_after passed text
+as_read_after zero (b ∷ text) =
+    if end_size (b ∷ text) == 0 then b ∷ as_read_after zero text
+    else newline ∷ as_read_after (end_size (b ∷ text) - 1) text
 
 -- the bytes of a file with each end of a line as one newline
 unfoldable pub as_read : List ℕ → List ℕ
-as_read bytes = as_read_behind 0 bytes
+as_read bytes = as_read_after 0 bytes
 
 -- a file as it is read: for udev with each end of a line as one newline
 abbrev pub file_as_read : Profile → SourceFile → SourceFile
@@ -53,6 +53,6 @@ first_too_long [] = None
 first_too_long (l ∷ ls) = if is_too_long l.text then Some (capped l.number) else first_too_long ls
 
 -- the number of the line because of which udev gives a file up, which is the first that is too long
-abbrev pub given_up : Profile → List ℕ → Option ℕ
-given_up Manual bytes = None
-given_up Udev bytes = first_too_long (numbered_lines bytes)
+abbrev pub abandoned : Profile → List ℕ → Option ℕ
+abandoned Manual bytes = None
+abandoned Udev bytes = first_too_long (numbered_lines bytes)

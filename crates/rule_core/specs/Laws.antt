@@ -10,7 +10,7 @@ use Rattle.rule_parts.specs.Parts.{is_read_as_assign}
 use Rattle.rule_parts.specs.Values.{finding}
 use Rattle.rule_types.specs.declared.part.Part.{Part}
 use Rattle.rule_types.specs.declared.part.Part.TheVariants as part
-use Rattle.rule_core.specs.Drafts.{act_in, assignment_in, draft, given_again_behind, goto_in, label_in, plain_in, result_in, up_in}
+use Rattle.rule_core.specs.Drafts.{act_in, assignment_in, draft, given_again_after, goto_in, label_in, plain_in, result_in, up_in}
 use Rattle.rule_core.specs.Style.{between}
 use Rattle.rule_core.specs.Turns.{of_turn, turn_of_act, turn_of_assignment}
 
@@ -45,31 +45,31 @@ GivesAgain _ _ _ = ⊥
 pub record IsGivenAmong (parts : List Part) (p : Part) (name : List ℕ) : Type 0 where
   pub before : List Part
   pub earlier : Part
-  pub behind : List Part
-  pub cut : parts ≡ before ++ earlier ∷ behind
+  pub following : List Part
+  pub cut : parts ≡ before ++ earlier ∷ following
   pub again : GivesAgain earlier p name
 
 -- By the manual, a part after others is reported as one given twice exactly if one with its key is among these, and
 -- otherwise nothing is said.
-pub record IsToldWhereAgain (parts : List Part) (p : Part) : Type 0 where
-  pub again : (name : List ℕ) → IsGivenAmong parts p name → given_again_behind Manual [] (parts ++ p ∷ []) ≡ given_again_behind Manual [] parts ++ finding GivenTwice name ∷ []
-  pub once : ((name : List ℕ) → IsGivenAmong parts p name → ⊥) → given_again_behind Manual [] (parts ++ p ∷ []) ≡ given_again_behind Manual [] parts
+pub record IsReportedWhereAgain (parts : List Part) (p : Part) : Type 0 where
+  pub again : (name : List ℕ) → IsGivenAmong parts p name → given_again_after Manual [] (parts ++ p ∷ []) ≡ given_again_after Manual [] parts ++ finding GivenTwice name ∷ []
+  pub once : ((name : List ℕ) → IsGivenAmong parts p name → ⊥) → given_again_after Manual [] (parts ++ p ∷ []) ≡ given_again_after Manual [] parts
 
 -- blanks, one comma, and blanks, of which there is at least one
 pub record IsPlainGap (gap : List ℕ) : Type 0 where
   pub before : List ℕ
-  pub behind : List ℕ
-  pub spelled : gap ≡ before ++ comma ∷ behind
+  pub following : List ℕ
+  pub spelled : gap ≡ before ++ comma ∷ following
   pub blank_before : AllAre is_blank before
-  pub blank_behind : AllAre is_blank behind
-  pub some_behind : 0 < length behind
+  pub blank_after : AllAre is_blank following
+  pub some_after : 0 < length following
 
 -- after a place where a token ends, each gap is plain, no operator is read as `=`, and only blanks are at the end
-abbrev pub IsPlainBehind : List ℕ → ℕ → List Placed → Type 0
-IsPlainBehind line place [] = AllAre is_blank (drop place line)
-IsPlainBehind line place (t ∷ tokens) = IsPlainGap (between place t.span.start line) × (is_read_as_assign t ≡ false) × IsPlainBehind line t.span.end tokens
+abbrev pub IsPlainAfter : List ℕ → ℕ → List Placed → Type 0
+IsPlainAfter line place [] = AllAre is_blank (drop place line)
+IsPlainAfter line place (t ∷ tokens) = IsPlainGap (between place t.span.start line) × (is_read_as_assign t ≡ false) × IsPlainAfter line t.span.end tokens
 
 -- a line is written as it should be
 abbrev pub IsPlain : List ℕ → List Placed → Type 0
 IsPlain line [] = ⊤
-IsPlain line (t ∷ tokens) = (is_read_as_assign t ≡ false) × IsPlainBehind line t.span.end tokens
+IsPlain line (t ∷ tokens) = (is_read_as_assign t ≡ false) × IsPlainAfter line t.span.end tokens

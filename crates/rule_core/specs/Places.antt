@@ -3,11 +3,11 @@ use Rattle.std.specs.Prelude.{ℕ, List, [], ◌∷◌, ⊤, drop, Option, Some,
 use Rattle.text_bytes.specs.declared.profile.Profile.{Profile}
 use Rattle.rule_tokens.specs.Grammar.{AllAre, Placed, is_gap_byte}
 use Rattle.rule_parts.specs.declared.finding.Finding.{Finding}
-use Rattle.rule_core.specs.Style.{between, end_findings, front_findings, gap_findings, style_behind, style_findings}
+use Rattle.rule_core.specs.Style.{between, end_findings, gap_findings, leading_findings, style_after, style_findings}
 
 -- the gap before a token, from the place where the token before it ends, if there is one
 abbrev pub findings_before : Profile → List ℕ → Option ℕ → Placed → List Finding
-findings_before by line None t = front_findings by (between 0 t.span.start line)
+findings_before by line None t = leading_findings by (between 0 t.span.start line)
 findings_before by line (Some place) t = gap_findings by (between place t.span.start line) t.parts.head.key
 
 -- the gap at the end of a line, from the place where its last token ends, if there is one
@@ -18,13 +18,13 @@ findings_at_end line (Some place) = end_findings (drop place line)
 -- the tokens after the place where a token ends, or all of them
 abbrev pub findings_from : Profile → List ℕ → Option ℕ → List Placed → List Finding
 findings_from by line None tokens = style_findings by line tokens
-findings_from by line (Some place) tokens = style_behind by line place tokens
+findings_from by line (Some place) tokens = style_after by line place tokens
 
 -- after a place where a token ends, gaps are blanks and commas, as in the grammar of lines
-abbrev pub AreGapsBehind : List ℕ → ℕ → List Placed → Type 0
-AreGapsBehind line place [] = AllAre is_gap_byte (drop place line)
-AreGapsBehind line place (t ∷ tokens) = AllAre is_gap_byte (between place t.span.start line) × AreGapsBehind line t.span.end tokens
+abbrev pub AreGapsAfter : List ℕ → ℕ → List Placed → Type 0
+AreGapsAfter line place [] = AllAre is_gap_byte (drop place line)
+AreGapsAfter line place (t ∷ tokens) = AllAre is_gap_byte (between place t.span.start line) × AreGapsAfter line t.span.end tokens
 
 abbrev pub AreGaps : List ℕ → List Placed → Type 0
 AreGaps line [] = ⊤
-AreGaps line (t ∷ tokens) = AreGapsBehind line t.span.end tokens
+AreGaps line (t ∷ tokens) = AreGapsAfter line t.span.end tokens

@@ -1,11 +1,11 @@
 -- The rules of files, and the messages about them.
 use Rattle.std.specs.Prelude.{ℕ, if◌then◌else◌, List, [], ◌∷◌, ◌++◌, map, zip, flat_map, Option, Some, None, Result, Ok, Err}
 use Rattle.text_bytes.specs.declared.message.Message.{Message}
-use Rattle.text_bytes.specs.declared.message.MessageKind.TheVariants.{NoLaterLabel, OpenAtEnd, LabelUnused, FileGivenUp}
+use Rattle.text_bytes.specs.declared.message.MessageKind.TheVariants.{NoLaterLabel, OpenAtEnd, LabelUnused, FileAbandoned}
 use Rattle.text_bytes.specs.declared.profile.Profile.{Profile}
 use Rattle.text_bytes.specs.declared.profile.Profile.TheVariants.{Manual}
 use Rattle.text_bytes.specs.declared.source_file.SourceFile.{SourceFile}
-use Rattle.rule_core.specs.Ends.{given_up}
+use Rattle.rule_core.specs.Ends.{abandoned}
 use Rattle.rule_core.specs.Lines.{NumberedLine, joined_lines}
 use Rattle.rule_parts.specs.Values.{finding}
 use Rattle.rule_parts.specs.declared.finding.Finding.{Finding}
@@ -93,18 +93,18 @@ rules_unless by f None = flat_map (λ x. line_rules f.name x.0.line x.0.read x.1
 
 -- the rules of a file, in order
 abbrev pub file_rules : Profile → SourceFile → List Rule
-file_rules by f = rules_unless by f (given_up by f.bytes)
+file_rules by f = rules_unless by f (abandoned by f.bytes)
 
 -- the messages about a file by line, only one if it is given up because of a line
 abbrev pub messages_unless : Profile → SourceFile → Option ℕ → List Message
-messages_unless by f (Some line) = message_at f.name line (finding FileGivenUp []) ∷ []
+messages_unless by f (Some line) = message_at f.name line (finding FileAbandoned []) ∷ []
 messages_unless by f None =
     flat_map (λ x. line_messages f.name x.0.line x.0.read x.1) (landed (readings_of by f))
     ++ open_messages f.name (joined_lines by f.bytes).open_at
 
 -- the messages about a file, by line
 abbrev pub file_messages : Profile → SourceFile → List Message
-file_messages by f = messages_unless by f (given_up by f.bytes)
+file_messages by f = messages_unless by f (abandoned by f.bytes)
 
 -- the rules of files, and the messages about them
 unfoldable pub set_of_as : Profile → List SourceFile → RuleSet

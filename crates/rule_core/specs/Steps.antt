@@ -33,14 +33,14 @@ abbrev pub after : Profile → SoFar → Piece → SoFar
 after by s p = if p.continues then sofar s.lines (Some (onto by s.pending p)) else sofar (s.lines ++ line_of (onto by s.pending p)) None
 
 -- the number with which an open piece is reported if the last line of its file has this number
-abbrev pub told_open : Profile → ℕ → ℕ → ℕ
-told_open Manual last number = number
-told_open Udev last number = last
+abbrev pub reported_open : Profile → ℕ → ℕ → ℕ
+reported_open Manual last number = number
+reported_open Udev last number = last
 
 -- the number with which the open piece is reported, if there is one
 abbrev pub open_at : Profile → ℕ → Option Piece → Option ℕ
 open_at by last None = None
-open_at by last (Some p) = Some (capped (told_open by last p.number))
+open_at by last (Some p) = Some (capped (reported_open by last p.number))
 
 -- no more pieces, in a file whose last line has this number
 abbrev pub ended : Profile → ℕ → SoFar → Joined

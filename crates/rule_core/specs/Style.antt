@@ -33,9 +33,9 @@ gap_findings Manual gap key = comma_findings gap key
 gap_findings Udev gap key = comma_findings gap key ++ (if has_blank_before_comma gap then finding BlankBeforeComma key ∷ [] else [])
 
 -- the gap before the first token, which udev skips
-abbrev pub front_findings : Profile → List ℕ → List Finding
-front_findings Manual gap = []
-front_findings Udev gap = if commas gap == 0 then [] else finding LeadingComma [] ∷ []
+abbrev pub leading_findings : Profile → List ℕ → List Finding
+leading_findings Manual gap = []
+leading_findings Udev gap = if commas gap == 0 then [] else finding LeadingComma [] ∷ []
 
 -- the gap after the last token
 abbrev pub end_findings : List ℕ → List Finding
@@ -55,11 +55,11 @@ abbrev pub between : ℕ → ℕ → List ℕ → List ℕ
 between from to line = take (to - from) (drop from line)
 
 -- the gaps and tokens of a line after a place where a token ends
-abbrev pub style_behind : Profile → List ℕ → ℕ → List Placed → List Finding
-style_behind by line place [] = end_findings (drop place line)
-style_behind by line place (t ∷ tokens) = gap_findings by (between place t.span.start line) t.parts.head.key ++ (operator_findings by t ++ style_behind by line t.span.end tokens)
+abbrev pub style_after : Profile → List ℕ → ℕ → List Placed → List Finding
+style_after by line place [] = end_findings (drop place line)
+style_after by line place (t ∷ tokens) = gap_findings by (between place t.span.start line) t.parts.head.key ++ (operator_findings by t ++ style_after by line t.span.end tokens)
 
 -- the gaps and tokens of a line, in the order of their places
 abbrev pub style_findings : Profile → List ℕ → List Placed → List Finding
 style_findings by line [] = []
-style_findings by line (t ∷ tokens) = front_findings by (between 0 t.span.start line) ++ (operator_findings by t ++ style_behind by line t.span.end tokens)
+style_findings by line (t ∷ tokens) = leading_findings by (between 0 t.span.start line) ++ (operator_findings by t ++ style_after by line t.span.end tokens)

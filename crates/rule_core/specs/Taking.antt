@@ -7,7 +7,8 @@ use Rattle.rule_parts.specs.declared.finding.Finding.{Finding}
 use Rattle.rule_types.specs.declared.part.Part.{Part}
 use Rattle.rule_types.specs.declared.part.Part.TheVariants as part
 use Rattle.rule_parts.specs.Values.{finding}
-use Rattle.rule_core.specs.Drafts.{Draft, act_in, assignment_in, first, given_again_behind, goto_in, label_among, label_in, lost_name, plain_in, result_in, up_in}
+use Rattle.text_bytes.specs.Texts.{first}
+use Rattle.rule_core.specs.Drafts.{Draft, act_in, assignment_in, given_again_after, goto_in, label_among, label_in, lost_name, plain_in, result_in, up_in}
 
 -- the parts of a rule by what they are for, in written order
 abbrev pub written : Profile → List Part → Draft
@@ -19,7 +20,7 @@ written by parts = record {
   acts = filter_map act_in parts;
   results = filter_map result_in parts;
   sets = filter_map assignment_in parts;
-  findings = given_again_behind by [] parts;
+  findings = given_again_after by [] parts;
 }
 
 -- a name, or the one that was given before it

@@ -1,15 +1,17 @@
 -- The order in which the parts of a rule that act are evaluated, and those that assign.
-use Rattle.std.specs.Prelude.{ℕ, zero, suc, ◌+◌, ◌==◌, List, [], ◌∷◌, filter, flat_map, Option, Some}
+use Rattle.std.specs.Prelude.{ℕ, zero, suc, ◌+◌, ◌==◌, Bool, false, if◌then◌else◌, List, [], ◌∷◌, filter, flat_map, Option, Some, is_none}
 use Rattle.text_bytes.specs.declared.profile.Profile.{Profile}
 use Rattle.text_bytes.specs.declared.profile.Profile.TheVariants.{Manual, Udev}
+use Rattle.rule_templates.specs.Substituted.{is_substituted}
+use Rattle.rule_types.specs.Topics.{mode_of}
 use Rattle.rule_types.specs.declared.roles.Target.{Target}
 use Rattle.rule_types.specs.declared.roles.Target.TheVariants as target
 use Rattle.rule_types.specs.declared.part.Act.{Act}
 use Rattle.rule_types.specs.declared.part.Assignment.{Assignment}
 use Rattle.rule_types.specs.declared.part.Change.{Change}
 use Rattle.rule_types.specs.declared.part.Change.TheVariants as change
-use Rattle.rule_types.specs.declared.part.Deed.{Deed}
-use Rattle.rule_types.specs.declared.part.Deed.TheVariants as deed
+use Rattle.rule_types.specs.declared.part.ActKind.{ActKind}
+use Rattle.rule_types.specs.declared.part.ActKind.TheVariants as act_kind
 use Rattle.rule_types.specs.declared.part.Import.{Import}
 use Rattle.rule_types.specs.declared.part.Import.TheVariants as import
 use Rattle.rule_types.specs.declared.rule_option.RuleOption.{RuleOption}
@@ -26,13 +28,13 @@ turn_of_import (import.Db name) = 5
 turn_of_import (import.Cmdline name) = 6
 turn_of_import (import.Parent names text) = 7
 
-abbrev pub turn_of_deed : Deed → ℕ
-turn_of_deed (deed.Test mask path) = 0
-turn_of_deed (deed.Program text) = 1
-turn_of_deed (deed.Import i) = turn_of_import i
+abbrev pub turn_of_act_kind : ActKind → ℕ
+turn_of_act_kind (act_kind.Test mask path) = 0
+turn_of_act_kind (act_kind.Program text) = 1
+turn_of_act_kind (act_kind.Import i) = turn_of_import i
 
 abbrev pub turn_of_act : Act → ℕ
-turn_of_act a = turn_of_deed a.deed
+turn_of_act a = turn_of_act_kind a.kind
 
 -- the turn of an assignment of a text, by its key
 abbrev pub turn_of_target : Target → ℕ
@@ -47,6 +49,19 @@ turn_of_target target.Symlink = 8
 turn_of_target (target.Attr name) = 9
 turn_of_target (target.Sysctl name) = 10
 
+-- whether udev renders a text of OWNER, GROUP or MODE for each event: a name or a number is known when the rule is
+-- read if it has no substitution, and so is a mode
+abbrev pub is_rendered_late : Target → List ℕ → Bool
+is_rendered_late target.Owner text = is_substituted text
+is_rendered_late target.Group text = is_substituted text
+is_rendered_late target.Mode text = is_none (mode_of text)
+is_rendered_late _ text = false
+
+-- the turn of an assignment of a text for udev, among these: OWNER, GROUP and MODE that are known when the rule is read
+-- come right after those that are rendered for each event
+abbrev pub turn_of_text : Target → List ℕ → ℕ
+turn_of_text to text = if is_rendered_late to text then turn_of_target to else 3 + turn_of_target to
+
 -- the turn of an option for udev, among the options
 abbrev pub turn_of_option : RuleOption → ℕ
 turn_of_option option.KeepEscapes = 0
@@ -55,6 +70,7 @@ turn_of_option option.DbPersist = 2
 turn_of_option option.Watch = 3
 turn_of_option option.NoWatch = 3
 turn_of_option (option.LinkPriority number) = 4
+turn_of_option option.LogLevel = 5
 turn_of_option option.Ignored = 5
 
 -- the turn of RUN for udev, among its types: builtins, then programs
@@ -68,8 +84,8 @@ turn_of_change Manual (change.Option known) = 0
 turn_of_change Manual (change.Text to text) = turn_of_target to
 turn_of_change Manual (change.Run type text) = 11
 turn_of_change Udev (change.Option known) = turn_of_option known
-turn_of_change Udev (change.Text to text) = 5 + turn_of_target to
-turn_of_change Udev (change.Run type text) = 16 + turn_of_run type
+turn_of_change Udev (change.Text to text) = 5 + turn_of_text to text.written
+turn_of_change Udev (change.Run type text) = 19 + turn_of_run type
 
 abbrev pub turn_of_assignment : Profile → Assignment → ℕ
 turn_of_assignment by a = turn_of_change by a.change
@@ -77,7 +93,7 @@ turn_of_assignment by a = turn_of_change by a.change
 -- how many turns assignments have
 abbrev pub assignment_turns : Profile → ℕ
 assignment_turns Manual = 12
-assignment_turns Udev = 18
+assignment_turns Udev = 21
 
 -- those that have a turn, in written order
 abbrev pub of_turn : {X : Type 0} → (X → ℕ) → List X → ℕ → List X

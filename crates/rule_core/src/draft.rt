@@ -7,7 +7,7 @@ ghost use Rattle.text_bytes.specs.declared.profile.Profile.TheVariants.{Manual};
 ghost use Rattle.rule_core.specs.Drafts.{lost_name};
 ghost use Rattle.rule_core.specs.Taking.{again, first_given, label_given, label_said, with_part, written};
 
-use crate::telling::tell;
+use crate::reporting::report;
 use rule_parts::Finding;
 use rule_types::{Act, Assignment, Comparison, Part, PlainMatch, UpMatch};
 use std::alloc::{AllocError, Global};
@@ -128,7 +128,7 @@ fn give_last(
     ensures findings { OnOk result (findings.new.items ≡ findings.old.items ++ lost_name given.old) }
 {
     if let Some(lost) = given {
-        tell(alloc, findings, MessageKind::GivenTwice, lost.as_slice())?;
+        report(alloc, findings, MessageKind::GivenTwice, lost.as_slice())?;
     }
     *given = Some(name);
     Ok(())
@@ -145,7 +145,7 @@ fn give(
     ensures findings { OnOk result (findings.new.items ≡ findings.old.items ++ again given.old name) }
 {
     match given {
-        Some(_) => tell(alloc, findings, MessageKind::GivenTwice, name.as_slice()),
+        Some(_) => report(alloc, findings, MessageKind::GivenTwice, name.as_slice()),
         None => {
             *given = Some(name);
             Ok(())

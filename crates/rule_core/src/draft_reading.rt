@@ -5,7 +5,8 @@ ghost use Rattle.rule_core.specs.Drafts.{draft, draft_of, items_as, most_bytes, 
 
 use crate::draft::Draft;
 use crate::effects::lacks_effect;
-use crate::places::{behind, line_tokens};
+use crate::line_ends::MAX_UDEV_BYTES;
+use crate::places::{following, line_tokens};
 use crate::style::add_style;
 use crate::turns::{sort_acts, sort_assignments};
 use rule_parts::{Finding, PartFault, read_part};
@@ -13,6 +14,9 @@ use rule_tokens::{TokenFaultKind, letters_before_quote};
 use rule_types::Part;
 use std::alloc::{AllocError, Global};
 use text_bytes::{MessageKind, Profile};
+
+/// The most bytes of a joined line by the manual.
+const MAX_BYTES: usize = 16_384;
 
 /// Reads a joined line as a rule, as udev(7) or udev itself has it.
 ///
@@ -40,8 +44,8 @@ pub fn most_bytes(profile: Profile) -> usize
     ensures { result ≡ most_bytes profile }
 {
     match profile {
-        Profile::Manual => 16_384,
-        Profile::Udev => 16_383,
+        Profile::Manual => MAX_BYTES,
+        Profile::Udev => MAX_UDEV_BYTES,
     }
 }
 
@@ -55,7 +59,7 @@ fn read_parts(alloc: Global, profile: Profile, line: &[u8]) -> Result<Vec<Part>,
         match item {
             Ok(token) => parts.push(read_part(alloc, profile, &token)?)?,
             Err(fault) => {
-                let found = token_finding(alloc, fault.kind, behind(fault.at, line))?;
+                let found = token_finding(alloc, fault.kind, following(fault.at, line))?;
                 return Err(PartFault::Wrong(found));
             }
         }

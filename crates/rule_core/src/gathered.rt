@@ -16,7 +16,7 @@ const MAX_TOKENS: usize = 1 << 24;
 
 /// Rules in order.
 #[derive(Debug, Drop)]
-pub struct Gathered {
+pub(crate) struct Gathered {
     rules: Vec<Rule>,
     tokens: usize,
 }

@@ -4,7 +4,7 @@
 //! A continued line is reported with the number of its first line, and for udev with that of its last.
 ghost use Rattle.std.specs.Prelude.{◌≡◌, [], None, IfOk, OnOk, length};
 ghost use Rattle.rule_core.specs.Lines.{joined_lines, lines};
-ghost use Rattle.rule_core.specs.Steps.{after, ended, number_of_both, sofar, told_open};
+ghost use Rattle.rule_core.specs.Steps.{after, ended, number_of_both, reported_open, sofar};
 
 use crate::joined::{JoinedLine, JoinedLines};
 use crate::pieces::{Piece, is_comment, piece_of, unindented_line};
@@ -80,7 +80,7 @@ impl<'a> Joining<'a> {
     {
         let open_at = match &self.pending {
             None => None,
-            Some(begun) => Some(capped(told_open(profile, begun.number, bytes))),
+            Some(begun) => Some(capped(reported_open(profile, begun.number, bytes))),
         };
         JoinedLines::new(self.lines, open_at)
     }
@@ -98,8 +98,8 @@ fn number_of_both(profile: Profile, earlier: usize, later: usize) -> usize
 
 /// The number with which a line that is open at the end of its file is reported; the one given is that of the
 /// manual.
-fn told_open(profile: Profile, number: usize, bytes: &[u8]) -> usize
-    ensures { result ≡ told_open profile (length (lines bytes.now)) number }
+fn reported_open(profile: Profile, number: usize, bytes: &[u8]) -> usize
+    ensures { result ≡ reported_open profile (length (lines bytes.now)) number }
 {
     match profile {
         Profile::Manual => number,

@@ -22,9 +22,9 @@ mod pieces;
 mod places;
 mod reading;
 mod readings;
+mod reporting;
 mod rule_set;
 mod style;
-mod telling;
 mod text;
 mod turns;
 
@@ -34,14 +34,14 @@ pub use effects::{has_effect, lacks_effect};
 pub use fault::RulesFault;
 pub use joined::{JoinedLine, JoinedLines};
 pub use joining::joined_lines;
-pub use line_ends::{files_as_read, given_up_at, is_too_long, read_ends};
-pub use places::{behind, between, first_place, line_tokens};
+pub use line_ends::{abandoned_at, files_as_read, is_too_long, read_ends};
+pub use places::{between, first_place, following, line_tokens};
 pub use reading::{read_rules, read_rules_as};
 pub use rule_set::RuleSet;
 pub use rule_templates::{Piece, Template, TemplateFault};
 pub use rule_tokens::{Operator, Quote, Span, Token, TokenFault, TokenFaultKind, Tokens, unquote};
 pub use rule_types::{
-    Act, AssignOperator, Assignment, Change, Comparison, Deed, Import, ImportType, Key,
+    Act, ActKind, AssignOperator, Assignment, Change, Comparison, Import, ImportType, Key,
     MatchOperator, PlainKey, PlainMatch, Rule, RuleOption, RunType, Target, UpKey, UpMatch,
 };
 pub use style::{commas, has_blank_before_comma, read_as_assign_kind};

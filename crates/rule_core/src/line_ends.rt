@@ -1,14 +1,14 @@
 //! The ends of lines as udev reads them, and files of which it reads nothing.
 ghost use Rattle.std.specs.Prelude.{◌≡◌, ◌≤◌, IfOk, map};
 ghost use Rattle.text_bytes.specs.declared.profile.Profile.TheVariants.{Udev};
-ghost use Rattle.rule_core.specs.Ends.{as_read, end_size, file_as_read, first_too_long, given_up, is_too_long, more_size, nul_size};
+ghost use Rattle.rule_core.specs.Ends.{abandoned, as_read, end_size, file_as_read, first_too_long, is_too_long, more_size, nul_size};
 ghost use Rattle.text_bytes.specs.Lines.{numbered_lines};
 
 use std::alloc::{AllocError, Global};
 use text_bytes::{Bytes, Lines, Profile, SourceFile, capped};
 
-/// The fewest bytes of a line because of which udev gives its file up.
-const TOO_MANY_BYTES: usize = 16_384;
+/// The most bytes of a line that udev reads: it gives up the file of a longer one.
+pub(crate) const MAX_UDEV_BYTES: usize = 16_383;
 
 /// Files as they are read: for udev with the ends of their lines as `read_ends` has them, by the
 /// manual as they are.
@@ -66,7 +66,7 @@ pub fn read_ends(alloc: Global, bytes: &[u8]) -> Result<Vec<u8>, AllocError>
     let mut read = Vec::with_capacity(alloc, bytes.len())?;
     let mut passed = 0usize;
     let mut rest = bytes;
-    while let Some((byte, behind)) = rest.split_first() {
+    while let Some((byte, following)) = rest.split_first() {
         if passed > 0 {
             passed -= 1;
         } else {
@@ -74,7 +74,7 @@ pub fn read_ends(alloc: Global, bytes: &[u8]) -> Result<Vec<u8>, AllocError>
             read.push(if size == 0 { *byte } else { b'\n' })?;
             passed = size.saturating_sub(1);
         }
-        rest = behind;
+        rest = following;
     }
     Ok(read)
 }
@@ -85,8 +85,8 @@ fn end_size(text: &[u8]) -> usize
 {
     match text.split_first() {
         None => 0,
-        Some((b'\n', behind)) => 1 + more_size(b'\r', behind),
-        Some((b'\r', behind)) => 1 + more_size(b'\n', behind),
+        Some((b'\n', following)) => 1 + more_size(b'\r', following),
+        Some((b'\r', following)) => 1 + more_size(b'\n', following),
         Some(_) => nul_size(text),
     }
 }
@@ -98,7 +98,7 @@ fn more_size(other: u8, text: &[u8]) -> usize
     ensures small { result ≤ 2 }
 {
     match text.split_first() {
-        Some((byte, behind)) if *byte == other => 1 + nul_size(behind),
+        Some((byte, following)) if *byte == other => 1 + nul_size(following),
         _ => nul_size(text),
     }
 }
@@ -116,8 +116,8 @@ fn nul_size(text: &[u8]) -> usize
 
 /// The number of the line because of which udev gives a file up: the first of 16,384 bytes or more, its end not
 /// counted. By the manual no file is given up.
-pub fn given_up_at(profile: Profile, bytes: &[u8]) -> Option<u32>
-    ensures { result ≡ given_up profile bytes.now }
+pub fn abandoned_at(profile: Profile, bytes: &[u8]) -> Option<u32>
+    ensures { result ≡ abandoned profile bytes.now }
 {
     match profile {
         Profile::Manual => None,
@@ -129,7 +129,7 @@ pub fn given_up_at(profile: Profile, bytes: &[u8]) -> Option<u32>
 pub fn is_too_long(text: &[u8]) -> bool
     ensures { result ≡ is_too_long text.now }
 {
-    text.len() >= TOO_MANY_BYTES
+    text.len() > MAX_UDEV_BYTES
 }
 
 /// The number of the first line of a file that is too long.

@@ -1,6 +1,6 @@
 //! What is found in the lines of a file, as messages.
 ghost use Rattle.std.specs.Prelude.{◌≡◌, ◌∷◌, ◌++◌, [], if◌then◌else◌, OnOk, map};
-ghost use Rattle.text_bytes.specs.declared.message.MessageKind.TheVariants.{FileGivenUp, OpenAtEnd};
+ghost use Rattle.text_bytes.specs.declared.message.MessageKind.TheVariants.{FileAbandoned, OpenAtEnd};
 ghost use Rattle.rule_parts.specs.Values.{finding};
 ghost use Rattle.rule_core.specs.Rules.{message_at, name_in, open_messages};
 
@@ -10,7 +10,7 @@ use text_bytes::{Bytes, Message, MessageKind};
 
 /// A line of a file.
 #[derive(Clone, Copy, Debug)]
-pub struct Place<'a> {
+pub(crate) struct Place<'a> {
     /// The file's name.
     pub file: &'a [u8],
     /// The line's number.
@@ -18,7 +18,7 @@ pub struct Place<'a> {
 }
 
 /// Adds a message about a line.
-pub fn tell(
+pub(crate) fn report(
     alloc: Global,
     messages: &mut Vec<Message>,
     place: Place<'_>,
@@ -36,7 +36,7 @@ pub fn tell(
 }
 
 /// Adds a message about a line for each of its findings.
-pub fn tell_all(
+pub(crate) fn report_all(
     alloc: Global,
     messages: &mut Vec<Message>,
     place: Place<'_>,
@@ -45,13 +45,13 @@ pub fn tell_all(
     ensures { OnOk result (messages.new.items ≡ messages.old.items ++ map (message_at place.entry.file.now place.entry.line) findings.items) }
 {
     for found in findings {
-        tell(alloc, messages, place, found)?;
+        report(alloc, messages, place, found)?;
     }
     Ok(())
 }
 
 /// Adds a message about a name of a line, if something is wrong with it.
-pub fn tell_if(
+pub(crate) fn report_if(
     alloc: Global,
     messages: &mut Vec<Message>,
     place: Place<'_>,
@@ -62,7 +62,7 @@ pub fn tell_if(
     ensures { OnOk result (messages.new.items ≡ messages.old.items ++ map (message_at place.entry.file.now place.entry.line) (if wrong then finding kind (name_in name.now) ∷ [] else [])) }
 {
     if wrong {
-        tell(
+        report(
             alloc,
             messages,
             place,
@@ -73,7 +73,7 @@ pub fn tell_if(
 }
 
 /// Adds a message about a line that is still open at its file's end, if there is such a line.
-pub fn tell_open(
+pub(crate) fn report_open(
     alloc: Global,
     messages: &mut Vec<Message>,
     file: &[u8],
@@ -85,23 +85,23 @@ pub fn tell_open(
         None => Ok(()),
         Some(line) => {
             let found = Finding::about(alloc, MessageKind::OpenAtEnd, &[])?;
-            tell(alloc, messages, Place { file, line }, found)
+            report(alloc, messages, Place { file, line }, found)
         }
     }
 }
 
 /// Adds the message about a file that is given up because of a line.
-pub fn tell_given_up(
+pub(crate) fn report_abandoned(
     alloc: Global,
     messages: &mut Vec<Message>,
     file: &[u8],
     line: u32,
 ) -> Result<(), AllocError>
-    ensures { OnOk result (messages.new.items ≡ messages.old.items ++ message_at file.now line (finding FileGivenUp []) ∷ []) }
+    ensures { OnOk result (messages.new.items ≡ messages.old.items ++ message_at file.now line (finding FileAbandoned []) ∷ []) }
 {
-    let found = Finding::about(alloc, MessageKind::FileGivenUp, &[])?;
+    let found = Finding::about(alloc, MessageKind::FileAbandoned, &[])?;
     let place = Place { file, line };
-    tell(alloc, messages, place, found)
+    report(alloc, messages, place, found)
 }
 
 /// A name, or the empty one if there is none.

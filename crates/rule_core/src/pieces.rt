@@ -25,29 +25,29 @@ impl<'a> Model for Piece<'a> {
 }
 
 /// A line without the blanks at its start.
-pub fn unindented_line<'a>(line: &Line<'a>) -> Line<'a>
+pub(crate) fn unindented_line<'a>(line: &Line<'a>) -> Line<'a>
     ensures { result ≡ unindented line.now }
 {
     line.with_text(unindented(line.text()))
 }
 
 /// Whether a line begins with `#`.
-pub fn is_comment(line: &Line<'_>) -> bool
+pub(crate) fn is_comment(line: &Line<'_>) -> bool
     ensures { result ≡ is_comment line.now }
 {
     begins_with(b'#', line.text())
 }
 
 /// What a line gives to a joined line.
-pub fn piece_of<'a>(line: &Line<'a>) -> Piece<'a>
+pub(crate) fn piece_of<'a>(line: &Line<'a>) -> Piece<'a>
     ensures { result ≡ piece_of line.now }
 {
     let text = line.text();
     let continues = ends_in(b'\\', text);
-    let (front, _) = text.split_at(text.len().saturating_sub(1));
+    let (prefix, _) = text.split_at(text.len().saturating_sub(1));
     Piece {
         number: line.number(),
-        text: if continues { front } else { text },
+        text: if continues { prefix } else { text },
         continues,
     }
 }

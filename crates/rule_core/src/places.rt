@@ -42,7 +42,7 @@ pub fn line_tokens(profile: Profile, line: &[u8]) -> Tokens<'_>
 }
 
 /// The bytes of a line from a place on, none if it ends before that.
-pub fn behind(place: usize, line: &[u8]) -> &[u8]
+pub fn following(place: usize, line: &[u8]) -> &[u8]
     ensures { result.now ≡ drop place line.now }
 {
     &line[place.min(line.len())..]
@@ -52,6 +52,6 @@ pub fn behind(place: usize, line: &[u8]) -> &[u8]
 pub fn between(from: usize, to: usize, line: &[u8]) -> &[u8]
     ensures { result.now ≡ between from to line.now }
 {
-    let rest = behind(from, line);
+    let rest = following(from, line);
     &rest[..to.saturating_sub(from).min(rest.len())]
 }

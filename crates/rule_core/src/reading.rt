@@ -9,8 +9,8 @@ use crate::draft::Draft;
 use crate::fault::RulesFault;
 use crate::gathered::Gathered;
 use crate::joining::joined_lines;
-use crate::line_ends::given_up_at;
-use crate::messages::{Place, tell, tell_all, tell_given_up, tell_if, tell_open};
+use crate::line_ends::abandoned_at;
+use crate::messages::{Place, report, report_abandoned, report_all, report_if, report_open};
 use crate::readings::{Reading, landings_of, read_lines};
 use crate::rule_set::RuleSet;
 use rule_jumps::Landing;
@@ -78,10 +78,10 @@ fn read_file(
     ensures rules { Adds rules.old rules.new (file_rules profile file.now) result }
     ensures messages { OnOk result (messages.new.items ≡ messages.old.items ++ file_messages profile file.now) }
 {
-    match given_up_at(profile, file.bytes.as_slice()) {
+    match abandoned_at(profile, file.bytes.as_slice()) {
         None => read_kept(alloc, profile, rules, messages, file),
         Some(line) => {
-            tell_given_up(alloc, messages, file.name.as_slice(), line)?;
+            report_abandoned(alloc, messages, file.name.as_slice(), line)?;
             Ok(())
         }
     }
@@ -103,7 +103,7 @@ fn read_kept(
     let readings = read_lines(alloc, profile, joined.lines())?;
     let landings = landings_of(alloc, &readings)?;
     add_lines(alloc, rules, messages, name, readings, landings)?;
-    tell_open(alloc, messages, name, joined.open_at())?;
+    report_open(alloc, messages, name, joined.open_at())?;
     Ok(())
 }
 
@@ -142,7 +142,7 @@ fn add_line(
     match read {
         Ok(draft) => add_draft(alloc, rules, messages, place, draft, landing),
         Err(found) => {
-            tell(alloc, messages, place, found)?;
+            report(alloc, messages, place, found)?;
             Ok(())
         }
     }
@@ -172,9 +172,9 @@ fn add_draft(
     } = draft;
     let lost = MessageKind::NoLaterLabel;
     let unused = MessageKind::LabelUnused;
-    tell_if(alloc, messages, place, landing.lost, lost, &goto)?;
-    tell_all(alloc, messages, place, findings)?;
-    tell_if(alloc, messages, place, landing.unused, unused, &label)?;
+    report_if(alloc, messages, place, landing.lost, lost, &goto)?;
+    report_all(alloc, messages, place, findings)?;
+    report_if(alloc, messages, place, landing.unused, unused, &label)?;
     rules.add(Rule {
         file: Bytes::copy_of(alloc, place.file)?,
         line: place.line,

@@ -17,7 +17,7 @@ use text_bytes::{Bytes, Profile};
 
 /// A joined line, read as a rule.
 #[derive(Debug, Drop)]
-pub struct Reading {
+pub(crate) struct Reading {
     /// The number of the line of the file in which it begins.
     pub line: u32,
     /// The rule as its line alone gives it, or what is wrong with it.
@@ -38,14 +38,14 @@ impl Reading {
         ensures { result ≡ names_of self.now.read }
     {
         match &self.read {
-            Ok(draft) => Jump::new(lent(&draft.label), lent(&draft.goto)),
+            Ok(draft) => Jump::new(borrowed(&draft.label), borrowed(&draft.goto)),
             Err(_) => Jump::new(None, None),
         }
     }
 }
 
 /// Returns a name, if there is one.
-fn lent(name: &Option<Bytes>) -> Option<&[u8]>
+fn borrowed(name: &Option<Bytes>) -> Option<&[u8]>
     ensures { option_map (λ t. t.now) result ≡ name.now }
 {
     match name {
@@ -55,7 +55,7 @@ fn lent(name: &Option<Bytes>) -> Option<&[u8]>
 }
 
 /// Reads joined lines as rules.
-pub fn read_lines(
+pub(crate) fn read_lines(
     alloc: Global,
     profile: Profile,
     lines: &[JoinedLine<'_>],
@@ -85,7 +85,7 @@ fn read_line(alloc: Global, profile: Profile, line: &JoinedLine<'_>) -> Result<R
 }
 
 /// What becomes of the jumps of lines.
-pub fn landings_of(alloc: Global, readings: &[Reading]) -> Result<Vec<Landing>, AllocError>
+pub(crate) fn landings_of(alloc: Global, readings: &[Reading]) -> Result<Vec<Landing>, AllocError>
     ensures { IfOk result (λ found. found.items ≡ landings (map (λ r. names_of r.read) readings.now)) }
 {
     let mut jumps = Vec::with_capacity(alloc, readings.len())?;

@@ -32,7 +32,7 @@ impl Model for RuleSet {
 impl RuleSet {
     /// Returns the rules, in the order of the files and their lines.
     pub fn rules(&self) -> &[Rule]
-        ensures lent { result.now ≡ self.now.rules }
+        ensures borrowed { result.now ≡ self.now.rules }
         ensures within { tokens_in self.now.rules ≤ 2 ^ 24 }
     {
         &self.rules

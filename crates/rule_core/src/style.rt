@@ -6,10 +6,10 @@ ghost use Rattle.text_bytes.specs.Names.{comma};
 ghost use Rattle.rule_tokens.specs.Values.{ends_in};
 ghost use Rattle.rule_core.specs.Drafts.{items_as, tokens_of};
 ghost use Rattle.rule_core.specs.Places.{findings_at_end, findings_before};
-ghost use Rattle.rule_core.specs.Style.{comma_findings, commas, end_findings, front_findings, gap_findings, has_blank_before_comma, operator_findings, read_as_assign_kind, style_findings};
+ghost use Rattle.rule_core.specs.Style.{comma_findings, commas, end_findings, gap_findings, has_blank_before_comma, leading_findings, operator_findings, read_as_assign_kind, style_findings};
 
-use crate::places::{behind, between, line_tokens};
-use crate::telling::tell;
+use crate::places::{between, following, line_tokens};
+use crate::reporting::report;
 use rule_parts::{Finding, is_read_as_assign};
 use rule_tokens::Token;
 use std::alloc::{AllocError, Global};
@@ -48,7 +48,7 @@ fn add_token(
 {
     let start = token.span().start;
     match place {
-        None => add_front(alloc, profile, findings, between(0, start, line))?,
+        None => add_leading(alloc, profile, findings, between(0, start, line))?,
         Some(from) => {
             let gap = between(from, start, line);
             add_gap(alloc, profile, findings, gap, token.key())?;
@@ -58,19 +58,19 @@ fn add_token(
 }
 
 /// Adds the findings about the gap before the first token, which only udev skips.
-fn add_front(
+fn add_leading(
     alloc: Global,
     profile: Profile,
     findings: &mut Vec<Finding>,
     gap: &[u8],
 ) -> Result<(), AllocError>
-    ensures { OnOk result (findings.new.items ≡ findings.old.items ++ front_findings profile gap.now) }
+    ensures { OnOk result (findings.new.items ≡ findings.old.items ++ leading_findings profile gap.now) }
 {
     match profile {
         Profile::Manual => {}
         Profile::Udev => {
             if commas(gap) != 0 {
-                tell(alloc, findings, MessageKind::LeadingComma, &[])?;
+                report(alloc, findings, MessageKind::LeadingComma, &[])?;
             }
         }
     }
@@ -92,7 +92,7 @@ fn add_gap(
         Profile::Manual => {}
         Profile::Udev => {
             if has_blank_before_comma(gap) {
-                tell(alloc, findings, MessageKind::BlankBeforeComma, key)?;
+                report(alloc, findings, MessageKind::BlankBeforeComma, key)?;
             }
         }
     }
@@ -109,10 +109,10 @@ fn add_commas(
     ensures { OnOk result (findings.new.items ≡ findings.old.items ++ comma_findings gap.now key.now) }
 {
     if commas(gap) != 1 {
-        tell(alloc, findings, MessageKind::CommaExpected, key)?;
+        report(alloc, findings, MessageKind::CommaExpected, key)?;
     }
     if ends_in_comma(gap) {
-        tell(alloc, findings, MessageKind::BlankExpected, key)?;
+        report(alloc, findings, MessageKind::BlankExpected, key)?;
     }
     Ok(())
 }
@@ -127,7 +127,7 @@ fn add_operator(
     ensures { OnOk result (findings.new.items ≡ findings.old.items ++ operator_findings profile token.now) }
 {
     if is_read_as_assign(token) {
-        tell(alloc, findings, read_as_assign_kind(profile), token.key())?;
+        report(alloc, findings, read_as_assign_kind(profile), token.key())?;
     }
     Ok(())
 }
@@ -154,8 +154,8 @@ fn add_end(
     match place {
         None => Ok(()),
         Some(from) => {
-            if commas(behind(from, line)) != 0 {
-                tell(alloc, findings, MessageKind::CommaExpected, &[])?;
+            if commas(following(from, line)) != 0 {
+                report(alloc, findings, MessageKind::CommaExpected, &[])?;
             }
             Ok(())
         }
@@ -175,7 +175,7 @@ pub fn has_blank_before_comma(gap: &[u8]) -> bool
 {
     match gap.split_first() {
         None => false,
-        Some((byte, behind)) => (*byte == b' ' || *byte == b'\t') && commas(behind) != 0,
+        Some((byte, following)) => (*byte == b' ' || *byte == b'\t') && commas(following) != 0,
     }
 }
 

@@ -6,7 +6,7 @@ use std::marker::Model;
 
 /// How the bytes of a text are held.
 #[derive(Debug, Drop)]
-pub enum Held<'a> {
+pub(crate) enum Held<'a> {
     /// Those of one line, borrowed.
     Whole(&'a [u8]),
     /// Those of several lines, copied one after another.
@@ -15,7 +15,7 @@ pub enum Held<'a> {
 
 /// A text that can be continued.
 #[derive(Debug, Drop)]
-pub struct Text<'a> {
+pub(crate) struct Text<'a> {
     held: Held<'a>,
 }
 

@@ -3,9 +3,10 @@
 //! Each part has a number, its turn, so that a stable sort by turns gives the order.
 ghost use Rattle.std.specs.Prelude.{◌≡◌, ◌≤◌, OnOk};
 ghost use Rattle.text_bytes.specs.declared.profile.Profile.TheVariants.{Manual, Udev};
-ghost use Rattle.rule_core.specs.Turns.{acts_by_turn, assignments_by_turn, turn_of_act, turn_of_assignment, turn_of_change, turn_of_deed, turn_of_import, turn_of_option, turn_of_run, turn_of_target};
+ghost use Rattle.rule_core.specs.Turns.{acts_by_turn, assignments_by_turn, turn_of_act, turn_of_act_kind, turn_of_assignment, turn_of_change, turn_of_import, turn_of_option, turn_of_run, turn_of_target, turn_of_text, is_rendered_late};
 
-use rule_types::{Act, Assignment, Change, Deed, Import, RuleOption, RunType, Target};
+use rule_templates::is_substituted;
+use rule_types::{Act, ActKind, Assignment, Change, Import, RuleOption, RunType, Target, mode_of};
 use std::alloc::AllocError;
 use text_bytes::Profile;
 
@@ -50,17 +51,17 @@ fn sort_by_udev(assignments: &mut Vec<Assignment>) -> Result<(), AllocError>
 fn turn_of_act(act: &Act) -> u8
     ensures { result ≡ turn_of_act act.now }
 {
-    turn_of_deed(&act.deed)
+    turn_of_act_kind(&act.kind)
 }
 
 /// The turn of what an act does: TEST, then PROGRAM, then IMPORT by its type.
-fn turn_of_deed(deed: &Deed) -> u8
-    ensures { result ≡ turn_of_deed deed.now }
+fn turn_of_act_kind(act_kind: &ActKind) -> u8
+    ensures { result ≡ turn_of_act_kind act_kind.now }
 {
-    match deed {
-        Deed::Test(_, _) => 0,
-        Deed::Program(_) => 1,
-        Deed::Import(import) => turn_of_import(import),
+    match act_kind {
+        ActKind::Test(_, _) => 0,
+        ActKind::Program(_) => 1,
+        ActKind::Import(import) => turn_of_import(import),
     }
 }
 
@@ -103,14 +104,40 @@ fn turn_of_change(change: &Change) -> u8
     }
 }
 
-/// The same for udev: OPTIONS one by one, then the texts by their keys, then RUN by its type.
+/// The same for udev: OPTIONS one by one, then the texts by their keys and by when they are known, then RUN by its
+/// type.
 fn udev_turn_of_change(change: &Change) -> u8
     ensures { result ≡ turn_of_change Udev change.now }
 {
     match change {
         Change::Option(known) => turn_of_option(*known),
-        Change::Text(target, _) => 5 + turn_of_target(target),
-        Change::Run(run_type, _) => 16 + turn_of_run(*run_type),
+        Change::Text(target, template) => 5 + turn_of_text(target, template.written()),
+        Change::Run(run_type, _) => 19 + turn_of_run(*run_type),
+    }
+}
+
+/// The turn of an assignment of a text for udev, among these: OWNER, GROUP and MODE that are known when the rule is
+/// read come right after those that are rendered for each event.
+fn turn_of_text(target: &Target, text: &[u8]) -> u8
+    ensures value { result ≡ turn_of_text target.now text.now }
+    ensures small { result ≤ 13 }
+{
+    let turn = turn_of_target(target);
+    if is_rendered_late(target, text) {
+        turn
+    } else {
+        3 + turn
+    }
+}
+
+/// Whether udev renders a text of OWNER, GROUP or MODE for each event.
+fn is_rendered_late(target: &Target, text: &[u8]) -> bool
+    ensures { result ≡ is_rendered_late target.now text.now }
+{
+    match target {
+        Target::Owner | Target::Group => is_substituted(text),
+        Target::Mode => mode_of(text).is_none(),
+        _ => false,
     }
 }
 
@@ -125,7 +152,7 @@ fn turn_of_option(known: RuleOption) -> u8
         RuleOption::Watch => 3,
         RuleOption::NoWatch => 3,
         RuleOption::LinkPriority(_) => 4,
-        RuleOption::Ignored => 5,
+        RuleOption::LogLevel | RuleOption::Ignored => 5,
     }
 }
 

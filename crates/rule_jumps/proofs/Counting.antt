@@ -7,7 +7,7 @@ use Rattle.text_tables.specs.Pairs.{value_of}
 use Rattle.text_tables.proofs.Found.{value_set}
 use Rattle.rule_jumps.specs.Jumps.{is_named}
 use Rattle.rule_types.specs.Rules.{Rule}
-use Rattle.rule_jumps.specs.Passed.{over, passed_over}
+use Rattle.rule_jumps.specs.Passed.{over, skipped}
 use Rattle.rule_jumps.specs.Walks.{over_met, over_to, with_label}
 
 -- how many rules are below the first that has a label
@@ -18,11 +18,11 @@ below_label name (r ∷ below) = cond (is_named name r.label) (Some (length belo
 -- so many rules are those before the one with a label, that one, and those below it; or none has it
 abbrev Cut : Option ℕ → ℕ → ℕ → Type 0
 Cut None all before = all ≡ before
-Cut (Some behind) all before = all ≡ before + 1 + behind
+Cut (Some following) all before = all ≡ before + 1 + following
 
 further : (o : Option ℕ) (all before : ℕ) → Cut o all before → Cut o (suc all) (1 + before)
 further None all before h = omega (arith, h)
-further (Some behind) all before h = omega (arith, h)
+further (Some following) all before h = omega (arith, h)
 
 abbrev before_label : Text → List Rule → ℕ
 before_label name rules = prefix_len (λ r. not (is_named name r.label)) rules
@@ -38,12 +38,12 @@ cut name (r ∷ rs) = by (is_named name r.label) (cut name rs)
 
 passed : (o : Option ℕ) (all before : ℕ) → Cut o all before → over_to o all ≡ before
 passed None all before h = h
-passed (Some behind) all before h = omega (arith, h)
+passed (Some following) all before h = omega (arith, h)
 
 -- going up: the labels met and the counts so far are those of the rules gone past, from the last one on
-pub record GoesUp (met : List (Text × ℕ)) (counts : List ℕ) (past : List Rule) : Type 0 where
+pub record Ascends (met : List (Text × ℕ)) (counts : List ℕ) (past : List Rule) : Type 0 where
   pub labels : (name : Text) → value_of met name ≡ below_label name (reverse past)
-  pub so_far : reverse counts ≡ passed_over (reverse past)
+  pub so_far : reverse counts ≡ skipped (reverse past)
   pub count : length counts ≡ length past
 
 counted : (met : List (Text × ℕ)) (goto : Option Text) (below : List Rule) → ((name : Text) → value_of met name ≡ below_label name below) → over_met met goto (length below) ≡ over goto below
@@ -56,30 +56,30 @@ labels_more : (met : List (Text × ℕ)) (r : Rule) (below : List Rule) (label :
 labels_more met r below None name same = same
 labels_more met r below (Some label) name same = value_set met label (length below) name ∙ ap (λ o. cond (is_named name (Some label)) (Some (length below)) o) same
 
-pub up_start : (met : List (Text × ℕ)) (counts : List ℕ) → met ≡ [] → counts ≡ [] → GoesUp met counts []
+pub up_start : (met : List (Text × ℕ)) (counts : List ℕ) → met ≡ [] → counts ≡ [] → Ascends met counts []
 up_start met counts e f = record {
   labels = λ name. ap (λ (pairs : List (Text × ℕ)). value_of pairs name) e;
   so_far = ap reverse f;
   count = ap (λ (ns : List ℕ). length ns) f;
 }
 
-pub up_past : (met more : List (Text × ℕ)) (counts longer : List ℕ) (past : List Rule) (r : Rule) (below passes : ℕ) → GoesUp met counts past
+pub up_past : (met more : List (Text × ℕ)) (counts longer : List ℕ) (past : List Rule) (r : Rule) (below passes : ℕ) → Ascends met counts past
     → below ≡ length counts → passes ≡ over_met met r.goto below → longer ≡ counts ++ passes ∷ [] → more ≡ with_label met r.label below
-    → GoesUp more longer (past ++ r ∷ [])
+    → Ascends more longer (past ++ r ∷ [])
 up_past met more counts longer past r below passes before is_below is_over pushed added =
-    let turned : reverse (past ++ r ∷ []) ≡ r ∷ reverse past = reverse-append past (r ∷ []) in
+    let reversed : reverse (past ++ r ∷ []) ≡ r ∷ reverse past = reverse-append past (r ∷ []) in
     let all : below ≡ length (reverse past) = is_below ∙ before.count ∙ sym (length-reverse past) in
     record {
       labels = λ name.
           ap (λ (pairs : List (Text × ℕ)). value_of pairs name) (added ∙ ap (with_label met r.label) all)
-          ∙ labels_more met r (reverse past) r.label name (before.labels name) ∙ ap (below_label name) (sym turned);
+          ∙ labels_more met r (reverse past) r.label name (before.labels name) ∙ ap (below_label name) (sym reversed);
       so_far =
           ap reverse pushed ∙ reverse-append counts (passes ∷ [])
           ∙ ap (λ n. n ∷ reverse counts) (is_over ∙ ap (over_met met r.goto) all ∙ counted met r.goto (reverse past) before.labels)
-          ∙ ap (λ ns. over r.goto (reverse past) ∷ ns) before.so_far ∙ ap passed_over (sym turned);
+          ∙ ap (λ ns. over r.goto (reverse past) ∷ ns) before.so_far ∙ ap skipped (sym reversed);
       count =
           ap (λ (ns : List ℕ). length ns) pushed ∙ length-append counts (passes ∷ []) ∙ ap (λ n. n + 1) before.count ∙ sym (length-append past (r ∷ []));
     }
 
-pub up_end : (met : List (Text × ℕ)) (counts turned : List ℕ) (past rules : List Rule) → GoesUp met counts past → past ≡ reverse rules → turned ≡ reverse counts → turned ≡ passed_over rules
-up_end met counts turned past rules before whole e = e ∙ before.so_far ∙ ap (λ rs. passed_over (reverse rs)) whole ∙ ap passed_over (reverse-reverse rules)
+pub up_end : (met : List (Text × ℕ)) (counts reversed : List ℕ) (past rules : List Rule) → Ascends met counts past → past ≡ reverse rules → reversed ≡ reverse counts → reversed ≡ skipped rules
+up_end met counts reversed past rules before whole e = e ∙ before.so_far ∙ ap (λ rs. skipped (reverse rs)) whole ∙ ap skipped (reverse-reverse rules)

@@ -19,12 +19,12 @@ unfolding landings
 landings-from_flags rules = landings-joined [] rules
 
 -- going up: the labels met and the flags so far are those of the rules gone past, from the last one on
-pub record GoesUp (met : List (List ℕ)) (flags : List Bool) (past : List Names) : Type 0 where
+pub record Ascends (met : List (List ℕ)) (flags : List Bool) (past : List Names) : Type 0 where
   pub labels : (name : List ℕ) → is_among met name ≡ has_label name (reverse past)
   pub so_far : reverse flags ≡ lost_flags (reverse past)
 
 -- going down: the names waited for are those of the rules above, and the flags so far and those of the rules below are all
-pub record GoesDown (waiting : List (List ℕ × Bool)) (flags : List Bool) (rules : List Names) (i : ℕ) : Type 0 where
+pub record Descends (waiting : List (List ℕ × Bool)) (flags : List Bool) (rules : List Names) (i : ℕ) : Type 0 where
   pub waits : (name : List ℕ) → is_waited_for waiting name ≡ is_awaited name (reverse (take i rules))
   pub so_far : flags ++ unused_flags (reverse (take i rules)) (drop i rules) ≡ unused_flags [] rules
 
@@ -44,7 +44,7 @@ named_more : (names : List (List ℕ)) (new : Option (List ℕ)) (name : List �
 named_more names None name = refl
 named_more names (Some new) name = among_added names new name ∙ or_swapped (is_among names name) (same_text name new)
 
--- what is noted last of a name stands, and other names keep what they had
+-- what is noted last about a name counts, and other names keep what they had
 noted_more : (waiting : List (List ℕ × Bool)) (new : Option (List ℕ)) (waits : Bool) (name : List ℕ) → is_waited_for (with_note waiting new waits) name ≡ cond (is_named name new) waits (is_waited_for waiting name)
 noted_more waiting None waits name = refl
 noted_more waiting (Some new) waits name = ap (λ (o : Option Bool). unwrap_or o false) (value_set waiting new waits name) ∙ by (same_text name new)
@@ -53,33 +53,33 @@ noted_more waiting (Some new) waits name = ap (λ (o : Option Bool). unwrap_or o
     by true = refl
     by false = refl
 
-pub up_start : (met : List (List ℕ)) (flags : List Bool) → met ≡ [] → flags ≡ [] → GoesUp met flags []
+pub up_start : (met : List (List ℕ)) (flags : List Bool) → met ≡ [] → flags ≡ [] → Ascends met flags []
 up_start met flags e f = record {
   labels = λ name. ap (λ (names : List (List ℕ)). is_among names name) e;
   so_far = ap reverse f;
 }
 
-pub up_past : (met more : List (List ℕ)) (flags longer : List Bool) (past : List Names) (r : Names) (lost : Bool) → GoesUp met flags past
+pub up_past : (met more : List (List ℕ)) (flags longer : List Bool) (past : List Names) (r : Names) (lost : Bool) → Ascends met flags past
     → lost ≡ misses met r.goto → longer ≡ flags ++ lost ∷ [] → more ≡ with_name met r.label
-    → GoesUp more longer (past ++ r ∷ [])
+    → Ascends more longer (past ++ r ∷ [])
 up_past met more flags longer past r lost before is_missed pushed added =
-    let turned : reverse (past ++ r ∷ []) ≡ r ∷ reverse past = reverse-append past (r ∷ []) in
+    let reversed : reverse (past ++ r ∷ []) ≡ r ∷ reverse past = reverse-append past (r ∷ []) in
     record {
-      labels = λ name. ap (λ (names : List (List ℕ)). is_among names name) added ∙ named_more met r.label name ∙ ap (λ b. is_named name r.label || b) (before.labels name) ∙ ap (has_label name) (sym turned);
+      labels = λ name. ap (λ (names : List (List ℕ)). is_among names name) added ∙ named_more met r.label name ∙ ap (λ b. is_named name r.label || b) (before.labels name) ∙ ap (has_label name) (sym reversed);
       so_far =
           ap reverse pushed ∙ reverse-append flags (lost ∷ []) ∙ ap (λ b. b ∷ reverse flags) (is_missed ∙ missed met r.goto (reverse past) before.labels)
-          ∙ ap (λ bs. is_lost r.goto (reverse past) ∷ bs) before.so_far ∙ ap lost_flags (sym turned);
+          ∙ ap (λ bs. is_lost r.goto (reverse past) ∷ bs) before.so_far ∙ ap lost_flags (sym reversed);
     }
 
-pub up_end : (met : List (List ℕ)) (flags turned : List Bool) (past rules : List Names) → GoesUp met flags past → past ≡ reverse rules → turned ≡ reverse flags → turned ≡ lost_flags rules
-up_end met flags turned past rules before whole e = e ∙ before.so_far ∙ ap (λ rs. lost_flags (reverse rs)) whole ∙ ap lost_flags (reverse-reverse rules)
+pub up_end : (met : List (List ℕ)) (flags reversed : List Bool) (past rules : List Names) → Ascends met flags past → past ≡ reverse rules → reversed ≡ reverse flags → reversed ≡ lost_flags rules
+up_end met flags reversed past rules before whole e = e ∙ before.so_far ∙ ap (λ rs. lost_flags (reverse rs)) whole ∙ ap lost_flags (reverse-reverse rules)
 
 -- what nothing waits for is unused
 unwaited : (waiting : List (List ℕ × Bool)) (label : Option (List ℕ)) (above : List Names) → ((name : List ℕ) → is_waited_for waiting name ≡ is_awaited name above) → leaves_unused waiting label ≡ is_unused label above
 unwaited waiting None above same = refl
 unwaited waiting (Some name) above same = ap not (same name)
 
-pub down_start : (waiting : List (List ℕ × Bool)) (flags : List Bool) (rules : List Names) → waiting ≡ [] → flags ≡ [] → GoesDown waiting flags rules 0
+pub down_start : (waiting : List (List ℕ × Bool)) (flags : List Bool) (rules : List Names) → waiting ≡ [] → flags ≡ [] → Descends waiting flags rules 0
 down_start waiting flags rules e f = record {
   waits = λ name. ap (λ (w : List (List ℕ × Bool)). is_waited_for w name) e;
   so_far = ap (λ bs. bs ++ unused_flags [] rules) f;
@@ -91,21 +91,21 @@ rule_item rules i r h e =
     let next : i + 1 ≡ suc i = omega arith in
     drop-cons rules i r h ∙ ap (λ x. x ∷ drop (suc i) rules) (sym e) ∙ ap (λ n. r ∷ drop n rules) (sym next)
 
-pub down_past : (waiting between more : List (List ℕ × Bool)) (flags longer : List Bool) (rules : List Names) (i : ℕ) (r : Names) (unused : Bool) → GoesDown waiting flags rules i
+pub down_past : (waiting between more : List (List ℕ × Bool)) (flags longer : List Bool) (rules : List Names) (i : ℕ) (r : Names) (unused : Bool) → Descends waiting flags rules i
     → i < length rules → r ≡ get_or rules i r → unused ≡ leaves_unused waiting r.label → longer ≡ flags ++ unused ∷ []
     → between ≡ with_note waiting r.label false → more ≡ with_note between r.goto true
-    → GoesDown more longer rules (i + 1)
+    → Descends more longer rules (i + 1)
 down_past waiting between more flags longer rules i r unused before h e is_left pushed arrives leaves =
     let above : List Names = reverse (take i rules) in
-    let turned : reverse (take (i + 1) rules) ≡ r ∷ above = ap reverse (take_more rules i r h ∙ ap (λ x. take i rules ++ x ∷ []) (sym e)) ∙ reverse-append (take i rules) (r ∷ []) in
+    let reversed : reverse (take (i + 1) rules) ≡ r ∷ above = ap reverse (take_more rules i r h ∙ ap (λ x. take i rules ++ x ∷ []) (sym e)) ∙ reverse-append (take i rules) (r ∷ []) in
     record {
       waits = λ name.
           ap (λ (w : List (List ℕ × Bool)). is_waited_for w name) leaves ∙ noted_more between r.goto true name
           ∙ ap (λ b. cond (is_named name r.goto) true b) (ap (λ (w : List (List ℕ × Bool)). is_waited_for w name) arrives ∙ noted_more waiting r.label false name ∙ ap (λ b. cond (is_named name r.label) false b) (before.waits name))
-          ∙ ap (is_awaited name) (sym turned);
+          ∙ ap (is_awaited name) (sym reversed);
       so_far =
           ap (λ bs. bs ++ unused_flags (reverse (take (i + 1) rules)) (drop (i + 1) rules)) pushed
-          ∙ ap (λ rs. (flags ++ unused ∷ []) ++ unused_flags rs (drop (i + 1) rules)) turned
+          ∙ ap (λ rs. (flags ++ unused ∷ []) ++ unused_flags rs (drop (i + 1) rules)) reversed
           ∙ append_assoc flags (unused ∷ []) (unused_flags (r ∷ above) (drop (i + 1) rules))
           ∙ ap (λ b. flags ++ (b ∷ unused_flags (r ∷ above) (drop (i + 1) rules))) (is_left ∙ unwaited waiting r.label above before.waits)
           ∙ ap (λ rs. flags ++ unused_flags above rs) (sym (rule_item rules i r h e))
@@ -117,7 +117,7 @@ none_left : (rules : List Names) → length rules ≡ 0 → rules ≡ []
 none_left [] e = refl
 none_left (r ∷ rules) e = absurd (omega arith)
 
-pub down_end : (waiting : List (List ℕ × Bool)) (flags : List Bool) (rules : List Names) (i : ℕ) → GoesDown waiting flags rules i → length rules ≤ i → flags ≡ unused_flags [] rules
+pub down_end : (waiting : List (List ℕ × Bool)) (flags : List Bool) (rules : List Names) (i : ℕ) → Descends waiting flags rules i → length rules ≤ i → flags ≡ unused_flags [] rules
 down_end waiting flags rules i before h =
     let none : drop i rules ≡ [] = none_left (drop i rules) (length-drop i rules ∙ omega arith) in
     sym (append-nil flags) ∙ ap (λ rs. flags ++ unused_flags (reverse (take i rules)) rs) (sym none) ∙ before.so_far

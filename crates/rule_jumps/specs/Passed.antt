@@ -11,6 +11,6 @@ over None below = 0
 over (Some name) below = prefix_len (λ r. not (is_named name r.label)) below
 
 -- how many rules the jump of each rule skips
-abbrev pub passed_over : List Rule → List ℕ
-passed_over [] = []
-passed_over (r ∷ below) = over r.goto below ∷ passed_over below
+abbrev pub skipped : List Rule → List ℕ
+skipped [] = []
+skipped (r ∷ below) = over r.goto below ∷ skipped below

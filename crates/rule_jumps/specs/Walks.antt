@@ -6,7 +6,7 @@ use Rattle.text_tables.specs.Pairs.{value_of, with_value}
 -- how many of these rules a jump skips, by how many are below the rule with its label
 abbrev pub over_to : Option ℕ → ℕ → ℕ
 over_to None below = below
-over_to (Some behind) below = below - behind - 1
+over_to (Some following) below = below - following - 1
 
 -- how many rules a jump skips, by the labels met
 abbrev pub over_met : List (Text × ℕ) → Option Text → ℕ → ℕ

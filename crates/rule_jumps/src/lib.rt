@@ -9,5 +9,5 @@ mod passed;
 mod passes;
 
 pub use jumps::{Jump, Landing};
-pub use passed::passed_over;
+pub use passed::skipped;
 pub use passes::landings;

@@ -1,6 +1,6 @@
 //! The pass over rules, from the last one up.
 ghost use Rattle.std.specs.Prelude.{◌≡◌, IfOk, OnOk, option_map};
-ghost use Rattle.rule_jumps.specs.Passed.{passed_over};
+ghost use Rattle.rule_jumps.specs.Passed.{skipped};
 ghost use Rattle.rule_jumps.specs.Walks.{over_met, with_label};
 
 use rule_types::Rule;
@@ -9,8 +9,8 @@ use text_tables::Table;
 
 /// How many rules the jump of each rule skips, as udev(7) has it: those between the rule and the next one with the
 /// label. A rule without a jump skips none, and one whose label no later rule has skips all later rules.
-pub fn passed_over(alloc: Global, rules: &[Rule]) -> Result<Vec<usize>, AllocError>
-    ensures { IfOk result (λ counts. counts.items ≡ passed_over rules.now) }
+pub fn skipped(alloc: Global, rules: &[Rule]) -> Result<Vec<usize>, AllocError>
+    ensures { IfOk result (λ counts. counts.items ≡ skipped rules.now) }
 {
     let mut labels = Table::new(alloc);
     let mut counts = Vec::with_capacity(alloc, rules.len())?;
@@ -32,7 +32,7 @@ fn over(labels: &Table<'_, usize>, goto: Option<&[u8]>, below: usize) -> usize
         None => 0,
         Some(name) => match labels.get(name) {
             None => below,
-            Some(behind) => below.saturating_sub(*behind).saturating_sub(1),
+            Some(following) => below.saturating_sub(*following).saturating_sub(1),
         },
     }
 }

@@ -1,9 +1,9 @@
--- What udev's ends of lines come to.
+-- What udev's ends of lines give.
 use Rattle.std.proofs.Common.{◌≡◌, ℕ, zero, suc, ◌+◌, ◌-◌, ◌<◌, ◌≤◌, ◌==◌, ◌&&◌, Bool, true, false, not, cond, List, [], ◌∷◌, ◌++◌, length, take, refl, ap, sym, ◌∙◌, subst, arith}
 use Rattle.std.proofs.lemmas.Bool.{eqb-true}
 use Rattle.std.specs.List.{list_all}
 use Rattle.text_bytes.specs.Names.{carriage_return, newline, nul}
-use Rattle.rule_core.specs.Ends.{as_read, as_read_behind, end_size, more_size, nul_size}
+use Rattle.rule_core.specs.Ends.{as_read, as_read_after, end_size, more_size, nul_size}
 use Rattle.rule_laws.specs.LineEnds.{End, StaysAsRead, TakesLongestEnd, byte_if, is_unmarked, newline_first, nul_alone, return_first, spelled}
 
 -- ---- the longest end
@@ -30,34 +30,34 @@ take_none (b ∷ text) = refl
 abbrev Ends : List ℕ → ℕ → Type 0
 Ends text n = (there : Bool) × (take n text ≡ byte_if there nul)
 
-nul_stands : (text : List ℕ) → Ends text (nul_size text)
-nul_stands [] = (false, refl)
-nul_stands (b ∷ text) = by (b == nul) refl
+nul_in_place : (text : List ℕ) → Ends text (nul_size text)
+nul_in_place [] = (false, refl)
+nul_in_place (b ∷ text) = by (b == nul) refl
   where
     by : (c : Bool) → (b == nul) ≡ c → Ends (b ∷ text) (cond c 1 0)
     by true e = (true, take_next 0 b text ∙ ap (λ (l : List ℕ). b ∷ l) (take_none text) ∙ ap (λ (c : ℕ). c ∷ []) (eqb-true b nul e))
     by false e = (false, refl)
 
 -- what goes on with an end
-abbrev GoesOn : ℕ → List ℕ → ℕ → Type 0
-GoesOn other text n = (paired with_nul : Bool) × (take n text ≡ byte_if paired other ++ byte_if with_nul nul)
+abbrev Proceeds : ℕ → List ℕ → ℕ → Type 0
+Proceeds other text n = (paired with_nul : Bool) × (take n text ≡ byte_if paired other ++ byte_if with_nul nul)
 
-more_stands : (other : ℕ) (text : List ℕ) → GoesOn other text (more_size other text)
-more_stands other [] = (false, false, refl)
-more_stands other (b ∷ text) = by (b == other) refl (nul_stands text) (nul_stands (b ∷ text))
+more_in_place : (other : ℕ) (text : List ℕ) → Proceeds other text (more_size other text)
+more_in_place other [] = (false, false, refl)
+more_in_place other (b ∷ text) = by (b == other) refl (nul_in_place text) (nul_in_place (b ∷ text))
   where
-    by : (c : Bool) → (b == other) ≡ c → Ends text (nul_size text) → Ends (b ∷ text) (nul_size (b ∷ text)) → GoesOn other (b ∷ text) (cond c (1 + nul_size text) (nul_size (b ∷ text)))
-    by true e behind here = (true, behind.0, take_next (nul_size text) b text ∙ ap (λ (l : List ℕ). b ∷ l) behind.1 ∙ ap (λ (c : ℕ). c ∷ byte_if behind.0 nul) (eqb-true b other e))
-    by false e behind here = (false, here.0, here.1)
+    by : (c : Bool) → (b == other) ≡ c → Ends text (nul_size text) → Ends (b ∷ text) (nul_size (b ∷ text)) → Proceeds other (b ∷ text) (cond c (1 + nul_size text) (nul_size (b ∷ text)))
+    by true e following here = (true, following.0, take_next (nul_size text) b text ∙ ap (λ (l : List ℕ). b ∷ l) following.1 ∙ ap (λ (c : ℕ). c ∷ byte_if following.0 nul) (eqb-true b other e))
+    by false e following here = (false, here.0, here.1)
 
-stands_of : (text : List ℕ) → 0 < end_size text → (e : End) × (take (end_size text) text ≡ spelled e)
-stands_of [] h = absurd (omega arith)
-stands_of (b ∷ text) h = by (b == newline) refl h
+is_present_of : (text : List ℕ) → 0 < end_size text → (e : End) × (take (end_size text) text ≡ spelled e)
+is_present_of [] h = absurd (omega arith)
+is_present_of (b ∷ text) h = by (b == newline) refl h
   where
     rest_of : (c : Bool) → (b == carriage_return) ≡ c → 0 < cond c (1 + more_size newline text) (nul_size (b ∷ text))
         → (e : End) × (take (cond c (1 + more_size newline text) (nul_size (b ∷ text))) (b ∷ text) ≡ spelled e)
     rest_of true f k =
-        let m = more_stands newline text in
+        let m = more_in_place newline text in
         (return_first m.0 m.1, take_next (more_size newline text) b text ∙ ap (λ (l : List ℕ). b ∷ l) m.2 ∙ ap (λ (c : ℕ). c ∷ byte_if m.0 newline ++ byte_if m.1 nul) (eqb-true b carriage_return f))
     rest_of false f k = by_nul (b == nul) refl k
       where
@@ -68,13 +68,13 @@ stands_of (b ∷ text) h = by (b == newline) refl h
     by : (c : Bool) → (b == newline) ≡ c → 0 < cond c (1 + more_size carriage_return text) (cond (b == carriage_return) (1 + more_size newline text) (nul_size (b ∷ text)))
         → (e : End) × (take (cond c (1 + more_size carriage_return text) (cond (b == carriage_return) (1 + more_size newline text) (nul_size (b ∷ text)))) (b ∷ text) ≡ spelled e)
     by true f k =
-        let m = more_stands carriage_return text in
+        let m = more_in_place carriage_return text in
         (newline_first m.0 m.1, take_next (more_size carriage_return text) b text ∙ ap (λ (l : List ℕ). b ∷ l) m.2 ∙ ap (λ (c : ℕ). c ∷ byte_if m.0 carriage_return ++ byte_if m.1 nul) (eqb-true b newline f))
     by false f k = rest_of (b == carriage_return) refl k
 
 pub takes_longest : (text : List ℕ) → TakesLongestEnd text
 takes_longest text = record {
-  stands = stands_of text;
+  is_present = is_present_of text;
   longest = λ e rest s. subst (λ (t : List ℕ). length (spelled e) ≤ end_size t) (sym s) (longest_of e rest);
 }
 
@@ -102,9 +102,9 @@ no_more (b ∷ text) h =
 
 -- what is read at a byte that begins an end of this size
 abbrev read_at : ℕ → List ℕ → ℕ → List ℕ
-read_at b text size = cond (size == 0) (b ∷ as_read_behind 0 text) (newline ∷ as_read_behind (size - 1) text)
+read_at b text size = cond (size == 0) (b ∷ as_read_after 0 text) (newline ∷ as_read_after (size - 1) text)
 
-stays : (text : List ℕ) → list_all is_unmarked text ≡ true → as_read_behind 0 text ≡ text
+stays : (text : List ℕ) → list_all is_unmarked text ≡ true → as_read_after 0 text ≡ text
 stays [] h = refl
 stays (b ∷ text) h = by (b == newline) refl (stays text (both (is_unmarked b) (list_all is_unmarked text) h).1)
   where
@@ -114,13 +114,13 @@ stays (b ∷ text) h = by (b == newline) refl (stays text (both (is_unmarked b) 
     other : ℕ
     other = cond (b == carriage_return) (1 + more_size newline text) (nul_size (b ∷ text))
 
-    by : (c : Bool) → (b == newline) ≡ c → as_read_behind 0 text ≡ text → read_at b text (cond c (1 + more_size carriage_return text) other) ≡ b ∷ text
-    by true e behind =
+    by : (c : Bool) → (b == newline) ≡ c → as_read_after 0 text ≡ text → read_at b text (cond c (1 + more_size carriage_return text) other) ≡ b ∷ text
+    by true e following =
         ap (λ (n : ℕ). read_at b text (1 + n)) (no_more text (both (is_unmarked b) (list_all is_unmarked text) h).1)
-        ∙ ap (λ (l : List ℕ). newline ∷ l) behind ∙ ap (λ (c : ℕ). c ∷ text) (sym (eqb-true b newline e))
-    by false e behind =
+        ∙ ap (λ (l : List ℕ). newline ∷ l) following ∙ ap (λ (c : ℕ). c ∷ text) (sym (eqb-true b newline e))
+    by false e following =
         ap (read_at b text) (ap (λ (c : Bool). cond c (1 + more_size newline text) (nul_size (b ∷ text))) (not_so (b == carriage_return) byte.0) ∙ no_nul (b ∷ text) h)
-        ∙ ap (λ (l : List ℕ). b ∷ l) behind
+        ∙ ap (λ (l : List ℕ). b ∷ l) following
 
 -- a byte with which no end begins
 unmarked_of : (b : ℕ) (text : List ℕ) → (end_size (b ∷ text) == 0) ≡ true → is_unmarked b ≡ true
@@ -132,14 +132,14 @@ unmarked_of b text h = by (b == newline) (b == carriage_return) (b == nul) (eqb-
     by false false true k = absurd (omega arith)
     by false false false k = refl
 
-unmarked_read : (n : ℕ) (text : List ℕ) → list_all is_unmarked (as_read_behind n text) ≡ true
+unmarked_read : (n : ℕ) (text : List ℕ) → list_all is_unmarked (as_read_after n text) ≡ true
 unmarked_read n [] = refl
 unmarked_read (suc n) (b ∷ text) = unmarked_read n text
 unmarked_read zero (b ∷ text) = by (end_size (b ∷ text) == 0) refl (unmarked_read 0 text) (unmarked_read (end_size (b ∷ text) - 1) text)
   where
-    by : (c : Bool) → (end_size (b ∷ text) == 0) ≡ c → list_all is_unmarked (as_read_behind 0 text) ≡ true → list_all is_unmarked (as_read_behind (end_size (b ∷ text) - 1) text) ≡ true
-        → list_all is_unmarked (cond c (b ∷ as_read_behind 0 text) (newline ∷ as_read_behind (end_size (b ∷ text) - 1) text)) ≡ true
-    by true e plain marked = ap (λ (d : Bool). d && list_all is_unmarked (as_read_behind 0 text)) (unmarked_of b text e) ∙ plain
+    by : (c : Bool) → (end_size (b ∷ text) == 0) ≡ c → list_all is_unmarked (as_read_after 0 text) ≡ true → list_all is_unmarked (as_read_after (end_size (b ∷ text) - 1) text) ≡ true
+        → list_all is_unmarked (cond c (b ∷ as_read_after 0 text) (newline ∷ as_read_after (end_size (b ∷ text) - 1) text)) ≡ true
+    by true e plain marked = ap (λ (d : Bool). d && list_all is_unmarked (as_read_after 0 text)) (unmarked_of b text e) ∙ plain
     by false e plain marked = marked
 
 pub stays_as_read : (text : List ℕ) → StaysAsRead text
@@ -147,5 +147,5 @@ unfolding as_read
 stays_as_read text = record {
   unmarked = unmarked_read 0 text;
   same = stays text;
-  again = stays (as_read_behind 0 text) (unmarked_read 0 text);
+  again = stays (as_read_after 0 text) (unmarked_read 0 text);
 }

@@ -1,4 +1,4 @@
--- Where the first token of a line stands for udev.
+-- Where the first token of a line is for udev.
 use Rattle.std.proofs.Common.{◌≡◌, ℕ, suc, ◌+◌, Bool, true, false, cond, List, [], ◌∷◌, drop, refl, subst, sym, arith}
 use Rattle.std.specs.List.{prefix_len}
 use Rattle.text_bytes.specs.declared.profile.Profile.TheVariants.{Udev}

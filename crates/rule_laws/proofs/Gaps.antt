@@ -11,9 +11,9 @@ use Rattle.rule_parts.specs.Parts.{is_read_as_assign}
 use Rattle.rule_parts.specs.Values.{finding}
 use Rattle.rule_parts.specs.declared.finding.Finding.{Finding}
 use Rattle.text_bytes.specs.declared.profile.Profile.TheVariants.{Manual}
-use Rattle.rule_core.specs.Laws.{IsPlain, IsPlainBehind, IsPlainGap}
-use Rattle.rule_core.specs.Places.{AreGaps, AreGapsBehind}
-use Rattle.rule_core.specs.Style.{between, commas, gap_findings, operator_findings, style_behind, style_findings}
+use Rattle.rule_core.specs.Laws.{IsPlain, IsPlainAfter, IsPlainGap}
+use Rattle.rule_core.specs.Places.{AreGaps, AreGapsAfter}
+use Rattle.rule_core.specs.Style.{between, commas, gap_findings, operator_findings, style_after, style_findings}
 
 -- ---- bytes
 
@@ -21,7 +21,7 @@ both : (a b : Bool) → (a && b) ≡ true → (a ≡ true) × (b ≡ true)
 both true b e = (refl, e)
 both false b e = cc
 
--- a byte of a gap that is no comma is a blank
+-- a byte of a gap that is not a comma is a blank
 is_blank_byte : (b : ℕ) → is_gap_byte b ≡ true → (b == comma) ≡ false → is_blank b ≡ true
 is_blank_byte b g n = by (is_blank b) refl
   where
@@ -29,7 +29,7 @@ is_blank_byte b g n = by (is_blank b) refl
     by true e = refl
     by false e = absurd (false≢true (sym (ap (λ d. d || (b == comma)) e ∙ n) ∙ g))
 
--- a blank is no comma
+-- a blank is not a comma
 no_comma : (b : ℕ) → is_blank b ≡ true → (b == comma) ≡ false
 no_comma b e = by (b == comma) refl
   where
@@ -70,9 +70,9 @@ so_blank (b ∷ gap) h =
 
 -- ---- one comma
 
-ends_behind : (b c : ℕ) (gap : List ℕ) → 0 < length gap → ends_in c (b ∷ gap) ≡ ends_in c gap
-ends_behind b c [] h = absurd (omega arith)
-ends_behind b c (d ∷ gap) h = refl
+ends_after : (b c : ℕ) (gap : List ℕ) → 0 < length gap → ends_in c (b ∷ gap) ≡ ends_in c gap
+ends_after b c [] h = absurd (omega arith)
+ends_after b c (d ∷ gap) h = refl
 
 plain_so : (gap : List ℕ) → AllAre is_gap_byte gap → commas gap ≡ 1 → ends_in comma gap ≡ false → IsPlainGap gap
 plain_so [] g n e = let none : 0 ≡ 1 = n in absurd (omega arith)
@@ -91,21 +91,21 @@ plain_so (b ∷ gap) g n e = by (b == comma) refl (plain_so gap)
     here : b ≡ comma → commas gap ≡ 0 → 0 < length gap → IsPlainGap (b ∷ gap)
     here same none h = record {
       before = [];
-      behind = gap;
+      following = gap;
       spelled = ap (λ c. c ∷ gap) same;
       blank_before = refl;
-      blank_behind = blank_so gap byte.1 none;
-      some_behind = h;
+      blank_after = blank_so gap byte.1 none;
+      some_after = h;
     }
 
     farther : is_blank b ≡ true → IsPlainGap gap → IsPlainGap (b ∷ gap)
     farther blank p = record {
       before = b ∷ p.before;
-      behind = p.behind;
+      following = p.following;
       spelled = ap (λ rest. b ∷ rest) p.spelled;
       blank_before = ap (λ d. d && list_all is_blank p.before) blank ∙ p.blank_before;
-      blank_behind = p.blank_behind;
-      some_behind = p.some_behind;
+      blank_after = p.blank_after;
+      some_after = p.some_after;
     }
 
     long : (gap : List ℕ) → commas gap ≡ 1 → 0 < length gap
@@ -119,17 +119,17 @@ plain_so (b ∷ gap) g n e = by (b == comma) refl (plain_so gap)
     by false f more =
         let one : 0 + commas gap ≡ 1 = count false f in
         let same : commas gap ≡ 1 = omega arith in
-        farther (is_blank_byte b byte.0 f) (more byte.1 same (sym (ends_behind b comma gap (long gap same)) ∙ e))
+        farther (is_blank_byte b byte.0 f) (more byte.1 same (sym (ends_after b comma gap (long gap same)) ∙ e))
 
 commas_both : (xs ys : List ℕ) → commas (xs ++ ys) ≡ commas xs + commas ys
 commas_both xs ys = sum_by-append (λ c. cond (c == comma) 1 0) xs ys
 
 one_comma : (gap : List ℕ) → IsPlainGap gap → commas gap ≡ 1
 one_comma gap p =
-    let all : commas gap ≡ commas p.before + commas (comma ∷ p.behind) = ap commas p.spelled ∙ commas_both p.before (comma ∷ p.behind) in
-    let last : commas (comma ∷ p.behind) ≡ 1 + commas p.behind = one_more comma p.behind in
+    let all : commas gap ≡ commas p.before + commas (comma ∷ p.following) = ap commas p.spelled ∙ commas_both p.before (comma ∷ p.following) in
+    let last : commas (comma ∷ p.following) ≡ 1 + commas p.following = one_more comma p.following in
     let none : commas p.before ≡ 0 = so_blank p.before p.blank_before in
-    let neither : commas p.behind ≡ 0 = so_blank p.behind p.blank_behind in
+    let neither : commas p.following ≡ 0 = so_blank p.following p.blank_after in
     omega (arith, all, last, none, neither)
 
 ends_blank : (gap : List ℕ) → 0 < length gap → AllAre is_blank gap → ends_in comma gap ≡ false
@@ -137,16 +137,16 @@ ends_blank [] h a = absurd (omega arith)
 ends_blank (b ∷ []) h a = no_comma b (both (is_blank b) true a).0
 ends_blank (b ∷ c ∷ gap) h a = ends_blank (c ∷ gap) (omega arith) (both (is_blank b) (list_all is_blank (c ∷ gap)) a).1
 
-ends_far : (before behind : List ℕ) → 0 < length behind → AllAre is_blank behind → ends_in comma (before ++ comma ∷ behind) ≡ false
-ends_far [] behind h a = ends_behind comma comma behind h ∙ ends_blank behind h a
-ends_far (b ∷ []) behind h a = ends_far [] behind h a
-ends_far (b ∷ c ∷ before) behind h a = ends_far (c ∷ before) behind h a
+ends_far : (before following : List ℕ) → 0 < length following → AllAre is_blank following → ends_in comma (before ++ comma ∷ following) ≡ false
+ends_far [] following h a = ends_after comma comma following h ∙ ends_blank following h a
+ends_far (b ∷ []) following h a = ends_far [] following h a
+ends_far (b ∷ c ∷ before) following h a = ends_far (c ∷ before) following h a
 
 -- ---- what is to be said
 
-front_empty : (xs ys : List Finding) → xs ++ ys ≡ [] → xs ≡ []
-front_empty [] ys e = refl
-front_empty (x ∷ xs) ys e = cc
+prefix_empty : (xs ys : List Finding) → xs ++ ys ≡ [] → xs ≡ []
+prefix_empty [] ys e = refl
+prefix_empty (x ∷ xs) ys e = cc
 
 back_empty : (xs ys : List Finding) → xs ++ ys ≡ [] → ys ≡ []
 back_empty [] ys e = e
@@ -167,40 +167,40 @@ gap_passed : (gap key : List ℕ) → AllAre is_gap_byte gap → gap_findings Ma
 gap_passed gap key g e =
     let first : List Finding = cond (commas gap == 1) [] (finding CommaExpected key ∷ []) in
     let second : List Finding = cond (ends_in comma gap) (finding BlankExpected key ∷ []) [] in
-    plain_so gap g (eqb-true (commas gap) 1 (passed (commas gap == 1) (finding CommaExpected key) (front_empty first second e))) (unsaid (ends_in comma gap) (finding BlankExpected key) (back_empty first second e))
+    plain_so gap g (eqb-true (commas gap) 1 (passed (commas gap == 1) (finding CommaExpected key) (prefix_empty first second e))) (unsaid (ends_in comma gap) (finding BlankExpected key) (back_empty first second e))
 
 plain_gap_passed : (gap key : List ℕ) → IsPlainGap gap → gap_findings Manual gap key ≡ []
 plain_gap_passed gap key p =
     both_empty (cond (commas gap == 1) [] (finding CommaExpected key ∷ [])) (cond (ends_in comma gap) (finding BlankExpected key ∷ []) [])
     (ap (λ b. cond b [] (finding CommaExpected key ∷ [])) (eq-eqb (commas gap) 1 (one_comma gap p)))
-    (ap (λ b. cond b (finding BlankExpected key ∷ []) []) (ap (ends_in comma) p.spelled ∙ ends_far p.before p.behind p.some_behind p.blank_behind))
+    (ap (λ b. cond b (finding BlankExpected key ∷ []) []) (ap (ends_in comma) p.spelled ∙ ends_far p.before p.following p.some_after p.blank_after))
 
-behind_passed : (line : List ℕ) (place : ℕ) (tokens : List Placed) → AreGapsBehind line place tokens → style_behind Manual line place tokens ≡ [] → IsPlainBehind line place tokens
-behind_passed line place [] g e = blank_so (drop place line) g (eqb-true (commas (drop place line)) 0 (passed (commas (drop place line) == 0) (finding CommaExpected []) e))
-behind_passed line place (t ∷ tokens) g e =
+after_passed : (line : List ℕ) (place : ℕ) (tokens : List Placed) → AreGapsAfter line place tokens → style_after Manual line place tokens ≡ [] → IsPlainAfter line place tokens
+after_passed line place [] g e = blank_so (drop place line) g (eqb-true (commas (drop place line)) 0 (passed (commas (drop place line) == 0) (finding CommaExpected []) e))
+after_passed line place (t ∷ tokens) g e =
     let gap : List Finding = gap_findings Manual (between place t.span.start line) t.parts.head.key in
-    let others : List Finding = operator_findings Manual t ++ style_behind Manual line t.span.end tokens in
+    let others : List Finding = operator_findings Manual t ++ style_after Manual line t.span.end tokens in
     let rest = back_empty gap others e in (
-      gap_passed (between place t.span.start line) t.parts.head.key g.0 (front_empty gap others e),
-      unsaid (is_read_as_assign t) (finding ReadAsAssign t.parts.head.key) (front_empty (operator_findings Manual t) (style_behind Manual line t.span.end tokens) rest),
-      behind_passed line t.span.end tokens g.1 (back_empty (operator_findings Manual t) (style_behind Manual line t.span.end tokens) rest),
+      gap_passed (between place t.span.start line) t.parts.head.key g.0 (prefix_empty gap others e),
+      unsaid (is_read_as_assign t) (finding ReadAsAssign t.parts.head.key) (prefix_empty (operator_findings Manual t) (style_after Manual line t.span.end tokens) rest),
+      after_passed line t.span.end tokens g.1 (back_empty (operator_findings Manual t) (style_after Manual line t.span.end tokens) rest),
     )
 
 unread : (t : Placed) → is_read_as_assign t ≡ false → operator_findings Manual t ≡ []
 unread t e = ap (λ b. cond b (finding ReadAsAssign t.parts.head.key ∷ []) []) e
 
-plain_behind_passed : (line : List ℕ) (place : ℕ) (tokens : List Placed) → IsPlainBehind line place tokens → style_behind Manual line place tokens ≡ []
-plain_behind_passed line place [] p = ap (λ b. cond b [] (finding CommaExpected [] ∷ [])) (eq-eqb (commas (drop place line)) 0 (so_blank (drop place line) p))
-plain_behind_passed line place (t ∷ tokens) p =
-    both_empty (gap_findings Manual (between place t.span.start line) t.parts.head.key) (operator_findings Manual t ++ style_behind Manual line t.span.end tokens) (plain_gap_passed (between place t.span.start line) t.parts.head.key p.0)
-    (both_empty (operator_findings Manual t) (style_behind Manual line t.span.end tokens) (unread t p.1) (plain_behind_passed line t.span.end tokens p.2))
+plain_after_passed : (line : List ℕ) (place : ℕ) (tokens : List Placed) → IsPlainAfter line place tokens → style_after Manual line place tokens ≡ []
+plain_after_passed line place [] p = ap (λ b. cond b [] (finding CommaExpected [] ∷ [])) (eq-eqb (commas (drop place line)) 0 (so_blank (drop place line) p))
+plain_after_passed line place (t ∷ tokens) p =
+    both_empty (gap_findings Manual (between place t.span.start line) t.parts.head.key) (operator_findings Manual t ++ style_after Manual line t.span.end tokens) (plain_gap_passed (between place t.span.start line) t.parts.head.key p.0)
+    (both_empty (operator_findings Manual t) (style_after Manual line t.span.end tokens) (unread t p.1) (plain_after_passed line t.span.end tokens p.2))
 
 pub plain_is_passed : (line : List ℕ) (tokens : List Placed) → AreGaps line tokens → (style_findings Manual line tokens ≡ []) ↔ IsPlain line tokens
 plain_is_passed line [] g = (λ e. tt, λ p. refl)
 plain_is_passed line (t ∷ tokens) g = (
   λ e. (
-    unsaid (is_read_as_assign t) (finding ReadAsAssign t.parts.head.key) (front_empty (operator_findings Manual t) (style_behind Manual line t.span.end tokens) e),
-    behind_passed line t.span.end tokens g (back_empty (operator_findings Manual t) (style_behind Manual line t.span.end tokens) e),
+    unsaid (is_read_as_assign t) (finding ReadAsAssign t.parts.head.key) (prefix_empty (operator_findings Manual t) (style_after Manual line t.span.end tokens) e),
+    after_passed line t.span.end tokens g (back_empty (operator_findings Manual t) (style_after Manual line t.span.end tokens) e),
   ),
-  λ p. both_empty (operator_findings Manual t) (style_behind Manual line t.span.end tokens) (unread t p.0) (plain_behind_passed line t.span.end tokens p.1),
+  λ p. both_empty (operator_findings Manual t) (style_after Manual line t.span.end tokens) (unread t p.0) (plain_after_passed line t.span.end tokens p.1),
 )

@@ -25,8 +25,8 @@ landing_at by above l ls = record { lost = is_lost (names_at by l).goto (names_i
 abbrev pub landed_below : Profile → List Names → List NumberedLine → List (Reading × Landing)
 landed_below by above ls = zip (map (reading_of by) ls) (landings_below above (names_in by ls))
 
-abbrev pub told_below : Profile → List ℕ → List Names → List NumberedLine → List Message
-told_below by file above ls = flat_map (λ x. line_messages file x.0.line x.0.read x.1) (landed_below by above ls)
+abbrev pub reported_below : Profile → List ℕ → List Names → List NumberedLine → List Message
+reported_below by file above ls = flat_map (λ x. line_messages file x.0.line x.0.read x.1) (landed_below by above ls)
 
 abbrev pub rules_below : Profile → List ℕ → List Names → List NumberedLine → List Rule
 rules_below by file above ls = flat_map (λ x. line_rules file x.0.line x.0.read x.1) (landed_below by above ls)

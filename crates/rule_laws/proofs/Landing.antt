@@ -7,7 +7,7 @@ use Rattle.text_bytes.specs.declared.profile.Profile.TheVariants.{Manual}
 use Rattle.rule_core.specs.Lines.{NumberedLine, joined_lines}
 use Rattle.rule_jumps.specs.Jumps.{is_named}
 use Rattle.rule_laws.specs.Jumps.{JumpsStayInTheirFiles}
-use Rattle.rule_laws.specs.Outcomes.{AllComeTo, HasLabel, Outcome, one_message, one_rule, rules_in}
+use Rattle.rule_laws.specs.Outcomes.{AllBecome, HasLabel, LineOutcome, one_message, one_rule, rules_in}
 use Rattle.rule_types.specs.Rules.{Rule}
 use Rattle.rule_core.specs.Rules.{file_rules, set_of_as}
 use Rattle.rule_laws.proofs.Outcomes.{bears, named_so, read_by_line, so_bears}
@@ -19,28 +19,28 @@ abbrev AllEnd : List Rule → Type 0
 AllEnd [] = Unit {0}
 AllEnd (r ∷ rules) = ((name : List ℕ) → r.goto ≡ Some name → HasLabel name rules) × AllEnd rules
 
-all_end : (file : List ℕ) (ls : List NumberedLine) (os : List Outcome) → AllComeTo Manual file ls os → AllEnd (flat_map rules_in os)
+all_end : (file : List ℕ) (ls : List NumberedLine) (os : List LineOutcome) → AllBecome Manual file ls os → AllEnd (flat_map rules_in os)
 all_end file [] [] c = tt
 all_end file [] (o ∷ os) c = absurd c
 all_end file (l ∷ ls) [] c = absurd c
 all_end file (l ∷ ls) (one_rule r messages ∷ os) c = (λ name g. ((c.0.jump name).0 g).1, all_end file ls os c.1)
 all_end file (l ∷ ls) (one_message m ∷ os) c = all_end file ls os c.1
 
-label_behind : (before : List Rule) (r : Rule) (behind : List Rule) (name : List ℕ) → r.goto ≡ Some name → AllEnd (before ++ r ∷ behind) → HasLabel name behind
-label_behind [] r behind name g a = a.0 name g
-label_behind (b ∷ before) r behind name g a = label_behind before r behind name g a.1
+label_after : (before : List Rule) (r : Rule) (following : List Rule) (name : List ℕ) → r.goto ≡ Some name → AllEnd (before ++ r ∷ following) → HasLabel name following
+label_after [] r following name g a = a.0 name g
+label_after (b ∷ before) r following name g a = label_after before r following name g a.1
 
-jump_ends : (f : SourceFile) (before : List Rule) (r : Rule) (behind : List Rule) (name : List ℕ) → file_rules Manual f ≡ before ++ r ∷ behind → r.goto ≡ Some name → HasLabel name behind
-jump_ends f before r behind name e g =
+jump_ends : (f : SourceFile) (before : List Rule) (r : Rule) (following : List Rule) (name : List ℕ) → file_rules Manual f ≡ before ++ r ∷ following → r.goto ≡ Some name → HasLabel name following
+jump_ends f before r following name e g =
     let read = read_by_line Manual f refl in
-    label_behind before r behind name g (subst AllEnd (sym read.rules ∙ e) (all_end f.name (joined_lines Manual f.bytes).lines read.outcomes read.each))
+    label_after before r following name g (subst AllEnd (sym read.rules ∙ e) (all_end f.name (joined_lines Manual f.bytes).lines read.outcomes read.each))
 
--- the first of these rules that bears the label
+-- the first of these rules that has the label
 record Nearest (name : List ℕ) (rules : List Rule) : Type 0 where
   between : List Rule
   landing : Rule
-  behind : List Rule
-  stands : rules ≡ between ++ landing ∷ behind
+  following : List Rule
+  is_present : rules ≡ between ++ landing ∷ following
   label : landing.label ≡ Some name
   next : bears name between ≡ false
 
@@ -49,14 +49,14 @@ nearest name [] h = absurd (false≢true h)
 nearest name (r ∷ rules) h = by (is_named name r.label) refl (nearest name rules) h
   where
     by : (b : Bool) → is_named name r.label ≡ b → (bears name rules ≡ true → Nearest name rules) → (b || bears name rules) ≡ true → Nearest name (r ∷ rules)
-    by true e farther h = record { between = []; landing = r; behind = rules; stands = refl; label = named_so name r.label e; next = refl }
+    by true e farther h = record { between = []; landing = r; following = rules; is_present = refl; label = named_so name r.label e; next = refl }
     by false e farther h =
         let more = farther h in
         record {
           between = r ∷ more.between;
           landing = more.landing;
-          behind = more.behind;
-          stands = ap (λ rs. r ∷ rs) more.stands;
+          following = more.following;
+          is_present = ap (λ rs. r ∷ rs) more.is_present;
           label = more.label;
           next = ap (λ b. b || bears name more.between) e ∙ more.next;
         }
@@ -87,17 +87,17 @@ cut (x ∷ xs) ys (a ∷ above) r below e =
     by same (inl p) = inl (p.0, (λ i. same i ∷ p.1 i), p.2)
     by same (inr p) = inr (p.0, (λ i. sym same i ∷ p.1 i), p.2)
 
--- the file in which a rule stands
+-- the file that a rule is in
 record InFile (rules_of : SourceFile → List Rule) (files : List SourceFile) (above : List Rule) (r : Rule) (below : List Rule) : Type 0 where
   files_before : List SourceFile
   file : SourceFile
-  files_behind : List SourceFile
-  files_are : files ≡ files_before ++ file ∷ files_behind
+  files_after : List SourceFile
+  files_are : files ≡ files_before ++ file ∷ files_after
   before : List Rule
   near : List Rule
   file_is : rules_of file ≡ before ++ r ∷ near
   above_is : above ≡ flat_map rules_of files_before ++ before
-  below_is : below ≡ near ++ flat_map rules_of files_behind
+  below_is : below ≡ near ++ flat_map rules_of files_after
 
 none_before : (above : List Rule) (r : Rule) (below : List Rule) → [] ≡ above ++ r ∷ below → ⊥
 none_before [] r below e = cc
@@ -111,7 +111,7 @@ in_file rules_of (f ∷ files) above r below e = by (λ near. in_file rules_of f
     farther near is q = record {
       files_before = f ∷ q.files_before;
       file = q.file;
-      files_behind = q.files_behind;
+      files_after = q.files_after;
       files_are = ap (λ (fs : List SourceFile). f ∷ fs) q.files_are;
       before = q.before;
       near = q.near;
@@ -122,8 +122,8 @@ in_file rules_of (f ∷ files) above r below e = by (λ near. in_file rules_of f
 
     by : ((near : List Rule) → flat_map rules_of files ≡ near ++ r ∷ below → InFile rules_of files near r below)
         → InFirst (rules_of f) (flat_map rules_of files) above r below ⊎ InSecond (rules_of f) (flat_map rules_of files) above r below → InFile rules_of (f ∷ files) above r below
-    by behind (inl p) = record { files_before = []; file = f; files_behind = files; files_are = refl; before = above; near = p.0; file_is = p.1; above_is = refl; below_is = p.2 }
-    by behind (inr p) = farther p.0 p.1 (behind p.0 p.2)
+    by following (inl p) = record { files_before = []; file = f; files_after = files; files_are = refl; before = above; near = p.0; file_is = p.1; above_is = refl; below_is = p.2 }
+    by following (inr p) = farther p.0 p.1 (following p.0 p.2)
 
 pub jumps_stay : (files : List SourceFile) → JumpsStayInTheirFiles files
 unfolding set_of_as
@@ -133,15 +133,15 @@ jumps_stay files above r below name e g =
     record {
       files_before = q.files_before;
       file = q.file;
-      files_behind = q.files_behind;
+      files_after = q.files_after;
       files_are = q.files_are;
       before = q.before;
       between = n.between;
       landing = n.landing;
-      behind = n.behind;
-      file_is = q.file_is ∙ ap (λ (rs : List Rule). q.before ++ r ∷ rs) n.stands;
+      following = n.following;
+      file_is = q.file_is ∙ ap (λ (rs : List Rule). q.before ++ r ∷ rs) n.is_present;
       above_is = q.above_is;
-      below_is = q.below_is ∙ ap (λ (rs : List Rule). rs ++ flat_map (file_rules Manual) q.files_behind) n.stands ∙ append_assoc n.between (n.landing ∷ n.behind) (flat_map (file_rules Manual) q.files_behind);
+      below_is = q.below_is ∙ ap (λ (rs : List Rule). rs ++ flat_map (file_rules Manual) q.files_after) n.is_present ∙ append_assoc n.between (n.landing ∷ n.following) (flat_map (file_rules Manual) q.files_after);
       label = n.label;
       next = λ a. false≢true (sym n.next ∙ so_bears name n.between a);
     }

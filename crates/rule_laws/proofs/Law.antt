@@ -1,25 +1,25 @@
 -- What is read of a text is just what it is.
 use Rattle.std.proofs.Common.{◌≡◌, ℕ, zero, suc, ◌+◌, ◌≤◌, List, [], ◌∷◌, length, Option, Some, None, Result, Ok, Err, refl, ap, sym, subst, ◌∙◌, arith, length-append}
 use Rattle.rule_templates.specs.Grammar.{IsFaulty, IsRead, OneAnswer, Reads, done, faulty, more}
-use Rattle.rule_templates.specs.Reading.{Front, front_at, pieces_of, pieces_within, with_front, with_piece}
+use Rattle.rule_templates.specs.Reading.{FirstPiece, first_at, pieces_of, pieces_within, with_first, with_piece}
 use Rattle.rule_templates.specs.declared.fault.TemplateFault.{TemplateFault}
 use Rattle.rule_templates.specs.declared.fault.TemplateFault.TheVariants as fault
 use Rattle.rule_templates.specs.declared.piece.Piece.{Piece}
 use Rattle.rule_templates.proofs.Spelled.{PieceWell, left_shorter, piece_well}
-use Rattle.rule_laws.proofs.TemplatesAgain.{fault_again, front_of, spelled_again}
+use Rattle.rule_laws.proofs.TemplatesAgain.{fault_again, first_piece, spelled_again}
 
 -- pieces, and the fault after them, if one is
 abbrev Trace : Type 0
 Trace = List Piece × Option TemplateFault
 
-abbrev onto : (List ℕ → Trace) → Front → Trace
+abbrev onto : (List ℕ → Trace) → FirstPiece → Trace
 onto others (Ok x) = (x.0 ∷ (others x.1).0, (others x.1).1)
 onto others (Err e) = ([], Some e)
 
 abbrev trace : ℕ → List ℕ → Trace
 trace zero t = ([], None)
 trace (suc n) [] = ([], None)
-trace (suc n) (b ∷ t) = onto (trace n) (front_at b t)
+trace (suc n) (b ∷ t) = onto (trace n) (first_at b t)
 
 abbrev answer : List Piece → Option TemplateFault → Result (List Piece) TemplateFault
 answer ps None = Ok ps
@@ -30,30 +30,30 @@ given : (n : ℕ) (text : List ℕ) → length text ≤ n → Reads text (trace 
 given zero [] h = done
 given zero (b ∷ t) h = absurd (omega arith)
 given (suc n) [] h = done
-given (suc n) (b ∷ t) h = by_front (front_at b t) (piece_well b t) (λ l k. given n l k) where
-  by_front : (r : Front) → PieceWell b t r → ((l : List ℕ) → length l ≤ n → Reads l (trace n l).0 (trace n l).1) → Reads (b ∷ t) (onto (trace n) r).0 (onto (trace n) r).1
-  by_front (Ok x) w others =
+given (suc n) (b ∷ t) h = by_first_item (first_at b t) (piece_well b t) (λ l k. given n l k) where
+  by_first_item : (r : FirstPiece) → PieceWell b t r → ((l : List ℕ) → length l ≤ n → Reads l (trace n l).0 (trace n l).1) → Reads (b ∷ t) (onto (trace n) r).0 (onto (trace n) r).1
+  by_first_item (Ok x) w others =
       let long : length t ≡ length w.0 + length x.1 = ap (λ (l : List ℕ). length l) w.1 ∙ length-append w.0 x.1 in
       more (b ∷ w.0) x.1 (ap (λ (l : List ℕ). b ∷ l) w.1) w.2 (others x.1 (omega arith))
-  by_front (Err e) f others = faulty f
+  by_first_item (Err e) f others = faulty f
 
 -- and it is nothing else
 nothing_left : (n : ℕ) → trace n [] ≡ ([], None)
 nothing_left zero = refl
 nothing_left (suc n) = refl
 
-not_nothing : (e : TemplateFault) → IsFaulty e [] → front_of [] ≡ Err e → ⊥
+not_nothing : (e : TemplateFault) → IsFaulty e [] → first_piece [] ≡ Err e → ⊥
 not_nothing fault.Unknown f q = cc
 not_nothing fault.Brace f q = cc
 not_nothing fault.Number f q = cc
 not_nothing fault.Memory f q = f
 
-fault_only : (n : ℕ) (text : List ℕ) (e : TemplateFault) → IsFaulty e text → front_of text ≡ Err e → length text ≤ n → trace n text ≡ ([], Some e)
+fault_only : (n : ℕ) (text : List ℕ) (e : TemplateFault) → IsFaulty e text → first_piece text ≡ Err e → length text ≤ n → trace n text ≡ ([], Some e)
 fault_only n [] e f q h = absurd (not_nothing e f q)
 fault_only zero (b ∷ t) e f q h = absurd (omega arith)
 fault_only (suc n) (b ∷ t) e f q h = ap (onto (trace n)) q
 
-piece_only : (n : ℕ) (text : List ℕ) (p : Piece) (rest : List ℕ) (ps : List Piece) (end : Option TemplateFault) → front_of text ≡ Ok (p, rest)
+piece_only : (n : ℕ) (text : List ℕ) (p : Piece) (rest : List ℕ) (ps : List Piece) (end : Option TemplateFault) → first_piece text ≡ Ok (p, rest)
     → ((m : ℕ) → length rest ≤ m → trace m rest ≡ (ps, end)) → length text ≤ n → trace n text ≡ (p ∷ ps, end)
 piece_only n [] p rest ps end q others h = cc
 piece_only zero (b ∷ t) p rest ps end q others h = absurd (omega arith)
@@ -65,8 +65,8 @@ only : (n : ℕ) (text : List ℕ) (ps : List Piece) (end : Option TemplateFault
 only n [] [] None done h = nothing_left n
 only n (b ∷ t) [] None r h = elim r [ ]
 only n text [] (Some e) (faulty f) h = fault_only n text e f (fault_again e text f) h
-only n text (p ∷ ps) end (more front rest parts spells others) h =
-    piece_only n text p rest ps end (ap front_of parts ∙ spelled_again p front rest spells) (λ m k. only m rest ps end others k) h
+only n text (p ∷ ps) end (more prefix rest parts spells others) h =
+    piece_only n text p rest ps end (ap first_piece parts ∙ spelled_again p prefix rest spells) (λ m k. only m rest ps end others k) h
 
 -- what is read is the answer
 with_answer : (p : Piece) (ps : List Piece) (end : Option TemplateFault) → with_piece p (answer ps end) ≡ answer (p ∷ ps) end
@@ -76,10 +76,10 @@ with_answer p ps (Some e) = refl
 answers : (n : ℕ) (t : List ℕ) → pieces_within n t ≡ answer (trace n t).0 (trace n t).1
 answers zero t = refl
 answers (suc n) [] = refl
-answers (suc n) (b ∷ t) = by_front (front_at b t) (λ l. answers n l) where
-  by_front : (r : Front) → ((l : List ℕ) → pieces_within n l ≡ answer (trace n l).0 (trace n l).1) → with_front (pieces_within n) r ≡ answer (onto (trace n) r).0 (onto (trace n) r).1
-  by_front (Ok x) others = ap (with_piece x.0) (others x.1) ∙ with_answer x.0 (trace n x.1).0 (trace n x.1).1
-  by_front (Err e) others = refl
+answers (suc n) (b ∷ t) = by_first_item (first_at b t) (λ l. answers n l) where
+  by_first_item : (r : FirstPiece) → ((l : List ℕ) → pieces_within n l ≡ answer (trace n l).0 (trace n l).1) → with_first (pieces_within n) r ≡ answer (onto (trace n) r).0 (onto (trace n) r).1
+  by_first_item (Ok x) others = ap (with_piece x.0) (others x.1) ∙ with_answer x.0 (trace n x.1).0 (trace n x.1).1
+  by_first_item (Err e) others = refl
 
 whole : (text : List ℕ) → pieces_of text ≡ answer (trace (length text) text).0 (trace (length text) text).1
 unfolding pieces_of

@@ -1,5 +1,5 @@
 pub mod Nuls
-pub mod Standing
+pub mod Placement
 pub mod RunLaws
 mod Labelled
 mod Reached

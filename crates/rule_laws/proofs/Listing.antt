@@ -26,9 +26,9 @@ has_map f x [] h = absurd h
 has_map f x (y ∷ ys) (inl e) = inl (ap f e)
 has_map f x (y ∷ ys) (inr h) = inr (has_map f x ys h)
 
-pub front_empty : {X : Type 0} (xs ys : List X) → xs ++ ys ≡ [] → xs ≡ []
-front_empty [] ys e = refl
-front_empty (x ∷ xs) ys e = cc
+pub prefix_empty : {X : Type 0} (xs ys : List X) → xs ++ ys ≡ [] → xs ≡ []
+prefix_empty [] ys e = refl
+prefix_empty (x ∷ xs) ys e = cc
 
 pub back_empty : {X : Type 0} (xs ys : List X) → xs ++ ys ≡ [] → ys ≡ []
 back_empty [] ys e = e
@@ -38,6 +38,6 @@ pub map_empty : {X Y : Type 0} (f : X → Y) (xs : List X) → map f xs ≡ [] �
 map_empty f [] e = refl
 map_empty f (x ∷ xs) e = cc
 
-pub not_told : {X : Type 0} (x : X) (b : Bool) → cond b (x ∷ []) [] ≡ [] → b ≡ false
-not_told x true e = cc
-not_told x false e = refl
+pub not_reported : {X : Type 0} (x : X) (b : Bool) → cond b (x ∷ []) [] ≡ [] → b ≡ false
+not_reported x true e = cc
+not_reported x false e = refl

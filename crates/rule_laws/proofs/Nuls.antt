@@ -43,7 +43,7 @@ digits_no_nul base (d ∷ ds) z e =
     let h = and_parts (nat_lt (digit_value d) base) _ e in
     and_from (other d) _ (rw (other_byte (λ c. nat_lt (digit_value c) base) d nul h.0 z) refl) (digits_no_nul base ds z h.1)
 
--- a number is none, and its digits have none
+-- a number is not NUL, and its digits have none
 number_no_nul : (base count : ℕ) (ds : List ℕ) → nat_lt (digit_value nul) base ≡ false → is_number base count ds ≡ true → HasNoNul ds × (0 < digits_value base ds)
 unfolding is_number
 number_no_nul base count ds z e =
@@ -82,8 +82,8 @@ pieces_no_nul escaped [] e = (refl, refl)
 pieces_no_nul escaped (p ∷ ps) e =
     let h = and_parts (is_piece escaped p) _ e in
     let here = piece_no_nul escaped p h.0 in
-    let behind = pieces_no_nul escaped ps h.1 in
-    (both (spelling p) (flat_map spelling ps) here.0 behind.0, both (meaning p) (flat_map meaning ps) here.1 behind.1)
+    let following = pieces_no_nul escaped ps h.1 in
+    (both (spelling p) (flat_map spelling ps) here.0 following.0, both (meaning p) (flat_map meaning ps) here.1 following.1)
   where
     piece_no_nul : (escaped : Bool) (p : Piece) → is_piece escaped p ≡ true → HasNoNul (spelling p) × HasNoNul (meaning p)
     piece_no_nul true p e = escaped_no_nul p e

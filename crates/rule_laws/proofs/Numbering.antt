@@ -4,28 +4,28 @@ use Rattle.std.specs.List.{onto_first}
 use Rattle.text_bytes.specs.declared.profile.Profile.TheVariants.{Manual}
 use Rattle.rule_core.specs.Lines.{NumberedLine, Piece, capped, is_comment, is_empty, is_open, joined_lines, kept, lines, lines_of_runs, numbered_from, open_of_runs, piece_of, run_number, run_text, runs, unindented}
 
--- a number that is reported follows another: it is not less, and the same only where that is the greatest
-pub record IsBehind (a b : ℕ) : Type 0 where
+-- a number that is reported follows another: it is not less, and the same only if that is the greatest
+pub record IsAfter (a b : ℕ) : Type 0 where
   pub order : a ≤ b
   pub same : a ≡ b → 2 ^ 32 - 1 ≤ a
 
 -- each number follows the one before it, and the first after this
 abbrev pub Rise : ℕ → List ℕ → Type 0
 Rise a [] = Unit {0}
-Rise a (b ∷ ns) = IsBehind a b × Rise b ns
+Rise a (b ∷ ns) = IsAfter a b × Rise b ns
 
 at_most : (top a b : ℕ) → a < b → (min a top ≤ min b top) × (min a top ≡ min b top → top ≤ min a top)
 at_most top a b h = (omega arith, λ e. omega arith)
 
-capped_behind : (a b : ℕ) → a < b → IsBehind (capped a) (capped b)
-capped_behind a b h =
+capped_after : (a b : ℕ) → a < b → IsAfter (capped a) (capped b)
+capped_after a b h =
     let both = at_most (2 ^ 32 - 1) a b h in
     record { order = both.0; same = both.1 }
 
 rise_less : (a b : ℕ) (ns : List ℕ) → a ≤ b → Rise b ns → Rise a ns
 rise_less a b [] h r = tt
 rise_less a b (n ∷ ns) h r =
-    let first : IsBehind b n = r.0 in
+    let first : IsAfter b n = r.0 in
     (record { order = omega arith; same = λ e. omega arith }, r.1)
 
 -- ---- pieces and runs
@@ -102,32 +102,32 @@ open_number None = []
 open_number (Some n) = n ∷ []
 
 -- the numbers of joined lines, and of the one that is open
-abbrev pub numbers_told : List NumberedLine → Option ℕ → List ℕ
-numbers_told ls at = map (λ l. l.number) ls ++ open_number at
+abbrev pub numbers_reported : List NumberedLine → Option ℕ → List ℕ
+numbers_reported ls at = map (λ l. l.number) ls ++ open_number at
 
-told_of_runs : (end n : ℕ) (rs : List (List Piece)) → RunsRise n rs → OnlyLastIsOpen rs → Rise (capped n) (numbers_told (lines_of_runs Manual rs) (open_of_runs Manual end rs))
-told_of_runs end n [] r o = tt
-told_of_runs end n (run ∷ rs) r o = by (told_of_runs end (run_number Manual run) rs r.1 o.1) (is_open run) refl
+reported_for_runs : (end n : ℕ) (rs : List (List Piece)) → RunsRise n rs → OnlyLastIsOpen rs → Rise (capped n) (numbers_reported (lines_of_runs Manual rs) (open_of_runs Manual end rs))
+reported_for_runs end n [] r o = tt
+reported_for_runs end n (run ∷ rs) r o = by (reported_for_runs end (run_number Manual run) rs r.1 o.1) (is_open run) refl
   where
-    first : IsBehind (capped n) (capped (run_number Manual run))
-    first = capped_behind n (run_number Manual run) r.0
+    first : IsAfter (capped n) (capped (run_number Manual run))
+    first = capped_after n (run_number Manual run) r.0
 
     Rest : Type 0
-    Rest = Rise (capped (run_number Manual run)) (numbers_told (lines_of_runs Manual rs) (open_of_runs Manual end rs))
+    Rest = Rise (capped (run_number Manual run)) (numbers_reported (lines_of_runs Manual rs) (open_of_runs Manual end rs))
 
-    last : rs ≡ [] → Rise (capped n) (numbers_told (lines_of_runs Manual rs) (Some (capped (run_number Manual run))))
-    last e = subst (λ (x : List (List Piece)). Rise (capped n) (numbers_told (lines_of_runs Manual x) (Some (capped (run_number Manual run))))) (sym e) (first, tt)
+    last : rs ≡ [] → Rise (capped n) (numbers_reported (lines_of_runs Manual rs) (Some (capped (run_number Manual run))))
+    last e = subst (λ (x : List (List Piece)). Rise (capped n) (numbers_reported (lines_of_runs Manual x) (Some (capped (run_number Manual run))))) (sym e) (first, tt)
 
-    by_text : Rest → (b : Bool) → Rise (capped n) (numbers_told (cond b (lines_of_runs Manual rs) (record { number = capped (run_number Manual run); text = run_text run } ∷ lines_of_runs Manual rs)) (open_of_runs Manual end rs))
-    by_text rest true = rise_less (capped n) (capped (run_number Manual run)) (numbers_told (lines_of_runs Manual rs) (open_of_runs Manual end rs)) first.order rest
+    by_text : Rest → (b : Bool) → Rise (capped n) (numbers_reported (cond b (lines_of_runs Manual rs) (record { number = capped (run_number Manual run); text = run_text run } ∷ lines_of_runs Manual rs)) (open_of_runs Manual end rs))
+    by_text rest true = rise_less (capped n) (capped (run_number Manual run)) (numbers_reported (lines_of_runs Manual rs) (open_of_runs Manual end rs)) first.order rest
     by_text rest false = (first, rest)
 
     by : Rest → (b : Bool) → is_open run ≡ b
-        → Rise (capped n) (numbers_told (cond b (lines_of_runs Manual rs) (cond (is_empty (run_text run)) (lines_of_runs Manual rs) (record { number = capped (run_number Manual run); text = run_text run } ∷ lines_of_runs Manual rs))) (cond b (Some (capped (run_number Manual run))) (open_of_runs Manual end rs)))
+        → Rise (capped n) (numbers_reported (cond b (lines_of_runs Manual rs) (cond (is_empty (run_text run)) (lines_of_runs Manual rs) (record { number = capped (run_number Manual run); text = run_text run } ∷ lines_of_runs Manual rs))) (cond b (Some (capped (run_number Manual run))) (open_of_runs Manual end rs)))
     by rest true e = last (o.0 e)
     by rest false e = by_text rest (is_empty (run_text run))
 
-pub numbers_rise : (bytes : List ℕ) → Rise 0 (numbers_told (joined_lines Manual bytes).lines (joined_lines Manual bytes).open_at)
+pub numbers_rise : (bytes : List ℕ) → Rise 0 (numbers_reported (joined_lines Manual bytes).lines (joined_lines Manual bytes).open_at)
 numbers_rise bytes =
     let pieces = map piece_of (kept (numbered_from 1 (lines bytes))) in
-    told_of_runs (length (lines bytes)) 0 (runs pieces) (runs_rise 0 pieces (pieces_rise 0 1 (lines bytes) (omega arith))) (only_last pieces)
+    reported_for_runs (length (lines bytes)) 0 (runs pieces) (runs_rise 0 pieces (pieces_rise 0 1 (lines bytes) (omega arith))) (only_last pieces)

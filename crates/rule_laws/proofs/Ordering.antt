@@ -15,14 +15,14 @@ use Rattle.rule_parts.specs.Values.{finding}
 use Rattle.rule_types.specs.declared.part.Part.{Part}
 use Rattle.rule_types.specs.declared.part.Part.TheVariants as part
 use Rattle.rule_parts.specs.declared.finding.Finding.{Finding}
-use Rattle.rule_core.specs.Drafts.{Draft, again_in, draft, draft_of, draft_with, given_again, given_again_behind, goto_in, label_in, parts_of}
-use Rattle.rule_core.specs.Style.{between, commas, gap_findings, operator_findings, style_behind, style_findings}
+use Rattle.rule_core.specs.Drafts.{Draft, again_in, draft, draft_of, draft_with, given_again, given_again_after, goto_in, label_in, parts_of}
+use Rattle.rule_core.specs.Style.{between, commas, gap_findings, operator_findings, style_after, style_findings}
 use Rattle.rule_jumps.specs.Jumps.{Names, landings}
 use Rattle.rule_jumps.specs.declared.jumps.Landing.{Landing}
-use Rattle.rule_laws.specs.Order.{AreInOrder, StandsBeforeAny, rank}
+use Rattle.rule_laws.specs.Order.{AreInOrder, ComesBeforeAny, rank}
 use Rattle.rule_core.specs.Rules.{file_messages, findings_of, line_messages, message_at, name_in, open_messages}
-use Rattle.rule_laws.proofs.Landed.{landing_at, names_at, told_below}
-use Rattle.rule_laws.proofs.Numbering.{IsBehind, Rise, numbers_rise, numbers_told}
+use Rattle.rule_laws.proofs.Landed.{landing_at, names_at, reported_below}
+use Rattle.rule_laws.proofs.Numbering.{IsAfter, Rise, numbers_reported, numbers_rise}
 
 -- ---- findings about one line
 
@@ -64,10 +64,10 @@ part_within before (part.Act a) = omega arith
 part_within before (part.Result c) = omega arith
 part_within before (part.Set a) = omega arith
 
-given_within : (before parts : List Part) → Within 8 8 (given_again_behind Manual before parts)
+given_within : (before parts : List Part) → Within 8 8 (given_again_after Manual before parts)
 given_within before [] = omega arith
 given_within before (p ∷ parts) =
-    within_both 8 8 8 (again_in Manual before p) (given_again_behind Manual (before ++ p ∷ []) parts) (part_within before p) (given_within (before ++ p ∷ []) parts)
+    within_both 8 8 8 (again_in Manual before p) (given_again_after Manual (before ++ p ∷ []) parts) (part_within before p) (given_within (before ++ p ∷ []) parts)
 
 -- how a line is written
 gap_within : (gap key : List ℕ) → Within 13 13 (gap_findings Manual gap key)
@@ -75,21 +75,21 @@ gap_within gap key =
     within_both 13 13 13 (cond (commas gap == 1) [] (finding CommaExpected key ∷ [])) (cond (ends_in comma gap) (finding BlankExpected key ∷ []) [])
     (unless 13 (finding CommaExpected key) (commas gap == 1) refl) (maybe 13 (finding BlankExpected key) (ends_in comma gap) refl)
 
-style_within : (line : List ℕ) (place : ℕ) (tokens : List Placed) → Within 13 13 (style_behind Manual line place tokens)
+style_within : (line : List ℕ) (place : ℕ) (tokens : List Placed) → Within 13 13 (style_after Manual line place tokens)
 style_within line place [] = unless 13 (finding CommaExpected []) (commas (drop place line) == 0) refl
 style_within line place (t ∷ tokens) =
-    within_both 13 13 13 (gap_findings Manual (between place t.span.start line) t.parts.head.key) (operator_findings Manual t ++ style_behind Manual line t.span.end tokens) (gap_within (between place t.span.start line) t.parts.head.key)
-    (within_both 13 13 13 (operator_findings Manual t) (style_behind Manual line t.span.end tokens) (maybe 13 (finding ReadAsAssign t.parts.head.key) (is_read_as_assign t) refl) (style_within line t.span.end tokens))
+    within_both 13 13 13 (gap_findings Manual (between place t.span.start line) t.parts.head.key) (operator_findings Manual t ++ style_after Manual line t.span.end tokens) (gap_within (between place t.span.start line) t.parts.head.key)
+    (within_both 13 13 13 (operator_findings Manual t) (style_after Manual line t.span.end tokens) (maybe 13 (finding ReadAsAssign t.parts.head.key) (is_read_as_assign t) refl) (style_within line t.span.end tokens))
 
 line_within : (line : List ℕ) (tokens : List Placed) → Within 13 13 (style_findings Manual line tokens)
 line_within line [] = omega arith
 line_within line (t ∷ tokens) =
-    within_both 13 13 13 (operator_findings Manual t) (style_behind Manual line t.span.end tokens) (maybe 13 (finding ReadAsAssign t.parts.head.key) (is_read_as_assign t) refl) (style_within line t.span.end tokens)
+    within_both 13 13 13 (operator_findings Manual t) (style_after Manual line t.span.end tokens) (maybe 13 (finding ReadAsAssign t.parts.head.key) (is_read_as_assign t) refl) (style_within line t.span.end tokens)
 
 -- what is to be said of a draft
 draft_within : (line : List ℕ) (parts : List Part) → Within 8 13 (draft Manual line parts).findings
 draft_within line parts =
-    within_both 8 8 13 (given_again_behind Manual [] parts) _ (given_within [] parts) (within_less 8 13 13 _ (omega arith) (line_within line _))
+    within_both 8 8 13 (given_again_after Manual [] parts) _ (given_within [] parts) (within_less 8 13 13 _ (omega arith) (line_within line _))
 
 abbrev as_read : Draft → Result Draft Finding
 as_read d = Ok d
@@ -133,29 +133,29 @@ line_about file l k (Err wrong) e = (refl, omega arith, tt)
 line_about file l k (Ok d) e = about_line file l.number 0 14 (findings_of d k) (within_less 0 7 14 (findings_of d k) (omega arith) (rule_within d k (read_within l.text d e)))
 
 -- the first of these messages, if there is one, is about a line after this
-abbrev StartsBehind : ℕ → List Message → Type 0
-StartsBehind line [] = Unit {0}
-StartsBehind line (m ∷ ms) = IsBehind line m.line
+abbrev StartsAfter : ℕ → List Message → Type 0
+StartsAfter line [] = Unit {0}
+StartsAfter line (m ∷ ms) = IsAfter line m.line
 
 -- messages in order, all about lines after this
-abbrev OrderedBehind : ℕ → List Message → Type 0
-OrderedBehind line ms = AreInOrder ms × StartsBehind line ms
+abbrev OrderedAfter : ℕ → List Message → Type 0
+OrderedAfter line ms = AreInOrder ms × StartsAfter line ms
 
-starts_less : (a b : ℕ) (ms : List Message) → a ≤ b → StartsBehind b ms → StartsBehind a ms
+starts_less : (a b : ℕ) (ms : List Message) → a ≤ b → StartsAfter b ms → StartsAfter a ms
 starts_less a b [] h s = tt
 starts_less a b (m ∷ ms) h s =
-    let first : IsBehind b m.line = s in
+    let first : IsAfter b m.line = s in
     record { order = omega arith; same = λ e. omega arith }
 
 -- messages about a line, and then those about lines after it
-line_first : (line low : ℕ) (ms others : List Message) → AboutLine line low ms → OrderedBehind line others → AreInOrder (ms ++ others)
+line_first : (line low : ℕ) (ms others : List Message) → AboutLine line low ms → OrderedAfter line others → AreInOrder (ms ++ others)
 line_first line low [] others a o = o.0
 line_first line low (m ∷ []) others a o = (before others o.1, o.0)
   where
-    before : (others : List Message) → StartsBehind line others → StandsBeforeAny m others
+    before : (others : List Message) → StartsAfter line others → ComesBeforeAny m others
     before [] s = tt
     before (n ∷ others) s =
-        let first : IsBehind line n.line = s in
+        let first : IsAfter line n.line = s in
         let here : m.line ≡ line = a.0 in
         record { line = omega arith; rank = λ e h. absurd (omega arith) }
 line_first line low (m ∷ n ∷ ms) others a o =
@@ -163,19 +163,19 @@ line_first line low (m ∷ n ∷ ms) others a o =
     let next : n.line ≡ line = a.2.0 in
     (record { line = omega arith; rank = λ e h. a.2.1 }, line_first line (rank m.kind) (n ∷ ms) others a.2 o)
 
-line_starts : (before line low : ℕ) (ms others : List Message) → IsBehind before line → AboutLine line low ms → OrderedBehind line others → StartsBehind before (ms ++ others)
+line_starts : (before line low : ℕ) (ms others : List Message) → IsAfter before line → AboutLine line low ms → OrderedAfter line others → StartsAfter before (ms ++ others)
 line_starts before line low [] others b a o = starts_less before line others b.order o.1
-line_starts before line low (m ∷ ms) others b a o = subst (IsBehind before) (sym a.0) b
+line_starts before line low (m ∷ ms) others b a o = subst (IsAfter before) (sym a.0) b
 
-all_ordered : (file : List ℕ) (above : List Names) (ls : List NumberedLine) (at : Option ℕ) (before : ℕ) → Rise before (numbers_told ls at) → OrderedBehind before (told_below Manual file above ls ++ open_messages file at)
+all_ordered : (file : List ℕ) (above : List Names) (ls : List NumberedLine) (at : Option ℕ) (before : ℕ) → Rise before (numbers_reported ls at) → OrderedAfter before (reported_below Manual file above ls ++ open_messages file at)
 all_ordered file above [] None before r = (tt, tt)
 all_ordered file above [] (Some n) before r = ((tt, tt), r.0)
 all_ordered file above (l ∷ ls) at before r =
     let here : List Message = line_messages file l.number (draft_of Manual l.text) (landing_at Manual above l ls) in
-    let others : List Message = told_below Manual file (names_at Manual l ∷ above) ls ++ open_messages file at in
-    let rest : OrderedBehind l.number others = all_ordered file (names_at Manual l ∷ above) ls at l.number r.1 in
+    let others : List Message = reported_below Manual file (names_at Manual l ∷ above) ls ++ open_messages file at in
+    let rest : OrderedAfter l.number others = all_ordered file (names_at Manual l ∷ above) ls at l.number r.1 in
     let about : AboutLine l.number 0 here = line_about file l (landing_at Manual above l ls) (draft_of Manual l.text) refl in
-    subst (OrderedBehind before) (sym (append_assoc here (told_below Manual file (names_at Manual l ∷ above) ls) (open_messages file at)))
+    subst (OrderedAfter before) (sym (append_assoc here (reported_below Manual file (names_at Manual l ∷ above) ls) (open_messages file at)))
     (line_first l.number 0 here others about rest, line_starts before l.number 0 here others r.0 about rest)
 
 pub messages_ordered : (f : SourceFile) → AreInOrder (file_messages Manual f)

@@ -4,14 +4,14 @@ use Rattle.std.proofs.lemmas.Bool.{false≢true}
 use Rattle.std.proofs.lemmas.List.{append_assoc, reverse-append, reverse-reverse}
 use Rattle.rule_jumps.specs.Jumps.{Names, has_label, is_awaited, is_named, is_unused}
 use Rattle.rule_laws.specs.Landings.{IsReached, IsUnused}
-use Rattle.rule_laws.proofs.Labelled.{label-reverse, named_so, neither, none_found, none_stands, so_named}
+use Rattle.rule_laws.proofs.Labelled.{label-reverse, named_so, neither, none_found, none_in_place, so_named}
 
 -- one of these rules, the nearest first, jumps over the nearer ones to a label of this name
 pub record Awaits (name : List ℕ) (above : List Names) : Type 0 where
   pub nearer : List Names
   pub leaving : Names
   pub farther : List Names
-  pub stands : above ≡ nearer ++ leaving ∷ farther
+  pub is_present : above ≡ nearer ++ leaving ∷ farther
   pub goto : leaving.goto ≡ Some name
   pub next : has_label name nearer ≡ false
 
@@ -20,7 +20,7 @@ awaited_so name [] h = absurd (false≢true h)
 awaited_so name (r ∷ above) h = by (is_named name r.goto) (is_named name r.label) refl refl (awaited_so name above) h
   where
     by : (g l : Bool) → is_named name r.goto ≡ g → is_named name r.label ≡ l → (is_awaited name above ≡ true → Awaits name above) → cond g true (cond l false (is_awaited name above)) ≡ true → Awaits name (r ∷ above)
-    by true l e f go h = record { nearer = []; leaving = r; farther = above; stands = refl; goto = named_so name r.goto e; next = refl }
+    by true l e f go h = record { nearer = []; leaving = r; farther = above; is_present = refl; goto = named_so name r.goto e; next = refl }
     by false true e f go h = absurd (false≢true h)
     by false false e f go h =
         let more = go h in
@@ -28,7 +28,7 @@ awaited_so name (r ∷ above) h = by (is_named name r.goto) (is_named name r.lab
           nearer = r ∷ more.nearer;
           leaving = more.leaving;
           farther = more.farther;
-          stands = ap (λ rs. r ∷ rs) more.stands;
+          is_present = ap (λ rs. r ∷ rs) more.is_present;
           goto = more.goto;
           next = ap (λ b. b || has_label name more.nearer) f ∙ more.next;
         }
@@ -46,11 +46,11 @@ waits_over name (r ∷ nearer) leaving farther e h =
     ends false = refl
 
 so_awaited : (name : List ℕ) (above : List Names) → Awaits name above → is_awaited name above ≡ true
-so_awaited name above h = ap (is_awaited name) h.stands ∙ waits_over name h.nearer h.leaving h.farther (so_named name h.leaving.goto h.goto) h.next
+so_awaited name above h = ap (is_awaited name) h.is_present ∙ waits_over name h.nearer h.leaving h.farther (so_named name h.leaving.goto h.goto) h.next
 
 -- a rule in the midst of rules, from the other end
-turned : (farther : List Names) (r : Names) (between : List Names) → reverse (farther ++ r ∷ between) ≡ reverse between ++ r ∷ reverse farther
-turned farther r between =
+reversed : (farther : List Names) (r : Names) (between : List Names) → reverse (farther ++ r ∷ between) ≡ reverse between ++ r ∷ reverse farther
+reversed farther r between =
     reverse-append farther (r ∷ between)
     ∙ ap (λ rs. rs ++ reverse farther) (reverse-append (r ∷ []) between)
     ∙ append_assoc (reverse between) (r ∷ []) (reverse farther)
@@ -61,8 +61,8 @@ reached_so before rule name e h = record {
   farther = reverse h.farther;
   leaving = h.leaving;
   between = reverse h.nearer;
-  stands = sym (reverse-reverse before) ∙ ap reverse h.stands ∙ turned h.nearer h.leaving h.farther;
-  jumps = record { name = name; goto = h.goto; label = e; next = none_stands name (reverse h.nearer) (label-reverse name h.nearer ∙ h.next) };
+  is_present = sym (reverse-reverse before) ∙ ap reverse h.is_present ∙ reversed h.nearer h.leaving h.farther;
+  jumps = record { name = name; goto = h.goto; label = e; next = none_in_place name (reverse h.nearer) (label-reverse name h.nearer ∙ h.next) };
 }
 
 some_same : (o : Option (List ℕ)) (a b : List ℕ) → o ≡ Some a → o ≡ Some b → a ≡ b
@@ -75,7 +75,7 @@ so_reached before rule name e h =
       nearer = reverse h.between;
       leaving = h.leaving;
       farther = reverse h.farther;
-      stands = ap reverse h.stands ∙ turned h.farther h.leaving h.between;
+      is_present = ap reverse h.is_present ∙ reversed h.farther h.leaving h.between;
       goto = h.jumps.goto ∙ ap (λ n. Some n) same;
       next = label-reverse name h.between ∙ ap (λ n. has_label n h.between) (sym same) ∙ none_found h.jumps.name h.between h.jumps.next;
     }

@@ -8,7 +8,7 @@ use Rattle.text_bytes.specs.Texts.{begins_with, skip_while, split_once}
 use Rattle.rule_templates.specs.Grammar.{BeginsNotPlain, HasNoClose, IsFaulty, IsName, IsSign, IsSignWith, NamesNothing, Spells, in_braces}
 use Rattle.rule_templates.specs.Names.{long_names, named, short_names}
 use Rattle.rule_templates.specs.Number.{word_of}
-use Rattle.rule_templates.specs.Reading.{Front, asked, bracketed, is_plain, numbered, front_at, result_piece, substituted, with_name}
+use Rattle.rule_templates.specs.Reading.{FirstPiece, argument_of, bracketed, is_no_sign, numbered, first_at, result_piece, with_name}
 use Rattle.rule_templates.specs.declared.fault.TemplateFault.{TemplateFault}
 use Rattle.rule_templates.specs.declared.fault.TemplateFault.TheVariants as fault
 use Rattle.rule_templates.specs.declared.names.Substitution.{Substitution}
@@ -17,38 +17,39 @@ use Rattle.rule_templates.specs.declared.piece.Piece.{Piece}
 use Rattle.rule_templates.specs.declared.piece.Piece.TheVariants as piece
 use Rattle.rule_templates.proofs.Closing.{braced_again, braces_are, lacks_again, none_again, split_again}
 use Rattle.rule_templates.proofs.Numbers.{from_again, no_word_again, word_again}
+use Rattle.rule_templates.proofs.Spelled.{substituted}
 use Rattle.rule_templates.proofs.Signs.{NameWell, Rows, is_ordered, named_again, named_well}
 
--- the piece at the front of a text, of which there is none where nothing is left
-abbrev pub front_of : List ℕ → Front
-front_of [] = Err fault.Memory
-front_of (b ∷ t) = front_at b t
+-- the piece at the front of a text; there is none if nothing is left
+abbrev pub first_piece : List ℕ → FirstPiece
+first_piece [] = Err fault.Memory
+first_piece (b ∷ t) = first_at b t
 
-long_again : (n : List ℕ) (s : Substitution) (rest : List ℕ) → IsName long_names n s rest → front_at dollar (n ++ rest) ≡ asked s rest
-unfolding front_at
+long_again : (n : List ℕ) (s : Substitution) (rest : List ℕ) → IsName long_names n s rest → first_at dollar (n ++ rest) ≡ argument_of s rest
+unfolding first_at
 long_again n s rest h = ap substituted (named_again long_names n s rest refl h)
 
-short_again : (n : List ℕ) (s : Substitution) (rest : List ℕ) → IsName short_names n s rest → front_at percent (n ++ rest) ≡ asked s rest
-unfolding front_at
+short_again : (n : List ℕ) (s : Substitution) (rest : List ℕ) → IsName short_names n s rest → first_at percent (n ++ rest) ≡ argument_of s rest
+unfolding first_at
 short_again n s rest h = ap substituted (named_again short_names n s rest refl h)
 
 -- a sign asks for what its name does
-sign_again : (s : Substitution) (sign rest : List ℕ) → IsSign s sign rest → front_of (sign ++ rest) ≡ asked s rest
-sign_again s sign rest (inl h) = ap (λ (l : List ℕ). front_of (l ++ rest)) h.1 ∙ long_again h.0 s rest h.2
-sign_again s sign rest (inr h) = ap (λ (l : List ℕ). front_of (l ++ rest)) h.1 ∙ short_again h.0 s rest h.2
+sign_again : (s : Substitution) (sign rest : List ℕ) → IsSign s sign rest → first_piece (sign ++ rest) ≡ argument_of s rest
+sign_again s sign rest (inl h) = ap (λ (l : List ℕ). first_piece (l ++ rest)) h.1 ∙ long_again h.0 s rest h.2
+sign_again s sign rest (inr h) = ap (λ (l : List ℕ). first_piece (l ++ rest)) h.1 ∙ short_again h.0 s rest h.2
 
-with_again : (s : Substitution) (content text rest : List ℕ) → IsSignWith s content text rest → front_of (text ++ rest) ≡ asked s (in_braces content ++ rest)
+with_again : (s : Substitution) (content text rest : List ℕ) → IsSignWith s content text rest → first_piece (text ++ rest) ≡ argument_of s (in_braces content ++ rest)
 with_again s content text rest h =
-    ap (λ (l : List ℕ). front_of (l ++ rest)) h.spelled
-    ∙ ap front_of (append_assoc h.sign (in_braces content) rest)
+    ap (λ (l : List ℕ). first_piece (l ++ rest)) h.spelled
+    ∙ ap first_piece (append_assoc h.sign (in_braces content) rest)
     ∙ sign_again s h.sign (in_braces content ++ rest) h.is_sign
 
-attr_again : (n text rest : List ℕ) → n ≢ [] → IsSignWith name.Attr n text rest → front_of (text ++ rest) ≡ Ok (piece.Attr n, rest)
-unfolding asked
+attr_again : (n text rest : List ℕ) → n ≢ [] → IsSignWith name.Attr n text rest → first_piece (text ++ rest) ≡ Ok (piece.Attr n, rest)
+unfolding argument_of
 attr_again n text rest some h = with_again name.Attr n text rest h ∙ ap (with_name (λ m. piece.Attr m)) (braced_again n rest some h.no_close)
 
-env_again : (n text rest : List ℕ) → n ≢ [] → IsSignWith name.Env n text rest → front_of (text ++ rest) ≡ Ok (piece.Env n, rest)
-unfolding asked
+env_again : (n text rest : List ℕ) → n ≢ [] → IsSignWith name.Env n text rest → first_piece (text ++ rest) ≡ Ok (piece.Env n, rest)
+unfolding argument_of
 env_again n text rest some h = with_again name.Env n text rest h ∙ ap (with_name (λ m. piece.Env m)) (braced_again n rest some h.no_close)
 
 -- a result alone, and one with braces
@@ -57,54 +58,54 @@ unfolding result_piece
 result_alone [] e = refl
 result_alone (b ∷ t) e = ap (λ (v : Bool). cond v (bracketed (split_once close_brace t)) (Ok (piece.Result, b ∷ t))) e
 
-result_again : (text rest : List ℕ) → IsSign name.Result text rest → begins_with open_brace rest ≡ false → front_of (text ++ rest) ≡ Ok (piece.Result, rest)
-unfolding asked
+result_again : (text rest : List ℕ) → IsSign name.Result text rest → begins_with open_brace rest ≡ false → first_piece (text ++ rest) ≡ Ok (piece.Result, rest)
+unfolding argument_of
 result_again text rest h e = sign_again name.Result text rest h ∙ result_alone rest e
 
 result_braces : (content rest : List ℕ) → HasNoClose content → result_piece (in_braces content ++ rest) ≡ numbered (word_of content) rest
 unfolding result_piece
 result_braces content rest none = ap result_piece (braces_are content rest) ∙ ap bracketed (split_again content rest none)
 
-number_again : (content text rest : List ℕ) → IsSignWith name.Result content text rest → front_of (text ++ rest) ≡ numbered (word_of content) rest
-unfolding asked
+number_again : (content text rest : List ℕ) → IsSignWith name.Result content text rest → first_piece (text ++ rest) ≡ numbered (word_of content) rest
+unfolding argument_of
 number_again content text rest h = with_again name.Result content text rest h ∙ result_braces content rest h.no_close
 
 -- plain bytes
-run_again : (run rest : List ℕ) → AllPass is_plain run → BeginsNotPlain rest → prefix_len is_plain (run ++ rest) ≡ length run
+run_again : (run rest : List ℕ) → AllPass is_no_sign run → BeginsNotPlain rest → prefix_len is_no_sign (run ++ rest) ≡ length run
 run_again [] [] a o = refl
-run_again [] (b ∷ rest) a o = ap (λ (v : Bool). cond v (1 + prefix_len is_plain rest) 0) o
+run_again [] (b ∷ rest) a o = ap (λ (v : Bool). cond v (1 + prefix_len is_no_sign rest) 0) o
 run_again (b ∷ run) rest a o =
-    let here : is_plain b ≡ true = a 0 0 (omega arith) in
-    let others : prefix_len is_plain (run ++ rest) ≡ length run = run_again run rest (λ k d l. a (suc k) d (omega arith)) o in
-    ap (λ (v : Bool). cond v (1 + prefix_len is_plain (run ++ rest)) 0) here ∙ omega arith
+    let here : is_no_sign b ≡ true = a 0 0 (omega arith) in
+    let others : prefix_len is_no_sign (run ++ rest) ≡ length run = run_again run rest (λ k d l. a (suc k) d (omega arith)) o in
+    ap (λ (v : Bool). cond v (1 + prefix_len is_no_sign (run ++ rest)) 0) here ∙ omega arith
 
 not_true : (b : Bool) → not b ≡ true → b ≡ false
 not_true true h = sym h
 not_true false h = refl
 
-plain_first : (b : ℕ) (t : List ℕ) → is_plain b ≡ true → front_at b t ≡ Ok (piece.Plain (b ∷ take_while is_plain t), skip_while is_plain t)
-unfolding front_at
+plain_first : (b : ℕ) (t : List ℕ) → is_no_sign b ≡ true → first_at b t ≡ Ok (piece.Plain (b ∷ take_while is_no_sign t), skip_while is_no_sign t)
+unfolding first_at
 plain_first b t h =
     let signs = and_parts (not (b == dollar)) (not (b == percent)) h in
-    let last : Front = Ok (piece.Plain (b ∷ take_while is_plain t), skip_while is_plain t) in
+    let last : FirstPiece = Ok (piece.Plain (b ∷ take_while is_no_sign t), skip_while is_no_sign t) in
     ap (λ (v : Bool). cond v (substituted (named long_names t)) (cond (b == percent) (substituted (named short_names t)) last)) (not_true (b == dollar) signs.0)
     ∙ ap (λ (v : Bool). cond v (substituted (named short_names t)) last) (not_true (b == percent) signs.1)
 
-plain_again : (bytes rest : List ℕ) → bytes ≢ [] → AllPass is_plain bytes → BeginsNotPlain rest → front_of (bytes ++ rest) ≡ Ok (piece.Plain bytes, rest)
+plain_again : (bytes rest : List ℕ) → bytes ≢ [] → AllPass is_no_sign bytes → BeginsNotPlain rest → first_piece (bytes ++ rest) ≡ Ok (piece.Plain bytes, rest)
 plain_again [] rest some plain longest = absurd (some refl)
 plain_again (b ∷ t) rest some plain longest =
-    let here : is_plain b ≡ true = plain 0 0 (omega arith) in
-    let long : prefix_len is_plain (t ++ rest) ≡ length t = run_again t rest (λ k d l. plain (suc k) d (omega arith)) longest in
-    let front : take_while is_plain (t ++ rest) ≡ t = ap (λ (n : ℕ). take n (t ++ rest)) long ∙ take_at t rest (length t) refl in
-    let behind : skip_while is_plain (t ++ rest) ≡ rest = ap (λ (n : ℕ). drop n (t ++ rest)) long ∙ drop_at t rest (length t) refl in
+    let here : is_no_sign b ≡ true = plain 0 0 (omega arith) in
+    let long : prefix_len is_no_sign (t ++ rest) ≡ length t = run_again t rest (λ k d l. plain (suc k) d (omega arith)) longest in
+    let prefix : take_while is_no_sign (t ++ rest) ≡ t = ap (λ (n : ℕ). take n (t ++ rest)) long ∙ take_at t rest (length t) refl in
+    let following : skip_while is_no_sign (t ++ rest) ≡ rest = ap (λ (n : ℕ). drop n (t ++ rest)) long ∙ drop_at t rest (length t) refl in
     plain_first b (t ++ rest) here
-    ∙ ap (λ (l : List ℕ). Ok (piece.Plain (b ∷ l), skip_while is_plain (t ++ rest))) front
-    ∙ ap (λ (l : List ℕ). Ok (piece.Plain (b ∷ t), l)) behind
+    ∙ ap (λ (l : List ℕ). Ok (piece.Plain (b ∷ l), skip_while is_no_sign (t ++ rest))) prefix
+    ∙ ap (λ (l : List ℕ). Ok (piece.Plain (b ∷ t), l)) following
 
 -- each piece
-pub spelled_again : (p : Piece) (text rest : List ℕ) → Spells p text rest → front_of (text ++ rest) ≡ Ok (p, rest)
-unfolding asked
-spelled_again (piece.Plain bytes) text rest (inl h) = ap (λ (l : List ℕ). front_of (l ++ rest)) h.same ∙ plain_again bytes rest h.some h.plain h.longest
+pub spelled_again : (p : Piece) (text rest : List ℕ) → Spells p text rest → first_piece (text ++ rest) ≡ Ok (p, rest)
+unfolding argument_of
+spelled_again (piece.Plain bytes) text rest (inl h) = ap (λ (l : List ℕ). first_piece (l ++ rest)) h.same ∙ plain_again bytes rest h.some h.plain h.longest
 spelled_again (piece.Plain bytes) text rest (inr (inl h)) = sign_again name.Dollar text rest h.1 ∙ ap (λ (l : List ℕ). Ok (piece.Plain l, rest)) (sym h.0)
 spelled_again (piece.Plain bytes) text rest (inr (inr h)) = sign_again name.Percent text rest h.1 ∙ ap (λ (l : List ℕ). Ok (piece.Plain l, rest)) (sym h.0)
 spelled_again piece.Kernel text rest h = sign_again name.Kernel text rest h
@@ -132,16 +133,16 @@ nothing_by rows t none None h = refl
 nothing_by rows t none (Some x) h = absurd (none h.0 x.0 x.1 h.2.in_table h.1)
 
 nothing_named : (rows : Rows) (t : List ℕ) → is_ordered rows ≡ true → NamesNothing rows t → substituted (named rows t) ≡ Err fault.Unknown
-unfolding asked
+unfolding argument_of
 nothing_named rows t order (inl none) = ap substituted (nothing_by rows t none (named rows t) (named_well rows t order))
 nothing_named rows t order (inr h) = ap (λ (l : List ℕ). substituted (named rows l)) h.2 ∙ ap substituted (named_again rows h.0 name.Refused h.1 order h.3)
 
-unknown_long : (t : List ℕ) → NamesNothing long_names t → front_at dollar t ≡ Err fault.Unknown
-unfolding front_at
+unknown_long : (t : List ℕ) → NamesNothing long_names t → first_at dollar t ≡ Err fault.Unknown
+unfolding first_at
 unknown_long t h = nothing_named long_names t refl h
 
-unknown_short : (t : List ℕ) → NamesNothing short_names t → front_at percent t ≡ Err fault.Unknown
-unfolding front_at
+unknown_short : (t : List ℕ) → NamesNothing short_names t → first_at percent t ≡ Err fault.Unknown
+unfolding first_at
 unknown_short t h = nothing_named short_names t refl h
 
 open_result : (rest : List ℕ) → HasNoClose rest → result_piece (open_brace ∷ rest) ≡ Err fault.Brace
@@ -149,12 +150,12 @@ unfolding result_piece
 open_result rest none = ap bracketed (none_again rest none)
 
 -- each fault
-pub fault_again : (e : TemplateFault) (text : List ℕ) → IsFaulty e text → front_of text ≡ Err e
-unfolding asked
-fault_again fault.Unknown text (inl h) = ap front_of h.1 ∙ unknown_long h.0 h.2
-fault_again fault.Unknown text (inr h) = ap front_of h.1 ∙ unknown_short h.0 h.2
-fault_again fault.Brace text (sign, rest, parts, inl (inl h, lacks)) = ap front_of parts ∙ sign_again name.Attr sign rest h ∙ ap (with_name (λ m. piece.Attr m)) (lacks_again rest lacks)
-fault_again fault.Brace text (sign, rest, parts, inl (inr h, lacks)) = ap front_of parts ∙ sign_again name.Env sign rest h ∙ ap (with_name (λ m. piece.Env m)) (lacks_again rest lacks)
-fault_again fault.Brace text (sign, rest, parts, inr h) = ap front_of parts ∙ sign_again name.Result sign rest h.0 ∙ ap result_piece h.1.1 ∙ open_result h.1.0 h.1.2
-fault_again fault.Number text h = ap front_of h.3 ∙ number_again h.1 h.0 h.2 h.4 ∙ ap (λ (o : Option Piece). numbered o h.2) (no_word_again h.1 h.5)
+pub fault_again : (e : TemplateFault) (text : List ℕ) → IsFaulty e text → first_piece text ≡ Err e
+unfolding argument_of
+fault_again fault.Unknown text (inl h) = ap first_piece h.1 ∙ unknown_long h.0 h.2
+fault_again fault.Unknown text (inr h) = ap first_piece h.1 ∙ unknown_short h.0 h.2
+fault_again fault.Brace text (sign, rest, parts, inl (inl h, lacks)) = ap first_piece parts ∙ sign_again name.Attr sign rest h ∙ ap (with_name (λ m. piece.Attr m)) (lacks_again rest lacks)
+fault_again fault.Brace text (sign, rest, parts, inl (inr h, lacks)) = ap first_piece parts ∙ sign_again name.Env sign rest h ∙ ap (with_name (λ m. piece.Env m)) (lacks_again rest lacks)
+fault_again fault.Brace text (sign, rest, parts, inr h) = ap first_piece parts ∙ sign_again name.Result sign rest h.0 ∙ ap result_piece h.1.1 ∙ open_result h.1.0 h.1.2
+fault_again fault.Number text h = ap first_piece h.3 ∙ number_again h.1 h.0 h.2 h.4 ∙ ap (λ (o : Option Piece). numbered o h.2) (no_word_again h.1 h.5)
 fault_again fault.Memory text h = absurd h

@@ -6,7 +6,7 @@ use Rattle.text_bytes.specs.declared.message.Message.{Message}
 use Rattle.text_bytes.specs.declared.source_file.SourceFile.{SourceFile}
 use Rattle.rule_parts.specs.declared.finding.Finding.{Finding}
 use Rattle.text_bytes.specs.declared.profile.Profile.{Profile}
-use Rattle.rule_core.specs.Ends.{given_up}
+use Rattle.rule_core.specs.Ends.{abandoned}
 use Rattle.rule_core.specs.Lines.{NumberedLine, Piece, is_comment, is_empty, is_open, joined_lines, kept, lines, lines_of_runs, open_number, open_of_runs, piece_of, run_number, run_text, runs, unindented}
 use Rattle.text_bytes.specs.Messages.{capped}
 use Rattle.rule_core.specs.Drafts.{Draft, draft_of}
@@ -15,8 +15,8 @@ use Rattle.rule_jumps.specs.declared.jumps.Landing.{Landing}
 use Rattle.rule_types.specs.Rules.{Rule}
 use Rattle.rule_core.specs.Rules.{Reading, file_messages, file_rules, findings_of, line_messages, line_rules, message_at, messages_unless, names_of, open_messages, reading_of, rule_at, rules_unless, set_of_as}
 use Rattle.rule_laws.specs.Laws.{IsEmptyOrRule, IsKnown, IsUnderstood, IsWritten, runs_of, well_landed, written_lines}
-use Rattle.rule_laws.proofs.Landed.{rules_below, told_below}
-use Rattle.rule_laws.proofs.Listing.{Has, all_from_has, back_empty, contains, front_empty, has_map, map_empty, not_told}
+use Rattle.rule_laws.proofs.Landed.{reported_below, rules_below}
+use Rattle.rule_laws.proofs.Listing.{Has, all_from_has, back_empty, contains, has_map, map_empty, not_reported, prefix_empty}
 
 well : (l : Landing) → l.lost ≡ false → l.unused ≡ false → l ≡ well_landed
 well l e f = ap (λ (b : Bool). as_landing b l.unused) e ∙ ap (λ (b : Bool). as_landing false b) f where
@@ -28,21 +28,21 @@ written_line : (profile : Profile) (file : List ℕ) (l : NumberedLine) (read : 
     → draft_of profile l.text ≡ read → line_messages file l.number read k ++ more ≡ [] → (more ≡ [] → AllZip (IsWritten profile file) ls rules) → AllZip (IsWritten profile file) (l ∷ ls) (line_rules file l.number read k ++ rules)
 written_line profile file l (Err wrong) k more ls rules e m f = cc
 written_line profile file l (Ok d) k more ls rules e m f =
-    let said : findings_of d k ≡ [] = map_empty (message_at file l.number) (findings_of d k) (front_empty _ more m) in
-    let lost : k.lost ≡ false = not_told _ k.lost (front_empty _ _ said) in
+    let said : findings_of d k ≡ [] = map_empty (message_at file l.number) (findings_of d k) (prefix_empty _ more m) in
+    let lost : k.lost ≡ false = not_reported _ k.lost (prefix_empty _ _ said) in
     let others = back_empty _ _ said in
-    let unused : k.unused ≡ false = not_told _ k.unused (back_empty d.findings _ others) in
-    (record { draft = d; reads = e; is = ap (rule_at file l.number d) (well k lost unused); quiet = front_empty d.findings _ others }, f (back_empty _ more m))
+    let unused : k.unused ≡ false = not_reported _ k.unused (back_empty d.findings _ others) in
+    (record { draft = d; reads = e; is = ap (rule_at file l.number d) (well k lost unused); quiet = prefix_empty d.findings _ others }, f (back_empty _ more m))
 
-written : (profile : Profile) (file : List ℕ) (above : List Names) (ls : List NumberedLine) → told_below profile file above ls ≡ [] → AllZip (IsWritten profile file) ls (rules_below profile file above ls)
+written : (profile : Profile) (file : List ℕ) (above : List Names) (ls : List NumberedLine) → reported_below profile file above ls ≡ [] → AllZip (IsWritten profile file) ls (rules_below profile file above ls)
 written profile file above [] e = tt
 written profile file above (l ∷ ls) e =
     let names = names_of (draft_of profile l.text) in
     let below = map (λ (r : Reading). names_of r.read) (map (reading_of profile) ls) in
-    written_line profile file l (draft_of profile l.text) (record { lost = is_lost names.goto below; unused = is_unused names.label above }) (told_below profile file (names ∷ above) ls) ls (rules_below profile file (names ∷ above) ls) refl e
+    written_line profile file l (draft_of profile l.text) (record { lost = is_lost names.goto below; unused = is_unused names.label above }) (reported_below profile file (names ∷ above) ls) ls (rules_below profile file (names ∷ above) ls) refl e
     (written profile file (names ∷ above) ls)
 
--- where nothing is said of an open line, there is none
+-- if nothing is said about an open line, there is none
 closed : (file : List ℕ) (at : Option ℕ) → open_messages file at ≡ [] → at ≡ None
 closed file None e = refl
 closed file (Some n) e = cc
@@ -65,10 +65,10 @@ run_known profile last (r ∷ rs) run o h = by_open (λ n g. run_known profile l
   this_or_other k (inl e) n true t = inl (ap run_text e ∙ empty (run_text r) t)
   this_or_other k (inl e) n false t = inr (inl (ap (λ (x : List Piece). capped (run_number profile x)) e))
   this_or_other k (inr g) n true t = k n g
-  this_or_other k (inr g) n false t = behind (k n g) where
-    behind : Known (lines_of_runs profile rs) → Known (record { number = capped (run_number profile r); text = run_text r } ∷ lines_of_runs profile rs)
-    behind (inl e) = inl e
-    behind (inr k) = inr (inr k)
+  this_or_other k (inr g) n false t = following (k n g) where
+    following : Known (lines_of_runs profile rs) → Known (record { number = capped (run_number profile r); text = run_text r } ∷ lines_of_runs profile rs)
+    following (inl e) = inl e
+    following (inr k) = inr (inr k)
 
   by_open : Earlier → (b : Bool) → cond b (Some (capped (open_number profile last r))) (open_of_runs profile last rs) ≡ None → Known (cond b (lines_of_runs profile rs) (cond (is_empty (run_text r)) (lines_of_runs profile rs) (record { number = capped (run_number profile r); text = run_text r } ∷ lines_of_runs profile rs)))
   by_open k true n = cc
@@ -106,7 +106,7 @@ in_run p (q ∷ ps) h = by_end (in_run p ps) q.continues h where
   by_end f false (inl e) = (q ∷ [], inl refl, inl e)
   by_end f false (inr g) = let i = f g in (i.0, inr i.1, i.2)
 
--- a line that is no comment is kept
+-- a line that is not a comment is kept
 is_kept : (l : NumberedLine) (ls : List NumberedLine) → is_comment (unindented l) ≡ false → Has l ls → Has (unindented l) (kept ls)
 is_kept l [] c h = absurd h
 is_kept l (m ∷ ls) c (inl e) =
@@ -137,21 +137,21 @@ line_known profile f l w o h = by_test (is_comment (unindented l)) refl where
 
 understood_file : (profile : Profile) (f : SourceFile) → file_messages profile f ≡ [] → IsUnderstood profile f
 unfolding landings
-understood_file profile f e = by_given (given_up profile f.bytes) refl e
+understood_file profile f e = by_given (abandoned profile f.bytes) refl e
   where
     whole : AllZip (IsWritten profile f.name) (joined_lines profile f.bytes).lines (file_rules profile f) → (joined_lines profile f.bytes).open_at ≡ None → IsUnderstood profile f
     whole rules shut = record { rules = rules; closed = shut; lines = all_from_has (IsKnown profile f) (written_lines f) (λ l h. line_known profile f l rules shut h) }
 
-    by_given : (given : Option ℕ) → given_up profile f.bytes ≡ given → messages_unless profile f given ≡ [] → IsUnderstood profile f
+    by_given : (given : Option ℕ) → abandoned profile f.bytes ≡ given → messages_unless profile f given ≡ [] → IsUnderstood profile f
     by_given (Some line) g m = cc
     by_given None g m =
-        let rules : AllZip (IsWritten profile f.name) (joined_lines profile f.bytes).lines (rules_unless profile f None) = written profile f.name [] (joined_lines profile f.bytes).lines (front_empty _ _ m) in
+        let rules : AllZip (IsWritten profile f.name) (joined_lines profile f.bytes).lines (rules_unless profile f None) = written profile f.name [] (joined_lines profile f.bytes).lines (prefix_empty _ _ m) in
         whole (subst (λ (rs : List Rule). AllZip (IsWritten profile f.name) (joined_lines profile f.bytes).lines rs) (ap (rules_unless profile f) (sym g)) rules)
         (closed f.name (joined_lines profile f.bytes).open_at (back_empty _ _ m))
 
 each_understood : (profile : Profile) (files : List SourceFile) → flat_map (file_messages profile) files ≡ [] → All (IsUnderstood profile) files
 each_understood profile [] e = All-nil (IsUnderstood profile)
-each_understood profile (f ∷ files) e = All-cons (IsUnderstood profile) f files (understood_file profile f (front_empty (file_messages profile f) _ e)) (each_understood profile files (back_empty (file_messages profile f) _ e))
+each_understood profile (f ∷ files) e = All-cons (IsUnderstood profile) f files (understood_file profile f (prefix_empty (file_messages profile f) _ e)) (each_understood profile files (back_empty (file_messages profile f) _ e))
 
 pub understood : (profile : Profile) (files : List SourceFile) → (set_of_as profile files).messages ≡ [] → All (IsUnderstood profile) files
 unfolding set_of_as

@@ -11,15 +11,15 @@ use Rattle.rule_core.specs.Rules.{file_rules, set_of}
 pub record LandsInItsFile (files : List SourceFile) (above : List Rule) (r : Rule) (below : List Rule) (name : List ℕ) : Type 0 where
   pub files_before : List SourceFile
   pub file : SourceFile
-  pub files_behind : List SourceFile
-  pub files_are : files ≡ files_before ++ file ∷ files_behind
+  pub files_after : List SourceFile
+  pub files_are : files ≡ files_before ++ file ∷ files_after
   pub before : List Rule
   pub between : List Rule
   pub landing : Rule
-  pub behind : List Rule
-  pub file_is : file_rules Manual file ≡ before ++ r ∷ (between ++ landing ∷ behind)
+  pub following : List Rule
+  pub file_is : file_rules Manual file ≡ before ++ r ∷ (between ++ landing ∷ following)
   pub above_is : above ≡ flat_map (file_rules Manual) files_before ++ before
-  pub below_is : below ≡ between ++ landing ∷ (behind ++ flat_map (file_rules Manual) files_behind)
+  pub below_is : below ≡ between ++ landing ∷ (following ++ flat_map (file_rules Manual) files_after)
   pub label : landing.label ≡ Some name
   pub next : ¬ HasLabel name between
 

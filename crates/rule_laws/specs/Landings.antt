@@ -8,7 +8,7 @@ pub record HasLabel (name : List ℕ) (rules : List Names) : Type 0 where
   pub above : List Names
   pub rule : Names
   pub below : List Names
-  pub stands : rules ≡ above ++ rule ∷ below
+  pub is_present : rules ≡ above ++ rule ∷ below
   pub has : rule.label ≡ Some name
 
 -- a rule jumps over those between to another: that has its label, and none between has
@@ -19,11 +19,11 @@ pub record JumpsTo (leaving : Names) (between : List Names) (landing : Names) : 
   pub next : ¬ HasLabel name between
 
 -- a rule jumps to one of those after it
-pub record Reaches (leaving : Names) (behind : List Names) : Type 0 where
+pub record Reaches (leaving : Names) (following : List Names) : Type 0 where
   pub between : List Names
   pub landing : Names
   pub farther : List Names
-  pub stands : behind ≡ between ++ landing ∷ farther
+  pub is_present : following ≡ between ++ landing ∷ farther
   pub jumps : JumpsTo leaving between landing
 
 -- one of the rules before it jumps to a rule
@@ -31,14 +31,14 @@ pub record IsReached (before : List Names) (landing : Names) : Type 0 where
   pub farther : List Names
   pub leaving : Names
   pub between : List Names
-  pub stands : before ≡ farther ++ leaving ∷ between
+  pub is_present : before ≡ farther ++ leaving ∷ between
   pub jumps : JumpsTo leaving between landing
 
 -- a rule has a GOTO, and none of the rules after it has the label
-pub record IsLost (rule : Names) (behind : List Names) : Type 0 where
+pub record IsLost (rule : Names) (following : List Names) : Type 0 where
   pub name : List ℕ
   pub goto : rule.goto ≡ Some name
-  pub none : ¬ HasLabel name behind
+  pub none : ¬ HasLabel name following
 
 -- a rule has a label, and none of the rules before it jumps to it
 pub record IsUnused (before : List Names) (rule : Names) : Type 0 where
@@ -47,11 +47,11 @@ pub record IsUnused (before : List Names) (rule : Names) : Type 0 where
   pub none : ¬ IsReached before rule
 
 -- what becomes of a rule after those before it and before those after it
-pub record IsLanding (before : List Names) (rule : Names) (behind : List Names) (found : Landing) : Type 0 where
-  pub lost : IsTrue found.lost ↔ IsLost rule behind
+pub record IsLanding (before : List Names) (rule : Names) (following : List Names) (found : Landing) : Type 0 where
+  pub lost : IsTrue found.lost ↔ IsLost rule following
   pub unused : IsTrue found.unused ↔ IsUnused before rule
 
 -- what becomes of each rule is at its place, and there is no more
 pub record AreLandings (rules : List Names) (found : List Landing) : Type 0 where
   pub one_each : length found ≡ length rules
-  pub each : (before : List Names) (rule : Names) (behind : List Names) → rules ≡ before ++ rule ∷ behind → (l : Landing) × (slice_get found (length before) ≡ Some l) × IsLanding before rule behind l
+  pub each : (before : List Names) (rule : Names) (following : List Names) → rules ≡ before ++ rule ∷ following → (l : Landing) × (slice_get found (length before) ≡ Some l) × IsLanding before rule following l

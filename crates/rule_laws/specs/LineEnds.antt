@@ -23,7 +23,7 @@ spelled nul_alone = nul ∷ []
 
 -- Of the ends of lines with which a text may begin the longest is taken, and none if it begins with none.
 pub record TakesLongestEnd (text : List ℕ) : Type 0 where
-  pub stands : 0 < end_size text → (e : End) × (take (end_size text) text ≡ spelled e)
+  pub is_present : 0 < end_size text → (e : End) × (take (end_size text) text ≡ spelled e)
   pub longest : (e : End) (rest : List ℕ) → text ≡ spelled e ++ rest → length (spelled e) ≤ end_size text
 
 -- neither a carriage return nor NUL

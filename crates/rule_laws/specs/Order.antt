@@ -27,16 +27,16 @@ rank other = 0
 
 -- a message may come before another: its line is not after the other's, and for the same line its kind is not; lines
 -- over the greatest number that is reported can't be distinguished
-pub record StandsBefore (m n : Message) : Type 0 where
+pub record ComesBefore (m n : Message) : Type 0 where
   pub line : m.line ≤ n.line
   pub rank : m.line ≡ n.line → m.line < 2 ^ 32 - 1 → rank m.kind ≤ rank n.kind
 
 -- a message may come before the first of these, if there is one
-abbrev pub StandsBeforeAny : Message → List Message → Type 0
-StandsBeforeAny m [] = ⊤
-StandsBeforeAny m (n ∷ messages) = StandsBefore m n
+abbrev pub ComesBeforeAny : Message → List Message → Type 0
+ComesBeforeAny m [] = ⊤
+ComesBeforeAny m (n ∷ messages) = ComesBefore m n
 
 -- each message may come before the next
 abbrev pub AreInOrder : List Message → Type 0
 AreInOrder [] = ⊤
-AreInOrder (m ∷ messages) = StandsBeforeAny m messages × AreInOrder messages
+AreInOrder (m ∷ messages) = ComesBeforeAny m messages × AreInOrder messages

@@ -3,7 +3,7 @@ use Rattle.std.specs.Prelude.{◌≡◌, ◌↔◌, ℕ, List, [], ◌∷◌, �
 use Rattle.text_bytes.specs.declared.message.Message.{Message}
 use Rattle.text_bytes.specs.declared.source_file.SourceFile.{SourceFile}
 use Rattle.text_bytes.specs.declared.profile.Profile.{Profile}
-use Rattle.text_bytes.specs.declared.message.MessageKind.TheVariants.{FileGivenUp}
+use Rattle.text_bytes.specs.declared.message.MessageKind.TheVariants.{FileAbandoned}
 use Rattle.rule_parts.specs.Values.{finding}
 use Rattle.rule_core.specs.Lines.{NumberedLine, joined_lines}
 use Rattle.rule_parts.specs.declared.finding.Finding.{Finding}
@@ -13,17 +13,17 @@ use Rattle.rule_types.specs.Rules.{Rule}
 use Rattle.rule_core.specs.Rules.{file_messages, file_rules, findings_of, message_at, open_messages, rule_at}
 
 -- what becomes of a joined line: one rule and the messages about it, or no rule and one message
-pub data Outcome : Type 0 where
-  one_rule : Rule → List Message → Outcome
-  one_message : Message → Outcome
+pub data LineOutcome : Type 0 where
+  one_rule : Rule → List Message → LineOutcome
+  one_message : Message → LineOutcome
 
 -- the rule of a line, if it is one
-abbrev pub rules_in : Outcome → List Rule
+abbrev pub rules_in : LineOutcome → List Rule
 rules_in (one_rule r messages) = r ∷ []
 rules_in (one_message m) = []
 
 -- the messages about a line
-abbrev pub messages_in : Outcome → List Message
+abbrev pub messages_in : LineOutcome → List Message
 messages_in (one_rule r messages) = messages
 messages_in (one_message m) = m ∷ []
 
@@ -32,13 +32,13 @@ abbrev pub HasLabel : List ℕ → List Rule → Type 0
 HasLabel name rules = Any (λ r. r.label ≡ Some name) rules
 
 -- a line is read as a rule, which has its jump if and only if a rule after it has the label
-pub record IsRule (by : Profile) (file : List ℕ) (l : NumberedLine) (r : Rule) (messages : List Message) (behind : List Rule) : Type 0 where
+pub record IsRule (by : Profile) (file : List ℕ) (l : NumberedLine) (r : Rule) (messages : List Message) (following : List Rule) : Type 0 where
   pub draft : Draft
   pub landing : Landing
   pub reads : draft_of by l.text ≡ Ok draft
   pub is : r ≡ rule_at file l.number draft landing
-  pub told : messages ≡ map (message_at file l.number) (findings_of draft landing)
-  pub jump : (name : List ℕ) → (r.goto ≡ Some name) ↔ ((draft.goto ≡ Some name) × HasLabel name behind)
+  pub reported : messages ≡ map (message_at file l.number) (findings_of draft landing)
+  pub jump : (name : List ℕ) → (r.goto ≡ Some name) ↔ ((draft.goto ≡ Some name) × HasLabel name following)
 
 -- a line is not a rule, and the message says why
 pub record IsNoRule (by : Profile) (file : List ℕ) (l : NumberedLine) (m : Message) : Type 0 where
@@ -47,26 +47,26 @@ pub record IsNoRule (by : Profile) (file : List ℕ) (l : NumberedLine) (m : Mes
   pub is : m ≡ message_at file l.number wrong
 
 -- this becomes of a line that is before these rules
-abbrev pub ComesTo : Profile → List ℕ → NumberedLine → Outcome → List Rule → Type 0
-ComesTo by file l (one_rule r messages) behind = IsRule by file l r messages behind
-ComesTo by file l (one_message m) behind = IsNoRule by file l m
+abbrev pub Becomes : Profile → List ℕ → NumberedLine → LineOutcome → List Rule → Type 0
+Becomes by file l (one_rule r messages) following = IsRule by file l r messages following
+Becomes by file l (one_message m) following = IsNoRule by file l m
 
 -- these become of lines, line by line
-abbrev pub AllComeTo : Profile → List ℕ → List NumberedLine → List Outcome → Type 0
-AllComeTo by file [] [] = ⊤
-AllComeTo by file [] (o ∷ outcomes) = ⊥
-AllComeTo by file (l ∷ lines) [] = ⊥
-AllComeTo by file (l ∷ lines) (o ∷ outcomes) = ComesTo by file l o (flat_map rules_in outcomes) × AllComeTo by file lines outcomes
+abbrev pub AllBecome : Profile → List ℕ → List NumberedLine → List LineOutcome → Type 0
+AllBecome by file [] [] = ⊤
+AllBecome by file [] (o ∷ outcomes) = ⊥
+AllBecome by file (l ∷ lines) [] = ⊥
+AllBecome by file (l ∷ lines) (o ∷ outcomes) = Becomes by file l o (flat_map rules_in outcomes) × AllBecome by file lines outcomes
 
 -- The rules and messages of a file that is not given up are those of its joined lines: each is one rule, or no rule
 -- and one message. What is still open at the end has a message of its own.
 pub record IsReadByLine (by : Profile) (f : SourceFile) : Type 0 where
-  pub outcomes : List Outcome
-  pub each : AllComeTo by f.name (joined_lines by f.bytes).lines outcomes
+  pub outcomes : List LineOutcome
+  pub each : AllBecome by f.name (joined_lines by f.bytes).lines outcomes
   pub rules : file_rules by f ≡ flat_map rules_in outcomes
   pub messages : file_messages by f ≡ flat_map messages_in outcomes ++ open_messages f.name (joined_lines by f.bytes).open_at
 
 -- A file that is given up because of a line has no rule, and one message.
-pub record IsGivenUp (by : Profile) (f : SourceFile) (line : ℕ) : Type 0 where
+pub record IsAbandoned (by : Profile) (f : SourceFile) (line : ℕ) : Type 0 where
   pub rules : file_rules by f ≡ []
-  pub messages : file_messages by f ≡ message_at f.name line (finding FileGivenUp []) ∷ []
+  pub messages : file_messages by f ≡ message_at f.name line (finding FileAbandoned []) ∷ []

@@ -5,7 +5,7 @@ ghost use Rattle.text_bytes.specs.declared.profile.Profile.TheVariants.{Manual};
 ghost use Rattle.rule_types.specs.declared.part.Part.{Part};
 ghost use Rattle.rule_tokens.specs.Grammar.{Placed, answers};
 ghost use Rattle.rule_tokens.specs.Lines.{items_of};
-ghost use Rattle.rule_core.specs.Laws.{AreInOrder, IsPlain, IsToldWhereAgain, NoneIsLost};
+ghost use Rattle.rule_core.specs.Laws.{AreInOrder, IsPlain, IsReportedWhereAgain, NoneIsLost};
 ghost use Rattle.rule_core.specs.Style.{style_findings};
 
 /// The acts and the assignments of a line are in its draft in the order of their turns, those of
@@ -21,8 +21,8 @@ pub fn no_part_is_lost()
 
 /// By the manual a LABEL is reported as given twice if and only if one comes before it in the line, and so is a
 /// GOTO.
-pub fn names_given_again_are_told()
-    ensures { (parts : List Part) (p : Part) → IsToldWhereAgain parts p }
+pub fn names_given_again_are_reported()
+    ensures { (parts : List Part) (p : Part) → IsReportedWhereAgain parts p }
 {}
 
 /// By the manual, for a line that is tokens to its end, there is no finding about how it is written if and only

@@ -14,5 +14,5 @@ pub fn each_rule_has_its_landing()
 
 /// If later rules have the label of a rule's GOTO, the rule jumps to one of them: the first.
 pub fn a_jump_that_is_not_lost_reaches_a_rule()
-    ensures { (rule : Names) (behind : List Names) (name : List ℕ) → rule.goto ≡ Some name → HasLabel name behind → Reaches rule behind }
+    ensures { (rule : Names) (following : List Names) (name : List ℕ) → rule.goto ≡ Some name → HasLabel name following → Reaches rule following }
 {}

@@ -32,8 +32,8 @@ pub fn parts_lie_in_line()
 
 /// Rules are defined by `items_of` and `unquoted`, and these agree with the grammar: the items of a line are its
 /// tokens and its end, and the value of each token means what is unquoted from it.
-#[tactic(auto, using(crate::proofs::Standing::items_are_lexed))]
-pub fn rules_stand_on_the_grammar()
+#[tactic(auto, using(crate::proofs::Placement::items_are_lexed))]
+pub fn rules_follow_the_grammar()
     ensures items { ItemsAreLexed }
     ensures values { ValuesAreMeant }
 {}

@@ -17,7 +17,7 @@ pub fn read_files_stay()
 {}
 
 /// The first token of a line follows all commas and blanks in front.
-pub fn first_tokens_stand_behind_gaps()
+pub fn first_tokens_follow_gaps()
     ensures { (line : List ℕ) → IsFirstPlace line (first_place Udev line) }
 {}
 

@@ -10,10 +10,10 @@ use Rattle.rule_lints.specs.Laws.{has_small, is_small_text}
 use Rattle.rule_lints.specs.LetterCase.{begin_with, has_small_digit, is_byte_in, is_many, is_small_alias, is_small_digit, items_in_place}
 
 -- each item takes the byte of its place, and the text has such a byte
-abbrev Stand : List Item → List ℕ → Type 0
-Stand [] text = Unit {0}
-Stand (item ∷ items) [] = ⊥
-Stand (item ∷ items) (b ∷ text) = (takes item b ≡ true) × Stand items text
+abbrev InPlace : List Item → List ℕ → Type 0
+InPlace [] text = Unit {0}
+InPlace (item ∷ items) [] = ⊥
+InPlace (item ∷ items) (b ∷ text) = (takes item b ≡ true) × InPlace items text
 
 -- an item that takes one byte comes before those after it
 place_kept : (item : Item) (items : List Item) → is_many item ≡ false → items_in_place (item ∷ items) ≡ item ∷ items_in_place items
@@ -22,19 +22,19 @@ place_kept item items h =
     let e : 1 + size ≡ suc size = omega arith in
     ap (λ (c : Bool). take (cond (not c) (1 + size) 0) (item ∷ items)) h ∙ ap (λ (k : ℕ). take k (item ∷ items)) e
 
--- an item that takes a byte, before items that stand
-with_item : (item : Item) (items : List Item) (b : ℕ) (text : List ℕ) → is_many item ≡ false → takes item b ≡ true → Stand (items_in_place items) text → Stand (items_in_place (item ∷ items)) (b ∷ text)
-with_item item items b text m t s = subst (λ (xs : List Item). Stand xs (b ∷ text)) (sym (place_kept item items m)) (t, s)
+-- an item that takes a byte, before items that are in place
+with_item : (item : Item) (items : List Item) (b : ℕ) (text : List ℕ) → is_many item ≡ false → takes item b ≡ true → InPlace (items_in_place items) text → InPlace (items_in_place (item ∷ items)) (b ∷ text)
+with_item item items b text m t s = subst (λ (xs : List Item). InPlace xs (b ∷ text)) (sym (place_kept item items m)) (t, s)
 
-stand : (items : List Item) (text : List ℕ) → fits items text ≡ true → Stand (items_in_place items) text
-stand [] text h = tt
-stand (Many ∷ items) text h = tt
-stand (Byte c ∷ items) [] h = absurd (false≢true h)
-stand (One ∷ items) [] h = absurd (false≢true h)
-stand (Among set ∷ items) [] h = absurd (false≢true h)
-stand (Byte c ∷ items) (b ∷ text) h = let both = and_parts (takes (Byte c) b) (fits items text) h in with_item (Byte c) items b text refl both.0 (stand items text both.1)
-stand (One ∷ items) (b ∷ text) h = with_item One items b text refl refl (stand items text h)
-stand (Among set ∷ items) (b ∷ text) h = let both = and_parts (takes (Among set) b) (fits items text) h in with_item (Among set) items b text refl both.0 (stand items text both.1)
+in_place : (items : List Item) (text : List ℕ) → fits items text ≡ true → InPlace (items_in_place items) text
+in_place [] text h = tt
+in_place (Many ∷ items) text h = tt
+in_place (Byte c ∷ items) [] h = absurd (false≢true h)
+in_place (One ∷ items) [] h = absurd (false≢true h)
+in_place (Among set ∷ items) [] h = absurd (false≢true h)
+in_place (Byte c ∷ items) (b ∷ text) h = let both = and_parts (takes (Byte c) b) (fits items text) h in with_item (Byte c) items b text refl both.0 (in_place items text both.1)
+in_place (One ∷ items) (b ∷ text) h = with_item One items b text refl refl (in_place items text h)
+in_place (Among set ∷ items) (b ∷ text) h = let both = and_parts (takes (Among set) b) (fits items text) h in with_item (Among set) items b text refl both.0 (in_place items text both.1)
 
 -- a byte of a range is one of the text's
 byte_taken : (first last b : ℕ) (item : Item) → is_byte_in first last item ≡ true → takes item b ≡ true → (nat_le first b && nat_le b last) ≡ true
@@ -43,7 +43,7 @@ byte_taken first last b One h t = absurd (false≢true h)
 byte_taken first last b Many h t = absurd (false≢true h)
 byte_taken first last b (Among set) h t = absurd (false≢true h)
 
-small_first : (size : ℕ) (items : List Item) (text : List ℕ) → Stand items text → list_any is_small_digit (take size items) ≡ true → has_small 0 size text ≡ true
+small_first : (size : ℕ) (items : List Item) (text : List ℕ) → InPlace items text → list_any is_small_digit (take size items) ≡ true → has_small 0 size text ≡ true
 small_first zero items text s h = absurd (false≢true h)
 small_first (suc size) [] text s h = absurd (false≢true h)
 small_first (suc size) (item ∷ items) [] s h = absurd s
@@ -53,45 +53,45 @@ small_first (suc size) (item ∷ items) (b ∷ text) s h = by (or_cases (is_smal
     by (inl e) more = or_left (nat_le 97 b && nat_le b 102) (has_small 0 size text) (byte_taken 97 102 b item e s.0)
     by (inr e) more = or_right (nat_le 97 b && nat_le b 102) (has_small 0 size text) (more e)
 
-small_behind : (start size : ℕ) (items : List Item) (text : List ℕ) → Stand items text → has_small_digit start size items ≡ true → has_small start size text ≡ true
-small_behind zero size items text s h = small_first size items text s h
-small_behind (suc start) zero items text s h = absurd (false≢true h)
-small_behind (suc start) (suc size) [] text s h = absurd (false≢true h)
-small_behind (suc start) (suc size) (item ∷ items) [] s h = absurd s
-small_behind (suc start) (suc size) (item ∷ items) (b ∷ text) s h = small_behind start (suc size) items text s.1 h
+small_after : (start size : ℕ) (items : List Item) (text : List ℕ) → InPlace items text → has_small_digit start size items ≡ true → has_small start size text ≡ true
+small_after zero size items text s h = small_first size items text s h
+small_after (suc start) zero items text s h = absurd (false≢true h)
+small_after (suc start) (suc size) [] text s h = absurd (false≢true h)
+small_after (suc start) (suc size) (item ∷ items) [] s h = absurd s
+small_after (suc start) (suc size) (item ∷ items) (b ∷ text) s h = small_after start (suc size) items text s.1 h
 
 same_byte : (c b : ℕ) → (nat_le c b && nat_le b c) ≡ true → (c == b) ≡ true
 same_byte c b h = let both = and_parts (nat_le c b) (nat_le b c) h in eq-eqb c b (omega (arith, leb-true c b both.0, leb-true b c both.1))
 
-begins : (front : List ℕ) (items : List Item) (text : List ℕ) → Stand items text → length front ≤ length items → list_all (λ pair. is_byte_in pair.0 pair.0 pair.1) (zip front items) ≡ true → starts_with nat_eq text front ≡ true
+begins : (prefix : List ℕ) (items : List Item) (text : List ℕ) → InPlace items text → length prefix ≤ length items → list_all (λ pair. is_byte_in pair.0 pair.0 pair.1) (zip prefix items) ≡ true → starts_with nat_eq text prefix ≡ true
 begins [] items text s l h = refl
-begins (c ∷ front) [] text s l h =
+begins (c ∷ prefix) [] text s l h =
     let none : ⊥ = omega (arith, l) in
     absurd none
-begins (c ∷ front) (item ∷ items) [] s l h = absurd s
-begins (c ∷ front) (item ∷ items) (b ∷ text) s l h =
-    let both = and_parts (is_byte_in c c item) (list_all (λ pair. is_byte_in pair.0 pair.0 pair.1) (zip front items)) h in
-    and_from (c == b) (starts_with nat_eq text front) (same_byte c b (byte_taken c c b item both.0 s.0)) (begins front items text s.1 (omega (arith, l)) both.1)
+begins (c ∷ prefix) (item ∷ items) [] s l h = absurd s
+begins (c ∷ prefix) (item ∷ items) (b ∷ text) s l h =
+    let both = and_parts (is_byte_in c c item) (list_all (λ pair. is_byte_in pair.0 pair.0 pair.1) (zip prefix items)) h in
+    and_from (c == b) (starts_with nat_eq text prefix) (same_byte c b (byte_taken c c b item both.0 s.0)) (begins prefix items text s.1 (omega (arith, l)) both.1)
 
-begins_so : (front : List ℕ) (items : List Item) (text : List ℕ) → Stand items text → begin_with front items ≡ true → starts_with nat_eq text front ≡ true
-begins_so front items text s h =
-    let both = and_parts (nat_le (length front) (length items)) (list_all (λ pair. is_byte_in pair.0 pair.0 pair.1) (zip front items)) h in
-    begins front items text s (leb-true (length front) (length items) both.0) both.1
+begins_so : (prefix : List ℕ) (items : List Item) (text : List ℕ) → InPlace items text → begin_with prefix items ≡ true → starts_with nat_eq text prefix ≡ true
+begins_so prefix items text s h =
+    let both = and_parts (nat_le (length prefix) (length items)) (list_all (λ pair. is_byte_in pair.0 pair.0 pair.1) (zip prefix items)) h in
+    begins prefix items text s (leb-true (length prefix) (length items) both.0) both.1
 
 -- a device's numbers, after what comes before them
-numbers : (front : List ℕ) (size second : ℕ) (items : List Item) (text : List ℕ) → Stand items text
-    → (begin_with front items && (has_small_digit 5 size items || has_small_digit second size items)) ≡ true
-    → (starts_with nat_eq text front && (has_small 5 size text || has_small second size text)) ≡ true
-numbers front size second items text s h =
-    let both = and_parts (begin_with front items) (has_small_digit 5 size items || has_small_digit second size items) h in
-    and_from (starts_with nat_eq text front) _ (begins_so front items text s both.0) (by (or_cases (has_small_digit 5 size items) (has_small_digit second size items) both.1))
+numbers : (prefix : List ℕ) (size second : ℕ) (items : List Item) (text : List ℕ) → InPlace items text
+    → (begin_with prefix items && (has_small_digit 5 size items || has_small_digit second size items)) ≡ true
+    → (starts_with nat_eq text prefix && (has_small 5 size text || has_small second size text)) ≡ true
+numbers prefix size second items text s h =
+    let both = and_parts (begin_with prefix items) (has_small_digit 5 size items || has_small_digit second size items) h in
+    and_from (starts_with nat_eq text prefix) _ (begins_so prefix items text s both.0) (by (or_cases (has_small_digit 5 size items) (has_small_digit second size items) both.1))
   where
     by : (has_small_digit 5 size items ≡ true) ⊎ (has_small_digit second size items ≡ true) → (has_small 5 size text || has_small second size text) ≡ true
-    by (inl e) = or_left (has_small 5 size text) (has_small second size text) (small_behind 5 size items text s e)
-    by (inr e) = or_right (has_small 5 size text) (has_small second size text) (small_behind second size items text s e)
+    by (inl e) = or_left (has_small 5 size text) (has_small second size text) (small_after 5 size items text s e)
+    by (inr e) = or_right (has_small 5 size text) (has_small second size text) (small_after second size items text s e)
 
-alias_told : (items : List Item) (text : List ℕ) → Stand items text → is_small_alias items ≡ true → is_small_text text ≡ true
-alias_told items text s h =
+alias_reported : (items : List Item) (text : List ℕ) → InPlace items text → is_small_alias items ≡ true → is_small_text text ≡ true
+alias_reported items text s h =
     by (or_cases
     (begin_with (codes "usb:v") items && (has_small_digit 5 4 items || has_small_digit 10 4 items))
     (begin_with (codes "pci:v") items && (has_small_digit 5 8 items || has_small_digit 14 8 items)) h)
@@ -107,4 +107,4 @@ alias_told items text s h =
     by (inr e) = or_right usb pci (numbers (codes "pci:v") 8 14 items text s e)
 
 pub aliases_kept : (items : List Item) (text : List ℕ) → is_small_alias (items_in_place items) ≡ true → fits items text ≡ true → is_small_text text ≡ true
-aliases_kept items text h e = alias_told (items_in_place items) text (stand items text e) h
+aliases_kept items text h e = alias_reported (items_in_place items) text (in_place items text e) h

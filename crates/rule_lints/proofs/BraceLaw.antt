@@ -5,7 +5,7 @@ use Rattle.std.specs.List.{position_or_len}
 use Rattle.text_bytes.specs.Names.{close_brace, comma, open_brace}
 use Rattle.rule_lints.specs.Laws.{HasBraces}
 use Rattle.rule_lints.specs.Patterns.{has_braces}
-use Rattle.rule_lints.specs.Texts.{behind_first as behind, has_byte}
+use Rattle.rule_lints.specs.Texts.{has_byte, rest_after_first as following}
 
 passed : (c : Bool) (n b : ℕ) (text : List ℕ) → drop (cond (not c) (1 + n) 0 + 1) (b ∷ text) ≡ cond c text (drop (n + 1) text)
 passed true n b text = refl
@@ -13,7 +13,7 @@ passed false n b text =
     let e : 1 + n + 1 ≡ suc (n + 1) = omega arith in
     ap (λ (k : ℕ). drop k (b ∷ text)) e
 
-step : (byte b : ℕ) (text : List ℕ) → behind byte (b ∷ text) ≡ cond (b == byte) text (behind byte text)
+step : (byte b : ℕ) (text : List ℕ) → following byte (b ∷ text) ≡ cond (b == byte) text (following byte text)
 step byte b text = passed (b == byte) (position_or_len (λ x. x == byte) text) b text
 
 -- a text in two parts with a byte between them
@@ -22,22 +22,22 @@ record Parted (byte : ℕ) (text : List ℕ) : Type 0 where
   after : List ℕ
   whole : text ≡ before ++ byte ∷ after
 
--- where something follows the first such byte, the byte is in the text, and it is after that
+-- if something follows the first such byte, the byte is in the text, and the rest is after it
 record Opened (byte : ℕ) (text : List ℕ) : Type 0 where
   before : List ℕ
-  whole : text ≡ before ++ byte ∷ behind byte text
+  whole : text ≡ before ++ byte ∷ following byte text
 
-opened : (byte other : ℕ) (text : List ℕ) → has_byte other (behind byte text) ≡ true → Opened byte text
+opened : (byte other : ℕ) (text : List ℕ) → has_byte other (following byte text) ≡ true → Opened byte text
 opened byte other [] h = absurd (false≢true h)
 opened byte other (b ∷ text) h = by (b == byte) refl (λ g. opened byte other text g)
   where
-    by : (c : Bool) → (b == byte) ≡ c → (has_byte other (behind byte text) ≡ true → Opened byte text) → Opened byte (b ∷ text)
+    by : (c : Bool) → (b == byte) ≡ c → (has_byte other (following byte text) ≡ true → Opened byte text) → Opened byte (b ∷ text)
     by true e more = record {
       before = [];
-      whole = ap (λ (x : ℕ). x ∷ text) (eqb-true b byte e) ∙ ap (λ (t : List ℕ). byte ∷ t) (sym (step byte b text ∙ ap (λ (c : Bool). cond c text (behind byte text)) e));
+      whole = ap (λ (x : ℕ). x ∷ text) (eqb-true b byte e) ∙ ap (λ (t : List ℕ). byte ∷ t) (sym (step byte b text ∙ ap (λ (c : Bool). cond c text (following byte text)) e));
     }
     by false e more =
-        let same = step byte b text ∙ ap (λ (c : Bool). cond c text (behind byte text)) e in
+        let same = step byte b text ∙ ap (λ (c : Bool). cond c text (following byte text)) e in
         let rest = more (ap (has_byte other) (sym same) ∙ h) in
         record {
           before = b ∷ rest.before;
@@ -55,20 +55,20 @@ parted byte (b ∷ text) h = by (or_cases (b == byte) (has_byte byte text) h) (�
         record { before = b ∷ rest.before; after = rest.after; whole = ap (λ (t : List ℕ). b ∷ t) rest.whole }
 
 -- what has a byte in it has one
-has_it : (byte other : ℕ) (text : List ℕ) → has_byte byte (behind other text) ≡ true → has_byte other text ≡ true
+has_it : (byte other : ℕ) (text : List ℕ) → has_byte byte (following other text) ≡ true → has_byte other text ≡ true
 has_it byte other [] h = absurd (false≢true h)
 has_it byte other (b ∷ text) h = by (b == other) refl (λ g. has_it byte other text g)
   where
-    by : (c : Bool) → (b == other) ≡ c → (has_byte byte (behind other text) ≡ true → has_byte other text ≡ true) → ((b == other) || has_byte other text) ≡ true
+    by : (c : Bool) → (b == other) ≡ c → (has_byte byte (following other text) ≡ true → has_byte other text ≡ true) → ((b == other) || has_byte other text) ≡ true
     by true e more = or_left (b == other) (has_byte other text) e
     by false e more =
         or_right (b == other) (has_byte other text)
-        (more (ap (has_byte byte) (sym (step other b text ∙ ap (λ (c : Bool). cond c text (behind other text)) e)) ∙ h))
+        (more (ap (has_byte byte) (sym (step other b text ∙ ap (λ (c : Bool). cond c text (following other text)) e)) ∙ h))
 
 from_signs : (text : List ℕ) → has_braces text ≡ true → HasBraces text
 from_signs text h =
-    let inner = behind open_brace text in
-    let last = behind comma inner in
+    let inner = following open_brace text in
+    let last = following comma inner in
     let outer = opened open_brace comma text (has_it close_brace comma inner h) in
     let middle = opened comma close_brace inner h in
     let end = parted close_brace last h in
@@ -76,41 +76,41 @@ from_signs text h =
       before = outer.before;
       first = middle.before;
       second = end.before;
-      behind = end.after;
+      following = end.after;
       whole = outer.whole ∙ ap (λ (t : List ℕ). outer.before ++ open_brace ∷ t) (middle.whole ∙ ap (λ (t : List ℕ). middle.before ++ comma ∷ t) end.whole);
     }
 
 -- what follows some such byte follows the first one
 record Kept (byte : ℕ) (text rest : List ℕ) : Type 0 where
-  front : List ℕ
-  whole : behind byte text ≡ front ++ rest
+  prefix : List ℕ
+  whole : following byte text ≡ prefix ++ rest
 
 kept : (byte : ℕ) (before rest : List ℕ) → Kept byte (before ++ byte ∷ rest) rest
-kept byte [] rest = record { front = []; whole = step byte byte rest ∙ ap (λ (c : Bool). cond c rest (behind byte rest)) (eq-eqb byte byte refl) }
+kept byte [] rest = record { prefix = []; whole = step byte byte rest ∙ ap (λ (c : Bool). cond c rest (following byte rest)) (eq-eqb byte byte refl) }
 kept byte (b ∷ before) rest = by (b == byte) refl (kept byte before rest)
   where
-    same : (c : Bool) → (b == byte) ≡ c → behind byte (b ∷ (before ++ byte ∷ rest)) ≡ cond c (before ++ byte ∷ rest) (behind byte (before ++ byte ∷ rest))
-    same c e = step byte b (before ++ byte ∷ rest) ∙ ap (λ (c : Bool). cond c (before ++ byte ∷ rest) (behind byte (before ++ byte ∷ rest))) e
+    same : (c : Bool) → (b == byte) ≡ c → following byte (b ∷ (before ++ byte ∷ rest)) ≡ cond c (before ++ byte ∷ rest) (following byte (before ++ byte ∷ rest))
+    same c e = step byte b (before ++ byte ∷ rest) ∙ ap (λ (c : Bool). cond c (before ++ byte ∷ rest) (following byte (before ++ byte ∷ rest))) e
 
     by : (c : Bool) → (b == byte) ≡ c → Kept byte (before ++ byte ∷ rest) rest → Kept byte (b ∷ (before ++ byte ∷ rest)) rest
-    by true e more = record { front = before ++ byte ∷ []; whole = same true e ∙ sym (append_assoc before (byte ∷ []) rest) }
-    by false e more = record { front = more.front; whole = same false e ∙ more.whole }
+    by true e more = record { prefix = before ++ byte ∷ []; whole = same true e ∙ sym (append_assoc before (byte ∷ []) rest) }
+    by false e more = record { prefix = more.prefix; whole = same false e ∙ more.whole }
 
-has_behind : (byte : ℕ) (before rest : List ℕ) → has_byte byte (before ++ byte ∷ rest) ≡ true
-has_behind byte [] rest = or_left (byte == byte) (has_byte byte rest) (eq-eqb byte byte refl)
-has_behind byte (b ∷ before) rest = or_right (b == byte) (has_byte byte (before ++ byte ∷ rest)) (has_behind byte before rest)
+has_after : (byte : ℕ) (before rest : List ℕ) → has_byte byte (before ++ byte ∷ rest) ≡ true
+has_after byte [] rest = or_left (byte == byte) (has_byte byte rest) (eq-eqb byte byte refl)
+has_after byte (b ∷ before) rest = or_right (b == byte) (has_byte byte (before ++ byte ∷ rest)) (has_after byte before rest)
 
 from_text : (text : List ℕ) → HasBraces text → has_braces text ≡ true
 from_text text t =
-    let last = t.second ++ close_brace ∷ t.behind in
+    let last = t.second ++ close_brace ∷ t.following in
     let inner = t.first ++ comma ∷ last in
     let outer = kept open_brace t.before inner in
-    let front = outer.front ++ t.first in
-    let joined = ap (behind open_brace) t.whole ∙ outer.whole ∙ sym (append_assoc outer.front t.first (comma ∷ last)) in
-    let middle = kept comma front last in
-    ap (λ (x : List ℕ). has_byte close_brace (behind comma x)) joined
-    ∙ ap (has_byte close_brace) (middle.whole ∙ sym (append_assoc middle.front t.second (close_brace ∷ t.behind)))
-    ∙ has_behind close_brace (middle.front ++ t.second) t.behind
+    let prefix = outer.prefix ++ t.first in
+    let joined = ap (following open_brace) t.whole ∙ outer.whole ∙ sym (append_assoc outer.prefix t.first (comma ∷ last)) in
+    let middle = kept comma prefix last in
+    ap (λ (x : List ℕ). has_byte close_brace (following comma x)) joined
+    ∙ ap (has_byte close_brace) (middle.whole ∙ sym (append_assoc middle.prefix t.second (close_brace ∷ t.following)))
+    ∙ has_after close_brace (middle.prefix ++ t.second) t.following
 
 pub braces : (text : List ℕ) → (has_braces text ≡ true) ↔ HasBraces text
 braces text = (from_signs text, from_text text)

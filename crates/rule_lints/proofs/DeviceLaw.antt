@@ -44,9 +44,9 @@ some_is_none : (w : WrittenPart) → Some w ≡ None → ⊥
 some_is_none w e = subst IsThere e tt
 
 -- after a token of a group, each is of that or of none
-all_behind : (group : Group) (tokens : List WrittenPart) → stranger_by (Some group) tokens ≡ None → NoneOther group tokens
-all_behind group [] h = tt
-all_behind group (w ∷ tokens) h = by (is_other group (group_of w)) refl h (λ g. all_behind group tokens g)
+all_after : (group : Group) (tokens : List WrittenPart) → stranger_by (Some group) tokens ≡ None → NoneOther group tokens
+all_after group [] h = tt
+all_after group (w ∷ tokens) h = by (is_other group (group_of w)) refl h (λ g. all_after group tokens g)
   where
     by : (b : Bool) → is_other group (group_of w) ≡ b → cond b (Some w) (stranger_by (Some group) tokens) ≡ None → (stranger_by (Some group) tokens ≡ None → NoneOther group tokens) → NoneOther group (w ∷ tokens)
     by true e g more = absurd (some_is_none w g)
@@ -60,26 +60,26 @@ all_one (w ∷ tokens) h = by (group_of w) refl h (λ g. all_one tokens g)
     by None e g more =
         let rest = more g in
         record { group = rest.group; none_other = (ap (is_other rest.group) e, rest.none_other) }
-    by (Some group) e g more = record { group = group; none_other = (ap (is_other group) e ∙ own group, all_behind group tokens g) }
+    by (Some group) e g more = record { group = group; none_other = (ap (is_other group) e ∙ own group, all_after group tokens g) }
 
-none_behind : (group : Group) (tokens : List WrittenPart) → NoneOther group tokens → stranger_by (Some group) tokens ≡ None
-none_behind group [] h = refl
-none_behind group (w ∷ tokens) h = ap (λ (b : Bool). cond b (Some w) (stranger_by (Some group) tokens)) h.0 ∙ none_behind group tokens h.1
+none_following : (group : Group) (tokens : List WrittenPart) → NoneOther group tokens → stranger_by (Some group) tokens ≡ None
+none_following group [] h = refl
+none_following group (w ∷ tokens) h = ap (λ (b : Bool). cond b (Some w) (stranger_by (Some group) tokens)) h.0 ∙ none_following group tokens h.1
 
-none_told : (group : Group) (tokens : List WrittenPart) → NoneOther group tokens → stranger_by None tokens ≡ None
-none_told group [] h = refl
-none_told group (w ∷ tokens) h = by (group_of w) refl (none_told group tokens h.1)
+none_reported : (group : Group) (tokens : List WrittenPart) → NoneOther group tokens → stranger_by None tokens ≡ None
+none_reported group [] h = refl
+none_reported group (w ∷ tokens) h = by (group_of w) refl (none_reported group tokens h.1)
   where
     by : (o : Option Group) → group_of w ≡ o → stranger_by None tokens ≡ None → stranger_by (group_of w) tokens ≡ None
     by None e more = ap (λ (o : Option Group). stranger_by o tokens) e ∙ more
     by (Some other) e more =
         ap (λ (o : Option Group). stranger_by o tokens) (e ∙ ap Some (sym (one group other (ap (is_other group) (sym e) ∙ h.0))))
-        ∙ none_behind group tokens h.1
+        ∙ none_following group tokens h.1
 
 pub strangers : (tokens : List WrittenPart) → (stranger tokens ≡ None) ↔ AreOfOneGroup tokens
-strangers tokens = (all_one tokens, λ g. none_told g.group tokens g.none_other)
+strangers tokens = (all_one tokens, λ g. none_reported g.group tokens g.none_other)
 
--- a token, or another where there is none
+-- a token, or another if there is none
 abbrev found_or : WrittenPart → Option WrittenPart → WrittenPart
 found_or w None = w
 found_or w (Some v) = v
@@ -90,8 +90,8 @@ none_is_some w e = some_is_none w (sym e)
 -- the first token of another group than this
 record First (group : Group) (tokens : List WrittenPart) (w : WrittenPart) : Type 0 where
   before : List WrittenPart
-  behind : List WrittenPart
-  whole : tokens ≡ before ++ w ∷ behind
+  following : List WrittenPart
+  whole : tokens ≡ before ++ w ∷ following
   none_other : NoneOther group before
   other : is_other group (group_of w) ≡ true
 
@@ -102,10 +102,10 @@ first_of group (v ∷ tokens) w h = by (is_other group (group_of v)) refl h (λ 
     by : (b : Bool) → is_other group (group_of v) ≡ b → cond b (Some v) (stranger_by (Some group) tokens) ≡ Some w → (stranger_by (Some group) tokens ≡ Some w → First group tokens w) → First group (v ∷ tokens) w
     by true e g more =
         let same : v ≡ w = ap (found_or v) g in
-        record { before = []; behind = tokens; whole = ap (λ (x : WrittenPart). x ∷ tokens) same; none_other = tt; other = ap (λ (x : WrittenPart). is_other group (group_of x)) (sym same) ∙ e }
+        record { before = []; following = tokens; whole = ap (λ (x : WrittenPart). x ∷ tokens) same; none_other = tt; other = ap (λ (x : WrittenPart). is_other group (group_of x)) (sym same) ∙ e }
     by false e g more =
         let rest = more g in
-        record { before = v ∷ rest.before; behind = rest.behind; whole = ap (λ (ts : List WrittenPart). v ∷ ts) rest.whole; none_other = (e, rest.none_other); other = rest.other }
+        record { before = v ∷ rest.before; following = rest.following; whole = ap (λ (ts : List WrittenPart). v ∷ ts) rest.whole; none_other = (e, rest.none_other); other = rest.other }
 
 pub stranger_found : (tokens : List WrittenPart) (w : WrittenPart) → stranger_by None tokens ≡ Some w → IsStranger tokens w
 stranger_found [] w h = absurd (none_is_some w h)
@@ -117,7 +117,7 @@ stranger_found (v ∷ tokens) w h = by (group_of v) refl h (λ g. stranger_found
         record {
           group = rest.group;
           before = v ∷ rest.before;
-          behind = rest.behind;
+          following = rest.following;
           whole = ap (λ (ts : List WrittenPart). v ∷ ts) rest.whole;
           some = or_right (is_some (group_of v)) (list_any (λ x. is_some (group_of x)) rest.before) rest.some;
           none_other = (ap (is_other rest.group) e, rest.none_other);
@@ -128,7 +128,7 @@ stranger_found (v ∷ tokens) w h = by (group_of v) refl h (λ g. stranger_found
         record {
           group = group;
           before = v ∷ rest.before;
-          behind = rest.behind;
+          following = rest.following;
           whole = ap (λ (ts : List WrittenPart). v ∷ ts) rest.whole;
           some = or_left (is_some (group_of v)) (list_any (λ x. is_some (group_of x)) rest.before) (ap (λ (o : Option Group). is_some o) e);
           none_other = (ap (is_other group) e ∙ own group, rest.none_other);

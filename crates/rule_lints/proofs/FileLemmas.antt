@@ -14,11 +14,11 @@ use Rattle.rule_parts.specs.Values.{finding}
 use Rattle.rule_parts.specs.declared.finding.Finding.{Finding}
 use Rattle.rule_core.specs.Drafts.{Draft, draft, draft_of, draft_with, items_as, most_bytes, parts_of, tokens_of}
 use Rattle.rule_core.specs.Effects.{lacks_effect}
-use Rattle.rule_core.specs.Ends.{given_up}
+use Rattle.rule_core.specs.Ends.{abandoned}
 use Rattle.rule_places.specs.Kept.{kept_lines}
 use Rattle.rule_places.specs.declared.kept.KeptLine.{KeptLine}
 use Rattle.rule_lints.specs.Compared.{Valued, assigned_value, meant_spots, meant_to_compare}
-use Rattle.rule_lints.specs.FileLaws.{ImportsFurtherDown, IsImportedBelow, NoneBehindMatches, NoneUncompared, ReachedBehindLostJumps, ReachedBehindMatches, ReachedByLabels, told_in, told_of}
+use Rattle.rule_lints.specs.FileLaws.{ImportsFurtherDown, IsImportedBelow, NoneAfterMatches, NoneUncompared, ReachedAfterLostJumps, ReachedAfterMatches, ReachedByLabels, reported_for, reported_in}
 use Rattle.rule_lints.specs.FileLints.{file_spots, lints_of, placed_lint, placed_lints}
 use Rattle.rule_lints.specs.FileRules.{LandedRule, file_rules, goto_of, landed_rules, rules_unless, tokens_of_rule, with_parts}
 use Rattle.rule_lints.specs.Imported.{any_property, assigned_in, below_spots, families, given_by, given_names, has_family, has_property, imported_by, imported_in, imported_names, is_given, is_of, perhaps_in, wanted_in}
@@ -28,7 +28,7 @@ use Rattle.rule_lints.specs.Written.{WrittenPart}
 use Rattle.rule_lints.specs.declared.file_lints.FileSpot.{FileSpot}
 use Rattle.rule_lints.specs.declared.spot.LintSpot.{LintSpot}
 
--- a line is a rule here where it is read as one
+-- a line is a rule here if it is read as one
 abbrev drafted : Profile → List ℕ → Result (List Part) Finding → Bool → Result Draft Finding
 drafted by line (Ok parts) idle = cond idle (Err (finding RuleWithoutEffect [])) (Ok (draft by line parts))
 drafted by line (Err wrong) idle = Err wrong
@@ -86,31 +86,31 @@ within_both a b c d f g x h =
     among_append c d x
     ∙ or_by (is_among a x) (is_among b x) (is_among c x || is_among d x) (λ e. or_left (is_among c x) (is_among d x) (f x e)) (λ e. or_right (is_among c x) (is_among d x) (g x e)) (sym (among_append a b x) ∙ h)
 
-within_turned : (a b c d : List Text) → Within a c → Within b d → Within (a ++ b) (d ++ c)
-within_turned a b c d f g x h =
+within_reversed : (a b c d : List Text) → Within a c → Within b d → Within (a ++ b) (d ++ c)
+within_reversed a b c d f g x h =
     among_append d c x
     ∙ or_by (is_among a x) (is_among b x) (is_among d x || is_among c x) (λ e. or_right (is_among d x) (is_among c x) (f x e)) (λ e. or_left (is_among d x) (is_among c x) (g x e)) (sym (among_append a b x) ∙ h)
 
-within_front : (a b : List Text) → Within a (a ++ b)
-within_front a b x h = among_append a b x ∙ or_left (is_among a x) (is_among b x) h
+within_prefix : (a b : List Text) → Within a (a ++ b)
+within_prefix a b x h = among_append a b x ∙ or_left (is_among a x) (is_among b x) h
 
 -- what tokens import they give
 imports_given : (tokens : List WrittenPart) → Within (imported_by tokens) (given_by tokens)
 imports_given [] x h = h
 imports_given (w ∷ tokens) x h =
     let others = perhaps_in w.part ++ assigned_in w.part in
-    within_both (imported_in w.part) (imported_by tokens) (imported_in w.part ++ others) (given_by tokens) (within_front (imported_in w.part) others) (imports_given tokens) x h
+    within_both (imported_in w.part) (imported_by tokens) (imported_in w.part ++ others) (given_by tokens) (within_prefix (imported_in w.part) others) (imports_given tokens) x h
 
 -- what rules import they give, the nearest first
 above_given : (above : List LandedRule) → Within (imported_names (reverse above)) (given_names above)
 above_given [] x h = h
 above_given (r ∷ above) x h =
-    let turned : imported_names (reverse (r ∷ above)) ≡ imported_names (reverse above) ++ imported_names (r ∷ []) =
+    let reversed : imported_names (reverse (r ∷ above)) ≡ imported_names (reverse above) ++ imported_names (r ∷ []) =
     ap imported_names (reverse-append (r ∷ []) above) ∙ flat_map-append (λ (s : LandedRule). imported_by s.rule.tokens) (reverse above) (r ∷ []) in
     let own : Within (imported_names (r ∷ [])) (given_by r.rule.tokens) =
     λ y k. or_by (is_among (imported_by r.rule.tokens) y) false (is_among (given_by r.rule.tokens) y) (imports_given r.rule.tokens y) (λ e. absurd (cc)) (sym (among_append (imported_by r.rule.tokens) [] y) ∙ k) in
-    within_turned (imported_names (reverse above)) (imported_names (r ∷ [])) (given_names above) (given_by r.rule.tokens) (above_given above) own x
-    (ap (λ n. is_among n x) (sym turned) ∙ h)
+    within_reversed (imported_names (reverse above)) (imported_names (r ∷ [])) (given_names above) (given_by r.rule.tokens) (above_given above) own x
+    (ap (λ n. is_among n x) (sym reversed) ∙ h)
 
 -- a property of two lists is one of either
 family_by : (a b : List Text) (rows : List (Text × Text)) (name : Text) → has_family (a ++ b) rows name ≡ true → (has_family a rows name || has_family b rows name) ≡ true
@@ -183,31 +183,31 @@ imported_here above r below name h e =
     (property_within (imported_names (reverse above)) (given_names above) (above_given above) name) e
     (property_by (imported_names (reverse above)) (imported_names (r ∷ below)) name (ap (λ n. has_property n name) (sym cut) ∙ h))
 
-both_hold : (a b : Bool) (x told : LintSpot) → cond (a && not b) (x ∷ []) [] ≡ told ∷ [] → (a ≡ true) × (b ≡ false) × (x ≡ told)
-both_hold true false x told e = (refl, refl, cc)
-both_hold true true x told e = absurd (cc)
-both_hold false b x told e = absurd (cc)
+both_hold : (a b : Bool) (x reported : LintSpot) → cond (a && not b) (x ∷ []) [] ≡ reported ∷ [] → (a ≡ true) × (b ≡ false) × (x ≡ reported)
+both_hold true false x reported e = (refl, refl, cc)
+both_hold true true x reported e = absurd (cc)
+both_hold false b x reported e = absurd (cc)
 
-wanted_here : (above : List LandedRule) (r : LandedRule) (below : List LandedRule) (w : WrittenPart) (wanted : Option Text) (told : LintSpot)
-    → below_spots (imported_names (reverse above ++ r ∷ below)) (given_names above) w wanted ≡ told ∷ [] → IsImportedBelow above r below told.word
-wanted_here above r below w None told e = absurd (cc)
-wanted_here above r below w (Some name) told e =
-    let k = both_hold (has_property (imported_names (reverse above ++ r ∷ below)) name) (is_given (given_names above) name) _ told e in
+wanted_here : (above : List LandedRule) (r : LandedRule) (below : List LandedRule) (w : WrittenPart) (wanted : Option Text) (reported : LintSpot)
+    → below_spots (imported_names (reverse above ++ r ∷ below)) (given_names above) w wanted ≡ reported ∷ [] → IsImportedBelow above r below reported.word
+wanted_here above r below w None reported e = absurd (cc)
+wanted_here above r below w (Some name) reported e =
+    let k = both_hold (has_property (imported_names (reverse above ++ r ∷ below)) name) (is_given (given_names above) name) _ reported e in
     let none = or_neither (is_among (given_names above) any_property) (has_property (given_names above) name) k.1 in
-    let word : name ≡ told.word = ap (λ (s : LintSpot). s.word) k.2 in
+    let word : name ≡ reported.word = ap (λ (s : LintSpot). s.word) k.2 in
     record {
       here = ap (λ (n : Text). has_property (imported_names (r ∷ below)) n) (sym word) ∙ imported_here above r below name k.0 none;
       before = ap (λ (n : Text). is_given (given_names above) n) (sym word) ∙ k.1;
     }
 
 pub further_down : ImportsFurtherDown
-further_down above r below w told e = wanted_here above r below w (wanted_in w.part) told e
+further_down above r below w reported e = wanted_here above r below w (wanted_in w.part) reported e
 
-pub none_behind : NoneBehindMatches
-none_behind compared [] h = refl
-none_behind compared (w ∷ tokens) h =
+pub none_following : NoneAfterMatches
+none_following compared [] h = refl
+none_following compared (w ∷ tokens) h =
     let none : list_any (λ (x : WrittenPart). is_match x.part) tokens ≡ false = or_neither (is_match w.part) (list_any (λ (x : WrittenPart). is_match x.part) tokens) h in
-    ap (λ b. cond b (meant_spots compared w (assigned_value w.part)) [] ++ meant_to_compare compared tokens) none ∙ none_behind compared tokens none
+    ap (λ b. cond b (meant_spots compared w (assigned_value w.part)) [] ++ meant_to_compare compared tokens) none ∙ none_following compared tokens none
 
 spot_uncompared : (b : Bool) (w : WrittenPart) (given : Option Valued) → cond b (meant_spots [] w given) [] ≡ []
 spot_uncompared true w None = refl
@@ -219,14 +219,14 @@ none_uncompared [] = refl
 none_uncompared (w ∷ tokens) =
     ap (λ x. x ++ meant_to_compare [] tokens) (spot_uncompared (list_any (λ (x : WrittenPart). is_match x.part) tokens) w (assigned_value w.part)) ∙ none_uncompared tokens
 
-goes_on : (nearest r : LandedRule) → may_go_on nearest ≡ true → never_reached (jumps_to nearest) r ≡ []
-goes_on nearest r h = ap (λ b. never_reached (cond b None (goto_of nearest.rule.tokens)) r) h
+proceeds : (nearest r : LandedRule) → may_go_on nearest ≡ true → never_reached (jumps_to nearest) r ≡ []
+proceeds nearest r h = ap (λ b. never_reached (cond b None (goto_of nearest.rule.tokens)) r) h
 
-pub behind_matches : ReachedBehindMatches
-behind_matches nearest farther r h = goes_on nearest r (or_right nearest.landing.lost (list_any (λ w. may_end_at w.part) nearest.rule.tokens) h)
+pub after_matches : ReachedAfterMatches
+after_matches nearest farther r h = proceeds nearest r (or_right nearest.landing.lost (list_any (λ w. may_end_at w.part) nearest.rule.tokens) h)
 
-pub behind_lost : ReachedBehindLostJumps
-behind_lost nearest farther r h = goes_on nearest r (or_left nearest.landing.lost (list_any (λ w. may_end_at w.part) nearest.rule.tokens) h)
+pub after_lost : ReachedAfterLostJumps
+after_lost nearest farther r h = proceeds nearest r (or_left nearest.landing.lost (list_any (λ w. may_end_at w.part) nearest.rule.tokens) h)
 
 labelled : (above : Option Text) (r : LandedRule) → is_labelled r ≡ true → never_reached above r ≡ []
 labelled None r h = refl
@@ -235,14 +235,14 @@ labelled (Some name) r h = rw h refl
 pub by_labels : ReachedByLabels
 by_labels above r h = labelled (jumps_above above) r h
 
-told_same : (kept : List KeptLine) (spots : List FileSpot) → map told_in (map (placed_lint kept) spots) ≡ map told_of spots
-told_same kept [] = refl
-told_same kept (s ∷ spots) = ap (λ x. told_of s ∷ x) (told_same kept spots)
+reported_same : (kept : List KeptLine) (spots : List FileSpot) → map reported_in (map (placed_lint kept) spots) ≡ map reported_for spots
+reported_same kept [] = refl
+reported_same kept (s ∷ spots) = ap (λ x. reported_for s ∷ x) (reported_same kept spots)
 
-pub lints_of_rules : (by : Profile) (file : SourceFile) → map told_in (placed_lints by file) ≡ map told_of (file_spots (landed_rules by (file_rules by file.bytes)))
+pub lints_of_rules : (by : Profile) (file : SourceFile) → map reported_in (placed_lints by file) ≡ map reported_for (file_spots (landed_rules by (file_rules by file.bytes)))
 unfolding placed_lints
-lints_of_rules by file = told_same (kept_lines file.bytes) (file_spots (landed_rules by (file_rules by file.bytes)))
+lints_of_rules by file = reported_same (kept_lines file.bytes) (file_spots (landed_rules by (file_rules by file.bytes)))
 
-pub none_given_up : (by : Profile) (file : SourceFile) (number : ℕ) → given_up by file.bytes ≡ Some number → placed_lints by file ≡ []
+pub none_abandoned : (by : Profile) (file : SourceFile) (number : ℕ) → abandoned by file.bytes ≡ Some number → placed_lints by file ≡ []
 unfolding placed_lints
-none_given_up by file number e = ap (λ (o : Option ℕ). lints_of by file.bytes (rules_unless by file.bytes o)) e
+none_abandoned by file number e = ap (λ (o : Option ℕ). lints_of by file.bytes (rules_unless by file.bytes o)) e

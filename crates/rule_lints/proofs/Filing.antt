@@ -4,7 +4,7 @@ use Rattle.text_bytes.specs.declared.profile.Profile.{Profile}
 use Rattle.text_bytes.specs.declared.source_file.SourceFile.{SourceFile}
 use Rattle.rule_jumps.specs.Jumps.{landings}
 use Rattle.rule_jumps.specs.declared.jumps.Landing.{Landing}
-use Rattle.rule_core.specs.Ends.{given_up}
+use Rattle.rule_core.specs.Ends.{abandoned}
 use Rattle.rule_places.specs.Kept.{kept_lines}
 use Rattle.rule_places.specs.declared.kept.KeptLine.{KeptLine}
 use Rattle.rule_lints.specs.FileLints.{file_spots, lints_of, placed_lint, placed_lints}
@@ -20,10 +20,10 @@ lines_are_placed by bytes kept rules landed spots found k r l s m =
     ∙ ap (λ (x : List FileSpot). map (placed_lint kept) x) (s ∙ ap file_spots (l ∙ ap (landed_rules by) r))
     ∙ ap (λ (x : List KeptLine). map (placed_lint x) (file_spots (landed_rules by (rules_unless by bytes None)))) k
 
-pub file_found : (by : Profile) (f : SourceFile) (bytes : List ℕ) (o : Option ℕ) (found : List PlacedLint) → bytes ≡ f.bytes → given_up by bytes ≡ o → found ≡ lints_of by bytes (rules_unless by bytes o) → found ≡ placed_lints by f
+pub file_found : (by : Profile) (f : SourceFile) (bytes : List ℕ) (o : Option ℕ) (found : List PlacedLint) → bytes ≡ f.bytes → abandoned by bytes ≡ o → found ≡ lints_of by bytes (rules_unless by bytes o) → found ≡ placed_lints by f
 unfolding placed_lints
 file_found by f bytes o found b g h =
-    h ∙ ap (λ (x : Option ℕ). lints_of by bytes (rules_unless by bytes x)) (sym g) ∙ ap (λ (x : List ℕ). lints_of by x (rules_unless by x (given_up by x))) b
+    h ∙ ap (λ (x : Option ℕ). lints_of by bytes (rules_unless by bytes x)) (sym g) ∙ ap (λ (x : List ℕ). lints_of by x (rules_unless by x (abandoned by x))) b
 
 -- rules with what becomes of their jumps
 pub all_landed : (start now : List LandedRule) (ys xs : List (FileRule × Landing)) → now ≡ start ++ map landed_rule ys → map (λ (x : FileRule × Landing). x) ys ≡ xs → now ≡ start ++ map landed_rule xs

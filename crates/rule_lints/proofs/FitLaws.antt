@@ -43,7 +43,7 @@ all_from_fits (item ∷ items) h = nothing_fits_many (item ∷ items) (h [])
 pub any_text_fits : (items : List Item) → (take_all items ≡ true) ↔ ((t : List ℕ) → fits items t ≡ true)
 any_text_fits items = (fit_all items, all_from_fits items)
 
--- what holds of some suffix of a text, where it says that the suffix has a capital letter
+-- what holds for some suffix of a text, if it says that the suffix has a capital letter
 in_suffix : (p : List ℕ → Bool) → ((t : List ℕ) → p t ≡ true → has_capital t ≡ true) → (t : List ℕ) → some_suffix p t ≡ true → has_capital t ≡ true
 in_suffix p f [] e = f [] e
 in_suffix p f (b ∷ t) e = by (or_cases (p (b ∷ t)) (some_suffix p t) e) (λ g. in_suffix p f t g)

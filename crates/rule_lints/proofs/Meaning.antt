@@ -7,7 +7,7 @@ use Rattle.std.proofs.lemmas.List.Sums.{sum_by-cons}
 use Rattle.text_tables.specs.Texts.{Text}
 use Rattle.rule_lints.specs.Compared.{assigned_value, meant_spots, meant_to_compare}
 use Rattle.rule_lints.specs.Matches.{is_match}
-use Rattle.rule_lints.specs.Steps.{before_matches, left_behind}
+use Rattle.rule_lints.specs.Steps.{before_matches, left_after}
 use Rattle.rule_lints.specs.Written.{WrittenPart}
 use Rattle.rule_lints.specs.declared.spot.LintSpot.{LintSpot}
 
@@ -27,7 +27,7 @@ some_counted (w ∷ tokens) = ap (λ n. nat_lt 0 n) (matches_cons w tokens) ∙ 
     by true h = lt-ltb 0 (1 + matches_in tokens) (omega arith)
     by false h = ap (λ n. nat_lt 0 n) (zero-add (matches_in tokens)) ∙ h
 
-left_is : (w : WrittenPart) (tokens : List WrittenPart) (n : ℕ) → n ≡ matches_in (w ∷ tokens) → left_behind n w ≡ matches_in tokens
+left_is : (w : WrittenPart) (tokens : List WrittenPart) (n : ℕ) → n ≡ matches_in (w ∷ tokens) → left_after n w ≡ matches_in tokens
 left_is w tokens n e = by (is_match w.part) (e ∙ matches_cons w tokens)
   where
     by : (b : Bool) → n ≡ cond b 1 0 + matches_in tokens → cond b (n - 1) n ≡ matches_in tokens
@@ -41,18 +41,18 @@ pub record MeantDown (compared : List Text) (start spots : List LintSpot) (token
 
 pub meant_past : (compared : List Text) (start spots more : List LintSpot) (tokens : List WrittenPart) (matches next i : ℕ) (w : WrittenPart)
     → MeantDown compared start spots tokens matches i → i < length tokens → w ≡ get_or tokens i w
-    → next ≡ left_behind matches w → more ≡ spots ++ before_matches next compared w
+    → next ≡ left_after matches w → more ≡ spots ++ before_matches next compared w
     → MeantDown compared start more tokens next (i + 1)
 meant_past compared start spots more tokens matches next i w before h e l m =
     let rest : List WrittenPart = drop (i + 1) tokens in
     let step : i + 1 ≡ suc i = omega arith in
     let cut : drop i tokens ≡ w ∷ rest = drop-cons tokens i w h ∙ ap (λ x. x ∷ drop (suc i) tokens) (sym e) ∙ ap (λ n. w ∷ drop n tokens) (sym step) in
     let is_left : next ≡ matches_in rest = l ∙ left_is w rest matches (before.left ∙ ap matches_in cut) in
-    let told : before_matches next compared w ≡ cond (list_any (λ x. is_match x.part) rest) (meant_spots compared w (assigned_value w.part)) [] =
+    let reported : before_matches next compared w ≡ cond (list_any (λ x. is_match x.part) rest) (meant_spots compared w (assigned_value w.part)) [] =
     ap (λ b. cond b (meant_spots compared w (assigned_value w.part)) []) (ap (λ n. nat_lt 0 n) is_left ∙ some_counted rest) in
     record {
       so_far =
-          ap (λ x. x ++ meant_to_compare compared rest) (m ∙ ap (λ x. spots ++ x) told)
+          ap (λ x. x ++ meant_to_compare compared rest) (m ∙ ap (λ x. spots ++ x) reported)
           ∙ append_assoc spots (cond (list_any (λ x. is_match x.part) rest) (meant_spots compared w (assigned_value w.part)) []) (meant_to_compare compared rest)
           ∙ ap (λ ts. spots ++ meant_to_compare compared ts) (sym cut)
           ∙ before.so_far;

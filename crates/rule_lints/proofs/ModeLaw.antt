@@ -5,7 +5,7 @@ use Rattle.std.proofs.Math.Nat.{pow-suc}
 use Rattle.std.specs.List.{AllByRecursion, list_all}
 use Rattle.text_bytes.specs.Names.{digit_zero}
 use Rattle.text_bytes.specs.Texts.{is_empty}
-use Rattle.rule_types.specs.Topics.{is_mode, is_octal, octal, octal_behind}
+use Rattle.rule_types.specs.Topics.{is_mode, is_octal, octal, octal_after}
 use Rattle.rule_lints.specs.Laws.{WritesMode, by_places}
 
 -- the digit of a byte
@@ -48,10 +48,10 @@ digit_back : (d : ℕ) → (48 + d) - 48 ≡ d
 digit_back d = omega arith
 
 -- digits that follow a number count by their places
-placed : (n : ℕ) (digits : List ℕ) → octal_behind n (map (λ d. digit_zero + d) digits) ≡ n * 8 ^ length digits + by_places digits
+placed : (n : ℕ) (digits : List ℕ) → octal_after n (map (λ d. digit_zero + d) digits) ≡ n * 8 ^ length digits + by_places digits
 placed n [] = omega arith
 placed n (d ∷ digits) =
-    ap (λ (v : ℕ). octal_behind (8 * n + v) (map (λ d. digit_zero + d) digits)) (digit_back d)
+    ap (λ (v : ℕ). octal_after (8 * n + v) (map (λ d. digit_zero + d) digits)) (digit_back d)
     ∙ placed (8 * n + d) digits
     ∙ at_place n d (8 ^ length digits) (8 ^ length (d ∷ digits)) (by_places digits) (pow-suc 8 (length digits))
 
@@ -71,14 +71,14 @@ not_empty (d ∷ digits) h = refl
 written_by : (text : List ℕ) → is_mode text ≡ true → WritesMode text
 written_by text h =
     let parts = and_parts (not (is_empty text) && list_all is_octal text) (nat_lt (octal text) (8 ^ 4)) h in
-    let front = and_parts (not (is_empty text)) (list_all is_octal text) parts.0 in
-    let spelled = all_written text front.1 in
+    let prefix = and_parts (not (is_empty text)) (list_all is_octal text) parts.0 in
+    let spelled = all_written text prefix.1 in
     let value = ap octal spelled ∙ placed 0 (map digit_of text) in
     let low = ltb-true (octal text) (8 ^ 4) parts.1 in
     record {
       digits = map digit_of text;
-      some = some_digit text front.0;
-      octal = all_octal text front.1;
+      some = some_digit text prefix.0;
+      octal = all_octal text prefix.1;
       written = spelled;
       least = omega (arith, value, low);
     }

@@ -1,4 +1,4 @@
--- A text with no blank before it is a mode where udev reads one.
+-- A text with no blank before it is a mode exactly if udev reads it as one.
 use Rattle.std.proofs.Common.{◌≡◌, ℕ, ◌+◌, Bool, true, false, cond, ◌&&◌, ◌||◌, List, [], ◌∷◌, drop, Some, None, is_some, nat_lt, refl, ap, ◌∙◌, arith}
 use Rattle.std.specs.List.{list_all, prefix_len}
 use Rattle.std.proofs.lemmas.Bool.Decides.{nat_tests}
@@ -22,7 +22,7 @@ bare_mode (b ∷ text) e = read_mode (b ∷ text) ∙ ap (λ (v : Bool). is_mode
 blank_no_digit : (b : ℕ) → is_blank b ≡ true → is_octal b ≡ false
 blank_no_digit b h = grind (arith, nat_tests)
 
--- a text with a blank before it is none
+-- a text with a blank before it is not a mode
 pub no_mode_after_blanks : (text : List ℕ) → (begins_with space text || begins_with tab text) ≡ true → is_mode text ≡ false
 no_mode_after_blanks [] e = cc
 no_mode_after_blanks (b ∷ text) e = ap (λ (v : Bool). (true && (v && list_all is_octal text)) && nat_lt (octal (b ∷ text)) 4096) (blank_no_digit b e)

@@ -7,7 +7,7 @@ use Rattle.std.proofs.lemmas.List.Sorted.{IsPermutation-reverse, list_any-IsPerm
 use Rattle.std.specs.List.{prefix_len, suffix_len}
 use Rattle.rule_lints.specs.Laws.{HasOpenParenthesis}
 use Rattle.rule_lints.specs.Patterns.{close_parenthesis, has_open_parenthesis, open_parenthesis}
-use Rattle.rule_lints.specs.Texts.{behind_last, has_byte}
+use Rattle.rule_lints.specs.Texts.{has_byte, rest_after_last}
 
 -- whether a byte is another
 abbrev is_other : ℕ → ℕ → Bool
@@ -38,33 +38,33 @@ stop_len byte (b ∷ text) rest h =
 none_back : (byte : ℕ) (text : List ℕ) → has_byte byte text ≡ false → has_byte byte (reverse text) ≡ false
 none_back byte text h = sym (list_any-IsPermutation (λ b. b == byte) text (reverse text) (IsPermutation-reverse text)) ∙ h
 
-behind_none : (byte : ℕ) (text : List ℕ) → has_byte byte text ≡ false → behind_last byte text ≡ text
-behind_none byte text h =
+after_none : (byte : ℕ) (text : List ℕ) → has_byte byte text ≡ false → rest_after_last byte text ≡ text
+after_none byte text h =
     let whole = none_len byte (reverse text) (none_back byte text h) in
     let same = length-reverse text in
     let e : length text - suffix_len (is_other byte) text ≡ 0 = omega (arith, whole, same) in
     ap (λ (k : ℕ). drop k text) e
 
-drop_behind : (byte : ℕ) (before rest : List ℕ) → drop (length before + 1) (before ++ byte ∷ rest) ≡ rest
-drop_behind byte [] rest = refl
-drop_behind byte (b ∷ before) rest =
+drop_after : (byte : ℕ) (before rest : List ℕ) → drop (length before + 1) (before ++ byte ∷ rest) ≡ rest
+drop_after byte [] rest = refl
+drop_after byte (b ∷ before) rest =
     let e : length (b ∷ before) + 1 ≡ suc (length before + 1) = omega arith in
-    ap (λ (k : ℕ). drop k (b ∷ (before ++ byte ∷ rest))) e ∙ drop_behind byte before rest
+    ap (λ (k : ℕ). drop k (b ∷ (before ++ byte ∷ rest))) e ∙ drop_after byte before rest
 
-turned : (byte : ℕ) (before rest : List ℕ) → reverse (before ++ byte ∷ rest) ≡ reverse rest ++ byte ∷ reverse before
-turned byte before rest =
+reversed : (byte : ℕ) (before rest : List ℕ) → reverse (before ++ byte ∷ rest) ≡ reverse rest ++ byte ∷ reverse before
+reversed byte before rest =
     reverse-append before (byte ∷ rest)
     ∙ ap (λ (z : List ℕ). z ++ reverse before) (reverse-append (byte ∷ []) rest)
     ∙ append_assoc (reverse rest) (byte ∷ []) (reverse before)
 
-behind_cut : (byte : ℕ) (before rest : List ℕ) → has_byte byte rest ≡ false → behind_last byte (before ++ byte ∷ rest) ≡ rest
-behind_cut byte before rest h =
+after_cut : (byte : ℕ) (before rest : List ℕ) → has_byte byte rest ≡ false → rest_after_last byte (before ++ byte ∷ rest) ≡ rest
+after_cut byte before rest h =
     let text = before ++ byte ∷ rest in
-    let size = ap (λ (z : List ℕ). prefix_len (is_other byte) z) (turned byte before rest) ∙ stop_len byte (reverse rest) (reverse before) (none_back byte rest h) in
+    let size = ap (λ (z : List ℕ). prefix_len (is_other byte) z) (reversed byte before rest) ∙ stop_len byte (reverse rest) (reverse before) (none_back byte rest h) in
     let same = length-reverse rest in
     let all = length-append before (byte ∷ rest) in
     let e : length text - suffix_len (is_other byte) text ≡ length before + 1 = omega (arith, size, same, all) in
-    ap (λ (k : ℕ). drop k text) e ∙ drop_behind byte before rest
+    ap (λ (k : ℕ). drop k text) e ∙ drop_after byte before rest
 
 -- a text that has a byte, with what follows the last of it
 record Cut (byte : ℕ) (text : List ℕ) : Type 0 where
@@ -108,43 +108,43 @@ has_it : (byte : ℕ) (before after : List ℕ) → has_byte byte (before ++ byt
 has_it byte [] after = or_left (byte == byte) (has_byte byte after) (eq-eqb byte byte refl)
 has_it byte (b ∷ before) after = or_right (b == byte) (has_byte byte (before ++ byte ∷ after)) (has_it byte before after)
 
-of_rest : (front text rest : List ℕ) → text ≡ front ++ rest → has_byte close_parenthesis rest ≡ false → Parted open_parenthesis rest → HasOpenParenthesis text
-of_rest front text rest e none p =
+of_rest : (prefix text rest : List ℕ) → text ≡ prefix ++ rest → has_byte close_parenthesis rest ≡ false → Parted open_parenthesis rest → HasOpenParenthesis text
+of_rest prefix text rest e none p =
     record {
-      before = front ++ p.before;
-      behind = p.after;
+      before = prefix ++ p.before;
+      following = p.after;
       none = none_after close_parenthesis open_parenthesis p.before p.after (ap (has_byte close_parenthesis) (sym p.whole) ∙ none);
-      whole = e ∙ ap (λ (t : List ℕ). front ++ t) p.whole ∙ sym (append_assoc front p.before (open_parenthesis ∷ p.after));
+      whole = e ∙ ap (λ (t : List ℕ). prefix ++ t) p.whole ∙ sym (append_assoc prefix p.before (open_parenthesis ∷ p.after));
     }
 
 from_sign : (text : List ℕ) → has_open_parenthesis text ≡ true → HasOpenParenthesis text
 from_sign text h = by (cut close_parenthesis text)
   where
     by : (has_byte close_parenthesis text ≡ false) ⊎ Cut close_parenthesis text → HasOpenParenthesis text
-    by (inl none) = of_rest [] text text refl none (parted open_parenthesis text (ap (has_byte open_parenthesis) (sym (behind_none close_parenthesis text none)) ∙ h))
+    by (inl none) = of_rest [] text text refl none (parted open_parenthesis text (ap (has_byte open_parenthesis) (sym (after_none close_parenthesis text none)) ∙ h))
     by (inr c) =
-        let same = ap (behind_last close_parenthesis) c.whole ∙ behind_cut close_parenthesis c.before c.rest c.none in
+        let same = ap (rest_after_last close_parenthesis) c.whole ∙ after_cut close_parenthesis c.before c.rest c.none in
         of_rest (c.before ++ close_parenthesis ∷ []) text c.rest (c.whole ∙ sym (append_assoc c.before (close_parenthesis ∷ []) c.rest)) c.none
         (parted open_parenthesis c.rest (ap (has_byte open_parenthesis) (sym same) ∙ h))
 
 -- nothing closes what follows
-open_none : (before behind : List ℕ) → has_byte close_parenthesis before ≡ false → has_byte close_parenthesis behind ≡ false → has_byte close_parenthesis (before ++ open_parenthesis ∷ behind) ≡ false
-open_none before behind h g =
-    list_any-append (λ b. b == close_parenthesis) before (open_parenthesis ∷ behind)
-    ∙ ap (λ (c : Bool). c || has_byte close_parenthesis behind) h
+open_none : (before following : List ℕ) → has_byte close_parenthesis before ≡ false → has_byte close_parenthesis following ≡ false → has_byte close_parenthesis (before ++ open_parenthesis ∷ following) ≡ false
+open_none before following h g =
+    list_any-append (λ b. b == close_parenthesis) before (open_parenthesis ∷ following)
+    ∙ ap (λ (c : Bool). c || has_byte close_parenthesis following) h
     ∙ g
 
-from_text : (before behind : List ℕ) → has_byte close_parenthesis behind ≡ false → has_open_parenthesis (before ++ open_parenthesis ∷ behind) ≡ true
-from_text before behind h = by (cut close_parenthesis before)
+from_text : (before following : List ℕ) → has_byte close_parenthesis following ≡ false → has_open_parenthesis (before ++ open_parenthesis ∷ following) ≡ true
+from_text before following h = by (cut close_parenthesis before)
   where
-    by : (has_byte close_parenthesis before ≡ false) ⊎ Cut close_parenthesis before → has_open_parenthesis (before ++ open_parenthesis ∷ behind) ≡ true
+    by : (has_byte close_parenthesis before ≡ false) ⊎ Cut close_parenthesis before → has_open_parenthesis (before ++ open_parenthesis ∷ following) ≡ true
     by (inl none) =
-        ap (has_byte open_parenthesis) (behind_none close_parenthesis (before ++ open_parenthesis ∷ behind) (open_none before behind none h))
-        ∙ has_it open_parenthesis before behind
+        ap (has_byte open_parenthesis) (after_none close_parenthesis (before ++ open_parenthesis ∷ following) (open_none before following none h))
+        ∙ has_it open_parenthesis before following
     by (inr c) =
-        let whole = ap (λ (t : List ℕ). t ++ open_parenthesis ∷ behind) c.whole ∙ append_assoc c.before (close_parenthesis ∷ c.rest) (open_parenthesis ∷ behind) in
-        let same = ap (behind_last close_parenthesis) whole ∙ behind_cut close_parenthesis c.before (c.rest ++ open_parenthesis ∷ behind) (open_none c.rest behind c.none h) in
-        ap (has_byte open_parenthesis) same ∙ has_it open_parenthesis c.rest behind
+        let whole = ap (λ (t : List ℕ). t ++ open_parenthesis ∷ following) c.whole ∙ append_assoc c.before (close_parenthesis ∷ c.rest) (open_parenthesis ∷ following) in
+        let same = ap (rest_after_last close_parenthesis) whole ∙ after_cut close_parenthesis c.before (c.rest ++ open_parenthesis ∷ following) (open_none c.rest following c.none h) in
+        ap (has_byte open_parenthesis) same ∙ has_it open_parenthesis c.rest following
 
 pub parentheses : (text : List ℕ) → (has_open_parenthesis text ≡ true) ↔ HasOpenParenthesis text
-parentheses text = (from_sign text, λ p. ap has_open_parenthesis p.whole ∙ from_text p.before p.behind p.none)
+parentheses text = (from_sign text, λ p. ap has_open_parenthesis p.whole ∙ from_text p.before p.following p.none)

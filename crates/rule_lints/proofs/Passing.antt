@@ -25,18 +25,18 @@ or_swapped : (a b c : Bool) → ((a || b) || c) ≡ (a || (b || c))
 or_swapped true b c = refl
 or_swapped false b c = refl
 
-turned_or : (a b : Bool) → (a || b) ≡ (b || a)
-turned_or true true = refl
-turned_or true false = refl
-turned_or false true = refl
-turned_or false false = refl
+reversed_or : (a b : Bool) → (a || b) ≡ (b || a)
+reversed_or true true = refl
+reversed_or true false = refl
+reversed_or false true = refl
+reversed_or false false = refl
 
-same_turned : (a b : Text) → same_text a b ≡ same_text a b
-same_turned a b = refl
+same_reversed : (a b : Text) → same_text a b ≡ same_text a b
+same_reversed a b = refl
 
 -- what was added one after another is there, and so is what was there before
 pub among_all : (more texts : List Text) (name : Text) → is_among (with_texts texts more) name ≡ (is_among texts name || is_among more name)
-among_all [] texts name = turned_or false (is_among texts name)
+among_all [] texts name = reversed_or false (is_among texts name)
 among_all (t ∷ more) texts name =
     among_all more (with_text texts t) name
     ∙ ap (λ b. b || is_among more name) (among_added texts t name)
@@ -88,12 +88,12 @@ spots_same imported compared given all_imported all_compared before jump above r
     ∙ ap (λ x. rule_lints r.rule.tokens ++ (flat_map (imported_below all_imported before) r.rule.tokens ++ (meant_to_compare all_compared r.rule.tokens ++ never_reached x r))) j
 
 -- going down: what the rules above leave is known, and the lints so far and those of the rules below are all
-pub record GoesDown (above : RulesAbove) (spots : List FileSpot) (rules : List LandedRule) (i : ℕ) : Type 0 where
+pub record Descends (above : RulesAbove) (spots : List FileSpot) (rules : List LandedRule) (i : ℕ) : Type 0 where
   pub given : SameTexts above.given (given_names (reverse (take i rules)))
   pub jump : above.jump ≡ jumps_above (reverse (take i rules))
   pub so_far : spots ++ spots_below rules (reverse (take i rules)) (drop i rules) ≡ file_spots rules
 
-pub down_start : (above : RulesAbove) (spots : List FileSpot) (rules : List LandedRule) → above ≡ nothing_above → spots ≡ [] → GoesDown above spots rules 0
+pub down_start : (above : RulesAbove) (spots : List FileSpot) (rules : List LandedRule) → above ≡ nothing_above → spots ≡ [] → Descends above spots rules 0
 down_start above spots rules e f = record {
   given = λ name. ap (λ (a : RulesAbove). is_among a.given name) e;
   jump = ap (λ (a : RulesAbove). a.jump) e;
@@ -110,27 +110,27 @@ given_more : (given : List Text) (above : List LandedRule) (r : LandedRule) → 
 given_more given above r same name =
     among_all (given_by r.rule.tokens) given name
     ∙ ap (λ x. x || is_among (given_by r.rule.tokens) name) (same name)
-    ∙ turned_or (is_among (given_names above) name) (is_among (given_by r.rule.tokens) name)
+    ∙ reversed_or (is_among (given_names above) name) (is_among (given_by r.rule.tokens) name)
     ∙ sym (list_any-append (same_text name) (given_by r.rule.tokens) (given_names above))
 
-pub down_past : (above next : RulesAbove) (spots more : List FileSpot) (names : FileNames) (rules : List LandedRule) (i : ℕ) (r : LandedRule) → GoesDown above spots rules i
+pub down_past : (above next : RulesAbove) (spots more : List FileSpot) (names : FileNames) (rules : List LandedRule) (i : ℕ) (r : LandedRule) → Descends above spots rules i
     → i < length rules → r ≡ get_or rules i r → names.imported ≡ with_texts [] (imported_names rules) → names.compared ≡ with_texts [] (compared_texts rules)
     → more ≡ spots ++ map (file_spot r.rule) (spots_by names.imported names.compared above.given above.jump r) → next ≡ with_rule above r
-    → GoesDown next more rules (i + 1)
+    → Descends next more rules (i + 1)
 down_past above next spots more names rules i r before h e imported compared m n =
     let past : List LandedRule = reverse (take i rules) in
-    let turned : reverse (take (i + 1) rules) ≡ r ∷ past = ap reverse (take_more rules i r h ∙ ap (λ x. take i rules ++ x ∷ []) (sym e)) ∙ reverse-append (take i rules) (r ∷ []) in
+    let reversed : reverse (take (i + 1) rules) ≡ r ∷ past = ap reverse (take_more rules i r h ∙ ap (λ x. take i rules ++ x ∷ []) (sym e)) ∙ reverse-append (take i rules) (r ∷ []) in
     let own : spots_by names.imported names.compared above.given above.jump r ≡ spots_of rules past r =
     spots_same names.imported names.compared above.given (imported_names rules) (compared_texts rules) (given_names past) above.jump (jumps_above past) r
     (λ name. ap (λ x. is_among x name) imported ∙ all_added (imported_names rules) name)
     (λ name. ap (λ x. is_among x name) compared ∙ all_added (compared_texts rules) name)
     before.given before.jump in
     record {
-      given = λ name. ap (λ (a : RulesAbove). is_among a.given name) n ∙ given_more above.given past r before.given name ∙ ap (λ rs. is_among (given_names rs) name) (sym turned);
-      jump = ap (λ (a : RulesAbove). a.jump) n ∙ ap jumps_above (sym turned);
+      given = λ name. ap (λ (a : RulesAbove). is_among a.given name) n ∙ given_more above.given past r before.given name ∙ ap (λ rs. is_among (given_names rs) name) (sym reversed);
+      jump = ap (λ (a : RulesAbove). a.jump) n ∙ ap jumps_above (sym reversed);
       so_far =
           ap (λ x. x ++ spots_below rules (reverse (take (i + 1) rules)) (drop (i + 1) rules)) m
-          ∙ ap (λ rs. (spots ++ map (file_spot r.rule) (spots_by names.imported names.compared above.given above.jump r)) ++ spots_below rules rs (drop (i + 1) rules)) turned
+          ∙ ap (λ rs. (spots ++ map (file_spot r.rule) (spots_by names.imported names.compared above.given above.jump r)) ++ spots_below rules rs (drop (i + 1) rules)) reversed
           ∙ append_assoc spots (map (file_spot r.rule) (spots_by names.imported names.compared above.given above.jump r)) (spots_below rules (r ∷ past) (drop (i + 1) rules))
           ∙ ap (λ x. spots ++ (map (file_spot r.rule) x ++ spots_below rules (r ∷ past) (drop (i + 1) rules))) own
           ∙ ap (λ rs. spots ++ spots_below rules past rs) (sym (rule_item rules i r h e))
@@ -142,7 +142,7 @@ none_left : (rules : List LandedRule) → length rules ≡ 0 → rules ≡ []
 none_left [] e = refl
 none_left (r ∷ rules) e = absurd (omega arith)
 
-pub down_end : (above : RulesAbove) (spots : List FileSpot) (rules : List LandedRule) (i : ℕ) → GoesDown above spots rules i → length rules ≤ i → spots ≡ file_spots rules
+pub down_end : (above : RulesAbove) (spots : List FileSpot) (rules : List LandedRule) (i : ℕ) → Descends above spots rules i → length rules ≤ i → spots ≡ file_spots rules
 down_end above spots rules i before h =
     let none : drop i rules ≡ [] = none_left (drop i rules) (length-drop i rules ∙ omega arith) in
     sym (append-nil spots) ∙ ap (λ rs. spots ++ spots_below rules (reverse (take i rules)) rs) (sym none) ∙ before.so_far

@@ -6,15 +6,15 @@ use Rattle.text_bytes.specs.Names.{bar, double_quote, is_blank, single_quote, sl
 use Rattle.text_bytes.specs.Texts.{begins_with, unindented}
 use Rattle.rule_types.specs.declared.part.Change.{Change}
 use Rattle.rule_types.specs.declared.part.Change.TheVariants as change
-use Rattle.rule_types.specs.declared.part.Deed.{Deed}
-use Rattle.rule_types.specs.declared.part.Deed.TheVariants as deed
+use Rattle.rule_types.specs.declared.part.ActKind.{ActKind}
+use Rattle.rule_types.specs.declared.part.ActKind.TheVariants as act_kind
 use Rattle.rule_types.specs.declared.part.Import.TheVariants as import
 use Rattle.rule_types.specs.declared.part.Part.{Part}
 use Rattle.rule_types.specs.declared.part.Part.TheVariants as part
 use Rattle.rule_types.specs.declared.types.RunType.TheVariants as run_of
 use Rattle.text_tables.specs.Texts.{is_among}
 use Rattle.rule_lints.specs.Parts.{change_of}
-use Rattle.rule_lints.specs.Texts.{behind_last}
+use Rattle.rule_lints.specs.Texts.{rest_after_last}
 
 -- the byte `&`
 abbrev pub ampersand : ℕ
@@ -35,15 +35,15 @@ run_command (change.Run (Some run_of.Program) t) = Some t.written
 run_command _ = None
 
 -- the program that PROGRAM or IMPORT runs, with its words
-abbrev pub asked_command : Deed → Option (List ℕ)
-asked_command (deed.Program t) = Some t.written
-asked_command (deed.Import (import.Program t)) = Some t.written
+abbrev pub asked_command : ActKind → Option (List ℕ)
+asked_command (act_kind.Program t) = Some t.written
+asked_command (act_kind.Import (import.Program t)) = Some t.written
 asked_command _ = None
 
 -- the program that a part of a rule runs, with its words
 abbrev pub command_of : Part → Option (List ℕ)
 command_of (part.Set a) = run_command a.change
-command_of (part.Act a) = asked_command a.deed
+command_of (part.Act a) = asked_command a.kind
 command_of _ = None
 
 -- a byte that begins and ends a quoted part
@@ -51,9 +51,9 @@ abbrev pub is_quote : ℕ → Bool
 is_quote b = b == single_quote || b == double_quote
 
 -- the quote that is open after a byte, given the one that is open before it
-abbrev pub open_behind : Option ℕ → ℕ → Option ℕ
-open_behind None b = if is_quote b then Some b else None
-open_behind (Some quote) b = if b == quote then None else Some quote
+abbrev pub open_after : Option ℕ → ℕ → Option ℕ
+open_after None b = if is_quote b then Some b else None
+open_after (Some quote) b = if b == quote then None else Some quote
 
 -- whether a word ends before this text: it begins with a space or a tab, or is empty
 abbrev pub is_word_end : List ℕ → Bool
@@ -70,13 +70,13 @@ abbrev pub is_shell_sign : ℕ → List ℕ → Bool
 is_shell_sign b text = ((b == bar || b == semicolon) && is_word_end text) || ((b == greater && is_redirected text) || (b == ampersand && begins_with ampersand text))
 
 -- whether a text has a sign of the shell outside of quotes, if this quote is open before it
-abbrev pub has_sign_behind : Option ℕ → List ℕ → Bool
-has_sign_behind opened [] = false
-has_sign_behind opened (b ∷ text) = (is_none opened && is_shell_sign b text) || has_sign_behind (open_behind opened b) text
+abbrev pub has_sign_after : Option ℕ → List ℕ → Bool
+has_sign_after opened [] = false
+has_sign_after opened (b ∷ text) = (is_none opened && is_shell_sign b text) || has_sign_after (open_after opened b) text
 
 -- whether a command has a sign of the shell outside of quotes
 abbrev pub has_shell_sign : List ℕ → Bool
-has_shell_sign command = has_sign_behind None command
+has_shell_sign command = has_sign_after None command
 
 -- the first word of a command
 abbrev pub first_word : List ℕ → List ℕ
@@ -84,7 +84,7 @@ first_word command = let words = unindented command in take (prefix_len (λ b. n
 
 -- the name of the program of a command: what follows the last `/` of its first word
 abbrev pub program_name : List ℕ → List ℕ
-program_name command = behind_last slash (first_word command)
+program_name command = rest_after_last slash (first_word command)
 
 -- the shells
 abbrev pub shells : List (List ℕ)

@@ -21,12 +21,12 @@ pub record IsImportedBelow (above : List LandedRule) (r : LandedRule) (below : L
 
 abbrev pub ImportsFurtherDown : Type 0
 ImportsFurtherDown =
-    (above : List LandedRule) (r : LandedRule) (below : List LandedRule) (w : WrittenPart) (told : LintSpot)
-    → imported_below (imported_names (reverse above ++ r ∷ below)) (given_names above) w ≡ told ∷ [] → IsImportedBelow above r below told.word
+    (above : List LandedRule) (r : LandedRule) (below : List LandedRule) (w : WrittenPart) (reported : LintSpot)
+    → imported_below (imported_names (reverse above ++ r ∷ below)) (given_names above) w ≡ reported ∷ [] → IsImportedBelow above r below reported.word
 
 -- assignments after the last match of a rule are not reported
-abbrev pub NoneBehindMatches : Type 0
-NoneBehindMatches = (compared : List Text) (tokens : List WrittenPart) → list_any (λ w. is_match w.part) tokens ≡ false → meant_to_compare compared tokens ≡ []
+abbrev pub NoneAfterMatches : Type 0
+NoneAfterMatches = (compared : List Text) (tokens : List WrittenPart) → list_any (λ w. is_match w.part) tokens ≡ false → meant_to_compare compared tokens ≡ []
 
 -- if no rule compares, nothing is reported
 abbrev pub NoneUncompared : Type 0
@@ -37,20 +37,20 @@ abbrev pub FirstIsReached : Type 0
 FirstIsReached = (r : LandedRule) → never_reached (jumps_above []) r ≡ []
 
 -- so is a rule after one that may end before it jumps
-abbrev pub ReachedBehindMatches : Type 0
-ReachedBehindMatches = (nearest : LandedRule) (farther : List LandedRule) (r : LandedRule) → list_any (λ w. may_end_at w.part) nearest.rule.tokens ≡ true → never_reached (jumps_above (nearest ∷ farther)) r ≡ []
+abbrev pub ReachedAfterMatches : Type 0
+ReachedAfterMatches = (nearest : LandedRule) (farther : List LandedRule) (r : LandedRule) → list_any (λ w. may_end_at w.part) nearest.rule.tokens ≡ true → never_reached (jumps_above (nearest ∷ farther)) r ≡ []
 
 -- so is a rule after one whose label no later rule has
-abbrev pub ReachedBehindLostJumps : Type 0
-ReachedBehindLostJumps = (nearest : LandedRule) (farther : List LandedRule) (r : LandedRule) → nearest.landing.lost ≡ true → never_reached (jumps_above (nearest ∷ farther)) r ≡ []
+abbrev pub ReachedAfterLostJumps : Type 0
+ReachedAfterLostJumps = (nearest : LandedRule) (farther : List LandedRule) (r : LandedRule) → nearest.landing.lost ≡ true → never_reached (jumps_above (nearest ∷ farther)) r ≡ []
 
 -- nothing is reported for a rule with a label, to which a jump may lead
 abbrev pub ReachedByLabels : Type 0
 ReachedByLabels = (above : List LandedRule) (r : LandedRule) → is_labelled r ≡ true → never_reached (jumps_above above) r ≡ []
 
 -- what is reported, without its place
-abbrev pub told_in : PlacedLint → Lint × Text
-told_in p = (p.lint, p.word)
+abbrev pub reported_in : PlacedLint → Lint × Text
+reported_in p = (p.lint, p.word)
 
-abbrev pub told_of : FileSpot → Lint × Text
-told_of s = (s.spot.lint, s.spot.word)
+abbrev pub reported_for : FileSpot → Lint × Text
+reported_for s = (s.spot.lint, s.spot.word)

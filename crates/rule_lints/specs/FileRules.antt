@@ -7,9 +7,10 @@ use Rattle.rule_types.specs.declared.part.Part.{Part}
 use Rattle.rule_parts.specs.declared.finding.Finding.{Finding}
 use Rattle.rule_jumps.specs.Jumps.{Names, landings}
 use Rattle.rule_jumps.specs.declared.jumps.Landing.{Landing}
-use Rattle.rule_core.specs.Drafts.{first, goto_in, items_as, label_among, label_in, most_bytes, parts_of, tokens_of}
+use Rattle.text_bytes.specs.Texts.{first}
+use Rattle.rule_core.specs.Drafts.{goto_in, items_as, label_among, label_in, most_bytes, parts_of, tokens_of}
 use Rattle.rule_core.specs.Effects.{lacks_effect}
-use Rattle.rule_core.specs.Ends.{given_up}
+use Rattle.rule_core.specs.Ends.{abandoned}
 use Rattle.rule_core.specs.Lines.{joined_lines}
 use Rattle.rule_lints.specs.Written.{WrittenPart}
 
@@ -56,7 +57,7 @@ rules_unless by bytes (Some number) = []
 
 -- the rules of a file with these bytes
 abbrev pub file_rules : Profile → List ℕ → List FileRule
-file_rules by bytes = rules_unless by bytes (given_up by bytes)
+file_rules by bytes = rules_unless by bytes (abandoned by bytes)
 
 -- the names that the LABELs of a rule give
 abbrev pub labels_of : List WrittenPart → List (List ℕ)

@@ -8,8 +8,8 @@ use Rattle.text_tables.specs.Texts.{Text, is_among, same_text}
 use Rattle.rule_types.specs.declared.lint.Lint.TheVariants.{ImportedBelow}
 use Rattle.rule_types.specs.declared.part.Change.{Change}
 use Rattle.rule_types.specs.declared.part.Change.TheVariants as change
-use Rattle.rule_types.specs.declared.part.Deed.{Deed}
-use Rattle.rule_types.specs.declared.part.Deed.TheVariants as deed
+use Rattle.rule_types.specs.declared.part.ActKind.{ActKind}
+use Rattle.rule_types.specs.declared.part.ActKind.TheVariants as act_kind
 use Rattle.rule_types.specs.declared.part.Import.{Import}
 use Rattle.rule_types.specs.declared.part.Import.TheVariants as import
 use Rattle.rule_types.specs.declared.part.Part.{Part}
@@ -74,24 +74,24 @@ names_perhaps (import.Db name) = name ∷ []
 names_perhaps (import.Parent choice value) = (if names_several value then any_property else value) ∷ []
 names_perhaps _ = []
 
--- what a deed may import
-abbrev pub perhaps_in_deed : Deed → List Text
-perhaps_in_deed (deed.Import i) = names_perhaps i
-perhaps_in_deed _ = []
+-- what an act may import
+abbrev pub perhaps_in_act_kind : ActKind → List Text
+perhaps_in_act_kind (act_kind.Import i) = names_perhaps i
+perhaps_in_act_kind _ = []
 
 -- what a part of a rule may import
 abbrev pub perhaps_in : Part → List Text
-perhaps_in (part.Act a) = perhaps_in_deed a.deed
+perhaps_in (part.Act a) = perhaps_in_act_kind a.kind
 perhaps_in _ = []
 
--- what a deed imports
-abbrev pub names_in_deed : Deed → List Text
-names_in_deed (deed.Import i) = names_in_import i
-names_in_deed _ = []
+-- what an act imports
+abbrev pub names_in_act_kind : ActKind → List Text
+names_in_act_kind (act_kind.Import i) = names_in_import i
+names_in_act_kind _ = []
 
 -- what a part of a rule imports
 abbrev pub imported_in : Part → List Text
-imported_in (part.Act a) = names_in_deed a.deed
+imported_in (part.Act a) = names_in_act_kind a.kind
 imported_in _ = []
 
 -- the property that a text is assigned to

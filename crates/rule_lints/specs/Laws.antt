@@ -47,9 +47,9 @@ pub record HasSignOutside (command : List ℕ) : Type 0 where
   pub before : List Piece
   pub pieces : AllByRecursion IsPiece before
   pub sign : ℕ
-  pub behind : List ℕ
-  pub is_sign : is_shell_sign sign behind ≡ true
-  pub whole : command ≡ flat_map written before ++ sign ∷ behind
+  pub following : List ℕ
+  pub is_sign : is_shell_sign sign following ≡ true
+  pub whole : command ≡ flat_map written before ++ sign ∷ following
 
 -- whether a text has a letter `A` to `Z`
 abbrev pub has_capital : List ℕ → Bool
@@ -72,16 +72,16 @@ some_pattern test (Ok patterns) = list_any test patterns
 some_pattern test (Err fault) = false
 
 -- whether W4 is reported for a text that is compared with something that the kernel writes so
-abbrev pub is_told_as : Writing → List ℕ → Bool
-is_told_as writing text = some_pattern (is_miswritten writing) (choice text)
+abbrev pub is_reported_as : Writing → List ℕ → Bool
+is_reported_as writing text = some_pattern (is_miswritten writing) (choice text)
 
 -- whether W11 is reported for a text that something is compared with
-abbrev pub is_told_as_expression : List ℕ → Bool
-is_told_as_expression text = are_expressions (slice_split is_bar text)
+abbrev pub is_reported_as_expression : List ℕ → Bool
+is_reported_as_expression text = are_expressions (slice_split is_bar text)
 
 -- whether W12 is reported for a text that something that is always there is compared with
-abbrev pub is_told_to_hold : List ℕ → Bool
-is_told_to_hold text = some_pattern take_all (choice text)
+abbrev pub is_reported_to_hold : List ℕ → Bool
+is_reported_to_hold text = some_pattern take_all (choice text)
 
 -- The attributes that a rule asks one device for are not those of different devices: there is a kind of devices, and
 -- no token's attribute is that of another kind.
@@ -94,8 +94,8 @@ pub record AreOfOneGroup (tokens : List WrittenPart) : Type 0 where
 pub record IsStranger (tokens : List WrittenPart) (w : WrittenPart) : Type 0 where
   pub group : Group
   pub before : List WrittenPart
-  pub behind : List WrittenPart
-  pub whole : tokens ≡ before ++ w ∷ behind
+  pub following : List WrittenPart
+  pub whole : tokens ≡ before ++ w ∷ following
   pub some : list_any (λ v. is_some (group_of v)) before ≡ true
   pub none_other : AllByRecursion (λ v. is_other group (group_of v) ≡ false) before
   pub other : is_other group (group_of w) ≡ true
@@ -105,12 +105,12 @@ pub record HasBraces (text : List ℕ) : Type 0 where
   pub before : List ℕ
   pub first : List ℕ
   pub second : List ℕ
-  pub behind : List ℕ
-  pub whole : text ≡ before ++ open_brace ∷ (first ++ comma ∷ (second ++ close_brace ∷ behind))
+  pub following : List ℕ
+  pub whole : text ≡ before ++ open_brace ∷ (first ++ comma ∷ (second ++ close_brace ∷ following))
 
 -- A text has a `(` that no `)` follows.
 pub record HasOpenParenthesis (text : List ℕ) : Type 0 where
   pub before : List ℕ
-  pub behind : List ℕ
-  pub none : has_byte close_parenthesis behind ≡ false
-  pub whole : text ≡ before ++ open_parenthesis ∷ behind
+  pub following : List ℕ
+  pub none : has_byte close_parenthesis following ≡ false
+  pub whole : text ≡ before ++ open_parenthesis ∷ following

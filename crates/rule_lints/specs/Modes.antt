@@ -1,18 +1,13 @@
 -- W1: MODE is not an octal number.
-use Rattle.std.specs.Prelude.{ℕ, Bool, ◌||◌, ◌==◌, if◌then◌else◌, List, Option, Some, None}
-use Rattle.std.specs.List.{list_any}
+use Rattle.std.specs.Prelude.{ℕ, ◌||◌, if◌then◌else◌, List, Option, Some, None}
 use Rattle.std.specs.Option.{option_and_then}
-use Rattle.text_bytes.specs.Names.{dollar, percent}
+use Rattle.rule_templates.specs.Substituted.{has_sign}
 use Rattle.rule_types.specs.Topics.{is_mode}
 use Rattle.rule_types.specs.declared.part.Change.{Change}
 use Rattle.rule_types.specs.declared.part.Change.TheVariants as change
 use Rattle.rule_types.specs.declared.part.Part.{Part}
 use Rattle.rule_types.specs.declared.roles.Target.TheVariants as target
 use Rattle.rule_lints.specs.Parts.{change_of}
-
--- whether a text has a byte that may begin a substitution
-abbrev pub has_sign : List ℕ → Bool
-has_sign text = list_any (λ b. b == dollar || b == percent) text
 
 -- a text, if it is not a mode whatever the device is
 abbrev pub no_mode : List ℕ → Option (List ℕ)

@@ -13,7 +13,7 @@ use Rattle.rule_types.specs.declared.roles.PlainKey.{PlainKey}
 use Rattle.rule_types.specs.declared.roles.PlainKey.TheVariants as plain
 use Rattle.rule_lints.specs.LetterCase.{is_many}
 use Rattle.rule_lints.specs.Parts.{comparison_of, is_equal}
-use Rattle.rule_lints.specs.Texts.{before_first, behind_first, behind_last, has_byte}
+use Rattle.rule_lints.specs.Texts.{before_first, has_byte, rest_after_first, rest_after_last}
 
 -- the byte `(`
 abbrev pub open_parenthesis : ℕ
@@ -39,7 +39,7 @@ has_class (b ∷ text) = (b == backslash && begins_with_class text) || has_class
 
 -- whether a text has a `(` that no `)` follows: one after the last `)`
 abbrev pub has_open_parenthesis : List ℕ → Bool
-has_open_parenthesis text = has_byte open_parenthesis (behind_last close_parenthesis text)
+has_open_parenthesis text = has_byte open_parenthesis (rest_after_last close_parenthesis text)
 
 -- whether a text has a `)` that no `(` precedes: one before the first `(`
 abbrev pub has_close_parenthesis : List ℕ → Bool
@@ -51,7 +51,7 @@ are_of_group texts = list_any has_open_parenthesis texts && list_any has_close_p
 
 -- whether a text has a `{`, after it a `,`, and after that a `}`
 abbrev pub has_braces : List ℕ → Bool
-has_braces text = has_byte close_brace (behind_first comma (behind_first open_brace text))
+has_braces text = has_byte close_brace (rest_after_first comma (rest_after_first open_brace text))
 
 -- whether a text is written as a regular expression or with braces, which are not signs of a pattern
 abbrev pub is_expression : List ℕ → Bool

@@ -40,32 +40,32 @@ abbrev pub spot_of : Lint → Placed → List ℕ → LintSpot
 spot_of lint t word = if is_of_key lint then key_spot lint word t else value_spot lint word t
 
 -- what a lint of single tokens finds in this one
-abbrev pub told_of : Lint → WrittenPart → Option LintSpot
-told_of lint w = option_map (spot_of lint w.token) (word_of lint w)
+abbrev pub reported_for : Lint → WrittenPart → Option LintSpot
+reported_for lint w = option_map (spot_of lint w.token) (word_of lint w)
 
 -- what a lint of single tokens finds in these, in written order
-abbrev pub told : Lint → List WrittenPart → List LintSpot
-told lint tokens = filter_map (told_of lint) tokens
+abbrev pub reported : Lint → List WrittenPart → List LintSpot
+reported lint tokens = filter_map (reported_for lint) tokens
 
 -- what a lint of single tokens finds in the token that there may be
-abbrev pub told_if_there : Lint → Option WrittenPart → List LintSpot
-told_if_there lint None = []
-told_if_there lint (Some w) = told lint (w ∷ [])
+abbrev pub reported_if_there : Lint → Option WrittenPart → List LintSpot
+reported_if_there lint None = []
+reported_if_there lint (Some w) = reported lint (w ∷ [])
 
 -- each W8 of a rule's tokens
-abbrev pub names_told : List WrittenPart → List LintSpot
-names_told tokens = if is_outside_net tokens then told NameOutsideNet tokens else []
+abbrev pub names_reported : List WrittenPart → List LintSpot
+names_reported tokens = if is_outside_net tokens then reported NameOutsideNet tokens else []
 
 -- what is reported for a rule's tokens: the lints in the order of their codes, and those of one code in written order
 unfoldable pub rule_lints : List WrittenPart → List LintSpot
 rule_lints tokens =
-    ((((((((told ModeNotOctal tokens
-    ++ told SignOfShell tokens)
-    ++ told RelativeProgram tokens)
-    ++ told LetterCase tokens)
-    ++ told_if_there NoSuchDevice (stranger tokens))
-    ++ names_told tokens)
-    ++ told LinkWithDev tokens)
-    ++ told QuotedName tokens)
-    ++ told NotAPattern tokens)
-    ++ told AlwaysHolds tokens
+    ((((((((reported ModeNotOctal tokens
+    ++ reported SignOfShell tokens)
+    ++ reported RelativeProgram tokens)
+    ++ reported LetterCase tokens)
+    ++ reported_if_there NoSuchDevice (stranger tokens))
+    ++ names_reported tokens)
+    ++ reported LinkWithDev tokens)
+    ++ reported QuotedName tokens)
+    ++ reported NotAPattern tokens)
+    ++ reported AlwaysHolds tokens

@@ -35,8 +35,8 @@ abbrev pub with_rule : RulesAbove → LandedRule → RulesAbove
 with_rule a r = record { given = with_texts a.given (given_by r.rule.tokens); jump = jumps_to r }
 
 -- how many of so many matches follow a token, which may be the first of them
-abbrev pub left_behind : ℕ → WrittenPart → ℕ
-left_behind matches w = if is_match w.part then matches - 1 else matches
+abbrev pub left_after : ℕ → WrittenPart → ℕ
+left_after matches w = if is_match w.part then matches - 1 else matches
 
 -- an assignment that so many matches follow, if there are any and what it gives is compared
 abbrev pub before_matches : ℕ → List Text → WrittenPart → List LintSpot

@@ -7,13 +7,13 @@ abbrev pub has_byte : ℕ → List ℕ → Bool
 has_byte byte text = list_any (λ b. b == byte) text
 
 -- what follows the first such byte of a text, nothing if it has none
-abbrev pub behind_first : ℕ → List ℕ → List ℕ
-behind_first byte text = after_first (λ b. b == byte) text
+abbrev pub rest_after_first : ℕ → List ℕ → List ℕ
+rest_after_first byte text = after_first (λ b. b == byte) text
 
 -- what comes before the first such byte of a text, all of it if it has none
 abbrev pub before_first : ℕ → List ℕ → List ℕ
 before_first byte text = take (position_or_len (λ b. b == byte) text) text
 
 -- what follows the last such byte of a text, all of it if it has none
-abbrev pub behind_last : ℕ → List ℕ → List ℕ
-behind_last byte text = after_last (λ b. b == byte) text
+abbrev pub rest_after_last : ℕ → List ℕ → List ℕ
+rest_after_last byte text = after_last (λ b. b == byte) text

@@ -2,11 +2,11 @@
 ghost use Rattle.std.specs.Prelude.{◌≡◌, ◌≤◌, length, not, option_map};
 ghost use Rattle.std.specs.List.{prefix_len};
 ghost use Rattle.text_bytes.specs.Names.{is_blank};
-ghost use Rattle.rule_lints.specs.Commands.{asked_command, command_of, first_word, is_quote, is_redirected, is_shell_sign, is_word_end, has_shell_sign, lacks_path, lacks_shell, open_behind, program_name, relative_program, run_command, shell_command};
+ghost use Rattle.rule_lints.specs.Commands.{asked_command, command_of, first_word, is_quote, is_redirected, is_shell_sign, is_word_end, has_shell_sign, lacks_path, lacks_shell, open_after, program_name, relative_program, run_command, shell_command};
 
 use crate::parts::{change_of, is_among};
-use crate::texts::behind_last;
-use rule_types::{Change, Deed, Import, Part, RunType};
+use crate::texts::rest_after_last;
+use rule_types::{ActKind, Change, Import, Part, RunType};
 use text_bytes::{begins_with, is_blank, unindented};
 
 /// The shells, by the names of their programs.
@@ -73,7 +73,7 @@ fn command_of(part: &Part) -> Option<&[u8]>
 {
     match part {
         Part::Set(assignment) => run_command(&assignment.change),
-        Part::Act(act) => asked_command(&act.deed),
+        Part::Act(act) => asked_command(&act.kind),
         _ => None,
     }
 }
@@ -90,12 +90,12 @@ fn run_command(change: &Change) -> Option<&[u8]>
 }
 
 /// The program that PROGRAM or IMPORT runs, with its words.
-fn asked_command(deed: &Deed) -> Option<&[u8]>
-    ensures { option_map (λ text. text.now) result ≡ asked_command deed.now }
+fn asked_command(act_kind: &ActKind) -> Option<&[u8]>
+    ensures { option_map (λ text. text.now) result ≡ asked_command act_kind.now }
 {
-    match deed {
-        Deed::Program(template) => Some(template.written()),
-        Deed::Import(Import::Program(template)) => Some(template.written()),
+    match act_kind {
+        ActKind::Program(template) => Some(template.written()),
+        ActKind::Import(Import::Program(template)) => Some(template.written()),
         _ => None,
     }
 }
@@ -117,19 +117,19 @@ fn has_shell_sign(command: &[u8]) -> bool
 {
     let mut opened = None;
     let mut rest = command;
-    while let Some((byte, behind)) = rest.split_first() {
-        if opened.is_none() && is_shell_sign(*byte, behind) {
+    while let Some((byte, following)) = rest.split_first() {
+        if opened.is_none() && is_shell_sign(*byte, following) {
             return true;
         }
-        opened = open_behind(opened, *byte);
-        rest = behind;
+        opened = open_after(opened, *byte);
+        rest = following;
     }
     false
 }
 
 /// The quote that is open after a byte, given the one that is open before it.
-fn open_behind(opened: Option<u8>, byte: u8) -> Option<u8>
-    ensures { result ≡ open_behind opened byte }
+fn open_after(opened: Option<u8>, byte: u8) -> Option<u8>
+    ensures { result ≡ open_after opened byte }
 {
     match opened {
         None if is_quote(byte) => Some(byte),
@@ -147,29 +147,29 @@ fn is_quote(byte: u8) -> bool
 }
 
 /// Whether a byte is a sign of the shell before this text.
-fn is_shell_sign(byte: u8, behind: &[u8]) -> bool
-    ensures { result ≡ is_shell_sign byte behind.now }
+fn is_shell_sign(byte: u8, following: &[u8]) -> bool
+    ensures { result ≡ is_shell_sign byte following.now }
 {
-    ((byte == b'|' || byte == b';') && is_word_end(behind))
-        || (byte == b'>' && is_redirected(behind))
-        || (byte == b'&' && begins_with(b'&', behind))
+    ((byte == b'|' || byte == b';') && is_word_end(following))
+        || (byte == b'>' && is_redirected(following))
+        || (byte == b'&' && begins_with(b'&', following))
 }
 
 /// Whether a text goes on like one after a `>` of the shell.
-fn is_redirected(behind: &[u8]) -> bool
-    ensures { result ≡ is_redirected behind.now }
+fn is_redirected(following: &[u8]) -> bool
+    ensures { result ≡ is_redirected following.now }
 {
-    is_word_end(behind)
-        || begins_with(b'/', behind)
-        || begins_with(b'&', behind)
-        || begins_with(b'>', behind)
+    is_word_end(following)
+        || begins_with(b'/', following)
+        || begins_with(b'&', following)
+        || begins_with(b'>', following)
 }
 
 /// Whether a word ends before this text.
-fn is_word_end(behind: &[u8]) -> bool
-    ensures { result ≡ is_word_end behind.now }
+fn is_word_end(following: &[u8]) -> bool
+    ensures { result ≡ is_word_end following.now }
 {
-    match behind.first() {
+    match following.first() {
         None => true,
         Some(byte) => is_blank(*byte),
     }
@@ -179,7 +179,7 @@ fn is_word_end(behind: &[u8]) -> bool
 fn program_name(command: &[u8]) -> &[u8]
     ensures { result.now ≡ program_name command.now }
 {
-    behind_last(b'/', first_word(command))
+    rest_after_last(b'/', first_word(command))
 }
 
 /// The first word of a command.

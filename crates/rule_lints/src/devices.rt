@@ -8,7 +8,7 @@ use rule_types::{MatchOperator, Part, UpKey};
 
 /// The kind of devices that alone has an attribute.
 #[derive(Clone, Copy, Debug, PartialEq, Eq)]
-pub enum Group {
+pub(crate) enum Group {
     /// USB devices.
     UsbDevice,
     /// Interfaces of USB devices.

@@ -3,8 +3,8 @@ ghost use Rattle.std.specs.Prelude.{◌≡◌, [], List, Some, ℕ, is_ok, is_so
 ghost use Rattle.text_bytes.specs.declared.profile.Profile as profiles;
 ghost use Rattle.text_bytes.specs.declared.source_file.SourceFile as files;
 ghost use Rattle.rule_core.specs.Drafts.{draft_of};
-ghost use Rattle.rule_core.specs.Ends.{given_up};
-ghost use Rattle.rule_lints.specs.FileLaws.{FirstIsReached, ImportsFurtherDown, NoneBehindMatches, NoneUncompared, ReachedBehindLostJumps, ReachedBehindMatches, ReachedByLabels, told_in, told_of};
+ghost use Rattle.rule_core.specs.Ends.{abandoned};
+ghost use Rattle.rule_lints.specs.FileLaws.{FirstIsReached, ImportsFurtherDown, NoneAfterMatches, NoneUncompared, ReachedAfterLostJumps, ReachedAfterMatches, ReachedByLabels, reported_for, reported_in};
 ghost use Rattle.rule_lints.specs.FileLints.{file_spots, placed_lints};
 ghost use Rattle.rule_lints.specs.FileRules.{file_rules, landed_rules, tokens_of_rule};
 
@@ -16,35 +16,35 @@ pub fn lines_are_rules_where_they_are_read()
 
 /// W6 is reported for properties that the rule or one further down imports, and that no rule before it imports,
 /// assigns or may import.
-pub fn imports_stand_further_down()
+pub fn imports_are_further_down()
     ensures { ImportsFurtherDown }
 {}
 
 /// W7 is reported for no assignment after all matches of its rule, and for none if nothing is compared.
-#[tactic(auto, using(crate::proofs::FileLemmas::none_behind, crate::proofs::FileLemmas::none_uncompared))]
-pub fn assignments_stand_before_matches()
-    ensures behind { NoneBehindMatches }
+#[tactic(auto, using(crate::proofs::FileLemmas::none_following, crate::proofs::FileLemmas::none_uncompared))]
+pub fn assignments_come_before_matches()
+    ensures following { NoneAfterMatches }
     ensures uncompared { NoneUncompared }
 {}
 
 /// W13 is reported neither for the first rule of a file, nor for one after a rule that may end or whose jump has no
 /// later label, nor for one with a label.
-#[tactic(auto, using(crate::proofs::FileLemmas::behind_matches, crate::proofs::FileLemmas::behind_lost, crate::proofs::FileLemmas::by_labels))]
-pub fn rules_that_are_reached_are_not_told_of()
+#[tactic(auto, using(crate::proofs::FileLemmas::after_matches, crate::proofs::FileLemmas::after_lost, crate::proofs::FileLemmas::by_labels))]
+pub fn rules_that_are_reached_are_not_reported()
     ensures first { FirstIsReached }
-    ensures ending { ReachedBehindMatches }
-    ensures lost { ReachedBehindLostJumps }
+    ensures ending { ReachedAfterMatches }
+    ensures lost { ReachedAfterLostJumps }
     ensures labelled { ReachedByLabels }
 {}
 
 /// Without their places, the lints of a file are those of its rules.
 #[tactic(auto, using(crate::proofs::FileLemmas::lints_of_rules))]
 pub fn lints_are_those_of_the_rules()
-    ensures { (by : profiles.Profile) (file : files.SourceFile) → map told_in (placed_lints by file) ≡ map told_of (file_spots (landed_rules by (file_rules by file.bytes))) }
+    ensures { (by : profiles.Profile) (file : files.SourceFile) → map reported_in (placed_lints by file) ≡ map reported_for (file_spots (landed_rules by (file_rules by file.bytes))) }
 {}
 
 /// No lint is reported for a file that is given up.
-#[tactic(auto, using(crate::proofs::FileLemmas::none_given_up))]
-pub fn files_that_are_given_up_have_no_lints()
-    ensures { (by : profiles.Profile) (file : files.SourceFile) (number : ℕ) → given_up by file.bytes ≡ Some number → placed_lints by file ≡ [] }
+#[tactic(auto, using(crate::proofs::FileLemmas::none_abandoned))]
+pub fn abandoned_files_have_no_lints()
+    ensures { (by : profiles.Profile) (file : files.SourceFile) (number : ℕ) → abandoned by file.bytes ≡ Some number → placed_lints by file ≡ [] }
 {}

@@ -19,7 +19,7 @@ use text_tables::{OwnedTexts, Texts};
 
 /// A lint of a rule of a file.
 #[derive(Debug, Drop)]
-pub struct FileSpot {
+pub(crate) struct FileSpot {
     /// The number of the line of the file in which the rule begins.
     pub number: u32,
     /// How many bytes of joined lines come before the rule.
@@ -62,7 +62,10 @@ impl<'a> Model for RulesAbove<'a> {
 }
 
 /// The lints of the rules of a file, in their order.
-pub fn file_lints(alloc: Global, rules: &[LandedRule<'_>]) -> Result<Vec<FileSpot>, AllocError>
+pub(crate) fn file_lints(
+    alloc: Global,
+    rules: &[LandedRule<'_>],
+) -> Result<Vec<FileSpot>, AllocError>
     ensures { IfOk result (λ spots. spots.items ≡ file_spots rules.now) }
 {
     let names = FileNames::of(alloc, rules)?;

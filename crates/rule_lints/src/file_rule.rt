@@ -6,7 +6,7 @@ use std::marker::Model;
 
 /// A rule of a file.
 #[derive(Debug, Drop)]
-pub struct FileRule<'a> {
+pub(crate) struct FileRule<'a> {
     /// The number of the line of the file in which it begins.
     pub number: u32,
     /// How many bytes of joined lines come before it.
@@ -25,7 +25,7 @@ impl<'a> Model for FileRule<'a> {
 
 /// A rule of a file with what becomes of its jump and of its label.
 #[derive(Debug, Drop)]
-pub struct LandedRule<'a> {
+pub(crate) struct LandedRule<'a> {
     /// The rule.
     pub rule: FileRule<'a>,
     /// What becomes of its jump and of its label.

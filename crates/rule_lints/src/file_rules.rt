@@ -16,7 +16,7 @@ use std::alloc::{AllocError, Global};
 use text_bytes::Profile;
 
 /// The rules among the joined lines of a file, in order.
-pub fn file_rules<'a>(
+pub(crate) fn file_rules<'a>(
     alloc: Global,
     profile: Profile,
     lines: &'a [JoinedLine<'_>],

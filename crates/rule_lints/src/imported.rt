@@ -1,11 +1,11 @@
 //! The properties that rules import or assign.
 ghost use Rattle.std.specs.Prelude.{◌≡◌, ◌∷◌, [], OnOk, if◌then◌else◌, map};
 ghost use Rattle.text_tables.specs.Texts.{with_texts};
-ghost use Rattle.rule_lints.specs.Imported.{any_property, assigned_in, else_any, families, families_in, given_by, has_family, has_property, imported_by, imported_in, is_given, is_of, names_in_deed, names_in_import, names_perhaps, names_several, perhaps_in, perhaps_in_deed};
+ghost use Rattle.rule_lints.specs.Imported.{any_property, assigned_in, else_any, families, families_in, given_by, has_family, has_property, imported_by, imported_in, is_given, is_of, names_in_act_kind, names_in_import, names_perhaps, names_several, perhaps_in, perhaps_in_act_kind};
 
 use crate::commands::first_word;
 use crate::written::WrittenPart;
-use rule_types::{Change, Deed, Import, Part, Target};
+use rule_types::{ActKind, Change, Import, Part, Target};
 use std::alloc::AllocError;
 use text_tables::Texts;
 
@@ -23,7 +23,7 @@ const FAMILIES: [(&[u8], &[u8]); 6] = [
 const ANY_PROPERTY: &[u8] = b"*";
 
 /// Adds what the tokens of a rule import.
-pub fn add_imported<'a>(
+pub(crate) fn add_imported<'a>(
     names: &mut Texts<'a>,
     tokens: &'a [WrittenPart<'_>],
 ) -> Result<(), AllocError>
@@ -36,7 +36,10 @@ pub fn add_imported<'a>(
 }
 
 /// Adds what the tokens of a rule import, may import or assign.
-pub fn add_given<'a>(names: &mut Texts<'a>, tokens: &'a [WrittenPart<'_>]) -> Result<(), AllocError>
+pub(crate) fn add_given<'a>(
+    names: &mut Texts<'a>,
+    tokens: &'a [WrittenPart<'_>],
+) -> Result<(), AllocError>
     ensures { OnOk result (names.new ≡ with_texts names.old (given_by tokens.now)) }
 {
     for token in tokens {
@@ -52,17 +55,17 @@ fn add_imports<'a>(names: &mut Texts<'a>, part: &'a Part) -> Result<(), AllocErr
     ensures { OnOk result (names.new ≡ with_texts names.old (imported_in part.now)) }
 {
     match part {
-        Part::Act(act) => add_deed(names, &act.deed),
+        Part::Act(act) => add_act_kind(names, &act.kind),
         _ => Ok(()),
     }
 }
 
-/// Adds what a deed imports.
-fn add_deed<'a>(names: &mut Texts<'a>, deed: &'a Deed) -> Result<(), AllocError>
-    ensures { OnOk result (names.new ≡ with_texts names.old (names_in_deed deed.now)) }
+/// Adds what an act imports.
+fn add_act_kind<'a>(names: &mut Texts<'a>, act_kind: &'a ActKind) -> Result<(), AllocError>
+    ensures { OnOk result (names.new ≡ with_texts names.old (names_in_act_kind act_kind.now)) }
 {
-    match deed {
-        Deed::Import(import) => add_import(names, import),
+    match act_kind {
+        ActKind::Import(import) => add_import(names, import),
         _ => Ok(()),
     }
 }
@@ -104,17 +107,17 @@ fn add_perhaps<'a>(names: &mut Texts<'a>, part: &'a Part) -> Result<(), AllocErr
     ensures { OnOk result (names.new ≡ with_texts names.old (perhaps_in part.now)) }
 {
     match part {
-        Part::Act(act) => add_perhaps_by(names, &act.deed),
+        Part::Act(act) => add_perhaps_by(names, &act.kind),
         _ => Ok(()),
     }
 }
 
-/// Adds what a deed may import.
-fn add_perhaps_by<'a>(names: &mut Texts<'a>, deed: &'a Deed) -> Result<(), AllocError>
-    ensures { OnOk result (names.new ≡ with_texts names.old (perhaps_in_deed deed.now)) }
+/// Adds what an act may import.
+fn add_perhaps_by<'a>(names: &mut Texts<'a>, act_kind: &'a ActKind) -> Result<(), AllocError>
+    ensures { OnOk result (names.new ≡ with_texts names.old (perhaps_in_act_kind act_kind.now)) }
 {
-    match deed {
-        Deed::Import(import) => add_named(names, import),
+    match act_kind {
+        ActKind::Import(import) => add_named(names, import),
         _ => Ok(()),
     }
 }
@@ -192,14 +195,14 @@ fn add_assigned<'a>(names: &mut Texts<'a>, part: &'a Part) -> Result<(), AllocEr
 }
 
 /// Whether a property is among names, or of a family among them.
-pub fn has_property(names: &Texts<'_>, name: &[u8]) -> bool
+pub(crate) fn has_property(names: &Texts<'_>, name: &[u8]) -> bool
     ensures { result ≡ has_property names.now name.now }
 {
     names.contains(name) || has_family(names, &FAMILIES, name)
 }
 
 /// Whether names that are given have a property, a family of it, or every property.
-pub fn is_given(names: &Texts<'_>, name: &[u8]) -> bool
+pub(crate) fn is_given(names: &Texts<'_>, name: &[u8]) -> bool
     ensures { result ≡ is_given names.now name.now }
 {
     names.contains(ANY_PROPERTY) || has_property(names, name)
@@ -221,6 +224,6 @@ fn has_family(names: &Texts<'_>, rows: &[(&[u8], &[u8])], name: &[u8]) -> bool
 fn is_of(family: &[u8], name: &[u8]) -> bool
     ensures { result ≡ is_of family.now name.now }
 {
-    let (front, _) = family.split_at(family.len().saturating_sub(1));
-    name.starts_with(front)
+    let (prefix, _) = family.split_at(family.len().saturating_sub(1));
+    name.starts_with(prefix)
 }

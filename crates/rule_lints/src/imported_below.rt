@@ -11,7 +11,7 @@ use text_core::Choice;
 use text_tables::Texts;
 
 /// Adds the matches of a rule that ask for properties that its file imports, if these are not given before.
-pub fn add_imported_below(
+pub(crate) fn add_imported_below(
     alloc: Global,
     spots: &mut Vec<LintSpot>,
     imported: &Texts<'_>,

@@ -1,7 +1,7 @@
 //! What becomes of the jumps and the labels of a file's rules.
 ghost use Rattle.std.specs.Prelude.{◌≡◌, ◌++◌, IfOk, OnOk, map, option_map, zip};
 ghost use Rattle.rule_jumps.specs.Jumps.{landings};
-ghost use Rattle.rule_core.specs.Drafts.{first, last};
+ghost use Rattle.text_bytes.specs.Texts.{first, last};
 ghost use Rattle.rule_lints.specs.FileRules.{goto_of, label_of, labels_of, landed_rule, landed_rules, names_of};
 
 use crate::file_rule::{FileRule, LandedRule};
@@ -12,7 +12,7 @@ use std::alloc::{AllocError, Global};
 use text_bytes::Profile;
 
 /// Each of a file's rules with what becomes of its jump and of its label.
-pub fn landed_rules(
+pub(crate) fn landed_rules(
     alloc: Global,
     profile: Profile,
     rules: Vec<FileRule<'_>>,
@@ -92,7 +92,7 @@ fn last_label<'a>(tokens: &'a [WrittenPart<'_>]) -> Option<&'a [u8]>
 }
 
 /// The name of a rule's first GOTO.
-pub fn goto_of<'a>(tokens: &'a [WrittenPart<'_>]) -> Option<&'a [u8]>
+pub(crate) fn goto_of<'a>(tokens: &'a [WrittenPart<'_>]) -> Option<&'a [u8]>
     ensures { option_map (λ t. t.now) result ≡ goto_of tokens.now }
 {
     for token in tokens {

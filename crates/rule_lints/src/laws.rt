@@ -5,7 +5,7 @@ ghost use Rattle.text_core.specs.Fits.{fits};
 ghost use Rattle.text_core.specs.declared.item.Item.{Item};
 ghost use Rattle.rule_lints.specs.Commands.{has_shell_sign, lacks_path, lacks_shell};
 ghost use Rattle.rule_lints.specs.Devices.{stranger};
-ghost use Rattle.rule_lints.specs.Laws.{AreOfOneGroup, HasBraces, HasOpenParenthesis, HasSignOutside, IsStranger, WritesMode, has_capital, is_small_text, is_told_as, is_told_as_expression, is_told_to_hold};
+ghost use Rattle.rule_lints.specs.Laws.{AreOfOneGroup, HasBraces, HasOpenParenthesis, HasSignOutside, IsStranger, WritesMode, has_capital, is_reported_as, is_reported_as_expression, is_reported_to_hold, is_small_text};
 ghost use Rattle.rule_lints.specs.LetterCase.{is_capital, is_small_alias, items_in_place};
 ghost use Rattle.rule_types.specs.Topics.{is_mode};
 ghost use Rattle.rule_lints.specs.Modes.{no_mode};
@@ -22,7 +22,7 @@ pub fn modes_are_octal_numbers()
 
 /// A sign of the shell is reported if and only if it follows bytes and whole quoted parts, so outside of quotes.
 #[tactic(auto, using(crate::proofs::SignLaw::signs_outside))]
-pub fn signs_stand_outside_of_quotes()
+pub fn signs_are_outside_of_quotes()
     ensures { (command : List ℕ) → (has_shell_sign command ≡ true) ↔ HasSignOutside command }
 {}
 
@@ -48,8 +48,8 @@ pub fn strangers_are_of_two_groups()
 
 /// The token that is reported because of its device is the first of another group than one before it.
 #[tactic(auto, using(crate::proofs::DeviceLaw::stranger_found))]
-pub fn the_first_stranger_is_told()
-    ensures { (tokens : List WrittenPart) (told : WrittenPart) → stranger tokens ≡ Some told → IsStranger tokens told }
+pub fn the_first_stranger_is_reported()
+    ensures { (tokens : List WrittenPart) (reported : WrittenPart) → stranger tokens ≡ Some reported → IsStranger tokens reported }
 {}
 
 /// Braces are reported if and only if a comma is between them.
@@ -98,36 +98,36 @@ pub fn some_commands()
 {}
 
 /// Values with which an alias is compared, of which some are reported.
-#[tactic(auto, unfolding(text_core::specs::Choices::choice, text_core::specs::Choices::choice_by, text_core::specs::Spell::front, text_core::specs::Spell::bracket))]
+#[tactic(auto, unfolding(text_core::specs::Choices::choice, text_core::specs::Choices::choice_by, text_core::specs::Spell::first_item, text_core::specs::Spell::bracket))]
 pub fn some_aliases()
-    ensures capital { is_told_as Alias (codes "usb:v1D6Bp0002d*") ≡ false }
-    ensures vendor { is_told_as Alias (codes "usb:v1d6Bp*") ≡ true }
-    ensures product { is_told_as Alias (codes "usb:v1D6Bp000a*") ≡ true }
-    ensures later { is_told_as Alias (codes "usb:v*p000a*") ≡ false }
-    ensures set { is_told_as Alias (codes "usb:v1D6Bp000[0-9a-f]*") ≡ false }
-    ensures pci { is_told_as Alias (codes "pci:v00008086d0000100e*") ≡ true }
-    ensures second { is_told_as Alias (codes "usb:v1D6B*|pci:v0000808a*") ≡ true }
-    ensures other { is_told_as Alias (codes "acpi:device:") ≡ false }
+    ensures capital { is_reported_as Alias (codes "usb:v1D6Bp0002d*") ≡ false }
+    ensures vendor { is_reported_as Alias (codes "usb:v1d6Bp*") ≡ true }
+    ensures product { is_reported_as Alias (codes "usb:v1D6Bp000a*") ≡ true }
+    ensures later { is_reported_as Alias (codes "usb:v*p000a*") ≡ false }
+    ensures set { is_reported_as Alias (codes "usb:v1D6Bp000[0-9a-f]*") ≡ false }
+    ensures pci { is_reported_as Alias (codes "pci:v00008086d0000100e*") ≡ true }
+    ensures second { is_reported_as Alias (codes "usb:v1D6B*|pci:v0000808a*") ≡ true }
+    ensures other { is_reported_as Alias (codes "acpi:device:") ≡ false }
 {}
 
 /// Values with which hexadecimal numbers are compared, of which some are reported.
-#[tactic(auto, unfolding(text_core::specs::Choices::choice, text_core::specs::Choices::choice_by, text_core::specs::Spell::front, text_core::specs::Spell::bracket))]
+#[tactic(auto, unfolding(text_core::specs::Choices::choice, text_core::specs::Choices::choice_by, text_core::specs::Spell::first_item, text_core::specs::Spell::bracket))]
 pub fn some_numbers()
-    ensures small { is_told_as Lower (codes "046d|c52b") ≡ false }
-    ensures capital { is_told_as Lower (codes "046d|C52b") ≡ true }
-    ensures set { is_told_as Lower (codes "046[dD]") ≡ false }
-    ensures prefixed { is_told_as Prefixed (codes "0x8086|0x10DE") ≡ true }
-    ensures prefix { is_told_as Prefixed (codes "0X8086") ≡ true }
-    ensures name { is_told_as Prefixed (codes "ATA     ") ≡ false }
+    ensures small { is_reported_as Lower (codes "046d|c52b") ≡ false }
+    ensures capital { is_reported_as Lower (codes "046d|C52b") ≡ true }
+    ensures set { is_reported_as Lower (codes "046[dD]") ≡ false }
+    ensures prefixed { is_reported_as Prefixed (codes "0x8086|0x10DE") ≡ true }
+    ensures prefix { is_reported_as Prefixed (codes "0X8086") ≡ true }
+    ensures name { is_reported_as Prefixed (codes "ATA     ") ≡ false }
 {}
 
 /// Values with which something is compared that is always there, of which some are reported.
-#[tactic(auto, unfolding(text_core::specs::Choices::choice, text_core::specs::Choices::choice_by, text_core::specs::Spell::front, text_core::specs::Spell::bracket))]
+#[tactic(auto, unfolding(text_core::specs::Choices::choice, text_core::specs::Choices::choice_by, text_core::specs::Spell::first_item, text_core::specs::Spell::bracket))]
 pub fn some_stars()
-    ensures star { is_told_to_hold (codes "*") ≡ true }
-    ensures second { is_told_to_hold (codes "sd*|**") ≡ true }
-    ensures some { is_told_to_hold (codes "?*") ≡ false }
-    ensures none { is_told_to_hold (codes "") ≡ false }
+    ensures star { is_reported_to_hold (codes "*") ≡ true }
+    ensures second { is_reported_to_hold (codes "sd*|**") ≡ true }
+    ensures some { is_reported_to_hold (codes "?*") ≡ false }
+    ensures none { is_reported_to_hold (codes "") ≡ false }
 {}
 
 /// Links, of which some are reported.
@@ -142,10 +142,10 @@ pub fn some_patterns()
     ensures end { is_expression (codes "sd[a-z]$") ≡ true }
     ensures any { is_expression (codes ".*disk") ≡ true }
     ensures digit { is_expression (codes "sd\\d") ≡ true }
-    ensures group { is_told_as_expression (codes "(sda|sdb)1") ≡ true }
-    ensures three { is_told_as_expression (codes "sd(a|b|c)") ≡ true }
-    ensures closed { is_told_as_expression (codes "Disk (USB)|Disk (SATA)") ≡ false }
-    ensures cut { is_told_as_expression (codes "Flash Disk (Gen|Disk (USB)") ≡ false }
+    ensures group { is_reported_as_expression (codes "(sda|sdb)1") ≡ true }
+    ensures three { is_reported_as_expression (codes "sd(a|b|c)") ≡ true }
+    ensures closed { is_reported_as_expression (codes "Disk (USB)|Disk (SATA)") ≡ false }
+    ensures cut { is_reported_as_expression (codes "Flash Disk (Gen|Disk (USB)") ≡ false }
     ensures count { is_expression (codes "sd[a-z]{1,2}") ≡ true }
     ensures braces { is_expression (codes "{1} a,b") ≡ false }
     ensures plain { is_expression (codes "dm-[0-9]*.part?") ≡ false }

@@ -9,7 +9,7 @@ use text_core::{Item, Pattern};
 
 /// How the kernel writes a value.
 #[derive(Clone, Copy, Debug, PartialEq, Eq)]
-pub enum Writing {
+pub(crate) enum Writing {
     /// Hexadecimal digits in lower case letters.
     Lower,
     /// The same if `0x` comes before them; otherwise any text.
@@ -151,11 +151,11 @@ fn is_byte_in(first: u8, last: u8, item: &Item) -> bool
 fn begin_with(text: &[u8], items: &[Item]) -> bool
     ensures { result ≡ begin_with text.now items.now }
 {
-    text.len() <= items.len() && all_stand(text, items)
+    text.len() <= items.len() && all_in_place(text, items)
 }
 
 /// Whether each item is the byte at its place, as far as there are both.
-fn all_stand(text: &[u8], items: &[Item]) -> bool
+fn all_in_place(text: &[u8], items: &[Item]) -> bool
     ensures { result ≡ list_all (λ pair. is_byte_in pair.0 pair.0 pair.1) (zip text.now items.now) }
 {
     text.iter()
@@ -167,8 +167,8 @@ fn all_stand(text: &[u8], items: &[Item]) -> bool
 fn items_in_place(items: &[Item]) -> &[Item]
     ensures { result.now ≡ items_in_place items.now }
 {
-    let (front, _) = items.split_at(length_in_place(items));
-    front
+    let (prefix, _) = items.split_at(length_in_place(items));
+    prefix
 }
 
 /// How many items come before the first that takes any bytes.

@@ -34,16 +34,16 @@ mod valued;
 mod written;
 
 pub use file_laws::{
-    assignments_stand_before_matches, files_that_are_given_up_have_no_lints,
-    imports_stand_further_down, lines_are_rules_where_they_are_read, lints_are_those_of_the_rules,
-    rules_that_are_reached_are_not_told_of,
+    abandoned_files_have_no_lints, assignments_come_before_matches, imports_are_further_down,
+    lines_are_rules_where_they_are_read, lints_are_those_of_the_rules,
+    rules_that_are_reached_are_not_reported,
 };
 pub use laws::{
     braces_have_a_comma, capital_letters_are_never_written, modes_are_octal_numbers,
-    open_parentheses_are_not_closed, signs_stand_outside_of_quotes,
+    open_parentheses_are_not_closed, signs_are_outside_of_quotes,
     small_digits_of_aliases_are_never_written, some_aliases, some_commands, some_links, some_modes,
     some_numbers, some_patterns, some_stars, strangers_are_of_two_groups,
-    the_first_stranger_is_told, what_always_holds_fits_each_text,
+    the_first_stranger_is_reported, what_always_holds_fits_each_text,
 };
 pub use placed_lint::PlacedLint;
 pub use placing::placed_lints;

@@ -5,7 +5,7 @@ ghost use Rattle.rule_lints.specs.Matches.{is_match, may_end_at};
 use rule_types::Part;
 
 /// Whether a part of a rule is a match of the event, of one device of the chain or of the result.
-pub fn is_match(part: &Part) -> bool
+pub(crate) fn is_match(part: &Part) -> bool
     ensures { result ≡ is_match part.now }
 {
     match part {
@@ -15,7 +15,7 @@ pub fn is_match(part: &Part) -> bool
 }
 
 /// Whether a rule may end at a part: it is a match, or something that is done while the rule is matched.
-pub fn may_end_at(part: &Part) -> bool
+pub(crate) fn may_end_at(part: &Part) -> bool
     ensures { result ≡ may_end_at part.now }
 {
     match part {

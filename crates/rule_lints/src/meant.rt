@@ -4,7 +4,7 @@ ghost use Rattle.std.specs.List.{count_by};
 ghost use Rattle.text_tables.specs.Texts.{with_texts};
 ghost use Rattle.rule_lints.specs.Compared.{assigned_value, compared_by, meant_spots, meant_to_compare};
 ghost use Rattle.rule_lints.specs.Matches.{is_match};
-ghost use Rattle.rule_lints.specs.Steps.{before_matches, left_behind};
+ghost use Rattle.rule_lints.specs.Steps.{before_matches, left_after};
 
 use crate::matches::is_match;
 use crate::spot::{LintSpot, key_spot};
@@ -15,7 +15,7 @@ use std::alloc::{AllocError, Global};
 use text_tables::OwnedTexts;
 
 /// Adds what the tokens of a rule compare by `==`.
-pub fn add_compared(
+pub(crate) fn add_compared(
     alloc: Global,
     texts: &mut OwnedTexts,
     tokens: &[WrittenPart<'_>],
@@ -31,7 +31,7 @@ pub fn add_compared(
 }
 
 /// Adds the assignments of a rule that a match follows, if what they give is compared.
-pub fn add_meant(
+pub(crate) fn add_meant(
     alloc: Global,
     spots: &mut Vec<LintSpot>,
     compared: &OwnedTexts,
@@ -39,18 +39,18 @@ pub fn add_meant(
 ) -> Result<(), AllocError>
     ensures { OnOk result (spots.new.items ≡ spots.old.items ++ meant_to_compare compared.now tokens.now) }
 {
-    let mut behind = matches_in(tokens);
+    let mut following = matches_in(tokens);
     for token in tokens {
-        let left = left_behind(behind, token);
+        let left = left_after(following, token);
         add_before(alloc, spots, compared, token, left)?;
-        behind = left;
+        following = left;
     }
     Ok(())
 }
 
 /// How many of so many matches follow a token, which may be the first of them.
-fn left_behind(matches: usize, token: &WrittenPart<'_>) -> usize
-    ensures { result ≡ left_behind matches token.now }
+fn left_after(matches: usize, token: &WrittenPart<'_>) -> usize
+    ensures { result ≡ left_after matches token.now }
 {
     if is_match(&token.part) {
         matches.saturating_sub(1)

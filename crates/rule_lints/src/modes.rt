@@ -3,9 +3,10 @@ ghost use Rattle.std.specs.Prelude.{◌≡◌, ◌||◌, option_map};
 ghost use Rattle.text_bytes.specs.Names.{space, tab};
 ghost use Rattle.text_bytes.specs.Texts.{begins_with};
 ghost use Rattle.rule_types.specs.Topics.{is_mode};
-ghost use Rattle.rule_lints.specs.Modes.{has_sign, mode_in, no_mode, wrong_mode};
+ghost use Rattle.rule_lints.specs.Modes.{mode_in, no_mode, wrong_mode};
 
 use crate::parts::change_of;
+use rule_templates::has_sign;
 use rule_types::{Change, Part, Target, mode_of};
 use text_bytes::begins_with;
 
@@ -35,13 +36,6 @@ fn no_mode(text: &[u8]) -> Option<&[u8]>
     } else {
         Some(text)
     }
-}
-
-/// Whether a text has a byte that may begin a substitution.
-fn has_sign(text: &[u8]) -> bool
-    ensures { result ≡ has_sign text.now }
-{
-    text.iter().any(|byte| *byte == b'$' || *byte == b'%')
 }
 
 /// Whether a text begins with a space or a tab.

@@ -7,7 +7,7 @@ ghost use Rattle.rule_lints.specs.Patterns.{always_holds, are_of_group, begins_w
 
 use crate::letter_case::is_many;
 use crate::parts::{comparison_of, is_equal};
-use crate::texts::{before_first, behind_first, behind_last, has_byte};
+use crate::texts::{before_first, has_byte, rest_after_first, rest_after_last};
 use rule_types::{Comparison, Part, PlainKey};
 use text_bytes::{begins_with, ends_in};
 use text_core::{Item, Pattern};
@@ -82,11 +82,11 @@ fn has_class(text: &[u8]) -> bool
     ensures { result ≡ has_class text.now }
 {
     let mut rest = text;
-    while let Some((byte, behind)) = rest.split_first() {
-        if *byte == b'\\' && begins_with_class(behind) {
+    while let Some((byte, following)) = rest.split_first() {
+        if *byte == b'\\' && begins_with_class(following) {
             return true;
         }
-        rest = behind;
+        rest = following;
     }
     false
 }
@@ -105,7 +105,7 @@ fn begins_with_class(text: &[u8]) -> bool
 fn has_open_parenthesis(text: &[u8]) -> bool
     ensures { result ≡ has_open_parenthesis text.now }
 {
-    has_byte(b'(', behind_last(b')', text))
+    has_byte(b'(', rest_after_last(b')', text))
 }
 
 /// Whether a text has a `)` that no `(` precedes.
@@ -119,7 +119,7 @@ fn has_close_parenthesis(text: &[u8]) -> bool
 fn has_braces(text: &[u8]) -> bool
     ensures { result ≡ has_braces text.now }
 {
-    has_byte(b'}', behind_first(b',', behind_first(b'{', text)))
+    has_byte(b'}', rest_after_first(b',', rest_after_first(b'{', text)))
 }
 
 /// Whether W12 is reported for a part: a match that holds for any text.

@@ -8,7 +8,7 @@ use crate::file_rules::file_rules;
 use crate::landed::landed_rules;
 use crate::placed_lint::PlacedLint;
 use crate::sums::sum_of;
-use rule_core::{given_up_at, joined_lines};
+use rule_core::{abandoned_at, joined_lines};
 use rule_places::KeptLines;
 use std::alloc::{AllocError, Global};
 use text_bytes::{Profile, SourceFile};
@@ -27,7 +27,7 @@ pub fn placed_lints(
     ensures { IfOk result (λ found. found.items ≡ placed_lints profile file.now) }
 {
     let bytes = file.bytes.as_slice();
-    match given_up_at(profile, bytes) {
+    match abandoned_at(profile, bytes) {
         Some(_) => Ok(Vec::new(alloc)),
         None => lints_of_lines(alloc, profile, bytes),
     }

@@ -14,7 +14,7 @@ use rule_types::{Lint, Part};
 use std::alloc::{AllocError, Global};
 
 /// The label of a later rule to which a rule jumps for every device.
-pub fn jumps_to<'a>(rule: &'a LandedRule<'_>) -> Option<&'a [u8]>
+pub(crate) fn jumps_to<'a>(rule: &'a LandedRule<'_>) -> Option<&'a [u8]>
     ensures { option_map (λ t. t.now) result ≡ jumps_to rule.now }
 {
     if may_go_on(rule) {
@@ -40,7 +40,7 @@ fn may_end(tokens: &[WrittenPart<'_>]) -> bool
 }
 
 /// Adds a rule without a label, if the rule above jumps to a label for every device.
-pub fn add_never_reached(
+pub(crate) fn add_never_reached(
     alloc: Global,
     spots: &mut Vec<LintSpot>,
     above: Option<&[u8]>,

@@ -2,7 +2,7 @@
 ghost use Rattle.std.specs.Prelude.{◌≡◌, ◌∷◌, ◌++◌, [], IfOk, OnOk, option_map};
 ghost use Rattle.rule_types.specs.declared.lint.Lint.TheVariants.{AlwaysHolds, NoSuchDevice};
 ghost use Rattle.rule_lints.specs.Devices.{stranger};
-ghost use Rattle.rule_lints.specs.RuleLints.{names_told, rule_lints, spot_of, told, told_if_there, word_of};
+ghost use Rattle.rule_lints.specs.RuleLints.{names_reported, reported, reported_if_there, rule_lints, spot_of, word_of};
 
 use crate::commands::{relative_program, shell_command};
 use crate::devices::{asked_name, stranger};
@@ -45,7 +45,7 @@ fn add_stranger(
     spots: &mut Vec<LintSpot>,
     tokens: &[WrittenPart<'_>],
 ) -> Result<(), AllocError>
-    ensures { OnOk result (spots.new.items ≡ spots.old.items ++ told_if_there NoSuchDevice (stranger tokens.now)) }
+    ensures { OnOk result (spots.new.items ≡ spots.old.items ++ reported_if_there NoSuchDevice (stranger tokens.now)) }
 {
     match stranger(tokens) {
         None => Ok(()),
@@ -59,7 +59,7 @@ fn add_names(
     spots: &mut Vec<LintSpot>,
     tokens: &[WrittenPart<'_>],
 ) -> Result<(), AllocError>
-    ensures { OnOk result (spots.new.items ≡ spots.old.items ++ names_told tokens.now) }
+    ensures { OnOk result (spots.new.items ≡ spots.old.items ++ names_reported tokens.now) }
 {
     if is_outside_net(tokens) {
         add(alloc, spots, Lint::NameOutsideNet, tokens)
@@ -75,7 +75,7 @@ fn add(
     lint: Lint,
     tokens: &[WrittenPart<'_>],
 ) -> Result<(), AllocError>
-    ensures { OnOk result (spots.new.items ≡ spots.old.items ++ told lint tokens.now) }
+    ensures { OnOk result (spots.new.items ≡ spots.old.items ++ reported lint tokens.now) }
 {
     for written in tokens {
         add_one(alloc, spots, lint, written)?;
@@ -90,7 +90,7 @@ fn add_one(
     lint: Lint,
     written: &WrittenPart<'_>,
 ) -> Result<(), AllocError>
-    ensures { OnOk result (spots.new.items ≡ spots.old.items ++ told lint (written.now ∷ [])) }
+    ensures { OnOk result (spots.new.items ≡ spots.old.items ++ reported lint (written.now ∷ [])) }
 {
     if let Some(word) = word_of(lint, written) {
         spots.push(spot_of(alloc, lint, word, &written.token)?)?;

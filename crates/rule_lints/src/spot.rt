@@ -9,7 +9,7 @@ use text_bytes::Bytes;
 
 /// A part of a rule's line that a lint is about.
 #[derive(Debug, Drop)]
-pub struct LintSpot {
+pub(crate) struct LintSpot {
     /// What is reported.
     pub lint: Lint,
     /// The text that it is reported with.
@@ -21,7 +21,7 @@ pub struct LintSpot {
 }
 
 /// A lint about a token's key, reported with a text.
-pub fn key_spot(
+pub(crate) fn key_spot(
     alloc: Global,
     lint: Lint,
     word: &[u8],
@@ -38,7 +38,7 @@ pub fn key_spot(
 }
 
 /// A lint about a token's value between its quotes, reported with what that means.
-pub fn value_spot(
+pub(crate) fn value_spot(
     alloc: Global,
     lint: Lint,
     word: &[u8],

@@ -1,7 +1,7 @@
 //! Bytes of a text, and what follows them.
 ghost use Rattle.std.specs.Prelude.{◌≡◌, ◌==◌, ◌≤◌, length, not};
 ghost use Rattle.std.specs.List.{position_or_len, suffix_len};
-ghost use Rattle.rule_lints.specs.Texts.{before_first, behind_first, behind_last, has_byte};
+ghost use Rattle.rule_lints.specs.Texts.{before_first, has_byte, rest_after_first, rest_after_last};
 
 /// Whether a text has this byte.
 pub(crate) fn has_byte(byte: u8, text: &[u8]) -> bool
@@ -12,20 +12,20 @@ pub(crate) fn has_byte(byte: u8, text: &[u8]) -> bool
 
 /// What follows the first such byte of a text, nothing if it has none.
 #[tactic(auto, using(std::proofs::lemmas::List::drop_min))]
-pub(crate) fn behind_first(byte: u8, text: &[u8]) -> &[u8]
-    ensures { result.now ≡ behind_first byte text.now }
+pub(crate) fn rest_after_first(byte: u8, text: &[u8]) -> &[u8]
+    ensures { result.now ≡ rest_after_first byte text.now }
 {
     let passed = length_before(byte, text) + 1;
-    let (_, behind) = text.split_at(passed.min(text.len()));
-    behind
+    let (_, following) = text.split_at(passed.min(text.len()));
+    following
 }
 
 /// What comes before the first such byte of a text, all of it if it has none.
 pub(crate) fn before_first(byte: u8, text: &[u8]) -> &[u8]
     ensures { result.now ≡ before_first byte text.now }
 {
-    let (front, _) = text.split_at(length_before(byte, text));
-    front
+    let (prefix, _) = text.split_at(length_before(byte, text));
+    prefix
 }
 
 /// How many bytes come before the first such byte of a text.
@@ -37,15 +37,15 @@ fn length_before(byte: u8, text: &[u8]) -> usize
 }
 
 /// What follows the last such byte of a text, all of it if it has none.
-pub(crate) fn behind_last(byte: u8, text: &[u8]) -> &[u8]
-    ensures { result.now ≡ behind_last byte text.now }
+pub(crate) fn rest_after_last(byte: u8, text: &[u8]) -> &[u8]
+    ensures { result.now ≡ rest_after_last byte text.now }
 {
-    let (_, behind) = text.split_at(text.len() - length_behind(byte, text));
-    behind
+    let (_, following) = text.split_at(text.len() - length_after(byte, text));
+    following
 }
 
 /// How many bytes follow the last such byte of a text.
-fn length_behind(byte: u8, text: &[u8]) -> usize
+fn length_after(byte: u8, text: &[u8]) -> usize
     ensures value { result ≡ suffix_len (λ b. not (b == byte)) text.now }
     ensures within { result ≤ length text.now }
 {

@@ -8,7 +8,7 @@ use std::marker::Model;
 
 /// A property or an attribute with a value, both borrowed.
 #[derive(Debug, Drop)]
-pub struct Valued<'a> {
+pub(crate) struct Valued<'a> {
     /// The key, which is ENV or ATTR.
     pub key: Key,
     /// The name in its braces.
@@ -26,7 +26,7 @@ impl<'a> Model for Valued<'a> {
 }
 
 /// A property or an attribute with a value as a rule writes it, without operator and quotes.
-pub fn text_of(alloc: Global, valued: &Valued<'_>) -> Result<Vec<u8>, AllocError>
+pub(crate) fn text_of(alloc: Global, valued: &Valued<'_>) -> Result<Vec<u8>, AllocError>
     ensures { IfOk result (λ text. text.items ≡ text_of valued.now) }
 {
     let mut text = Vec::from_slice(alloc, valued.key.name())?;
@@ -38,7 +38,7 @@ pub fn text_of(alloc: Global, valued: &Valued<'_>) -> Result<Vec<u8>, AllocError
 }
 
 /// The property or the attribute that a part of a rule compares by `==`.
-pub fn compared_in(part: &Part) -> Option<Valued<'_>>
+pub(crate) fn compared_in(part: &Part) -> Option<Valued<'_>>
     ensures { result ≡ compared_in part.now }
 {
     match part {
@@ -70,7 +70,7 @@ fn looked_at<'a>(key: &'a PlainKey, value: &'a [u8]) -> Option<Valued<'a>>
 }
 
 /// The property or the attribute that a part of a rule assigns by `=`.
-pub fn assigned_value(part: &Part) -> Option<Valued<'_>>
+pub(crate) fn assigned_value(part: &Part) -> Option<Valued<'_>>
     ensures { result ≡ assigned_value part.now }
 {
     match part {

@@ -8,9 +8,9 @@ use Rattle.rule_pairs.specs.Words.{with_word}
 use Rattle.std.specs.Prelude.{fold}
 
 -- a part that was added, and those after the bar to come
-pub word_more : (words new : List Text) (rest part behind : List ℕ) (k : ℕ) → position is_bar rest ≡ Some k → part ≡ take k rest → behind ≡ drop (k + 1) rest
-    → new ≡ with_word words part → fold with_word new (slice_split is_bar behind) ≡ fold with_word words (slice_split is_bar rest)
-word_more words new rest part behind k h p b n = rw (n, p, b) (sym (ap (λ (parts : List Text). fold with_word words parts) (split_some is_bar rest k h)))
+pub word_more : (words new : List Text) (rest part following : List ℕ) (k : ℕ) → position is_bar rest ≡ Some k → part ≡ take k rest → following ≡ drop (k + 1) rest
+    → new ≡ with_word words part → fold with_word new (slice_split is_bar following) ≡ fold with_word words (slice_split is_bar rest)
+word_more words new rest part following k h p b n = rw (n, p, b) (sym (ap (λ (parts : List Text). fold with_word words parts) (split_some is_bar rest k h)))
 
 -- without a bar one part is left
 pub word_last : (words : List Text) (rest : List ℕ) → position is_bar rest ≡ None → with_word words rest ≡ fold with_word words (slice_split is_bar rest)

@@ -1,5 +1,5 @@
 pub mod Cutting
-pub mod Telling
+pub mod Reporting
 pub mod FirstPairs
 pub mod Likeness
 pub mod WordSets

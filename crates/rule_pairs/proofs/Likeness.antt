@@ -20,17 +20,17 @@ both_or_none true b f g = sym (f refl)
 both_or_none false true f g = g refl
 both_or_none false false f g = refl
 
-text_turned : (a b : Text) → same_text a b ≡ same_text b a
-text_turned a b =
+text_reversed : (a b : Text) → same_text a b ≡ same_text b a
+text_reversed a b =
     both_or_none (same_text a b) (same_text b a)
     (λ h. (bytes_decides b a).1 (sym ((bytes_decides a b).0 h)))
     (λ h. (bytes_decides a b).1 (sym ((bytes_decides b a).0 h)))
 
-number_turned : (a b : Option ℤ) → option_eq int_eq a b ≡ option_eq int_eq b a
-number_turned None None = refl
-number_turned None (Some y) = refl
-number_turned (Some x) None = refl
-number_turned (Some x) (Some y) = int_eq_equiv.symm x y
+number_reversed : (a b : Option ℤ) → option_eq int_eq a b ≡ option_eq int_eq b a
+number_reversed None None = refl
+number_reversed None (Some y) = refl
+number_reversed (Some x) None = refl
+number_reversed (Some x) (Some y) = int_eq_equiv.symm x y
 
 -- two forms that are one are the same
 form_is : (a b : Form) → same_form a b ≡ true → a ≡ b
@@ -52,28 +52,28 @@ form_itself form.PlainOrEmpty = refl
 form_itself form.PatternOrEmpty = refl
 form_itself form.Whole = refl
 
-form_turned : (a b : Form) → same_form a b ≡ same_form b a
-form_turned a b =
+form_reversed : (a b : Form) → same_form a b ≡ same_form b a
+form_reversed a b =
     both_or_none (same_form a b) (same_form b a)
     (λ h. ap (λ (f : Form). same_form f a) (sym (form_is a b h)) ∙ form_itself a)
     (λ h. ap (λ (f : Form). same_form f b) (sym (form_is b a h)) ∙ form_itself b)
 
-bool_turned : (a b : Bool) → same_bool a b ≡ same_bool b a
-bool_turned true true = refl
-bool_turned true false = refl
-bool_turned false true = refl
-bool_turned false false = refl
+bool_reversed : (a b : Bool) → same_bool a b ≡ same_bool b a
+bool_reversed true true = refl
+bool_reversed true false = refl
+bool_reversed false true = refl
+bool_reversed false false = refl
 
 bool_is : (a b : Bool) → same_bool a b ≡ true → a ≡ b
 bool_is true b h = sym h
 bool_is false true h = absurd (true≢false (sym h))
 bool_is false false h = refl
 
-and_turned : (a b : Bool) → (a && b) ≡ (b && a)
-and_turned true true = refl
-and_turned true false = refl
-and_turned false true = refl
-and_turned false false = refl
+and_reversed : (a b : Bool) → (a && b) ≡ (b && a)
+and_reversed true true = refl
+and_reversed true false = refl
+and_reversed false true = refl
+and_reversed false false = refl
 
 first_holds : (a b : Bool) → (a && b) ≡ true → a ≡ true
 first_holds true b h = refl
@@ -83,13 +83,13 @@ second_holds : (a b : Bool) → (a && b) ≡ true → b ≡ true
 second_holds true b h = h
 second_holds false b h = absurd (true≢false (sym h))
 
-pub matter_turned : (a b : Said) → same_matter a b ≡ same_matter b a
-matter_turned a b = rw (text_turned a.key b.key, text_turned a.kind b.kind, text_turned a.name b.name, number_turned a.number b.number) refl
+pub matter_reversed : (a b : Said) → same_matter a b ≡ same_matter b a
+matter_reversed a b = rw (text_reversed a.key b.key, text_reversed a.kind b.kind, text_reversed a.name b.name, number_reversed a.number b.number) refl
 
-pub way_turned : (a b : Said) → same_way a b ≡ same_way b a
-way_turned a b = rw (form_turned a.form b.form, bool_turned a.blind b.blind, bool_turned a.trims b.trims) refl
+pub way_reversed : (a b : Said) → same_way a b ≡ same_way b a
+way_reversed a b = rw (form_reversed a.form b.form, bool_reversed a.blind b.blind, bool_reversed a.trims b.trims) refl
 
--- where two tokens compare in one way, the words of both matter or of none
+-- if two tokens compare in one way, the words of both matter or of none
 lacks_alike : (a b : Said) → same_way a b ≡ true → lacks_words a ≡ lacks_words b
 lacks_alike a b h =
     let one : a.form ≡ b.form = form_is a.form b.form (first_holds (same_form a.form b.form) _ h) in
@@ -100,12 +100,12 @@ lacks_alike a b h =
     ∙ ap (λ (x : Bool). is_wordless b.form && (not x && not a.trims)) blind
     ∙ ap (λ (x : Bool). is_wordless b.form && (not b.blind && not x)) trims
 
-words_turned : (ws vs : List Text) → same_words ws vs ≡ same_words vs ws
-words_turned ws vs = and_turned (list_all (is_among vs) ws) (list_all (is_among ws) vs)
+words_reversed : (ws vs : List Text) → same_words ws vs ≡ same_words vs ws
+words_reversed ws vs = and_reversed (list_all (is_among vs) ws) (list_all (is_among ws) vs)
 
--- tests of two ways round are one, where the third and the fourth are one once the first two hold
-turned_by : (m n w v l k s t : Bool) → m ≡ n → w ≡ v → (w ≡ true → l ≡ k) → s ≡ t → ((m && w) && (l || s)) ≡ ((n && v) && (k || t))
-turned_by m n w v l k s t e f g h = rw (e, f, h) (by n v refl)
+-- tests of two ways round are one, if the third and the fourth are one once the first two hold
+opposite_by : (m n w v l k s t : Bool) → m ≡ n → w ≡ v → (w ≡ true → l ≡ k) → s ≡ t → ((m && w) && (l || s)) ≡ ((n && v) && (k || t))
+opposite_by m n w v l k s t e f g h = rw (e, f, h) (by n v refl)
   where
     by : (x y : Bool) → v ≡ y → ((x && y) && (l || t)) ≡ ((x && y) && (k || t))
     by false y q = refl
@@ -113,10 +113,10 @@ turned_by m n w v l k s t e f g h = rw (e, f, h) (by n v refl)
     by true true q = ap (λ (z : Bool). z || t) (g (f ∙ q))
 
 -- which of two tokens is written first makes no difference for whether they are alike
-pub alike_turned : (a b : Said) → are_alike a b ≡ are_alike b a
-alike_turned a b =
-    turned_by (same_matter a b) (same_matter b a) (same_way a b) (same_way b a) (lacks_words a) (lacks_words b) (same_words a.words b.words) (same_words b.words a.words)
-    (matter_turned a b) (way_turned a b) (lacks_alike a b) (words_turned a.words b.words)
+pub alike_reversed : (a b : Said) → are_alike a b ≡ are_alike b a
+alike_reversed a b =
+    opposite_by (same_matter a b) (same_matter b a) (same_way a b) (same_way b a) (lacks_words a) (lacks_words b) (same_words a.words b.words) (same_words b.words a.words)
+    (matter_reversed a b) (way_reversed a b) (lacks_alike a b) (words_reversed a.words b.words)
 
 not_opposite : (o p : Operator) → same_operator o p ≡ true → are_opposite o p ≡ false
 not_opposite op.Equal op.NotEqual h = absurd (true≢false (sym h))

@@ -28,27 +28,27 @@ word_added words part word = by (is_empty part) refl
     and_false true = refl
     and_false false = refl
 
-    told_apart : (b : Bool) → same_text word part ≡ b → is_empty part ≡ true → (not (is_empty word) && b) ≡ false
-    told_apart true q e = ap (λ (x : Bool). not x && true) (ap is_empty (text_is word part q) ∙ e)
-    told_apart false q e = and_false (not (is_empty word))
+    distinguished : (b : Bool) → same_text word part ≡ b → is_empty part ≡ true → (not (is_empty word) && b) ≡ false
+    distinguished true q e = ap (λ (x : Bool). not x && true) (ap is_empty (text_is word part q) ∙ e)
+    distinguished false q e = and_false (not (is_empty word))
 
-    told_there : (b : Bool) → same_text word part ≡ b → is_empty part ≡ false → (not (is_empty word) && b) ≡ b
-    told_there true q e = ap (λ (x : Bool). not x && true) (ap is_empty (text_is word part q) ∙ e)
-    told_there false q e = and_false (not (is_empty word))
+    reported_there : (b : Bool) → same_text word part ≡ b → is_empty part ≡ false → (not (is_empty word) && b) ≡ b
+    reported_there true q e = ap (λ (x : Bool). not x && true) (ap is_empty (text_is word part q) ∙ e)
+    reported_there false q e = and_false (not (is_empty word))
 
     by : (b : Bool) → is_empty part ≡ b → is_among (cond b words (with_text words part)) word ≡ (is_among words word || (not (is_empty word) && same_text word part))
-    by true e = or_false (is_among words word) ∙ ap (λ (x : Bool). is_among words word || x) (sym (told_apart (same_text word part) refl e))
-    by false e = among_added words part word ∙ ap (λ (x : Bool). is_among words word || x) (sym (told_there (same_text word part) refl e))
+    by true e = or_false (is_among words word) ∙ ap (λ (x : Bool). is_among words word || x) (sym (distinguished (same_text word part) refl e))
+    by false e = among_added words part word ∙ ap (λ (x : Bool). is_among words word || x) (sym (reported_there (same_text word part) refl e))
 
-words_behind : (words parts : List Text) (word : Text) → is_among (fold with_word words parts) word ≡ (is_among words word || (not (is_empty word) && is_among parts word))
-words_behind words [] word = none (is_among words word) (not (is_empty word))
+words_after : (words parts : List Text) (word : Text) → is_among (fold with_word words parts) word ≡ (is_among words word || (not (is_empty word) && is_among parts word))
+words_after words [] word = none (is_among words word) (not (is_empty word))
   where
     none : (a b : Bool) → a ≡ (a || (b && false))
     none true b = refl
     none false true = refl
     none false false = refl
-words_behind words (part ∷ parts) word =
-    words_behind (with_word words part) parts word
+words_after words (part ∷ parts) word =
+    words_after (with_word words part) parts word
     ∙ ap (λ (x : Bool). x || (not (is_empty word) && is_among parts word)) (word_added words part word)
     ∙ joined (is_among words word) (not (is_empty word)) (same_text word part) (is_among parts word)
   where
@@ -59,7 +59,7 @@ words_behind words (part ∷ parts) word =
 
 -- a word is just a text between bars that is not empty
 pub words_between : (text word : Text) → is_among (parts_of text) word ≡ (not (is_empty word) && is_among (slice_split is_bar text) word)
-words_between text word = words_behind [] (slice_split is_bar text) word
+words_between text word = words_after [] (slice_split is_bar text) word
 
 first_holds : (a b : Bool) → (a && b) ≡ true → a ≡ true
 first_holds true b h = refl
@@ -81,18 +81,18 @@ there_all : (ws vs : List Text) → ((word : Text) → is_among ws word ≡ true
 there_all [] vs f = refl
 there_all (w ∷ ws) vs f =
     ap (λ (b : Bool). b && list_all (is_among vs) ws) (f w (ap (λ (b : Bool). b || is_among ws w) (text_itself w)))
-    ∙ there_all ws vs (λ word e. f word (behind (same_text word w) (is_among ws word) e))
+    ∙ there_all ws vs (λ word e. f word (following (same_text word w) (is_among ws word) e))
   where
-    behind : (a b : Bool) → b ≡ true → (a || b) ≡ true
-    behind true b e = refl
-    behind false b e = e
+    following : (a b : Bool) → b ≡ true → (a || b) ≡ true
+    following true b e = refl
+    following false b e = e
 
 both_or_none : (a b : Bool) → (a ≡ true → b ≡ true) → (b ≡ true → a ≡ true) → a ≡ b
 both_or_none true b f g = sym (f refl)
 both_or_none false true f g = g refl
 both_or_none false false f g = refl
 
--- two lists have the same words just where the same words are among them
+-- two lists have the same words exactly if the same words are among them
 pub one_set : (ws vs : List Text) → (same_words ws vs ≡ true) ↔ ((word : Text) → is_among ws word ≡ is_among vs word)
 one_set ws vs = (
   λ h word. both_or_none (is_among ws word) (is_among vs word)

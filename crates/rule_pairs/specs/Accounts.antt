@@ -1,10 +1,11 @@
 -- The users and groups that are known, and what a value of OWNER or GROUP gives by them.
-use Rattle.std.specs.Prelude.{ℕ, ◌-◌, ◌^◌, Bool, not, ◌&&◌, ◌||◌, ◌==◌, nat_lt, if◌then◌else◌, List, length, Option, Some, None, codes}
-use Rattle.std.specs.List.{find, list_any}
-use Rattle.text_bytes.specs.Names.{digit_zero, dollar, open_bracket, percent}
+use Rattle.std.specs.Prelude.{ℕ, ◌-◌, ◌^◌, Bool, not, ◌&&◌, ◌==◌, nat_lt, if◌then◌else◌, List, length, Option, Some, None, codes}
+use Rattle.std.specs.List.{find}
+use Rattle.text_bytes.specs.Names.{digit_zero}
 use Rattle.text_bytes.specs.Numbers.{decimal_below}
 use Rattle.text_bytes.specs.Texts.{begins_with}
 use Rattle.text_tables.specs.Texts.{same_text}
+use Rattle.rule_templates.specs.Substituted.{is_substituted}
 use Rattle.rule_pairs.specs.declared.accounts.Account.{Account}
 use Rattle.rule_pairs.specs.declared.accounts.AccountKind.{AccountKind}
 use Rattle.rule_pairs.specs.declared.accounts.AccountKind.TheVariants.{User, Group}
@@ -41,14 +42,6 @@ is_padded text = begins_with digit_zero text && nat_lt 1 (length text)
 -- the number of a user or a group that a text writes in decimal digits, without a leading zero
 abbrev pub written_identity : List ℕ → Option ℕ
 written_identity text = if is_padded text then None else identity_in (decimal_below (2 ^ 32) text)
-
--- whether a text has a byte that may begin a substitution
-abbrev pub has_sign : List ℕ → Bool
-has_sign text = list_any (λ b. b == percent || b == dollar) text
-
--- whether a value is taken as a text with substitutions
-abbrev pub is_substituted : List ℕ → Bool
-is_substituted text = has_sign text || begins_with open_bracket text
 
 -- the name that stands for the number 65534 wherever names are known
 abbrev pub nobody_name : AccountKind → List ℕ

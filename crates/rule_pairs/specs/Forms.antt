@@ -9,19 +9,20 @@ use Rattle.rule_tokens.specs.Grammar.{compares}
 use Rattle.rule_tokens.specs.declared.kinds.Operator.{Operator}
 use Rattle.rule_types.specs.declared.keys.Key.{Key}
 use Rattle.rule_types.specs.declared.keys.Key.TheVariants as key
+use Rattle.rule_parts.specs.Parts.{is_something}
 use Rattle.rule_pairs.specs.declared.form.Form.{Form}
 use Rattle.rule_pairs.specs.declared.form.Form.TheVariants.{AnySubsystem, Empty, Plain, Pattern, PlainOrEmpty, PatternOrEmpty, Whole}
 
 -- whether a key does something while its rule is matched, so that its value is one text
-abbrev pub is_deed : Key → Bool
-is_deed key.Test = true
-is_deed key.Program = true
-is_deed key.Import = true
-is_deed _ = false
+abbrev pub is_act_kind : Key → Bool
+is_act_kind key.Test = true
+is_act_kind key.Program = true
+is_act_kind key.Import = true
+is_act_kind _ = false
 
 -- whether a token of a key and an operator compares with texts between bars
 abbrev pub is_choice : Key → Operator → Bool
-is_choice k o = compares o && not (is_deed k)
+is_choice k o = compares o && not (is_act_kind k)
 
 -- SUBSYSTEM
 abbrev pub is_subsystem : Key → Bool
@@ -31,10 +32,6 @@ is_subsystem _ = false
 -- the words that each mean all three of them
 abbrev pub any_subsystem : List ℕ → Bool
 any_subsystem text = same_text text (codes "subsystem") || (same_text text (codes "bus") || same_text text (codes "class"))
-
--- the pattern that every text but the empty one fits
-abbrev pub is_something : List ℕ → Bool
-is_something text = same_text text (codes "?*")
 
 -- whether a value is a pattern: it has one of `*`, `?` and `[`
 abbrev pub is_pattern : List ℕ → Bool
@@ -56,7 +53,7 @@ abbrev pub compared_form : Key → List ℕ → Form
 compared_form k text =
     if is_subsystem k && any_subsystem text then AnySubsystem
     else (if is_empty text || is_something text then Empty
-    else (if is_deed k then Whole
+    else (if is_act_kind k then Whole
     else parts_form (is_pattern text) (has_empty_part text)))
 
 -- the form of a token of a key and an operator with a value

@@ -41,5 +41,5 @@ abbrev pub gives_of : List ℕ → List ℕ → List ℕ → Placed
 gives_of key name value = token key (Some name) Assign Plain value
 
 -- what is reported for tokens if there is no list of users or groups
-abbrev pub told : List Placed → List PairFinding
-told tokens = pair_findings nobody tokens
+abbrev pub reported : List Placed → List PairFinding
+reported tokens = pair_findings nobody tokens

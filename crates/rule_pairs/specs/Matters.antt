@@ -13,7 +13,8 @@ use Rattle.rule_types.specs.declared.types.ImportType.TheVariants as import_of
 use Rattle.rule_types.specs.declared.types.RunType.{RunType}
 use Rattle.rule_types.specs.declared.types.RunType.TheVariants as run_of
 use Rattle.rule_parts.specs.Builtins.{builtin_name, builtin_of}
-use Rattle.rule_parts.specs.Options.{behind, level_of, option_of}
+use Rattle.text_bytes.specs.Texts.{following}
+use Rattle.rule_parts.specs.Options.{level_of, option_of}
 use Rattle.rule_parts.specs.declared.builtins.Builtin.{Builtin}
 use Rattle.rule_pairs.specs.Accounts.{Accounts, given_in}
 use Rattle.rule_pairs.specs.declared.accounts.AccountKind.TheVariants.{User, Group}
@@ -94,11 +95,11 @@ log_level text = option_map (numbered (codes "log_level")) (level_of text)
 -- a static node, or else a level of the log, by what is in a text after `static_node=`
 abbrev pub node_or_level : List ℕ → Option (List ℕ) → Option Matter
 node_or_level text (Some node) = Some (of_kind (codes "static_node") node)
-node_or_level text None = option_and_then log_level (behind (codes "log_level=") text)
+node_or_level text None = option_and_then log_level (following (codes "log_level=") text)
 
 -- an option that changes nothing here; none if it is not an option
 abbrev pub other_option : List ℕ → Option Matter
-other_option text = node_or_level text (behind (codes "static_node=") text)
+other_option text = node_or_level text (following (codes "static_node=") text)
 
 -- an option as it was read; watch and nowatch are one kind
 abbrev pub of_option : List ℕ → Option RuleOption → Option Matter
@@ -109,6 +110,7 @@ of_option text (Some option.ReplaceEscapes) = Some (bare_option (codes "string_e
 of_option text (Some option.Watch) = Some (numbered (codes "watch") (pos 1))
 of_option text (Some option.NoWatch) = Some (numbered (codes "watch") (pos 0))
 of_option text (Some option.DbPersist) = Some (bare_option (codes "db_persist"))
+of_option text (Some option.LogLevel) = other_option text
 of_option text (Some option.Ignored) = other_option text
 
 -- what a token of a key with an attribute and a value is about; none for LABEL, GOTO and what is not an option, which

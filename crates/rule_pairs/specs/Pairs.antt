@@ -59,21 +59,21 @@ abbrev pub finding : PairKind → Pair → PairFinding
 finding kind p = record { kind = kind; token = p.place }
 
 -- whether a kind is among what is reported
-abbrev pub is_told : PairKind → List PairFinding → Bool
-is_told kind told = list_any (λ f. same_kind kind f.kind) told
+abbrev pub is_reported : PairKind → List PairFinding → Bool
+is_reported kind reported = list_any (λ f. same_kind kind f.kind) reported
 
 -- what is reported, and a pair with it if it is of a kind that is not reported yet
 abbrev pub with_kind : PairKind → List PairFinding → Pair → List PairFinding
-with_kind kind told p = if not (is_told kind told) && is_of_kind kind p then told ++ finding kind p ∷ [] else told
+with_kind kind reported p = if not (is_reported kind reported) && is_of_kind kind p then reported ++ finding kind p ∷ [] else reported
 
 -- the same for both kinds
 abbrev pub with_pair : List PairFinding → Pair → List PairFinding
-with_pair told p = with_kind Against (with_kind Same told p) p
+with_pair reported p = with_kind Against (with_kind Same reported p) p
 
 -- what is reported for pairs, one after another, added to what is reported already
-abbrev pub told_of : List PairFinding → List Pair → List PairFinding
-told_of told pairs = fold with_pair told pairs
+abbrev pub reported_for : List PairFinding → List Pair → List PairFinding
+reported_for reported pairs = fold with_pair reported pairs
 
 -- what is reported for the tokens of a rule: the first pair of each kind, in the order in which the pairs are written
 unfoldable pub pair_findings : Accounts → List Placed → List PairFinding
-pair_findings accounts tokens = told_of [] (pairs_from 0 (map (said_of accounts) tokens))
+pair_findings accounts tokens = reported_for [] (pairs_from 0 (map (said_of accounts) tokens))

@@ -84,7 +84,7 @@ share_a_word ws vs = list_any (is_among vs) ws
 
 -- whether a beginning parts ways with those of all these patterns
 unfoldable pub parts_from_all : Text → List Text → Bool
-parts_from_all front vs = list_all (λ v. part_ways front (beginning v)) vs
+parts_from_all prefix vs = list_all (λ v. part_ways prefix (beginning v)) vs
 
 -- whether the beginnings of any two patterns part ways, one from each list
 abbrev pub all_part_ways : List Text → List Text → Bool

@@ -9,9 +9,9 @@ use Rattle.rule_types.specs.Names.{key_name, key_of}
 use Rattle.rule_types.specs.Operators.{is_add, read_as}
 use Rattle.rule_types.specs.declared.keys.Key.{Key}
 use Rattle.rule_types.specs.declared.keys.Key.TheVariants as key
-use Rattle.rule_parts.specs.Parts.{ignores_case, meaning_of}
+use Rattle.rule_parts.specs.Parts.{ignores_case, is_something, meaning_of}
 use Rattle.rule_pairs.specs.Accounts.{Accounts}
-use Rattle.rule_pairs.specs.Forms.{form_of, is_choice, is_something}
+use Rattle.rule_pairs.specs.Forms.{form_of, is_choice}
 use Rattle.rule_pairs.specs.Matters.{Matter, matter_of}
 use Rattle.rule_pairs.specs.Words.{words_of}
 use Rattle.rule_pairs.specs.declared.form.Form.{Form}
@@ -44,14 +44,14 @@ operator_of key.Options o = as_assign o
 operator_of k o = read_as k o
 
 -- the other of `==` and `!=`
-abbrev pub turned : Operator → Operator
-turned op.Equal = op.NotEqual
-turned op.NotEqual = op.Equal
-turned o = o
+abbrev pub opposite : Operator → Operator
+opposite op.Equal = op.NotEqual
+opposite op.NotEqual = op.Equal
+opposite o = o
 
 -- an operator, reversed if the value is the pattern that every text but the empty one fits
-abbrev pub turned_by : List ℕ → Operator → Operator
-turned_by text o = if is_something text then turned o else o
+abbrev pub opposite_by : List ℕ → Operator → Operator
+opposite_by text o = if is_something text then opposite o else o
 
 -- whether a key is that of an attribute of a device, which may have white space at its end
 abbrev pub is_attribute : Key → Bool
@@ -84,7 +84,7 @@ said_by k o text blind matter = record {
   kind = matter.kind;
   name = matter.name;
   number = matter.number;
-  operator = turned_by text o;
+  operator = opposite_by text o;
   form = form_of k o text;
   words = words_of (is_choice k o) matter.text;
   blind = blind;
@@ -98,10 +98,10 @@ said_with accounts t k =
     (matter_of accounts k t.parts.head.attribute (meaning_of t))
 
 -- a token with the key of its name, if there is one
-abbrev pub said_behind : Accounts → Placed → Option Key → Option Said
-said_behind accounts t None = None
-said_behind accounts t (Some k) = said_with accounts t k
+abbrev pub said_after : Accounts → Placed → Option Key → Option Said
+said_after accounts t None = None
+said_after accounts t (Some k) = said_with accounts t k
 
 -- a token as it is compared with others; none for LABEL, GOTO and what is not an option
 unfoldable pub said_of : Accounts → Placed → Option Said
-said_of accounts t = said_behind accounts t (key_of t.parts.head.key)
+said_of accounts t = said_after accounts t (key_of t.parts.head.key)

@@ -2,8 +2,9 @@
 ghost use Rattle.std.specs.Prelude.{◌≡◌, option_map};
 ghost use Rattle.std.specs.List.{find};
 ghost use Rattle.text_tables.specs.Texts.{same_text};
-ghost use Rattle.rule_pairs.specs.Accounts.{given_among, given_by, given_in, given_named, has_sign, is_identity, is_padded, is_substituted, list_of, nobody, nobody_name, written_identity};
+ghost use Rattle.rule_pairs.specs.Accounts.{given_among, given_by, given_in, given_named, is_identity, is_padded, list_of, nobody, nobody_name, written_identity};
 
+use rule_templates::is_substituted;
 use std::marker::Model;
 use text_bytes::{Bytes, begins_with, decimal_below};
 
@@ -74,14 +75,14 @@ impl Accounts {
         ensures { option_map (λ list. list.now) result ≡ list_of self.now kind }
     {
         match kind {
-            AccountKind::User => lent(&self.users),
-            AccountKind::Group => lent(&self.groups),
+            AccountKind::User => borrowed(&self.users),
+            AccountKind::Group => borrowed(&self.groups),
         }
     }
 }
 
 /// Returns a list, if there is one.
-fn lent(list: &Option<Vec<Account>>) -> Option<&[Account]>
+fn borrowed(list: &Option<Vec<Account>>) -> Option<&[Account]>
     ensures { option_map (λ list. list.now) result ≡ option_map (λ v. v.items) list.now }
 {
     match list {
@@ -142,20 +143,6 @@ fn given_named(accounts: &Accounts, kind: AccountKind, text: &[u8]) -> Given
     } else {
         given_among(kind, accounts.list_of(kind), text)
     }
-}
-
-/// Whether a value is taken as a text with substitutions.
-fn is_substituted(text: &[u8]) -> bool
-    ensures { result ≡ is_substituted text.now }
-{
-    has_sign(text) || begins_with(b'[', text)
-}
-
-/// Whether a text has a byte that may begin a substitution.
-fn has_sign(text: &[u8]) -> bool
-    ensures { result ≡ has_sign text.now }
-{
-    text.iter().any(|byte| *byte == b'%' || *byte == b'$')
 }
 
 /// What a name other than `root` gives, by the list of its kind.

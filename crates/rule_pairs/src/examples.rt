@@ -1,40 +1,40 @@
 //! Examples of the tokens of rules, with the pairs that are reported.
 ghost use Rattle.std.specs.Prelude.{◌≡◌, ◌∷◌, [], codes};
-ghost use Rattle.rule_pairs.specs.Laws.{asks, asks_not, asks_not_of, asks_of, gives, gives_of, told};
+ghost use Rattle.rule_pairs.specs.Laws.{asks, asks_not, asks_not_of, asks_of, gives, gives_of, reported};
 ghost use Rattle.rule_pairs.specs.declared.pair_finding.PairKind.TheVariants.{Same, Against};
 
 /// Matches, of which some exclude each other.
 #[tactic(auto, unfolding(crate::specs::Pairs::pair_findings, crate::specs::Said::said_of, crate::specs::Matters::matter_of, crate::specs::Forms::form_of, crate::specs::Words::words_of, crate::specs::Relations::is_same, crate::specs::Relations::is_against, crate::specs::Relations::beginning, crate::specs::Relations::part_ways, crate::specs::Relations::parts_from_all, rule_types::specs::Names::key_of, rule_types::specs::Operators::is_read_as_assign, rule_tokens::specs::Reading::pieces_of, rule_tokens::specs::Reading::piece_at, text_bytes::specs::Texts::split_once))]
 pub fn some_matches()
-    ensures tags { told (asks (codes "TAG") (codes "a") ∷ asks (codes "TAG") (codes "b") ∷ []) ≡ record { kind = Against; token = 1 } ∷ [] }
-    ensures trimmed { told (asks_of (codes "ATTR") (codes "a") (codes "1") ∷ asks_of (codes "ATTR") (codes "a") (codes "2") ∷ []) ≡ [] }
-    ensures blank { told (asks_of (codes "ATTR") (codes "a") (codes "1 ") ∷ asks_of (codes "ATTR") (codes "a") (codes "2 ") ∷ []) ≡ record { kind = Against; token = 1 } ∷ [] }
-    ensures blank_first { told (asks_of (codes "ATTR") (codes "a") (codes "x |1") ∷ asks_of (codes "ATTR") (codes "a") (codes "y |2") ∷ []) ≡ record { kind = Against; token = 1 } ∷ [] }
-    ensures blank_last { told (asks_of (codes "ATTR") (codes "a") (codes "x|1 ") ∷ asks_of (codes "ATTR") (codes "a") (codes "y|2 ") ∷ []) ≡ [] }
-    ensures bar_first { told (asks_of (codes "ATTR") (codes "a") (codes "|1") ∷ asks_of (codes "ATTR") (codes "a") (codes "1|") ∷ []) ≡ record { kind = Same; token = 1 } ∷ [] }
-    ensures bars_first { told (asks_of (codes "ATTR") (codes "a") (codes "|1|2 ") ∷ asks_of (codes "ATTR") (codes "a") (codes "|2 |1") ∷ []) ≡ [] }
-    ensures unequal { told (asks_of (codes "ATTR") (codes "a") (codes "1") ∷ asks_not_of (codes "ATTR") (codes "a") (codes "1") ∷ []) ≡ record { kind = Against; token = 1 } ∷ [] }
-    ensures turned { told (asks (codes "KERNEL") (codes "") ∷ asks (codes "KERNEL") (codes "?*") ∷ []) ≡ record { kind = Against; token = 1 } ∷ [] }
-    ensures order { told (asks (codes "KERNEL") (codes "a|b") ∷ asks (codes "KERNEL") (codes "b|a") ∷ []) ≡ record { kind = Same; token = 1 } ∷ [] }
-    ensures empty { told (asks (codes "KERNEL") (codes "a|") ∷ asks (codes "KERNEL") (codes "b") ∷ []) ≡ [] }
-    ensures patterns { told (asks (codes "KERNEL") (codes "ab|c*") ∷ asks (codes "KERNEL") (codes "abc|d*") ∷ []) ≡ [] }
-    ensures apart { told (asks (codes "KERNEL") (codes "ab*") ∷ asks (codes "KERNEL") (codes "cd*") ∷ []) ≡ record { kind = Against; token = 1 } ∷ [] }
-    ensures mixed { told (asks (codes "KERNEL") (codes "a") ∷ asks (codes "KERNEL") (codes "b*") ∷ []) ≡ [] }
-    ensures far { told (asks (codes "KERNEL") (codes "a") ∷ asks (codes "SUBSYSTEM") (codes "b") ∷ asks (codes "KERNEL") (codes "c") ∷ []) ≡ record { kind = Against; token = 2 } ∷ [] }
-    ensures three { told (asks (codes "SUBSYSTEM") (codes "bus") ∷ asks_not (codes "SUBSYSTEM") (codes "class") ∷ []) ≡ record { kind = Against; token = 1 } ∷ [] }
+    ensures tags { reported (asks (codes "TAG") (codes "a") ∷ asks (codes "TAG") (codes "b") ∷ []) ≡ record { kind = Against; token = 1 } ∷ [] }
+    ensures trimmed { reported (asks_of (codes "ATTR") (codes "a") (codes "1") ∷ asks_of (codes "ATTR") (codes "a") (codes "2") ∷ []) ≡ [] }
+    ensures blank { reported (asks_of (codes "ATTR") (codes "a") (codes "1 ") ∷ asks_of (codes "ATTR") (codes "a") (codes "2 ") ∷ []) ≡ record { kind = Against; token = 1 } ∷ [] }
+    ensures blank_first { reported (asks_of (codes "ATTR") (codes "a") (codes "x |1") ∷ asks_of (codes "ATTR") (codes "a") (codes "y |2") ∷ []) ≡ record { kind = Against; token = 1 } ∷ [] }
+    ensures blank_last { reported (asks_of (codes "ATTR") (codes "a") (codes "x|1 ") ∷ asks_of (codes "ATTR") (codes "a") (codes "y|2 ") ∷ []) ≡ [] }
+    ensures bar_first { reported (asks_of (codes "ATTR") (codes "a") (codes "|1") ∷ asks_of (codes "ATTR") (codes "a") (codes "1|") ∷ []) ≡ record { kind = Same; token = 1 } ∷ [] }
+    ensures bars_first { reported (asks_of (codes "ATTR") (codes "a") (codes "|1|2 ") ∷ asks_of (codes "ATTR") (codes "a") (codes "|2 |1") ∷ []) ≡ [] }
+    ensures unequal { reported (asks_of (codes "ATTR") (codes "a") (codes "1") ∷ asks_not_of (codes "ATTR") (codes "a") (codes "1") ∷ []) ≡ record { kind = Against; token = 1 } ∷ [] }
+    ensures opposite { reported (asks (codes "KERNEL") (codes "") ∷ asks (codes "KERNEL") (codes "?*") ∷ []) ≡ record { kind = Against; token = 1 } ∷ [] }
+    ensures order { reported (asks (codes "KERNEL") (codes "a|b") ∷ asks (codes "KERNEL") (codes "b|a") ∷ []) ≡ record { kind = Same; token = 1 } ∷ [] }
+    ensures empty { reported (asks (codes "KERNEL") (codes "a|") ∷ asks (codes "KERNEL") (codes "b") ∷ []) ≡ [] }
+    ensures patterns { reported (asks (codes "KERNEL") (codes "ab|c*") ∷ asks (codes "KERNEL") (codes "abc|d*") ∷ []) ≡ [] }
+    ensures apart { reported (asks (codes "KERNEL") (codes "ab*") ∷ asks (codes "KERNEL") (codes "cd*") ∷ []) ≡ record { kind = Against; token = 1 } ∷ [] }
+    ensures mixed { reported (asks (codes "KERNEL") (codes "a") ∷ asks (codes "KERNEL") (codes "b*") ∷ []) ≡ [] }
+    ensures far { reported (asks (codes "KERNEL") (codes "a") ∷ asks (codes "SUBSYSTEM") (codes "b") ∷ asks (codes "KERNEL") (codes "c") ∷ []) ≡ record { kind = Against; token = 2 } ∷ [] }
+    ensures three { reported (asks (codes "SUBSYSTEM") (codes "bus") ∷ asks_not (codes "SUBSYSTEM") (codes "class") ∷ []) ≡ record { kind = Against; token = 1 } ∷ [] }
 {}
 
 /// Assignments and what is done while a rule is matched, of which some say the same.
 #[tactic(auto, unfolding(crate::specs::Pairs::pair_findings, crate::specs::Said::said_of, crate::specs::Matters::matter_of, crate::specs::Forms::form_of, crate::specs::Words::words_of, crate::specs::Relations::is_same, crate::specs::Relations::is_against, crate::specs::Relations::beginning, crate::specs::Relations::part_ways, crate::specs::Relations::parts_from_all, crate::specs::Accounts::given_in, rule_types::specs::Names::key_of, rule_types::specs::Names::import_type_of, rule_types::specs::Names::run_type_of, rule_types::specs::Operators::is_read_as_assign, rule_types::specs::Topics::mode_of, rule_parts::specs::Builtins::builtin_of, rule_parts::specs::Options::option_of, rule_parts::specs::Options::priority_of, rule_templates::specs::Integers::integer_of, rule_templates::specs::Integers::size_in, rule_templates::specs::Integers::marked, rule_templates::specs::Integers::signed, rule_templates::specs::Integers::signed_size, text_bytes::specs::Numbers::decimal_below, text_bytes::specs::Texts::split_once, rule_tokens::specs::Reading::pieces_of, rule_tokens::specs::Reading::piece_at))]
-pub fn some_deeds()
-    ensures modes { told (gives (codes "MODE") (codes "0660") ∷ gives (codes "MODE") (codes "660") ∷ []) ≡ record { kind = Same; token = 1 } ∷ [] }
-    ensures owners { told (gives (codes "OWNER") (codes "root") ∷ gives (codes "OWNER") (codes "0") ∷ []) ≡ record { kind = Same; token = 1 } ∷ [] }
-    ensures names { told (gives (codes "NAME") (codes "a") ∷ gives (codes "NAME") (codes "b") ∷ []) ≡ [] }
-    ensures tests { told (asks_of (codes "TEST") (codes "644") (codes "a") ∷ asks_of (codes "TEST") (codes "0644") (codes "a") ∷ []) ≡ record { kind = Same; token = 1 } ∷ [] }
-    ensures runs { told (gives (codes "RUN") (codes "a") ∷ gives_of (codes "RUN") (codes "program") (codes "a") ∷ []) ≡ record { kind = Same; token = 1 } ∷ [] }
-    ensures programs { told (asks (codes "PROGRAM") (codes "a") ∷ gives (codes "PROGRAM") (codes "a") ∷ []) ≡ record { kind = Same; token = 1 } ∷ [] }
-    ensures imports { told (gives_of (codes "IMPORT") (codes "program") (codes "u") ∷ gives_of (codes "IMPORT") (codes "builtin") (codes "u") ∷ []) ≡ record { kind = Same; token = 1 } ∷ [] }
-    ensures options { told (gives (codes "OPTIONS") (codes "watch") ∷ gives (codes "OPTIONS") (codes "nowatch") ∷ []) ≡ [] }
-    ensures numbers { told (gives (codes "OPTIONS") (codes "link_priority=16") ∷ gives (codes "OPTIONS") (codes "link_priority=0x10") ∷ []) ≡ record { kind = Same; token = 1 } ∷ [] }
-    ensures labels { told (gives (codes "LABEL") (codes "a") ∷ gives (codes "LABEL") (codes "a") ∷ []) ≡ [] }
+pub fn some_act_kinds()
+    ensures modes { reported (gives (codes "MODE") (codes "0660") ∷ gives (codes "MODE") (codes "660") ∷ []) ≡ record { kind = Same; token = 1 } ∷ [] }
+    ensures owners { reported (gives (codes "OWNER") (codes "root") ∷ gives (codes "OWNER") (codes "0") ∷ []) ≡ record { kind = Same; token = 1 } ∷ [] }
+    ensures names { reported (gives (codes "NAME") (codes "a") ∷ gives (codes "NAME") (codes "b") ∷ []) ≡ [] }
+    ensures tests { reported (asks_of (codes "TEST") (codes "644") (codes "a") ∷ asks_of (codes "TEST") (codes "0644") (codes "a") ∷ []) ≡ record { kind = Same; token = 1 } ∷ [] }
+    ensures runs { reported (gives (codes "RUN") (codes "a") ∷ gives_of (codes "RUN") (codes "program") (codes "a") ∷ []) ≡ record { kind = Same; token = 1 } ∷ [] }
+    ensures programs { reported (asks (codes "PROGRAM") (codes "a") ∷ gives (codes "PROGRAM") (codes "a") ∷ []) ≡ record { kind = Same; token = 1 } ∷ [] }
+    ensures imports { reported (gives_of (codes "IMPORT") (codes "program") (codes "u") ∷ gives_of (codes "IMPORT") (codes "builtin") (codes "u") ∷ []) ≡ record { kind = Same; token = 1 } ∷ [] }
+    ensures options { reported (gives (codes "OPTIONS") (codes "watch") ∷ gives (codes "OPTIONS") (codes "nowatch") ∷ []) ≡ [] }
+    ensures numbers { reported (gives (codes "OPTIONS") (codes "link_priority=16") ∷ gives (codes "OPTIONS") (codes "link_priority=0x10") ∷ []) ≡ record { kind = Same; token = 1 } ∷ [] }
+    ensures labels { reported (gives (codes "LABEL") (codes "a") ∷ gives (codes "LABEL") (codes "a") ∷ []) ≡ [] }
 {}

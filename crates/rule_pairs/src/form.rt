@@ -1,8 +1,9 @@
 //! How a token compares its value, by what the value is.
 ghost use Rattle.std.specs.Prelude.{◌≡◌};
 ghost use Rattle.text_core.specs.Fnmatch.{is_special};
-ghost use Rattle.rule_pairs.specs.Forms.{any_subsystem, compared_form, form_of, has_empty_part, is_choice, is_deed, is_pattern, is_something, is_subsystem, parts_form};
+ghost use Rattle.rule_pairs.specs.Forms.{any_subsystem, compared_form, form_of, has_empty_part, is_act_kind, is_choice, is_pattern, is_subsystem, parts_form};
 
+use rule_parts::is_something;
 use rule_types::{Key, Operator};
 
 /// How a token compares its value.
@@ -40,14 +41,7 @@ pub(crate) fn form_of(key: Key, operator: Operator, text: &[u8]) -> Form
 pub(crate) fn is_choice(key: Key, operator: Operator) -> bool
     ensures { result ≡ is_choice key operator }
 {
-    operator.compares() && !is_deed(key)
-}
-
-/// Whether a value is the pattern that every text but the empty one fits.
-pub(crate) fn is_something(text: &[u8]) -> bool
-    ensures { result ≡ is_something text.now }
-{
-    text == b"?*".as_slice()
+    operator.compares() && !is_act_kind(key)
 }
 
 /// Whether a byte makes a value a pattern.
@@ -65,7 +59,7 @@ fn compared_form(key: Key, text: &[u8]) -> Form
         Form::AnySubsystem
     } else if text.is_empty() || is_something(text) {
         Form::Empty
-    } else if is_deed(key) {
+    } else if is_act_kind(key) {
         Form::Whole
     } else {
         parts_form(is_pattern(text), has_empty_part(text))
@@ -73,8 +67,8 @@ fn compared_form(key: Key, text: &[u8]) -> Form
 }
 
 /// Whether a key does something while its rule is matched.
-fn is_deed(key: Key) -> bool
-    ensures { result ≡ is_deed key }
+fn is_act_kind(key: Key) -> bool
+    ensures { result ≡ is_act_kind key }
 {
     matches!(key, Key::Test | Key::Program | Key::Import)
 }

@@ -4,7 +4,7 @@ ghost use Rattle.std.specs.List.{find, slice_split, starts_with};
 ghost use Rattle.text_core.specs.Choices.{is_bar};
 ghost use Rattle.text_tables.specs.Texts.{Text, is_among};
 ghost use Rattle.text_bytes.specs.Texts.{is_empty};
-ghost use Rattle.rule_pairs.specs.Pairs.{Pair, finding, is_of_kind, same_kind, told_of};
+ghost use Rattle.rule_pairs.specs.Pairs.{Pair, finding, is_of_kind, reported_for, same_kind};
 ghost use Rattle.rule_pairs.specs.Relations.{are_alike, is_against, is_same, part_ways, same_words};
 ghost use Rattle.rule_pairs.specs.Said.{Said};
 ghost use Rattle.rule_pairs.specs.Words.{parts_of};
@@ -12,7 +12,7 @@ ghost use Rattle.rule_pairs.specs.declared.pair_finding.PairKind.{PairKind};
 ghost use Rattle.rule_pairs.specs.declared.pair_finding.PairKind.TheVariants.{Same, Against};
 
 /// Whether two tokens are alike does not depend on which is written first.
-#[tactic(auto, using(crate::proofs::Likeness::alike_turned))]
+#[tactic(auto, using(crate::proofs::Likeness::alike_reversed))]
 pub fn likeness_has_no_order()
     ensures { (a b : Said) → are_alike a b ≡ are_alike b a }
 {}
@@ -24,9 +24,9 @@ pub fn no_pair_is_of_both_kinds()
 {}
 
 /// The first pair of each kind is reported, and no other.
-pub fn the_first_pair_of_a_kind_is_told()
-    ensures first { (kind : PairKind) (pairs : List Pair) → find (λ f. same_kind kind f.kind) (told_of [] pairs) ≡ option_map (finding kind) (find (is_of_kind kind) pairs) }
-    ensures once { (kind : PairKind) (pairs : List Pair) → length (filter (λ f. same_kind kind f.kind) (told_of [] pairs)) ≤ 1 }
+pub fn the_first_pair_of_a_kind_is_reported()
+    ensures first { (kind : PairKind) (pairs : List Pair) → find (λ f. same_kind kind f.kind) (reported_for [] pairs) ≡ option_map (finding kind) (find (is_of_kind kind) pairs) }
+    ensures once { (kind : PairKind) (pairs : List Pair) → length (filter (λ f. same_kind kind f.kind) (reported_for [] pairs)) ≤ 1 }
 {}
 
 /// The words of a text with bars are just the texts between its bars that are not empty.

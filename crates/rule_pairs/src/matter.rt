@@ -235,7 +235,7 @@ fn of_option(text: &[u8], known: Option<RuleOption>) -> Option<Matter<'_>>
         RuleOption::Watch => Some(numbered(b"watch", 1)),
         RuleOption::NoWatch => Some(numbered(b"watch", 0)),
         RuleOption::DbPersist => Some(bare_option(b"db_persist")),
-        RuleOption::Ignored => other_option(text),
+        RuleOption::LogLevel | RuleOption::Ignored => other_option(text),
     }
 }
 

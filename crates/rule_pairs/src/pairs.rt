@@ -1,6 +1,6 @@
 //! What is reported for the tokens of one rule, two by two.
 ghost use Rattle.std.specs.Prelude.{◌≡◌, ◌∷◌, [], ◌+◌, ◌<◌, ◌^◌, IfOk, OnOk, length, map};
-ghost use Rattle.rule_pairs.specs.Pairs.{are_of_kind, are_related, is_told, pair_findings, pairs_from, pairs_with, same_kind, told_of, with_kind, with_pair};
+ghost use Rattle.rule_pairs.specs.Pairs.{are_of_kind, are_related, is_reported, pair_findings, pairs_from, pairs_with, reported_for, same_kind, with_kind, with_pair};
 ghost use Rattle.rule_pairs.specs.Said.{said_of};
 
 use crate::accounts::Accounts;
@@ -20,10 +20,10 @@ pub fn pair_findings(
     accounts: &Accounts,
     tokens: &[Token<'_>],
 ) -> Result<Vec<PairFinding>, AllocError>
-    ensures { IfOk result (λ told. told.items ≡ pair_findings accounts.now tokens.now) }
+    ensures { IfOk result (λ reported. reported.items ≡ pair_findings accounts.now tokens.now) }
 {
     let said = all_said(alloc, accounts, tokens)?;
-    told_of(alloc, &said)
+    reported_for(alloc, &said)
 }
 
 /// Each token of a rule as it is compared with others.
@@ -42,72 +42,77 @@ fn all_said(
 }
 
 /// What is reported for tokens.
-#[tactic(auto, using(crate::proofs::Telling::next_token, crate::proofs::Telling::no_token))]
-fn told_of(alloc: Global, said: &[Option<Said>]) -> Result<Vec<PairFinding>, AllocError>
-    ensures { IfOk result (λ told. told.items ≡ told_of [] (pairs_from 0 said.now)) }
+#[tactic(auto, using(crate::proofs::Reporting::next_token, crate::proofs::Reporting::no_token))]
+fn reported_for(alloc: Global, said: &[Option<Said>]) -> Result<Vec<PairFinding>, AllocError>
+    ensures { IfOk result (λ reported. reported.items ≡ reported_for [] (pairs_from 0 said.now)) }
 {
-    let mut told = Vec::new(alloc);
+    let mut reported = Vec::new(alloc);
     let mut left = said;
-    while let Some((earlier, behind)) = left.split_first() {
-        tell_pairs(&mut told, earlier, behind, said.len() - behind.len())?;
-        left = behind;
+    while let Some((earlier, following)) = left.split_first() {
+        report_pairs(
+            &mut reported,
+            earlier,
+            following,
+            said.len() - following.len(),
+        )?;
+        left = following;
     }
-    Ok(told)
+    Ok(reported)
 }
 
 /// Adds what is reported for a token with each of those after it, of which the first is at a place.
-#[tactic(auto, using(crate::proofs::Telling::next_pair))]
-fn tell_pairs(
-    told: &mut Vec<PairFinding>,
+#[tactic(auto, using(crate::proofs::Reporting::next_pair))]
+fn report_pairs(
+    reported: &mut Vec<PairFinding>,
     earlier: &Option<Said>,
-    behind: &[Option<Said>],
+    following: &[Option<Said>],
     first: usize,
 ) -> Result<(), AllocError>
-    requires { first + length behind.now < 2 ^ 64 }
-    ensures { OnOk result (told.new.items ≡ told_of told.old.items (pairs_with earlier.now first behind.now)) }
+    requires { first + length following.now < 2 ^ 64 }
+    ensures { OnOk result (reported.new.items ≡ reported_for reported.old.items (pairs_with earlier.now first following.now)) }
 {
     let mut place = first;
-    for later in behind {
-        tell_pair(told, earlier, later, place)?;
+    for later in following {
+        report_pair(reported, earlier, later, place)?;
         place += 1;
     }
     Ok(())
 }
 
 /// Adds what is reported for two tokens, of which the later one is at a place.
-fn tell_pair(
-    told: &mut Vec<PairFinding>,
+fn report_pair(
+    reported: &mut Vec<PairFinding>,
     earlier: &Option<Said>,
     later: &Option<Said>,
     place: usize,
 ) -> Result<(), AllocError>
-    ensures { OnOk result (told.new.items ≡ with_pair told.old.items (record { earlier = earlier.now; later = later.now; place = place })) }
+    ensures { OnOk result (reported.new.items ≡ with_pair reported.old.items (record { earlier = earlier.now; later = later.now; place = place })) }
 {
-    tell_kind(told, PairKind::Same, earlier, later, place)?;
-    tell_kind(told, PairKind::Against, earlier, later, place)
+    report_kind(reported, PairKind::Same, earlier, later, place)?;
+    report_kind(reported, PairKind::Against, earlier, later, place)
 }
 
 /// Adds two tokens if they are a pair of a kind that is not reported yet.
-fn tell_kind(
-    told: &mut Vec<PairFinding>,
+fn report_kind(
+    reported: &mut Vec<PairFinding>,
     kind: PairKind,
     earlier: &Option<Said>,
     later: &Option<Said>,
     place: usize,
 ) -> Result<(), AllocError>
-    ensures { OnOk result (told.new.items ≡ with_kind kind told.old.items (record { earlier = earlier.now; later = later.now; place = place })) }
+    ensures { OnOk result (reported.new.items ≡ with_kind kind reported.old.items (record { earlier = earlier.now; later = later.now; place = place })) }
 {
-    if !is_told(kind, told) && are_of_kind(kind, earlier, later) {
-        told.push(PairFinding { kind, token: place })?;
+    if !is_reported(kind, reported) && are_of_kind(kind, earlier, later) {
+        reported.push(PairFinding { kind, token: place })?;
     }
     Ok(())
 }
 
 /// Whether a kind is among what is reported.
-fn is_told(kind: PairKind, told: &[PairFinding]) -> bool
-    ensures { result ≡ is_told kind told.now }
+fn is_reported(kind: PairKind, reported: &[PairFinding]) -> bool
+    ensures { result ≡ is_reported kind reported.now }
 {
-    told.iter().any(|finding| same_kind(kind, finding.kind))
+    reported.iter().any(|finding| same_kind(kind, finding.kind))
 }
 
 /// Whether two kinds are the same.

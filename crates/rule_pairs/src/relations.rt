@@ -181,11 +181,11 @@ fn all_part_ways(words: &[Vec<u8>], others: &[Vec<u8>]) -> bool
 
 /// Whether a beginning parts ways with those of all these patterns.
 #[tactic(auto, unfolding(crate::specs::Relations::parts_from_all))]
-fn parts_from_all(front: &[u8], others: &[Vec<u8>]) -> bool
-    ensures { result ≡ parts_from_all front.now (map (λ word. word.items) others.now) }
+fn parts_from_all(prefix: &[u8], others: &[Vec<u8>]) -> bool
+    ensures { result ≡ parts_from_all prefix.now (map (λ word. word.items) others.now) }
 {
     for other in others {
-        if !part_ways(front, beginning(other)) {
+        if !part_ways(prefix, beginning(other)) {
             return false;
         }
     }
@@ -205,8 +205,8 @@ fn part_ways(x: &[u8], y: &[u8]) -> bool
 fn beginning(word: &[u8]) -> &[u8]
     ensures { result.now ≡ beginning word.now }
 {
-    let (front, _) = word.split_at(plain_length(word));
-    front
+    let (prefix, _) = word.split_at(plain_length(word));
+    prefix
 }
 
 /// How many bytes of a pattern come before the first of these.

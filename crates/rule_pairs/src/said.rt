@@ -1,11 +1,12 @@
 //! A token of a rule as it is compared with the others of its rule.
 ghost use Rattle.std.specs.Prelude.{◌≡◌, IfOk, map};
-ghost use Rattle.rule_pairs.specs.Said.{as_assign, as_equal, ends_dark, first_ends_dark, is_attribute, operator_of, said_by, said_of, said_with, trims, turned, turned_by};
+ghost use Rattle.rule_pairs.specs.Said.{as_assign, as_equal, ends_dark, first_ends_dark, is_attribute, operator_of, opposite, opposite_by, said_by, said_of, said_with, trims};
 
 use crate::accounts::Accounts;
-use crate::form::{Form, form_of, is_choice, is_something};
+use crate::form::{Form, form_of, is_choice};
 use crate::matter::{Matter, matter_of};
 use crate::words::words_of;
+use rule_parts::is_something;
 use rule_tokens::{Quote, Token, unquote};
 use rule_types::{Key, Operator, key_of, read_as};
 use std::alloc::{AllocError, Global};
@@ -107,7 +108,7 @@ fn said_by(
         kind: matter.kind,
         name: Bytes::copy_of(alloc, matter.name)?,
         number: matter.number,
-        operator: turned_by(text, operator),
+        operator: opposite_by(text, operator),
         form: form_of(key, operator, text),
         words,
         blind,
@@ -148,19 +149,19 @@ fn as_assign(operator: Operator) -> Operator
 }
 
 /// An operator, reversed if the value is the pattern that every text but the empty one fits.
-fn turned_by(text: &[u8], operator: Operator) -> Operator
-    ensures { result ≡ turned_by text.now operator }
+fn opposite_by(text: &[u8], operator: Operator) -> Operator
+    ensures { result ≡ opposite_by text.now operator }
 {
     if is_something(text) {
-        turned(operator)
+        opposite(operator)
     } else {
         operator
     }
 }
 
 /// The other of `==` and `!=`.
-fn turned(operator: Operator) -> Operator
-    ensures { result ≡ turned operator }
+fn opposite(operator: Operator) -> Operator
+    ensures { result ≡ opposite operator }
 {
     match operator {
         Operator::Equal => Operator::NotEqual,

@@ -40,9 +40,9 @@ fn parts_of(alloc: Global, text: &[u8]) -> Result<OwnedTexts, AllocError>
     let mut rest = text;
     while let Some(place) = find(b'|', rest) {
         let (part, _) = rest.split_at(place);
-        let (_, behind) = rest.split_at(place + 1);
+        let (_, following) = rest.split_at(place + 1);
         add_word(alloc, &mut words, part)?;
-        rest = behind;
+        rest = following;
     }
     add_word(alloc, &mut words, rest)?;
     Ok(words)

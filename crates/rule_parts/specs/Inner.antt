@@ -10,15 +10,15 @@ use Rattle.rule_parts.specs.declared.finding.PartFault.{PartFault}
 use Rattle.rule_parts.specs.declared.finding.PartFault.TheVariants.{Wrong, Memory}
 
 -- A finding has this kind and this word; about out of memory nothing is said.
-abbrev pub Tells : MessageKind → List ℕ → PartFault → Type 0
-Tells kind word (Wrong found) = found ≡ finding kind word
-Tells kind word Memory = Unit {0}
+abbrev pub Reports : MessageKind → List ℕ → PartFault → Type 0
+Reports kind word (Wrong found) = found ≡ finding kind word
+Reports kind word Memory = Unit {0}
 
 -- A finding says why a text is not a choice; out of memory stays out of memory.
-abbrev pub TellsOf : GlobFault → List ℕ → PartFault → Type 0
-TellsOf (glob.Class at) text answered = Tells (choice_fault (glob.Class at)) text answered
-TellsOf glob.TooLong text answered = Tells (choice_fault glob.TooLong) text answered
-TellsOf glob.Memory text answered = answered ≡ Memory
+abbrev pub ReportsOf : GlobFault → List ℕ → PartFault → Type 0
+ReportsOf (glob.Class at) text answered = Reports (choice_fault (glob.Class at)) text answered
+ReportsOf glob.TooLong text answered = Reports (choice_fault glob.TooLong) text answered
+ReportsOf glob.Memory text answered = answered ≡ Memory
 
 -- What was returned is what reading gives, or a fault that agrees with it.
 abbrev pub Gives : {A : Type 0} → Result A PartFault → Result A Finding → Type 0

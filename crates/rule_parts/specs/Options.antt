@@ -1,13 +1,14 @@
 -- The options of OPTIONS.
-use Rattle.std.specs.Prelude.{ℕ, ◌+◌, ◌^◌, ℤ, pos, neg_ℤ, int_le, int_lt, ◌&&◌, ◌||◌, Bool, nat_le, if◌then◌else◌, List, [], ◌∷◌, length, take, drop, Option, Some, None, is_some, option_map, nat_eq, codes}
+use Rattle.std.specs.Prelude.{ℕ, ◌+◌, ◌^◌, ℤ, pos, neg_ℤ, int_le, int_lt, ◌&&◌, ◌||◌, Bool, nat_le, if◌then◌else◌, List, [], ◌∷◌, Option, Some, None, is_some, option_map, nat_eq, codes}
 use Rattle.std.specs.Option.{option_and_then, unwrap_or}
 use Rattle.std.specs.Cmp.Lexicographic.{pointwise}
+use Rattle.text_bytes.specs.Texts.{following}
 use Rattle.text_bytes.specs.Numbers.{decimal_below}
 use Rattle.text_bytes.specs.declared.profile.Profile.{Profile}
 use Rattle.text_bytes.specs.declared.profile.Profile.TheVariants as profile
 use Rattle.rule_templates.specs.Integers.{integer_of, natural_of}
 use Rattle.rule_types.specs.declared.rule_option.RuleOption.{RuleOption}
-use Rattle.rule_types.specs.declared.rule_option.RuleOption.TheVariants.{LinkPriority, KeepEscapes, ReplaceEscapes, Watch, NoWatch, DbPersist, Ignored}
+use Rattle.rule_types.specs.declared.rule_option.RuleOption.TheVariants.{LinkPriority, KeepEscapes, ReplaceEscapes, Watch, NoWatch, DbPersist, LogLevel, Ignored}
 
 -- what is beside a name in a table
 abbrev pub beside : {X : Type 0} → List (List ℕ × X) → List ℕ → Option X
@@ -24,10 +25,6 @@ words =
     ∷ (codes "string_escape=replace", ReplaceEscapes)
     ∷ []
 
--- what follows a name that a text begins with
-abbrev pub behind : List ℕ → List ℕ → Option (List ℕ)
-behind name text = if pointwise nat_eq (take (length name) text) name then Some (drop (length name) text) else None
-
 -- the number below zero, or zero, that digits write after a minus
 abbrev pub below_zero : List ℕ → Option ℤ
 below_zero digits = option_map (λ size. neg_ℤ (pos size)) (decimal_below (2 ^ 31 + 1) digits)
@@ -39,15 +36,15 @@ from_zero digits = option_map pos (decimal_below (2 ^ 31) digits)
 -- the number that a text writes, by what is in it after a minus
 abbrev pub number_by : List ℕ → Option (List ℕ) → Option ℤ
 number_by text (Some digits) = below_zero digits
-number_by text None = from_zero (unwrap_or (behind (codes "+") text) text)
+number_by text None = from_zero (unwrap_or (following (codes "+") text) text)
 
 -- the number that a text writes within 32 signed bits: a minus, a plus or no sign, and after it decimal digits
 unfoldable pub number_of : List ℕ → Option ℤ
-number_of text = number_by text (behind (codes "-") text)
+number_of text = number_by text (following (codes "-") text)
 
 -- whether a text is an option that is taken and changes nothing, whatever it is set to
 abbrev pub is_ignored : List ℕ → Bool
-is_ignored text = is_some (behind (codes "static_node=") text) || is_some (behind (codes "log_level=") text)
+is_ignored text = is_some (following (codes "static_node=") text) || is_some (following (codes "log_level=") text)
 
 -- the option of a text that is not a priority
 abbrev pub other_option : List ℕ → Option RuleOption
@@ -95,20 +92,20 @@ level_of text = level_by text (beside levels text)
 
 -- whether udev knows the option of a text, whatever it is set to
 abbrev pub is_known_option : List ℕ → Bool
-is_known_option text = is_some (behind (codes "link_priority=") text) || is_some (other_option text)
+is_known_option text = is_some (following (codes "link_priority=") text) || is_some (other_option text)
 
 -- the option of a text that is not a priority, by what is in it after `log_level=`; one that udev does not know
 -- changes nothing
 abbrev pub udev_other : List ℕ → Option (List ℕ) → Option RuleOption
-udev_other text (Some level) = option_map (λ n. Ignored) (level_of level)
+udev_other text (Some level) = option_map (λ n. LogLevel) (level_of level)
 udev_other text None = Some (unwrap_or (other_option text) Ignored)
 
 -- the option of a text for udev, by what is in it after `link_priority=`
 abbrev pub udev_option : List ℕ → Option (List ℕ) → Option RuleOption
 udev_option text (Some number) = option_map LinkPriority (priority_of number)
-udev_option text None = udev_other text (behind (codes "log_level=") text)
+udev_option text None = udev_other text (following (codes "log_level=") text)
 
 -- the option of a text by a profile, if it is one
 unfoldable pub option_of : Profile → List ℕ → Option RuleOption
-option_of profile.Manual text = option_by text (behind (codes "link_priority=") text)
-option_of profile.Udev text = udev_option text (behind (codes "link_priority=") text)
+option_of profile.Manual text = option_by text (following (codes "link_priority=") text)
+option_of profile.Udev text = udev_option text (following (codes "link_priority=") text)

@@ -1,5 +1,6 @@
 -- A token, read and checked: the part of a rule that it is, or what is wrong with it.
-use Rattle.std.specs.Prelude.{ℕ, Bool, true, false, not, ◌&&◌, if◌then◌else◌, List, Option, Some, None, is_some, Result, Ok, Err, ◌≡◌, [], ◌⊎◌}
+use Rattle.std.specs.Prelude.{ℕ, Bool, true, false, not, ◌&&◌, nat_eq, if◌then◌else◌, List, Option, Some, None, is_some, Result, Ok, Err, ◌≡◌, [], ◌⊎◌, codes}
+use Rattle.std.specs.Cmp.Lexicographic.{pointwise}
 use Rattle.text_bytes.specs.declared.message.MessageKind.TheVariants.{UnknownKey, OperatorNotAllowed, WrongAttribute, BadValue}
 use Rattle.text_bytes.specs.declared.profile.Profile.{Profile}
 use Rattle.text_bytes.specs.declared.profile.Profile.TheVariants as profile
@@ -18,6 +19,7 @@ use Rattle.rule_types.specs.declared.keys.Key.TheVariants as key
 use Rattle.rule_types.specs.declared.types.ImportType.{ImportType}
 use Rattle.rule_types.specs.declared.types.ImportType.TheVariants as import_of
 use Rattle.rule_types.specs.declared.roles.MatchOperator.{MatchOperator}
+use Rattle.rule_types.specs.declared.roles.MatchOperator.TheVariants.{Equal, NotEqual}
 use Rattle.rule_types.specs.declared.roles.Role.{Role}
 use Rattle.rule_types.specs.declared.roles.Role.TheVariants as role
 use Rattle.rule_parts.specs.Builtins.{builtin_of}
@@ -25,7 +27,7 @@ use Rattle.rule_parts.specs.Refusals.{refusal_by}
 use Rattle.rule_parts.specs.Values.{finding, read_choice, read_name, read_option, read_template}
 use Rattle.rule_parts.specs.declared.finding.Finding.{Finding}
 use Rattle.rule_types.specs.declared.part.Comparison.{Comparison}
-use Rattle.rule_types.specs.declared.part.Deed.TheVariants as deed
+use Rattle.rule_types.specs.declared.part.ActKind.TheVariants as act_kind
 use Rattle.rule_types.specs.declared.part.Import.{Import}
 use Rattle.rule_types.specs.declared.part.Import.TheVariants as import
 use Rattle.rule_types.specs.declared.part.Change.TheVariants as change
@@ -71,9 +73,9 @@ unfoldable pub part_by : Profile → Role → Bool → List ℕ → Result Part 
 part_by by (role.Plain key o) blind text = made (λ c. part.Plain (record { key = key; wanted = c })) (comparison by o blind text)
 part_by by (role.Up key o) blind text = made (λ c. part.Up (record { key = key; wanted = c })) (comparison by o blind text)
 part_by by (role.Result o) blind text = made part.Result (comparison by o blind text)
-part_by by (role.Test mask o) blind text = made (λ t. part.Act (record { operator = o; deed = deed.Test mask t })) (read_template by text)
-part_by by (role.Program o) blind text = made (λ t. part.Act (record { operator = o; deed = deed.Program t })) (read_template by text)
-part_by by (role.Import type o) blind text = made (λ i. part.Act (record { operator = o; deed = deed.Import i })) (import_by by type text)
+part_by by (role.Test mask o) blind text = made (λ t. part.Act (record { operator = o; kind = act_kind.Test mask t })) (read_template by text)
+part_by by (role.Program o) blind text = made (λ t. part.Act (record { operator = o; kind = act_kind.Program t })) (read_template by text)
+part_by by (role.Import type o) blind text = made (λ i. part.Act (record { operator = o; kind = act_kind.Import i })) (import_by by type text)
 part_by by (role.Set target o) blind text = made (λ t. part.Set (record { operator = o; change = change.Text target t })) (read_template by text)
 part_by by (role.Run type o) blind text = made (λ t. part.Set (record { operator = o; change = change.Run type t })) (read_template by text)
 part_by by (role.Option o) blind text = made (λ known. part.Set (record { operator = o; change = change.Option known })) (read_option by text)
@@ -92,9 +94,24 @@ abbrev pub type_as : ImportType → List ℕ → ImportType
 type_as import_of.Program text = if is_some (builtin_of text) then import_of.Builtin else import_of.Program
 type_as type text = type
 
+-- the pattern that every text but the empty one fits
+abbrev pub is_something : List ℕ → Bool
+is_something text = pointwise nat_eq text (codes "?*")
+
+-- the other of `==` and `!=`
+abbrev pub opposite : MatchOperator → MatchOperator
+opposite Equal = NotEqual
+opposite NotEqual = Equal
+
+-- the operator as which udev reads that of TEST, PROGRAM and IMPORT: the value `?*` reverses it
+abbrev pub operator_as : MatchOperator → List ℕ → MatchOperator
+operator_as o text = if is_something text then opposite o else o
+
 -- the role as which udev reads a role
 abbrev pub udev_role : Role → List ℕ → Role
-udev_role (role.Import type o) text = role.Import (type_as type text) o
+udev_role (role.Test mask o) text = role.Test mask (operator_as o text)
+udev_role (role.Program o) text = role.Program (operator_as o text)
+udev_role (role.Import type o) text = role.Import (type_as type text) (operator_as o text)
 udev_role r text = r
 
 -- the role as which a role is read

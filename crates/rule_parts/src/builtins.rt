@@ -4,7 +4,7 @@ ghost use Rattle.std.specs.List.{prefix_len, starts_with};
 ghost use Rattle.rule_templates.specs.Integers.{is_separator};
 ghost use Rattle.rule_parts.specs.Builtins.{builtin_name, builtin_of, first_word};
 
-use rule_templates::{behind_separators, is_separator};
+use rule_templates::{after_separators, is_separator};
 
 /// A command that is built into udev.
 #[derive(Clone, Copy, Debug, PartialEq, Eq)]
@@ -82,7 +82,7 @@ pub fn builtin_of(text: &[u8]) -> Option<Builtin>
 fn first_word(text: &[u8]) -> &[u8]
     ensures { result.now ≡ first_word text.now }
 {
-    let words = behind_separators(text);
+    let words = after_separators(text);
     let (word, _) = words.split_at(word_length(words));
     word
 }

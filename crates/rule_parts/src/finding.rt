@@ -1,7 +1,7 @@
 //! What is wrong with a part of a rule.
 ghost use Rattle.std.specs.Prelude.{◌≡◌, IfOk};
 ghost use Rattle.rule_parts.specs.Values.{finding};
-ghost use Rattle.rule_parts.specs.Inner.{Tells};
+ghost use Rattle.rule_parts.specs.Inner.{Reports};
 
 use std::alloc::{AllocError, AllocFailed, Global};
 use text_bytes::{Bytes, MessageKind, word_of};
@@ -60,7 +60,7 @@ impl Finding {
 
 /// What is wrong with a part of a rule, reported with a text.
 pub(crate) fn wrong(alloc: Global, kind: MessageKind, text: &[u8]) -> PartFault
-    ensures { Tells kind text.now result }
+    ensures { Reports kind text.now result }
 {
     match Finding::about(alloc, kind, text) {
         Ok(found) => PartFault::Wrong(found),

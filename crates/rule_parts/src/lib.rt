@@ -16,7 +16,7 @@ mod values;
 pub use builtins::{Builtin, builtin_of};
 pub use finding::{Finding, PartFault};
 pub use options::{is_known_option, level_of, option_of, priority_of};
-pub use reading::{is_read_as_assign, read_part};
+pub use reading::{is_read_as_assign, is_something, read_part};
 pub use rule_types::{
-    Act, Assignment, Change, Comparison, Deed, Import, Part, PlainMatch, RuleOption, UpMatch,
+    Act, ActKind, Assignment, Change, Comparison, Import, Part, PlainMatch, RuleOption, UpMatch,
 };

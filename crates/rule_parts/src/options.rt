@@ -1,6 +1,7 @@
 //! The options of OPTIONS.
 ghost use Rattle.std.specs.Prelude.{◌≡◌, Some, codes, false, map};
-ghost use Rattle.rule_parts.specs.Options.{as_level, as_priority, behind, below_zero, beside, from_zero, is_ignored, is_known_option, level_of, number_of, option_by, option_of, other_option, priority_of, udev_option, udev_other};
+ghost use Rattle.text_bytes.specs.Texts.{following};
+ghost use Rattle.rule_parts.specs.Options.{as_level, as_priority, below_zero, beside, from_zero, is_ignored, is_known_option, level_of, number_of, option_by, option_of, other_option, priority_of, udev_option, udev_other};
 
 use rule_templates::{integer_of, natural_of};
 use rule_types::RuleOption;
@@ -106,7 +107,7 @@ pub fn option_of(profile: Profile, text: &[u8]) -> Option<RuleOption>
 
 /// The option of a text by the manual, if it is one.
 fn manual_option(text: &[u8]) -> Option<RuleOption>
-    ensures { result ≡ option_by text.now (behind (codes "link_priority=") text.now) }
+    ensures { result ≡ option_by text.now (following (codes "link_priority=") text.now) }
 {
     match text.strip_prefix(b"link_priority=") {
         Some(number) => number_of(number).map(|priority| RuleOption::LinkPriority(priority)),
@@ -116,7 +117,7 @@ fn manual_option(text: &[u8]) -> Option<RuleOption>
 
 /// The option of a text for udev, if it is one.
 fn udev_option(text: &[u8]) -> Option<RuleOption>
-    ensures { result ≡ udev_option text.now (behind (codes "link_priority=") text.now) }
+    ensures { result ≡ udev_option text.now (following (codes "link_priority=") text.now) }
 {
     match text.strip_prefix(b"link_priority=") {
         Some(number) => priority_of(number).map(|priority| RuleOption::LinkPriority(priority)),
@@ -126,10 +127,10 @@ fn udev_option(text: &[u8]) -> Option<RuleOption>
 
 /// The option for udev of a text that is not a priority.
 fn udev_other(text: &[u8]) -> Option<RuleOption>
-    ensures { result ≡ udev_other text.now (behind (codes "log_level=") text.now) }
+    ensures { result ≡ udev_other text.now (following (codes "log_level=") text.now) }
 {
     match text.strip_prefix(b"log_level=") {
-        Some(level) => level_of(level).map(|_| RuleOption::Ignored),
+        Some(level) => level_of(level).map(|_| RuleOption::LogLevel),
         None => Some(other_option(text).unwrap_or(RuleOption::Ignored)),
     }
 }

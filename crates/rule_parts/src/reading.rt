@@ -5,7 +5,7 @@ ghost use Rattle.rule_types.specs.Written.{attribute_of_role, key_of_role};
 ghost use Rattle.rule_parts.specs.Faults.{FaultOf};
 ghost use Rattle.rule_parts.specs.Inner.{Gives};
 ghost use Rattle.rule_types.specs.WrittenParts.{attribute_of_part, key_of_part, type_of};
-ghost use Rattle.rule_parts.specs.Parts.{IsWritten, comparison, ignores_case, import_by, is_match, is_read_as_assign, part_by, part_of, role_as, type_as, udev_role, value_part};
+ghost use Rattle.rule_parts.specs.Parts.{IsWritten, comparison, ignores_case, import_by, is_match, is_read_as_assign, is_something, operator_as, opposite, part_by, part_of, role_as, type_as, udev_role, value_part};
 
 use crate::builtins::builtin_of;
 use crate::finding::{PartFault, wrong};
@@ -13,8 +13,8 @@ use crate::refusals::refusal_by;
 use crate::values::{read_choice, read_name, read_option, read_template};
 use rule_tokens::{Quote, Token, unquote};
 use rule_types::{
-    Act, Assignment, Change, Comparison, Deed, Import, ImportType, MatchOperator, Part, PlainMatch,
-    Role, UpMatch, key_of, read_as, role_of, topic_of,
+    Act, ActKind, Assignment, Change, Comparison, Import, ImportType, MatchOperator, Part,
+    PlainMatch, Role, UpMatch, key_of, read_as, role_of, topic_of,
 };
 use std::alloc::{AllocError, Global};
 use text_bytes::{Bytes, MessageKind, Profile};
@@ -24,7 +24,8 @@ use text_bytes::{Bytes, MessageKind, Profile};
 /// What is wrong is the first of: an unknown key; an attribute that the key lacks or does not take; an operator
 /// that it does not take; a value that is not valid for it. udev takes every value with substitutions or patterns,
 /// every name of a jump and every option that it does not know; it refuses a property that it sets by itself, a
-/// name without effect and a builtin that it does not have. `Memory` comes only if an allocation fails.
+/// name without effect and a builtin that it does not have; and the value `?*` reverses the operator of TEST, PROGRAM
+/// and IMPORT. `Memory` comes only if an allocation fails.
 #[tactic(auto, unfolding(crate::specs::Parts::part_of))]
 pub fn read_part(alloc: Global, profile: Profile, token: &Token<'_>) -> Result<Part, PartFault>
     ensures part { MatchResult result (λ p. part_of profile token.now ≡ Ok p) (λ f. FaultOf f (part_of profile token.now)) }
@@ -89,7 +90,8 @@ fn value_part(
     }
 }
 
-/// The role as which a role is read: for udev an IMPORT{program} of a builtin is an IMPORT{builtin}.
+/// The role as which a role is read: for udev an IMPORT{program} of a builtin is an IMPORT{builtin}, and the value
+/// `?*` reverses the operator of TEST, PROGRAM and IMPORT.
 fn role_as(profile: Profile, role: Role, text: &[u8]) -> Role
     ensures role { result ≡ role_as profile role text.now }
     ensures key { key_of_role result ≡ key_of_role role }
@@ -106,9 +108,41 @@ fn udev_role(role: Role, text: &[u8]) -> Role
     ensures key { key_of_role result ≡ key_of_role role }
 {
     match role {
-        Role::Import(known, operator) => Role::Import(type_as(known, text), operator),
+        Role::Test(mask, operator) => Role::Test(mask, operator_as(operator, text)),
+        Role::Program(operator) => Role::Program(operator_as(operator, text)),
+        Role::Import(known, operator) => {
+            Role::Import(type_as(known, text), operator_as(operator, text))
+        }
         other => other,
     }
+}
+
+/// The operator as which udev reads that of TEST, PROGRAM and IMPORT.
+fn operator_as(operator: MatchOperator, text: &[u8]) -> MatchOperator
+    ensures { result ≡ operator_as operator text.now }
+{
+    if is_something(text) {
+        opposite(operator)
+    } else {
+        operator
+    }
+}
+
+/// The other of `==` and `!=`.
+fn opposite(operator: MatchOperator) -> MatchOperator
+    ensures { result ≡ opposite operator }
+{
+    match operator {
+        MatchOperator::Equal => MatchOperator::NotEqual,
+        MatchOperator::NotEqual => MatchOperator::Equal,
+    }
+}
+
+/// Whether a value is the pattern that every text but the empty one fits.
+pub fn is_something(text: &[u8]) -> bool
+    ensures { result ≡ is_something text.now }
+{
+    text == b"?*".as_slice()
 }
 
 /// The type as which udev reads an IMPORT of a type.
@@ -153,16 +187,25 @@ fn part_by(
             alloc, profile, operator, blind, &text,
         )?)),
         Role::Test(mask, operator) => {
-            let deed = Deed::Test(mask, read_template(alloc, profile, &text)?);
-            Ok(Part::Act(Act { operator, deed }))
+            let act_kind = ActKind::Test(mask, read_template(alloc, profile, &text)?);
+            Ok(Part::Act(Act {
+                operator,
+                kind: act_kind,
+            }))
         }
         Role::Program(operator) => {
-            let deed = Deed::Program(read_template(alloc, profile, &text)?);
-            Ok(Part::Act(Act { operator, deed }))
+            let act_kind = ActKind::Program(read_template(alloc, profile, &text)?);
+            Ok(Part::Act(Act {
+                operator,
+                kind: act_kind,
+            }))
         }
         Role::Import(known, operator) => {
-            let deed = Deed::Import(import_by(alloc, profile, known, text)?);
-            Ok(Part::Act(Act { operator, deed }))
+            let act_kind = ActKind::Import(import_by(alloc, profile, known, text)?);
+            Ok(Part::Act(Act {
+                operator,
+                kind: act_kind,
+            }))
         }
         Role::Set(target, operator) => {
             let change = Change::Text(target, read_template(alloc, profile, &text)?);

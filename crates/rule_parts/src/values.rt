@@ -2,7 +2,7 @@
 ghost use Rattle.std.specs.Prelude.{◌≡◌};
 ghost use Rattle.text_core.specs.Choices.{choice, choice_blind};
 ghost use Rattle.text_core.specs.Fnmatch.{fnmatch_choice};
-ghost use Rattle.rule_parts.specs.Inner.{Gives, TellsOf};
+ghost use Rattle.rule_parts.specs.Inner.{Gives, ReportsOf};
 ghost use Rattle.rule_parts.specs.Values.{as_choice, manual_choice, read_choice, read_name, read_option, read_template, reading_of, some_name};
 
 use crate::finding::{PartFault, wrong};
@@ -83,7 +83,7 @@ fn blind_choice(alloc: Global, text: &[u8]) -> Result<Choice, PartFault>
 
 /// Why a text is not a choice.
 fn choice_fault(alloc: Global, fault: GlobFault, text: &[u8]) -> PartFault
-    ensures { TellsOf fault text.now result }
+    ensures { ReportsOf fault text.now result }
 {
     match fault {
         GlobFault::Class { .. } => wrong(alloc, MessageKind::SetNotSupported, text),

@@ -8,13 +8,13 @@ use Rattle.rule_tokens.specs.declared.kinds.TokenFault.{TokenFault}
 use Rattle.rule_tokens.proofs.Steps.{left_done, left_given}
 use Rattle.rule_types.specs.declared.part.Part.{Part}
 use Rattle.rule_places.specs.Found.{RulePlaces}
-use Rattle.rule_places.specs.Reading.{goes_on, part_told, taken}
+use Rattle.rule_places.specs.Reading.{part_reported, proceeds, taken}
 use Rattle.rule_places.specs.declared.line_reading.LineReading.{LineReading}
 use Rattle.rule_places.specs.declared.line_reading.LineReading.TheVariants.{Rule}
 use Rattle.rule_places.specs.declared.spot.Spot.{Spot}
 use Rattle.rule_places.proofs.Prefixes.{own_of}
 
--- after a place, or the last of these items, only blanks and commas are in the line; where one is a fault, nothing is said
+-- after a place, or the last of these items, only blanks and commas are in the line; if one is a fault, nothing is said
 abbrev pub EndsInGap : List ℕ → ℕ → List Item → Type 0
 EndsInGap line place [] = AllAre is_gap_byte (drop place line)
 EndsInGap line place (Ok t ∷ items) = EndsInGap line t.span.end items
@@ -24,21 +24,21 @@ ends : (line before text : List ℕ) (at place : ℕ) (tokens : List Placed) (en
 ends line before text at place [] None e l h = elim h [ ]
 ends line before text at place [] (Some fault) e l h = tt
 ends line before text at place (t ∷ []) None e l (last rest gap here between) =
-    let o = own_of text t rest here.stands in
+    let o = own_of text t rest here.is_present in
     let own : length text ≡ length o.0 + length rest = ap length o.1 ∙ length-append o.0 rest in
     let spelled : line ≡ (before ++ o.0) ++ rest = e ∙ (ap (λ v. before ++ v) o.1 ∙ sym (append_assoc before o.0 rest)) in
     let n : length (before ++ o.0) ≡ length before + length o.0 = length-append before o.0 in
     let place : length (before ++ o.0) ≡ t.span.end = omega (arith, here.end) in
     let left : drop t.span.end line ≡ gap = ap (drop t.span.end) spelled ∙ drop_at (before ++ o.0) rest t.span.end place ∙ between.spelled ∙ append-nil gap in
     subst (AllAre is_gap_byte) (sym left) between.all
-ends line before text at place (t ∷ tokens) end e l (more rest gap next here between some behind) =
-    let o = own_of text t rest here.stands in
+ends line before text at place (t ∷ tokens) end e l (more rest gap next here between some following) =
+    let o = own_of text t rest here.is_present in
     let own : length text ≡ length o.0 + length rest = ap length o.1 ∙ length-append o.0 rest in
     let spelled : line ≡ (before ++ (o.0 ++ gap)) ++ next =
     e ∙ (ap (λ v. before ++ v) (o.1 ∙ (ap (λ v. o.0 ++ v) between.spelled ∙ sym (append_assoc o.0 gap next))) ∙ sym (append_assoc before (o.0 ++ gap) next)) in
     let n : length (before ++ (o.0 ++ gap)) ≡ length before + (length o.0 + length gap) = length-append before (o.0 ++ gap) ∙ ap (λ n. length before + n) (length-append o.0 gap) in
     let place : length (before ++ (o.0 ++ gap)) ≡ t.span.end + length gap = omega (arith, here.end) in
-    ends line (before ++ (o.0 ++ gap)) next (t.span.end + length gap) t.span.end tokens end spelled place behind
+    ends line (before ++ (o.0 ++ gap)) next (t.span.end + length gap) t.span.end tokens end spelled place following
 
 -- after the last of these items, if a token is there, only blanks and commas are in the line
 abbrev pub EndsLast : List ℕ → List Item → Type 0
@@ -46,10 +46,10 @@ EndsLast line [] = Unit {0}
 EndsLast line (Ok t ∷ items) = EndsInGap line t.span.end items
 EndsLast line (Err fault ∷ items) = Unit {0}
 
-behind_any : (line : List ℕ) (place : ℕ) (items : List Item) → EndsInGap line place items → EndsLast line items
-behind_any line place [] h = tt
-behind_any line place (Ok t ∷ items) h = h
-behind_any line place (Err fault ∷ items) h = tt
+after_any : (line : List ℕ) (place : ℕ) (items : List Item) → EndsInGap line place items → EndsLast line items
+after_any line place [] h = tt
+after_any line place (Ok t ∷ items) h = h
+after_any line place (Err fault ∷ items) h = tt
 
 pub all_end : (start : ℕ) (line : List ℕ) → start ≤ length line → EndsLast line (items_from start line)
 all_end start line within = by (is_over start line)
@@ -58,7 +58,7 @@ all_end start line within = by (is_over start line)
     by true = rw (left_done start (drop start line)) tt
     by false =
         let g = left_given start (drop start line) in
-        rw g.3 (behind_any line 0 (answers g.0 g.1) (ends line (take start line) (drop start line) start 0 g.0 g.1 (sym (take-append-drop start line)) (length-take-le start line within) g.2))
+        rw g.3 (after_any line 0 (answers g.0 g.1) (ends line (take start line) (drop start line) start 0 g.0 g.1 (sym (take-append-drop start line)) (length-take-le start line within) g.2))
 
 -- the first of these items, if it is a token, begins at a place
 abbrev pub BeginsAt : ℕ → List Item → Type 0
@@ -70,7 +70,7 @@ begins : (text : List ℕ) (at : ℕ) (tokens : List Placed) (end : Option Token
 begins text at [] None h = tt
 begins text at [] (Some fault) h = tt
 begins text at (t ∷ []) None (last rest gap here between) = here.start
-begins text at (t ∷ tokens) end (more rest gap next here between some behind) = here.start
+begins text at (t ∷ tokens) end (more rest gap next here between some following) = here.start
 
 pub all_begin : (start : ℕ) (line : List ℕ) → BeginsAt start (items_from start line)
 all_begin start line = by (is_over start line)
@@ -85,12 +85,12 @@ NoFault [] = Unit {0}
 NoFault (Ok t ∷ items) = NoFault items
 NoFault (Err fault ∷ items) = ⊥
 
-token_read : (by : Profile) (r q : RulePlaces) (t : Placed) (next : RulePlaces → LineReading) (items : List Item) (x : Result Part Spot) → ((s : RulePlaces) → next s ≡ Rule q → NoFault items) → goes_on by r t next x ≡ Rule q → NoFault items
+token_read : (by : Profile) (r q : RulePlaces) (t : Placed) (next : RulePlaces → LineReading) (items : List Item) (x : Result Part Spot) → ((s : RulePlaces) → next s ≡ Rule q → NoFault items) → proceeds by r t next x ≡ Rule q → NoFault items
 token_read by r q t next items (Ok p) f e = f _ e
 token_read by r q t next items (Err found) f e = cc
 
 -- a line that is a rule has no fault
 pub rule_has_none : (by : Profile) (line : List ℕ) (items : List Item) (r q : RulePlaces) → taken by line r items ≡ Rule q → NoFault items
 rule_has_none by line [] r q e = tt
-rule_has_none by line (Ok t ∷ items) r q e = token_read by r q t (λ s. taken by line s items) items (part_told by t) (λ s f. rule_has_none by line items s q f) e
+rule_has_none by line (Ok t ∷ items) r q e = token_read by r q t (λ s. taken by line s items) items (part_reported by t) (λ s f. rule_has_none by line items s q f) e
 rule_has_none by line (Err fault ∷ items) r q e = cc

@@ -5,7 +5,7 @@ use Rattle.text_bytes.specs.declared.profile.Profile.{Profile}
 use Rattle.text_bytes.specs.declared.source_file.SourceFile.{SourceFile}
 use Rattle.rule_jumps.specs.Jumps.{landings}
 use Rattle.rule_jumps.specs.declared.jumps.Landing.{Landing}
-use Rattle.rule_core.specs.Ends.{given_up}
+use Rattle.rule_core.specs.Ends.{abandoned}
 use Rattle.rule_core.specs.Lines.{joined_lines}
 use Rattle.rule_places.specs.Files.{findings_of_lines, findings_unless, line_findings, names_of, open_findings, placed_findings, readings_from}
 use Rattle.rule_places.specs.Kept.{kept_lines}
@@ -27,6 +27,6 @@ lines_are_placed by bytes kept readings found at before middle now k r l o b m n
     ∙ ap (λ (x : Option ℕ). lines_placed kept (readings_from by 0 (joined_lines by bytes).lines) (landings (map (λ r. names_of r.read) (readings_from by 0 (joined_lines by bytes).lines))) ++ open_findings kept x) o
     ∙ ap (λ (x : List KeptLine). lines_placed x (readings_from by 0 (joined_lines by bytes).lines) (landings (map (λ r. names_of r.read) (readings_from by 0 (joined_lines by bytes).lines))) ++ open_findings x (joined_lines by bytes).open_at) k
 
-pub file_found : (by : Profile) (f : SourceFile) (bytes : List ℕ) (o : Option ℕ) (found : List PlacedFinding) → bytes ≡ f.bytes → given_up by bytes ≡ o → found ≡ findings_unless by bytes o → found ≡ placed_findings by f
+pub file_found : (by : Profile) (f : SourceFile) (bytes : List ℕ) (o : Option ℕ) (found : List PlacedFinding) → bytes ≡ f.bytes → abandoned by bytes ≡ o → found ≡ findings_unless by bytes o → found ≡ placed_findings by f
 unfolding placed_findings
-file_found by f bytes o found b g h = h ∙ ap (findings_unless by bytes) (sym g) ∙ ap (λ (x : List ℕ). findings_unless by x (given_up by x)) b
+file_found by f bytes o found b g h = h ∙ ap (findings_unless by bytes) (sym g) ∙ ap (λ (x : List ℕ). findings_unless by x (abandoned by x)) b

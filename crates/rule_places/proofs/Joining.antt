@@ -8,7 +8,7 @@ use Rattle.text_bytes.specs.declared.profile.Profile.{Profile}
 use Rattle.rule_core.specs.Lines.{Piece, is_open, kept, lines_of_runs, piece_of, run_number, run_text, runs}
 use Rattle.rule_places.specs.Shown.{AreJoined}
 
--- a run before others, which have what is left of a text; after an open one stands none
+-- a run before others, which have what is left of a text; after an open one there are none
 abbrev Before : Bool → (List ℕ → Type 0) → List (List Piece) → List Piece → List ℕ → Type 0
 Before true others rs r text = rs ≡ []
 Before false others rs r text = (left : List ℕ) × (text ≡ run_text r ++ left) × others left

@@ -7,18 +7,18 @@ pub mod Taken
 pub mod Lengths
 pub mod Filing
 mod Naming
-mod Telling
+mod Reporting
 mod Styling
 mod Reading
 pub mod Messages
 mod Prefixes
 mod Quotes
 mod Ending
-pub mod PartStanding
-pub mod Standing
+pub mod PartPlacement
+pub mod Placement
 pub mod Showing
 pub mod Placing
 pub mod Joining
-pub mod FileStanding
+pub mod FilePlacement
 pub mod Opening
-pub mod GivenUp
+pub mod AbandonedFiles

@@ -13,7 +13,7 @@ use Rattle.rule_jumps.specs.declared.jumps.Landing.{Landing}
 use Rattle.rule_parts.specs.Values.{finding}
 use Rattle.rule_parts.specs.declared.finding.Finding.{Finding}
 use Rattle.rule_core.specs.Drafts.{Draft, draft_of}
-use Rattle.rule_core.specs.Ends.{given_up}
+use Rattle.rule_core.specs.Ends.{abandoned}
 use Rattle.rule_core.specs.Lines.{joined_lines}
 use Rattle.rule_core.specs.Rules as core
 use Rattle.rule_core.specs.Rules.{file_messages, findings_of, line_messages, message_at, messages_unless, name_in, open_messages, reading_of}
@@ -47,16 +47,16 @@ rule_cut r d l k =
     (appended r.spots (cond l.unused (name_spot LabelUnused r.label ∷ []) []) _ _ k.findings (names_cut l.unused LabelUnused r.label d.label k.label))
 
 -- what is said of a line, as messages
-spots_told : (name : List ℕ) (kept : List KeptLine) (number start : ℕ) (spots : List Spot) → map (as_message name) (map (placed kept number start) spots) ≡ map (message_at name number) (map cut spots)
-spots_told name kept number start [] = refl
-spots_told name kept number start (s ∷ spots) = ap (λ (ms : List Message). message_at name number (cut s) ∷ ms) (spots_told name kept number start spots)
+spots_reported : (name : List ℕ) (kept : List KeptLine) (number start : ℕ) (spots : List Spot) → map (as_message name) (map (placed kept number start) spots) ≡ map (message_at name number) (map cut spots)
+spots_reported name kept number start [] = refl
+spots_reported name kept number start (s ∷ spots) = ap (λ (ms : List Message). message_at name number (cut s) ∷ ms) (spots_reported name kept number start spots)
 
-line_told : (name : List ℕ) (kept : List KeptLine) (number start : ℕ) (read : LineReading) (r : Result Draft Finding) (l : Landing) → Matches read r
+line_reported : (name : List ℕ) (kept : List KeptLine) (number start : ℕ) (read : LineReading) (r : Result Draft Finding) (l : Landing) → Matches read r
     → map (as_message name) (map (placed kept number start) (spots_of read l)) ≡ line_messages name number r l
-line_told name kept number start (Rule p) (Ok d) l k = spots_told name kept number start (rule_spots p l) ∙ ap (map (message_at name number)) (rule_cut p d l k)
-line_told name kept number start (Rule p) (Err wrong) l k = absurd k
-line_told name kept number start (Wrong found) (Ok d) l k = absurd k
-line_told name kept number start (Wrong found) (Err wrong) l k = ap (λ (f : Finding). message_at name number f ∷ []) k
+line_reported name kept number start (Rule p) (Ok d) l k = spots_reported name kept number start (rule_spots p l) ∙ ap (map (message_at name number)) (rule_cut p d l k)
+line_reported name kept number start (Rule p) (Err wrong) l k = absurd k
+line_reported name kept number start (Wrong found) (Ok d) l k = absurd k
+line_reported name kept number start (Wrong found) (Err wrong) l k = ap (λ (f : Finding). message_at name number f ∷ []) k
 
 -- the names for jumps
 names_same : (read : LineReading) (r : Result Draft Finding) → Matches read r → names_of read ≡ core.names_of r
@@ -72,37 +72,37 @@ all_names by start (l ∷ ls) =
     ∙ ap (λ (ns : List Names). core.names_of (draft_of by l.text) ∷ ns) (all_names by (start + length l.text) ls)
 
 -- lines, each with what becomes of its jumps
-lines_told : (by : Profile) (name : List ℕ) (kept : List KeptLine) (start : ℕ) (ls : List NumberedLine) (found : List Landing)
+lines_reported : (by : Profile) (name : List ℕ) (kept : List KeptLine) (start : ℕ) (ls : List NumberedLine) (found : List Landing)
     → map (as_message name) (flat_map (λ x. line_findings kept x.0 x.1) (zip (readings_from by start ls) found)) ≡ flat_map (λ x. line_messages name x.0.line x.0.read x.1) (zip (map (reading_of by) ls) found)
-lines_told by name kept start [] found = refl
-lines_told by name kept start (l ∷ ls) [] = refl
-lines_told by name kept start (l ∷ ls) (m ∷ found) =
+lines_reported by name kept start [] found = refl
+lines_reported by name kept start (l ∷ ls) [] = refl
+lines_reported by name kept start (l ∷ ls) (m ∷ found) =
     let one = map (placed kept l.number start) (spots_of (places.reading_of by l.text) m) in
     let others = flat_map (λ x. line_findings kept x.0 x.1) (zip (readings_from by (start + length l.text) ls) found) in
     map-append (as_message name) one others
-    ∙ ap (λ (ms : List Message). ms ++ map (as_message name) others) (line_told name kept l.number start (places.reading_of by l.text) (draft_of by l.text) m (line_matches by l.text))
-    ∙ ap (λ (ms : List Message). line_messages name l.number (draft_of by l.text) m ++ ms) (lines_told by name kept (start + length l.text) ls found)
+    ∙ ap (λ (ms : List Message). ms ++ map (as_message name) others) (line_reported name kept l.number start (places.reading_of by l.text) (draft_of by l.text) m (line_matches by l.text))
+    ∙ ap (λ (ms : List Message). line_messages name l.number (draft_of by l.text) m ++ ms) (lines_reported by name kept (start + length l.text) ls found)
 
-open_told : (name : List ℕ) (kept : List KeptLine) (at : Option ℕ) → map (as_message name) (open_findings kept at) ≡ open_messages name at
-open_told name kept None = refl
-open_told name kept (Some number) = refl
+open_reported : (name : List ℕ) (kept : List KeptLine) (at : Option ℕ) → map (as_message name) (open_findings kept at) ≡ open_messages name at
+open_reported name kept None = refl
+open_reported name kept (Some number) = refl
 
-lines_of_file_told : (by : Profile) (file : SourceFile) → map (as_message file.name) (findings_of_lines by file.bytes) ≡ messages_unless by file None
-lines_of_file_told by file =
+lines_of_file_reported : (by : Profile) (file : SourceFile) → map (as_message file.name) (findings_of_lines by file.bytes) ≡ messages_unless by file None
+lines_of_file_reported by file =
     let kept = kept_lines file.bytes in
     let ls = (joined_lines by file.bytes).lines in
     let at = (joined_lines by file.bytes).open_at in
     let found = landings (map (λ r. names_of r.read) (readings_from by 0 ls)) in
     let own = flat_map (λ x. line_findings kept x.0 x.1) (zip (readings_from by 0 ls) found) in
     map-append (as_message file.name) own (open_findings kept at)
-    ∙ ap (λ (ms : List Message). ms ++ map (as_message file.name) (open_findings kept at)) (lines_told by file.name kept 0 ls found)
-    ∙ ap (λ (ms : List Message). flat_map (λ x. line_messages file.name x.0.line x.0.read x.1) (zip (map (reading_of by) ls) found) ++ ms) (open_told file.name kept at)
+    ∙ ap (λ (ms : List Message). ms ++ map (as_message file.name) (open_findings kept at)) (lines_reported by file.name kept 0 ls found)
+    ∙ ap (λ (ms : List Message). flat_map (λ x. line_messages file.name x.0.line x.0.read x.1) (zip (map (reading_of by) ls) found) ++ ms) (open_reported file.name kept at)
     ∙ ap (λ (ns : List Names). flat_map (λ x. line_messages file.name x.0.line x.0.read x.1) (zip (map (reading_of by) ls) (landings ns)) ++ open_messages file.name at) (all_names by 0 ls)
 
-file_told : (by : Profile) (file : SourceFile) (o : Option ℕ) → map (as_message file.name) (findings_unless by file.bytes o) ≡ messages_unless by file o
-file_told by file None = lines_of_file_told by file
-file_told by file (Some number) = refl
+file_reported : (by : Profile) (file : SourceFile) (o : Option ℕ) → map (as_message file.name) (findings_unless by file.bytes o) ≡ messages_unless by file o
+file_reported by file None = lines_of_file_reported by file
+file_reported by file (Some number) = refl
 
-pub findings_told : (by : Profile) (file : SourceFile) → map (as_message file.name) (placed_findings by file) ≡ file_messages by file
+pub findings_reported : (by : Profile) (file : SourceFile) → map (as_message file.name) (placed_findings by file) ≡ file_messages by file
 unfolding placed_findings
-findings_told by file = file_told by file (given_up by file.bytes)
+findings_reported by file = file_reported by file (abandoned by file.bytes)

@@ -9,7 +9,7 @@ use Rattle.text_bytes.specs.declared.message.MessageKind.TheVariants.{OpenAtEnd}
 use Rattle.text_bytes.specs.declared.profile.Profile.{Profile}
 use Rattle.text_bytes.specs.declared.source_file.SourceFile.{SourceFile}
 use Rattle.rule_jumps.specs.Jumps.{landings}
-use Rattle.rule_core.specs.Ends.{given_up}
+use Rattle.rule_core.specs.Ends.{abandoned}
 use Rattle.rule_core.specs.Lines.{Piece, is_comment, is_open, joined_lines, kept, open_number, open_of_runs, piece_of, runs, unindented}
 use Rattle.rule_places.specs.Files.{findings_of_lines, findings_unless, line_findings, names_of, open_findings, placed_findings, readings_from}
 use Rattle.rule_places.specs.Kept.{as_kept, backslash_of, kept_before, kept_from, kept_lines, place_at}
@@ -26,7 +26,7 @@ LastContinues [] = ⊥
 LastContinues (p ∷ []) = p.continues ≡ true
 LastContinues (p ∷ q ∷ ps) = LastContinues (q ∷ ps)
 
--- where a run is open with a piece more at its front, it is open without it
+-- if a run is open with one more piece at its front, it is open without it
 still_open : (by : Profile) (last : ℕ) (Q : Type 0) (p : Piece) (rs : List (List Piece)) (n : ℕ) → p.continues ≡ true → (rs ≡ [] → Q) → ((m : ℕ) → open_of_runs by last rs ≡ Some m → Q) → open_of_runs by last (onto_first p rs) ≡ Some n → Q
 still_open by last Q p [] n c none f e = none refl
 still_open by last Q p (r ∷ rs) n c none f e = on (p.continues) (is_open r) c f e
@@ -61,9 +61,9 @@ open_last by last (p ∷ q ∷ ps) n e = on p.continues refl e (λ m f. open_las
 record LastKept (all : List KeptLine) (ls : List NumberedLine) : Type 0 where
   before : List NumberedLine
   line : NumberedLine
-  behind : List NumberedLine
-  lines : ls ≡ before ++ line ∷ behind
-  comments : kept behind ≡ []
+  following : List NumberedLine
+  lines : ls ≡ before ++ line ∷ following
+  comments : kept following ≡ []
   ends : ends_in backslash line.text ≡ true
   place : KeptLine
   found : slice_get all (length all - 1) ≡ Some place
@@ -79,13 +79,13 @@ none_kept start (l ∷ ls) e = by (is_comment (unindented l)) e (λ f. none_kept
     by false e f = cc
 
 -- the last of more than one
-last_behind : (k x : KeptLine) (lines : List KeptLine) → slice_get lines (length lines - 1) ≡ Some x → slice_get (k ∷ lines) (length (k ∷ lines) - 1) ≡ Some x
-last_behind k x [] e = cc
-last_behind k x (y ∷ lines) e =
+last_after : (k x : KeptLine) (lines : List KeptLine) → slice_get lines (length lines - 1) ≡ Some x → slice_get (k ∷ lines) (length (k ∷ lines) - 1) ≡ Some x
+last_after k x [] e = cc
+last_after k x (y ∷ lines) e =
     let one : suc (length (y ∷ lines)) - 1 ≡ suc (length (y ∷ lines) - 1) = omega arith in
     ap (slice_get (k ∷ y ∷ lines)) one ∙ e
 
--- where the `\` stands that a line ends in
+-- the place of the `\` that a line ends in
 reaches_end : (start : ℕ) (l : NumberedLine) → ends_in backslash (unindented l).text ≡ true → (ends_in backslash l.text ≡ true) × ((as_kept start l).column + (as_kept start l).size ≡ length l.text)
 reaches_end start l e =
     let written = (unindented l).text in
@@ -112,21 +112,21 @@ last_kept start (l ∷ ls) h = by (is_comment (unindented l)) (kept ls) refl h (
         → (LastContinues (map piece_of xs) → LastKept (kept_from (start + (as_kept start l).size) ls) ls) → LastKept (kept_before start (cond c None (Some (as_kept start l))) (λ n. kept_from n ls)) (l ∷ ls)
     by true xs e h here next =
         let r = here h in
-        record { before = l ∷ r.before; line = r.line; behind = r.behind; lines = ap (λ (x : List NumberedLine). l ∷ x) r.lines; comments = r.comments; ends = r.ends; place = r.place; found = r.found; number = r.number; reaches = r.reaches }
+        record { before = l ∷ r.before; line = r.line; following = r.following; lines = ap (λ (x : List NumberedLine). l ∷ x) r.lines; comments = r.comments; ends = r.ends; place = r.place; found = r.found; number = r.number; reaches = r.reaches }
     by false [] e h here next =
         let r = reaches_end start l h in
-        record { before = []; line = l; behind = ls; lines = refl; comments = e; ends = r.0; place = as_kept start l; found = last_here start l ls e h; number = refl; reaches = r.1 }
+        record { before = []; line = l; following = ls; lines = refl; comments = e; ends = r.0; place = as_kept start l; found = last_here start l ls e h; number = refl; reaches = r.1 }
     by false (x ∷ xs) e h here next =
         let r = next h in
         record {
           before = l ∷ r.before;
           line = r.line;
-          behind = r.behind;
+          following = r.following;
           lines = ap (λ (y : List NumberedLine). l ∷ y) r.lines;
           comments = r.comments;
           ends = r.ends;
           place = r.place;
-          found = last_behind (as_kept start l) r.place (kept_from (start + (as_kept start l).size) ls) r.found;
+          found = last_after (as_kept start l) r.place (kept_from (start + (as_kept start l).size) ls) r.found;
           number = r.number;
           reaches = r.reaches;
         }
@@ -137,16 +137,16 @@ lines_open by bytes number few e =
     let r = last_kept 0 (numbered_lines bytes) (open_last by (length (lines bytes)) (map piece_of (kept (numbered_lines bytes))) number e) in
     let readings = readings_from by 0 ls in
     let others = flat_map (λ x. line_findings (kept_lines bytes) x.0 x.1) (zip readings (landings (map (λ x. names_of x.read) readings))) in
-    let bounds = line_bounds bytes r.line (subst (IsAmong r.line) (sym r.lines) (among_others r.before r.line r.behind)) in
+    let bounds = line_bounds bytes r.line (subst (IsAmong r.line) (sym r.lines) (among_others r.before r.line r.following)) in
     let reaches = r.reaches in
     record {
       others = others;
-      told = found_at number (place_at r.place r.place.size 1) OpenAtEnd [];
+      reported = found_at number (place_at r.place r.place.size 1) OpenAtEnd [];
       last = ap (λ (o : Option ℕ). others ++ open_findings (kept_lines bytes) o) e ∙ ap (λ (o : Option KeptLine). others ++ found_at number (backslash_of o) OpenAtEnd [] ∷ []) r.found;
       kind = refl;
       before = r.before;
       line = r.line;
-      behind = r.behind;
+      following = r.following;
       lines = r.lines;
       comments = r.comments;
       backslash = r.ends;
@@ -155,6 +155,6 @@ lines_open by bytes number few e =
       end = capped_end (r.place.column + r.place.size + 1) (length bytes) (let b = bounds.1 in omega (arith, reaches, b)) few ∙ ap (λ (n : ℕ). n + 1) reaches;
     }
 
-pub all_open : (by : Profile) (file : SourceFile) (number : ℕ) → length file.bytes < 2 ^ 32 - 1 → given_up by file.bytes ≡ None → (joined_lines by file.bytes).open_at ≡ Some number → EndsOpen file.bytes (placed_findings by file)
+pub all_open : (by : Profile) (file : SourceFile) (number : ℕ) → length file.bytes < 2 ^ 32 - 1 → abandoned by file.bytes ≡ None → (joined_lines by file.bytes).open_at ≡ Some number → EndsOpen file.bytes (placed_findings by file)
 unfolding placed_findings
 all_open by file number few none e = subst (λ (o : Option ℕ). EndsOpen file.bytes (findings_unless by file.bytes o)) (sym none) (lines_open by file.bytes number few e)

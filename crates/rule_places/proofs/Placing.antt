@@ -7,13 +7,13 @@ use Rattle.text_bytes.specs.Messages.{capped}
 use Rattle.text_bytes.specs.Names.{newline}
 use Rattle.rule_core.specs.Lines.{piece_of}
 use Rattle.rule_places.specs.Kept.{kept_lines, place_at, place_in, within_line}
-use Rattle.rule_places.specs.Laws.{StandsIn}
+use Rattle.rule_places.specs.Laws.{IsFoundIn}
 use Rattle.rule_places.specs.Shown.{IsAmong, Shows, kept_text}
 use Rattle.rule_places.specs.declared.kept.KeptLine.{KeptLine}
 use Rattle.rule_places.specs.declared.kept.Place.{Place}
 use Rattle.rule_places.proofs.Showing.{all_shown}
 
--- texts that are no more than a number, and no longer
+-- at most so many texts, each at most that long
 abbrev Fits : ℕ → List (List ℕ) → Type 0
 Fits m ts = (length ts ≤ m) × AllByRecursion (λ t. length t ≤ m) ts
 
@@ -46,10 +46,10 @@ line_bounds bytes l i =
     let b = among_bounds (length bytes) 1 l (lines bytes) f.1 i in
     (omega (arith, f.0, b.0), b.1)
 
--- a line is one of those that it stands among
-pub among_others : (before : List NumberedLine) (line : NumberedLine) (behind : List NumberedLine) → IsAmong line (before ++ line ∷ behind)
-among_others [] line behind = inl refl
-among_others (l ∷ before) line behind = inr (among_others before line behind)
+-- a line is one of those that it is among
+pub among_others : (before : List NumberedLine) (line : NumberedLine) (following : List NumberedLine) → IsAmong line (before ++ line ∷ following)
+among_others [] line following = inl refl
+among_others (l ∷ before) line following = inr (among_others before line following)
 
 -- what a line gives to a joined line is no longer than the line
 piece_within : (l : NumberedLine) → length (piece_of l).text ≤ length l.text
@@ -93,9 +93,9 @@ enough : (n : ℕ) (xs ys : List ℕ) → take n xs ≡ take n ys → n ≤ leng
 enough n xs ys e h = let x = length-take n xs in let y = length-take n ys in let same = ap (λ (zs : List ℕ). length zs) e in omega (arith, x, y, same, h)
 
 -- a place by its numbers
-stands_by : (bytes text : List ℕ) (p : Place) (l : NumberedLine) (column n : ℕ) → IsAmong l (numbered_lines bytes) → p.line ≡ l.number → p.column ≡ column → p.end ≡ column + n → 0 < column → 0 < n
-    → take n (drop (column - 1) l.text) ≡ take n text → (n ≡ length text) ⊎ (column - 1 + n ≡ length (piece_of l).text) → StandsIn bytes text p
-stands_by bytes text p l column n among number c e counted some shown whole =
+in_place_by : (bytes text : List ℕ) (p : Place) (l : NumberedLine) (column n : ℕ) → IsAmong l (numbered_lines bytes) → p.line ≡ l.number → p.column ≡ column → p.end ≡ column + n → 0 < column → 0 < n
+    → take n (drop (column - 1) l.text) ≡ take n text → (n ≡ length text) ⊎ (column - 1 + n ≡ length (piece_of l).text) → IsFoundIn bytes text p
+in_place_by bytes text p l column n among number c e counted some shown whole =
     let width : p.end - p.column ≡ n = omega (arith, c, e) in
     let first : p.column - 1 ≡ column - 1 = omega (arith, c) in
     record {
@@ -111,9 +111,9 @@ stands_by bytes text p l column n among number c e counted some shown whole =
       ];
     }
 
--- a line's place stands where its bytes do
+-- a line's place is that of its bytes
 line_placed : (bytes text : List ℕ) (start at size : ℕ) (s : Shows (kept_lines bytes) text (numbered_lines bytes) start at) → length bytes < 2 ^ 32 - 1 → 0 < size
-    → StandsIn bytes (take size (drop (at - start) text)) (place_at s.place (at - s.place.start) (min size (s.place.size - (at - s.place.start))))
+    → IsFoundIn bytes (take size (drop (at - start) text)) (place_at s.place (at - s.place.start) (min size (s.place.size - (at - s.place.start))))
 line_placed bytes text start at size s few some =
     let k = s.place in
     let past = at - k.start in
@@ -125,7 +125,7 @@ line_placed bytes text start at size s few some =
     let before : k.column + past ≤ length bytes + 1 = omega (arith, fits) in
     let left : rest ≤ length (drop (k.column - 1 + past) s.line.text) = subst (λ (m : ℕ). rest ≤ m) (sym (length-drop (k.column - 1 + past) s.line.text)) (rest_within at k.start k.size k.column (length (piece_of s.line).text) (length s.line.text) s.begins s.reaches s.counted s.ends piece) in
     let first : k.column + past - 1 ≡ k.column - 1 + past = let h = s.counted in omega (arith, h) in
-    stands_by bytes (take size (drop (at - start) text)) (place_at k past n) s.line (k.column + past) n s.among
+    in_place_by bytes (take size (drop (at - start) text)) (place_at k past n) s.line (k.column + past) n s.among
     (ap capped s.number ∙ capped_is s.line.number (length bytes) bounds.0 few)
     (capped_end (k.column + past) (length bytes) before few)
     (capped_end (k.column + past + n) (length bytes) fits few)
@@ -138,10 +138,10 @@ line_placed bytes text start at size s few some =
     ])
 
 pub all_placed : (bytes : List ℕ) (at size : ℕ) → length bytes < 2 ^ 32 - 1 → at < length (kept_text (numbered_lines bytes)) → 0 < size
-    → StandsIn bytes (take size (drop at (kept_text (numbered_lines bytes)))) (place_in (kept_lines bytes) at size)
+    → IsFoundIn bytes (take size (drop at (kept_text (numbered_lines bytes)))) (place_in (kept_lines bytes) at size)
 all_placed bytes at size few h some =
     let s = all_shown bytes at h in
     let text = kept_text (numbered_lines bytes) in
     let none : at - 0 ≡ at = omega arith in
-    subst (λ (o : Option KeptLine). StandsIn bytes (take size (drop at text)) (within_line o at size)) (sym s.found)
-    (subst (λ (n : ℕ). StandsIn bytes (take size (drop n text)) (place_at s.place (at - s.place.start) (min size (s.place.size - (at - s.place.start))))) none (line_placed bytes text 0 at size s few some))
+    subst (λ (o : Option KeptLine). IsFoundIn bytes (take size (drop at text)) (within_line o at size)) (sym s.found)
+    (subst (λ (n : ℕ). IsFoundIn bytes (take size (drop n text)) (place_at s.place (at - s.place.start) (min size (s.place.size - (at - s.place.start))))) none (line_placed bytes text 0 at size s few some))

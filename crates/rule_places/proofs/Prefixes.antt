@@ -6,7 +6,7 @@ use Rattle.std.proofs.lemmas.Bool.{and_from, and_parts}
 use Rattle.std.proofs.lemmas.List.{length-take-le, take-append-drop}
 use Rattle.text_bytes.specs.Names.{close_brace, double_quote, equals, bang, plus, minus, colon, is_blank, open_brace, space, tab}
 use Rattle.text_bytes.specs.Texts.{begins_with, split_once}
-use Rattle.rule_tokens.specs.Grammar.{AllAre, BeginsOther, IsFault, Item, LexesAt, Placed, TokenStands, WrongPrefix, answers, attribute_bytes, attribute_text, faulty, is_attribute_byte, is_key_byte, is_letter, last, more, operator_text}
+use Rattle.rule_tokens.specs.Grammar.{AllAre, BeginsOther, BeginsWithToken, IsFault, Item, LexesAt, Placed, WrongPrefix, answers, attribute_bytes, attribute_text, faulty, is_attribute_byte, is_key_byte, is_letter, last, more, operator_text}
 use Rattle.rule_tokens.specs.Lines.{is_over, items_from, items_left}
 use Rattle.rule_tokens.specs.Prefixes.{letters_at}
 use Rattle.rule_tokens.specs.declared.kinds.Operator.{Operator}
@@ -16,7 +16,7 @@ use Rattle.rule_tokens.proofs.HeadLemmas.{of_blank}
 use Rattle.rule_tokens.proofs.LetterLemmas.{letters_again}
 use Rattle.rule_tokens.proofs.RunLemmas.{apart, run_again}
 use Rattle.rule_tokens.proofs.Steps.{left_done, left_given}
-use Rattle.rule_places.specs.Letters.{behind_braces, behind_byte, behind_cut, behind_key, start_before_quote}
+use Rattle.rule_places.specs.Letters.{after_braces, after_byte, after_cut, after_key, start_before_quote}
 
 -- not this byte
 abbrev pub is_other : ℕ → ℕ → Bool
@@ -31,17 +31,17 @@ all_of p q [] f h = refl
 all_of p q (x ∷ xs) f h = let both = and_parts (p x) (list_all p xs) h in and_from (q x) _ (f x both.0) (all_of p q xs f both.1)
 
 -- what follows the first such byte
-behind_first : (b : ℕ) (front rest : List ℕ) → AllAre (is_other b) front → behind_byte b (front ++ b ∷ rest) ≡ rest
+after_first : (b : ℕ) (prefix rest : List ℕ) → AllAre (is_other b) prefix → after_byte b (prefix ++ b ∷ rest) ≡ rest
 unfolding split_once
-behind_first b front rest all =
-    let text = front ++ b ∷ rest in
+after_first b prefix rest all =
+    let text = prefix ++ b ∷ rest in
     let own : not (b == b) ≡ false = ap not (eq-eqb b b refl) in
-    let count : prefix_len (is_other b) text ≡ length front = run_again (is_other b) front (b ∷ rest) all own in
-    let long = length-append front (b ∷ rest) in
-    let within : nat_lt (length front) (length text) ≡ true = lt-ltb (length front) (length text) (omega (arith, long)) in
-    ap (λ (n : ℕ). behind_cut (option_map (λ m. (take m text, drop (m + 1) text)) (cond (nat_lt n (length text)) (Some n) None))) count
-    ∙ ap (λ (c : Bool). behind_cut (option_map (λ m. (take m text, drop (m + 1) text)) (cond c (Some (length front)) None))) within
-    ∙ drop-append-add front (b ∷ rest) 1
+    let count : prefix_len (is_other b) text ≡ length prefix = run_again (is_other b) prefix (b ∷ rest) all own in
+    let long = length-append prefix (b ∷ rest) in
+    let within : nat_lt (length prefix) (length text) ≡ true = lt-ltb (length prefix) (length text) (omega (arith, long)) in
+    ap (λ (n : ℕ). after_cut (option_map (λ m. (take m text, drop (m + 1) text)) (cond (nat_lt n (length text)) (Some n) None))) count
+    ∙ ap (λ (c : Bool). after_cut (option_map (λ m. (take m text, drop (m + 1) text)) (cond c (Some (length prefix)) None))) within
+    ∙ drop-append-add prefix (b ∷ rest) 1
 
 -- a text that begins with no such byte
 begins_other : (b : ℕ) (text : List ℕ) → BeginsOther (λ x. x == b) text → begins_with b text ≡ false
@@ -49,12 +49,12 @@ begins_other b [] h = refl
 begins_other b (x ∷ text) h = h
 
 -- what follows a key, and after its braces
-behind_attribute : (a : Option (List ℕ)) (rest : List ℕ) → AllAre is_attribute_byte (attribute_bytes a) → BeginsOther (λ x. x == open_brace) rest
-    → cond (begins_with open_brace (attribute_text a ++ rest)) (behind_byte close_brace (attribute_text a ++ rest)) (attribute_text a ++ rest) ≡ rest
-behind_attribute None rest all o = ap (λ (c : Bool). cond c (behind_byte close_brace rest) rest) (begins_other open_brace rest o)
-behind_attribute (Some name) rest all o =
+after_attribute : (a : Option (List ℕ)) (rest : List ℕ) → AllAre is_attribute_byte (attribute_bytes a) → BeginsOther (λ x. x == open_brace) rest
+    → cond (begins_with open_brace (attribute_text a ++ rest)) (after_byte close_brace (attribute_text a ++ rest)) (attribute_text a ++ rest) ≡ rest
+after_attribute None rest all o = ap (λ (c : Bool). cond c (after_byte close_brace rest) rest) (begins_other open_brace rest o)
+after_attribute (Some name) rest all o =
     let other : AllAre (is_other close_brace) name = all_of is_attribute_byte (is_other close_brace) name (λ b h. (and_parts (is_other close_brace b) _ h).0) all in
-    ap (behind_byte close_brace) (append_assoc (open_brace ∷ name) (close_brace ∷ []) rest) ∙ behind_first close_brace (open_brace ∷ name) rest other
+    ap (after_byte close_brace) (append_assoc (open_brace ∷ name) (close_brace ∷ []) rest) ∙ after_first close_brace (open_brace ∷ name) rest other
 
 attribute_begins : (a : Option (List ℕ)) (rest : List ℕ) → BeginsOther is_key_byte rest → BeginsOther is_key_byte (attribute_text a ++ rest)
 attribute_begins None rest o = o
@@ -88,53 +88,53 @@ letter_other b h = by (b == double_quote) refl
     by false e = refl
 
 -- a wrong prefix: what follows the quote
-behind_quote : (text : List ℕ) (w : WrongPrefix text) → behind_byte double_quote (behind_braces text) ≡ w.rest
-behind_quote text w =
-    let s = w.stands in
+after_quote : (text : List ℕ) (w : WrongPrefix text) → after_byte double_quote (after_braces text) ≡ w.rest
+after_quote text w =
+    let s = w.is_present in
     let letters = w.letters ++ double_quote ∷ w.rest in
-    let value = s.before ++ (operator_text w.head.operator ++ (s.behind ++ w.quoted)) in
-    let other = λ (q : ℕ → Bool) (n : (q space ≡ false) × (q tab ≡ false)) (m : (q equals ≡ false) × (q bang ≡ false) × (q plus ≡ false) × (q minus ≡ false) × (q colon ≡ false)). apart is_blank q s.before (operator_text w.head.operator ++ (s.behind ++ w.quoted)) (of_blank q n.0 n.1) s.blanks.0 (operator_begins q w.head.operator (s.behind ++ w.quoted) m) in
+    let value = s.before ++ (operator_text w.head.operator ++ (s.following ++ w.quoted)) in
+    let other = λ (q : ℕ → Bool) (n : (q space ≡ false) × (q tab ≡ false)) (m : (q equals ≡ false) × (q bang ≡ false) × (q plus ≡ false) × (q minus ≡ false) × (q colon ≡ false)). apart is_blank q s.before (operator_text w.head.operator ++ (s.following ++ w.quoted)) (of_blank q n.0 n.1) s.blanks.0 (operator_begins q w.head.operator (s.following ++ w.quoted) m) in
     let spelled : text ≡ w.head.key ++ (attribute_text w.head.attribute ++ value) = s.spelled ∙ simp append_assoc in
     let starts = attribute_begins w.head.attribute value (other is_key_byte (refl, refl) (refl, refl, refl, refl, refl)) in
-    let key : behind_key text ≡ attribute_text w.head.attribute ++ value =
-    ap behind_key spelled
+    let key : after_key text ≡ attribute_text w.head.attribute ++ value =
+    ap after_key spelled
     ∙ ap (λ (n : ℕ). drop n (w.head.key ++ (attribute_text w.head.attribute ++ value))) (run_again is_key_byte w.head.key (attribute_text w.head.attribute ++ value) s.key starts)
     ∙ drop_at w.head.key (attribute_text w.head.attribute ++ value) (length w.head.key) refl in
-    let braces : behind_braces text ≡ value =
-    ap (λ (rest : List ℕ). cond (begins_with open_brace rest) (behind_byte close_brace rest) rest) key
-    ∙ behind_attribute w.head.attribute value s.attribute (other (λ b. b == open_brace) (refl, refl) (refl, refl, refl, refl, refl)) in
-    let front = s.before ++ (operator_text w.head.operator ++ (s.behind ++ w.letters)) in
-    let cut : value ≡ front ++ double_quote ∷ w.rest = ap (λ (q : List ℕ). s.before ++ (operator_text w.head.operator ++ (s.behind ++ q))) w.spelled ∙ sym (simp append_assoc) in
-    let none : AllAre (is_other double_quote) front =
+    let braces : after_braces text ≡ value =
+    ap (λ (rest : List ℕ). cond (begins_with open_brace rest) (after_byte close_brace rest) rest) key
+    ∙ after_attribute w.head.attribute value s.attribute (other (λ b. b == open_brace) (refl, refl) (refl, refl, refl, refl, refl)) in
+    let prefix = s.before ++ (operator_text w.head.operator ++ (s.following ++ w.letters)) in
+    let cut : value ≡ prefix ++ double_quote ∷ w.rest = ap (λ (q : List ℕ). s.before ++ (operator_text w.head.operator ++ (s.following ++ q))) w.spelled ∙ sym (simp append_assoc) in
+    let none : AllAre (is_other double_quote) prefix =
     all_both (is_other double_quote) s.before _ (all_of is_blank (is_other double_quote) s.before blank_other s.blanks.0)
     (all_both (is_other double_quote) (operator_text w.head.operator) _ (operator_other w.head.operator)
-    (all_both (is_other double_quote) s.behind w.letters (all_of is_blank (is_other double_quote) s.behind blank_other s.blanks.1) (all_of is_letter (is_other double_quote) w.letters letter_other w.letters_are))) in
-    ap (behind_byte double_quote) (braces ∙ cut) ∙ behind_first double_quote front w.rest none
+    (all_both (is_other double_quote) s.following w.letters (all_of is_blank (is_other double_quote) s.following blank_other s.blanks.1) (all_of is_letter (is_other double_quote) w.letters letter_other w.letters_are))) in
+    ap (after_byte double_quote) (braces ∙ cut) ∙ after_first double_quote prefix w.rest none
 
--- the letters stand where they are said to stand
-pub letters_stand : (line : List ℕ) (at : ℕ) → at ≤ length line → WrongPrefix (drop at line)
+-- the letters are at the place that is given for them
+pub letters_in_place : (line : List ℕ) (at : ℕ) → at ≤ length line → WrongPrefix (drop at line)
     → take (length (letters_at (drop at line))) (drop (start_before_quote line (drop at line) (letters_at (drop at line))) line) ≡ letters_at (drop at line)
-letters_stand line at within w =
+letters_in_place line at within w =
     let text = drop at line in
-    let s = w.stands in
-    let front = w.head.key ++ attribute_text w.head.attribute ++ s.before ++ operator_text w.head.operator ++ s.behind in
+    let s = w.is_present in
+    let prefix = w.head.key ++ attribute_text w.head.attribute ++ s.before ++ operator_text w.head.operator ++ s.following in
     let same : letters_at text ≡ w.letters = letters_again text w in
-    let rest : behind_byte double_quote (behind_braces text) ≡ w.rest = behind_quote text w in
+    let rest : after_byte double_quote (after_braces text) ≡ w.rest = after_quote text w in
     let whole : length text ≡ length line - at = length-drop at line in
-    let parts : length text ≡ length front + length w.quoted = ap length s.spelled ∙ length-append front w.quoted in
+    let parts : length text ≡ length prefix + length w.quoted = ap length s.spelled ∙ length-append prefix w.quoted in
     let more : length w.quoted ≡ length w.letters + length (double_quote ∷ w.rest) = ap length w.spelled ∙ length-append w.letters (double_quote ∷ w.rest) in
-    let start : start_before_quote line text (letters_at text) ≡ at + length front =
+    let start : start_before_quote line text (letters_at text) ≡ at + length prefix =
     ap (λ (x : List ℕ). length line - length x - 1 - length (letters_at text)) rest
     ∙ ap (λ (x : List ℕ). length line - length w.rest - 1 - length x) same
-    ∙ place (length line) (length text) (length front) (length w.quoted) (length w.letters) (length w.rest) within whole parts more in
+    ∙ place (length line) (length text) (length prefix) (length w.quoted) (length w.letters) (length w.rest) within whole parts more in
     ap (λ (n : ℕ). take (length (letters_at text)) (drop n line)) start
-    ∙ ap (take (length (letters_at text))) (sym (drop-drop (length front) at line) ∙ ap (drop (length front)) s.spelled ∙ drop_at front w.quoted (length front) refl ∙ w.spelled)
+    ∙ ap (take (length (letters_at text))) (sym (drop-drop (length prefix) at line) ∙ ap (drop (length prefix)) s.spelled ∙ drop_at prefix w.quoted (length prefix) refl ∙ w.spelled)
     ∙ ap (λ (x : List ℕ). take (length x) (w.letters ++ double_quote ∷ w.rest)) same
     ∙ take_at w.letters (double_quote ∷ w.rest) (length w.letters) refl
     ∙ sym same
   where
-    place : (line text front quoted letters rest : ℕ) → at ≤ line → text ≡ line - at → text ≡ front + quoted → quoted ≡ letters + suc rest → line - rest - 1 - letters ≡ at + front
-    place line text front quoted letters rest h e f g = omega arith
+    place : (line text prefix quoted letters rest : ℕ) → at ≤ line → text ≡ line - at → text ≡ prefix + quoted → quoted ≡ letters + suc rest → line - rest - 1 - letters ≡ at + prefix
+    place line text prefix quoted letters rest h e f g = omega arith
 
 -- a fault of a line is one of the text at its place
 abbrev pub FaultIs : List ℕ → Item → Type 0
@@ -142,9 +142,9 @@ FaultIs line (Ok t) = Unit {0}
 FaultIs line (Err fault) = IsFault (drop fault.at line) fault.kind
 
 -- the bytes of a token before what follows it
-pub own_of : (text : List ℕ) (t : Placed) (rest : List ℕ) → TokenStands text t.parts rest → (own : List ℕ) × (text ≡ own ++ rest)
+pub own_of : (text : List ℕ) (t : Placed) (rest : List ℕ) → BeginsWithToken text t.parts rest → (own : List ℕ) × (text ≡ own ++ rest)
 own_of text t rest s =
-    let head = t.parts.head.key ++ attribute_text t.parts.head.attribute ++ s.head.before ++ operator_text t.parts.head.operator ++ s.head.behind in
+    let head = t.parts.head.key ++ attribute_text t.parts.head.attribute ++ s.head.before ++ operator_text t.parts.head.operator ++ s.head.following in
     let opened = s.letters ++ double_quote ∷ t.parts.value in (
       head ++ (opened ++ double_quote ∷ []),
       s.head.spelled ∙ ap (λ (q : List ℕ). head ++ q) (s.spelled ∙ sym (append_assoc opened (double_quote ∷ []) rest)) ∙ sym (append_assoc head (opened ++ double_quote ∷ []) rest),
@@ -153,17 +153,17 @@ own_of text t rest s =
 faults : (line before text : List ℕ) (at : ℕ) (tokens : List Placed) (end : Option TokenFault) → line ≡ before ++ text → length before ≡ at → LexesAt at text tokens end → AllByRecursion (FaultIs line) (answers tokens end)
 faults line before text at [] None e l h = elim h [ ]
 faults line before text at [] (Some fault) e l (faulty here is) =
-    let stands : drop fault.at line ≡ text = ap (λ (n : ℕ). drop n line) here ∙ ap (drop at) e ∙ drop_at before text at l in
-    (subst (λ (t : List ℕ). IsFault t fault.kind) (sym stands) is, tt)
+    let is_present : drop fault.at line ≡ text = ap (λ (n : ℕ). drop n line) here ∙ ap (drop at) e ∙ drop_at before text at l in
+    (subst (λ (t : List ℕ). IsFault t fault.kind) (sym is_present) is, tt)
 faults line before text at (t ∷ []) None e l (last rest gap here between) = (tt, tt)
-faults line before text at (t ∷ tokens) end e l (more rest gap next here between some behind) =
-    let o = own_of text t rest here.stands in
+faults line before text at (t ∷ tokens) end e l (more rest gap next here between some following) =
+    let o = own_of text t rest here.is_present in
     let own : length text ≡ length o.0 + length rest = ap length o.1 ∙ length-append o.0 rest in
     let spelled : line ≡ (before ++ (o.0 ++ gap)) ++ next =
     e ∙ (ap (λ v. before ++ v) (o.1 ∙ (ap (λ v. o.0 ++ v) between.spelled ∙ sym (append_assoc o.0 gap next))) ∙ sym (append_assoc before (o.0 ++ gap) next)) in
     let n : length (before ++ (o.0 ++ gap)) ≡ length before + (length o.0 + length gap) = length-append before (o.0 ++ gap) ∙ ap (λ n. length before + n) (length-append o.0 gap) in
     let place : length (before ++ (o.0 ++ gap)) ≡ t.span.end + length gap = omega (arith, here.end) in
-    (tt, faults line (before ++ (o.0 ++ gap)) next (t.span.end + length gap) tokens end spelled place behind)
+    (tt, faults line (before ++ (o.0 ++ gap)) next (t.span.end + length gap) tokens end spelled place following)
 
 pub all_faults : (start : ℕ) (line : List ℕ) → start ≤ length line → AllByRecursion (FaultIs line) (items_from start line)
 all_faults start line within = by (is_over start line)

@@ -10,7 +10,7 @@ use Rattle.rule_tokens.specs.Values.{Piece, Spells, byte, hex, is_number, is_pie
 use Rattle.rule_places.specs.Laws.{escapes_quotes}
 use Rattle.rule_places.proofs.Prefixes.{all_of, is_other}
 
--- a text whose quotes are escaped wherever it stands
+-- a text whose quotes are escaped wherever it is
 abbrev IsEscaped : List ℕ → Type 0
 IsEscaped text = (before : ℕ) → escapes_quotes before text ≡ true
 
@@ -21,8 +21,8 @@ no_quotes (b ∷ bytes) rest all h before =
     and_from _ _ (ap (λ (c : Bool). c || (before == backslash)) parts.0) (no_quotes bytes rest parts.1 h b)
 
 -- the byte after a `\`
-behind_backslash : (b : ℕ) (rest : List ℕ) → IsEscaped rest → IsEscaped (backslash ∷ b ∷ rest)
-behind_backslash b rest h before = and_from _ _ (by (not (b == double_quote))) (h b)
+after_backslash : (b : ℕ) (rest : List ℕ) → IsEscaped rest → IsEscaped (backslash ∷ b ∷ rest)
+after_backslash b rest h before = and_from _ _ (by (not (b == double_quote))) (h b)
   where
     by : (c : Bool) → (c || (backslash == backslash)) ≡ true
     by true = refl
@@ -41,13 +41,13 @@ unfolding is_number
 digits_other base count digits none h = all_of (λ d. nat_lt (digit_value d) base) (is_other double_quote) digits (no_digit base none) (and_parts _ _ (and_parts _ _ h).1).0
 
 number_escaped : (base count mark : ℕ) (digits rest : List ℕ) → nat_lt (digit_value double_quote) base ≡ false → is_number base count digits ≡ true → IsEscaped rest → IsEscaped (backslash ∷ mark ∷ (digits ++ rest))
-number_escaped base count mark digits rest none h g = behind_backslash mark (digits ++ rest) (no_quotes digits rest (digits_other base count digits none h) g)
+number_escaped base count mark digits rest none h g = after_backslash mark (digits ++ rest) (no_quotes digits rest (digits_other base count digits none h) g)
 
 piece_escaped : (escaped : Bool) (p : Piece) (rest : List ℕ) → is_piece escaped p ≡ true → IsEscaped rest → IsEscaped (spelling p ++ rest)
 piece_escaped false (byte b) rest h g = no_quotes (b ∷ []) rest (and_from _ _ (and_parts (not (b == double_quote)) _ h).0 refl) g
 piece_escaped true (byte b) rest h g = no_quotes (b ∷ []) rest (and_from _ _ (and_parts (not (b == double_quote)) _ h).0 refl) g
-piece_escaped false (letter c) rest h g = behind_backslash c rest g
-piece_escaped true (letter c) rest h g = behind_backslash c rest g
+piece_escaped false (letter c) rest h g = after_backslash c rest g
+piece_escaped true (letter c) rest h g = after_backslash c rest g
 piece_escaped true (octal digits) rest h g = no_quotes (backslash ∷ digits) rest (digits_other 8 3 digits refl (and_parts (is_number 8 3 digits) _ h).0) g
 piece_escaped true (hex digits) rest h g = number_escaped 16 2 letter_x digits rest refl h g
 piece_escaped true (short digits) rest h g = number_escaped 16 4 letter_u digits rest refl (and_parts (is_number 16 4 digits) _ h).0 g

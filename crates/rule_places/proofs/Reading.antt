@@ -11,7 +11,7 @@ use Rattle.rule_parts.specs.Values.{finding}
 use Rattle.rule_parts.specs.declared.finding.Finding.{Finding}
 use Rattle.rule_types.specs.declared.part.Part.{Part}
 use Rattle.rule_types.specs.declared.part.Part.TheVariants as part
-use Rattle.rule_core.specs.Drafts.{Draft, draft, draft_of, draft_with, given_again_behind, items_as, lost_name, most_bytes, parts_of, token_finding, tokens_of, with_part}
+use Rattle.rule_core.specs.Drafts.{Draft, draft, draft_of, draft_with, given_again_after, items_as, lost_name, most_bytes, parts_of, token_finding, tokens_of, with_part}
 use Rattle.rule_core.specs.Effects.{lacks_effect}
 use Rattle.rule_core.specs.Style.{style_findings}
 use Rattle.rule_core.specs.Taking as core
@@ -19,14 +19,14 @@ use Rattle.rule_core.proofs.Taking.{one_more}
 use Rattle.rule_places.specs.Found.{RulePlaces, no_places}
 use Rattle.rule_places.specs.Laws.{cut}
 use Rattle.rule_places.specs.Reading as places
-use Rattle.rule_places.specs.Reading.{again, finished, first_name, goes_on, lost, name_place, reading_of, taken, told, with_label}
+use Rattle.rule_places.specs.Reading.{again, finished_reading, first_name, lost, name_place, proceeds, reading_of, reported, taken, with_label}
 use Rattle.rule_places.specs.Spots.{spot, token_spot}
 use Rattle.rule_places.specs.Style.{style_spots}
 use Rattle.rule_places.specs.declared.found.NamePlace.{NamePlace}
 use Rattle.rule_places.specs.declared.line_reading.LineReading.{LineReading}
 use Rattle.rule_places.specs.declared.line_reading.LineReading.TheVariants.{Rule, Wrong}
 use Rattle.rule_places.proofs.Styling.{appended, style_cut}
-use Rattle.rule_places.proofs.Telling.{Tells, part_tells}
+use Rattle.rule_places.proofs.Reporting.{Reports, part_reports}
 
 abbrev pub name_of : NamePlace → List ℕ
 name_of n = n.name
@@ -96,17 +96,17 @@ token_cut : (kind : TokenFaultKind) (at : ℕ) (line : List ℕ) → cut (token_
 token_cut Syntax at line = refl
 token_cut Prefix at line = refl
 
-token_ends : (by : Profile) (line : List ℕ) (items : List Item) (r : RulePlaces) (before : List Part) (t : Placed) (x : Result Part Finding) → Tells t x
+token_ends : (by : Profile) (line : List ℕ) (items : List Item) (r : RulePlaces) (before : List Part) (t : Placed) (x : Result Part Finding) → Reports t x
     → ((p : Part) → EndsAs by (before ++ p ∷ []) (taken by line (places.with_part by r t p) items) (parts_of by line items))
-    → EndsAs by before (goes_on by r t (λ s. taken by line s items) (told t x)) (with_part x (parts_of by line items))
-unfolding Tells
+    → EndsAs by before (proceeds by r t (λ s. taken by line s items) (reported t x)) (with_part x (parts_of by line items))
+unfolding Reports
 token_ends by line items r before t (Ok p) h next = shifted by before p (taken by line (places.with_part by r t p) items) (parts_of by line items) (next p)
 token_ends by line items r before t (Err wrong) h next = h.0
 
 items_end : (by : Profile) (line : List ℕ) (items : List Item) (r : RulePlaces) (before : List Part) → Keeps r (core.written by before) → EndsAs by before (taken by line r items) (parts_of by line items)
 items_end by line [] r before k = subst (λ (ps : List Part). Keeps r (core.written by ps)) (sym (append-nil before)) k
 items_end by line (Ok t ∷ items) r before k =
-    token_ends by line items r before t (part_of by t) (part_tells by t) (λ p. items_end by line items (places.with_part by r t p) (before ++ p ∷ []) (part_more by r before t p k))
+    token_ends by line items r before t (part_of by t) (part_reports by t) (λ p. items_end by line items (places.with_part by r t p) (before ++ p ∷ []) (part_more by r before t p k))
 items_end by line (Err fault ∷ items) r before k = token_cut fault.kind fault.at line
 
 -- what is read is the draft, or what is wrong
@@ -124,10 +124,10 @@ ended by line r parts true k = refl
 ended by line r parts false k = record {
   label = k.label;
   goto = k.goto;
-  findings = appended r.spots (style_spots by line (tokens_of (items_as by line))) (given_again_behind by [] parts) (style_findings by line (tokens_of (items_as by line))) k.findings (style_cut by line (tokens_of (items_as by line)));
+  findings = appended r.spots (style_spots by line (tokens_of (items_as by line))) (given_again_after by [] parts) (style_findings by line (tokens_of (items_as by line))) k.findings (style_cut by line (tokens_of (items_as by line)));
 }
 
-styled : (by : Profile) (line : List ℕ) (read : LineReading) (parts : Result (List Part) Finding) → EndsAs by [] read parts → Matches (finished by line read) (draft_with by line parts)
+styled : (by : Profile) (line : List ℕ) (read : LineReading) (parts : Result (List Part) Finding) → EndsAs by [] read parts → Matches (finished_reading by line read) (draft_with by line parts)
 styled by line (Rule r) (Ok parts) k = ended by line r parts (lacks_effect by (tokens_of (items_as by line))) k
 styled by line (Rule r) (Err wrong) k = absurd k
 styled by line (Wrong found) (Ok parts) k = absurd k
@@ -142,6 +142,6 @@ unfolding reading_of draft_of
 line_matches by line = on (nat_lt (most_bytes by) (length line))
   where
     on : (b : Bool)
-        → Matches (cond b (Wrong (spot LineTooLong [] 0 (length line))) (finished by line (taken by line no_places (items_as by line)))) (cond b (Err (finding LineTooLong [])) (draft_with by line (parts_of by line (items_as by line))))
+        → Matches (cond b (Wrong (spot LineTooLong [] 0 (length line))) (finished_reading by line (taken by line no_places (items_as by line)))) (cond b (Err (finding LineTooLong [])) (draft_with by line (parts_of by line (items_as by line))))
     on true = refl
     on false = styled by line (taken by line no_places (items_as by line)) (parts_of by line (items_as by line)) (items_end by line (items_as by line) no_places [] (none_kept by))

@@ -15,14 +15,14 @@ line_before : (k : KeptLine) (more start : ℕ) (lines : List KeptLine) → k.st
 line_before k more start lines e b zero d h = omega arith
 line_before k more start lines e b (suc j) d h =
     let inside : j < length lines = omega arith in
-    let behind = b j d inside in
+    let following = b j d inside in
     omega arith
 
 rise_before : (k : KeptLine) (more start : ℕ) (lines : List KeptLine) → k.start ≡ start → BeginsFrom (start + more) lines → IsNonDecreasingBy (λ l. l.start) lines → IsNonDecreasingBy (λ l. l.start) (k ∷ lines)
 rise_before k more start lines e b r zero zero d h m = omega arith
 rise_before k more start lines e b r zero (suc j) d h m =
     let inside : j < length lines = omega arith in
-    let behind = b j d inside in
+    let following = b j d inside in
     omega arith
 rise_before k more start lines e b r (suc i) zero d h m = absurd (omega arith)
 rise_before k more start lines e b r (suc i) (suc j) d h m = r i j d (omega arith) (omega arith)
@@ -33,8 +33,8 @@ begins start (l ∷ ls) = by (is_comment (unindented l)) (begins start ls) (begi
   where
     by : (c : Bool) → BeginsFrom start (kept_from start ls) → BeginsFrom (start + (as_kept start l).size) (kept_from (start + (as_kept start l).size) ls)
         → BeginsFrom start (kept_before start (cond c None (Some (as_kept start l))) (λ n. kept_from n ls))
-    by true here behind = here
-    by false here behind = line_before (as_kept start l) (as_kept start l).size start (kept_from (start + (as_kept start l).size) ls) refl behind
+    by true here following = here
+    by false here following = line_before (as_kept start l) (as_kept start l).size start (kept_from (start + (as_kept start l).size) ls) refl following
 
 pub rises : (start : ℕ) (ls : List NumberedLine) → IsNonDecreasingBy (λ l. l.start) (kept_from start ls)
 rises start [] = λ i j d h m. absurd (omega arith)
@@ -42,5 +42,5 @@ rises start (l ∷ ls) = by (is_comment (unindented l)) (rises start ls) (rises 
   where
     by : (c : Bool) → IsNonDecreasingBy (λ l. l.start) (kept_from start ls) → IsNonDecreasingBy (λ l. l.start) (kept_from (start + (as_kept start l).size) ls)
         → IsNonDecreasingBy (λ l. l.start) (kept_before start (cond c None (Some (as_kept start l))) (λ n. kept_from n ls))
-    by true here behind = here
-    by false here behind = rise_before (as_kept start l) (as_kept start l).size start (kept_from (start + (as_kept start l).size) ls) refl (begins (start + (as_kept start l).size) ls) behind
+    by true here following = here
+    by false here following = rise_before (as_kept start l) (as_kept start l).size start (kept_from (start + (as_kept start l).size) ls) refl (begins (start + (as_kept start l).size) ls) following

@@ -22,7 +22,7 @@ none_begun : (lines : List KeptLine) (start at : ℕ) → BeginsFrom start lines
 none_begun [] start at b h = refl
 none_begun (x ∷ xs) start at b h =
     let within : 0 < length (x ∷ xs) = omega arith in
-    let behind : start ≤ x.start = b 0 x within in
+    let following : start ≤ x.start = b 0 x within in
     let later : nat_le x.start at ≡ false = lt-leb x.start at (omega arith) in
     ap (λ (c : Bool). cond c (1 + begun xs at) 0) later
 
@@ -46,7 +46,7 @@ some_begun (x ∷ xs) start at m k f h e =
     let count : begun (x ∷ xs) at ≡ 1 + begun xs at = ap (λ (c : Bool). cond c (1 + begun xs at) 0) now in
     omega (arith, count)
 
--- the first line, where the next begins after the byte
+-- the first line, if the next begins after the byte
 found_here : (k : KeptLine) (lines : List KeptLine) (start at : ℕ) → k.start ≤ at → BeginsFrom start lines → at < start → line_at (k ∷ lines) at ≡ Some k
 found_here k lines start at h b g =
     let now : nat_le k.start at ≡ true = le-leb k.start at h in
@@ -54,8 +54,8 @@ found_here k lines start at h b g =
     ap (slice_get (k ∷ lines)) count
 
 -- a later line
-found_behind : (k x : KeptLine) (lines : List KeptLine) (start at : ℕ) → k.start ≤ at → FirstAt start lines → start ≤ at → line_at lines at ≡ Some x → line_at (k ∷ lines) at ≡ Some x
-found_behind k x lines start at h f g e =
+found_after : (k x : KeptLine) (lines : List KeptLine) (start at : ℕ) → k.start ≤ at → FirstAt start lines → start ≤ at → line_at lines at ≡ Some x → line_at (k ∷ lines) at ≡ Some x
+found_after k x lines start at h f g e =
     let now : nat_le k.start at ≡ true = le-leb k.start at h in
     let some : 0 < begun lines at = some_begun lines start at (begun lines at - 1) x f g e in
     let one : 1 + begun lines at - 1 ≡ suc (begun lines at - 1) = omega arith in
@@ -63,15 +63,15 @@ found_behind k x lines start at h f g e =
     ap (slice_get (k ∷ lines)) count ∙ e
 
 -- what a line gives is what it begins with after its blanks
-front_of : (text : List ℕ) → take (length (cond (ends_in backslash text) (take (length text - 1) text) text)) text ≡ cond (ends_in backslash text) (take (length text - 1) text) text
-front_of text = by (ends_in backslash text)
+first_piece : (text : List ℕ) → take (length (cond (ends_in backslash text) (take (length text - 1) text) text)) text ≡ cond (ends_in backslash text) (take (length text - 1) text) text
+first_piece text = by (ends_in backslash text)
   where
     by : (c : Bool) → take (length (cond c (take (length text - 1) text) text)) text ≡ cond c (take (length text - 1) text) text
     by true = ap (λ (n : ℕ). take n text) (length-take-le (length text - 1) text (omega arith))
     by false = take_all (length text) text (le_refl (length text))
 
-behind_blanks : (text : List ℕ) (n : ℕ) → n ≤ length text → length text - length (drop n text) + 1 - 1 ≡ n
-behind_blanks text n h = let e = length-drop n text in omega (arith, e)
+after_blanks : (text : List ℕ) (n : ℕ) → n ≤ length text → length text - length (drop n text) + 1 - 1 ≡ n
+after_blanks text n h = let e = length-drop n text in omega (arith, e)
 
 -- the bytes of the line from a byte on
 same_bytes : (l : NumberedLine) (past : ℕ) (more : List ℕ) → past ≤ length (piece_of (unindented l)).text
@@ -84,15 +84,15 @@ same_bytes l past more h =
     let rest = length piece - past in
     let whole : past + rest ≡ length piece = omega arith in
     let left : length (drop past piece) ≡ rest = length-drop past piece in
-    ap (λ (n : ℕ). take rest (drop (n + past) l.text)) (behind_blanks l.text blanks (prefix_len-le-length is_blank l.text))
+    ap (λ (n : ℕ). take rest (drop (n + past) l.text)) (after_blanks l.text blanks (prefix_len-le-length is_blank l.text))
     ∙ ap (take rest) (sym (drop-drop past blanks l.text))
     ∙ sym (drop-take past rest written)
     ∙ ap (λ (n : ℕ). drop past (take n written)) whole
-    ∙ ap (drop past) (front_of written)
+    ∙ ap (drop past) (first_piece written)
     ∙ sym (take_at (drop past piece) more rest left)
     ∙ ap (take rest) (sym (drop-append-le past piece more h))
 
--- a line and what stands of it after its blanks end alike
+-- a line and what is left of it after its blanks end alike
 pub ends_alike : (b n : ℕ) (text : List ℕ) → 0 < length (drop n text) → ends_in b (drop n text) ≡ ends_in b text
 ends_alike b zero text h = refl
 ends_alike b (suc n) [] h = refl
@@ -126,9 +126,9 @@ shown_here l ls start at h g = record {
   bytes = same_bytes l (at - start) (kept_text ls) (omega arith);
 }
 
-shown_behind : (k : KeptLine) (l : NumberedLine) (lines : List KeptLine) (text more : List ℕ) (ls : List NumberedLine) (start at : ℕ) → k.start ≡ start → FirstAt (start + length text) lines → start + length text ≤ at
+shown_after : (k : KeptLine) (l : NumberedLine) (lines : List KeptLine) (text more : List ℕ) (ls : List NumberedLine) (start at : ℕ) → k.start ≡ start → FirstAt (start + length text) lines → start + length text ≤ at
     → Shows lines more ls (start + length text) at → Shows (k ∷ lines) (text ++ more) (l ∷ ls) start at
-shown_behind k l lines text more ls start at e f h s =
+shown_after k l lines text more ls start at e f h s =
     let place = s.place in
     let far : at - start ≡ length text + (at - (start + length text)) = omega arith in
     record {
@@ -136,7 +136,7 @@ shown_behind k l lines text more ls start at e f h s =
       place = s.place;
       among = inr s.among;
       number = s.number;
-      found = found_behind k s.place lines (start + length text) at (omega arith) f h s.found;
+      found = found_after k s.place lines (start + length text) at (omega arith) f h s.found;
       begins = s.begins;
       reaches = s.reaches;
       counted = s.counted;
@@ -156,12 +156,12 @@ shown (l ∷ ls) start at h g =
         → (at < start + length (kept_text ls) → Shows (kept_from start ls) (kept_text ls) ls start at)
         → (start + (as_kept start l).size ≤ at → at < start + (as_kept start l).size + length (kept_text ls) → Shows (kept_from (start + (as_kept start l).size) ls) (kept_text ls) ls (start + (as_kept start l).size) at)
         → Shows (kept_before start (cond c None (Some (as_kept start l))) (λ n. kept_from n ls)) (run_text (map piece_of (cond (not c) (unindented l ∷ kept ls) (kept ls)))) (l ∷ ls) start at
-    by true g here behind = after_comment (kept_from start ls) (kept_text ls) l ls start at (here g)
-    by false g here behind = elim (cases_lt at (start + (as_kept start l).size)) [
+    by true g here following = after_comment (kept_from start ls) (kept_text ls) l ls start at (here g)
+    by false g here following = elim (cases_lt at (start + (as_kept start l).size)) [
       | inl near ↦ shown_here l ls start at h near
       | inr far ↦
           let more = length-append (piece_of (unindented l)).text (kept_text ls) in
-          shown_behind (as_kept start l) l (kept_from (start + (as_kept start l).size) ls) (piece_of (unindented l)).text (kept_text ls) ls start at refl (first_at (start + (as_kept start l).size) ls) far (behind far (omega (arith, more, g)))
+          shown_after (as_kept start l) l (kept_from (start + (as_kept start l).size) ls) (piece_of (unindented l)).text (kept_text ls) ls start at refl (first_at (start + (as_kept start l).size) ls) far (following far (omega (arith, more, g)))
     ]
 
 pub all_shown : (bytes : List ℕ) (at : ℕ) → at < length (kept_text (numbered_lines bytes)) → IsShown bytes at

@@ -14,7 +14,7 @@ use Rattle.rule_parts.specs.declared.finding.Finding.{Finding}
 use Rattle.rule_core.specs.Style as core
 use Rattle.rule_places.specs.Laws.{cut}
 use Rattle.rule_places.specs.Spots.{key_spot, spot}
-use Rattle.rule_places.specs.Style.{comma_spots, front_spots, gap_spots, operator_spots, style_behind, style_spots, whole_gap}
+use Rattle.rule_places.specs.Style.{comma_spots, gap_spots, leading_spots, operator_spots, style_after, style_spots, whole_gap}
 use Rattle.rule_places.specs.declared.spot.Spot.{Spot}
 
 -- what is said, and after it what else is said
@@ -32,9 +32,9 @@ one_or false s = refl
 whole_cut : (kind : MessageKind) (place : ℕ) (gap : List ℕ) → map cut (whole_gap kind place gap) ≡ cond (core.commas gap == 0) [] (finding kind [] ∷ [])
 whole_cut kind place gap = none_or (core.commas gap == 0) (spot kind [] place (length gap))
 
-front_cut : (by : Profile) (gap : List ℕ) → map cut (front_spots by gap) ≡ core.front_findings by gap
-front_cut profile.Manual gap = refl
-front_cut profile.Udev gap = whole_cut LeadingComma 0 gap
+prefix_cut : (by : Profile) (gap : List ℕ) → map cut (leading_spots by gap) ≡ core.leading_findings by gap
+prefix_cut profile.Manual gap = refl
+prefix_cut profile.Udev gap = whole_cut LeadingComma 0 gap
 
 commas_cut : (gap : List ℕ) (t : Placed) → map cut (comma_spots gap t) ≡ core.comma_findings gap t.parts.head.key
 commas_cut gap t =
@@ -50,14 +50,14 @@ gap_cut profile.Udev gap t =
 operator_cut : (by : Profile) (t : Placed) → map cut (operator_spots by t) ≡ core.operator_findings by t
 operator_cut by t = one_or (is_read_as_assign t) (key_spot (core.read_as_assign_kind by) t)
 
-behind_cut : (by : Profile) (line : List ℕ) (place : ℕ) (tokens : List Placed) → map cut (style_behind by line place tokens) ≡ core.style_behind by line place tokens
-behind_cut by line place [] = whole_cut CommaExpected place (drop place line)
-behind_cut by line place (t ∷ tokens) =
-    appended (gap_spots by (core.between place t.span.start line) t) (operator_spots by t ++ style_behind by line t.span.end tokens) _ _ (gap_cut by (core.between place t.span.start line) t)
-    (appended (operator_spots by t) (style_behind by line t.span.end tokens) _ _ (operator_cut by t) (behind_cut by line t.span.end tokens))
+after_cut : (by : Profile) (line : List ℕ) (place : ℕ) (tokens : List Placed) → map cut (style_after by line place tokens) ≡ core.style_after by line place tokens
+after_cut by line place [] = whole_cut CommaExpected place (drop place line)
+after_cut by line place (t ∷ tokens) =
+    appended (gap_spots by (core.between place t.span.start line) t) (operator_spots by t ++ style_after by line t.span.end tokens) _ _ (gap_cut by (core.between place t.span.start line) t)
+    (appended (operator_spots by t) (style_after by line t.span.end tokens) _ _ (operator_cut by t) (after_cut by line t.span.end tokens))
 
 pub style_cut : (by : Profile) (line : List ℕ) (tokens : List Placed) → map cut (style_spots by line tokens) ≡ core.style_findings by line tokens
 style_cut by line [] = refl
 style_cut by line (t ∷ tokens) =
-    appended (front_spots by (core.between 0 t.span.start line)) (operator_spots by t ++ style_behind by line t.span.end tokens) _ _ (front_cut by (core.between 0 t.span.start line))
-    (appended (operator_spots by t) (style_behind by line t.span.end tokens) _ _ (operator_cut by t) (behind_cut by line t.span.end tokens))
+    appended (leading_spots by (core.between 0 t.span.start line)) (operator_spots by t ++ style_after by line t.span.end tokens) _ _ (prefix_cut by (core.between 0 t.span.start line))
+    (appended (operator_spots by t) (style_after by line t.span.end tokens) _ _ (operator_cut by t) (after_cut by line t.span.end tokens))

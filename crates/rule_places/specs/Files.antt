@@ -7,9 +7,9 @@ use Rattle.text_bytes.specs.declared.profile.Profile.{Profile}
 use Rattle.text_bytes.specs.declared.source_file.SourceFile.{SourceFile}
 use Rattle.rule_jumps.specs.Jumps.{Names, landings}
 use Rattle.rule_jumps.specs.declared.jumps.Landing.{Landing}
-use Rattle.rule_core.specs.Ends.{given_up}
+use Rattle.rule_core.specs.Ends.{abandoned}
 use Rattle.rule_core.specs.Lines.{joined_lines}
-use Rattle.rule_places.specs.GivenUp.{given_up_findings}
+use Rattle.rule_places.specs.Abandoned.{abandoned_findings}
 use Rattle.rule_places.specs.Kept.{kept_lines, place_of_backslash}
 use Rattle.rule_places.specs.Placed.{found_at, placed}
 use Rattle.rule_places.specs.Found.{RulePlaces}
@@ -72,8 +72,8 @@ findings_of_lines by bytes =
 -- the findings of a file that is given up because of the line with a number, or those of its lines
 abbrev pub findings_unless : Profile → List ℕ → Option ℕ → List PlacedFinding
 findings_unless by bytes None = findings_of_lines by bytes
-findings_unless by bytes (Some number) = given_up_findings bytes number
+findings_unless by bytes (Some number) = abandoned_findings bytes number
 
 -- the findings of a file
 unfoldable pub placed_findings : Profile → SourceFile → List PlacedFinding
-placed_findings by f = findings_unless by f.bytes (given_up by f.bytes)
+placed_findings by f = findings_unless by f.bytes (abandoned by f.bytes)

@@ -5,23 +5,23 @@ use Rattle.text_bytes.specs.Texts.{begins_with, skip_while, split_once}
 use Rattle.rule_tokens.specs.Grammar.{is_key_byte}
 
 -- what follows a cut of a text, nothing if it is not cut
-abbrev pub behind_cut : Option (List ℕ × List ℕ) → List ℕ
-behind_cut None = []
-behind_cut (Some x) = x.1
+abbrev pub after_cut : Option (List ℕ × List ℕ) → List ℕ
+after_cut None = []
+after_cut (Some x) = x.1
 
 -- what follows the first such byte of a text, nothing if it has none
-abbrev pub behind_byte : ℕ → List ℕ → List ℕ
-behind_byte byte text = behind_cut (split_once byte text)
+abbrev pub after_byte : ℕ → List ℕ → List ℕ
+after_byte byte text = after_cut (split_once byte text)
 
 -- what follows the key that a text begins with
-abbrev pub behind_key : List ℕ → List ℕ
-behind_key text = skip_while is_key_byte text
+abbrev pub after_key : List ℕ → List ℕ
+after_key text = skip_while is_key_byte text
 
 -- the same, and after its braces if it has them
-abbrev pub behind_braces : List ℕ → List ℕ
-behind_braces text = if begins_with open_brace (behind_key text) then behind_byte close_brace (behind_key text) else behind_key text
+abbrev pub after_braces : List ℕ → List ℕ
+after_braces text = if begins_with open_brace (after_key text) then after_byte close_brace (after_key text) else after_key text
 
 -- The place in a line of letters directly before a quote: the first one after the key, and the braces, of the text at
 -- the line's end.
 abbrev pub start_before_quote : List ℕ → List ℕ → List ℕ → ℕ
-start_before_quote line text letters = length line - length (behind_byte double_quote (behind_braces text)) - 1 - length letters
+start_before_quote line text letters = length line - length (after_byte double_quote (after_braces text)) - 1 - length letters

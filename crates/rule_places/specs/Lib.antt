@@ -5,7 +5,7 @@ pub mod Found
 pub mod Reading
 pub mod Kept
 pub mod Placed
-pub mod GivenUp
+pub mod Abandoned
 pub mod Files
 pub mod Laws
 pub mod Shown

@@ -49,32 +49,32 @@ with_part by r t (part.Goto name) = record { label = r.label; goto = first_name 
 with_part by r t _ = r
 
 -- a token, read as a part of a rule, or the finding about it
-abbrev pub told : Placed → Result Part Finding → Result Part Spot
-told t (Ok p) = Ok p
-told t (Err found) = Err (part_spot found.kind t)
+abbrev pub reported : Placed → Result Part Finding → Result Part Spot
+reported t (Ok p) = Ok p
+reported t (Err found) = Err (part_spot found.kind t)
 
-abbrev pub part_told : Profile → Placed → Result Part Spot
-part_told by t = told t (part_of by t)
+abbrev pub part_reported : Profile → Placed → Result Part Spot
+part_reported by t = reported t (part_of by t)
 
 -- a rule goes on with a part, and ends if a token is not one
-abbrev pub goes_on : Profile → RulePlaces → Placed → (RulePlaces → LineReading) → Result Part Spot → LineReading
-goes_on by r t next (Ok p) = next (with_part by r t p)
-goes_on by r t next (Err found) = Wrong found
+abbrev pub proceeds : Profile → RulePlaces → Placed → (RulePlaces → LineReading) → Result Part Spot → LineReading
+proceeds by r t next (Ok p) = next (with_part by r t p)
+proceeds by r t next (Err found) = Wrong found
 
 -- a rule with the tokens of these items, or the finding about the first item that is not a part of a rule
 abbrev pub taken : Profile → List ℕ → RulePlaces → List Item → LineReading
 taken by line r [] = Rule r
-taken by line r (Ok t ∷ items) = goes_on by r t (λ s. taken by line s items) (part_told by t)
+taken by line r (Ok t ∷ items) = proceeds by r t (λ s. taken by line s items) (part_reported by t)
 taken by line r (Err fault ∷ items) = Wrong (token_spot fault.kind fault.at line)
 
 -- a rule, and after the findings about it those about how its line is written; about one without an effect there is
 -- only that finding
-abbrev pub finished : Profile → List ℕ → LineReading → LineReading
-finished by line (Rule r) =
+abbrev pub finished_reading : Profile → List ℕ → LineReading → LineReading
+finished_reading by line (Rule r) =
     if lacks_effect by (tokens_of (items_as by line)) then Wrong (spot RuleWithoutEffect [] 0 (length line))
     else Rule (record { label = r.label; goto = r.goto; spots = r.spots ++ style_spots by line (tokens_of (items_as by line)) })
-finished by line (Wrong found) = Wrong found
+finished_reading by line (Wrong found) = Wrong found
 
 -- a joined line, read as a rule; of what is wrong with it, its length comes first
 unfoldable pub reading_of : Profile → List ℕ → LineReading
-reading_of by line = if nat_lt (most_bytes by) (length line) then Wrong (spot LineTooLong [] 0 (length line)) else finished by line (taken by line no_places (items_as by line))
+reading_of by line = if nat_lt (most_bytes by) (length line) then Wrong (spot LineTooLong [] 0 (length line)) else finished_reading by line (taken by line no_places (items_as by line))

@@ -17,9 +17,9 @@ abbrev pub whole_gap : MessageKind → ℕ → List ℕ → List Spot
 whole_gap kind place gap = if commas gap == 0 then [] else spot kind [] place (length gap) ∷ []
 
 -- the gap before the first token, which only udev skips
-abbrev pub front_spots : Profile → List ℕ → List Spot
-front_spots Manual gap = []
-front_spots Udev gap = whole_gap LeadingComma 0 gap
+abbrev pub leading_spots : Profile → List ℕ → List Spot
+leading_spots Manual gap = []
+leading_spots Udev gap = whole_gap LeadingComma 0 gap
 
 -- the commas of a gap before a token: that token's key
 abbrev pub comma_spots : List ℕ → Placed → List Spot
@@ -41,18 +41,18 @@ abbrev pub operator_spots : Profile → Placed → List Spot
 operator_spots by t = if is_read_as_assign t then key_spot (read_as_assign_kind by) t ∷ [] else []
 
 -- the gaps and tokens of a line after a place where a token ends
-abbrev pub style_behind : Profile → List ℕ → ℕ → List Placed → List Spot
-style_behind by line place [] = end_spots place (drop place line)
-style_behind by line place (t ∷ tokens) = gap_spots by (between place t.span.start line) t ++ (operator_spots by t ++ style_behind by line t.span.end tokens)
+abbrev pub style_after : Profile → List ℕ → ℕ → List Placed → List Spot
+style_after by line place [] = end_spots place (drop place line)
+style_after by line place (t ∷ tokens) = gap_spots by (between place t.span.start line) t ++ (operator_spots by t ++ style_after by line t.span.end tokens)
 
 -- the gaps and tokens of a line, in the order of their places
 abbrev pub style_spots : Profile → List ℕ → List Placed → List Spot
 style_spots by line [] = []
-style_spots by line (t ∷ tokens) = front_spots by (between 0 t.span.start line) ++ (operator_spots by t ++ style_behind by line t.span.end tokens)
+style_spots by line (t ∷ tokens) = leading_spots by (between 0 t.span.start line) ++ (operator_spots by t ++ style_after by line t.span.end tokens)
 
 -- For inner functions: the gap before a token, from the place where the token before it ends, or from the line's start.
 abbrev pub spots_before : Profile → List ℕ → Option ℕ → Placed → List Spot
-spots_before by line None t = front_spots by (between 0 t.span.start line)
+spots_before by line None t = leading_spots by (between 0 t.span.start line)
 spots_before by line (Some place) t = gap_spots by (between place t.span.start line) t
 
 -- For inner functions: the gap at the end of a line, from the place where its last token ends, if there is one.
@@ -63,4 +63,4 @@ spots_at_end line (Some place) = end_spots place (drop place line)
 -- For inner functions: the tokens after the place where a token ends, or all of them.
 abbrev pub spots_from : Profile → List ℕ → Option ℕ → List Placed → List Spot
 spots_from by line None tokens = style_spots by line tokens
-spots_from by line (Some place) tokens = style_behind by line place tokens
+spots_from by line (Some place) tokens = style_after by line place tokens

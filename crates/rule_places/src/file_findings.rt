@@ -2,15 +2,15 @@
 ghost use Rattle.std.specs.Prelude.{◌≡◌, ◌∷◌, ◌++◌, [], if◌then◌else◌, IfOk, OnOk, flat_map, map, zip};
 ghost use Rattle.rule_places.specs.Files.{findings_of_lines, line_findings, name_spot, open_findings, placed_findings, rule_spots, spots_of};
 
+use crate::abandoned::abandoned_findings;
 use crate::found::{NamePlace, RulePlaces};
-use crate::given_up::given_up_findings;
 use crate::kept::KeptLines;
 use crate::line_reading::LineReading;
 use crate::placed_finding::PlacedFinding;
 use crate::placed_spots::place_spots;
 use crate::readings::{PlacedReading, landings_of, readings_of};
 use crate::spot::Spot;
-use rule_core::{given_up_at, joined_lines};
+use rule_core::{abandoned_at, joined_lines};
 use rule_jumps::Landing;
 use std::alloc::{AllocError, Global};
 use text_bytes::{Bytes, MessageKind, Profile, SourceFile};
@@ -33,8 +33,8 @@ pub fn placed_findings(
     ensures { IfOk result (λ found. found.items ≡ placed_findings profile file.now) }
 {
     let bytes = file.bytes.as_slice();
-    match given_up_at(profile, bytes) {
-        Some(number) => given_up_findings(alloc, bytes, number),
+    match abandoned_at(profile, bytes) {
+        Some(number) => abandoned_findings(alloc, bytes, number),
         None => findings_of_lines(alloc, profile, bytes),
     }
 }
@@ -113,7 +113,7 @@ fn rule_spots(alloc: Global, places: RulePlaces, landing: Landing) -> Result<Vec
     let RulePlaces { label, goto, spots } = places;
     let mut own = spots;
     let mut all = Vec::new(alloc);
-    tell_name(
+    report_name(
         alloc,
         &mut all,
         landing.lost,
@@ -121,7 +121,7 @@ fn rule_spots(alloc: Global, places: RulePlaces, landing: Landing) -> Result<Vec
         goto,
     )?;
     all.append(&mut own)?;
-    tell_name(
+    report_name(
         alloc,
         &mut all,
         landing.unused,
@@ -132,7 +132,7 @@ fn rule_spots(alloc: Global, places: RulePlaces, landing: Landing) -> Result<Vec
 }
 
 /// Adds a finding about a name, if anything is wrong with it.
-fn tell_name(
+fn report_name(
     alloc: Global,
     spots: &mut Vec<Spot>,
     wrong: bool,

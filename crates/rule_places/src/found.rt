@@ -6,7 +6,7 @@ use text_bytes::Bytes;
 
 /// A name, with the place of the value that gives it.
 #[derive(Debug, Drop)]
-pub struct NamePlace {
+pub(crate) struct NamePlace {
     /// The name.
     pub name: Bytes,
     /// The place of the value's first byte, in bytes from the line's start.
@@ -17,7 +17,7 @@ pub struct NamePlace {
 
 /// What is found about a rule from its line alone.
 #[derive(Debug, Drop)]
-pub struct RulePlaces {
+pub(crate) struct RulePlaces {
     /// The name of the LABEL that counts: its first, or for udev its last.
     pub label: Option<NamePlace>,
     /// The name of its first GOTO.

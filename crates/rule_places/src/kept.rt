@@ -164,9 +164,9 @@ fn kept_line(start: usize, line: &Line<'_>) -> Option<KeptLine>
 fn kept_size(number: usize, text: &[u8]) -> usize
     ensures { result ≡ length (piece_of (record { number = number; text = text.now })).text }
 {
-    let (front, _) = text.split_at(text.len().saturating_sub(1));
+    let (prefix, _) = text.split_at(text.len().saturating_sub(1));
     if ends_in(b'\\', text) {
-        front.len()
+        prefix.len()
     } else {
         text.len()
     }

@@ -7,57 +7,57 @@ ghost use Rattle.text_bytes.specs.declared.profile.Profile as profiles;
 ghost use Rattle.text_bytes.specs.declared.source_file.SourceFile as files;
 ghost use Rattle.rule_jumps.specs.declared.jumps.Landing as jumps;
 ghost use Rattle.rule_core.specs.Drafts.{most_bytes};
-ghost use Rattle.rule_core.specs.Ends.{given_up};
+ghost use Rattle.rule_core.specs.Ends.{abandoned};
 ghost use Rattle.rule_core.specs.Lines.{joined_lines};
 ghost use Rattle.rule_core.specs.Rules.{file_messages};
 ghost use Rattle.rule_places.specs.Files.{placed_findings, spots_of};
 ghost use Rattle.rule_places.specs.Kept.{kept_lines, place_in};
-ghost use Rattle.rule_places.specs.Laws.{EndsOpen, IsToldOfOneLine, StandsBehind, StandsIn, StandsInFile, StandsInFront, StandsQuoted, StandsThere, StandsWhole, as_message};
+ghost use Rattle.rule_places.specs.Laws.{EndsOpen, FollowsTokens, IsFoundIn, IsInFile, IsQuotedThere, IsReportedForOneLine, IsTextThere, IsWholeLine, PrecedesTokens, as_message};
 ghost use Rattle.rule_places.specs.Reading.{reading_of};
 ghost use Rattle.rule_places.specs.Spots.{spot};
 ghost use Rattle.rule_places.specs.Shown.{AreJoined, IsShown, kept_text};
 
 /// Without their places, and with their words cut, the findings of a file are its messages.
-#[tactic(auto, using(crate::proofs::Messages::findings_told))]
+#[tactic(auto, using(crate::proofs::Messages::findings_reported))]
 pub fn findings_are_the_messages()
     ensures { (by : profiles.Profile) (file : files.SourceFile) → map (as_message file.name) (placed_findings by file) ≡ file_messages by file }
 {}
 
 /// What is said about a key, an attribute, the letters before a quote, or a part of a line that is not a token, is
 /// reported with the bytes that are in the joined line at the place.
-#[tactic(auto, using(crate::proofs::Standing::all_stand))]
-pub fn words_stand_at_their_places()
-    ensures { (by : profiles.Profile) (line : List ℕ) (landing : jumps.Landing) → AllByRecursion (StandsThere line) (spots_of (reading_of by line) landing) }
+#[tactic(auto, using(crate::proofs::Placement::all_in_place))]
+pub fn words_are_at_their_places()
+    ensures { (by : profiles.Profile) (line : List ℕ) (landing : jumps.Landing) → AllByRecursion (IsTextThere line) (spots_of (reading_of by line) landing) }
 {}
 
 /// What is said about a value is said about bytes of the joined line between two quotes, with no quote among them
 /// that ends a value. For a jump this holds if the rule has a name for it.
-#[tactic(auto, using(crate::proofs::Standing::all_quoted))]
-pub fn values_stand_between_quotes()
-    ensures { (by : profiles.Profile) (line : List ℕ) (landing : jumps.Landing) → AllByRecursion (StandsQuoted line) (spots_of (reading_of by line) landing) }
+#[tactic(auto, using(crate::proofs::Placement::all_quoted))]
+pub fn values_are_between_quotes()
+    ensures { (by : profiles.Profile) (line : List ℕ) (landing : jumps.Landing) → AllByRecursion (IsQuotedThere line) (spots_of (reading_of by line) landing) }
 {}
 
 /// What is said about commas with no key is said about all that follows the last token.
-#[tactic(auto, using(crate::proofs::Standing::all_behind))]
-pub fn last_commas_stand_behind_tokens()
-    ensures { (by : profiles.Profile) (line : List ℕ) (landing : jumps.Landing) → AllByRecursion (StandsBehind line) (spots_of (reading_of by line) landing) }
+#[tactic(auto, using(crate::proofs::Placement::all_after))]
+pub fn last_commas_follow_tokens()
+    ensures { (by : profiles.Profile) (line : List ℕ) (landing : jumps.Landing) → AllByRecursion (FollowsTokens line) (spots_of (reading_of by line) landing) }
 {}
 
 /// What is said about commas before the first token is said about the whole gap there.
-#[tactic(auto, using(crate::proofs::Standing::all_in_front))]
-pub fn first_commas_stand_before_tokens()
-    ensures { (by : profiles.Profile) (line : List ℕ) (landing : jumps.Landing) → AllByRecursion (StandsInFront line) (spots_of (reading_of by line) landing) }
+#[tactic(auto, using(crate::proofs::Placement::all_precede_tokens))]
+pub fn first_commas_precede_tokens()
+    ensures { (by : profiles.Profile) (line : List ℕ) (landing : jumps.Landing) → AllByRecursion (PrecedesTokens line) (spots_of (reading_of by line) landing) }
 {}
 
 /// What is said about a rule as a whole is said about its whole line.
-#[tactic(auto, using(crate::proofs::Standing::all_whole))]
-pub fn rules_are_told_as_a_whole()
-    ensures { (by : profiles.Profile) (line : List ℕ) (landing : jumps.Landing) → AllByRecursion (StandsWhole line) (spots_of (reading_of by line) landing) }
+#[tactic(auto, using(crate::proofs::Placement::all_whole))]
+pub fn rules_are_reported_as_a_whole()
+    ensures { (by : profiles.Profile) (line : List ℕ) (landing : jumps.Landing) → AllByRecursion (IsWholeLine line) (spots_of (reading_of by line) landing) }
 {}
 
 /// About a line that is too long nothing else is said, and this is said about the whole line.
-#[tactic(auto, using(crate::proofs::Lengths::told_whole))]
-pub fn long_lines_are_told_as_a_whole()
+#[tactic(auto, using(crate::proofs::Lengths::reported_whole))]
+pub fn long_lines_are_reported_as_a_whole()
     ensures { (by : profiles.Profile) (line : List ℕ) (landing : jumps.Landing) → most_bytes by < length line → spots_of (reading_of by line) landing ≡ spot LineTooLong [] 0 (length line) ∷ [] }
 {}
 
@@ -78,28 +78,28 @@ pub fn places_show_their_bytes()
 /// So many bytes of the kept lines, from a byte on, are in the file at the place that is reported for them, up to
 /// the end of the line that has the first of them.
 #[tactic(auto, using(crate::proofs::Placing::all_placed))]
-pub fn places_stand_in_their_lines()
-    ensures { (bytes : List ℕ) (at size : ℕ) → length bytes < 2 ^ 32 - 1 → at < length (kept_text (numbered_lines bytes)) → 0 < size → StandsIn bytes (take size (drop at (kept_text (numbered_lines bytes)))) (place_in (kept_lines bytes) at size) }
+pub fn places_are_in_their_lines()
+    ensures { (bytes : List ℕ) (at size : ℕ) → length bytes < 2 ^ 32 - 1 → at < length (kept_text (numbered_lines bytes)) → 0 < size → IsFoundIn bytes (take size (drop at (kept_text (numbered_lines bytes)))) (place_in (kept_lines bytes) at size) }
 {}
 
 /// A finding that is reported with a text of its file (a key, the letters before a quote, or what is not a token)
 /// is there: the line with its number has the text at its columns, all of it unless the rule goes on in another
 /// line.
-#[tactic(auto, using(crate::proofs::FileStanding::all_in_file))]
-pub fn findings_stand_in_their_lines()
-    ensures { (by : profiles.Profile) (file : files.SourceFile) → length file.bytes < 2 ^ 32 - 1 → AllByRecursion (StandsInFile file.bytes) (placed_findings by file) }
+#[tactic(auto, using(crate::proofs::FilePlacement::all_in_file))]
+pub fn findings_are_in_their_lines()
+    ensures { (by : profiles.Profile) (file : files.SourceFile) → length file.bytes < 2 ^ 32 - 1 → AllByRecursion (IsInFile file.bytes) (placed_findings by file) }
 {}
 
 /// If a line is still open at its file's end, that is the last finding, and it is at the `\\` at the end of the
 /// last line that is not a comment.
 #[tactic(auto, using(crate::proofs::Opening::all_open))]
-pub fn open_lines_are_told_at_their_backslash()
-    ensures { (by : profiles.Profile) (file : files.SourceFile) (number : ℕ) → length file.bytes < 2 ^ 32 - 1 → given_up by file.bytes ≡ None → (joined_lines by file.bytes).open_at ≡ Some number → EndsOpen file.bytes (placed_findings by file) }
+pub fn open_lines_are_reported_at_their_backslash()
+    ensures { (by : profiles.Profile) (file : files.SourceFile) (number : ℕ) → length file.bytes < 2 ^ 32 - 1 → abandoned by file.bytes ≡ None → (joined_lines by file.bytes).open_at ≡ Some number → EndsOpen file.bytes (placed_findings by file) }
 {}
 
 /// About a file that is given up nothing else is said, and this is said about the whole of the first line that is
 /// too long.
-#[tactic(auto, using(crate::proofs::GivenUp::all_told))]
-pub fn files_that_are_given_up_are_told_of_one_line()
-    ensures { (by : profiles.Profile) (file : files.SourceFile) (number : ℕ) → length file.bytes < 2 ^ 32 - 1 → given_up by file.bytes ≡ Some number → IsToldOfOneLine file.bytes (placed_findings by file) }
+#[tactic(auto, using(crate::proofs::AbandonedFiles::all_reported))]
+pub fn abandoned_files_are_reported_for_one_line()
+    ensures { (by : profiles.Profile) (file : files.SourceFile) (number : ℕ) → length file.bytes < 2 ^ 32 - 1 → abandoned by file.bytes ≡ Some number → IsReportedForOneLine file.bytes (placed_findings by file) }
 {}

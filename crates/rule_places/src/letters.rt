@@ -2,36 +2,36 @@
 ghost use Rattle.std.specs.Prelude.{◌≡◌, ◌≤◌, ◌-◌, length};
 ghost use Rattle.std.specs.List.{prefix_len};
 ghost use Rattle.rule_tokens.specs.Grammar.{is_key_byte};
-ghost use Rattle.rule_places.specs.Letters.{behind_braces, behind_byte, behind_key, start_before_quote};
+ghost use Rattle.rule_places.specs.Letters.{after_braces, after_byte, after_key, start_before_quote};
 
 use text_bytes::{begins_with, split_once};
 
 /// The place in a line of the letters directly before the first quote after the key, and the braces, with which the
 /// text at the line's end begins.
-pub fn letters_start(line: &[u8], text: &[u8], letters: &[u8]) -> usize
+pub(crate) fn letters_start(line: &[u8], text: &[u8], letters: &[u8]) -> usize
     ensures { result ≡ start_before_quote line.now text.now letters.now }
 {
     line.len()
-        .saturating_sub(behind_byte(b'"', behind_braces(text)).len())
+        .saturating_sub(after_byte(b'"', after_braces(text)).len())
         .saturating_sub(1)
         .saturating_sub(letters.len())
 }
 
 /// What follows the key that a text begins with, and after its braces if it has them.
-fn behind_braces(text: &[u8]) -> &[u8]
-    ensures { result.now ≡ behind_braces text.now }
+fn after_braces(text: &[u8]) -> &[u8]
+    ensures { result.now ≡ after_braces text.now }
 {
-    let rest = behind_key(text);
+    let rest = after_key(text);
     if begins_with(b'{', rest) {
-        behind_byte(b'}', rest)
+        after_byte(b'}', rest)
     } else {
         rest
     }
 }
 
 /// What follows the key that a text begins with.
-fn behind_key(text: &[u8]) -> &[u8]
-    ensures { result.now ≡ behind_key text.now }
+fn after_key(text: &[u8]) -> &[u8]
+    ensures { result.now ≡ after_key text.now }
 {
     let (_, rest) = text.split_at(key_length(text));
     rest
@@ -53,8 +53,8 @@ fn is_key_byte(byte: u8) -> bool
 }
 
 /// What follows the first such byte of a text, nothing if it has none.
-fn behind_byte(byte: u8, text: &[u8]) -> &[u8]
-    ensures { result.now ≡ behind_byte byte text.now }
+fn after_byte(byte: u8, text: &[u8]) -> &[u8]
+    ensures { result.now ≡ after_byte byte text.now }
 {
     match split_once(byte, text) {
         Some((_, rest)) => rest,

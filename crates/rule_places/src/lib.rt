@@ -7,9 +7,9 @@
 //! Functions that allocate return `AllocError` when memory runs out.
 #![tactic(auto)]
 
+mod abandoned;
 mod file_findings;
 mod found;
-mod given_up;
 mod kept;
 mod laws;
 mod letters;
@@ -25,11 +25,11 @@ mod sums;
 pub use file_findings::placed_findings;
 pub use kept::{KeptLines, Place};
 pub use laws::{
-    files_that_are_given_up_are_told_of_one_line, findings_are_the_messages,
-    findings_stand_in_their_lines, first_commas_stand_before_tokens, joined_lines_are_kept_lines,
-    last_commas_stand_behind_tokens, long_lines_are_told_as_a_whole,
-    open_lines_are_told_at_their_backslash, places_show_their_bytes, places_stand_in_their_lines,
-    rules_are_told_as_a_whole, values_stand_between_quotes, words_stand_at_their_places,
+    abandoned_files_are_reported_for_one_line, findings_are_in_their_lines,
+    findings_are_the_messages, first_commas_precede_tokens, joined_lines_are_kept_lines,
+    last_commas_follow_tokens, long_lines_are_reported_as_a_whole,
+    open_lines_are_reported_at_their_backslash, places_are_in_their_lines, places_show_their_bytes,
+    rules_are_reported_as_a_whole, values_are_between_quotes, words_are_at_their_places,
 };
 pub use placed_finding::PlacedFinding;
 pub use placed_spots::place_spots;

@@ -2,7 +2,7 @@
 ghost use Rattle.std.specs.Prelude.{◌≡◌, [], IfOk, length};
 ghost use Rattle.rule_core.specs.Drafts.{items_as};
 ghost use Rattle.rule_places.specs.Found.{no_places};
-ghost use Rattle.rule_places.specs.Reading.{finished, part_told, reading_of, taken};
+ghost use Rattle.rule_places.specs.Reading.{finished_reading, part_reported, reading_of, taken};
 ghost use Rattle.rule_places.specs.Spots.{spot};
 
 use crate::found::RulePlaces;
@@ -17,7 +17,7 @@ use text_bytes::{Bytes, MessageKind, Profile};
 
 /// What is found about a joined line.
 #[derive(Debug, Drop)]
-pub enum LineReading {
+pub(crate) enum LineReading {
     /// It is a rule.
     Rule(RulePlaces),
     /// It is not a rule, for this reason.
@@ -25,14 +25,18 @@ pub enum LineReading {
 }
 
 /// Reads a joined line, as `rule_core` reads it by this profile.
-pub fn reading_of(alloc: Global, profile: Profile, line: &[u8]) -> Result<LineReading, AllocError>
+pub(crate) fn reading_of(
+    alloc: Global,
+    profile: Profile,
+    line: &[u8],
+) -> Result<LineReading, AllocError>
     ensures { IfOk result (λ read. read ≡ reading_of profile line.now) }
 {
     if line.len() > most_bytes(profile) {
         return Ok(LineReading::Wrong(whole_spot(alloc, MessageKind::LineTooLong, line)));
     }
     let taken = read_tokens(alloc, profile, line)?;
-    finished(alloc, profile, line, taken)
+    finished_reading(alloc, profile, line, taken)
 }
 
 /// A finding about a line as a whole.
@@ -48,13 +52,13 @@ fn whole_spot(alloc: Global, kind: MessageKind, line: &[u8]) -> Spot
 }
 
 /// Adds the findings about how a line is written, if it is a rule that has an effect.
-fn finished(
+fn finished_reading(
     alloc: Global,
     profile: Profile,
     line: &[u8],
     read: LineReading,
 ) -> Result<LineReading, AllocError>
-    ensures { IfOk result (λ all. all ≡ finished profile line.now read) }
+    ensures { IfOk result (λ all. all ≡ finished_reading profile line.now read) }
 {
     match read {
         LineReading::Rule(places) => {
@@ -81,7 +85,7 @@ fn read_tokens(alloc: Global, profile: Profile, line: &[u8]) -> Result<LineReadi
     let mut places = RulePlaces::new(alloc);
     for item in line_tokens(profile, line) {
         match item {
-            Ok(token) => match part_told(alloc, profile, &token)? {
+            Ok(token) => match part_reported(alloc, profile, &token)? {
                 Ok(part) => places.take(profile, &token, part)?,
                 Err(found) => return Ok(LineReading::Wrong(found)),
             },
@@ -92,12 +96,12 @@ fn read_tokens(alloc: Global, profile: Profile, line: &[u8]) -> Result<LineReadi
 }
 
 /// The part of a rule that a token is, or the finding about it.
-fn part_told(
+fn part_reported(
     alloc: Global,
     profile: Profile,
     token: &Token<'_>,
 ) -> Result<Result<Part, Spot>, AllocError>
-    ensures { IfOk result (λ told. told ≡ part_told profile token.now) }
+    ensures { IfOk result (λ reported. reported ≡ part_reported profile token.now) }
 {
     match read_part(alloc, profile, token) {
         Ok(part) => Ok(Ok(part)),

@@ -13,7 +13,7 @@ use text_bytes::Profile;
 
 /// What is found about a joined line of a file.
 #[derive(Debug, Drop)]
-pub struct PlacedReading {
+pub(crate) struct PlacedReading {
     /// The number of the line of the file in which it begins.
     pub number: u32,
     /// How many bytes of joined lines come before it.
@@ -23,7 +23,7 @@ pub struct PlacedReading {
 }
 
 /// Reads the joined lines of a file.
-pub fn readings_of(
+pub(crate) fn readings_of(
     alloc: Global,
     profile: Profile,
     lines: &[JoinedLine<'_>],
@@ -45,7 +45,10 @@ pub fn readings_of(
 }
 
 /// What becomes of the jumps of lines.
-pub fn landings_of(alloc: Global, readings: &[PlacedReading]) -> Result<Vec<Landing>, AllocError>
+pub(crate) fn landings_of(
+    alloc: Global,
+    readings: &[PlacedReading],
+) -> Result<Vec<Landing>, AllocError>
     ensures { IfOk result (λ found. found.items ≡ landings (map (λ r. names_of r.read) readings.now)) }
 {
     let mut jumps = Vec::with_capacity(alloc, readings.len())?;
@@ -60,13 +63,13 @@ fn jump_of(read: &LineReading) -> Jump<'_>
     ensures { result ≡ names_of read.now }
 {
     match read {
-        LineReading::Rule(places) => Jump::new(lent(&places.label), lent(&places.goto)),
+        LineReading::Rule(places) => Jump::new(borrowed(&places.label), borrowed(&places.goto)),
         LineReading::Wrong(_) => Jump::new(None, None),
     }
 }
 
 /// Returns a name, if there is one.
-fn lent(given: &Option<NamePlace>) -> Option<&[u8]>
+fn borrowed(given: &Option<NamePlace>) -> Option<&[u8]>
     ensures { option_map (λ t. t.now) result ≡ option_map (λ n. n.name) given.now }
 {
     match given {

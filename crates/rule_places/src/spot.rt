@@ -5,7 +5,7 @@ ghost use Rattle.rule_places.specs.Spots.{attribute_spot, key_spot, part_spot, t
 
 use crate::letters::letters_start;
 use crate::sums::sum_of;
-use rule_core::behind;
+use rule_core::following;
 use rule_tokens::{Token, TokenFault, TokenFaultKind, letters_before_quote, unquote};
 use std::alloc::{AllocError, Global};
 use text_bytes::{Bytes, MessageKind};
@@ -80,7 +80,11 @@ pub fn value_spot(kind: MessageKind, word: Bytes, token: &Token<'_>) -> Spot
 
 /// The finding about a token that is not a part of a rule: about its key, its attribute, or its value with
 /// what that means.
-pub fn part_spot(alloc: Global, kind: MessageKind, token: &Token<'_>) -> Result<Spot, AllocError>
+pub(crate) fn part_spot(
+    alloc: Global,
+    kind: MessageKind,
+    token: &Token<'_>,
+) -> Result<Spot, AllocError>
     ensures { IfOk result (λ found. found ≡ part_spot kind token.now) }
 {
     match kind {
@@ -96,10 +100,10 @@ pub fn part_spot(alloc: Global, kind: MessageKind, token: &Token<'_>) -> Result<
 
 /// The finding about the part of a line, given from its first byte on, that is not a token: about all up to
 /// the line's end, or about the letters before the quote.
-pub fn token_spot(alloc: Global, fault: TokenFault, line: &[u8]) -> Result<Spot, AllocError>
+pub(crate) fn token_spot(alloc: Global, fault: TokenFault, line: &[u8]) -> Result<Spot, AllocError>
     ensures { IfOk result (λ found. found ≡ token_spot fault.kind fault.at line.now) }
 {
-    let text = behind(fault.at, line);
+    let text = following(fault.at, line);
     match fault.kind {
         TokenFaultKind::Syntax => Ok(Spot {
             kind: MessageKind::BadSyntax,

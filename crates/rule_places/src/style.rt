@@ -1,11 +1,11 @@
 //! How a rule is written, with the places of its tokens and gaps.
 ghost use Rattle.std.specs.Prelude.{◌≡◌, ◌++◌, OnOk};
 ghost use Rattle.rule_core.specs.Drafts.{items_as, tokens_of};
-ghost use Rattle.rule_places.specs.Style.{comma_spots, front_spots, gap_spots, operator_spots, spots_at_end, spots_before, style_spots, whole_gap};
+ghost use Rattle.rule_places.specs.Style.{comma_spots, gap_spots, leading_spots, operator_spots, spots_at_end, spots_before, style_spots, whole_gap};
 
 use crate::spot::{Spot, key_spot};
 use rule_core::{
-    behind, between, commas, has_blank_before_comma, line_tokens, read_as_assign_kind,
+    between, commas, following, has_blank_before_comma, line_tokens, read_as_assign_kind,
 };
 use rule_parts::is_read_as_assign;
 use rule_tokens::Token;
@@ -13,7 +13,7 @@ use std::alloc::{AllocError, Global};
 use text_bytes::{Bytes, MessageKind, Profile, ends_in};
 
 /// Adds the findings about how a line is written, by the places of its tokens.
-pub fn add_style(
+pub(crate) fn add_style(
     alloc: Global,
     profile: Profile,
     spots: &mut Vec<Spot>,
@@ -46,7 +46,7 @@ fn add_token(
     match place {
         None => {
             let gap = between(0, token.span().start, line);
-            add_front(alloc, profile, spots, gap)?;
+            add_leading(alloc, profile, spots, gap)?;
         }
         Some(from) => {
             let gap = between(from, token.span().start, line);
@@ -57,13 +57,13 @@ fn add_token(
 }
 
 /// Adds the findings about the gap before the first token.
-fn add_front(
+fn add_leading(
     alloc: Global,
     profile: Profile,
     spots: &mut Vec<Spot>,
     gap: &[u8],
 ) -> Result<(), AllocError>
-    ensures { OnOk result (spots.new.items ≡ spots.old.items ++ front_spots profile gap.now) }
+    ensures { OnOk result (spots.new.items ≡ spots.old.items ++ leading_spots profile gap.now) }
 {
     match profile {
         Profile::Manual => Ok(()),
@@ -142,7 +142,7 @@ fn add_end(
             MessageKind::CommaExpected,
             spots,
             from,
-            behind(from, line),
+            following(from, line),
         ),
     }
 }

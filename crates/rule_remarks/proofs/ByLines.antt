@@ -8,16 +8,16 @@ use Rattle.rule_core.specs.Laws.{RisesFrom}
 
 module _ {X : Type 0} (line_of : X → ℕ) where
   -- an element more, with the others before it
-  pub one_by_line : (others told pushed rest behind more done : List X) (x : X)
-      → ((left : List X) → told ++ by_line line_of left rest ≡ by_line line_of (done ++ left) others)
-      → pushed ≡ told ++ before line_of rest (line_of x) → behind ≡ from_line line_of rest (line_of x) → more ≡ pushed ++ x ∷ []
-      → (left : List X) → more ++ by_line line_of left behind ≡ by_line line_of ((done ++ x ∷ []) ++ left) others
-  one_by_line others told pushed rest behind more done x so_far h g k left =
-      ap (λ (ms : List X). ms ++ by_line line_of left behind) k
-      ∙ append_assoc pushed (x ∷ []) (by_line line_of left behind)
-      ∙ ap (λ (ms : List X). ms ++ x ∷ by_line line_of left behind) h
-      ∙ append_assoc told (before line_of rest (line_of x)) (x ∷ by_line line_of left behind)
-      ∙ ap (λ (os : List X). told ++ (before line_of rest (line_of x) ++ x ∷ by_line line_of left os)) g
+  pub one_by_line : (others reported pushed rest following more done : List X) (x : X)
+      → ((left : List X) → reported ++ by_line line_of left rest ≡ by_line line_of (done ++ left) others)
+      → pushed ≡ reported ++ before line_of rest (line_of x) → following ≡ from_line line_of rest (line_of x) → more ≡ pushed ++ x ∷ []
+      → (left : List X) → more ++ by_line line_of left following ≡ by_line line_of ((done ++ x ∷ []) ++ left) others
+  one_by_line others reported pushed rest following more done x so_far h g k left =
+      ap (λ (ms : List X). ms ++ by_line line_of left following) k
+      ∙ append_assoc pushed (x ∷ []) (by_line line_of left following)
+      ∙ ap (λ (ms : List X). ms ++ x ∷ by_line line_of left following) h
+      ∙ append_assoc reported (before line_of rest (line_of x)) (x ∷ by_line line_of left following)
+      ∙ ap (λ (os : List X). reported ++ (before line_of rest (line_of x) ++ x ∷ by_line line_of left os)) g
       ∙ so_far (x ∷ left)
       ∙ ap (λ (ls : List X). by_line line_of ls others) (sym (append_assoc done (x ∷ []) left))
 
@@ -28,12 +28,12 @@ module _ {X : Type 0} (line_of : X → ℕ) where
   passed false n x xs e = absurd (true≢false (sym e))
 
   -- the first of the others goes over
-  pub one_moved : (n : ℕ) (told now all : List X) (x : X) (ys xs : List X) → told ++ before line_of ys n ≡ all → ys ≡ x ∷ xs → line_of x < n → now ≡ told ++ x ∷ [] → now ++ before line_of xs n ≡ all
-  one_moved n told now all x ys xs h whole less k =
+  pub one_moved : (n : ℕ) (reported now all : List X) (x : X) (ys xs : List X) → reported ++ before line_of ys n ≡ all → ys ≡ x ∷ xs → line_of x < n → now ≡ reported ++ x ∷ [] → now ++ before line_of xs n ≡ all
+  one_moved n reported now all x ys xs h whole less k =
       ap (λ (zs : List X). zs ++ before line_of xs n) k
-      ∙ append_assoc told (x ∷ []) (before line_of xs n)
-      ∙ ap (λ (zs : List X). told ++ zs) (sym (take_while-cons (λ y. nat_lt (line_of y) n) x xs ∙ ap (λ (b : Bool). cond b (x ∷ before line_of xs n) []) (lt-ltb (line_of x) n less)))
-      ∙ ap (λ (zs : List X). told ++ before line_of zs n) (sym whole)
+      ∙ append_assoc reported (x ∷ []) (before line_of xs n)
+      ∙ ap (λ (zs : List X). reported ++ zs) (sym (take_while-cons (λ y. nat_lt (line_of y) n) x xs ∙ ap (λ (b : Bool). cond b (x ∷ before line_of xs n) []) (lt-ltb (line_of x) n less)))
+      ∙ ap (λ (zs : List X). reported ++ before line_of zs n) (sym whole)
       ∙ h
 
   pub one_passed : (n : ℕ) (x : X) (ys xs all : List X) → from_line line_of ys n ≡ all → ys ≡ x ∷ xs → line_of x < n → from_line line_of xs n ≡ all
@@ -69,9 +69,9 @@ module _ {X : Type 0} (line_of : X → ℕ) where
       by false e more = (ltb-false (line_of x) m e, h.1)
 
   -- an element after those that are reported for lines before its own
-  front_rises : (n : ℕ) (x : X) (rest xs : List X) → RisesFrom line_of n xs → n ≤ line_of x → RisesFrom line_of (line_of x) rest → RisesFrom line_of n (before line_of xs (line_of x) ++ x ∷ rest)
-  front_rises n x rest [] h l k = (l, k)
-  front_rises n x rest (y ∷ xs) h l k = by (nat_lt (line_of y) (line_of x)) refl (λ g. front_rises (line_of y) x rest xs h.1 g k)
+  prefix_rises : (n : ℕ) (x : X) (rest xs : List X) → RisesFrom line_of n xs → n ≤ line_of x → RisesFrom line_of (line_of x) rest → RisesFrom line_of n (before line_of xs (line_of x) ++ x ∷ rest)
+  prefix_rises n x rest [] h l k = (l, k)
+  prefix_rises n x rest (y ∷ xs) h l k = by (nat_lt (line_of y) (line_of x)) refl (λ g. prefix_rises (line_of y) x rest xs h.1 g k)
     where
       by : (b : Bool) → nat_lt (line_of y) (line_of x) ≡ b → (line_of y ≤ line_of x → RisesFrom line_of (line_of y) (before line_of xs (line_of x) ++ x ∷ rest)) → RisesFrom line_of n (before line_of (y ∷ xs) (line_of x) ++ x ∷ rest)
       by true e more =
@@ -84,5 +84,5 @@ module _ {X : Type 0} (line_of : X → ℕ) where
   pub both_rise : (n : ℕ) (xs others : List X) → RisesFrom line_of n xs → RisesFrom line_of n others → RisesFrom line_of n (by_line line_of xs others)
   both_rise n [] others h k = k
   both_rise n (x ∷ xs) others h k =
-      front_rises n x (by_line line_of xs (from_line line_of others (line_of x))) others k h.0
+      prefix_rises n x (by_line line_of xs (from_line line_of others (line_of x))) others k h.0
       (both_rise (line_of x) xs (from_line line_of others (line_of x)) h.1 (left_rises n (line_of x) others k))

@@ -1,5 +1,5 @@
 pub mod Late
 pub mod WayUp
-pub mod Standing
+pub mod Placement
 pub mod OfRules
 pub mod ByLines

@@ -4,7 +4,7 @@ use Rattle.std.specs.List.{AllByRecursion}
 use Rattle.text_bytes.specs.Lines.{NumberedLine}
 use Rattle.text_bytes.specs.declared.profile.Profile.TheVariants.{Udev}
 use Rattle.rule_core.specs.Drafts.{draft_of, items_as, tokens_of}
-use Rattle.rule_core.specs.Ends.{given_up}
+use Rattle.rule_core.specs.Ends.{abandoned}
 use Rattle.rule_core.specs.Lines.{joined_lines}
 use Rattle.rule_pairs.specs.Accounts.{Accounts}
 use Rattle.rule_places.specs.Kept.{kept_lines}
@@ -43,7 +43,7 @@ module _ (accounts : Accounts) (kept : List KeptLine) (all : List NumberedLine) 
 
 pub of_rules : (accounts : Accounts) (bytes : List ℕ) → AllByRecursion (IsOfRule (joined_lines Udev bytes).lines) (file_remarks accounts bytes)
 unfolding file_remarks
-of_rules accounts bytes = by (given_up Udev bytes)
+of_rules accounts bytes = by (abandoned Udev bytes)
   where
     lines : List NumberedLine
     lines = (joined_lines Udev bytes).lines

@@ -12,15 +12,15 @@ found [] h = absurd (false≢true h)
 found (b ∷ text) h = by (or_cases (starts_with nat_eq (b ∷ text) (codes "../")) (has_way_up text) h) (λ g. found text g)
   where
     by : (starts_with nat_eq (b ∷ text) (codes "../") ≡ true) ⊎ (has_way_up text ≡ true) → (has_way_up text ≡ true → HasWayUp text) → HasWayUp (b ∷ text)
-    by (inl e) more = record { front = []; behind = drop 3 (b ∷ text); whole = (starts_is Decides-eqb (b ∷ text) (codes "../") _ refl).0 e }
+    by (inl e) more = record { prefix = []; following = drop 3 (b ∷ text); whole = (starts_is Decides-eqb (b ∷ text) (codes "../") _ refl).0 e }
     by (inr e) more =
         let rest = more e in
-        record { front = b ∷ rest.front; behind = rest.behind; whole = ap (λ (t : List ℕ). b ∷ t) rest.whole }
+        record { prefix = b ∷ rest.prefix; following = rest.following; whole = ap (λ (t : List ℕ). b ∷ t) rest.whole }
 
-stands : (front behind : List ℕ) → has_way_up (front ++ (codes "../" ++ behind)) ≡ true
-stands [] behind = refl
-stands (b ∷ front) behind =
-    or_right (starts_with nat_eq (b ∷ (front ++ (codes "../" ++ behind))) (codes "../")) (has_way_up (front ++ (codes "../" ++ behind))) (stands front behind)
+is_present : (prefix following : List ℕ) → has_way_up (prefix ++ (codes "../" ++ following)) ≡ true
+is_present [] following = refl
+is_present (b ∷ prefix) following =
+    or_right (starts_with nat_eq (b ∷ (prefix ++ (codes "../" ++ following))) (codes "../")) (has_way_up (prefix ++ (codes "../" ++ following))) (is_present prefix following)
 
 pub ways_up : (text : List ℕ) → (has_way_up text ≡ true) ↔ HasWayUp text
-ways_up text = (λ h. found text h, λ w. ap has_way_up w.whole ∙ stands w.front w.behind)
+ways_up text = (λ h. found text h, λ w. ap has_way_up w.whole ∙ is_present w.prefix w.following)

@@ -45,16 +45,16 @@ abbrev pub account : List ℕ → ℕ → Account
 account name n = record { name = name; number = n }
 
 -- an account with a name, by what follows its colon: a password and the other fields
-abbrev pub account_behind : AccountKind → List ℕ → List ℕ → Option Account
-account_behind kind name fields = option_and_then (λ x. option_map (account name) (number_in kind x.1)) (split_once colon fields)
+abbrev pub account_after : AccountKind → List ℕ → List ℕ → Option Account
+account_after kind name fields = option_and_then (λ x. option_map (account name) (number_in kind x.1)) (split_once colon fields)
 
 -- whether a line without the white space at its start is a comment, or one in which no name is looked up
-abbrev pub is_passed_over : List ℕ → Bool
-is_passed_over line = begins_with hash line || (begins_with plus line || begins_with minus line)
+abbrev pub is_skipped : List ℕ → Bool
+is_skipped line = begins_with hash line || (begins_with plus line || begins_with minus line)
 
 -- the account of a line without the white space at its start
 abbrev pub account_in : AccountKind → List ℕ → Option Account
-account_in kind line = if is_passed_over line then None else option_and_then (λ x. account_behind kind x.0 x.1) (split_once colon line)
+account_in kind line = if is_skipped line then None else option_and_then (λ x. account_after kind x.0 x.1) (split_once colon line)
 
 -- the account that a line lists, if it does
 abbrev pub account_of : AccountKind → NumberedLine → Option Account

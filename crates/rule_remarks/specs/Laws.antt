@@ -10,23 +10,23 @@ use Rattle.rule_remarks.specs.Remarks.{is_program, is_result}
 
 -- a text has `../` in it
 pub record HasWayUp (text : List ℕ) : Type 0 where
-  pub front : List ℕ
-  pub behind : List ℕ
-  pub whole : text ≡ front ++ (codes "../" ++ behind)
+  pub prefix : List ℕ
+  pub following : List ℕ
+  pub whole : text ≡ prefix ++ (codes "../" ++ following)
 
 -- what is reported is reported for one of these lines, which is a rule for udev
-pub record IsOfRule (ls : List NumberedLine) (told : PlacedFinding) : Type 0 where
+pub record IsOfRule (ls : List NumberedLine) (reported : PlacedFinding) : Type 0 where
   pub line : NumberedLine
   pub among : IsAmong line ls
   pub read : is_ok (draft_of Udev line.text) ≡ true
-  pub number : told.begins ≡ line.number
+  pub number : reported.begins ≡ line.number
 
 -- one of these tokens is a PROGRAM, and a RESULT comes before it
 pub record HasLateProgram (tokens : List Placed) (program : Placed) : Type 0 where
-  pub front : List Placed
+  pub prefix : List Placed
   pub result : Placed
   pub between : List Placed
-  pub behind : List Placed
-  pub whole : tokens ≡ front ++ result ∷ (between ++ program ∷ behind)
+  pub following : List Placed
+  pub whole : tokens ≡ prefix ++ result ∷ (between ++ program ∷ following)
   pub asked : is_result result ≡ true
   pub runs : is_program program ≡ true

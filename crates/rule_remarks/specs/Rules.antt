@@ -3,7 +3,7 @@ use Rattle.std.specs.Prelude.{ℕ, ◌+◌, is_ok, if◌then◌else◌, List, []
 use Rattle.text_bytes.specs.Lines.{NumberedLine}
 use Rattle.text_bytes.specs.declared.profile.Profile.TheVariants.{Udev}
 use Rattle.rule_core.specs.Drafts.{draft_of, items_as, tokens_of}
-use Rattle.rule_core.specs.Ends.{given_up}
+use Rattle.rule_core.specs.Ends.{abandoned}
 use Rattle.rule_core.specs.Lines.{joined_lines}
 use Rattle.rule_pairs.specs.Accounts.{Accounts}
 use Rattle.rule_places.specs.Kept.{kept_lines}
@@ -34,4 +34,4 @@ remarks_unless accounts bytes (Some number) = []
 
 -- what is reported for the rules of a file with these bytes that stay, by line
 unfoldable pub file_remarks : Accounts → List ℕ → List PlacedFinding
-file_remarks accounts bytes = remarks_unless accounts bytes (given_up Udev bytes)
+file_remarks accounts bytes = remarks_unless accounts bytes (abandoned Udev bytes)

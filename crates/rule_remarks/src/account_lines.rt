@@ -2,7 +2,7 @@
 ghost use Rattle.std.specs.Prelude.{◌≡◌, ◌≤◌, IfOk, length, option_map};
 ghost use Rattle.std.specs.List.{prefix_len};
 ghost use Rattle.text_bytes.specs.Names.{is_whitespace};
-ghost use Rattle.rule_remarks.specs.AccountLines.{account, account_in, accounts_of, field_number, first_field, is_passed_over, number_in, bare, without_plus};
+ghost use Rattle.rule_remarks.specs.AccountLines.{account, account_in, accounts_of, field_number, first_field, is_skipped, number_in, bare, without_plus};
 
 use rule_pairs::{Account, AccountKind};
 use std::alloc::{AllocError, Global};
@@ -37,17 +37,17 @@ pub fn read_accounts(
 fn account_in(kind: AccountKind, line: &[u8]) -> Option<(&[u8], u32)>
     ensures { option_map (λ x. account x.0.now x.1) result ≡ account_in kind line.now }
 {
-    if is_passed_over(line) {
+    if is_skipped(line) {
         return None;
     }
-    let (name, behind) = split_once(b':', line)?;
-    let (_, fields) = split_once(b':', behind)?;
+    let (name, following) = split_once(b':', line)?;
+    let (_, fields) = split_once(b':', following)?;
     Some((name, number_in(kind, fields)?))
 }
 
 /// Whether a line without the white space at its start lists no name that is looked up.
-fn is_passed_over(line: &[u8]) -> bool
-    ensures { result ≡ is_passed_over line.now }
+fn is_skipped(line: &[u8]) -> bool
+    ensures { result ≡ is_skipped line.now }
 {
     begins_with(b'#', line) || begins_with(b'+', line) || begins_with(b'-', line)
 }
@@ -58,8 +58,8 @@ fn number_in(kind: AccountKind, fields: &[u8]) -> Option<u32>
 {
     match kind {
         AccountKind::User => {
-            let (number, behind) = split_once(b':', fields)?;
-            if field_number(first_field(behind)).is_some() {
+            let (number, following) = split_once(b':', fields)?;
+            if field_number(first_field(following)).is_some() {
                 field_number(number)
             } else {
                 None
@@ -92,7 +92,7 @@ fn without_plus(text: &[u8]) -> &[u8]
     ensures { result.now ≡ without_plus text.now }
 {
     match text.split_first() {
-        Some((b'+', behind)) => behind,
+        Some((b'+', following)) => following,
         _ => text,
     }
 }
@@ -101,8 +101,8 @@ fn without_plus(text: &[u8]) -> &[u8]
 fn bare(text: &[u8]) -> &[u8]
     ensures { result.now ≡ bare text.now }
 {
-    let (_, behind) = text.split_at(leading_white_space(text));
-    behind
+    let (_, following) = text.split_at(leading_white_space(text));
+    following
 }
 
 /// How much white space a text begins with.

@@ -45,11 +45,11 @@ fn has_way_up(text: &[u8]) -> bool
     ensures { result ≡ has_way_up text.now }
 {
     let mut rest = text;
-    while let Some((_, behind)) = rest.split_first() {
+    while let Some((_, following)) = rest.split_first() {
         if rest.starts_with(b"../") {
             return true;
         }
-        rest = behind;
+        rest = following;
     }
     false
 }

@@ -3,7 +3,7 @@ ghost use Rattle.std.specs.Prelude.{◌≡◌, ◌++◌, IfOk, OnOk};
 ghost use Rattle.rule_remarks.specs.Rules.{file_remarks, remarks_from, remarks_of_lines};
 
 use crate::line_remarks::line_remarks;
-use rule_core::{JoinedLine, given_up_at, joined_lines};
+use rule_core::{JoinedLine, abandoned_at, joined_lines};
 use rule_pairs::Accounts;
 use rule_places::{KeptLines, PlacedFinding, place_spots, sum_of};
 use std::alloc::{AllocError, Global};
@@ -23,9 +23,9 @@ pub fn file_remarks(
     accounts: &Accounts,
     bytes: &[u8],
 ) -> Result<Vec<PlacedFinding>, AllocError>
-    ensures { IfOk result (λ told. told.items ≡ file_remarks accounts.now bytes.now) }
+    ensures { IfOk result (λ reported. reported.items ≡ file_remarks accounts.now bytes.now) }
 {
-    match given_up_at(Profile::Udev, bytes) {
+    match abandoned_at(Profile::Udev, bytes) {
         Some(_) => Ok(Vec::new(alloc)),
         None => remarks_of_lines(alloc, accounts, bytes),
     }
@@ -37,30 +37,30 @@ fn remarks_of_lines(
     accounts: &Accounts,
     bytes: &[u8],
 ) -> Result<Vec<PlacedFinding>, AllocError>
-    ensures { IfOk result (λ told. told.items ≡ remarks_of_lines accounts.now bytes.now) }
+    ensures { IfOk result (λ reported. reported.items ≡ remarks_of_lines accounts.now bytes.now) }
 {
     let kept = KeptLines::of(alloc, bytes)?;
     let joined = joined_lines(alloc, Profile::Udev, bytes)?;
-    let mut told = Vec::new(alloc);
-    place_lines(alloc, &mut told, accounts, &kept, joined.lines())?;
-    Ok(told)
+    let mut reported = Vec::new(alloc);
+    place_lines(alloc, &mut reported, accounts, &kept, joined.lines())?;
+    Ok(reported)
 }
 
 /// Adds what is reported for joined lines.
 fn place_lines(
     alloc: Global,
-    told: &mut Vec<PlacedFinding>,
+    reported: &mut Vec<PlacedFinding>,
     accounts: &Accounts,
     kept: &KeptLines,
     lines: &[JoinedLine<'_>],
 ) -> Result<(), AllocError>
-    ensures { OnOk result (told.new.items ≡ told.old.items ++ remarks_from accounts.now kept.now 0 lines.now) }
+    ensures { OnOk result (reported.new.items ≡ reported.old.items ++ remarks_from accounts.now kept.now 0 lines.now) }
 {
     let mut start = 0;
     for line in lines {
         let text = line.text();
         let spots = line_remarks(alloc, accounts, text)?;
-        place_spots(told, kept, line.number(), start, spots)?;
+        place_spots(reported, kept, line.number(), start, spots)?;
         start = sum_of(start, text.len())?;
     }
     Ok(())

@@ -19,7 +19,7 @@ pub fn file_findings(
     accounts: &Accounts,
     file: &SourceFile,
 ) -> Result<Vec<PlacedFinding>, AllocError>
-    ensures { IfOk result (λ told. told.items ≡ findings_as profile accounts.now file.now) }
+    ensures { IfOk result (λ reported. reported.items ≡ findings_as profile accounts.now file.now) }
 {
     let found = placed_findings(alloc, profile, file)?;
     match profile {

@@ -8,7 +8,7 @@ ghost use Rattle.rule_core.specs.Lines.{joined_lines};
 ghost use Rattle.rule_pairs.specs.Accounts.{Accounts};
 ghost use Rattle.rule_pairs.specs.declared.accounts.AccountKind.TheVariants.{Group, User};
 ghost use Rattle.rule_places.specs.Files.{placed_findings};
-ghost use Rattle.rule_places.specs.Laws.{StandsQuoted, StandsThere};
+ghost use Rattle.rule_places.specs.Laws.{IsQuotedThere, IsTextThere};
 ghost use Rattle.rule_places.specs.declared.placed_finding.PlacedFinding as places;
 ghost use Rattle.rule_remarks.specs.AccountLines.{account, account_in};
 ghost use Rattle.rule_remarks.specs.Attributes.{has_way_up};
@@ -21,29 +21,29 @@ ghost use Rattle.rule_remarks.specs.Rules.{file_remarks, line_remarks};
 
 /// `../` is found if and only if it is in a text.
 #[tactic(auto, using(crate::proofs::WayUp::ways_up))]
-pub fn ways_up_stand_in_their_names()
+pub fn ways_up_are_in_their_names()
     ensures { (text : List ℕ) → (has_way_up text ≡ true) ↔ HasWayUp text }
 {}
 
 /// What is reported for a key or an attribute is reported with the bytes that are in the joined line at the place.
-#[tactic(auto, using(crate::proofs::Standing::words_stand))]
-pub fn words_stand_at_their_places()
-    ensures { (accounts : Accounts) (line : List ℕ) → AllByRecursion (StandsThere line) (line_remarks accounts line) }
+#[tactic(auto, using(crate::proofs::Placement::words_in_place))]
+pub fn words_are_at_their_places()
+    ensures { (accounts : Accounts) (line : List ℕ) → AllByRecursion (IsTextThere line) (line_remarks accounts line) }
 {}
 
 /// What is reported for a value is reported for bytes of the joined line between two quotes, with no quote among
 /// them that ends a value.
-#[tactic(auto, using(crate::proofs::Standing::values_stand))]
-pub fn values_stand_between_quotes()
-    ensures { (accounts : Accounts) (line : List ℕ) → AllByRecursion (StandsQuoted line) (line_remarks accounts line) }
+#[tactic(auto, using(crate::proofs::Placement::values_in_place))]
+pub fn values_are_between_quotes()
+    ensures { (accounts : Accounts) (line : List ℕ) → AllByRecursion (IsQuotedThere line) (line_remarks accounts line) }
 {}
 
 /// A PROGRAM is reported as late only if a RESULT comes before it, and if one does for any PROGRAM, some PROGRAM is
 /// reported.
-#[tactic(auto, using(crate::proofs::Late::late_stands))]
-pub fn late_programs_stand_behind_results()
-    ensures stands { (tokens : List Placed) (program : Placed) → late_program tokens ≡ Some program → HasLateProgram tokens program }
-    ensures told { (tokens : List Placed) (program : Placed) → HasLateProgram tokens program → is_some (late_program tokens) ≡ true }
+#[tactic(auto, using(crate::proofs::Late::late_in_place))]
+pub fn late_programs_follow_results()
+    ensures is_present { (tokens : List Placed) (program : Placed) → late_program tokens ≡ Some program → HasLateProgram tokens program }
+    ensures reported { (tokens : List Placed) (program : Placed) → HasLateProgram tokens program → is_some (late_program tokens) ≡ true }
 {}
 
 /// Findings whose lines never fall, merged with others whose lines never fall, make findings whose lines never
@@ -55,7 +55,7 @@ pub fn lines_never_fall()
 
 /// Each remark on a file is reported for a joined line that is a rule for udev.
 #[tactic(auto, using(crate::proofs::OfRules::of_rules))]
-pub fn remarks_are_told_of_rules()
+pub fn remarks_are_reported_for_rules()
     ensures { (accounts : Accounts) (bytes : List ℕ) → AllByRecursion (IsOfRule (joined_lines Udev bytes).lines) (file_remarks accounts bytes) }
 {}
 
@@ -67,7 +67,7 @@ pub fn no_tokens_have_no_remarks()
 
 /// By the manual the findings of reading are all that is reported.
 #[tactic(auto, unfolding(crate::specs::Findings::findings_as))]
-pub fn the_manual_tells_findings_alone()
+pub fn the_manual_reports_findings_alone()
     ensures { (accounts : Accounts) (file : files.SourceFile) → findings_as Manual accounts file ≡ placed_findings Manual file }
 {}
 

@@ -23,9 +23,9 @@ pub use account_lines::read_accounts;
 pub use files::file_remarks;
 pub use findings::file_findings;
 pub use laws::{
-    late_programs_stand_behind_results, lines_never_fall, no_tokens_have_no_remarks,
-    remarks_are_told_of_rules, some_accounts, the_manual_tells_findings_alone,
-    values_stand_between_quotes, ways_up_stand_in_their_names, words_stand_at_their_places,
+    late_programs_follow_results, lines_never_fall, no_tokens_have_no_remarks,
+    remarks_are_reported_for_rules, some_accounts, the_manual_reports_findings_alone,
+    values_are_between_quotes, ways_up_are_in_their_names, words_are_at_their_places,
 };
 pub use rule_pairs::{Account, AccountKind, Accounts};
 pub use rule_places::PlacedFinding;

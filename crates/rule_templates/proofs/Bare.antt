@@ -9,7 +9,7 @@ use Rattle.text_bytes.specs.declared.profile.Profile.TheVariants.{Udev}
 use Rattle.rule_templates.specs.Bare.{has_close, is_attribute}
 use Rattle.rule_templates.specs.Braces.{braced, closed}
 use Rattle.rule_templates.specs.Names.{long_names_as, named, short_names_as}
-use Rattle.rule_templates.specs.Reading.{Front, asked, bracketed, is_plain, is_twice, kept, left_of, left_within, plain_front, result_piece, substituted_by, udev_asked, udev_front, with_braces, with_kept, with_name}
+use Rattle.rule_templates.specs.Reading.{FirstPiece, argument_of, bracketed, is_no_sign, is_twice, kept, left_of, left_within, plain_first, result_piece, substituted_by, udev_asked, udev_first, with_braces, with_kept, with_name}
 use Rattle.rule_templates.specs.declared.fault.TemplateFault.{TemplateFault}
 use Rattle.rule_templates.specs.declared.fault.TemplateFault.TheVariants as fault
 use Rattle.rule_templates.specs.declared.names.Substitution.{Substitution}
@@ -60,8 +60,8 @@ no_braces (b ∷ t) h = by (b == open_brace)
     by true = ap closed (no_split t (rest_bare b t h))
     by false = refl
 
--- a piece that is no attribute, and no brace closes in what is left; or a fault
-abbrev IsBare : Front → Type 0
+-- a piece that is not an attribute, and no brace closes in what is left; or a fault
+abbrev IsBare : FirstPiece → Type 0
 IsBare (Ok x) = (is_attribute x.0 ≡ false) × Bare x.1
 IsBare (Err e) = Unit {0}
 
@@ -77,8 +77,8 @@ result_bare (b ∷ t) h = by (b == open_brace)
     by true = subst (λ o. IsBare (bracketed o)) (sym (no_split t (rest_bare b t h))) tt
     by false = (refl, h)
 
-asked_bare : (s : Substitution) (t : List ℕ) → Bare t → IsBare (asked s t)
-unfolding asked
+asked_bare : (s : Substitution) (t : List ℕ) → Bare t → IsBare (argument_of s t)
+unfolding argument_of
 asked_bare name.Kernel t h = (refl, h)
 asked_bare name.Number t h = (refl, h)
 asked_bare name.Devpath t h = (refl, h)
@@ -103,7 +103,7 @@ udev_asked_bare : (s : Substitution) (t : List ℕ) → Bare t → IsBare (udev_
 unfolding udev_asked
 udev_asked_bare s t h = by (not (is_twice s) && begins_with open_brace t)
   where
-    by : (c : Bool) → IsBare (cond c (with_braces s (braced t)) (asked s t))
+    by : (c : Bool) → IsBare (cond c (with_braces s (braced t)) (argument_of s t))
     by true = subst (λ r. IsBare (with_braces s r)) (sym (no_braces t h)) tt
     by false = asked_bare s t h
 
@@ -115,21 +115,21 @@ named_bare (row ∷ rows) t h = by (starts_with nat_eq t row.0) (named_bare rows
     by true more = udev_asked_bare row.1 (drop (length row.0) t) (drop_bare (length row.0) t h)
     by false more = more
 
-front_bare : (b : ℕ) (t : List ℕ) → Bare t → IsBare (udev_front b t)
-unfolding udev_front
-front_bare b t h = by (b == dollar) (b == percent)
+prefix_bare : (b : ℕ) (t : List ℕ) → Bare t → IsBare (udev_first b t)
+unfolding udev_first
+prefix_bare b t h = by (b == dollar) (b == percent)
   where
-    by : (c d : Bool) → IsBare (cond c (substituted_by udev_asked (named (long_names_as Udev) t)) (cond d (substituted_by udev_asked (named (short_names_as Udev) t)) (plain_front b t)))
+    by : (c d : Bool) → IsBare (cond c (substituted_by udev_asked (named (long_names_as Udev) t)) (cond d (substituted_by udev_asked (named (short_names_as Udev) t)) (plain_first b t)))
     by true d = named_bare (long_names_as Udev) t h
     by false true = named_bare (short_names_as Udev) t h
-    by false false = (refl, drop_bare (prefix_len is_plain t) t h)
+    by false false = (refl, drop_bare (prefix_len is_no_sign t) t h)
 
 -- the same of what udev takes
 abbrev IsKeptBare : Option (Piece × List ℕ) → Type 0
 IsKeptBare (Some x) = (is_attribute x.0 ≡ false) × Bare x.1
 IsKeptBare None = Unit {0}
 
-kept_bare : (b : ℕ) (t : List ℕ) (r : Front) → Bare t → IsBare r → IsKeptBare (kept b t r)
+kept_bare : (b : ℕ) (t : List ℕ) (r : FirstPiece) → Bare t → IsBare r → IsKeptBare (kept b t r)
 kept_bare b t (Ok x) h bare = bare
 kept_bare b t (Err fault.Unknown) h bare = (refl, h)
 kept_bare b t (Err fault.Brace) h bare = tt
@@ -139,7 +139,7 @@ kept_bare b t (Err fault.Memory) h bare = tt
 within_bare : (n : ℕ) (t : List ℕ) → Bare t → list_any is_attribute (left_within n t) ≡ false
 within_bare zero t h = refl
 within_bare (suc n) [] h = refl
-within_bare (suc n) (b ∷ t) h = by (kept b t (udev_front b t)) (kept_bare b t (udev_front b t) (rest_bare b t h) (front_bare b t (rest_bare b t h))) (λ l bare. within_bare n l bare)
+within_bare (suc n) (b ∷ t) h = by (kept b t (udev_first b t)) (kept_bare b t (udev_first b t) (rest_bare b t h) (prefix_bare b t (rest_bare b t h))) (λ l bare. within_bare n l bare)
   where
     by : (o : Option (Piece × List ℕ)) → IsKeptBare o → ((l : List ℕ) → Bare l → list_any is_attribute (left_within n l) ≡ false) → list_any is_attribute (with_kept (left_within n) o) ≡ false
     by None is more = refl

@@ -103,7 +103,7 @@ begins_closed t (c ∷ n) rest first some no_close is =
 
 -- nor one whose braces are empty
 lacks_empty : (b : ℕ) (t rest : List ℕ) → t ≡ close_brace ∷ rest → LacksName (b ∷ t)
-lacks_empty b t behind e n rest some no_close is =
+lacks_empty b t following e n rest some no_close is =
     begins_closed t n rest (ap (λ (l : List ℕ). get_or l 0 0) e) some no_close (ap (λ (l : List ℕ). drop 1 l) is)
 
 empty : (t : List ℕ) → is_empty t ≡ true → t ≡ []
@@ -173,11 +173,11 @@ pub split_again : (n rest : List ℕ) → HasNoClose n → split_once close_brac
 unfolding split_once
 split_again n rest none =
     let hay = n ++ close_brace ∷ rest in
-    let front : take (length n) hay ≡ n = take_at n (close_brace ∷ rest) (length n) refl in
-    let behind : drop (length n + 1) hay ≡ rest = ap (λ (k : ℕ). drop k hay) (add-one (length n)) ∙ drop_seam n rest in
+    let prefix : take (length n) hay ≡ n = take_at n (close_brace ∷ rest) (length n) refl in
+    let following : drop (length n + 1) hay ≡ rest = ap (λ (k : ℕ). drop k hay) (add-one (length n)) ∙ drop_seam n rest in
     ap (option_map (λ (k : ℕ). (take k hay, drop (k + 1) hay))) (place_again n rest none)
-    ∙ ap (λ (l : List ℕ). Some (l, drop (length n + 1) hay)) front
-    ∙ ap (λ (l : List ℕ). Some (n, l)) behind
+    ∙ ap (λ (l : List ℕ). Some (l, drop (length n + 1) hay)) prefix
+    ∙ ap (λ (l : List ℕ). Some (n, l)) following
 
 none_by : (t : List ℕ) → HasNoClose t → (o : Option (List ℕ × List ℕ)) → SplitWell t o → o ≡ None
 none_by t none None h = refl

@@ -1,4 +1,4 @@
--- Numbers that are read digit by digit, and given up where they reach the bound.
+-- Numbers that are read digit by digit, up to the digit at which they reach the bound.
 use Rattle.std.proofs.Common.{◌≡◌, ◌↔◌, ℕ, pos, negsuc, ◌+◌, ◌*◌, ◌^◌, ◌<◌, ◌≤◌, Bool, true, false, not, cond, ◌==◌, List, [], ◌∷◌, length, drop, get_or, zero, suc, Option, Some, None, option_map, refl, ap, sym, ◌∙◌, arith, add-one, mul-suc}
 use Rattle.std.proofs.Math.Seq.{drop-cons}
 use Rattle.std.proofs.lemmas.Bool.{and_right, le-ltb, ne_eqb}

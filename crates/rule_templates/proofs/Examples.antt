@@ -9,7 +9,7 @@ use Rattle.rule_templates.specs.Grammar.{HasName}
 use Rattle.rule_templates.specs.Integers.{marked, natural_of, signed, signed_size, size_in}
 use Rattle.rule_templates.specs.Names.{long_names_as, named, short_names_as}
 use Rattle.rule_templates.specs.Number.{udev_word_of}
-use Rattle.rule_templates.specs.Reading.{asked, asked_with, kept, left_of, substituted_by, udev_asked, udev_front}
+use Rattle.rule_templates.specs.Reading.{argument_of, asked_with, kept, left_of, substituted_by, udev_asked, udev_first}
 use Rattle.rule_templates.specs.declared.names.Substitution.{Substitution}
 use Rattle.rule_templates.specs.declared.piece.Piece.TheVariants as piece
 use Rattle.rule_templates.proofs.Left.{left_first}
@@ -25,24 +25,24 @@ none_named (row ∷ rows) t none = by_test (starts_with nat_eq t row.0) refl (no
 -- a sign that no name follows is a byte
 pub unknown_dollar : (t : List ℕ) → ((n : List ℕ) (s : Substitution) (rest : List ℕ) → HasName (long_names_as Udev) n s → t ≢ n ++ rest)
     → left_of (dollar ∷ t) ≡ piece.Plain (dollar ∷ []) ∷ left_of t
-unfolding udev_front
+unfolding udev_first
 unknown_dollar t none = rw (left_first dollar t (dollar ∷ t) (piece.Plain (dollar ∷ [])) t refl (ap (λ (o : Option (Substitution × List ℕ)). kept dollar t (substituted_by udev_asked o)) (none_named (long_names_as Udev) t none))) refl
 
 pub unknown_percent : (t : List ℕ) → ((n : List ℕ) (s : Substitution) (rest : List ℕ) → HasName (short_names_as Udev) n s → t ≢ n ++ rest)
     → left_of (percent ∷ t) ≡ piece.Plain (percent ∷ []) ∷ left_of t
-unfolding udev_front
+unfolding udev_first
 unknown_percent t none = rw (left_first percent t (percent ∷ t) (piece.Plain (percent ∷ [])) t refl (ap (λ (o : Option (Substitution × List ℕ)). kept percent t (substituted_by udev_asked o)) (none_named (short_names_as Udev) t none))) refl
 
 pub braces_passed : left_of (codes "x$kernel{foo}y") ≡ piece.Plain (codes "x") ∷ piece.Kernel ∷ piece.Plain (codes "y") ∷ []
-unfolding left_of udev_front udev_asked asked asked_with braced split_once
+unfolding left_of udev_first udev_asked argument_of asked_with braced split_once
 braces_passed = refl
 
 pub end_at_fault : left_of (codes "q$attr r") ≡ piece.Plain (codes "q") ∷ []
-unfolding left_of udev_front udev_asked asked asked_with braced split_once
+unfolding left_of udev_first udev_asked argument_of asked_with braced split_once
 end_at_fault = refl
 
 pub old_names_read : left_of (codes "$tempnode %D $sysfs{model}") ≡ piece.Devnode ∷ piece.Plain (codes " ") ∷ piece.Name ∷ piece.Plain (codes " ") ∷ piece.Attr (codes "model") ∷ []
-unfolding left_of udev_front udev_asked asked asked_with braced split_once
+unfolding left_of udev_first udev_asked argument_of asked_with braced split_once
 old_names_read = refl
 
 pub octal_word : udev_word_of (codes "010") ≡ Some (piece.Word 8)

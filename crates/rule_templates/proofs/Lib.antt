@@ -3,7 +3,7 @@ pub mod Numbers
 pub mod Closing
 pub mod Spelled
 pub mod Signs
-pub mod Fronts
+pub mod FirstPieces
 pub mod Left
 pub mod Digits
 pub mod Examples

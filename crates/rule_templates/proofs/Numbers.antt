@@ -63,7 +63,7 @@ WritesWord t p =
     ((n : ℕ) × (p ≡ piece.Word n) × WritesNumber n t)
     ⊎ ((n : ℕ) × (digits : List ℕ) × (p ≡ piece.From n) × WritesNumber n digits × (t ≡ digits ++ plus ∷ []))
 
--- the byte that a plus sign is, is no digit
+-- the byte of a plus sign is not a digit
 last_is : (b : ℕ) (t : List ℕ) (p : ℕ → Bool) → AllPass p (b ∷ t) → p (get_or (b ∷ t) (length t) 0) ≡ true
 last_is b t p all = all (length t) 0 (omega arith)
 

@@ -23,13 +23,13 @@ begins_not : (text n rest : List ℕ) → starts_with nat_eq text n ≡ false �
 begins_not text n rest h e = true≢false (sym (begins_true text n rest e) ∙ h)
 
 -- of two names at the front of a text the shorter one begins the other
-shorter_begins : (n m rest behind : List ℕ) → n ++ rest ≡ m ++ behind → length m ≤ length n → n ≡ m ++ drop (length m) n
-shorter_begins n [] rest behind e h = refl
-shorter_begins [] (c ∷ m) rest behind e h = absurd (omega arith)
-shorter_begins (b ∷ n) (c ∷ m) rest behind e h =
+shorter_begins : (n m rest following : List ℕ) → n ++ rest ≡ m ++ following → length m ≤ length n → n ≡ m ++ drop (length m) n
+shorter_begins n [] rest following e h = refl
+shorter_begins [] (c ∷ m) rest following e h = absurd (omega arith)
+shorter_begins (b ∷ n) (c ∷ m) rest following e h =
     let first : b ≡ c = ap (λ (l : List ℕ). get_or l 0 0) e in
-    let others : n ++ rest ≡ m ++ behind = ap (λ (l : List ℕ). drop 1 l) e in
-    ap (λ (d : ℕ). d ∷ n) first ∙ ap (λ (l : List ℕ). c ∷ l) (shorter_begins n m rest behind others (omega arith))
+    let others : n ++ rest ≡ m ++ following = ap (λ (l : List ℕ). drop 1 l) e in
+    ap (λ (d : ℕ). d ∷ n) first ∙ ap (λ (l : List ℕ). c ∷ l) (shorter_begins n m rest following others (omega arith))
 
 -- a table in which no name begins a name below it
 abbrev pub is_ordered : Rows → Bool
@@ -51,12 +51,12 @@ below_apart row (other ∷ rows) n s h has = by_place has (and_parts (not (start
   by_place (inr there) parts later = later parts.1 there
 
 -- so a name below that fits too is no longer
-below_no_longer : (row : List ℕ × Substitution) (n rest behind : List ℕ) → starts_with nat_eq n row.0 ≡ false → row.0 ++ behind ≡ n ++ rest → length n ≤ length row.0
-below_no_longer row n rest behind apart e = by_size (nat_le (length row.0) (length n)) refl where
+below_no_longer : (row : List ℕ × Substitution) (n rest following : List ℕ) → starts_with nat_eq n row.0 ≡ false → row.0 ++ following ≡ n ++ rest → length n ≤ length row.0
+below_no_longer row n rest following apart e = by_size (nat_le (length row.0) (length n)) refl where
   by_size : (b : Bool) → nat_le (length row.0) (length n) ≡ b → length n ≤ length row.0
   by_size true h =
       let fits : length row.0 ≤ length n = grind (arith, nat_tests) in
-      absurd (begins_not n row.0 (drop (length row.0) n) apart (shorter_begins n row.0 rest behind (sym e) fits))
+      absurd (begins_not n row.0 (drop (length row.0) n) apart (shorter_begins n row.0 rest following (sym e) fits))
   by_size false h = grind (arith, nat_tests)
 
 -- what is found: the longest name that fits, or that none does
@@ -73,21 +73,21 @@ well_by row rows t order o h true e =
       parts,
       record {
         in_table = inl (refl, refl);
-        longest = λ m behind other has is. by_place m behind other has is;
+        longest = λ m following other has is. by_place m following other has is;
       },
     )
   where
-    by_place : (m behind : List ℕ) (other : Substitution) → ((row.0 ≡ m) × (row.1 ≡ other)) ⊎ HasName rows m other → row.0 ++ drop (length row.0) t ≡ m ++ behind → length m ≤ length row.0
-    by_place m behind other (inl here) is = let same : length row.0 ≡ length m = ap (λ (l : List ℕ). length l) here.0 in omega arith
-    by_place m behind other (inr there) is = below_no_longer row m behind (drop (length row.0) t) (below_apart row rows m other (and_parts _ (is_ordered rows) order).0 there) is
+    by_place : (m following : List ℕ) (other : Substitution) → ((row.0 ≡ m) × (row.1 ≡ other)) ⊎ HasName rows m other → row.0 ++ drop (length row.0) t ≡ m ++ following → length m ≤ length row.0
+    by_place m following other (inl here) is = let same : length row.0 ≡ length m = ap (λ (l : List ℕ). length l) here.0 in omega arith
+    by_place m following other (inr there) is = below_no_longer row m following (drop (length row.0) t) (below_apart row rows m other (and_parts _ (is_ordered rows) order).0 there) is
 well_by row rows t order None h false e = λ n s rest has. by_place n s rest has where
   by_place : (n : List ℕ) (s : Substitution) (rest : List ℕ) → ((row.0 ≡ n) × (row.1 ≡ s)) ⊎ HasName rows n s → t ≢ n ++ rest
   by_place n s rest (inl here) = subst (λ (m : List ℕ). t ≢ m ++ rest) here.0 (begins_not t row.0 rest e)
   by_place n s rest (inr there) = h n s rest there
-well_by row rows t order (Some x) h false e = (h.0, h.1, record { in_table = inr h.2.in_table; longest = λ m behind other has is. by_place m behind other has is }) where
-  by_place : (m behind : List ℕ) (other : Substitution) → ((row.0 ≡ m) × (row.1 ≡ other)) ⊎ HasName rows m other → h.0 ++ x.1 ≡ m ++ behind → length m ≤ length h.0
-  by_place m behind other (inl here) is = absurd (subst (λ (k : List ℕ). t ≢ k ++ behind) here.0 (begins_not t row.0 behind e) (h.1 ∙ is))
-  by_place m behind other (inr there) is = h.2.longest m behind other there is
+well_by row rows t order (Some x) h false e = (h.0, h.1, record { in_table = inr h.2.in_table; longest = λ m following other has is. by_place m following other has is }) where
+  by_place : (m following : List ℕ) (other : Substitution) → ((row.0 ≡ m) × (row.1 ≡ other)) ⊎ HasName rows m other → h.0 ++ x.1 ≡ m ++ following → length m ≤ length h.0
+  by_place m following other (inl here) is = absurd (subst (λ (k : List ℕ). t ≢ k ++ following) here.0 (begins_not t row.0 following e) (h.1 ∙ is))
+  by_place m following other (inr there) is = h.2.longest m following other there is
 
 pub named_well : (rows : Rows) (t : List ℕ) → is_ordered rows ≡ true → NameWell rows t (named rows t)
 named_well [] t order = λ n s rest has. absurd has
@@ -109,7 +109,7 @@ again_by row rows n s rest order is later true e (inr there) =
 again_by row rows n s rest order is later false e (inl here) =
     absurd (subst (λ (k : List ℕ). n ++ rest ≢ k ++ rest) here.0 (begins_not (n ++ rest) row.0 rest e) refl)
 again_by row rows n s rest order is later false e (inr there) =
-    later (record { in_table = there; longest = λ m behind other has same. is.longest m behind other (inr has) same })
+    later (record { in_table = there; longest = λ m following other has same. is.longest m following other (inr has) same })
 
 pub named_again : (rows : Rows) (n : List ℕ) (s : Substitution) (rest : List ℕ) → is_ordered rows ≡ true → IsName rows n s rest → named rows (n ++ rest) ≡ Some (s, rest)
 named_again [] n s rest order is = absurd is.in_table

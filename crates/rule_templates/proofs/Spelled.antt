@@ -9,7 +9,7 @@ use Rattle.rule_templates.specs.Braces.{braced}
 use Rattle.rule_templates.specs.Grammar.{BeginsNotPlain, HasNoClose, IsNoNumber, IsFaulty, IsSign, IsSignWith, Spells, in_braces}
 use Rattle.rule_templates.specs.Names.{long_names, named, short_names}
 use Rattle.rule_templates.specs.Number.{word_of}
-use Rattle.rule_templates.specs.Reading.{Front, asked, bracketed, is_plain, numbered, front_at, result_piece, substituted, with_name}
+use Rattle.rule_templates.specs.Reading.{FirstPiece, argument_of, bracketed, is_no_sign, numbered, first_at, result_piece, substituted_by, with_name}
 use Rattle.rule_templates.specs.declared.fault.TemplateFault.{TemplateFault}
 use Rattle.rule_templates.specs.declared.fault.TemplateFault.TheVariants as fault
 use Rattle.rule_templates.specs.declared.names.Substitution.{Substitution}
@@ -20,8 +20,12 @@ use Rattle.rule_templates.proofs.Closing.{BracedWell, SplitWell, braced_well, br
 use Rattle.rule_templates.proofs.Numbers.{WritesWord, word_well}
 use Rattle.rule_templates.proofs.Signs.{NameWell, named_well}
 
+-- the piece that the name after a sign asks for
+abbrev pub substituted : Option (Substitution × List ℕ) → FirstPiece
+substituted = substituted_by argument_of
+
 -- after a sign a piece is found, which the sign and what is taken spell, or a fault
-abbrev pub AskedWell : List ℕ → List ℕ → Front → Type 0
+abbrev pub AskedWell : List ℕ → List ℕ → FirstPiece → Type 0
 AskedWell sign t r = MatchResult r (λ x. (taken : List ℕ) × (t ≡ taken ++ x.1) × Spells x.0 (sign ++ taken) x.1) (λ e. IsFaulty e (sign ++ t))
 
 -- a sign alone
@@ -74,8 +78,8 @@ refused : (sign t : List ℕ) → IsSign name.Refused sign t → IsFaulty fault.
 refused sign t (inl h) = inl (h.0 ++ t, ap (λ (l : List ℕ). l ++ t) h.1, inr (h.0, t, refl, h.2))
 refused sign t (inr h) = inr (h.0 ++ t, ap (λ (l : List ℕ). l ++ t) h.1, inr (h.0, t, refl, h.2))
 
-asked_well : (s : Substitution) (sign t : List ℕ) → IsSign s sign t → AskedWell sign t (asked s t)
-unfolding asked
+asked_well : (s : Substitution) (sign t : List ℕ) → IsSign s sign t → AskedWell sign t (argument_of s t)
+unfolding argument_of
 asked_well name.Kernel sign t h = ([], refl, alone name.Kernel sign t h)
 asked_well name.Number sign t h = ([], refl, alone name.Number sign t h)
 asked_well name.Devpath sign t h = ([], refl, alone name.Devpath sign t h)
@@ -97,74 +101,74 @@ asked_well name.Percent sign t h = ([], refl, inr (inr (refl, alone name.Percent
 asked_well name.Refused sign t h = refused sign t h
 
 -- of a text after its first byte
-abbrev pub PieceWell : ℕ → List ℕ → Front → Type 0
+abbrev pub PieceWell : ℕ → List ℕ → FirstPiece → Type 0
 PieceWell b t r = MatchResult r (λ x. (taken : List ℕ) × (t ≡ taken ++ x.1) × Spells x.0 (b ∷ taken) x.1) (λ e. IsFaulty e (b ∷ t))
 
 -- what follows a name, and the name
-behind_by : (b : ℕ) (n t rest : List ℕ) → t ≡ n ++ rest → (r : Front) → AskedWell (b ∷ n) rest r → PieceWell b t r
-behind_by b n t rest parts (Ok x) h = (n ++ h.0, parts ∙ ap (λ (l : List ℕ). n ++ l) h.1 ∙ sym (append_assoc n h.0 x.1), h.2)
-behind_by b n t rest parts (Err e) h = subst (λ (l : List ℕ). IsFaulty e (b ∷ l)) (sym parts) h
+after_by : (b : ℕ) (n t rest : List ℕ) → t ≡ n ++ rest → (r : FirstPiece) → AskedWell (b ∷ n) rest r → PieceWell b t r
+after_by b n t rest parts (Ok x) h = (n ++ h.0, parts ∙ ap (λ (l : List ℕ). n ++ l) h.1 ∙ sym (append_assoc n h.0 x.1), h.2)
+after_by b n t rest parts (Err e) h = subst (λ (l : List ℕ). IsFaulty e (b ∷ l)) (sym parts) h
 
 long_by : (t : List ℕ) (o : Option (Substitution × List ℕ)) → NameWell long_names t o → PieceWell dollar t (substituted o)
 long_by t None none = inl (t, refl, inl none)
-long_by t (Some x) h = behind_by dollar h.0 t x.1 h.1 (asked x.0 x.1) (asked_well x.0 (dollar ∷ h.0) x.1 (inl (h.0, refl, h.2)))
+long_by t (Some x) h = after_by dollar h.0 t x.1 h.1 (argument_of x.0 x.1) (asked_well x.0 (dollar ∷ h.0) x.1 (inl (h.0, refl, h.2)))
 
 short_by : (t : List ℕ) (o : Option (Substitution × List ℕ)) → NameWell short_names t o → PieceWell percent t (substituted o)
 short_by t None none = inr (t, refl, inl none)
-short_by t (Some x) h = behind_by percent h.0 t x.1 h.1 (asked x.0 x.1) (asked_well x.0 (percent ∷ h.0) x.1 (inr (h.0, refl, h.2)))
+short_by t (Some x) h = after_by percent h.0 t x.1 h.1 (argument_of x.0 x.1) (asked_well x.0 (percent ∷ h.0) x.1 (inr (h.0, refl, h.2)))
 
 pass_first : (p : ℕ → Bool) (b : ℕ) (t : List ℕ) → p b ≡ true → AllPass p t → AllPass p (b ∷ t)
 pass_first p b t h all zero d lt = h
 pass_first p b t h all (suc k) d lt = all k d (omega arith)
 
 -- the bytes up to the next sign are plain
-run_plain : (t : List ℕ) → AllPass is_plain (take_while is_plain t)
+run_plain : (t : List ℕ) → AllPass is_no_sign (take_while is_no_sign t)
 run_plain t k d lt =
-    let small : k < prefix_len is_plain t = omega (arith, length-take (prefix_len is_plain t) t) in
-    rw (get_or-take (prefix_len is_plain t) t k d small) (prefix_len_passes is_plain t k d small)
+    let small : k < prefix_len is_no_sign t = omega (arith, length-take (prefix_len is_no_sign t) t) in
+    rw (get_or-take (prefix_len is_no_sign t) t k d small) (prefix_len_passes is_no_sign t k d small)
 
 one-add : (n : ℕ) → 1 + n ≡ suc n
 one-add n = omega arith
 
--- and the next is none
-run_stops : (t : List ℕ) → BeginsNotPlain (skip_while is_plain t)
+-- and the next byte is not
+run_stops : (t : List ℕ) → BeginsNotPlain (skip_while is_no_sign t)
 run_stops [] = tt
-run_stops (b ∷ t) = by_test (run_stops t) (is_plain b) refl where
-  by_test : BeginsNotPlain (skip_while is_plain t) → (v : Bool) → is_plain b ≡ v → BeginsNotPlain (drop (cond v (1 + prefix_len is_plain t) 0) (b ∷ t))
-  by_test h true e = rw (one-add (prefix_len is_plain t)) h
+run_stops (b ∷ t) = by_test (run_stops t) (is_no_sign b) refl where
+  by_test : BeginsNotPlain (skip_while is_no_sign t) → (v : Bool) → is_no_sign b ≡ v → BeginsNotPlain (drop (cond v (1 + prefix_len is_no_sign t) 0) (b ∷ t))
+  by_test h true e = rw (one-add (prefix_len is_no_sign t)) h
   by_test h false e = e
 
 -- plain bytes
-plain_well : (b : ℕ) (t : List ℕ) → is_plain b ≡ true → Spells (piece.Plain (b ∷ take_while is_plain t)) (b ∷ take_while is_plain t) (skip_while is_plain t)
+plain_well : (b : ℕ) (t : List ℕ) → is_no_sign b ≡ true → Spells (piece.Plain (b ∷ take_while is_no_sign t)) (b ∷ take_while is_no_sign t) (skip_while is_no_sign t)
 plain_well b t h = inl record {
   same = refl;
-  some = λ none. let long : length (b ∷ take_while is_plain t) ≡ 0 = ap (λ (l : List ℕ). length l) none in omega arith;
-  plain = pass_first is_plain b (take_while is_plain t) h (run_plain t);
+  some = λ none. let long : length (b ∷ take_while is_no_sign t) ≡ 0 = ap (λ (l : List ℕ). length l) none in omega arith;
+  plain = pass_first is_no_sign b (take_while is_no_sign t) h (run_plain t);
   longest = run_stops t;
 }
 
 piece_by : (b : ℕ) (t : List ℕ) (v : Bool) → (b == dollar) ≡ v → (w : Bool) → (b == percent) ≡ w
-    → PieceWell b t (cond v (substituted (named long_names t)) (cond w (substituted (named short_names t)) (Ok (piece.Plain (b ∷ take_while is_plain t), skip_while is_plain t))))
+    → PieceWell b t (cond v (substituted (named long_names t)) (cond w (substituted (named short_names t)) (Ok (piece.Plain (b ∷ take_while is_no_sign t), skip_while is_no_sign t))))
 piece_by b t true e w f = subst (λ (c : ℕ). PieceWell c t (substituted (named long_names t))) (sym (eqb-true b dollar e)) (long_by t (named long_names t) (named_well long_names t refl))
 piece_by b t false e true f = subst (λ (c : ℕ). PieceWell c t (substituted (named short_names t))) (sym (eqb-true b percent f)) (short_by t (named short_names t) (named_well short_names t refl))
-piece_by b t false e false f = (take_while is_plain t, sym (take-append-drop (prefix_len is_plain t) t), plain_well b t (rw e (rw f refl)))
+piece_by b t false e false f = (take_while is_no_sign t, sym (take-append-drop (prefix_len is_no_sign t) t), plain_well b t (rw e (rw f refl)))
 
-pub piece_well : (b : ℕ) (t : List ℕ) → PieceWell b t (front_at b t)
-unfolding front_at
+pub piece_well : (b : ℕ) (t : List ℕ) → PieceWell b t (first_at b t)
+unfolding first_at
 piece_well b t = piece_by b t (b == dollar) refl (b == percent) refl
 
-shorter_by : (b : ℕ) (t : List ℕ) (x : Piece × List ℕ) (r : Front) → PieceWell b t r → r ≡ Ok x → length x.1 ≤ length t
+shorter_by : (b : ℕ) (t : List ℕ) (x : Piece × List ℕ) (r : FirstPiece) → PieceWell b t r → r ≡ Ok x → length x.1 ≤ length t
 shorter_by b t x (Ok y) h e =
-    let same : y.1 ≡ x.1 = ap (λ (r : Front). rest_of r) e in
+    let same : y.1 ≡ x.1 = ap (λ (r : FirstPiece). rest_of r) e in
     let long : length t ≡ length h.0 + length y.1 = ap (λ (l : List ℕ). length l) h.1 ∙ length-append h.0 y.1 in
     let equal : length y.1 ≡ length x.1 = ap (λ (l : List ℕ). length l) same in
     omega arith
   where
-    rest_of : Front → List ℕ
+    rest_of : FirstPiece → List ℕ
     rest_of (Ok y) = y.1
     rest_of (Err e) = []
 shorter_by b t x (Err f) h e = cc
 
 -- what is left is no longer
-pub left_shorter : (b : ℕ) (t : List ℕ) (x : Piece × List ℕ) → front_at b t ≡ Ok x → length x.1 ≤ length t
-left_shorter b t x e = shorter_by b t x (front_at b t) (piece_well b t) e
+pub left_shorter : (b : ℕ) (t : List ℕ) (x : Piece × List ℕ) → first_at b t ≡ Ok x → length x.1 ≤ length t
+left_shorter b t x e = shorter_by b t x (first_at b t) (piece_well b t) e

@@ -5,7 +5,7 @@ use Rattle.text_bytes.specs.Names.{dollar, percent, plus, open_brace, close_brac
 use Rattle.text_bytes.specs.Texts.{begins_with}
 use Rattle.text_bytes.specs.Numbers.{is_digit, decimal}
 use Rattle.rule_templates.specs.Names.{long_names, short_names}
-use Rattle.rule_templates.specs.Reading.{is_plain, pieces_of}
+use Rattle.rule_templates.specs.Reading.{is_no_sign, pieces_of}
 use Rattle.rule_templates.specs.declared.fault.TemplateFault.{TemplateFault}
 use Rattle.rule_templates.specs.declared.fault.TemplateFault.TheVariants.{Unknown, Brace, Number, Memory}
 use Rattle.rule_templates.specs.declared.names.Substitution.{Substitution}
@@ -21,7 +21,7 @@ HasName (row ∷ rows) n s = ((row.0 ≡ n) × (row.1 ≡ s)) ⊎ HasName rows n
 -- n is a name of the table that asks for s, and with rest after it, no longer name of the table is there
 pub record IsName (names : List (List ℕ × Substitution)) (n : List ℕ) (s : Substitution) (rest : List ℕ) : Type 0 where
   pub in_table : HasName names n s
-  pub longest : (m behind : List ℕ) (other : Substitution) → HasName names m other → n ++ rest ≡ m ++ behind → length m ≤ length n
+  pub longest : (m following : List ℕ) (other : Substitution) → HasName names m other → n ++ rest ≡ m ++ following → length m ≤ length n
 
 -- a `$` with a name that asks for s, or a `%` with a letter that does, followed by rest
 abbrev pub IsSign : Substitution → List ℕ → List ℕ → Type 0
@@ -54,13 +54,13 @@ pub record WritesNumber (n : ℕ) (digits : List ℕ) : Type 0 where
 -- a text that does not begin with a byte that stands for itself
 abbrev pub BeginsNotPlain : List ℕ → Type 0
 BeginsNotPlain [] = Unit {0}
-BeginsNotPlain (b ∷ t) = is_plain b ≡ false
+BeginsNotPlain (b ∷ t) = is_no_sign b ≡ false
 
 -- bytes that stand for themselves, as many as do before rest
 pub record IsPlainRun (bytes text rest : List ℕ) : Type 0 where
   pub same : text ≡ bytes
   pub some : bytes ≢ []
-  pub plain : AllPass is_plain bytes
+  pub plain : AllPass is_no_sign bytes
   pub longest : BeginsNotPlain rest
 
 -- the text is a spelling of the piece, if rest follows it
@@ -114,8 +114,8 @@ IsFaulty Brace text =
     (sign : List ℕ) × (rest : List ℕ) × (text ≡ sign ++ rest)
     × (((IsSign name.Attr sign rest ⊎ IsSign name.Env sign rest) × LacksName rest) ⊎ (IsSign name.Result sign rest × IsNotClosed rest))
 IsFaulty Number text =
-    (front : List ℕ) × (content : List ℕ) × (rest : List ℕ) × (text ≡ front ++ rest)
-    × IsSignWith name.Result content front rest × IsNoNumber content
+    (prefix : List ℕ) × (content : List ℕ) × (rest : List ℕ) × (text ≡ prefix ++ rest)
+    × IsSignWith name.Result content prefix rest × IsNoNumber content
 IsFaulty Memory text = ⊥
 
 -- The text is these pieces, up to its end or the first fault.
@@ -125,8 +125,8 @@ pub data Reads : List ℕ → List Piece → Option TemplateFault → Type 0 whe
   -- the text is faulty here
   faulty : {text : List ℕ} {fault : TemplateFault} → IsFaulty fault text → Reads text [] (Some fault)
   -- a piece, and after it others, or a fault
-  more : {text : List ℕ} {p : Piece} {pieces : List Piece} {end : Option TemplateFault} (front rest : List ℕ)
-      → text ≡ front ++ rest → Spells p front rest → Reads rest pieces end → Reads text (p ∷ pieces) end
+  more : {text : List ℕ} {p : Piece} {pieces : List Piece} {end : Option TemplateFault} (prefix rest : List ℕ)
+      → text ≡ prefix ++ rest → Spells p prefix rest → Reads rest pieces end → Reads text (p ∷ pieces) end
 
 -- What is read of a text is just what it is: its pieces, or else the fault that comes first from the left.
 pub record IsRead (text : List ℕ) : Type 0 where

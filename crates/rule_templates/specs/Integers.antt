@@ -31,10 +31,10 @@ unfoldable pub size_in : ℕ → List ℕ → Option ℕ
 size_in base digits = if are_digits base digits && nat_lt (digits_value base digits) (2 ^ 32) then Some (digits_value base digits) else None
 
 -- what follows a `0` and this letter, in either case
-abbrev pub behind_mark : ℕ → List ℕ → Option (List ℕ)
-behind_mark letter [] = None
-behind_mark letter (b ∷ []) = None
-behind_mark letter (b ∷ c ∷ text) = if b == digit_zero && eq_ignore_ascii_case c letter then Some text else None
+abbrev pub rest_after_mark : ℕ → List ℕ → Option (List ℕ)
+rest_after_mark letter [] = None
+rest_after_mark letter (b ∷ []) = None
+rest_after_mark letter (b ∷ c ∷ text) = if b == digit_zero && eq_ignore_ascii_case c letter then Some text else None
 
 -- the number that digits write, by what is in them after `0x`, and after `0b`
 abbrev pub size_by : List ℕ → Option (List ℕ) → Option (List ℕ) → Option ℕ
@@ -45,9 +45,9 @@ size_by text None None = size_in (if begins_with digit_zero text then 8 else 10)
 -- The number after a sign: if no mark came before the sign, hexadecimal digits after `0x`, binary ones after `0b`,
 -- octal ones from a `0` on, and otherwise decimal ones.
 abbrev pub size_of : Base → List ℕ → Option ℕ
-size_of Binary text = size_in 2 (unwrap_or (behind_mark letter_b text) text)
+size_of Binary text = size_in 2 (unwrap_or (rest_after_mark letter_b text) text)
 size_of Octal text = size_in 8 text
-size_of Open text = size_by text (behind_mark letter_x text) (behind_mark letter_b text)
+size_of Open text = size_by text (rest_after_mark letter_x text) (rest_after_mark letter_b text)
 
 -- a base, and what follows its mark, by what follows `0b`, and after `0o`
 abbrev pub marked_by : List ℕ → Option (List ℕ) → Option (List ℕ) → Base × List ℕ
@@ -57,7 +57,7 @@ marked_by text None None = (Open, text)
 
 -- the base that a mark in front determines, and what follows the mark
 unfoldable pub marked : List ℕ → Base × List ℕ
-marked text = marked_by text (behind_mark letter_b text) (behind_mark letter_o text)
+marked text = marked_by text (rest_after_mark letter_b text) (rest_after_mark letter_o text)
 
 -- whether a minus is in front, and what follows the sign, if there is one
 unfoldable pub signed : List ℕ → Bool × List ℕ

@@ -9,3 +9,4 @@ pub mod FaultTexts
 pub mod Integers
 pub mod Cuts
 pub mod Bare
+pub mod Substituted

@@ -8,7 +8,7 @@ use text_bytes::split_once;
 
 /// The name in the braces that a text begins with, and what is left after them.
 #[tactic(auto, unfolding(crate::specs::Braces::braced))]
-pub fn braced(text: &[u8]) -> Result<(&[u8], &[u8]), TemplateFault>
+pub(crate) fn braced(text: &[u8]) -> Result<(&[u8], &[u8]), TemplateFault>
     ensures value { GivesJust (λ x. (x.0.now, x.1.now)) result (braced text.now) }
     ensures shorter { IfOk result (λ x. length x.1.now ≤ length text.now) }
 {

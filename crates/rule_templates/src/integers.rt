@@ -3,7 +3,7 @@ ghost use Rattle.std.specs.Prelude.{◌≡◌, ◌≤◌, ◌<◌, ◌^◌, IfSo
 ghost use Rattle.std.specs.List.{prefix_len};
 ghost use Rattle.text_bytes.specs.Names.{is_whitespace};
 ghost use Rattle.text_bytes.specs.Texts.{skip_while};
-ghost use Rattle.rule_templates.specs.Integers.{behind_mark, integer_of, is_separator, marked, natural_of, signed, signed_size, size_in, size_of};
+ghost use Rattle.rule_templates.specs.Integers.{integer_of, is_separator, marked, natural_of, rest_after_mark, signed, signed_size, size_in, size_of};
 
 use text_bytes::{begins_with, is_blank, is_whitespace};
 
@@ -12,7 +12,7 @@ const LIMIT: u64 = 1 << 32;
 
 /// The base of digits, as far as what comes before their sign determines it.
 #[derive(Clone, Copy, Debug, PartialEq, Eq)]
-pub enum Base {
+pub(crate) enum Base {
     /// `0b`: in base 2.
     Binary,
     /// `0o`: in base 8.
@@ -29,11 +29,11 @@ pub fn is_separator(byte: u8) -> bool
 }
 
 /// A text without the spaces, tabs and ends of lines at its start.
-pub fn behind_separators(text: &[u8]) -> &[u8]
+pub fn after_separators(text: &[u8]) -> &[u8]
     ensures { result.now ≡ skip_while is_separator text.now }
 {
-    let (_, behind) = text.split_at(leading_separators(text));
-    behind
+    let (_, following) = text.split_at(leading_separators(text));
+    following
 }
 
 /// How many spaces, tabs and ends of lines a text begins with.
@@ -45,11 +45,11 @@ fn leading_separators(text: &[u8]) -> usize
 }
 
 /// A text without the white space at its start.
-fn behind_whitespace(text: &[u8]) -> &[u8]
+fn after_whitespace(text: &[u8]) -> &[u8]
     ensures { result.now ≡ skip_while is_whitespace text.now }
 {
-    let (_, behind) = text.split_at(leading_whitespace(text));
-    behind
+    let (_, following) = text.split_at(leading_whitespace(text));
+    following
 }
 
 /// How many bytes of white space a text begins with.
@@ -86,8 +86,8 @@ fn size_in(base: u32, digits: &[u8]) -> Option<u64>
 }
 
 /// What follows a `0` and a letter, in either case.
-fn behind_mark(letter: u8, text: &[u8]) -> Option<&[u8]>
-    ensures { option_map (λ rest. rest.now) result ≡ behind_mark letter text.now }
+fn rest_after_mark(letter: u8, text: &[u8]) -> Option<&[u8]>
+    ensures { option_map (λ rest. rest.now) result ≡ rest_after_mark letter text.now }
 {
     match text {
         [first, second, rest @ ..] => {
@@ -106,10 +106,10 @@ fn open_size(text: &[u8]) -> Option<u64>
     ensures value { result ≡ size_of Base.Open text.now }
     ensures below { IfSome result (λ number. number < 2 ^ 32) }
 {
-    if let Some(digits) = behind_mark(b'x', text) {
+    if let Some(digits) = rest_after_mark(b'x', text) {
         return size_in(16, digits);
     }
-    if let Some(digits) = behind_mark(b'b', text) {
+    if let Some(digits) = rest_after_mark(b'b', text) {
         return size_in(2, digits);
     }
     if begins_with(b'0', text) {
@@ -125,7 +125,7 @@ fn size_of(base: Base, text: &[u8]) -> Option<u64>
     ensures below { IfSome result (λ number. number < 2 ^ 32) }
 {
     match base {
-        Base::Binary => size_in(2, behind_mark(b'b', text).unwrap_or(text)),
+        Base::Binary => size_in(2, rest_after_mark(b'b', text).unwrap_or(text)),
         Base::Octal => size_in(8, text),
         Base::Open => open_size(text),
     }
@@ -136,10 +136,10 @@ fn size_of(base: Base, text: &[u8]) -> Option<u64>
 fn marked(text: &[u8]) -> (Base, &[u8])
     ensures { (result.0, result.1.now) ≡ marked text.now }
 {
-    if let Some(rest) = behind_mark(b'b', text) {
+    if let Some(rest) = rest_after_mark(b'b', text) {
         return (Base::Binary, rest);
     }
-    match behind_mark(b'o', text) {
+    match rest_after_mark(b'o', text) {
         Some(rest) => (Base::Octal, rest),
         None => (Base::Open, text),
     }
@@ -163,8 +163,8 @@ fn signed_size(text: &[u8]) -> Option<(bool, u64)>
     ensures value { result ≡ signed_size text.now }
     ensures below { IfSome result (λ x. x.1 < 2 ^ 32) }
 {
-    let (base, rest) = marked(behind_separators(text));
-    let (negative, digits) = signed(behind_whitespace(rest));
+    let (base, rest) = marked(after_separators(text));
+    let (negative, digits) = signed(after_whitespace(rest));
     let number = size_of(base, digits)?;
     Some((negative, number))
 }

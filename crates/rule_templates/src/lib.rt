@@ -15,11 +15,13 @@ mod names;
 mod number;
 mod piece;
 mod reading;
+mod substituted;
 mod template;
 
 pub use cut::Cut;
 pub use fault::TemplateFault;
-pub use integers::{behind_separators, integer_of, is_separator, natural_of};
+pub use integers::{after_separators, integer_of, is_separator, natural_of};
 pub use piece::Piece;
 pub use reading::{is_faulty, kept};
+pub use substituted::{has_sign, is_substituted};
 pub use template::Template;

@@ -101,8 +101,8 @@ fn named<'a>(rows: &[(&[u8], Substitution)], text: &'a [u8]) -> Option<(Substitu
 }
 
 /// What the name after a `$` asks for, and what is left after the name.
-#[tactic(auto, using(crate::proofs::Fronts::named_first, crate::proofs::Fronts::named_then))]
-pub fn long_name(profile: Profile, text: &[u8]) -> Option<(Substitution, &[u8])>
+#[tactic(auto, using(crate::proofs::FirstPieces::named_first, crate::proofs::FirstPieces::named_then))]
+pub(crate) fn long_name(profile: Profile, text: &[u8]) -> Option<(Substitution, &[u8])>
     ensures { option_map (λ x. (x.0, x.1.now)) result ≡ named (long_names_as profile) text.now }
 {
     match profile {
@@ -115,8 +115,8 @@ pub fn long_name(profile: Profile, text: &[u8]) -> Option<(Substitution, &[u8])>
 }
 
 /// What the letter after a `%` asks for, and what is left after the letter.
-#[tactic(auto, using(crate::proofs::Fronts::named_first, crate::proofs::Fronts::named_then))]
-pub fn short_name(profile: Profile, text: &[u8]) -> Option<(Substitution, &[u8])>
+#[tactic(auto, using(crate::proofs::FirstPieces::named_first, crate::proofs::FirstPieces::named_then))]
+pub(crate) fn short_name(profile: Profile, text: &[u8]) -> Option<(Substitution, &[u8])>
     ensures { option_map (λ x. (x.0, x.1.now)) result ≡ named (short_names_as profile) text.now }
 {
     match profile {

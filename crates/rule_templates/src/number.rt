@@ -18,12 +18,12 @@ fn number_of(text: &[u8]) -> Option<u16>
 
 /// The word, or the words from one on, that the content of the braces asks for.
 #[tactic(auto, unfolding(crate::specs::Number::word_of))]
-pub fn word_of(content: &[u8]) -> Option<Piece>
+pub(crate) fn word_of(content: &[u8]) -> Option<Piece>
     ensures { result ≡ word_of content.now }
 {
     if ends_in(b'+', content) {
-        let (front, _) = content.split_at(content.len().saturating_sub(1));
-        number_of(front).map(|number| Piece::From(number))
+        let (prefix, _) = content.split_at(content.len().saturating_sub(1));
+        number_of(prefix).map(|number| Piece::From(number))
     } else {
         number_of(content).map(|number| Piece::Word(number))
     }
@@ -34,8 +34,8 @@ fn without_plus(content: &[u8]) -> &[u8]
     ensures { result.now ≡ without_plus content.now }
 {
     if ends_in(b'+', content) {
-        let (front, _) = content.split_at(content.len().saturating_sub(1));
-        front
+        let (prefix, _) = content.split_at(content.len().saturating_sub(1));
+        prefix
     } else {
         content
     }
@@ -67,7 +67,7 @@ fn numbered_word(has_plus: bool, number: u64) -> Piece
 
 /// The result, a word of it, or the words from one on, that the content of the braces asks for by udev.
 #[tactic(auto, unfolding(crate::specs::Number::udev_word_of))]
-pub fn udev_word_of(content: &[u8]) -> Option<Piece>
+pub(crate) fn udev_word_of(content: &[u8]) -> Option<Piece>
     ensures { result ≡ udev_word_of content.now }
 {
     let number = natural_of(without_plus(content))?;

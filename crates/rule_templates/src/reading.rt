@@ -6,7 +6,7 @@ ghost use Rattle.std.specs.Prelude.{◌≡◌, ◌≤◌, ◌∷◌, IfOk, IfSom
 ghost use Rattle.std.specs.List.{prefix_len};
 ghost use Rattle.rule_templates.specs.Cuts.{copied};
 ghost use Rattle.rule_templates.specs.Faults.{Gives, GivesJust};
-ghost use Rattle.rule_templates.specs.Reading.{asked, asked_as, asked_with, front_as, front_at, is_faulty, is_plain, is_twice, kept, plain_front, result_piece, substituted_by, udev_asked, udev_front};
+ghost use Rattle.rule_templates.specs.Reading.{argument_of, asked_as, asked_with, first_as, first_at, is_faulty, is_no_sign, is_twice, kept, plain_first, result_piece, substituted_by, udev_asked, udev_first};
 
 use crate::braces::braced;
 use crate::cut::Cut;
@@ -20,18 +20,18 @@ use text_bytes::{Profile, begins_with, split_once};
 /// The most bytes that udev takes in braces.
 const MAX_IN_BRACES: usize = 1023;
 
-fn is_plain(byte: u8) -> bool
-    ensures { result ≡ is_plain byte }
+fn is_no_sign(byte: u8) -> bool
+    ensures { result ≡ is_no_sign byte }
 {
     byte != b'$' && byte != b'%'
 }
 
 /// How many bytes come before the next sign.
 fn plain_len(text: &[u8]) -> usize
-    ensures value { result ≡ prefix_len is_plain text.now }
+    ensures value { result ≡ prefix_len is_no_sign text.now }
     ensures within { result ≤ length text.now }
 {
-    text.iter().take_while(|byte| is_plain(**byte)).count()
+    text.iter().take_while(|byte| is_no_sign(**byte)).count()
 }
 
 /// What `$result` or `%c` asks for, and what is left.
@@ -52,27 +52,27 @@ fn result_piece(after: &[u8]) -> Result<(Cut<'_>, &[u8]), TemplateFault>
 }
 
 /// What `$attr` or `%s` asks for, and what is left.
-#[tactic(auto, unfolding(crate::specs::Reading::asked))]
+#[tactic(auto, unfolding(crate::specs::Reading::argument_of))]
 fn attr_piece(after: &[u8]) -> Result<(Cut<'_>, &[u8]), TemplateFault>
-    ensures { GivesJust (λ x. (copied x.0, x.1.now)) result (asked Substitution.Attr after.now) }
+    ensures { GivesJust (λ x. (copied x.0, x.1.now)) result (argument_of Substitution.Attr after.now) }
 {
     let (name, left) = braced(after)?;
     Ok((Cut::Attr(name), left))
 }
 
 /// What `$env` or `%E` asks for, and what is left.
-#[tactic(auto, unfolding(crate::specs::Reading::asked))]
+#[tactic(auto, unfolding(crate::specs::Reading::argument_of))]
 fn env_piece(after: &[u8]) -> Result<(Cut<'_>, &[u8]), TemplateFault>
-    ensures { GivesJust (λ x. (copied x.0, x.1.now)) result (asked Substitution.Env after.now) }
+    ensures { GivesJust (λ x. (copied x.0, x.1.now)) result (argument_of Substitution.Env after.now) }
 {
     let (name, left) = braced(after)?;
     Ok((Cut::Env(name), left))
 }
 
 /// What a substitution asks for, by what follows its name, and what is left.
-#[tactic(auto, unfolding(crate::specs::Reading::asked))]
-fn asked(name: Substitution, after: &[u8]) -> Result<(Cut<'_>, &[u8]), TemplateFault>
-    ensures { GivesJust (λ x. (copied x.0, x.1.now)) result (asked name after.now) }
+#[tactic(auto, unfolding(crate::specs::Reading::argument_of))]
+fn argument_of(name: Substitution, after: &[u8]) -> Result<(Cut<'_>, &[u8]), TemplateFault>
+    ensures { GivesJust (λ x. (copied x.0, x.1.now)) result (argument_of name after.now) }
 {
     match name {
         Substitution::Kernel => Ok((Cut::Other(Piece::Kernel), after)),
@@ -113,7 +113,7 @@ fn asked_with<'a>(
             Some(piece) => Ok((Cut::Other(piece), rest)),
             None => Err(TemplateFault::Number),
         },
-        _ => asked(name, rest),
+        _ => argument_of(name, rest),
     }
 }
 
@@ -134,7 +134,7 @@ fn udev_asked(name: Substitution, after: &[u8]) -> Result<(Cut<'_>, &[u8]), Temp
     ensures { GivesJust (λ x. (copied x.0, x.1.now)) result (udev_asked name after.now) }
 {
     if is_twice(name) || !begins_with(b'{', after) {
-        return asked(name, after);
+        return argument_of(name, after);
     }
     let (content, rest) = braced(after)?;
     if content.len() > MAX_IN_BRACES {
@@ -154,7 +154,7 @@ fn substituted<'a>(
         return Err(TemplateFault::Unknown);
     };
     match profile {
-        Profile::Manual => asked(name, after),
+        Profile::Manual => argument_of(name, after),
         Profile::Udev => udev_asked(name, after),
     }
 }
@@ -167,14 +167,14 @@ fn plain_piece<'a>(
     after: &[u8],
 ) -> Result<(Cut<'a>, &'a [u8]), TemplateFault>
     requires { text.now ≡ byte ∷ after.now }
-    ensures { GivesJust (λ x. (copied x.0, x.1.now)) result (plain_front byte after.now) }
+    ensures { GivesJust (λ x. (copied x.0, x.1.now)) result (plain_first byte after.now) }
 {
     let (plain, left) = text.split_at(plain_len(after) + 1);
     Ok((Cut::Plain(plain), left))
 }
 
 /// The piece at the front of a text, whose first byte is passed separately, and what is left.
-#[tactic(auto, using(crate::proofs::Fronts::front_shorter))]
+#[tactic(auto, using(crate::proofs::FirstPieces::prefix_shorter))]
 fn cut_of<'a>(
     profile: Profile,
     text: &'a [u8],
@@ -182,7 +182,7 @@ fn cut_of<'a>(
     after: &'a [u8],
 ) -> Result<(Cut<'a>, &'a [u8]), TemplateFault>
     requires { text.now ≡ byte ∷ after.now }
-    ensures value { GivesJust (λ x. (copied x.0, x.1.now)) result (front_as profile byte after.now) }
+    ensures value { GivesJust (λ x. (copied x.0, x.1.now)) result (first_as profile byte after.now) }
     ensures shorter { IfOk result (λ x. length x.1.now ≤ length after.now) }
 {
     match byte {
@@ -193,15 +193,15 @@ fn cut_of<'a>(
 }
 
 /// The piece at the front of a text, by the manual, and what is left; the first byte is passed separately.
-#[tactic(auto, unfolding(crate::specs::Reading::front_at))]
-pub fn front_of<'a>(
+#[tactic(auto, unfolding(crate::specs::Reading::first_at))]
+pub(crate) fn first_piece<'a>(
     alloc: Global,
     text: &'a [u8],
     byte: u8,
     after: &'a [u8],
 ) -> Result<(Piece, &'a [u8]), TemplateFault>
     requires { text.now ≡ byte ∷ after.now }
-    ensures value { Gives (λ x. (x.0, x.1.now)) result (front_at byte after.now) }
+    ensures value { Gives (λ x. (x.0, x.1.now)) result (first_at byte after.now) }
     ensures shorter { IfOk result (λ x. length x.1.now ≤ length after.now) }
 {
     let (cut, left) = cut_of(Profile::Manual, text, byte, after)?;
@@ -210,10 +210,10 @@ pub fn front_of<'a>(
 
 /// What udev takes for the piece at the front of a text, whose first byte is passed separately, and what it reads
 /// on; `None` if it stops.
-#[tactic(auto, unfolding(crate::specs::Reading::udev_front))]
+#[tactic(auto, unfolding(crate::specs::Reading::udev_first))]
 pub fn kept<'a>(text: &'a [u8], byte: u8, after: &'a [u8]) -> Option<(Cut<'a>, &'a [u8])>
     requires { text.now ≡ byte ∷ after.now }
-    ensures value { option_map (λ x. (copied x.0, x.1.now)) result ≡ kept byte after.now (udev_front byte after.now) }
+    ensures value { option_map (λ x. (copied x.0, x.1.now)) result ≡ kept byte after.now (udev_first byte after.now) }
     ensures shorter { IfSome result (λ x. length x.1.now ≤ length after.now) }
 {
     match cut_of(Profile::Udev, text, byte, after) {
@@ -228,7 +228,7 @@ pub fn kept<'a>(text: &'a [u8], byte: u8, after: &'a [u8]) -> Option<(Cut<'a>, &
 
 /// Whether udev reports a fault in a text: an unknown name or a sign alone, braces that are empty, open or longer
 /// than 1,023 bytes, no name after `$attr`, `$sysfs` or `$env`, or braces after `$result` that hold no number.
-#[tactic(auto, unfolding(crate::specs::Reading::udev_front))]
+#[tactic(auto, unfolding(crate::specs::Reading::udev_first))]
 pub fn is_faulty(text: &[u8]) -> bool
     ensures { result ≡ is_faulty text.now }
 {

@@ -7,7 +7,7 @@ ghost use Rattle.rule_templates.specs.declared.fault.TemplateFault.TheVariants.{
 
 use crate::fault::TemplateFault;
 use crate::piece::Piece;
-use crate::reading::{front_of, kept};
+use crate::reading::{first_piece, kept};
 use std::alloc::Global;
 use std::marker::Model;
 use text_bytes::{Bytes, Profile};
@@ -34,7 +34,7 @@ fn pieces_of(alloc: Global, text: &[u8]) -> Result<Vec<Piece>, TemplateFault>
     let mut pieces = Vec::new(alloc);
     let mut rest = text;
     while let Some((byte, after)) = rest.split_first() {
-        let (piece, left) = front_of(alloc, rest, *byte, after)?;
+        let (piece, left) = first_piece(alloc, rest, *byte, after)?;
         pieces.push(piece)?;
         rest = left;
     }

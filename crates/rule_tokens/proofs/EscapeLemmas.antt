@@ -10,7 +10,7 @@ use Rattle.std.proofs.Math.Seq.{take-length}
 use Rattle.std.proofs.lemmas.Int.Digits.{digits_value-lt}
 use Rattle.text_bytes.specs.Names.{backslash}
 use Rattle.rule_tokens.specs.Values.{Piece, letter, octal, hex, short, long, spelling, meaning, letter_means, is_number, is_scalar}
-use Rattle.rule_tokens.specs.Reading.{escape_front, if_piece, piece_at, meaning_at, scan, positive, number_at, byte_from, byte_at, character_from, character_at, letter_from, escape_at}
+use Rattle.rule_tokens.specs.Reading.{escape_first, if_piece, piece_at, meaning_at, scan, positive, number_at, byte_from, byte_at, character_from, character_at, letter_from, escape_at}
 use Rattle.rule_tokens.specs.Letters.{letter_x, letter_u, capital_u}
 
 times : (v base : ℕ) → 1 ≤ base → v ≤ v * base
@@ -163,8 +163,8 @@ letter_from_means c rest = by_value (letter_means c == 0) refl
         positive_not zero h = absurd (h refl)
         positive_not (suc n) h = omega arith
 
-escape_means : (rest : List ℕ) → meant_in (backslash ∷ rest) (escape_front rest) ≡ escape_at rest
-unfolding escape_front escape_at
+escape_means : (rest : List ℕ) → meant_in (backslash ∷ rest) (escape_first rest) ≡ escape_at rest
+unfolding escape_first escape_at
 escape_means [] = refl
 escape_means (c ∷ rest) =
     let f = meant_in (backslash ∷ c ∷ rest) in

@@ -9,7 +9,7 @@ use Rattle.rule_tokens.specs.declared.kinds.Operator.{Operator}
 use Rattle.rule_tokens.specs.declared.kinds.Operator.TheVariants.{Equal, NotEqual, Add, Remove, AssignFinal, Assign}
 use Rattle.text_bytes.specs.Names.{is_blank, open_brace, close_brace, equals, bang, plus, minus, colon, space, tab}
 use Rattle.text_bytes.specs.Texts.{skip_while}
-use Rattle.rule_tokens.specs.Grammar.{AllAre, BeginsOther, Head, HeadStands, operator_text, attribute_text, attribute_bytes, is_key_byte, is_attribute_byte}
+use Rattle.rule_tokens.specs.Grammar.{AllAre, BeginsOther, Head, BeginsWithHead, operator_text, attribute_text, attribute_bytes, is_key_byte, is_attribute_byte}
 use Rattle.rule_tokens.specs.Reading.{key_at, attribute_at, operator_at, head_at}
 use Rattle.rule_tokens.proofs.RunLemmas.{Sound, bind_sound, cond_sound, run_again, run_all, apart, closed_again, closed_sound}
 
@@ -54,17 +54,17 @@ operator_begins q AssignFinal rest e = e.4
 operator_begins q Assign rest e = e.0
 
 -- what begins with no blank and no equals sign ends a head
-pub head_again : (text : List ℕ) (h : Head) (rest : List ℕ) → HeadStands text h rest → BeginsOther is_blank rest → BeginsOther (λ b. b == equals) rest → head_at text ≡ Ok (h, rest)
+pub head_again : (text : List ℕ) (h : Head) (rest : List ℕ) → BeginsWithHead text h rest → BeginsOther is_blank rest → BeginsOther (λ b. b == equals) rest → head_at text ≡ Ok (h, rest)
 unfolding head_at
 head_again text h rest s o e =
-    let other = λ (q : ℕ → Bool) (n : (q space ≡ false) × (q tab ≡ false)) (m : (q equals ≡ false) × (q bang ≡ false) × (q plus ≡ false) × (q minus ≡ false) × (q colon ≡ false)). apart is_blank q s.before (operator_text h.operator ++ (s.behind ++ rest)) (of_blank q n.0 n.1) s.blanks.0 (operator_begins q h.operator (s.behind ++ rest) m) in
-    let spelled : text ≡ h.key ++ (attribute_text h.attribute ++ (s.before ++ (operator_text h.operator ++ (s.behind ++ rest)))) = s.spelled ∙ simp append_assoc in
-    let key : key_at text ≡ Ok (h.key, attribute_text h.attribute ++ (s.before ++ (operator_text h.operator ++ (s.behind ++ rest)))) =
+    let other = λ (q : ℕ → Bool) (n : (q space ≡ false) × (q tab ≡ false)) (m : (q equals ≡ false) × (q bang ≡ false) × (q plus ≡ false) × (q minus ≡ false) × (q colon ≡ false)). apart is_blank q s.before (operator_text h.operator ++ (s.following ++ rest)) (of_blank q n.0 n.1) s.blanks.0 (operator_begins q h.operator (s.following ++ rest) m) in
+    let spelled : text ≡ h.key ++ (attribute_text h.attribute ++ (s.before ++ (operator_text h.operator ++ (s.following ++ rest)))) = s.spelled ∙ simp append_assoc in
+    let key : key_at text ≡ Ok (h.key, attribute_text h.attribute ++ (s.before ++ (operator_text h.operator ++ (s.following ++ rest)))) =
     rw spelled (key_again h.key _ s.some_key s.key (attribute_begins h.attribute _ (other is_key_byte (refl, refl) (refl, refl, refl, refl, refl)))) in
-    let attribute = attribute_again h.attribute (s.before ++ (operator_text h.operator ++ (s.behind ++ rest))) s.attribute (other (λ b. b == open_brace) (refl, refl) (refl, refl, refl, refl, refl)) in
-    let blanks = skip_again s.before (operator_text h.operator ++ (s.behind ++ rest)) s.blanks.0 (operator_begins is_blank h.operator (s.behind ++ rest) (refl, refl, refl, refl, refl)) in
-    let operator = operator_again h.operator (s.behind ++ rest) (apart is_blank (λ b. b == equals) s.behind rest (of_blank (λ b. b == equals) refl refl) s.blanks.1 e) in
-    rw key (rw attribute (rw blanks (rw operator (rw (skip_again s.behind rest s.blanks.1 o) refl))))
+    let attribute = attribute_again h.attribute (s.before ++ (operator_text h.operator ++ (s.following ++ rest))) s.attribute (other (λ b. b == open_brace) (refl, refl) (refl, refl, refl, refl, refl)) in
+    let blanks = skip_again s.before (operator_text h.operator ++ (s.following ++ rest)) s.blanks.0 (operator_begins is_blank h.operator (s.following ++ rest) (refl, refl, refl, refl, refl)) in
+    let operator = operator_again h.operator (s.following ++ rest) (apart is_blank (λ b. b == equals) s.following rest (of_blank (λ b. b == equals) refl refl) s.blanks.1 e) in
+    rw key (rw attribute (rw blanks (rw operator (rw (skip_again s.following rest s.blanks.1 o) refl))))
   where
     attribute_begins : (a : Option (List ℕ)) (rest : List ℕ) → BeginsOther is_key_byte rest → BeginsOther is_key_byte (attribute_text a ++ rest)
     attribute_begins None rest o = o
@@ -109,21 +109,21 @@ operator_sound (a ∷ b ∷ rest) =
     (λ _. cond_sound P ⊥ (a == colon) _ _ (λ e. two a b colon equals rest e f) (λ _. tt))))))
     (λ _. cond_sound P ⊥ (a == equals) _ _ (λ e. let p : a ≡ equals = search (rules, eqb-true) in ap (λ c. c ∷ b ∷ rest) p) (λ _. tt))
 
-pub head_sound : (text : List ℕ) → Sound (λ (x : Head × List ℕ). HeadStands text x.0 x.1) ⊥ (head_at text)
+pub head_sound : (text : List ℕ) → Sound (λ (x : Head × List ℕ). BeginsWithHead text x.0 x.1) ⊥ (head_at text)
 unfolding head_at
 head_sound text =
-    let P : Head × List ℕ → Type 0 = λ x. HeadStands text x.0 x.1 in
+    let P : Head × List ℕ → Type 0 = λ x. BeginsWithHead text x.0 x.1 in
     bind_sound _ ⊥ P ⊥ (key_at text) _ (key_sound text) (λ q. q) (λ key h1.
     bind_sound _ ⊥ P ⊥ (attribute_at key.1) _ (attribute_sound key.1) (λ q. q) (λ attribute h2.
     bind_sound _ ⊥ P ⊥ (operator_at (skip_while is_blank attribute.1)) _ (operator_sound (skip_while is_blank attribute.1)) (λ q. q) (λ operator h3.
     let before = take (prefix_len is_blank attribute.1) attribute.1 in
-    let behind = take (prefix_len is_blank operator.1) operator.1 in
+    let following = take (prefix_len is_blank operator.1) operator.1 in
     let e1 = take-append-drop (prefix_len is_blank attribute.1) attribute.1 in
     let e2 = take-append-drop (prefix_len is_blank operator.1) operator.1 in
     record {
       before = before;
-      behind = behind;
-      spelled = joined text key.0 key.1 (attribute_text attribute.0) attribute.1 before (skip_while is_blank attribute.1) (operator_text operator.0) operator.1 behind (skip_while is_blank operator.1) h1.0 h2.0 e1 h3 e2;
+      following = following;
+      spelled = joined text key.0 key.1 (attribute_text attribute.0) attribute.1 before (skip_while is_blank attribute.1) (operator_text operator.0) operator.1 following (skip_while is_blank operator.1) h1.0 h2.0 e1 h3 e2;
       some_key = h1.1;
       key = h1.2;
       attribute = h2.1;

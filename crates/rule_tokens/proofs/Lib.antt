@@ -6,7 +6,7 @@ pub mod HeadLemmas
 pub mod PieceLists
 pub mod LetterLemmas
 pub mod Numbers
-pub mod Stands
+pub mod IsPresent
 pub mod EscapeLemmas
 pub mod Steps
 pub mod Lines

@@ -10,7 +10,7 @@ use Rattle.rule_tokens.specs.Grammar.{Parts, Placed, TokenAt, Gap, LexesAt, faul
 use Rattle.rule_tokens.specs.Reading.{token_at}
 use Rattle.rule_tokens.specs.Lines.{items_after, items_within}
 use Rattle.rule_tokens.proofs.RunLemmas.{run_again, run_all, run_stops}
-use Rattle.rule_tokens.proofs.Stands.{token_again, token_stands, fault_again, fault_stands, stands_shorter}
+use Rattle.rule_tokens.proofs.IsPresent.{token_again, token_in_place, fault_again, fault_in_place, rest_is_shorter}
 
 gap_again : (rest gap next : List ℕ) → Gap rest gap next → skip_while is_gap_byte rest ≡ next
 gap_again rest gap next g = rw g.spelled (rw (run_again is_gap_byte gap next g.all g.longest) (drop_at gap next _ refl))
@@ -37,19 +37,19 @@ only (suc n) at text [] (Some fault) (faulty here is) h =
     let e : token_at text ≡ Err fault.kind = fault_again text fault.kind is in
     rw e (rw (← here) refl)
 only (suc n) at text (t ∷ []) None (last rest gap here between) h =
-    let e : token_at text ≡ Ok (t.parts, rest) = token_again text t.parts rest here.stands in
-    let less : length rest < length text = stands_shorter text t.parts rest here.stands in
+    let e : token_at text ≡ Ok (t.parts, rest) = token_again text t.parts rest here.is_present in
+    let less : length rest < length text = rest_is_shorter text t.parts rest here.is_present in
     let g : skip_while is_gap_byte rest ≡ [] = gap_again rest gap [] between in
     let to = ends_at at (length text) (length rest) t.span.end here.end less in
     rw e (rw g (rw (placed t at _ here.start to) refl))
-only (suc n) at text (t ∷ tokens) end (more rest gap next here between some behind) h =
-    let e : token_at text ≡ Ok (t.parts, rest) = token_again text t.parts rest here.stands in
-    let less : length rest < length text = stands_shorter text t.parts rest here.stands in
+only (suc n) at text (t ∷ tokens) end (more rest gap next here between some following) h =
+    let e : token_at text ≡ Ok (t.parts, rest) = token_again text t.parts rest here.is_present in
+    let less : length rest < length text = rest_is_shorter text t.parts rest here.is_present in
     let g : skip_while is_gap_byte rest ≡ next = gap_again rest gap next between in
     let parts : length rest ≡ length gap + length next = ap length between.spelled ∙ length-append gap next in
     let to = ends_at at (length text) (length rest) t.span.end here.end less in
     let on : at + (length text - length next) ≡ t.span.end + length gap = begins_at at (length text) (length rest) t.span.end (length gap) (length next) here.end less parts in
-    let others : items_within n (t.span.end + length gap) next ≡ answers tokens end = only n (t.span.end + length gap) next tokens end behind (omega arith) in
+    let others : items_within n (t.span.end + length gap) next ≡ answers tokens end = only n (t.span.end + length gap) next tokens end following (omega arith) in
     rw e (rw g (rw on (rw (placed t at _ here.start to) (rw (ne_eqb (length next) 0 (λ z. absurd (omega (arith, some)))) (ap (λ items. Ok t ∷ items) others)))))
 
 empty : (xs : List ℕ) → length xs ≡ 0 → xs ≡ []
@@ -79,17 +79,17 @@ given (suc n) at text h = by_result (token_at text) refl (λ to next less. given
     by_result : (r : Result (Parts × List ℕ) TokenFaultKind) → token_at text ≡ r
         → ((to : ℕ) (next : List ℕ) → length next < n → (tokens : List Placed) × (end : Option TokenFault) × LexesAt to next tokens end × (items_within n to next ≡ answers tokens end))
         → (tokens : List Placed) × (end : Option TokenFault) × LexesAt at text tokens end × (items_after (items_within n) at (length text) r ≡ answers tokens end)
-    by_result (Err kind) e others = ([], Some (record { at = at; kind = kind }), faulty refl (fault_stands text kind e), refl)
+    by_result (Err kind) e others = ([], Some (record { at = at; kind = kind }), faulty refl (fault_in_place text kind e), refl)
     by_result (Ok x) e others =
-        let stands = token_stands text x e in
-        let less : length x.1 < length text = stands_shorter text x.0 x.1 stands in
+        let is_present = token_in_place text x e in
+        let less : length x.1 < length text = rest_is_shorter text x.0 x.1 is_present in
         let gap = take (prefix_len is_gap_byte x.1) x.1 in
         let next = skip_while is_gap_byte x.1 in
         let parts : length x.1 ≡ length gap + length next = ap length (gap_there x.1).spelled ∙ length-append gap next in
         let end : ℕ = at + (length text - length x.1) in
         let to : end + length x.1 ≡ at + length text = omega arith in
         let t : Placed = record { parts = x.0; span = record { start = at; end = end } } in
-        by_gap x e t (record { stands = stands; start = refl; end = to }) (begins_at at (length text) (length x.1) end (length gap) (length next) to less parts)
+        by_gap x e t (record { is_present = is_present; start = refl; end = to }) (begins_at at (length text) (length x.1) end (length gap) (length next) to less parts)
         (length next == 0) refl (others (end + length gap) next (omega arith))
 
 pub answers_same : (s t : List Placed) (e f : Option TokenFault) → answers s e ≡ answers t f → (s ≡ t) × (e ≡ f)

@@ -7,14 +7,14 @@ use Rattle.text_bytes.specs.Names.{backslash, double_quote}
 use Rattle.text_bytes.specs.Texts.{ends_in}
 use Rattle.rule_tokens.specs.Values.{Piece, byte, letter, octal, hex, short, long, spelling, is_plain_piece, is_escaped_piece, is_piece, Spells}
 use Rattle.rule_tokens.specs.Grammar.{BeginsOther}
-use Rattle.rule_tokens.specs.Reading.{piece_at, pieces_from, pieces_of, plain_front, if_piece}
+use Rattle.rule_tokens.specs.Reading.{piece_at, pieces_from, pieces_of, plain_first, if_piece}
 use Rattle.rule_tokens.proofs.Pieces.{escaped_again, piece_sound}
 
 -- after so many bytes
-pub pieces_behind : (escaped : Bool) (run rest : List ℕ) → pieces_of escaped (length run) (run ++ rest) ≡ pieces_of escaped 0 rest
+pub pieces_after : (escaped : Bool) (run rest : List ℕ) → pieces_of escaped (length run) (run ++ rest) ≡ pieces_of escaped 0 rest
 unfolding pieces_of
-pieces_behind escaped [] rest = refl
-pieces_behind escaped (b ∷ run) rest = pieces_behind escaped run rest
+pieces_after escaped [] rest = refl
+pieces_after escaped (b ∷ run) rest = pieces_after escaped run rest
 
 pub pieces_none : (escaped : Bool) (rest : List ℕ) → piece_at escaped rest ≡ None → pieces_of escaped 0 rest ≡ []
 unfolding pieces_of
@@ -26,10 +26,10 @@ pub pieces_some : (escaped : Bool) (p : Piece) (rest : List ℕ) → piece_at es
 unfolding pieces_of
 pieces_some escaped (byte b) rest e = rw e refl
 pieces_some escaped (letter c) rest e = rw e refl
-pieces_some escaped (octal digits) rest e = rw e (ap (λ ps. octal digits ∷ ps) (pieces_behind escaped digits rest))
-pieces_some escaped (hex digits) rest e = rw e (ap (λ ps. hex digits ∷ ps) (pieces_behind escaped digits rest))
-pieces_some escaped (short digits) rest e = rw e (ap (λ ps. short digits ∷ ps) (pieces_behind escaped digits rest))
-pieces_some escaped (long digits) rest e = rw e (ap (λ ps. long digits ∷ ps) (pieces_behind escaped digits rest))
+pieces_some escaped (octal digits) rest e = rw e (ap (λ ps. octal digits ∷ ps) (pieces_after escaped digits rest))
+pieces_some escaped (hex digits) rest e = rw e (ap (λ ps. hex digits ∷ ps) (pieces_after escaped digits rest))
+pieces_some escaped (short digits) rest e = rw e (ap (λ ps. short digits ∷ ps) (pieces_after escaped digits rest))
+pieces_some escaped (long digits) rest e = rw e (ap (λ ps. long digits ∷ ps) (pieces_after escaped digits rest))
 
 escaped_pieces : (ps : List Piece) (rest : List ℕ) → list_all is_escaped_piece ps ≡ true → piece_at true rest ≡ None → pieces_of true 0 (flat_map spelling ps ++ rest) ≡ ps
 escaped_pieces [] rest a n = pieces_none true rest n
@@ -38,24 +38,24 @@ escaped_pieces (p ∷ ps) rest a n =
     let e : flat_map spelling (p ∷ ps) ++ rest ≡ spelling p ++ (flat_map spelling ps ++ rest) = append_assoc (spelling p) (flat_map spelling ps) rest in
     rw e (pieces_some true p (flat_map spelling ps ++ rest) (escaped_again p (flat_map spelling ps ++ rest) h.0) ∙ ap (λ qs. p ∷ qs) (escaped_pieces ps rest h.1 n))
 
-ends_behind : (b : ℕ) (x y : List ℕ) (c : ℕ) → ends_in b (x ++ c ∷ y) ≡ ends_in b (c ∷ y)
-ends_behind b [] y c = refl
-ends_behind b (d ∷ []) y c = refl
-ends_behind b (d ∷ e ∷ x) y c = ends_behind b (e ∷ x) y c
+ends_after : (b : ℕ) (x y : List ℕ) (c : ℕ) → ends_in b (x ++ c ∷ y) ≡ ends_in b (c ∷ y)
+ends_after b [] y c = refl
+ends_after b (d ∷ []) y c = refl
+ends_after b (d ∷ e ∷ x) y c = ends_after b (e ∷ x) y c
 
--- a plain piece is read, where no backslash comes directly before a quote
+-- a plain piece is read, if no backslash comes directly before a quote
 plain_again : (p : Piece) (rest : List ℕ) → is_plain_piece p ≡ true → (p ≡ byte backslash → BeginsOther (λ b. b == double_quote) rest) → piece_at false (spelling p ++ rest) ≡ Some p
 unfolding piece_at
 plain_again (byte b) rest e o = by_test (b == backslash) refl
   where
-    behind : (rest : List ℕ) → BeginsOther (λ b. b == double_quote) rest → plain_front rest ≡ byte backslash
-    behind [] o = refl
-    behind (c ∷ rest) o = rw o refl
+    following : (rest : List ℕ) → BeginsOther (λ b. b == double_quote) rest → plain_first rest ≡ byte backslash
+    following [] o = refl
+    following (c ∷ rest) o = rw o refl
 
-    by_test : (t : Bool) → (b == backslash) ≡ t → if_piece false (cond t (plain_front rest) (byte b)) ≡ Some (byte b)
+    by_test : (t : Bool) → (b == backslash) ≡ t → if_piece false (cond t (plain_first rest) (byte b)) ≡ Some (byte b)
     by_test true f =
         let g : b ≡ backslash = eqb-true b backslash f in
-        rw (behind rest (o (ap byte g))) (rw (sym g) refl)
+        rw (following rest (o (ap byte g))) (rw (sym g) refl)
     by_test false f = rw e refl
 plain_again (letter c) rest e o = rw e (rw e refl)
 plain_again (octal digits) rest e o = absurd (both_ways false refl e)
@@ -84,7 +84,7 @@ spelled_some (long digits) rest = omega arith
 -- what ends otherwise after a piece ends otherwise
 ends_less : (b : ℕ) (x y : List ℕ) → ends_in b (x ++ y) ≡ false → ends_in b y ≡ false
 ends_less b x [] e = refl
-ends_less b x (c ∷ y) e = sym (ends_behind b x y c) ∙ e
+ends_less b x (c ∷ y) e = sym (ends_after b x y c) ∙ e
 
 plain_pieces : (ps : List Piece) (rest : List ℕ) → list_all is_plain_piece ps ≡ true → ends_in backslash (flat_map spelling ps) ≡ false → piece_at false rest ≡ None → pieces_of false 0 (flat_map spelling ps ++ rest) ≡ ps
 plain_pieces [] rest a o n = pieces_none false rest n
@@ -127,7 +127,7 @@ pieces_sound escaped zero (b ∷ rest) = by_piece (piece_at escaped (b ∷ rest)
         let r = h p in
         (and_from (is_piece escaped p) _ s.0 r.0, (r.1.0, s.1 ∙ (ap (λ t. spelling p ++ t) (drop_first p b rest ∙ r.1.1) ∙ sym (append_assoc (spelling p) _ r.1.0))))
 
--- before a quote a backslash is no piece
+-- before a quote a backslash is not a piece
 before_quote : (b c : ℕ) (text rest : List ℕ) → piece_at false (b ∷ text) ≡ Some (byte c) → b ≡ c → text ≡ double_quote ∷ rest → (t : Bool) → (c == backslash) ≡ t → t ≡ false
 unfolding piece_at
 before_quote b c text rest e f g true h =
@@ -149,7 +149,7 @@ last_piece (long digits) b text rest e d = absurd (both_ways false refl (piece_s
 
 more_pieces : (p : Piece) (b : ℕ) (text spelled rest : List ℕ) → piece_at false (b ∷ text) ≡ Some p → drop (length (drop 1 (spelling p))) text ≡ spelled ++ double_quote ∷ rest → ends_in backslash spelled ≡ false → ends_in backslash (spelling p ++ spelled) ≡ false
 more_pieces p b text [] rest e d h = last_piece p b text rest e d
-more_pieces p b text (c ∷ spelled) rest e d h = ends_behind backslash (spelling p) spelled c ∙ h
+more_pieces p b text (c ∷ spelled) rest e d h = ends_after backslash (spelling p) spelled c ∙ h
 
 -- what is left after a piece
 left : (p : Piece) (b : ℕ) (text x y : List ℕ) → b ∷ text ≡ (spelling p ++ x) ++ y → drop (length (drop 1 (spelling p))) text ≡ x ++ y

@@ -9,7 +9,7 @@ use Rattle.rule_tokens.specs.declared.kinds.TokenFaultKind.TheVariants.{Syntax, 
 use Rattle.rule_tokens.specs.Grammar.{AllAre, BeginsOther}
 use Rattle.rule_tokens.specs.Reading.{◌>>=◌, closed_at}
 
--- what holds of what was read, or of the text where a prefix is wrong
+-- what holds for what was read, or for the text if a prefix is wrong
 abbrev pub Sound : {A : Type 0} → (A → Type 0) → Type 0 → Result A TokenFaultKind → Type 0
 Sound P Q (Ok x) = P x
 Sound P Q (Err Syntax) = ⊤

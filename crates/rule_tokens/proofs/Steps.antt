@@ -8,7 +8,7 @@ use Rattle.rule_tokens.specs.Grammar.{Parts, Placed, LexesAt, answers, is_gap_by
 use Rattle.rule_tokens.specs.Reading.{token_at, IsWholeValue}
 use Rattle.rule_tokens.specs.Lines.{items_after, items_within, items_left, items_from, items_of, is_over}
 use Rattle.rule_tokens.proofs.Meanings.{whole_value}
-use Rattle.rule_tokens.proofs.Stands.{token_stands, stands_shorter}
+use Rattle.rule_tokens.proofs.IsPresent.{token_in_place, rest_is_shorter}
 use Rattle.rule_tokens.proofs.Lines.{given, only}
 
 -- room for more items than can come changes nothing
@@ -16,11 +16,11 @@ within_enough : (n m at : ℕ) (text : List ℕ) → length text < n → length 
 within_enough n m at text h k = let g = given n at text h in g.3 ∙ sym (only m at text g.0 g.1 g.2 k)
 
 pub token_left : (text : List ℕ) (x : Parts × List ℕ) → token_at text ≡ Ok x → length x.1 < length text
-token_left text x e = stands_shorter text x.0 x.1 (token_stands text x e)
+token_left text x e = rest_is_shorter text x.0 x.1 (token_in_place text x e)
 
 -- the value of a token that is read is a whole one
 pub read_whole : (text : List ℕ) (x : Parts × List ℕ) → token_at text ≡ Ok x → IsWholeValue x.0.quote x.0.value
-read_whole text x e = let s = token_stands text x e in whole_value x.0.quote s.pieces x.0.value s.value
+read_whole text x e = let s = token_in_place text x e in whole_value x.0.quote s.pieces x.0.value s.value
 
 pub left_done : (at : ℕ) (text : List ℕ) → items_left true at text ≡ []
 unfolding items_left

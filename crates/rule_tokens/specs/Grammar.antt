@@ -65,14 +65,14 @@ pub record Head : Type 0 where
   pub operator : Operator
 
 -- The text begins with this head, with blanks before and after its operator, and rest follows.
-pub record HeadStands (text : List ℕ) (h : Head) (rest : List ℕ) : Type 0 where
+pub record BeginsWithHead (text : List ℕ) (h : Head) (rest : List ℕ) : Type 0 where
   pub before : List ℕ
-  pub behind : List ℕ
-  pub spelled : text ≡ h.key ++ attribute_text h.attribute ++ before ++ operator_text h.operator ++ behind ++ rest
+  pub following : List ℕ
+  pub spelled : text ≡ h.key ++ attribute_text h.attribute ++ before ++ operator_text h.operator ++ following ++ rest
   pub some_key : 0 < length h.key
   pub key : AllAre is_key_byte h.key
   pub attribute : AllAre is_attribute_byte (attribute_bytes h.attribute)
-  pub blanks : AllAre is_blank before × AllAre is_blank behind
+  pub blanks : AllAre is_blank before × AllAre is_blank following
 
 -- Whether an operator compares; the others change their key.
 abbrev pub compares : Operator → Bool
@@ -107,11 +107,11 @@ pub record Parts : Type 0 where
   pub value : List ℕ
 
 -- The text begins with a token of these parts, and rest follows it.
-pub record TokenStands (text : List ℕ) (t : Parts) (rest : List ℕ) : Type 0 where
+pub record BeginsWithToken (text : List ℕ) (t : Parts) (rest : List ℕ) : Type 0 where
   pub quoted : List ℕ
   pub letters : List ℕ
   pub pieces : List Piece
-  pub head : HeadStands text t.head quoted
+  pub head : BeginsWithHead text t.head quoted
   pub spelled : quoted ≡ letters ++ double_quote ∷ t.value ++ double_quote ∷ rest
   pub letters_are : AllAre is_letter letters
   pub prefix : prefix_quote t.head.operator letters ≡ Some t.quote
@@ -124,14 +124,14 @@ pub record WrongPrefix (text : List ℕ) : Type 0 where
   pub quoted : List ℕ
   pub letters : List ℕ
   pub rest : List ℕ
-  pub stands : HeadStands text head quoted
+  pub is_present : BeginsWithHead text head quoted
   pub spelled : quoted ≡ letters ++ double_quote ∷ rest
   pub letters_are : AllAre is_letter letters
   pub prefix : prefix_quote head.operator letters ≡ None
 
 -- The text begins with no token.
 abbrev pub NoToken : List ℕ → Type 0
-NoToken text = (t : Parts) (rest : List ℕ) → ¬ (TokenStands text t rest)
+NoToken text = (t : Parts) (rest : List ℕ) → ¬ (BeginsWithToken text t rest)
 
 -- Why the text begins with no token: its prefix is wrong, or else its syntax.
 abbrev pub IsFault : List ℕ → TokenFaultKind → Type 0
@@ -145,7 +145,7 @@ pub record Placed : Type 0 where
 
 -- The text, which is at a place of a line, begins with this token, and rest follows it.
 pub record TokenAt (at : ℕ) (text : List ℕ) (t : Placed) (rest : List ℕ) : Type 0 where
-  pub stands : TokenStands text t.parts rest
+  pub is_present : BeginsWithToken text t.parts rest
   pub start : t.span.start ≡ at
   pub end : t.span.end + length rest ≡ at + length text
 

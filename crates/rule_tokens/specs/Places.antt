@@ -2,22 +2,22 @@
 use Rattle.std.specs.Prelude.{◌≡◌, ℕ, ◌+◌, ◌-◌, ◌<◌, ◌≤◌, List, [], ◌∷◌, ◌++◌, length, take, drop, Option, Ok, Err, All, ⊤}
 use Rattle.text_bytes.specs.Names.{double_quote}
 use Rattle.rule_tokens.specs.declared.kinds.TokenFault.{TokenFault}
-use Rattle.rule_tokens.specs.Grammar.{Placed, Item, TokenStands, Lexes, answers, attribute_text}
+use Rattle.rule_tokens.specs.Grammar.{Placed, Item, BeginsWithToken, Lexes, answers, attribute_text}
 
 -- The part is the slice of the line that begins at the place.
-abbrev pub StandsAt : List ℕ → ℕ → List ℕ → Type 0
-StandsAt line place part = take (length part) (drop place line) ≡ part
+abbrev pub IsSliceAt : List ℕ → ℕ → List ℕ → Type 0
+IsSliceAt line place part = take (length part) (drop place line) ≡ part
 
 -- The token is a slice of the line: its bytes from start to end are this token and nothing more, it begins with its
 -- key and its attribute, and ends with its value between quotes.
 pub record IsSlice (line : List ℕ) (t : Placed) : Type 0 where
   pub some : t.span.start < t.span.end
   pub within : t.span.end ≤ length line
-  pub whole : TokenStands (take (t.span.end - t.span.start) (drop t.span.start line)) t.parts []
-  pub key : StandsAt line t.span.start t.parts.head.key
-  pub attribute : StandsAt line (t.span.start + length t.parts.head.key) (attribute_text t.parts.head.attribute)
+  pub whole : BeginsWithToken (take (t.span.end - t.span.start) (drop t.span.start line)) t.parts []
+  pub key : IsSliceAt line t.span.start t.parts.head.key
+  pub attribute : IsSliceAt line (t.span.start + length t.parts.head.key) (attribute_text t.parts.head.attribute)
   pub opens : ℕ
-  pub value : StandsAt line opens (double_quote ∷ t.parts.value ++ double_quote ∷ [])
+  pub value : IsSliceAt line opens (double_quote ∷ t.parts.value ++ double_quote ∷ [])
   pub closes : opens + length (double_quote ∷ t.parts.value ++ double_quote ∷ []) ≡ t.span.end
 
 -- A token is a slice of the line, and a fault's place is in the line or at its end.

@@ -78,27 +78,27 @@ quote_at o text = do
   quoted_by (prefix_quote o letters.0) letters.1
 
 -- The piece that a backslash begins in an e value, as its first byte determines it; it need not be an allowed one.
-unfoldable pub escape_front : List ℕ → Piece
-escape_front [] = byte backslash
-escape_front (c ∷ rest) =
+unfoldable pub escape_first : List ℕ → Piece
+escape_first [] = byte backslash
+escape_first (c ∷ rest) =
     if c == letter_x then hex (take 2 rest)
     else (if c == letter_u then short (take 4 rest)
     else (if c == capital_u then long (take 8 rest)
     else (if nat_lt (digit_value c) 8 then octal (take 3 (c ∷ rest)) else letter c)))
 
 -- The piece that a backslash begins in a plain value.
-abbrev pub plain_front : List ℕ → Piece
-plain_front [] = byte backslash
-plain_front (c ∷ rest) = if c == double_quote then letter c else byte backslash
+abbrev pub plain_first : List ℕ → Piece
+plain_first [] = byte backslash
+plain_first (c ∷ rest) = if c == double_quote then letter c else byte backslash
 
 -- The same for a value of either kind.
-abbrev pub either_front : Bool → List ℕ → Piece
-either_front true rest = escape_front rest
-either_front false rest = plain_front rest
+abbrev pub either_first : Bool → List ℕ → Piece
+either_first true rest = escape_first rest
+either_first false rest = plain_first rest
 
 -- The piece that a byte begins.
-abbrev pub front : Bool → ℕ → List ℕ → Piece
-front escaped b rest = if b == backslash then either_front escaped rest else byte b
+abbrev pub first_piece : Bool → ℕ → List ℕ → Piece
+first_piece escaped b rest = if b == backslash then either_first escaped rest else byte b
 
 -- The piece, if it is an allowed one.
 abbrev pub if_piece : Bool → Piece → Option Piece
@@ -107,7 +107,7 @@ if_piece escaped p = if is_piece escaped p then Some p else None
 -- The piece at the front of a text, if one is there.
 unfoldable pub piece_at : Bool → List ℕ → Option Piece
 piece_at escaped [] = None
-piece_at escaped (b ∷ rest) = if_piece escaped (front escaped b rest)
+piece_at escaped (b ∷ rest) = if_piece escaped (first_piece escaped b rest)
 
 -- A piece and those after it, if more gives those after so many bytes.
 abbrev pub pieces_from : (ℕ → List Piece) → Option Piece → List Piece

@@ -67,6 +67,7 @@ fn character_of(text: &[u8], count: usize) -> Option<(Meaning, &[u8])>
     Some((Meaning::Character(c), &text[count..]))
 }
 
+/// Whether a byte is an octal digit.
 fn is_octal(c: u8) -> bool
     ensures { result ≡ nat_lt (digit_value c) 8 }
 {

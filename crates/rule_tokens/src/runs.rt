@@ -9,18 +9,21 @@ ghost use Rattle.rule_tokens.specs.Reading.{Gives, closed_at};
 use crate::kinds::TokenFaultKind;
 use text_bytes::is_blank;
 
+/// Whether a byte may be in a key: a letter, a digit or `_`.
 fn is_key_byte(b: u8) -> bool
     ensures { result ≡ is_key_byte b }
 {
     b.is_ascii_alphanumeric() || b == b'_'
 }
 
+/// Whether a byte may be in the gap between tokens: a blank or a comma.
 fn is_gap_byte(b: u8) -> bool
     ensures { result ≡ is_gap_byte b }
 {
     is_blank(b) || b == b','
 }
 
+/// Whether a byte may be in an attribute: any but `}` and NUL.
 fn is_attribute_byte(b: u8) -> bool
     ensures { result ≡ is_attribute_byte b }
 {
@@ -35,6 +38,7 @@ pub(crate) fn key_length(text: &[u8]) -> usize
     text.iter().take_while(|b| is_key_byte(**b)).count()
 }
 
+/// How many blanks and commas are at the front.
 fn gap_length(text: &[u8]) -> usize
     ensures within { result ≤ length text.now }
     ensures value { result ≡ prefix_len is_gap_byte text.now }

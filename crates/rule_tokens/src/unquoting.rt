@@ -11,6 +11,7 @@ use crate::prefixes::has_escapes;
 use crate::values::piece_of;
 use std::alloc::{AllocError, Global};
 
+/// Adds the bytes of a meaning: a byte, or a character in UTF-8.
 fn push_meaning(out: &mut Vec<u8>, meaning: Meaning) -> Result<(), AllocError>
     ensures { OnOk result (out.new.items ≡ out.old.items ++ meant meaning) }
 {
@@ -40,7 +41,7 @@ fn meaning_of(alloc: Global, escaped: bool, text: &[u8]) -> Result<Vec<u8>, Allo
 /// The bytes that the value of a token means: in a plain value `\"` stands for `"`, in an `e` value
 /// each escape for its byte or for its character in UTF-8.
 ///
-/// Fails only if memory runs out. The escapes are those of udev(7).
+/// The escapes are those of udev(7).
 #[tactic(auto, using(crate::proofs::Meanings::means_unquoted, crate::proofs::Meanings::means_only))]
 pub fn unquote(alloc: Global, token: &Token<'_>) -> Result<Vec<u8>, AllocError>
     // The value means these bytes.

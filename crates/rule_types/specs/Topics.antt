@@ -48,13 +48,13 @@ abbrev pub is_mask : List ℕ → Bool
 is_mask text = nat_le 1 (length text) && (nat_le (length text) 5 && nat_eq (prefix_len is_octal text) (length text))
 
 -- the number that octal digits write after those of n
-abbrev pub octal_behind : ℕ → List ℕ → ℕ
-octal_behind n [] = n
-octal_behind n (b ∷ digits) = octal_behind (8 * n + (b - digit_zero)) digits
+abbrev pub octal_after : ℕ → List ℕ → ℕ
+octal_after n [] = n
+octal_after n (b ∷ digits) = octal_after (8 * n + (b - digit_zero)) digits
 
 -- the number that octal digits write, the most significant first
 abbrev pub octal : List ℕ → ℕ
-octal digits = octal_behind 0 digits
+octal digits = octal_after 0 digits
 
 -- whether digits are one octal digit or more, and write at most 7777
 abbrev pub is_mode : List ℕ → Bool

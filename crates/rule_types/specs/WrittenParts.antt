@@ -8,8 +8,8 @@ use Rattle.rule_types.specs.declared.types.ImportType.{ImportType}
 use Rattle.rule_types.specs.declared.types.ImportType.TheVariants as import_of
 use Rattle.rule_types.specs.declared.part.Part.{Part}
 use Rattle.rule_types.specs.declared.part.Part.TheVariants as part
-use Rattle.rule_types.specs.declared.part.Deed.{Deed}
-use Rattle.rule_types.specs.declared.part.Deed.TheVariants as deed
+use Rattle.rule_types.specs.declared.part.ActKind.{ActKind}
+use Rattle.rule_types.specs.declared.part.ActKind.TheVariants as act_kind
 use Rattle.rule_types.specs.declared.part.Import.{Import}
 use Rattle.rule_types.specs.declared.part.Import.TheVariants as import
 use Rattle.rule_types.specs.declared.part.Change.{Change}
@@ -25,16 +25,16 @@ type_of (import.Cmdline name) = import_of.Cmdline
 type_of (import.Db name) = import_of.Db
 
 -- the key of what an act does
-abbrev pub key_of_deed : Deed → Key
-key_of_deed (deed.Test mask t) = key.Test
-key_of_deed (deed.Program t) = key.Program
-key_of_deed (deed.Import i) = key.Import
+abbrev pub key_of_act_kind : ActKind → Key
+key_of_act_kind (act_kind.Test mask t) = key.Test
+key_of_act_kind (act_kind.Program t) = key.Program
+key_of_act_kind (act_kind.Import i) = key.Import
 
 -- its attribute
-abbrev pub attribute_of_deed : Deed → Option (List ℕ)
-attribute_of_deed (deed.Test mask t) = mask
-attribute_of_deed (deed.Program t) = None
-attribute_of_deed (deed.Import i) = Some (import_name (type_of i))
+abbrev pub attribute_of_act_kind : ActKind → Option (List ℕ)
+attribute_of_act_kind (act_kind.Test mask t) = mask
+attribute_of_act_kind (act_kind.Program t) = None
+attribute_of_act_kind (act_kind.Import i) = Some (import_name (type_of i))
 
 -- the key of what an assignment changes
 abbrev pub key_of_change : Change → Key
@@ -52,7 +52,7 @@ attribute_of_change (change.Run type text) = option_map run_name type
 abbrev pub key_of_part : Part → Key
 key_of_part (part.Plain m) = key_of_plain m.key
 key_of_part (part.Up m) = key_of_up m.key
-key_of_part (part.Act a) = key_of_deed a.deed
+key_of_part (part.Act a) = key_of_act_kind a.kind
 key_of_part (part.Result c) = key.Result
 key_of_part (part.Set a) = key_of_change a.change
 key_of_part (part.Label name) = key.Label
@@ -62,6 +62,6 @@ key_of_part (part.Goto name) = key.Goto
 abbrev pub attribute_of_part : Part → Option (List ℕ)
 attribute_of_part (part.Plain m) = attribute_of_plain m.key
 attribute_of_part (part.Up m) = attribute_of_up m.key
-attribute_of_part (part.Act a) = attribute_of_deed a.deed
+attribute_of_part (part.Act a) = attribute_of_act_kind a.kind
 attribute_of_part (part.Set a) = attribute_of_change a.change
 attribute_of_part _ = None

@@ -63,12 +63,12 @@ pub struct Act {
     /// `==` if the rule goes on when it succeeds, `!=` if the rule goes on when it fails.
     pub operator: MatchOperator,
     /// What is done.
-    pub deed: Deed,
+    pub kind: ActKind,
 }
 
 /// What an act does.
 #[derive(Debug, Drop)]
-pub enum Deed {
+pub enum ActKind {
     /// TEST asks whether the event device has a file, with a mask of file modes if there is one.
     Test(Option<Bytes>, Template),
     /// PROGRAM asks for the output of a command.

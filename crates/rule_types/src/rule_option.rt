@@ -15,7 +15,9 @@ pub enum RuleOption {
     NoWatch,
     /// `db_persist`: what is known about the device stays when udev's database is cleared.
     DbPersist,
-    /// `static_node=TEXT` or `log_level=TEXT`, which change nothing here, or an option that udev does
-    /// not know.
+    /// For udev only: `log_level=LEVEL`, which changes nothing here, though a rule with it is evaluated.
+    LogLevel,
+    /// `static_node=TEXT`, which changes nothing here; by the manual also `log_level=TEXT`, and for udev
+    /// an option that it does not know.
     Ignored,
 }

@@ -1,9 +1,9 @@
 //! The key and the attribute with which an act or an assignment is written: the notes of an event name it by these.
 ghost use Rattle.std.specs.Prelude.{◌≡◌, option_map};
-ghost use Rattle.rule_types.specs.WrittenParts.{attribute_of_change, attribute_of_deed, key_of_change, key_of_deed, type_of};
+ghost use Rattle.rule_types.specs.WrittenParts.{attribute_of_act_kind, attribute_of_change, key_of_act_kind, key_of_change, type_of};
 
 use crate::keys::Key;
-use crate::part::{Change, Deed, Import};
+use crate::part::{ActKind, Change, Import};
 use crate::types::ImportType;
 
 impl Import {
@@ -22,26 +22,26 @@ impl Import {
     }
 }
 
-impl Deed {
+impl ActKind {
     /// Its key.
     pub fn key(&self) -> Key
-        ensures { result ≡ key_of_deed self.now }
+        ensures { result ≡ key_of_act_kind self.now }
     {
         match self {
-            Deed::Test(_, _) => Key::Test,
-            Deed::Program(_) => Key::Program,
-            Deed::Import(_) => Key::Import,
+            ActKind::Test(_, _) => Key::Test,
+            ActKind::Program(_) => Key::Program,
+            ActKind::Import(_) => Key::Import,
         }
     }
 
     /// What is in its braces, if it has them.
     pub fn attribute(&self) -> Option<&[u8]>
-        ensures { option_map (λ text. text.now) result ≡ attribute_of_deed self.now }
+        ensures { option_map (λ text. text.now) result ≡ attribute_of_act_kind self.now }
     {
         match self {
-            Deed::Test(mask, _) => mask.as_ref().map(|mask| mask.as_slice()),
-            Deed::Program(_) => None,
-            Deed::Import(import) => Some(import.import_type().name()),
+            ActKind::Test(mask, _) => mask.as_ref().map(|mask| mask.as_slice()),
+            ActKind::Program(_) => None,
+            ActKind::Import(import) => Some(import.import_type().name()),
         }
     }
 }

@@ -6,7 +6,7 @@ use Rattle.std.proofs.lemmas.List.Elements.{All-nil, All-cons}
 use Rattle.text_bytes.specs.Names.{backslash}
 use Rattle.text_bytes.specs.Escapes.{is_control, is_escaped, hex_digit, digit_value, escape_byte, escape_text, unescaped}
 
--- a byte that is no control byte
+-- a byte that is not a control byte
 abbrev pub IsShown : ℕ → Type 0
 IsShown b = is_control b ≡ false
 
@@ -42,7 +42,7 @@ digits_agree n h = agree_below_at (λ n. eqb (digit_value (hex_digit n)) n) (λ 
 digit_value-hex_digit : (n : ℕ) → n < 16 → digit_value (hex_digit n) ≡ n
 digit_value-hex_digit n h = eqb-true (digit_value (hex_digit n)) n (digits_agree n h)
 
--- a byte that is no backslash stands for itself
+-- a byte that is not a backslash stands for itself
 unescaped-plain : (b : ℕ) (rest : List ℕ) → eqb b backslash ≡ false → unescaped (b ∷ rest) ≡ b ∷ unescaped rest
 unescaped-plain b [] e = refl
 unescaped-plain b (c ∷ []) e = refl

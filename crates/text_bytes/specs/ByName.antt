@@ -4,8 +4,8 @@ use Rattle.std.specs.List.{AllByRecursion}
 use Rattle.text_bytes.specs.declared.source_file.SourceFile.{SourceFile}
 
 -- each file is under its own name, by the text of a key
-abbrev pub StandUnderTheirNames : {K : Type 0} → (K → List ℕ) → List (K × SourceFile) → Type 0
-StandUnderTheirNames text files = AllByRecursion (λ entry. text entry.0 ≡ entry.1.name) files
+abbrev pub AreUnderTheirNames : {K : Type 0} → (K → List ℕ) → List (K × SourceFile) → Type 0
+AreUnderTheirNames text files = AllByRecursion (λ entry. text entry.0 ≡ entry.1.name) files
 
 -- whether a file, if there is one, has no greater rank than another
 abbrev pub hides : Option SourceFile → SourceFile → Bool

@@ -13,13 +13,13 @@ abbrev pub is_decimal : List ℕ → Bool
 is_decimal text = not (is_empty text) && list_all is_digit text
 
 -- the number that digits write after those of n
-abbrev pub decimal_behind : ℕ → List ℕ → ℕ
-decimal_behind n [] = n
-decimal_behind n (b ∷ text) = decimal_behind (10 * n + (b - digit_zero)) text
+abbrev pub decimal_after : ℕ → List ℕ → ℕ
+decimal_after n [] = n
+decimal_after n (b ∷ text) = decimal_after (10 * n + (b - digit_zero)) text
 
 -- the number that digits write, the most significant first
 abbrev pub decimal : List ℕ → ℕ
-decimal text = decimal_behind 0 text
+decimal text = decimal_after 0 text
 
 -- the number that a text of one digit or more writes, if it is below a bound
 unfoldable pub decimal_below : ℕ → List ℕ → Option ℕ

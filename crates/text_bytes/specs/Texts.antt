@@ -1,12 +1,24 @@
 -- Words for texts that several readers use.
-use Rattle.std.specs.Prelude.{ℕ, Bool, true, false, ◌==◌, List, [], ◌∷◌, length, take, drop, slice_index, position, Option, option_map, ◌+◌}
-use Rattle.std.specs.List.{prefix_len}
-use Rattle.text_bytes.specs.Names.{is_blank}
+use Rattle.std.specs.Prelude.{ℕ, Bool, true, false, ◌==◌, List, [], ◌∷◌, length, take, drop, slice_index, position, Option, Some, None, option_map, ◌+◌, ◌-◌, nat_eq, if◌then◌else◌}
+use Rattle.std.specs.Cmp.Lexicographic.{pointwise}
+use Rattle.std.specs.List.{prefix_len, suffix_len}
+use Rattle.text_bytes.specs.Names.{is_blank, is_whitespace}
 
 -- whether a list has nothing in it
 abbrev pub is_empty : {X : Type 0} → List X → Bool
 is_empty [] = true
 is_empty (x ∷ xs) = false
+
+-- the first of a list, if there is one
+abbrev pub first : {X : Type 0} → List X → Option X
+first [] = None
+first (x ∷ xs) = Some x
+
+-- the last of a list, if there is one
+abbrev pub last : {X : Type 0} → List X → Option X
+last [] = None
+last (x ∷ []) = Some x
+last (x ∷ y ∷ ys) = last (y ∷ ys)
 
 -- whether a text begins with this byte
 abbrev pub begins_with : ℕ → List ℕ → Bool
@@ -22,9 +34,17 @@ ends_in byte (b ∷ text) = slice_index (b ∷ text) (length text) == byte
 abbrev pub skip_while : {X : Type 0} → (X → Bool) → List X → List X
 skip_while test xs = drop (prefix_len test xs) xs
 
+-- what follows the front of a text, if it begins with that
+abbrev pub following : List ℕ → List ℕ → Option (List ℕ)
+following prefix text = if pointwise nat_eq (take (length prefix) text) prefix then Some (drop (length prefix) text) else None
+
 -- a text without the spaces and tabs at its start
 abbrev pub unindented : List ℕ → List ℕ
 unindented text = skip_while is_blank text
+
+-- a text without the whitespace at its end
+abbrev pub trimmed : List ℕ → List ℕ
+trimmed text = take (length text - suffix_len is_whitespace text) text
 
 -- what comes before the first such byte of a text, and what comes after it
 unfoldable pub split_once : ℕ → List ℕ → Option (List ℕ × List ℕ)

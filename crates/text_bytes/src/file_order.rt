@@ -4,7 +4,7 @@
 //! Files are put one by one into a map by their names, which keeps them sorted.
 ghost use Rattle.std.specs.Prelude.{◌≡◌, IfOk, OnOk};
 ghost use Rattle.std.specs.BTreeMap.{get_by, values};
-ghost use Rattle.text_bytes.specs.ByName.{hides, StandUnderTheirNames};
+ghost use Rattle.text_bytes.specs.ByName.{AreUnderTheirNames, hides};
 ghost use Rattle.text_bytes.specs.FileOrder.{ordered, put};
 ghost use Rattle.text_bytes.specs.Insertion.{text_order};
 ghost use Rattle.text_bytes.specs.OrderLaws.{NamesRise};
@@ -40,10 +40,10 @@ fn put(
     kept: &mut BTreeMap<Vec<u8>, SourceFile>,
     file: SourceFile,
 ) -> Result<(), AllocError>
-    requires names { StandUnderTheirNames (λ name. name.items) kept.old.entries }
+    requires names { AreUnderTheirNames (λ name. name.items) kept.old.entries }
     requires rise { NamesRise (values kept.old) }
     ensures files { OnOk result (values kept.new ≡ put (values kept.old) file) }
-    ensures names { OnOk result (StandUnderTheirNames (λ name. name.items) kept.new.entries) }
+    ensures names { OnOk result (AreUnderTheirNames (λ name. name.items) kept.new.entries) }
 {
     if !is_hidden(kept, &file) {
         let name = Vec::from_slice(alloc, file.name.as_slice())?;

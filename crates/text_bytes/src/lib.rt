@@ -26,4 +26,6 @@ pub use numbers::{decimal_below, is_digit};
 pub use profile::Profile;
 pub use search::find;
 pub use source_file::{FileKind, SourceFile};
-pub use texts::{begins_with, ends_in, is_blank, is_whitespace, split_once, unindented};
+pub use texts::{
+    begins_with, ends_in, following, is_blank, is_whitespace, split_once, trimmed, unindented,
+};

@@ -76,7 +76,7 @@ pub enum MessageKind {
     /// V25: no user or group has a name.
     UnknownAccount,
     /// V26: a file is given up because of a line of 16,384 bytes or more.
-    FileGivenUp,
+    FileAbandoned,
     /// S1: not exactly one comma is between two tokens, or one follows the last.
     CommaExpected,
     /// S2: a comma comes directly before a token.
@@ -113,7 +113,7 @@ impl Message {
         kind: MessageKind,
         text: &[u8],
     ) -> Result<Message, AllocError>
-        ensures { IfOk result (λ told. told ≡ message file.now number kind text.now) }
+        ensures { IfOk result (λ reported. reported ≡ message file.now number kind text.now) }
     {
         Ok(Message {
             file: Bytes::copy_of(alloc, file)?,

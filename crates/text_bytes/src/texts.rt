@@ -1,8 +1,8 @@
 //! What a text begins with and ends with, and its blanks.
 ghost use Rattle.std.specs.Prelude.{◌≡◌, ◌≤◌, ◌<◌, ◌+◌, length, option_map, IfSome};
-ghost use Rattle.std.specs.List.{prefix_len};
+ghost use Rattle.std.specs.List.{prefix_len, suffix_len};
 ghost use Rattle.text_bytes.specs.Names.{is_blank, is_whitespace};
-ghost use Rattle.text_bytes.specs.Texts.{begins_with, ends_in, split_once, unindented};
+ghost use Rattle.text_bytes.specs.Texts.{begins_with, ends_in, following, split_once, trimmed, unindented};
 
 use crate::search::find;
 
@@ -18,6 +18,14 @@ pub fn is_whitespace(byte: u8) -> bool
     ensures { result ≡ is_whitespace byte }
 {
     byte == b' ' || (b'\t' <= byte && byte <= b'\r')
+}
+
+/// What follows the front of a text, if it begins with that.
+pub fn following<'a>(prefix: &[u8], text: &'a [u8]) -> Option<&'a [u8]>
+    ensures value { option_map (λ t. t.now) result ≡ following prefix.now text.now }
+    ensures within { IfSome result (λ t. length t.now ≤ length text.now) }
+{
+    text.strip_prefix(prefix)
 }
 
 /// Whether a text begins with a byte.
@@ -44,8 +52,8 @@ pub fn ends_in(byte: u8, text: &[u8]) -> bool
 pub fn unindented(text: &[u8]) -> &[u8]
     ensures { result.now ≡ unindented text.now }
 {
-    let (_, behind) = text.split_at(leading_blanks(text));
-    behind
+    let (_, following) = text.split_at(leading_blanks(text));
+    following
 }
 
 /// How many spaces and tabs a text begins with.
@@ -54,6 +62,24 @@ fn leading_blanks(text: &[u8]) -> usize
     ensures within { result ≤ length text.now }
 {
     text.iter().take_while(|byte| is_blank(**byte)).count()
+}
+
+/// A text without the whitespace at its end.
+pub fn trimmed(text: &[u8]) -> &[u8]
+    ensures { result.now ≡ trimmed text.now }
+{
+    text.split_at(text.len() - trailing_whitespace(text)).0
+}
+
+/// How many bytes of whitespace a text ends in.
+fn trailing_whitespace(text: &[u8]) -> usize
+    ensures value { result ≡ suffix_len is_whitespace text.now }
+    ensures within { result ≤ length text.now }
+{
+    text.iter()
+        .rev()
+        .take_while(|byte| is_whitespace(**byte))
+        .count()
 }
 
 /// What comes before the first such byte of a text, and what comes after it.

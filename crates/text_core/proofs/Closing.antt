@@ -21,7 +21,7 @@ with_elements-push : (xs : List Element) (x : Element) (r : Option Closed) → w
 with_elements-push xs x None = refl
 with_elements-push xs x (Some closed) = ap (λ (es : List Element). let c : Closed = record { elements = es; left = closed.left } in Some c) (append_assoc xs (x ∷ []) closed.elements)
 
--- bytes passed over are dropped
+-- bytes that are skipped are dropped
 elements-drop : (reading : Reading) (first : Bool) (t : List ℕ) (n : ℕ) → elements_at reading first t n ≡ elements_at reading first (drop n t) zero
 elements-drop reading first t zero = refl
 elements-drop reading first [] (suc n) = refl
@@ -48,13 +48,13 @@ module _ (reading : Reading) (first : Bool) (xs : List Element) (b : ℕ) (t res
       ap (with_elements xs) (by_test false test ∙ ap (λ (o : Option Found). with_found o (λ n. elements_at reading false t n)) read)
 
   -- one element more has been read
-  pub elements_more : (found : Found) (more : List ℕ) → (closes b && not first) ≡ false → element_of reading b t ≡ Some found → more ≡ drop found.behind t
+  pub elements_more : (found : Found) (more : List ℕ) → (closes b && not first) ≡ false → element_of reading b t ≡ Some found → more ≡ drop found.following t
       → with_elements (xs ++ found.element ∷ []) (elements_at reading false more 0) ≡ with_elements xs (elements_at reading first rest 0)
   elements_more found more test read back =
       with_elements-push xs found.element (elements_at reading false more 0)
       ∙ ap (with_elements xs) (
       ap (λ (m : List ℕ). with_element found.element (elements_at reading false m 0)) back
-      ∙ ap (with_element found.element) (sym (elements-drop reading false t found.behind))
+      ∙ ap (with_element found.element) (sym (elements-drop reading false t found.following))
       ∙ sym (by_test false test ∙ ap (λ (o : Option Found). with_found o (λ n. elements_at reading false t n)) read))
 
 -- nothing is left, and nothing closed them
@@ -70,10 +70,10 @@ is_some-with_element x (Some closed) = refl
 abbrev pub are_closed : Reading → List ℕ → Bool
 are_closed reading t = is_some (elements_at reading false t 0)
 
--- elements are closed where those after the first of them are
-pub closed_behind : (reading : Reading) (b : ℕ) (t : List ℕ) (found : Found) → element_of reading b t ≡ Some found
-    → are_closed reading (drop found.behind t) ≡ is_some (with_found (element_of reading b t) (λ n. elements_at reading false t n))
-closed_behind reading b t found read =
-    ap is_some (sym (elements-drop reading false t found.behind))
-    ∙ sym (is_some-with_element found.element (elements_at reading false t found.behind))
+-- elements are closed exactly if those after the first of them are
+pub closed_after : (reading : Reading) (b : ℕ) (t : List ℕ) (found : Found) → element_of reading b t ≡ Some found
+    → are_closed reading (drop found.following t) ≡ is_some (with_found (element_of reading b t) (λ n. elements_at reading false t n))
+closed_after reading b t found read =
+    ap is_some (sym (elements-drop reading false t found.following))
+    ∙ sym (is_some-with_element found.element (elements_at reading false t found.following))
     ∙ ap (λ (o : Option Found). is_some (with_found o (λ n. elements_at reading false t n))) (sym read)

@@ -63,24 +63,24 @@ with_fault e (Ok more) = refl
 with_fault e (Err d) = refl
 
 -- one part more has been read
-pub choice_more : (reading : Reading) (parts : List (List Item)) (x : List Item) (at next k : ℕ) (rest front behind : List ℕ)
-    → position is_bar rest ≡ Some k → front ≡ take k rest → behind ≡ drop (k + 1) rest → items_at reading front 0 at ≡ Ok x → at + length front + 1 ≡ next
-    → with_parts (parts ++ x ∷ []) (parts_at reading (slice_split is_bar behind) next) ≡ with_parts parts (parts_at reading (slice_split is_bar rest) at)
-choice_more reading parts x at next k rest front behind found f b read place =
-    with_parts-push parts x (parts_at reading (slice_split is_bar behind) next)
+pub choice_more : (reading : Reading) (parts : List (List Item)) (x : List Item) (at next k : ℕ) (rest prefix following : List ℕ)
+    → position is_bar rest ≡ Some k → prefix ≡ take k rest → following ≡ drop (k + 1) rest → items_at reading prefix 0 at ≡ Ok x → at + length prefix + 1 ≡ next
+    → with_parts (parts ++ x ∷ []) (parts_at reading (slice_split is_bar following) next) ≡ with_parts parts (parts_at reading (slice_split is_bar rest) at)
+choice_more reading parts x at next k rest prefix following found f b read place =
+    with_parts-push parts x (parts_at reading (slice_split is_bar following) next)
     ∙ ap (with_parts parts) (
-    ap (λ (n : ℕ). with_part (Ok x) (parts_at reading (slice_split is_bar behind) n)) (sym place)
-    ∙ ap (λ r. with_part r (parts_at reading (slice_split is_bar behind) (at + length front + 1))) (sym read)
-    ∙ ap (λ (ps : List (List ℕ)). parts_at reading ps at) (ap (λ (t : List ℕ). t ∷ slice_split is_bar behind) f ∙ ap (λ (t : List ℕ). take k rest ∷ slice_split is_bar t) b ∙ sym (split_some is_bar rest k found)))
+    ap (λ (n : ℕ). with_part (Ok x) (parts_at reading (slice_split is_bar following) n)) (sym place)
+    ∙ ap (λ r. with_part r (parts_at reading (slice_split is_bar following) (at + length prefix + 1))) (sym read)
+    ∙ ap (λ (ps : List (List ℕ)). parts_at reading ps at) (ap (λ (t : List ℕ). t ∷ slice_split is_bar following) f ∙ ap (λ (t : List ℕ). take k rest ∷ slice_split is_bar t) b ∙ sym (split_some is_bar rest k found)))
 
 -- a part has a fault
-pub choice_fault : (reading : Reading) (parts : List (List Item)) (e : GlobFault) (at k : ℕ) (rest front : List ℕ)
-    → position is_bar rest ≡ Some k → front ≡ take k rest → items_at reading front 0 at ≡ Err e → with_parts parts (parts_at reading (slice_split is_bar rest) at) ≡ Err e
-choice_fault reading parts e at k rest front found f read =
+pub choice_fault : (reading : Reading) (parts : List (List Item)) (e : GlobFault) (at k : ℕ) (rest prefix : List ℕ)
+    → position is_bar rest ≡ Some k → prefix ≡ take k rest → items_at reading prefix 0 at ≡ Err e → with_parts parts (parts_at reading (slice_split is_bar rest) at) ≡ Err e
+choice_fault reading parts e at k rest prefix found f read =
     ap (with_parts parts) (
     ap (λ (ps : List (List ℕ)). parts_at reading ps at) (split_some is_bar rest k found ∙ ap (λ (t : List ℕ). t ∷ slice_split is_bar (drop (k + 1) rest)) (sym f))
-    ∙ ap (λ r. with_part r (parts_at reading (slice_split is_bar (drop (k + 1) rest)) (at + length front + 1))) read
-    ∙ with_fault e (parts_at reading (slice_split is_bar (drop (k + 1) rest)) (at + length front + 1)))
+    ∙ ap (λ r. with_part r (parts_at reading (slice_split is_bar (drop (k + 1) rest)) (at + length prefix + 1))) read
+    ∙ with_fault e (parts_at reading (slice_split is_bar (drop (k + 1) rest)) (at + length prefix + 1)))
 
 -- the last part
 pub choice_last : (reading : Reading) (parts : List (List Item)) (x : List Item) (at : ℕ) (rest : List ℕ) → position is_bar rest ≡ None → items_at reading rest 0 at ≡ Ok x

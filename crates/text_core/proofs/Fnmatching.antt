@@ -4,7 +4,7 @@ use Rattle.std.specs.List.{list_any, position, slice_split}
 use Rattle.std.proofs.lemmas.Bool.{lt-ltb, le-ltb}
 use Rattle.text_core.specs.Brackets.{Closed, elements_at}
 use Rattle.text_core.specs.Choices.{is_bar}
-use Rattle.text_core.specs.Fnmatch.{fnmatch_bracket, fnmatch_choice, fnmatch_front, fnmatch_items, fnmatch_part, is_special, set_or_bracket, with_head}
+use Rattle.text_core.specs.Fnmatch.{fnmatch_bracket, fnmatch_choice, fnmatch_first, fnmatch_items, fnmatch_part, is_special, set_or_bracket, with_head}
 use Rattle.text_core.specs.Elements.{takes_among}
 use Rattle.text_core.specs.Sets.{set_of}
 use Rattle.text_core.specs.Spell.{max_len, negated, sign_len}
@@ -27,7 +27,7 @@ bracket_by reading t unsigned closed back read =
 
 -- the head of a set
 abbrev pub set_head : ByteSet → ℕ → Head
-set_head set n = record { item = Among set; behind = n }
+set_head set n = record { item = Among set; following = n }
 
 pub bracket_set : (reading : Reading) (t unsigned : List ℕ) (closed : Closed) (set : ByteSet) (sign : Bool) (elements : List Element)
     → unsigned ≡ drop (sign_len t) t → Some closed ≡ elements_at reading true unsigned 0
@@ -40,7 +40,7 @@ bracket_set reading t unsigned closed set sign elements back read made is_sign s
     ∙ ap (λ (xs : List Element). set_of (takes_among reading (negated t) xs)) same)
     ∙ bracket_by reading t unsigned (Some closed) back read
 
--- bytes passed over are dropped
+-- bytes that are skipped are dropped
 items-drop : (reading : Reading) (t : List ℕ) (n : ℕ) → fnmatch_items reading t n ≡ fnmatch_items reading (drop n t) zero
 items-drop reading t zero = refl
 items-drop reading [] (suc n) = refl
@@ -48,13 +48,13 @@ items-drop reading (b ∷ t) (suc n) = items-drop reading t n
 
 -- one item more has been read
 pub items_more : (reading : Reading) (items : List Item) (head : Head) (b : ℕ) (t rest more : List ℕ)
-    → rest ≡ b ∷ t → head ≡ fnmatch_front reading b t → more ≡ drop head.behind t
+    → rest ≡ b ∷ t → head ≡ fnmatch_first reading b t → more ≡ drop head.following t
     → (items ++ head.item ∷ []) ++ fnmatch_items reading more 0 ≡ items ++ fnmatch_items reading rest 0
 items_more reading items head b t rest more e found back =
     append_assoc items (head.item ∷ []) (fnmatch_items reading more 0)
     ∙ ap (λ (r : List Item). items ++ r) (
     ap (λ (m : List ℕ). head.item ∷ fnmatch_items reading m 0) back
-    ∙ ap (λ (r : List Item). head.item ∷ r) (sym (items-drop reading t head.behind))
+    ∙ ap (λ (r : List Item). head.item ∷ r) (sym (items-drop reading t head.following))
     ∙ ap (λ (h : Head). with_head h (λ n. fnmatch_items reading t n)) found
     ∙ sym (ap (λ (r : List ℕ). fnmatch_items reading r 0) e))
 
@@ -65,12 +65,12 @@ items_all reading items (b ∷ t) h = absurd (omega arith)
 
 module _ (f : List ℕ → List Item) (parts : List (List Item)) (x : List Item) (rest : List ℕ) where
   -- one part more has been read
-  pub parts_more : (k : ℕ) (front behind : List ℕ) → position is_bar rest ≡ Some k → front ≡ take k rest → behind ≡ drop (k + 1) rest → x ≡ f front
-      → (parts ++ x ∷ []) ++ map f (slice_split is_bar behind) ≡ parts ++ map f (slice_split is_bar rest)
-  parts_more k front behind found cut back read =
-      append_assoc parts (x ∷ []) (map f (slice_split is_bar behind))
+  pub parts_more : (k : ℕ) (prefix following : List ℕ) → position is_bar rest ≡ Some k → prefix ≡ take k rest → following ≡ drop (k + 1) rest → x ≡ f prefix
+      → (parts ++ x ∷ []) ++ map f (slice_split is_bar following) ≡ parts ++ map f (slice_split is_bar rest)
+  parts_more k prefix following found cut back read =
+      append_assoc parts (x ∷ []) (map f (slice_split is_bar following))
       ∙ ap (λ (ps : List (List Item)). parts ++ ps) (
-      ap (λ (y : List Item). y ∷ map f (slice_split is_bar behind)) (read ∙ ap f cut)
+      ap (λ (y : List Item). y ∷ map f (slice_split is_bar following)) (read ∙ ap f cut)
       ∙ ap (λ (t : List ℕ). f (take k rest) ∷ map f (slice_split is_bar t)) back
       ∙ sym (ap (map f) (split_some is_bar rest k found)))
 

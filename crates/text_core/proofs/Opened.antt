@@ -17,17 +17,17 @@ module _ (reading : Reading) (at : ℕ) (t m : List ℕ) (body : m ≡ drop (sig
   unfolding bracket
   unrolled = ap (λ (b : List ℕ). set_or_byte reading (option_map (λ n. written at t (take n b) n) (members_len b))) (sym body)
 
-  pub bracket_open : members_len m ≡ None → bracket reading at t ≡ Ok (record { item = Byte open_bracket; behind = 0 })
+  pub bracket_open : members_len m ≡ None → bracket reading at t ≡ Ok (record { item = Byte open_bracket; following = 0 })
   bracket_open e = unrolled ∙ ap (λ (o : Option ℕ). set_or_byte reading (option_map (λ n. written at t (take n m) n) o)) e
 
-  module _ (n : ℕ) (members : List ℕ) (close : members_len m ≡ Some n) (front : members ≡ take n m) where
+  module _ (n : ℕ) (members : List ℕ) (close : members_len m ≡ Some n) (prefix : members ≡ take n m) where
     closed : bracket reading at t ≡ set_unless_class reading (written at t members n) (class_place members)
     closed =
         unrolled ∙ ap (λ (o : Option ℕ). set_or_byte reading (option_map (λ n. written at t (take n m) n) o)) close
-        ∙ ap (λ (ms : List ℕ). set_unless_class reading (written at t ms n) (class_place ms)) (sym front)
+        ∙ ap (λ (ms : List ℕ). set_unless_class reading (written at t ms n) (class_place ms)) (sym prefix)
 
     pub bracket_class : (k : ℕ) → class_place members ≡ Some k → bracket reading at t ≡ Err (Class (at + 1 + sign_len t + k))
     bracket_class k e = closed ∙ ap (set_unless_class reading (written at t members n)) e
 
-    pub bracket_set : class_place members ≡ None → bracket reading at t ≡ Ok (record { item = Among (set_of (set_takes reading (negated t) members)); behind = sign_len t + n + 1 })
+    pub bracket_set : class_place members ≡ None → bracket reading at t ≡ Ok (record { item = Among (set_of (set_takes reading (negated t) members)); following = sign_len t + n + 1 })
     bracket_set e = closed ∙ ap (set_unless_class reading (written at t members n)) e

@@ -44,7 +44,7 @@ symbol_len-next [] = refl
 symbol_len-next (b ∷ []) = refl
 symbol_len-next (b ∷ c ∷ t) = position-cons ends (b, c) (zip (c ∷ t) t)
 
--- a `.]` stands within its text
+-- a `.]` is within its text
 pub symbol_len-within : (t : List ℕ) (n : ℕ) → symbol_len t ≡ Some n → n + 2 ≤ length t
 unfolding symbol_len
 symbol_len-within [] n e = absurd (none-some n e)
@@ -68,7 +68,7 @@ symbol_len-empty (b ∷ t) h = absurd (omega arith)
 pub symbol_len-here : (t : List ℕ) → is_ended dot t ≡ true → Some 0 ≡ symbol_len t
 symbol_len-here t ended = sym (symbol_len-next t ∙ ap (λ (v : Bool). cond v (Some 0) (option_map (λ n. n + 1) (symbol_len (drop 1 t)))) ended)
 
-pub symbol_len-behind : (t after : List ℕ) (b : ℕ) (r : Option ℕ) → t ≡ b ∷ after → is_ended dot t ≡ false → r ≡ symbol_len after → option_map (λ n. n + 1) r ≡ symbol_len t
-symbol_len-behind t after b r e ended read =
+pub symbol_len-following : (t after : List ℕ) (b : ℕ) (r : Option ℕ) → t ≡ b ∷ after → is_ended dot t ≡ false → r ≡ symbol_len after → option_map (λ n. n + 1) r ≡ symbol_len t
+symbol_len-following t after b r e ended read =
     ap (option_map (λ n. n + 1)) (read ∙ sym (ap (λ (s : List ℕ). symbol_len (drop 1 s)) e))
     ∙ sym (symbol_len-next t ∙ ap (λ (v : Bool). cond v (Some 0) (option_map (λ n. n + 1) (symbol_len (drop 1 t)))) ended)

@@ -2,7 +2,7 @@
 use Rattle.std.proofs.Common.{◌≡◌, ℕ, zero, suc, ◌+◌, ◌≤◌, List, ◌∷◌, [], ◌++◌, length, drop, Result, Ok, Err, refl, sym, ◌∙◌, ap, arith, append_assoc, add-zero, append-nil, Bool, cond, ◌<◌}
 use Rattle.std.proofs.lemmas.Bool.{lt-ltb, le-ltb}
 use Rattle.text_core.specs.declared.glob_fault.GlobFault.TheVariants.{TooLong}
-use Rattle.text_core.specs.Spell.{max_len, spell_by, items_at, with_item, with_front, front}
+use Rattle.text_core.specs.Spell.{max_len, spell_by, items_at, with_item, with_first, first_item}
 use Rattle.text_core.specs.declared.reading.Reading.{Reading}
 use Rattle.text_core.specs.declared.item.Item.{Item}
 use Rattle.text_core.specs.declared.glob_fault.GlobFault.{GlobFault}
@@ -20,7 +20,7 @@ pub with_items-push : (items : List Item) (x : Item) (r : Result (List Item) Glo
 with_items-push items x (Ok more) = ap Ok (append_assoc items (x ∷ []) more)
 with_items-push items x (Err e) = refl
 
--- bytes passed over are dropped
+-- bytes that are skipped are dropped
 pub items_at-drop : (reading : Reading) (t : List ℕ) (n at : ℕ) → n ≤ length t → items_at reading t n at ≡ items_at reading (drop n t) zero (at + n)
 items_at-drop reading t zero at h = ap (λ (k : ℕ). items_at reading t zero k) (sym (add-zero at))
 items_at-drop reading [] (suc n) at h = absurd (omega arith)
@@ -31,7 +31,7 @@ items_at-drop reading (b ∷ t) (suc n) at h =
 
 -- one item more has been read
 pub read_more : (reading : Reading) (items : List Item) (x : Item) (n at next : ℕ) (b : ℕ) (t rest more : List ℕ)
-    → rest ≡ b ∷ t → front reading at b t ≡ Ok (record { item = x; behind = n }) → more ≡ drop n t → n ≤ length t → at + 1 + n ≡ next
+    → rest ≡ b ∷ t → first_item reading at b t ≡ Ok (record { item = x; following = n }) → more ≡ drop n t → n ≤ length t → at + 1 + n ≡ next
     → with_items (items ++ x ∷ []) (items_at reading more 0 next) ≡ with_items items (items_at reading rest 0 at)
 read_more reading items x n at next b t rest more e found back fits place =
     with_items-push items x (items_at reading more 0 next)
@@ -39,14 +39,14 @@ read_more reading items x n at next b t rest more e found back fits place =
     ap (λ (m : List ℕ). with_item x (items_at reading m 0 next)) back
     ∙ ap (λ (k : ℕ). with_item x (items_at reading (drop n t) 0 k)) (sym place)
     ∙ ap (with_item x) (sym (items_at-drop reading t n (at + 1) fits))
-    ∙ sym (ap (λ r. with_front r (λ k. items_at reading t k (at + 1))) found)
+    ∙ sym (ap (λ r. with_first r (λ k. items_at reading t k (at + 1))) found)
     ∙ ap (λ (r : List ℕ). items_at reading r 0 at) (sym e))
 
 -- a fault is found
 pub read_fault : (reading : Reading) (items : List Item) (f : GlobFault) (at : ℕ) (b : ℕ) (t rest : List ℕ)
-    → rest ≡ b ∷ t → front reading at b t ≡ Err f → with_items items (items_at reading rest 0 at) ≡ Err f
+    → rest ≡ b ∷ t → first_item reading at b t ≡ Err f → with_items items (items_at reading rest 0 at) ≡ Err f
 read_fault reading items f at b t rest e found =
-    ap (with_items items) (ap (λ (r : List ℕ). items_at reading r 0 at) e ∙ ap (λ r. with_front r (λ k. items_at reading t k (at + 1))) found)
+    ap (with_items items) (ap (λ (r : List ℕ). items_at reading r 0 at) e ∙ ap (λ r. with_first r (λ k. items_at reading t k (at + 1))) found)
 
 -- a text that is too long, and one that is not
 pub spell_by_long : (reading : Reading) (t : List ℕ) → max_len < length t → spell_by reading t ≡ Err TooLong

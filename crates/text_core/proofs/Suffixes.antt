@@ -51,9 +51,9 @@ fits_single_end (Among set) items s = refl
 later_in_all : (p : List ℕ → Bool) (t : List ℕ) → later p t ≡ true → some_suffix p t ≡ true
 later_in_all p t e = some_suffix-split p t ∙ or_right (p t) (later p t) e
 
-pub some_suffix_front : (p : List ℕ → Bool) (t : List ℕ) → p t ≡ true → some_suffix p t ≡ true
-some_suffix_front p [] e = e
-some_suffix_front p (b ∷ t) e = or_left (p (b ∷ t)) (some_suffix p t) e
+pub some_suffix_prefix : (p : List ℕ → Bool) (t : List ℕ) → p t ≡ true → some_suffix p t ≡ true
+some_suffix_prefix p [] e = e
+some_suffix_prefix p (b ∷ t) e = or_left (p (b ∷ t)) (some_suffix p t) e
 
 -- what fits later from one item on fits later from the next, one byte further
 pub later_step : (x : Item) (items : List Item) (b : ℕ) (t : List ℕ) → IsSingle x
@@ -61,7 +61,7 @@ pub later_step : (x : Item) (items : List Item) (b : ℕ) (t : List ℕ) → IsS
 later_step x items b [] s e = absurd (false≢true (sym (fits_single_end x items s) ∙ e))
 later_step x items b (c ∷ t) s e =
     elim (or_cases (fits (x ∷ items) (c ∷ t)) (some_suffix (fits (x ∷ items)) t) e) [
-      | inl h ↦ some_suffix_front (fits items) t (and_parts (takes x c) (fits items t) (sym (fits_single x items c t s) ∙ h)).1
+      | inl h ↦ some_suffix_prefix (fits items) t (and_parts (takes x c) (fits items t) (sym (fits_single x items c t s) ∙ h)).1
       | inr h ↦ later_in_all (fits items) t (later_step x items c t s h)
     ]
 
@@ -84,7 +84,7 @@ single_from One h = tt
 single_from Many h = h refl
 single_from (Among set) h = tt
 
--- the items have come to a Many
+-- the next item is a Many
 pub at_many : (p : List Item) (t : List ℕ) (items : List Item) (text : List ℕ) (x : Item) (after : List Item)
     → fits p t ≡ fits items text → (later (fits p) t ≡ true → later (fits items) text ≡ true)
     → items ≡ x ∷ after → x ≡ Many
@@ -106,7 +106,7 @@ after_single items text x after b more e f m taken =
     let there : later (fits items) text ≡ later (fits (x ∷ after)) (b ∷ more) = cc in
     (here ∙ step ∙ done, λ h. later_step x after b more single (sym there ∙ h))
 
--- an item did not take its byte, or there is none
+-- an item did not take its byte, or there is no byte
 pub refused : (items : List Item) (text : List ℕ) (x : Item) (after : List Item) (b : ℕ) (more : List ℕ)
     → items ≡ x ∷ after → text ≡ b ∷ more → (x ≡ Many → ⊥) → takes x b ≡ false → fits items text ≡ false
 refused items text x after b more e f m taken =

@@ -32,7 +32,7 @@ with_element x (Some closed) = Some (record { elements = x ∷ closed.elements; 
 -- The element found, and after it what the rest gives once the element's own bytes are skipped.
 abbrev pub with_found : Option Found → (ℕ → Option Closed) → Option Closed
 with_found None rest = None
-with_found (Some found) rest = with_element found.element (rest found.behind)
+with_found (Some found) rest = with_element found.element (rest found.following)
 
 -- The elements of a text after a `[` and its sign, after so many bytes to be skipped: up to the first `]` that begins
 -- one other than the first. If no such `]` closes them there are none.

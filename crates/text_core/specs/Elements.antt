@@ -19,12 +19,12 @@ folded Blind b = to_ascii_lowercase b
 
 -- A byte that stands for itself.
 abbrev pub single : Reading → ℕ → Found
-single reading b = record { element = Single (folded reading b); behind = 0 }
+single reading b = record { element = Single (folded reading b); following = 0 }
 
 -- The byte after a backslash stands for itself.
 abbrev pub escaped : Reading → List ℕ → Option Found
 escaped reading [] = None
-escaped reading (b ∷ t) = Some (record { element = Single (folded reading b); behind = 1 })
+escaped reading (b ∷ t) = Some (record { element = Single (folded reading b); following = 1 })
 
 -- Whether a text begins with a mark and a `]`, which end what `[` and that mark began.
 abbrev pub is_ended : ℕ → List ℕ → Bool
@@ -45,12 +45,12 @@ class_element None = Unknown
 unfoldable pub named_class : List ℕ → Option Found
 named_class t =
     let n = prefix_len is_small_letter t in
-    if is_ended colon (drop n t) then Some (record { element = class_element (class_of (take n t)); behind = n + 3 }) else None
+    if is_ended colon (drop n t) then Some (record { element = class_element (class_of (take n t)); following = n + 3 }) else None
 
 -- `[=x=]` from after its `[=`.
 abbrev pub equivalence : List ℕ → Option Found
 equivalence [] = None
-equivalence (b ∷ t) = if is_ended equals t then Some (record { element = AsIs b; behind = 4 }) else None
+equivalence (b ∷ t) = if is_ended equals t then Some (record { element = AsIs b; following = 4 }) else None
 
 -- What a `[` with the text after it names: a class, or one byte; in another form nothing.
 abbrev pub class_or_equivalence : List ℕ → Option Found
@@ -71,7 +71,7 @@ symbol_element b n = if n == 1 then AsIs b else Unknown
 -- `[.x.]` from after its `[.`, if a `.]` ends it.
 abbrev pub symbol : List ℕ → Option Found
 symbol [] = None
-symbol (b ∷ t) = option_map (λ n. record { element = symbol_element b n; behind = n + 3 }) (symbol_len (b ∷ t))
+symbol (b ∷ t) = option_map (λ n. record { element = symbol_element b n; following = n + 3 }) (symbol_len (b ∷ t))
 
 -- What a `[` that names no class is: the beginning of a symbol, or itself.
 abbrev pub symbol_or_bracket : Reading → List ℕ → Option Found
@@ -86,10 +86,10 @@ point reading b t =
     else Some (single reading b)
 
 -- Whether a range goes on: a minus comes next, and after it a byte that is no `]`.
-abbrev pub goes_on : List ℕ → Bool
-goes_on [] = false
-goes_on (b ∷ []) = false
-goes_on (b ∷ c ∷ t) = b == minus && not (c == close_bracket)
+abbrev pub proceeds : List ℕ → Bool
+proceeds [] = false
+proceeds (b ∷ []) = false
+proceeds (b ∷ c ∷ t) = b == minus && not (c == close_bracket)
 
 -- The byte of an element that may be at an end of a range.
 abbrev pub end_of : Element → Option ℕ
@@ -108,17 +108,17 @@ range_between (Some low) (Some high) = Range low high
 -- A range from its first end to its last.
 abbrev pub range_to : Found → Option Found → Option Found
 range_to first last =
-    option_map (λ end. record { element = range_between (end_of first.element) (end_of end.element); behind = first.behind + end.behind + 2 }) last
+    option_map (λ end. record { element = range_between (end_of first.element) (end_of end.element); following = first.following + end.following + 2 }) last
 
 -- The range that a first end begins before a text, or else that end alone.
 unfoldable pub ranged : Reading → Found → List ℕ → Option Found
 ranged reading first t =
-    if goes_on t then range_to first (point reading (slice_index t 1) (drop 2 t)) else Some first
+    if proceeds t then range_to first (point reading (slice_index t 1) (drop 2 t)) else Some first
 
 -- What a first end, if there is one, begins before the text after it.
-abbrev pub ranged_behind : Reading → List ℕ → Option Found → Option Found
-ranged_behind reading t None = None
-ranged_behind reading t (Some first) = ranged reading first (drop first.behind t)
+abbrev pub ranged_after : Reading → List ℕ → Option Found → Option Found
+ranged_after reading t None = None
+ranged_after reading t (Some first) = ranged reading first (drop first.following t)
 
 -- What a `[` names, or else the point that begins here.
 abbrev pub named_or : Option Found → Option Found → Option Found
@@ -128,7 +128,7 @@ named_or None other = other
 -- The element that a byte begins before a text; nothing if the text ends within it.
 unfoldable pub element_of : Reading → ℕ → List ℕ → Option Found
 element_of reading b t =
-    named_or (if b == open_bracket then class_or_equivalence t else None) (ranged_behind reading t (point reading b t))
+    named_or (if b == open_bracket then class_or_equivalence t else None) (ranged_after reading t (point reading b t))
 
 -- Whether an element has a byte. A class, and a byte with a name, are compared with the byte in its own case.
 abbrev pub element_has : Reading → Element → ℕ → Bool

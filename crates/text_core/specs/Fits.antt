@@ -22,10 +22,10 @@ fits (x ∷ items) (b ∷ t) = takes x b && fits items t
 
 -- A text can be cut in two, so that each part passes a test of its own.
 pub record Splits (first second : List ℕ → Bool) (t : List ℕ) : Type 0 where
-  pub front : List ℕ
+  pub prefix : List ℕ
   pub back : List ℕ
-  pub whole : t ≡ front ++ back
-  pub first_passes : IsTrue (first front)
+  pub whole : t ≡ prefix ++ back
+  pub first_passes : IsTrue (first prefix)
   pub second_passes : IsTrue (second back)
 
 -- Two texts of bytes are equal except for the case of ASCII letters.

@@ -17,9 +17,9 @@ use Rattle.text_core.specs.declared.spell.Head.{Head}
 
 -- The set of the elements after a `[`, if they are closed; else the `[` means itself.
 abbrev pub set_or_bracket : Reading → List ℕ → Option Closed → Head
-set_or_bracket reading t None = record { item = Byte open_bracket; behind = 0 }
+set_or_bracket reading t None = record { item = Byte open_bracket; following = 0 }
 set_or_bracket reading t (Some closed) =
-    record { item = Among (set_of (takes_among reading (negated t) closed.elements)); behind = length t - closed.left }
+    record { item = Among (set_of (takes_among reading (negated t) closed.elements)); following = length t - closed.left }
 
 -- What a `[` begins before a text.
 unfoldable pub fnmatch_bracket : Reading → List ℕ → Head
@@ -27,26 +27,26 @@ fnmatch_bracket reading t = set_or_bracket reading t (elements_at reading true (
 
 -- A backslash makes the byte after it mean itself; at the end of a text nothing fits it.
 abbrev pub fnmatch_escaped : Reading → List ℕ → Head
-fnmatch_escaped reading [] = record { item = Among (set_of (set_takes Exact false [])); behind = 0 }
-fnmatch_escaped reading (b ∷ t) = record { item = itself reading b; behind = 1 }
+fnmatch_escaped reading [] = record { item = Among (set_of (set_takes Exact false [])); following = 0 }
+fnmatch_escaped reading (b ∷ t) = record { item = itself reading b; following = 1 }
 
 -- The item that a byte begins, and how many of the bytes after it belong to it.
-unfoldable pub fnmatch_front : Reading → ℕ → List ℕ → Head
-fnmatch_front reading b t =
-    if b == star then record { item = Many; behind = 0 }
-    else if b == question_mark then record { item = One; behind = 0 }
+unfoldable pub fnmatch_first : Reading → ℕ → List ℕ → Head
+fnmatch_first reading b t =
+    if b == star then record { item = Many; following = 0 }
+    else if b == question_mark then record { item = One; following = 0 }
     else if b == open_bracket then fnmatch_bracket reading t
     else if b == backslash then fnmatch_escaped reading t
-    else record { item = itself reading b; behind = 0 }
+    else record { item = itself reading b; following = 0 }
 
 -- The item found in front, and after it those of the rest once the item's own bytes are skipped.
 abbrev pub with_head : Head → (ℕ → List Item) → List Item
-with_head head rest = head.item ∷ rest head.behind
+with_head head rest = head.item ∷ rest head.following
 
 -- The items of a text, after so many bytes to be skipped.
 abbrev pub fnmatch_items : Reading → List ℕ → ℕ → List Item
 fnmatch_items reading [] passed = []
-fnmatch_items reading (b ∷ t) zero = with_head (fnmatch_front reading b t) (λ n. fnmatch_items reading t n)
+fnmatch_items reading (b ∷ t) zero = with_head (fnmatch_first reading b t) (λ n. fnmatch_items reading t n)
 fnmatch_items reading (b ∷ t) (suc n) = fnmatch_items reading t n
 
 -- A byte that makes all parts of a choice patterns.

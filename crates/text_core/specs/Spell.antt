@@ -55,8 +55,8 @@ pub record WrittenSet : Type 0 where
   pub len : ℕ
 
 -- The set that is written after a `[` at a place, if a `]` ends one.
-abbrev pub set_behind : ℕ → List ℕ → Option WrittenSet
-set_behind at t =
+abbrev pub set_after : ℕ → List ℕ → Option WrittenSet
+set_after at t =
     let unsigned = drop (sign_len t) t in
     option_map (λ n. record {
       negated = negated t;
@@ -68,17 +68,17 @@ set_behind at t =
 -- The item of a set; or the fault if a class is found among its members.
 abbrev pub set_unless_class : Reading → WrittenSet → Option ℕ → Result Head GlobFault
 set_unless_class reading set None =
-    Ok (record { item = Among (set_of (set_takes reading set.negated set.members)); behind = set.len })
+    Ok (record { item = Among (set_of (set_takes reading set.negated set.members)); following = set.len })
 set_unless_class reading set (Some n) = Err (Class (set.place + n))
 
 -- The item of a set, or else of a `[` that begins no set and means itself.
 abbrev pub set_or_byte : Reading → Option WrittenSet → Result Head GlobFault
-set_or_byte reading None = Ok (record { item = Byte open_bracket; behind = 0 })
+set_or_byte reading None = Ok (record { item = Byte open_bracket; following = 0 })
 set_or_byte reading (Some set) = set_unless_class reading set (class_place set.members)
 
 -- What a `[` at a place begins, before the text t.
 unfoldable pub bracket : Reading → ℕ → List ℕ → Result Head GlobFault
-bracket reading at t = set_or_byte reading (set_behind at t)
+bracket reading at t = set_or_byte reading (set_after at t)
 
 -- The item of a byte that means itself. Read blind, a letter is the set of that letter, so of both its cases.
 abbrev pub itself : Reading → ℕ → Item
@@ -86,12 +86,12 @@ itself Exact b = Byte b
 itself Blind b = if is_ascii_alphabetic b then Among (set_of (set_takes Blind false (b ∷ []))) else Byte b
 
 -- The item that the byte b at a place begins, and how many of the bytes t after it belong to it.
-unfoldable pub front : Reading → ℕ → ℕ → List ℕ → Result Head GlobFault
-front reading at b t =
-    if b == star then Ok (record { item = Many; behind = 0 })
-    else if b == question_mark then Ok (record { item = One; behind = 0 })
+unfoldable pub first_item : Reading → ℕ → ℕ → List ℕ → Result Head GlobFault
+first_item reading at b t =
+    if b == star then Ok (record { item = Many; following = 0 })
+    else if b == question_mark then Ok (record { item = One; following = 0 })
     else if b == open_bracket then bracket reading at t
-    else Ok (record { item = itself reading b; behind = 0 })
+    else Ok (record { item = itself reading b; following = 0 })
 
 -- An item, and after it those that the rest spells.
 abbrev pub with_item : Item → Result (List Item) GlobFault → Result (List Item) GlobFault
@@ -99,14 +99,14 @@ with_item x (Ok items) = Ok (x ∷ items)
 with_item x (Err e) = Err e
 
 -- The item found in front, and after it what the rest spells once the item's own bytes are skipped.
-abbrev pub with_front : Result Head GlobFault → (ℕ → Result (List Item) GlobFault) → Result (List Item) GlobFault
-with_front (Ok head) rest = with_item head.item (rest head.behind)
-with_front (Err e) rest = Err e
+abbrev pub with_first : Result Head GlobFault → (ℕ → Result (List Item) GlobFault) → Result (List Item) GlobFault
+with_first (Ok head) rest = with_item head.item (rest head.following)
+with_first (Err e) rest = Err e
 
 -- What a text spells that is at a place of a whole one, after so many bytes to be skipped.
 abbrev pub items_at : Reading → List ℕ → ℕ → ℕ → Result (List Item) GlobFault
 items_at reading [] passed at = Ok []
-items_at reading (b ∷ t) zero at = with_front (front reading at b t) (λ n. items_at reading t n (at + 1))
+items_at reading (b ∷ t) zero at = with_first (first_item reading at b t) (λ n. items_at reading t n (at + 1))
 items_at reading (b ∷ t) (suc n) at = items_at reading t n (at + 1)
 
 -- What a text spells in a reading; being too long comes before all else.

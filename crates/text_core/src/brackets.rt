@@ -6,14 +6,14 @@ ghost use Rattle.text_core.specs.Spell.{closes};
 ghost use Rattle.text_core.specs.Brackets.{closed_of, elements_at};
 ghost use Rattle.text_core.specs.Elements.{symbol_len};
 
-use crate::closings::is_closed_behind;
+use crate::closings::is_closed_after;
 use crate::elements::{Element, element_of};
 use crate::reading::Reading;
 use std::alloc::{AllocError, Global};
 
 /// The elements up to the `]` that closes them.
 #[derive(Debug, Drop)]
-pub struct Expression {
+pub(crate) struct Expression {
     /// The elements, in order.
     pub elements: Vec<Element>,
     /// How many bytes follow the `]`.
@@ -23,7 +23,7 @@ pub struct Expression {
 /// Reads the elements of a text after a `[` and its sign. The first byte begins one, and the first `]` that begins
 /// another one closes them; if no such `]` comes there are none, and then only the first is read. `lens` and
 /// `closed` are the `symbol_lens` and `closed_ends` of the text. Fails if an allocation fails.
-pub fn read_elements(
+pub(crate) fn read_elements(
     alloc: Global,
     reading: Reading,
     lens: &[Option<usize>],
@@ -38,7 +38,7 @@ pub fn read_elements(
     let Some((byte, after)) = text.split_first() else {
         return Ok(None);
     };
-    if !is_closed_behind(reading, lens, closed, *byte, after) {
+    if !is_closed_after(reading, lens, closed, *byte, after) {
         return Ok(None);
     }
     read_to_end(alloc, reading, lens, text)
@@ -70,7 +70,7 @@ fn read_to_end(
             return Ok(None);
         };
         elements.push(found.element)?;
-        (_, rest) = after.split_at(found.behind);
+        (_, rest) = after.split_at(found.following);
         is_first = false;
     }
     Ok(None)

@@ -95,7 +95,7 @@ impl ByteClass {
 
 /// The class with a name, if there is one.
 #[tactic(auto, unfolding(crate::specs::Classes::class_of))]
-pub fn class_of(name: &[u8]) -> Option<ByteClass>
+pub(crate) fn class_of(name: &[u8]) -> Option<ByteClass>
     ensures { result ≡ class_of name.now }
 {
     CLASSES.iter().copied().find(|class| class.name() == name)

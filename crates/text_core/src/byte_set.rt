@@ -1,6 +1,6 @@
 //! Sets of bytes.
 //!
-//! A set is 256 bits, so that one look tells whether it has a byte, and so that the index file can hold it as it
+//! A set is 256 bits, so that one look shows whether it has a byte, and so that the index file can hold it as it
 //! is.
 ghost use Rattle.std.specs.Prelude.{◌≡◌};
 ghost use Rattle.text_core.specs.Items.{set_has};

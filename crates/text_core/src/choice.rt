@@ -60,11 +60,11 @@ impl Choice {
         let mut parts = Vec::new(alloc);
         let mut rest = text;
         while let Some(place) = find(b'|', rest) {
-            let (front, _) = rest.split_at(place);
-            let (_, behind) = rest.split_at(place + 1);
-            let part = Pattern::read_at(alloc, reading, text.len() - rest.len(), front)?;
+            let (prefix, _) = rest.split_at(place);
+            let (_, following) = rest.split_at(place + 1);
+            let part = Pattern::read_at(alloc, reading, text.len() - rest.len(), prefix)?;
             parts.push(part)?;
-            rest = behind;
+            rest = following;
         }
         let last = Pattern::read_at(alloc, reading, text.len() - rest.len(), rest)?;
         parts.push(last)?;
@@ -85,11 +85,11 @@ impl Choice {
         let mut parts = Vec::new(alloc);
         let mut rest = text;
         while let Some(place) = find(b'|', rest) {
-            let (front, _) = rest.split_at(place);
-            let (_, behind) = rest.split_at(place + 1);
-            let part = read_part(alloc, reading, is_pattern, front)?;
+            let (prefix, _) = rest.split_at(place);
+            let (_, following) = rest.split_at(place + 1);
+            let part = read_part(alloc, reading, is_pattern, prefix)?;
             parts.push(part)?;
-            rest = behind;
+            rest = following;
         }
         let last = read_part(alloc, reading, is_pattern, rest)?;
         parts.push(last)?;

@@ -14,7 +14,7 @@ use std::alloc::{AllocError, Global};
 
 /// Whether the elements are closed of which a byte begins the first. `lens` and `closed` are the `symbol_lens` and
 /// `closed_ends` of the text after the byte.
-pub fn is_closed_behind(
+pub(crate) fn is_closed_after(
     reading: Reading,
     lens: &[Option<usize>],
     closed: &[bool],
@@ -26,13 +26,13 @@ pub fn is_closed_behind(
     ensures { result ≡ is_some (with_found (element_of reading byte after.now) (λ n. elements_at reading false after.now n)) }
 {
     match element_of(reading, lens, byte, after) {
-        Some(found) => closed[after.len() - found.behind],
+        Some(found) => closed[after.len() - found.following],
         None => false,
     }
 }
 
 /// Whether elements that go on at a byte are closed: here, or after the one that it begins. `lens` and `closed` are
-/// as in `is_closed_behind`.
+/// as in `is_closed_after`.
 fn is_closed_at(
     reading: Reading,
     lens: &[Option<usize>],
@@ -44,12 +44,12 @@ fn is_closed_at(
     requires closings { (k : ℕ) → slice_get closed.now (length (drop k after.now)) ≡ Some (is_some (elements_at reading false (drop k after.now) 0)) }
     ensures { result ≡ is_some (elements_at reading false (byte ∷ after.now) 0) }
 {
-    byte == b']' || is_closed_behind(reading, lens, closed, byte, after)
+    byte == b']' || is_closed_after(reading, lens, closed, byte, after)
 }
 
 /// Whether elements that go on at an end of a text are closed, for each of its ends by its number of bytes. `lens`
 /// is the `symbol_lens` of the text. Fails if an allocation fails.
-pub fn closed_ends(
+pub(crate) fn closed_ends(
     alloc: Global,
     reading: Reading,
     lens: &[Option<usize>],

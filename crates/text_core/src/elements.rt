@@ -3,7 +3,7 @@ ghost use Rattle.std.specs.Prelude.{◌≡◌, ◌+◌, ◌≤◌, ℕ, length, 
 ghost use Rattle.std.specs.Bool.{OnTrue};
 ghost use Rattle.std.specs.List.{prefix_len, slice_get};
 ghost use Rattle.text_core.specs.Classes.{class_of};
-ghost use Rattle.text_core.specs.Elements.{class_element, class_or_equivalence, element_of, end_of, equivalence, element_has, escaped, folded, goes_on, is_ended, is_small_letter, is_unknown, named_class, point, range_between, ranged, single, symbol, symbol_element, symbol_len, symbol_or_bracket, takes_among};
+ghost use Rattle.text_core.specs.Elements.{class_element, class_or_equivalence, element_of, end_of, equivalence, element_has, escaped, folded, proceeds, is_ended, is_small_letter, is_unknown, named_class, point, range_between, ranged, single, symbol, symbol_element, symbol_len, symbol_or_bracket, takes_among};
 
 use crate::byte_class::{ByteClass, class_of};
 use crate::reading::Reading;
@@ -30,11 +30,11 @@ pub struct Found {
     /// The element.
     pub element: Element,
     /// How many of the bytes after the first belong to it.
-    pub behind: usize,
+    pub following: usize,
 }
 
 /// A byte as a reading compares it: read blind, an ASCII capital is its lower case letter.
-pub fn folded(reading: Reading, byte: u8) -> u8
+pub(crate) fn folded(reading: Reading, byte: u8) -> u8
     ensures { result ≡ folded reading byte }
 {
     match reading {
@@ -49,24 +49,24 @@ fn single(reading: Reading, byte: u8) -> Found
 {
     Found {
         element: Element::Single(folded(reading, byte)),
-        behind: 0,
+        following: 0,
     }
 }
 
 /// The byte after a backslash, if there is one.
 fn escaped(reading: Reading, after: &[u8]) -> Option<Found>
     ensures value { result ≡ escaped reading after.now }
-    ensures within { IfSome result (λ found. found.behind ≤ length after.now) }
+    ensures within { IfSome result (λ found. found.following ≤ length after.now) }
 {
     let (byte, _) = after.split_first()?;
     Some(Found {
         element: Element::Single(folded(reading, *byte)),
-        behind: 1,
+        following: 1,
     })
 }
 
 /// Whether a text begins with this byte and a `]`.
-pub fn is_ended(mark: u8, text: &[u8]) -> bool
+pub(crate) fn is_ended(mark: u8, text: &[u8]) -> bool
     ensures value { result ≡ is_ended mark text.now }
     ensures len { OnTrue result (2 ≤ length text.now) }
 {
@@ -104,7 +104,7 @@ fn class_element(name: &[u8]) -> Element
 #[tactic(auto, unfolding(crate::specs::Elements::named_class))]
 fn named_class(text: &[u8]) -> Option<Found>
     ensures value { result ≡ named_class text.now }
-    ensures within { IfSome result (λ found. found.behind ≤ length text.now + 1) }
+    ensures within { IfSome result (λ found. found.following ≤ length text.now + 1) }
 {
     let len = name_len(text);
     let (name, rest) = text.split_at(len);
@@ -113,14 +113,14 @@ fn named_class(text: &[u8]) -> Option<Found>
     }
     Some(Found {
         element: class_element(name),
-        behind: len + 3,
+        following: len + 3,
     })
 }
 
 /// The byte that a text after `[=` names, if it and `=]` come next.
 fn equivalence(text: &[u8]) -> Option<Found>
     ensures value { result ≡ equivalence text.now }
-    ensures within { IfSome result (λ found. found.behind ≤ length text.now + 1) }
+    ensures within { IfSome result (λ found. found.following ≤ length text.now + 1) }
 {
     let (byte, rest) = text.split_first()?;
     if !is_ended(b'=', rest) {
@@ -128,14 +128,14 @@ fn equivalence(text: &[u8]) -> Option<Found>
     }
     Some(Found {
         element: Element::AsIs(*byte),
-        behind: 4,
+        following: 4,
     })
 }
 
 /// The class or the one byte that a `[` names, if it does.
 fn class_or_equivalence(after: &[u8]) -> Option<Found>
     ensures value { result ≡ class_or_equivalence after.now }
-    ensures within { IfSome result (λ found. found.behind ≤ length after.now) }
+    ensures within { IfSome result (λ found. found.following ≤ length after.now) }
 {
     let (mark, text) = after.split_first()?;
     match *mark {
@@ -160,13 +160,13 @@ fn symbol_element(first: u8, len: usize) -> Element
 fn symbol(lens: &[Option<usize>], text: &[u8]) -> Option<Found>
     requires { (k : ℕ) → slice_get lens.now (length (drop k text.now)) ≡ Some (symbol_len (drop k text.now)) }
     ensures value { result ≡ symbol text.now }
-    ensures within { IfSome result (λ found. found.behind ≤ length text.now + 1) }
+    ensures within { IfSome result (λ found. found.following ≤ length text.now + 1) }
 {
     let (first, _) = text.split_first()?;
     let len = symbol_len(lens, text)?;
     Some(Found {
         element: symbol_element(*first, len),
-        behind: len + 3,
+        following: len + 3,
     })
 }
 
@@ -174,7 +174,7 @@ fn symbol(lens: &[Option<usize>], text: &[u8]) -> Option<Found>
 fn symbol_or_bracket(reading: Reading, lens: &[Option<usize>], after: &[u8]) -> Option<Found>
     requires { (k : ℕ) → slice_get lens.now (length (drop k after.now)) ≡ Some (symbol_len (drop k after.now)) }
     ensures value { result ≡ symbol_or_bracket reading after.now }
-    ensures within { IfSome result (λ found. found.behind ≤ length after.now) }
+    ensures within { IfSome result (λ found. found.following ≤ length after.now) }
 {
     match after.split_first() {
         Some((mark, text)) if *mark == b'.' => symbol(lens, text),
@@ -187,7 +187,7 @@ fn symbol_or_bracket(reading: Reading, lens: &[Option<usize>], after: &[u8]) -> 
 fn point(reading: Reading, lens: &[Option<usize>], byte: u8, after: &[u8]) -> Option<Found>
     requires { (k : ℕ) → slice_get lens.now (length (drop k after.now)) ≡ Some (symbol_len (drop k after.now)) }
     ensures value { result ≡ point reading byte after.now }
-    ensures within { IfSome result (λ found. found.behind ≤ length after.now) }
+    ensures within { IfSome result (λ found. found.following ≤ length after.now) }
 {
     match byte {
         b'\\' => escaped(reading, after),
@@ -197,8 +197,8 @@ fn point(reading: Reading, lens: &[Option<usize>], byte: u8, after: &[u8]) -> Op
 }
 
 /// Whether a range goes on: a minus comes next, and after it a byte that is no `]`.
-fn goes_on(rest: &[u8]) -> bool
-    ensures value { result ≡ goes_on rest.now }
+fn proceeds(rest: &[u8]) -> bool
+    ensures value { result ≡ proceeds rest.now }
     ensures len { OnTrue result (2 ≤ length rest.now) }
 {
     rest.len() >= 2 && rest[0] == b'-' && rest[1] != b']'
@@ -232,28 +232,33 @@ fn range_between(first: Element, last: Element) -> Element
 #[tactic(auto, unfolding(crate::specs::Elements::ranged))]
 fn ranged(reading: Reading, lens: &[Option<usize>], first: Found, rest: &[u8]) -> Option<Found>
     requires symbols { (k : ℕ) → slice_get lens.now (length (drop k rest.now)) ≡ Some (symbol_len (drop k rest.now)) }
-    requires sum { first.behind + length rest.now < 2 ^ 63 }
+    requires sum { first.following + length rest.now < 2 ^ 63 }
     ensures value { result ≡ ranged reading first rest.now }
-    ensures within { IfSome result (λ found. found.behind ≤ first.behind + length rest.now) }
+    ensures within { IfSome result (λ found. found.following ≤ first.following + length rest.now) }
 {
-    if !goes_on(rest) {
+    if !proceeds(rest) {
         return Some(first);
     }
     let (_, after) = rest.split_at(2);
     let last = point(reading, lens, rest[1], after)?;
     Some(Found {
         element: range_between(first.element, last.element),
-        behind: first.behind + last.behind + 2,
+        following: first.following + last.following + 2,
     })
 }
 
 /// The element that a byte begins, or `None` if the text ends within it. `lens` is the `symbol_lens` of the text
 /// after the byte.
 #[tactic(auto, unfolding(crate::specs::Elements::element_of))]
-pub fn element_of(reading: Reading, lens: &[Option<usize>], byte: u8, after: &[u8]) -> Option<Found>
+pub(crate) fn element_of(
+    reading: Reading,
+    lens: &[Option<usize>],
+    byte: u8,
+    after: &[u8],
+) -> Option<Found>
     requires { (k : ℕ) → slice_get lens.now (length (drop k after.now)) ≡ Some (symbol_len (drop k after.now)) }
     ensures value { result ≡ element_of reading byte after.now }
-    ensures within { IfSome result (λ found. found.behind ≤ length after.now) }
+    ensures within { IfSome result (λ found. found.following ≤ length after.now) }
 {
     if byte == b'[' {
         if let Some(found) = class_or_equivalence(after) {
@@ -261,7 +266,7 @@ pub fn element_of(reading: Reading, lens: &[Option<usize>], byte: u8, after: &[u
         }
     }
     let first = point(reading, lens, byte, after)?;
-    let (_, rest) = after.split_at(first.behind);
+    let (_, rest) = after.split_at(first.following);
     ranged(reading, lens, first, rest)
 }
 
@@ -297,7 +302,7 @@ fn element_has(reading: Reading, element: Element, byte: u8) -> bool
 }
 
 /// Whether the set of the elements, or with a sign its complement, has a byte.
-pub fn takes_among(reading: Reading, negated: bool, elements: &[Element], byte: u8) -> bool
+pub(crate) fn takes_among(reading: Reading, negated: bool, elements: &[Element], byte: u8) -> bool
     ensures { result ≡ takes_among reading negated elements.now byte }
 {
     for element in elements {

@@ -4,7 +4,7 @@ ghost use Rattle.std.specs.List.{list_any, slice_get};
 ghost use Rattle.std.specs.Option.{is_some};
 ghost use Rattle.text_core.specs.Brackets.{elements_at};
 ghost use Rattle.text_core.specs.Elements.{symbol_len};
-ghost use Rattle.text_core.specs.Fnmatch.{fnmatch_bracket, fnmatch_escaped, fnmatch_front, fnmatch_items, fnmatch_part, is_special};
+ghost use Rattle.text_core.specs.Fnmatch.{fnmatch_bracket, fnmatch_escaped, fnmatch_first, fnmatch_items, fnmatch_part, is_special};
 ghost use Rattle.text_core.specs.Spell.{itself};
 
 use crate::brackets::read_elements;
@@ -29,7 +29,7 @@ fn bracket(
     requires symbols { (k : ℕ) → slice_get lens.now (length (drop k after.now)) ≡ Some (symbol_len (drop k after.now)) }
     requires closings { (k : ℕ) → slice_get closed.now (length (drop k after.now)) ≡ Some (is_some (elements_at reading false (drop k after.now) 0)) }
     ensures value { IfOk result (λ head. head ≡ fnmatch_bracket reading after.now) }
-    ensures len { IfOk result (λ head. head.behind ≤ length after.now) }
+    ensures len { IfOk result (λ head. head.following ≤ length after.now) }
 {
     let sign = sign_len(after);
     let (_, unsigned) = after.split_at(sign);
@@ -39,19 +39,19 @@ fn bracket(
     let between = Between::Elements(expression.elements.as_slice());
     Ok(Head {
         item: Item::Among(set_of(reading, is_negated(after), between)),
-        behind: after.len() - expression.left,
+        following: after.len() - expression.left,
     })
 }
 
 /// What a backslash begins: the byte after it, or at the end of the text an item that nothing fits.
 fn escaped(reading: Reading, after: &[u8]) -> Head
     ensures value { result ≡ fnmatch_escaped reading after.now }
-    ensures len { result.behind ≤ length after.now }
+    ensures len { result.following ≤ length after.now }
 {
     match after.split_first() {
         Some((byte, _)) => Head {
             item: itself(reading, *byte),
-            behind: 1,
+            following: 1,
         },
         None => alone(Item::Among(set_of(Reading::Exact, false, Between::Members(&[])))),
     }
@@ -59,8 +59,8 @@ fn escaped(reading: Reading, after: &[u8]) -> Head
 
 /// The item that a byte begins, and how many of the bytes after it belong to it. `lens` and `closed` are as in
 /// `bracket`.
-#[tactic(auto, unfolding(crate::specs::Fnmatch::fnmatch_front))]
-fn front(
+#[tactic(auto, unfolding(crate::specs::Fnmatch::fnmatch_first))]
+fn first_item(
     alloc: Global,
     reading: Reading,
     lens: &[Option<usize>],
@@ -70,8 +70,8 @@ fn front(
 ) -> Result<Head, AllocError>
     requires symbols { (k : ℕ) → slice_get lens.now (length (drop k after.now)) ≡ Some (symbol_len (drop k after.now)) }
     requires closings { (k : ℕ) → slice_get closed.now (length (drop k after.now)) ≡ Some (is_some (elements_at reading false (drop k after.now) 0)) }
-    ensures value { IfOk result (λ head. head ≡ fnmatch_front reading byte after.now) }
-    ensures len { IfOk result (λ head. head.behind ≤ length after.now) }
+    ensures value { IfOk result (λ head. head ≡ fnmatch_first reading byte after.now) }
+    ensures len { IfOk result (λ head. head.following ≤ length after.now) }
 {
     match byte {
         b'*' => Ok(alone(Item::Many)),
@@ -91,7 +91,7 @@ fn read_pattern(alloc: Global, reading: Reading, text: &[u8]) -> Result<Pattern,
     let mut items = Vec::with_capacity(alloc, text.len())?;
     let mut rest = text;
     while let Some((byte, after)) = rest.split_first() {
-        let head = front(
+        let head = first_item(
             alloc,
             reading,
             lens.as_slice(),
@@ -100,7 +100,7 @@ fn read_pattern(alloc: Global, reading: Reading, text: &[u8]) -> Result<Pattern,
             after,
         )?;
         items.push(head.item)?;
-        (_, rest) = after.split_at(head.behind);
+        (_, rest) = after.split_at(head.following);
     }
     Pattern::of_items(items)
 }
@@ -117,7 +117,7 @@ fn read_bytes(alloc: Global, reading: Reading, text: &[u8]) -> Result<Pattern, A
 }
 
 /// Reads a part of a choice: as a pattern, or as its bytes if the choice has no special byte.
-pub fn read_part(
+pub(crate) fn read_part(
     alloc: Global,
     reading: Reading,
     is_pattern: bool,
@@ -133,7 +133,7 @@ pub fn read_part(
 }
 
 /// Whether a text has a byte that makes all its parts patterns: a star, a question mark or a `[`.
-pub fn has_special(text: &[u8]) -> bool
+pub(crate) fn has_special(text: &[u8]) -> bool
     ensures { result ≡ list_any is_special text.now }
 {
     text.iter()

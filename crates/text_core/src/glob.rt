@@ -56,7 +56,7 @@ fn run<'a, T: AsItem>(mut items: &'a [T], mut text: &'a [u8]) -> Stop<'a, T>
 }
 
 /// Whether the text fits the items.
-pub fn fits<T: AsItem>(items: &[T], text: &[u8]) -> bool
+pub(crate) fn fits<T: AsItem>(items: &[T], text: &[u8]) -> bool
     ensures { result ≡ fits (map T.item items.now) text.now }
 {
     match run(items, text) {

@@ -105,8 +105,8 @@ impl PackedPattern {
         }
     }
 
-    /// A pattern of the same items, which both share, so that it takes no memory. It fails only where
-    /// there are as many copies as a `usize` counts.
+    /// A pattern of the same items, which both share, so that it takes no memory. It fails only if there are as many
+    /// copies as a `usize` counts.
     pub fn copy(&self, alloc: Global) -> Result<PackedPattern, AllocError>
         ensures { IfOk result (λ p. p ≡ self.now) }
     {

@@ -11,13 +11,13 @@ use crate::glob;
 use crate::glob_fault::GlobFault;
 use crate::item::Item;
 use crate::reading::Reading;
-use crate::spell::front;
+use crate::spell::first_item;
 use std::alloc::{AllocError, Global};
 use std::marker::Model;
 use std::rc::RcSlice;
 
 /// How many bytes the text of a pattern or of a choice may have.
-pub const MAX_LEN: usize = 16384;
+pub(crate) const MAX_LEN: usize = 16384;
 
 /// A pattern: `*` takes any bytes, `?` any one, `[..]` one byte of a set, and each other byte, also the backslash,
 /// itself. A set is negated by a first `!` or `^`, has ranges such as `a-z`, and ends at the first `]` after its
@@ -65,9 +65,9 @@ impl Pattern {
         let mut items = Vec::with_capacity(alloc, text.len())?;
         let mut rest = text;
         while let Some((byte, after)) = rest.split_first() {
-            let head = front(reading, at + (text.len() - rest.len()), *byte, after)?;
+            let head = first_item(reading, at + (text.len() - rest.len()), *byte, after)?;
             items.push(head.item)?;
-            (_, rest) = after.split_at(head.behind);
+            (_, rest) = after.split_at(head.following);
         }
         Ok(Pattern::of_items(items)?)
     }

@@ -11,7 +11,7 @@ use crate::reading::Reading;
 
 /// What is between the brackets of a set.
 #[derive(Clone, Copy, Debug)]
-pub enum Between<'a> {
+pub(crate) enum Between<'a> {
     /// Members as udev(7) describes them: bytes, and ranges with a minus.
     Members(&'a [u8]),
     /// The elements of a pattern of fnmatch(3).
@@ -90,7 +90,7 @@ fn takes(reading: Reading, negated: bool, between: Between<'_>, byte: u8) -> boo
 }
 
 /// Eight bytes of a set, from a byte on, as bits.
-fn eight(reading: Reading, negated: bool, between: Between<'_>, first: u8) -> u8
+fn membership_byte(reading: Reading, negated: bool, between: Between<'_>, first: u8) -> u8
     requires { first + 8 ≤ 256 }
     ensures { result ≡ bits_of (between_takes reading negated between.entry) first 8 }
 {
@@ -102,12 +102,12 @@ fn eight(reading: Reading, negated: bool, between: Between<'_>, first: u8) -> u8
 }
 
 /// The set of what is between brackets.
-pub fn set_of(reading: Reading, negated: bool, between: Between<'_>) -> ByteSet
+pub(crate) fn set_of(reading: Reading, negated: bool, between: Between<'_>) -> ByteSet
     ensures { result ≡ set_of (between_takes reading negated between.entry) }
 {
     let mut bits = [0; 32];
     for i in 0..32 {
-        bits[i] = eight(reading, negated, between, i as u8 * 8);
+        bits[i] = membership_byte(reading, negated, between, i as u8 * 8);
     }
     ByteSet { bits }
 }

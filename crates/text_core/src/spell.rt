@@ -1,6 +1,6 @@
 //! The items that a text spells, one at a time.
 ghost use Rattle.std.specs.Prelude.{◌≡◌, ◌+◌, ◌^◌, ◌<◌, ◌≤◌, length, IfOk, IfSome};
-ghost use Rattle.text_core.specs.Spell.{negated, sign_len, class_place, members_len, bracket, itself, front};
+ghost use Rattle.text_core.specs.Spell.{negated, sign_len, class_place, members_len, bracket, itself, first_item};
 
 use crate::glob_fault::GlobFault;
 use crate::item::Item;
@@ -14,7 +14,7 @@ pub struct Head {
     /// The item that the first byte begins.
     pub item: Item,
     /// How many of the bytes after the first belong to it.
-    pub behind: usize,
+    pub following: usize,
 }
 
 pub(crate) fn is_negated(after: &[u8]) -> bool
@@ -50,8 +50,8 @@ fn members_len(text: &[u8]) -> Option<usize>
     ensures value { result ≡ members_len text.now }
     ensures within { IfSome result (λ n. n < length text.now) }
 {
-    let (_, behind) = text.split_first()?;
-    let last = find(b']', behind)?;
+    let (_, following) = text.split_first()?;
+    let last = find(b']', following)?;
     Some(last + 1)
 }
 
@@ -59,7 +59,7 @@ fn members_len(text: &[u8]) -> Option<usize>
 fn bracket(reading: Reading, at: usize, after: &[u8]) -> Result<Head, GlobFault>
     requires { at + length after.now < 2 ^ 63 }
     ensures value { result ≡ bracket reading at after.now }
-    ensures len { IfOk result (λ head. head.behind ≤ length after.now) }
+    ensures len { IfOk result (λ head. head.following ≤ length after.now) }
 {
     let sign = sign_len(after);
     let (_, unsigned) = after.split_at(sign);
@@ -74,15 +74,15 @@ fn bracket(reading: Reading, at: usize, after: &[u8]) -> Result<Head, GlobFault>
     }
     Ok(Head {
         item: Item::Among(set_of(reading, is_negated(after), Between::Members(members))),
-        behind: sign + len + 1,
+        following: sign + len + 1,
     })
 }
 
 /// An item of one byte.
 pub(crate) fn alone(item: Item) -> Head
-    ensures { result ≡ record { item = item; behind = 0 } }
+    ensures { result ≡ record { item = item; following = 0 } }
 {
-    Head { item, behind: 0 }
+    Head { item, following: 0 }
 }
 
 /// The item of a byte that means itself: read blind, a letter is the set of both its cases.
@@ -98,11 +98,16 @@ pub(crate) fn itself(reading: Reading, byte: u8) -> Item
 }
 
 /// The item that a byte at a place begins, and how many of the bytes after it belong to it.
-#[tactic(auto, unfolding(crate::specs::Spell::front))]
-pub fn front(reading: Reading, at: usize, byte: u8, after: &[u8]) -> Result<Head, GlobFault>
+#[tactic(auto, unfolding(crate::specs::Spell::first_item))]
+pub(crate) fn first_item(
+    reading: Reading,
+    at: usize,
+    byte: u8,
+    after: &[u8],
+) -> Result<Head, GlobFault>
     requires { at + length after.now < 2 ^ 63 }
-    ensures value { result ≡ front reading at byte after.now }
-    ensures len { IfOk result (λ head. head.behind ≤ length after.now) }
+    ensures value { result ≡ first_item reading at byte after.now }
+    ensures len { IfOk result (λ head. head.following ≤ length after.now) }
 {
     match byte {
         b'*' => Ok(alone(Item::Many)),

@@ -9,7 +9,7 @@ use crate::elements::is_ended;
 use std::alloc::{AllocError, Global};
 
 /// How many bytes come before the first `.]` of a text, whose `symbol_lens` are `lens`.
-pub fn symbol_len(lens: &[Option<usize>], text: &[u8]) -> Option<usize>
+pub(crate) fn symbol_len(lens: &[Option<usize>], text: &[u8]) -> Option<usize>
     requires { (k : ℕ) → slice_get lens.now (length (drop k text.now)) ≡ Some (symbol_len (drop k text.now)) }
     ensures value { result ≡ symbol_len text.now }
     ensures within { IfSome result (λ n. n + 2 ≤ length text.now) }
@@ -35,7 +35,7 @@ fn next_len(lens: &[Option<usize>], text: &[u8]) -> Option<usize>
 
 /// How many bytes come before the first `.]`, for each end of a text by its number of bytes. Fails if an allocation
 /// fails.
-pub fn symbol_lens(alloc: Global, text: &[u8]) -> Result<Vec<Option<usize>>, AllocError>
+pub(crate) fn symbol_lens(alloc: Global, text: &[u8]) -> Result<Vec<Option<usize>>, AllocError>
     ensures { IfOk result (λ lens. (k : ℕ) → slice_get lens.items (length (drop k text.now)) ≡ Some (symbol_len (drop k text.now))) }
 {
     let mut lens = Vec::with_capacity(alloc, text.len() + 1)?;

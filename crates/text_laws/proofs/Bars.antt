@@ -121,12 +121,12 @@ module _ (reading : Reading) where
       ap (λ (r : Result (List Item) GlobFault). with_part r (parts_at reading parts (at + length part + 1))) (placed part at ∙ ap (later at) first)
       ∙ ap (with_part (Ok x)) (parts_ok parts (at + length part + 1) xs rest)
 
-  -- the first part with a class, where the parts are at a place
+  -- the first part with a class, if the parts are at a place
   record Faulted (parts : List (List ℕ)) (at c : ℕ) : Type 0 where
     pub before : List (List ℕ)
     pub part : List ℕ
-    pub behind : List (List ℕ)
-    pub whole : parts ≡ before ++ part ∷ behind
+    pub following : List (List ℕ)
+    pub whole : parts ≡ before ++ part ∷ following
     pub faultless : AllByRecursion (λ p. is_ok (items_at reading p 0 0) ≡ true) before
     pub place : ℕ
     pub fault : items_at reading part 0 0 ≡ Err (Class place)
@@ -140,7 +140,7 @@ module _ (reading : Reading) where
         by_fault : (f : GlobFault) → items_at reading part 0 0 ≡ Err f → later_fault at f ≡ Class c → Faulted (part ∷ parts) at c
         by_fault (Class k) is same =
             let there : at + k ≡ c = cc in
-            record { before = []; part = part; behind = parts; whole = refl; faultless = tt; place = k; fault = is; at_place = omega arith }
+            record { before = []; part = part; following = parts; whole = refl; faultless = tt; place = k; fault = is; at_place = omega arith }
         by_fault TooLong is same = absurd cc
         by_fault Memory is same = absurd cc
 
@@ -154,7 +154,7 @@ module _ (reading : Reading) where
             record {
               before = part ∷ rest.before;
               part = rest.part;
-              behind = rest.behind;
+              following = rest.following;
               whole = ap (λ (ps : List (List ℕ)). part ∷ ps) rest.whole;
               faultless = (ap is_ok here, rest.faultless);
               place = rest.place;
@@ -166,20 +166,20 @@ module _ (reading : Reading) where
             let same : later_fault at f ≡ Class c = cc in
             by_fault f here same
 
-  parts_class : (before : List (List ℕ)) (part : List ℕ) (behind : List (List ℕ)) (at place c : ℕ) → AllByRecursion (λ p. is_ok (items_at reading p 0 0) ≡ true) before
-      → items_at reading part 0 0 ≡ Err (Class place) → c ≡ at + sum_by (λ p. length p + 1) before + place → parts_at reading (before ++ part ∷ behind) at ≡ Err (Class c)
-  parts_class [] part behind at place c good fault there =
+  parts_class : (before : List (List ℕ)) (part : List ℕ) (following : List (List ℕ)) (at place c : ℕ) → AllByRecursion (λ p. is_ok (items_at reading p 0 0) ≡ true) before
+      → items_at reading part 0 0 ≡ Err (Class place) → c ≡ at + sum_by (λ p. length p + 1) before + place → parts_at reading (before ++ part ∷ following) at ≡ Err (Class c)
+  parts_class [] part following at place c good fault there =
       let same : at + place ≡ c = omega arith in
-      ap (λ (r : Result (List Item) GlobFault). with_part r (parts_at reading behind (at + length part + 1))) (placed part at ∙ ap (later at) fault)
-      ∙ with_fault (Class (at + place)) (parts_at reading behind (at + length part + 1))
+      ap (λ (r : Result (List Item) GlobFault). with_part r (parts_at reading following (at + length part + 1))) (placed part at ∙ ap (later at) fault)
+      ∙ with_fault (Class (at + place)) (parts_at reading following (at + length part + 1))
       ∙ ap (λ (k : ℕ). let r : Result (List (List Item)) GlobFault = Err (Class k) in r) same
-  parts_class (p ∷ before) part behind at place c good fault there =
+  parts_class (p ∷ before) part following at place c good fault there =
       let sum : sum_by (λ q. length q + 1) (p ∷ before) ≡ length p + 1 + sum_by (λ q. length q + 1) before = sum_by-cons (λ q. length q + 1) p before in
       let next : c ≡ at + length p + 1 + sum_by (λ q. length q + 1) before + place = omega arith in
-      by_first (items_at reading p 0 0) refl good.0 (parts_class before part behind (at + length p + 1) place c good.1 fault next) where
-        by_first : (r : Result (List Item) GlobFault) → items_at reading p 0 0 ≡ r → is_ok r ≡ true → parts_at reading (before ++ part ∷ behind) (at + length p + 1) ≡ Err (Class c) → parts_at reading (p ∷ (before ++ part ∷ behind)) at ≡ Err (Class c)
+      by_first (items_at reading p 0 0) refl good.0 (parts_class before part following (at + length p + 1) place c good.1 fault next) where
+        by_first : (r : Result (List Item) GlobFault) → items_at reading p 0 0 ≡ r → is_ok r ≡ true → parts_at reading (before ++ part ∷ following) (at + length p + 1) ≡ Err (Class c) → parts_at reading (p ∷ (before ++ part ∷ following)) at ≡ Err (Class c)
         by_first (Ok x) is ok again =
-            ap (λ (r : Result (List Item) GlobFault). with_part r (parts_at reading (before ++ part ∷ behind) (at + length p + 1))) (placed p at ∙ ap (later at) is)
+            ap (λ (r : Result (List Item) GlobFault). with_part r (parts_at reading (before ++ part ∷ following) (at + length p + 1))) (placed p at ∙ ap (later at) is)
             ∙ ap (with_part (Ok x)) again
         by_first (Err f) is ok again = absurd cc
 
@@ -237,19 +237,19 @@ module _ (reading : Reading) where
   ok_spelled [] s h = tt
   ok_spelled (p ∷ before) s h = (sym (ap is_ok (spell_by_short reading p s.0)) ∙ h 0 p (omega arith), ok_spelled before s.1 (λ k d l. h (suc k) d (omega arith)))
 
-  front_of : (before : List (List ℕ)) (part : List ℕ) (behind : List (List ℕ)) → AllByRecursion Short (before ++ part ∷ behind) → AllByRecursion Short before × Short part
-  front_of [] part behind s = (tt, s.0)
-  front_of (p ∷ before) part behind s = let rest = front_of before part behind s.1 in ((s.0, rest.0), rest.1)
+  prefix_of : (before : List (List ℕ)) (part : List ℕ) (following : List (List ℕ)) → AllByRecursion Short (before ++ part ∷ following) → AllByRecursion Short before × Short part
+  prefix_of [] part following s = (tt, s.0)
+  prefix_of (p ∷ before) part following s = let rest = prefix_of before part following s.1 in ((s.0, rest.0), rest.1)
 
   said_class : (t : List ℕ) (at : ℕ) → length t ≤ max_len → choice_by reading t ≡ Err (Class at) → HasFaultyPart (spell_by reading) t at
   said_class t at short e =
       let f : Faulted (slice_split is_bar t) 0 at = class_parts (slice_split is_bar t) 0 at (sym (choice_short reading t short) ∙ e) in
-      let are : AreParts (f.before ++ f.part ∷ f.behind) t = subst (λ (ps : List (List ℕ)). AreParts ps t) f.whole (split_parts t) in
-      let shorts = front_of f.before f.part f.behind (parts_short (f.before ++ f.part ∷ f.behind) t are short) in
+      let are : AreParts (f.before ++ f.part ∷ f.following) t = subst (λ (ps : List (List ℕ)). AreParts ps t) f.whole (split_parts t) in
+      let shorts = prefix_of f.before f.part f.following (parts_short (f.before ++ f.part ∷ f.following) t are short) in
       record {
         before = f.before;
         part = f.part;
-        behind = f.behind;
+        following = f.following;
         are_parts = are;
         faultless = spelled_ok f.before shorts.0 f.faultless;
         place = f.place;
@@ -259,11 +259,11 @@ module _ (reading : Reading) where
 
   class_read : (t : List ℕ) (at : ℕ) → length t ≤ max_len → HasFaultyPart (spell_by reading) t at → choice_by reading t ≡ Err (Class at)
   class_read t at short h =
-      let shorts = front_of h.before h.part h.behind (parts_short (h.before ++ h.part ∷ h.behind) t h.are_parts short) in
+      let shorts = prefix_of h.before h.part h.following (parts_short (h.before ++ h.part ∷ h.following) t h.are_parts short) in
       let there : at ≡ 0 + sum_by (λ p. length p + 1) h.before + h.place = omega (arith, h.at_place) in
       choice_short reading t short
-      ∙ ap (λ (ps : List (List ℕ)). parts_at reading ps 0) (sym (parts_split (h.before ++ h.part ∷ h.behind) t h.are_parts))
-      ∙ parts_class h.before h.part h.behind 0 h.place at (ok_spelled h.before shorts.0 h.faultless) (sym (spell_by_short reading h.part shorts.1) ∙ h.fault) there
+      ∙ ap (λ (ps : List (List ℕ)). parts_at reading ps 0) (sym (parts_split (h.before ++ h.part ∷ h.following) t h.are_parts))
+      ∙ parts_class h.before h.part h.following 0 h.place at (ok_spelled h.before shorts.0 h.faultless) (sym (spell_by_short reading h.part shorts.1) ∙ h.fault) there
 
   pub reads_parts : ReadsParts (spell_by reading) (choice_by reading)
   reads_parts = record {

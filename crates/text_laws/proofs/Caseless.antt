@@ -14,7 +14,7 @@ use Rattle.text_laws.proofs.Belonging.{set_has-set_of}
 use Rattle.text_laws.proofs.Cases.{itself_takes, upper_of_lower}
 use Rattle.text_core.proofs.Suffixes.{IsSingle, fits_single}
 
--- an item takes both bytes or none where they are equal but for their case
+-- an item takes both bytes or neither if they are equal apart from their case
 abbrev Ignores : Item → Type 0
 Ignores x = (b c : ℕ) → b < 256 → c < 256 → eq_ignore_ascii_case b c ≡ true → takes x b ≡ takes x c
 

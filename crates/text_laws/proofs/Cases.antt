@@ -10,7 +10,7 @@ use Rattle.text_core.specs.declared.item.Item.TheVariants.{Byte, Among}
 use Rattle.text_core.specs.declared.reading.Reading.TheVariants.{Blind}
 use Rattle.text_laws.proofs.Belonging.{set_has-set_of}
 
--- what lower case makes of a byte, by where the byte stands
+-- what lower case makes of a byte, by the range that the byte is in
 data LowerIs (c n : ℕ) : Type 0 where
   lower_below : c < 65 → n ≡ c → LowerIs c n
   lower_letter : 64 < c → c < 91 → n ≡ c + 32 → LowerIs c n
@@ -36,7 +36,7 @@ upper_is c = by_test (ltb c 97) (ltb c 123) refl refl where
   by_test false true e f = let low : 97 ≤ c = ltb-false c 97 e in upper_letter low (ltb-true c 123 f) (omega arith)
   by_test false false e f = upper_above (ltb-false c 123 f) refl
 
--- a byte that is equal but for its case is the one case or the other
+-- a byte that is equal apart from its case is the one case or the other
 one_case : (c b : ℕ) → to_ascii_lowercase c ≡ to_ascii_lowercase b → (c ≡ to_ascii_lowercase b) ⊎ (c ≡ to_ascii_uppercase b)
 one_case c b e = by_lower (to_ascii_lowercase c) (to_ascii_lowercase b) (to_ascii_uppercase b) (lower_is c) (lower_is b) (upper_is b) e where
   by_lower : (l m u : ℕ) → LowerIs c l → LowerIs b m → UpperIs b u → l ≡ m → (c ≡ m) ⊎ (c ≡ u)
@@ -52,7 +52,7 @@ one_case c b e = by_lower (to_ascii_lowercase c) (to_ascii_lowercase b) (to_asci
   by_lower l m u (lower_letter g h k) (lower_above i j) (upper_letter n p q) same = inr (omega arith)
   by_lower l m u (lower_letter g h k) (lower_above i j) (upper_above p q) same = inr (omega arith)
 
--- the members have a byte in some case where they have it in lower or in upper case
+-- the members have a byte in some case if they have it in lower or in upper case
 pub some_case : (members : List ℕ) (b : ℕ) → members_have_by Blind members b ≡ true → HasInSomeCase members b
 some_case members b e = by_case (or_cases (members_have members (to_ascii_lowercase b)) (members_have members (to_ascii_uppercase b)) e) where
   by_case : (members_have members (to_ascii_lowercase b) ≡ true) ⊎ (members_have members (to_ascii_uppercase b) ≡ true) → HasInSomeCase members b
@@ -91,7 +91,7 @@ same_truth true w h k = sym (h refl)
 same_truth false true h k = k refl
 same_truth false false h k = refl
 
--- a byte that is no letter is none in either case
+-- a byte that is not a letter is in neither range of letters
 no_letter : (b : ℕ) → is_ascii_alphabetic b ≡ false → (64 < b → b < 91 → ⊥) × (96 < b → b < 123 → ⊥)
 no_letter b e = (λ g h. upper g h, λ g h. lower g h) where
   upper : 64 < b → b < 91 → ⊥
@@ -124,7 +124,7 @@ not_letter_same b c e same = by_case (one_case b c same) where
   by_case (inl h) = lower (to_ascii_lowercase c) (lower_is c) h
   by_case (inr h) = upper (to_ascii_uppercase c) (upper_is c) h
 
--- a byte that is no letter is in one case only
+-- a byte that is not a letter is in one case only
 pub alone : (b c : ℕ) → is_ascii_alphabetic b ≡ false → eqb b c ≡ eq_ignore_ascii_case b c
 alone b c e =
     same_truth (eqb b c) (eq_ignore_ascii_case b c)

@@ -11,35 +11,35 @@ use Rattle.text_core.specs.Spell.{opens_class, class_place}
 abbrev opens : ℕ × ℕ → Bool
 opens pair = eqb pair.0 open_bracket && opens_class pair.1
 
--- the place of the first class, where the members start at i
+-- the place of the first class, if the members start at i
 abbrev class_from : ℕ → List ℕ → Option ℕ
 class_from i m = position_from opens i (zip m (drop 1 m))
 
 -- a class of the members is the front one, or one of the rest
 here_or_later : (x y : ℕ) (m : List ℕ) (n : ℕ) → IsClassAt (x ∷ y ∷ m) n → opens (x, y) ≡ false → (k : ℕ) × (n ≡ suc k) × IsClassAt (y ∷ m) k
-here_or_later x y m n a none = by_front a.before a.whole a.place where
-  by_front : (before : List ℕ) → x ∷ y ∷ m ≡ before ++ open_bracket ∷ a.next ∷ a.behind → length before ≡ n → (k : ℕ) × (n ≡ suc k) × IsClassAt (y ∷ m) k
-  by_front [] e l =
+here_or_later x y m n a none = by_first_item a.before a.whole a.place where
+  by_first_item : (before : List ℕ) → x ∷ y ∷ m ≡ before ++ open_bracket ∷ a.next ∷ a.following → length before ≡ n → (k : ℕ) × (n ≡ suc k) × IsClassAt (y ∷ m) k
+  by_first_item [] e l =
       let first : x ≡ open_bracket = cc in
       let second : y ≡ a.next = cc in
       let both : opens (x, y) ≡ true = ap (λ (v : Bool). v && opens_class y) (eq-eqb x open_bracket first) ∙ ap opens_class second ∙ a.opens in
       absurd cc
-  by_front (z ∷ before) e l =
-      let tail : y ∷ m ≡ before ++ open_bracket ∷ a.next ∷ a.behind = cc in
-      (length before, sym l, record { before = before; next = a.next; behind = a.behind; whole = tail; opens = a.opens; place = refl })
+  by_first_item (z ∷ before) e l =
+      let tail : y ∷ m ≡ before ++ open_bracket ∷ a.next ∷ a.following = cc in
+      (length before, sym l, record { before = before; next = a.next; following = a.following; whole = tail; opens = a.opens; place = refl })
 
 short : (x : ℕ) (n : ℕ) → IsClassAt (x ∷ []) n → ⊥
-short x n a = by_front a.before a.whole where
-  by_front : (before : List ℕ) → x ∷ [] ≡ before ++ open_bracket ∷ a.next ∷ a.behind → ⊥
-  by_front [] e = cc
-  by_front (z ∷ []) e = cc
-  by_front (z ∷ w ∷ before) e = cc
+short x n a = by_first_item a.before a.whole where
+  by_first_item : (before : List ℕ) → x ∷ [] ≡ before ++ open_bracket ∷ a.next ∷ a.following → ⊥
+  by_first_item [] e = cc
+  by_first_item (z ∷ []) e = cc
+  by_first_item (z ∷ w ∷ before) e = cc
 
 nowhere : (n : ℕ) → IsClassAt [] n → ⊥
-nowhere n a = by_front a.before a.whole where
-  by_front : (before : List ℕ) → [] ≡ before ++ open_bracket ∷ a.next ∷ a.behind → ⊥
-  by_front [] e = cc
-  by_front (z ∷ before) e = cc
+nowhere n a = by_first_item a.before a.whole where
+  by_first_item : (before : List ℕ) → [] ≡ before ++ open_bracket ∷ a.next ∷ a.following → ⊥
+  by_first_item [] e = cc
+  by_first_item (z ∷ before) e = cc
 
 none_from : (i : ℕ) (m : List ℕ) → class_from i m ≡ None → NoClass m
 none_from i [] e = nowhere
@@ -49,7 +49,7 @@ none_from i (x ∷ y ∷ m) e = by_test (opens (x, y)) refl e (none_from (i + 1)
   by_test true t h again = absurd cc
   by_test false t h again = λ n a. let later = here_or_later x y m n a t in again h later.0 later.2
 
--- the first class among the members, whose place is k where they start at i
+-- the first class among the members, whose place is k if they start at i
 pub record First (m : List ℕ) (i k : ℕ) : Type 0 where
   pub place : ℕ
   pub is : IsClassAt m place
@@ -66,7 +66,7 @@ some_from i k (x ∷ y ∷ m) e = by_test (opens (x, y)) refl e (some_from (i + 
       let same : i ≡ k = cc in
       record {
         place = 0;
-        is = record { before = []; next = y; behind = m; whole = ap (λ (b : ℕ). b ∷ y ∷ m) (eqb-true x open_bracket parts.0); opens = parts.1; place = refl };
+        is = record { before = []; next = y; following = m; whole = ap (λ (b : ℕ). b ∷ y ∷ m) (eqb-true x open_bracket parts.0); opens = parts.1; place = refl };
         first = λ n a. omega arith;
         from = omega arith;
       }
@@ -74,12 +74,12 @@ some_from i k (x ∷ y ∷ m) e = by_test (opens (x, y)) refl e (some_from (i + 
       let rest : First (y ∷ m) (i + 1) k = again h in
       record {
         place = suc rest.place;
-        is = record { before = x ∷ rest.is.before; next = rest.is.next; behind = rest.is.behind; whole = ap (λ (b : List ℕ). x ∷ b) rest.is.whole; opens = rest.is.opens; place = ap suc rest.is.place };
+        is = record { before = x ∷ rest.is.before; next = rest.is.next; following = rest.is.following; whole = ap (λ (b : List ℕ). x ∷ b) rest.is.whole; opens = rest.is.opens; place = ap suc rest.is.place };
         first = λ n a. let later = here_or_later x y m n a t in let least : rest.place ≤ later.0 = rest.first later.0 later.2 in omega (arith, later.1);
         from = omega (arith, rest.from);
       }
 
--- where no class is found there is none
+-- if no class is found there is none
 pub no_class : (m : List ℕ) → class_place m ≡ None → NoClass m
 no_class m e = none_from 0 m (sym (position_from-zero opens (zip m (drop 1 m))) ∙ e)
 

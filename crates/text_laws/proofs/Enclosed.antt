@@ -24,7 +24,7 @@ abbrev pub sign_of : List ℕ → Sign
 sign_of [] = no_sign
 sign_of (b ∷ t) = cond (eqb b bang) bang_sign (cond (eqb b caret) caret_sign no_sign)
 
--- a sign is written at the front, as long as it is counted, and negates where it is said to
+-- a sign is written at the front, as long as it is counted, and negates if it is said to
 record Signed (t : List ℕ) : Type 0 where
   pub whole : t ≡ print_sign (sign_of t) ++ drop (sign_len t) t
   pub len : length (print_sign (sign_of t)) ≡ sign_len t
@@ -50,8 +50,8 @@ signed (b ∷ t) =
 
 -- what is counted of a set: a text that is ps, the members x and before, and a `]` before the rest
 record Counted (t body : List ℕ) (members rest : List ℕ) (s k : ℕ) : Type 0 where
-  pub front : take (k + 1) body ≡ members
-  pub behind : drop (s + (k + 1) + 1) t ≡ rest
+  pub prefix : take (k + 1) body ≡ members
+  pub following : drop (s + (k + 1) + 1) t ≡ rest
   pub whole : length t ≡ s + (k + 1) + 1 + length rest
 
 counted : (t ps body : List ℕ) (x : ℕ) (before rest : List ℕ) (s k : ℕ) → t ≡ ps ++ body → length ps ≡ s
@@ -60,10 +60,10 @@ counted t ps body x before rest s k text sign inner len =
     let whole : t ≡ ps ++ (x ∷ (before ++ close_bracket ∷ rest)) = text ∙ ap (λ (b : List ℕ). ps ++ b) inner in
     let past : s + (k + 1) + 1 ≡ length ps + suc (length before + 1) = omega arith in
     record {
-      front =
+      prefix =
           ap (take (k + 1)) inner ∙ ap (λ (n : ℕ). take n (x ∷ (before ++ close_bracket ∷ rest))) (add-one k)
           ∙ ap (λ (ys : List ℕ). x ∷ ys) (ap (λ (n : ℕ). take n (before ++ close_bracket ∷ rest)) (sym len) ∙ take-append_seam before (close_bracket ∷ rest));
-      behind =
+      following =
           ap (drop (s + (k + 1) + 1)) whole ∙ ap (λ (n : ℕ). drop n (ps ++ (x ∷ (before ++ close_bracket ∷ rest)))) past
           ∙ drop-append-add ps (x ∷ (before ++ close_bracket ∷ rest)) (suc (length before + 1))
           ∙ drop-append-add before (close_bracket ∷ rest) 1;
@@ -78,31 +78,31 @@ pub record Closed (t : List ℕ) (k : ℕ) : Type 0 where
   pub members : List ℕ
   pub rest : List ℕ
   pub a_set : IsSet (open_bracket ∷ t) (sign_of t) members rest
-  pub front : take (k + 1) (drop (sign_len t) t) ≡ members
-  pub behind : drop (sign_len t + (k + 1) + 1) t ≡ rest
+  pub prefix : take (k + 1) (drop (sign_len t) t) ≡ members
+  pub following : drop (sign_len t + (k + 1) + 1) t ≡ rest
   pub whole : length t ≡ sign_len t + (k + 1) + 1 + length rest
   pub sign : length (print_sign (sign_of t)) ≡ sign_len t
   pub negates : negates (sign_of t) ≡ negated t
 
-nothing_found : (before : List ℕ) (here : ℕ) (behind : List ℕ) → [] ≡ before ++ here ∷ behind → ⊥
-nothing_found [] here behind e = cc
-nothing_found (x ∷ before) here behind e = cc
+nothing_found : (before : List ℕ) (here : ℕ) (following : List ℕ) → [] ≡ before ++ here ∷ following → ⊥
+nothing_found [] here following e = cc
+nothing_found (x ∷ before) here following e = cc
 
 pub set_found : (t : List ℕ) (k : ℕ) → close_of (drop (sign_len t) t) ≡ Some k → Closed t k
 set_found t k close = by_body (drop (sign_len t) t) refl close where
   by_body : (m : List ℕ) → drop (sign_len t) t ≡ m → close_of m ≡ Some k → Closed t k
-  by_body [] body e = let f : Found closes [] 0 k = found closes k [] e in absurd (nothing_found f.before f.here f.behind f.whole)
+  by_body [] body e = let f : Found closes [] 0 k = found closes k [] e in absurd (nothing_found f.before f.here f.following f.whole)
   by_body (x ∷ m) body e =
       let f : Found closes m 0 k = found closes k m e in
       let s : Signed t = signed t in
       let end : f.here ≡ close_bracket = eqb-true f.here close_bracket f.passes in
-      let cut : m ≡ f.before ++ close_bracket ∷ f.behind = f.whole ∙ ap (λ (b : ℕ). f.before ++ b ∷ f.behind) end in
-      let inner : drop (sign_len t) t ≡ (x ∷ f.before) ++ close_bracket ∷ f.behind = body ∙ ap (λ (ys : List ℕ). x ∷ ys) cut in
+      let cut : m ≡ f.before ++ close_bracket ∷ f.following = f.whole ∙ ap (λ (b : ℕ). f.before ++ b ∷ f.following) end in
+      let inner : drop (sign_len t) t ≡ (x ∷ f.before) ++ close_bracket ∷ f.following = body ∙ ap (λ (ys : List ℕ). x ∷ ys) cut in
       let len : length f.before ≡ k = omega (arith, f.place) in
-      let parts = counted t (print_sign (sign_of t)) (drop (sign_len t) t) x f.before f.behind (sign_len t) k s.whole s.len inner len in
+      let parts = counted t (print_sign (sign_of t)) (drop (sign_len t) t) x f.before f.following (sign_len t) k s.whole s.len inner len in
       record {
         members = x ∷ f.before;
-        rest = f.behind;
+        rest = f.following;
         a_set = record {
           text = ap (λ (ys : List ℕ). open_bracket ∷ ys) (s.whole ∙ ap (λ (ys : List ℕ). print_sign (sign_of t) ++ ys) inner);
           some = omega arith;
@@ -111,8 +111,8 @@ set_found t k close = by_body (drop (sign_len t) t) refl close where
               let plain : t ≡ x ∷ m = s.whole ∙ ap (λ (g : Sign). print_sign g ++ drop (sign_len t) t) h ∙ body in
               sym (ap negated plain) ∙ sym s.negated ∙ ap negates h;
         };
-        front = parts.front;
-        behind = parts.behind;
+        prefix = parts.prefix;
+        following = parts.following;
         whole = parts.whole;
         sign = s.len;
         negates = sym (sym s.negated);
@@ -122,8 +122,8 @@ set_found t k close = by_body (drop (sign_len t) t) refl close where
 pub record Again (t : List ℕ) (sign : Sign) (members rest : List ℕ) : Type 0 where
   pub last : ℕ
   pub close : close_of (drop (sign_len t) t) ≡ Some last
-  pub front : take (last + 1) (drop (sign_len t) t) ≡ members
-  pub behind : drop (sign_len t + (last + 1) + 1) t ≡ rest
+  pub prefix : take (last + 1) (drop (sign_len t) t) ≡ members
+  pub following : drop (sign_len t + (last + 1) + 1) t ≡ rest
   pub whole : length t ≡ sign_len t + (last + 1) + 1 + length rest
   pub sign_is : sign_len t ≡ length (print_sign sign)
   pub negated_is : negated t ≡ negates sign
@@ -154,18 +154,18 @@ set_again t sign (x ∷ before) rest a =
     record {
       last = length before;
       close = ap close_of b.body ∙ joined closes before close_bracket rest a.unclosed refl;
-      front = parts.front;
-      behind = parts.behind;
+      prefix = parts.prefix;
+      following = parts.following;
       whole = parts.whole;
       sign_is = b.sign_is;
       negated_is = b.negated_is;
     }
 
--- where no end is found no set is at the front
+-- if no end is found no set is at the front
 pub no_set : (t : List ℕ) → close_of (drop (sign_len t) t) ≡ None → NoSet (open_bracket ∷ t)
 no_set t none sign members rest a = let again : Again t sign members rest = set_again t sign members rest a in absurd (let some = again.close in cc)
 
--- and where none is there no end is found
+-- and if there is no set no end is found
 pub close_none : (t : List ℕ) → NoSet (open_bracket ∷ t) → close_of (drop (sign_len t) t) ≡ None
 close_none t none = by_close (close_of (drop (sign_len t) t)) refl where
   by_close : (o : Option ℕ) → close_of (drop (sign_len t) t) ≡ o → o ≡ None

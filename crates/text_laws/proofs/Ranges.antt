@@ -16,8 +16,8 @@ written (x ∷ []) = (alone x ∷ [], ([], refl, refl, refl))
 written (x ∷ y ∷ []) = (alone x ∷ alone y ∷ [], (y ∷ [], refl, refl, ([], refl, refl, refl)))
 written (x ∷ d ∷ y ∷ m) = by_minus (eqb d minus) refl (written m) (written (d ∷ y ∷ m)) where
   by_minus : (v : Bool) → eqb d minus ≡ v → Written m → Written (d ∷ y ∷ m) → Written (x ∷ d ∷ y ∷ m)
-  by_minus true e behind next = (range x y ∷ behind.0, (m, ap (λ (c : ℕ). x ∷ c ∷ y ∷ m) (eqb-true d minus e), behind.1))
-  by_minus false e behind next = (alone x ∷ next.0, (d ∷ y ∷ m, refl, ap (λ (v : Bool). let o : Option ℕ = cond v (Some y) None in o) e, next.1))
+  by_minus true e following next = (range x y ∷ following.0, (m, ap (λ (c : ℕ). x ∷ c ∷ y ∷ m) (eqb-true d minus e), following.1))
+  by_minus false e following next = (alone x ∷ next.0, (d ∷ y ∷ m, refl, ap (λ (v : Bool). let o : Option ℕ = cond v (Some y) None in o) e, next.1))
 
 pub had : (members : List Member) (m : List ℕ) (b : ℕ) → AreMembers members m → members_have m b ≡ list_any (λ member. member_has member b) members
 had [] m b are = ap (λ (u : List ℕ). members_have u b) are

@@ -1,8 +1,8 @@
--- What a text spells that stands further back: the same, with its fault further back.
+-- What a text spells that is further back: the same, with its fault further back.
 use Rattle.std.proofs.Common.{◌≡◌, ℕ, zero, suc, ◌+◌, Bool, true, false, cond, List, ◌∷◌, [], drop, take, Option, Some, None, Result, Ok, Err, eqb, refl, ◌∙◌, ap, arith}
 use Rattle.std.specs.Option.{option_map}
 use Rattle.text_bytes.specs.Names.{open_bracket, question_mark, star}
-use Rattle.text_core.specs.Spell.{sign_len, members_len, class_place, set_or_byte, set_unless_class, bracket, front, itself, with_item, with_front, items_at}
+use Rattle.text_core.specs.Spell.{sign_len, members_len, class_place, set_or_byte, set_unless_class, bracket, first_item, itself, with_item, with_first, items_at}
 use Rattle.text_core.specs.declared.glob_fault.GlobFault.{GlobFault}
 use Rattle.text_core.specs.declared.glob_fault.GlobFault.TheVariants.{Class, TooLong, Memory}
 use Rattle.text_core.specs.declared.item.Item.{Item}
@@ -43,9 +43,9 @@ bracket_later reading n at there t place = by_end (members_len (drop (sign_len t
   by_end None = refl
   by_end (Some k) = by_class k (class_place (take k body))
 
-front_later : (reading : Reading) (n at there b : ℕ) (t : List ℕ) → there ≡ n + at → front reading there b t ≡ later_head n (front reading at b t)
-unfolding front
-front_later reading n at there b t place = by_byte (eqb b star) (eqb b question_mark) (eqb b open_bracket) where
+prefix_later : (reading : Reading) (n at there b : ℕ) (t : List ℕ) → there ≡ n + at → first_item reading there b t ≡ later_head n (first_item reading at b t)
+unfolding first_item
+prefix_later reading n at there b t place = by_byte (eqb b star) (eqb b question_mark) (eqb b open_bracket) where
   by_byte : (v w u : Bool) → cond v (Ok (alone Many)) (cond w (Ok (alone One)) (cond u (bracket reading there t) (Ok (alone (itself reading b)))))
       ≡ later_head n (cond v (Ok (alone Many)) (cond w (Ok (alone One)) (cond u (bracket reading at t) (Ok (alone (itself reading b))))))
   by_byte true w u = refl
@@ -62,11 +62,11 @@ items_at-later reading [] zero n at there place = refl
 items_at-later reading [] (suc k) n at there place = refl
 items_at-later reading (b ∷ t) (suc k) n at there place = items_at-later reading t k n (at + 1) (there + 1) (omega arith)
 items_at-later reading (b ∷ t) zero n at there place =
-    ap (λ (r : Result Head GlobFault). with_front r (λ k. items_at reading t k (there + 1))) (front_later reading n at there b t place)
-    ∙ by_front (front reading at b t) (λ k. items_at-later reading t k n (at + 1) (there + 1) (omega arith)) where
-      by_front : (r : Result Head GlobFault) → ((k : ℕ) → items_at reading t k (there + 1) ≡ later n (items_at reading t k (at + 1)))
-          → with_front (later_head n r) (λ k. items_at reading t k (there + 1)) ≡ later n (with_front r (λ k. items_at reading t k (at + 1)))
-      by_front (Ok head) rest =
-          ap (with_item head.item) (rest head.behind)
-          ∙ later_item n head.item (items_at reading t head.behind (at + 1))
-      by_front (Err e) rest = refl
+    ap (λ (r : Result Head GlobFault). with_first r (λ k. items_at reading t k (there + 1))) (prefix_later reading n at there b t place)
+    ∙ by_first_item (first_item reading at b t) (λ k. items_at-later reading t k n (at + 1) (there + 1) (omega arith)) where
+      by_first_item : (r : Result Head GlobFault) → ((k : ℕ) → items_at reading t k (there + 1) ≡ later n (items_at reading t k (at + 1)))
+          → with_first (later_head n r) (λ k. items_at reading t k (there + 1)) ≡ later n (with_first r (λ k. items_at reading t k (at + 1)))
+      by_first_item (Ok head) rest =
+          ap (with_item head.item) (rest head.following)
+          ∙ later_item n head.item (items_at reading t head.following (at + 1))
+      by_first_item (Err e) rest = refl

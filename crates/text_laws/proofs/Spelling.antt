@@ -3,29 +3,29 @@ use Rattle.std.proofs.Common.{◌≡◌, ℕ, zero, suc, ◌+◌, ◌≤◌, Lis
 use Rattle.std.proofs.lemmas.List.{length-drop}
 use Rattle.text_bytes.specs.Names.{open_bracket}
 use Rattle.text_laws.specs.Grammar.{print_sign, Sign, IsSet, IsClassAt, Piece, ArePieces, item_of, Spells, HasClassAt}
-use Rattle.text_core.specs.Spell.{items_at, front, with_item, with_front}
+use Rattle.text_core.specs.Spell.{items_at, first_item, with_item, with_first}
 use Rattle.text_core.specs.declared.glob_fault.GlobFault.{GlobFault}
 use Rattle.text_core.specs.declared.glob_fault.GlobFault.TheVariants.{Class}
 use Rattle.text_core.specs.declared.item.Item.{Item}
 use Rattle.text_core.specs.declared.reading.Reading.{Reading}
 use Rattle.text_core.specs.declared.spell.Head.{Head}
-use Rattle.text_laws.proofs.Pieces.{Begins, Faulty, front_tells, Starts, piece_starts, inner_of, class_fails}
+use Rattle.text_laws.proofs.Pieces.{Begins, Faulty, prefix_reports, Starts, piece_starts, inner_of, class_fails}
 use Rattle.text_core.proofs.Scanning.{with_items, with_items-none, items_at-drop}
 
 -- a class at a place of a text that is at a place of a longer one
 pub record HasClassFrom (t : List ℕ) (from at : ℕ) : Type 0 where
   pub pieces : List Piece
-  pub behind : List ℕ
-  pub written : ArePieces pieces t behind
+  pub following : List ℕ
+  pub written : ArePieces pieces t following
   pub sign : Sign
   pub members : List ℕ
   pub rest : List ℕ
-  pub a_set : IsSet behind sign members rest
+  pub a_set : IsSet following sign members rest
   pub place : ℕ
   pub a_class : IsClassAt members place
   pub first : (n : ℕ) → IsClassAt members n → place ≤ n
   pub start : ℕ
-  pub starts : start + length behind ≡ from + length t
+  pub starts : start + length following ≡ from + length t
   pub at_place : at ≡ start + 1 + length (print_sign sign) + place
 
 -- a fault of a text is a class
@@ -56,7 +56,7 @@ says_more reading b t from next x n (Err e) begins place said =
       is = said.is;
       there = record {
         pieces = begins.piece ∷ there.pieces;
-        behind = there.behind;
+        following = there.following;
         sign = there.sign;
         members = there.members;
         rest = there.rest;
@@ -79,7 +79,7 @@ says_fault reading b t from e f =
       is = f.fault;
       there = record {
         pieces = [];
-        behind = b ∷ t;
+        following = b ∷ t;
         sign = f.sign;
         members = f.members;
         rest = f.rest;
@@ -99,18 +99,18 @@ says reading [] zero at next place = record { pieces = []; written = refl; meant
 says reading [] (suc n) at next place = record { pieces = []; written = refl; meant = refl }
 says reading (b ∷ t) (suc n) at next place = says reading t n (at + 1) next (omega arith)
 says reading (b ∷ t) zero at next place =
-    by_front (front reading at b t) (front_tells reading at b t) (λ n. says reading t n (at + 1) (at + 1 + n) refl) where
+    by_first_item (first_item reading at b t) (prefix_reports reading at b t) (λ n. says reading t n (at + 1) (at + 1 + n) refl) where
       here : at ≡ next
       here = omega arith
 
-      Tells : Result Head GlobFault → Type 0
-      Tells r = elim r as (λ _. Type 0) [ Ok head ↦ Begins reading b t head.item head.behind | Err e ↦ Faulty b t at e ]
+      Reports : Result Head GlobFault → Type 0
+      Reports r = elim r as (λ _. Type 0) [ Ok head ↦ Begins reading b t head.item head.following | Err e ↦ Faulty b t at e ]
 
-      by_front : (r : Result Head GlobFault) → Tells r → ((n : ℕ) → Says reading (drop n t) (at + 1 + n) (items_at reading t n (at + 1)))
-          → Says reading (b ∷ t) next (with_front r (λ n. items_at reading t n (at + 1)))
-      by_front (Ok head) begins again =
-          says_more reading b t next (at + 1 + head.behind) head.item head.behind (items_at reading t head.behind (at + 1)) begins (omega arith) (again head.behind)
-      by_front (Err e) faulty again = says_fault reading b t next e (subst (λ (k : ℕ). Faulty b t k e) here faulty)
+      by_first_item : (r : Result Head GlobFault) → Reports r → ((n : ℕ) → Says reading (drop n t) (at + 1 + n) (items_at reading t n (at + 1)))
+          → Says reading (b ∷ t) next (with_first r (λ n. items_at reading t n (at + 1)))
+      by_first_item (Ok head) begins again =
+          says_more reading b t next (at + 1 + head.following) head.item head.following (items_at reading t head.following (at + 1)) begins (omega arith) (again head.following)
+      by_first_item (Err e) faulty again = says_fault reading b t next e (subst (λ (k : ℕ). Faulty b t k e) here faulty)
 
 -- what a text says in whole
 pub said_items : (reading : Reading) (t : List ℕ) (items : List Item) → items_at reading t 0 0 ≡ Ok items → Spells reading t items
@@ -124,7 +124,7 @@ said_class reading t at e =
     let same : at ≡ c.at = cc in
     record {
       pieces = there.pieces;
-      behind = there.behind;
+      following = there.following;
       sign = there.sign;
       members = there.members;
       rest = there.rest;
@@ -143,31 +143,31 @@ with_item-items x items (Ok more) = refl
 with_item-items x items (Err e) = refl
 
 -- pieces of a text are read one after the other
-pub pieces_read : (reading : Reading) (pieces : List Piece) (t behind : List ℕ) (at next : ℕ) → ArePieces pieces t behind → next + length behind ≡ at + length t
-    → items_at reading t 0 at ≡ with_items (map (item_of reading) pieces) (items_at reading behind 0 next)
-pieces_read reading [] t behind at next same place =
-    let lengths : length t ≡ length behind = ap length same in
+pub pieces_read : (reading : Reading) (pieces : List Piece) (t following : List ℕ) (at next : ℕ) → ArePieces pieces t following → next + length following ≡ at + length t
+    → items_at reading t 0 at ≡ with_items (map (item_of reading) pieces) (items_at reading following 0 next)
+pieces_read reading [] t following at next same place =
+    let lengths : length t ≡ length following = ap length same in
     let here : at ≡ next = omega arith in
-    ap (λ (u : List ℕ). items_at reading u 0 at) same ∙ ap (λ (k : ℕ). items_at reading behind 0 k) here
-    ∙ sym (with_items-none (items_at reading behind 0 next))
-pieces_read reading (piece ∷ pieces) t behind at next written place =
+    ap (λ (u : List ℕ). items_at reading u 0 at) same ∙ ap (λ (k : ℕ). items_at reading following 0 k) here
+    ∙ sym (with_items-none (items_at reading following 0 next))
+pieces_read reading (piece ∷ pieces) t following at next written place =
     let more : List ℕ = written.0 in
     let s : Starts reading at t (item_of reading piece) more = piece_starts reading at piece t more written.1 in
-    let tail : List ℕ = s.behind in
+    let tail : List ℕ = s.following in
     let n : ℕ = s.passed in
     let left : length more + n ≡ length tail =
     let less : length (drop n tail) + n ≡ length tail = let cut = length-drop n tail in let within : n ≤ length tail = s.within in omega arith in
     let same : length (drop n tail) ≡ length more = ap length s.back in
     omega arith in
     let whole : length t ≡ suc (length tail) = ap length s.text in
-    let there : next + length behind ≡ at + 1 + n + length more = omega arith in
+    let there : next + length following ≡ at + 1 + n + length more = omega arith in
     ap (λ (u : List ℕ). items_at reading u 0 at) s.text
-    ∙ ap (λ r. with_front r (λ k. items_at reading tail k (at + 1))) s.found
+    ∙ ap (λ r. with_first r (λ k. items_at reading tail k (at + 1))) s.found
     ∙ ap (with_item (item_of reading piece)) (
     items_at-drop reading tail n (at + 1) s.within
     ∙ ap (λ (u : List ℕ). items_at reading u 0 (at + 1 + n)) s.back
-    ∙ pieces_read reading pieces more behind (at + 1 + n) next written.2 there)
-    ∙ with_item-items (item_of reading piece) (map (item_of reading) pieces) (items_at reading behind 0 next)
+    ∙ pieces_read reading pieces more following (at + 1 + n) next written.2 there)
+    ∙ with_item-items (item_of reading piece) (map (item_of reading) pieces) (items_at reading following 0 next)
 
 pub spelled_read : (reading : Reading) (t : List ℕ) (items : List Item) → Spells reading t items → items_at reading t 0 0 ≡ Ok items
 spelled_read reading t items s =
@@ -175,14 +175,14 @@ spelled_read reading t items s =
     pieces_read reading s.pieces t [] 0 (length t) s.written end ∙ ap Ok (append-nil (map (item_of reading) s.pieces) ∙ sym s.meant)
 
 pub class_read : (reading : Reading) (t : List ℕ) (at : ℕ) → HasClassAt t at → items_at reading t 0 0 ≡ Err (Class at)
-class_read reading t at h = by_inner (inner_of h.behind h.sign h.members h.rest h.a_set) where
-  by_inner : (inner : List ℕ) × (h.behind ≡ open_bracket ∷ inner) → items_at reading t 0 0 ≡ Err (Class at)
+class_read reading t at h = by_inner (inner_of h.following h.sign h.members h.rest h.a_set) where
+  by_inner : (inner : List ℕ) × (h.following ≡ open_bracket ∷ inner) → items_at reading t 0 0 ≡ Err (Class at)
   by_inner pair =
       let inner : List ℕ = pair.0 in
       let here : IsSet (open_bracket ∷ inner) h.sign h.members h.rest = subst (λ (u : List ℕ). IsSet u h.sign h.members h.rest) pair.1 h.a_set in
-      let end : h.start + length h.behind ≡ 0 + length t = omega (arith, h.starts) in
-      pieces_read reading h.pieces t h.behind 0 h.start h.written end
+      let end : h.start + length h.following ≡ 0 + length t = omega (arith, h.starts) in
+      pieces_read reading h.pieces t h.following 0 h.start h.written end
       ∙ ap (with_items (map (item_of reading) h.pieces)) (
       ap (λ (u : List ℕ). items_at reading u 0 h.start) pair.1
-      ∙ ap (λ r. with_front r (λ k. items_at reading inner k (h.start + 1))) (class_fails reading h.start inner h.sign h.members h.rest h.place here h.a_class h.first))
+      ∙ ap (λ r. with_first r (λ k. items_at reading inner k (h.start + 1))) (class_fails reading h.start inner h.sign h.members h.rest h.place here h.a_class h.first))
       ∙ ap (λ (k : ℕ). let r : Result (List Item) GlobFault = Err (Class k) in r) (sym h.at_place)

@@ -12,7 +12,7 @@ use Rattle.std.proofs.lemmas.Map.Lookups.{exact_bytes}
 use Rattle.text_bytes.specs.FileOrder.{put}
 use Rattle.text_bytes.specs.OrderLaws.{IsFirstOfLeastRank, NamesRise}
 use Rattle.text_bytes.specs.declared.source_file.SourceFile.{SourceFile}
-use Rattle.text_bytes.proofs.Placing.{order, placed, Above, rises_behind, put-rises, winner-name, above_further}
+use Rattle.text_bytes.proofs.Placing.{order, placed, Above, rises_after, put-rises, winner-name, above_further}
 
 -- a file of this name is there
 abbrev pub HasName : List ℕ → List SourceFile → Type 0
@@ -36,22 +36,22 @@ still files e y f h =
     let P : SourceFile → Type 0 = λ g. g.name ≡ y.name → y.rank ≤ g.rank in
     record {
       before = f.before;
-      behind = f.behind ++ e ∷ [];
-      stands = ap (λ (l : List SourceFile). l ++ e ∷ []) f.stands ∙ append_assoc f.before (y ∷ f.behind) (e ∷ []);
+      following = f.following ++ e ∷ [];
+      is_present = ap (λ (l : List SourceFile). l ++ e ∷ []) f.is_present ∙ append_assoc f.before (y ∷ f.following) (e ∷ []);
       greater = f.greater;
-      no_less = All-append P f.behind (e ∷ []) f.no_less (All-cons P e [] h (All-nil P));
+      no_less = All-append P f.following (e ∷ []) f.no_less (All-cons P e [] h (All-nil P));
     }
 
 -- a further file that wins over all of its name
 wins : (files : List SourceFile) (e : SourceFile) → All (λ g. g.name ≡ e.name → e.rank < g.rank) files → IsFirstOfLeastRank (files ++ e ∷ []) e
-wins files e h = record { before = files; behind = []; stands = refl; greater = h; no_less = All-nil (λ g. g.name ≡ e.name → e.rank ≤ g.rank) }
+wins files e h = record { before = files; following = []; is_present = refl; greater = h; no_less = All-nil (λ g. g.name ≡ e.name → e.rank ≤ g.rank) }
 
 least_of_all : (files : List SourceFile) (x : SourceFile) → IsFirstOfLeastRank files x → All (λ g. g.name ≡ x.name → x.rank ≤ g.rank) files
 least_of_all files x f =
     let P : SourceFile → Type 0 = λ g. g.name ≡ x.name → x.rank ≤ g.rank in
     let here : P x = λ s. omega arith in
-    let front : All P f.before = λ k d l s. let less : x.rank < (get_or f.before k d).rank = f.greater k d l s in omega arith in
-    subst (λ l. All P l) (sym f.stands) (All-append P f.before (x ∷ f.behind) front (All-cons P x f.behind here f.no_less))
+    let prefix : All P f.before = λ k d l s. let less : x.rank < (get_or f.before k d).rank = f.greater k d l s in omega arith in
+    subst (λ l. All P l) (sym f.is_present) (All-append P f.before (x ∷ f.following) prefix (All-cons P x f.following here f.no_less))
 
 stay_above : (files : List SourceFile) (e : SourceFile) (xs : List SourceFile) → Above e.name xs → AllByRecursion (IsFirstOfLeastRank files) xs → AllByRecursion (IsFirstOfLeastRank (files ++ e ∷ [])) xs
 stay_above files e [] a h = tt
@@ -67,22 +67,22 @@ by_order : (files : List SourceFile) (x : SourceFile) (xs : List SourceFile) (e 
     → AllByRecursion (IsFirstOfLeastRank files) (x ∷ xs) → NamesRise (x ∷ xs) → All (λ g. g.name ≡ e.name → HasName e.name (x ∷ xs)) files
     → (All (λ g. g.name ≡ e.name → HasName e.name xs) files → AllByRecursion (IsFirstOfLeastRank (files ++ e ∷ [])) (put xs e))
     → AllByRecursion (IsFirstOfLeastRank (files ++ e ∷ [])) (placed o e x xs (put xs e))
-by_order files x xs e Less is h r has behind =
+by_order files x xs e Less is h r has following =
     let other : (x.name ≡ e.name) ⊎ HasName e.name xs → HasName e.name xs = λ a. elim a [ inl s ↦ absurd (differ x.name e.name is s) | inr later ↦ later ] in
-    (still files e x h.0 (λ s. absurd (differ x.name e.name is (sym s))), behind (λ k d l s. other (has k d l s)))
-by_order files x xs e Equal is h r has behind =
+    (still files e x h.0 (λ s. absurd (differ x.name e.name is (sym s))), following (λ k d l s. other (has k d l s)))
+by_order files x xs e Equal is h r has following =
     let same : x.name ≡ e.name = exact_bytes x.name e.name is in
-    let above : Above e.name xs = subst (λ n. Above n xs) same (rises_behind x xs r).0 in
+    let above : Above e.name xs = subst (λ n. Above n xs) same (rises_after x xs r).0 in
     (by_rank files x e (ltb e.rank x.rank) refl same h.0, stay_above files e xs above h.1)
-by_order files x xs e Greater is h r has behind =
+by_order files x xs e Greater is h r has following =
     let less : order e.name x.name ≡ Less = nat_list_cmp_total.antisymm e.name x.name ∙ ap ordering_reverse is in
-    let above : Above e.name (x ∷ xs) = (less, above_further e.name x.name xs less (rises_behind x xs r).0) in
+    let above : Above e.name (x ∷ xs) = (less, above_further e.name x.name xs less (rises_after x xs r).0) in
     (wins files e (λ k d l s. absurd (not_above e.name (x ∷ xs) above (has k d l s))), stay_above files e (x ∷ xs) above h)
 
 put_wins_all : (files : List SourceFile) (xs : List SourceFile) (e : SourceFile) → AllByRecursion (IsFirstOfLeastRank files) xs → NamesRise xs → All (λ g. g.name ≡ e.name → HasName e.name xs) files
     → AllByRecursion (IsFirstOfLeastRank (files ++ e ∷ [])) (put xs e)
 put_wins_all files [] e h r has = (wins files e (λ k d l s. absurd (has k d l s)), tt)
-put_wins_all files (x ∷ xs) e h r has = by_order files x xs e (order x.name e.name) refl h r has (put_wins_all files xs e h.1 (rises_behind x xs r).1)
+put_wins_all files (x ∷ xs) e h r has = by_order files x xs e (order x.name e.name) refl h r has (put_wins_all files xs e h.1 (rises_after x xs r).1)
 
 names_by_order : (name : List ℕ) (x : SourceFile) (xs : List SourceFile) (e : SourceFile) (o : Ordering) → order x.name e.name ≡ o → HasName name (x ∷ xs) → (HasName name xs → HasName name (put xs e)) → HasName name (placed o e x xs (put xs e))
 names_by_order name x xs e Less is (inl s) later = inl s

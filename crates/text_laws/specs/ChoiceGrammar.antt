@@ -25,8 +25,8 @@ pub record SpellParts (spelled : List ℕ → Result (List Item) GlobFault) (t :
 pub record HasFaultyPart (spelled : List ℕ → Result (List Item) GlobFault) (t : List ℕ) (at : ℕ) : Type 0 where
   pub before : List (List ℕ)
   pub part : List ℕ
-  pub behind : List (List ℕ)
-  pub are_parts : AreParts (before ++ part ∷ behind) t
+  pub following : List (List ℕ)
+  pub are_parts : AreParts (before ++ part ∷ following) t
   pub faultless : All (λ p. IsOk (spelled p)) before
   pub place : ℕ
   pub fault : spelled part ≡ Err (Class place)

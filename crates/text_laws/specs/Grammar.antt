@@ -45,8 +45,8 @@ NoSet t = (sign : Sign) (members rest : List ℕ) → IsSet t sign members rest 
 pub record IsClassAt (members : List ℕ) (n : ℕ) : Type 0 where
   pub before : List ℕ
   pub next : ℕ
-  pub behind : List ℕ
-  pub whole : members ≡ before ++ open_bracket ∷ next ∷ behind
+  pub following : List ℕ
+  pub whole : members ≡ before ++ open_bracket ∷ next ∷ following
   pub opens : opens_class next ≡ true
   pub place : length before ≡ n
 
@@ -91,17 +91,17 @@ pub record Spells (reading : Reading) (t : List ℕ) (items : List Item) : Type 
 -- text.
 pub record HasClassAt (t : List ℕ) (at : ℕ) : Type 0 where
   pub pieces : List Piece
-  pub behind : List ℕ
-  pub written : ArePieces pieces t behind
+  pub following : List ℕ
+  pub written : ArePieces pieces t following
   pub sign : Sign
   pub members : List ℕ
   pub rest : List ℕ
-  pub a_set : IsSet behind sign members rest
+  pub a_set : IsSet following sign members rest
   pub place : ℕ
   pub a_class : IsClassAt members place
   pub first : (n : ℕ) → IsClassAt members n → place ≤ n
   pub start : ℕ
-  pub starts : start + length behind ≡ length t
+  pub starts : start + length following ≡ length t
   pub at_place : at ≡ start + 1 + length (print_sign sign) + place
 
 -- A function reads texts as the grammar says: items if a text of at most 16,384 bytes is written in pieces that mean

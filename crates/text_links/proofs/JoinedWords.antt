@@ -13,9 +13,9 @@ joined_further word [] = sym (append-nil word)
 joined_further word (next ∷ ws) = ap (λ t. word ++ (underscore ∷ t)) (joined_further next ws)
 
 -- the cut of a text, as its first part and the others
-abbrev pub front : List (List ℕ) → List ℕ
-front [] = []
-front (p ∷ ps) = p
+abbrev pub beginning : List (List ℕ) → List ℕ
+beginning [] = []
+beginning (p ∷ ps) = p
 
 abbrev pub others : List (List ℕ) → List (List ℕ)
 others [] = []
@@ -25,21 +25,21 @@ abbrev pub kept : List (List ℕ) → List (List ℕ)
 kept ps = filter (λ word. not (is_empty word)) ps
 
 -- a word that goes on takes the first part, and the others follow it
-within_is : (t : List ℕ) → within t ≡ front (slice_split is_whitespace t) ++ further (kept (others (slice_split is_whitespace t)))
+within_is : (t : List ℕ) → within t ≡ beginning (slice_split is_whitespace t) ++ further (kept (others (slice_split is_whitespace t)))
 within_is [] = refl
 within_is (b ∷ t) = go (is_whitespace b) (slice_split is_whitespace t) (within_is t)
   where
-    go : (w : Bool) (ps : List (List ℕ)) → within t ≡ front ps ++ further (kept (others ps))
-        → (if w then further (kept (slice_split is_whitespace t)) else b ∷ within t) ≡ front (cond w ([] ∷ slice_split is_whitespace t) (onto_first b ps)) ++ further (kept (others (cond w ([] ∷ slice_split is_whitespace t) (onto_first b ps))))
+    go : (w : Bool) (ps : List (List ℕ)) → within t ≡ beginning ps ++ further (kept (others ps))
+        → (if w then further (kept (slice_split is_whitespace t)) else b ∷ within t) ≡ beginning (cond w ([] ∷ slice_split is_whitespace t) (onto_first b ps)) ++ further (kept (others (cond w ([] ∷ slice_split is_whitespace t) (onto_first b ps))))
     go true ps e = refl
     go false [] e = ap (λ u. b ∷ u) e
     go false (p ∷ ps) e = ap (λ u. b ∷ u) e
 
--- a byte that is no whitespace begins a word
-pub words_begin : (b : ℕ) (t : List ℕ) → kept (onto_first b (slice_split is_whitespace t)) ≡ (b ∷ front (slice_split is_whitespace t)) ∷ kept (others (slice_split is_whitespace t))
+-- a byte that is not whitespace begins a word
+pub words_begin : (b : ℕ) (t : List ℕ) → kept (onto_first b (slice_split is_whitespace t)) ≡ (b ∷ beginning (slice_split is_whitespace t)) ∷ kept (others (slice_split is_whitespace t))
 words_begin b t = go (slice_split is_whitespace t)
   where
-    go : (ps : List (List ℕ)) → kept (onto_first b ps) ≡ (b ∷ front ps) ∷ kept (others ps)
+    go : (ps : List (List ℕ)) → kept (onto_first b ps) ≡ (b ∷ beginning ps) ∷ kept (others ps)
     go [] = refl
     go (p ∷ ps) = refl
 
@@ -54,7 +54,7 @@ added_first gap (b ∷ t) = go (is_whitespace b) (added_first gap t)
     go true e = e
     go false e =
         ap (λ u. b ∷ u) (within_is t)
-        ∙ sym (joined_further (b ∷ front (slice_split is_whitespace t)) (kept (others (slice_split is_whitespace t))))
+        ∙ sym (joined_further (b ∷ beginning (slice_split is_whitespace t)) (kept (others (slice_split is_whitespace t))))
         ∙ ap (join_with_byte underscore) (sym (words_begin b t))
 
 -- what a text adds after whitespace, by its first byte
@@ -68,9 +68,9 @@ added_gap b t w e = go (is_whitespace b) w e
     go false false e = ap further (words_begin b t) ∙ ap (λ u. underscore ∷ b ∷ u) (sym (within_is t))
 
 -- one byte of what is left goes over to the word
-pub byte_goes_over : (word : List ℕ) (gap : Bool) (b : ℕ) (t : List ℕ)
+pub byte_passes : (word : List ℕ) (gap : Bool) (b : ℕ) (t : List ℕ)
     → word ++ added (is_empty word) gap (b ∷ t) ≡ with_byte word gap b ++ added (is_empty (with_byte word gap b)) (is_whitespace b) t
-byte_goes_over word gap b t = go word gap (is_whitespace b) refl
+byte_passes word gap b t = go word gap (is_whitespace b) refl
   where
     over : (gap w : Bool) (word : List ℕ) → List ℕ
     over gap w word = if w then word else (if gap && not (is_empty word) then word ++ underscore ∷ [] else word) ++ b ∷ []
@@ -88,12 +88,12 @@ byte_goes_over word gap b t = go word gap (is_whitespace b) refl
         ap (λ v. (x ∷ word) ++ (if v then further (words t) else b ∷ within t)) e
         ∙ sym (append_assoc (x ∷ word) (b ∷ []) (within t))
 
--- where nothing is left, nothing is added
+-- if nothing is left, nothing is added
 pub nothing_added : (first gap : Bool) → added first gap [] ≡ []
 nothing_added true gap = refl
 nothing_added false true = refl
 nothing_added false false = refl
 
--- a word is whole where nothing is left
+-- a word is whole if nothing is left
 pub all_added : (word : List ℕ) (gap : Bool) → word ++ added (is_empty word) gap [] ≡ word
 all_added word gap = ap (λ more. word ++ more) (nothing_added (is_empty word) gap) ∙ append-nil word

@@ -18,8 +18,8 @@ abbrev pub value_marks : List ℕ
 value_marks = codes "#+-.:=@_"
 
 -- whether a byte stays wherever it is
-abbrev pub is_plain : List ℕ → ℕ → Bool
-is_plain marks b = is_ascii_alphanumeric b || list_any (λ mark. mark == b) marks
+abbrev pub stays_anywhere : List ℕ → ℕ → Bool
+stays_anywhere marks b = is_ascii_alphanumeric b || list_any (λ mark. mark == b) marks
 
 -- the length of the UTF-8 sequence of several bytes that a text begins with; 0 if it begins with none
 unfoldable pub sequence_len : List ℕ → ℕ
@@ -31,7 +31,7 @@ is_reached text place back = nat_le back place && nat_lt back (sequence_len (dro
 
 -- whether a place is part of a UTF-8 sequence of two to four bytes
 abbrev pub is_in_sequence : List ℕ → ℕ → Bool
-is_in_sequence text place = is_reached text place 0 || is_reached text place 1 || is_reached text place 2 || is_reached text place 3
+is_in_sequence text place = list_any (is_reached text place) (range_with_len 0 4)
 
 -- whether a backslash is at a place, and directly after it an `x`
 unfoldable pub is_hex_escape : List ℕ → ℕ → Bool
@@ -39,7 +39,7 @@ is_hex_escape text place = slice_index text place == backslash && slice_index te
 
 -- whether the byte at a place stays
 unfoldable pub stays : List ℕ → List ℕ → ℕ → Bool
-stays marks text place = is_plain marks (slice_index text place) || (is_hex_escape text place || is_in_sequence text place)
+stays marks text place = stays_anywhere marks (slice_index text place) || (is_hex_escape text place || is_in_sequence text place)
 
 -- what is at a place of the safe text: the byte itself if it stays, a space for other whitespace, else `_`
 unfoldable pub safe_byte : List ℕ → List ℕ → ℕ → ℕ

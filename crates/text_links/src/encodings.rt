@@ -2,7 +2,7 @@
 ghost use Rattle.std.specs.Prelude.{◌≡◌, ◌<◌, ◌++◌, length, IfOk, OnOk};
 ghost use Rattle.text_links.specs.Encoded.{encoded, encoded_byte, in_digits, is_own, read_back};
 
-use crate::safe::{VALUE_MARKS, is_in_sequence, is_plain};
+use crate::safe::{VALUE_MARKS, is_in_sequence, stays_anywhere};
 use std::alloc::{AllocError, Global};
 
 /// The digits of a hexadecimal number.
@@ -14,7 +14,8 @@ fn is_own(text: &[u8], place: usize) -> bool
     requires { place < length text.now }
     ensures { result ≡ is_own text.now place }
 {
-    text[place] != b'\\' && (is_plain(VALUE_MARKS, text[place]) || is_in_sequence(text, place))
+    text[place] != b'\\'
+        && (stays_anywhere(VALUE_MARKS, text[place]) || is_in_sequence(text, place))
 }
 
 /// A byte in hexadecimal digits.

@@ -1,6 +1,6 @@
 //! A text made safe, byte by byte.
 ghost use Rattle.std.specs.Prelude.{◌≡◌, ◌<◌, IfOk, length};
-ghost use Rattle.text_links.specs.Safe.{attribute_marks, is_hex_escape, is_in_sequence, is_plain, is_reached, link_marks, safe, safe_byte, sequence_len, stays, value_marks};
+ghost use Rattle.text_links.specs.Safe.{attribute_marks, is_hex_escape, is_in_sequence, stays_anywhere, is_reached, link_marks, safe, safe_byte, sequence_len, stays, value_marks};
 
 use bstr::decode_utf8;
 use std::alloc::{AllocError, Global};
@@ -16,8 +16,8 @@ const ATTRIBUTE_MARKS: &[u8] = b"#+-.:=@_/$%?,";
 pub(crate) const VALUE_MARKS: &[u8] = b"#+-.:=@_";
 
 /// Whether a byte stays wherever it is.
-pub(crate) fn is_plain(marks: &[u8], byte: u8) -> bool
-    ensures { result ≡ is_plain marks.now byte }
+pub(crate) fn stays_anywhere(marks: &[u8], byte: u8) -> bool
+    ensures { result ≡ stays_anywhere marks.now byte }
 {
     byte.is_ascii_alphanumeric() || marks.contains(&byte)
 }
@@ -66,7 +66,7 @@ fn stays(marks: &[u8], text: &[u8], place: usize) -> bool
     requires { place < length text.now }
     ensures { result ≡ stays marks.now text.now place }
 {
-    is_plain(marks, text[place]) || is_hex_escape(text, place) || is_in_sequence(text, place)
+    stays_anywhere(marks, text[place]) || is_hex_escape(text, place) || is_in_sequence(text, place)
 }
 
 /// What is at a place of the safe text.

@@ -1,4 +1,4 @@
--- What is found among texts and names after one is added or taken away.
+-- What is found among texts and names after one is added or removed.
 use Rattle.std.proofs.Common.{◌≡◌, Bool, true, false, List, [], ◌∷◌, ◌++◌, ◌||◌, ◌&&◌, not, Option, Some, None, is_some, cond, refl, ap, sym, ◌∙◌, true≢false}
 use Rattle.std.specs.Cmp.Lexicographic.{bytes_decides}
 use Rattle.text_tables.specs.Texts.{Text, same_text, is_among, with_text, without_text}
@@ -23,9 +23,9 @@ or_there a true h = refl
 or_there true false h = h refl
 or_there false false h = refl
 
-among_behind : (texts : List Text) (text other : Text) → is_among (texts ++ text ∷ []) other ≡ (is_among texts other || same_text other text)
-among_behind [] text other = or_false (same_text other text)
-among_behind (t ∷ ts) text other = or_more (same_text other t) _ _ _ (among_behind ts text other)
+among_after : (texts : List Text) (text other : Text) → is_among (texts ++ text ∷ []) other ≡ (is_among texts other || same_text other text)
+among_after [] text other = or_false (same_text other text)
+among_after (t ∷ ts) text other = or_more (same_text other t) _ _ _ (among_after ts text other)
 
 -- what was added is there, and so is what was there before
 pub among_added : (texts : List Text) (text other : Text) → is_among (with_text texts text) other ≡ (is_among texts other || same_text other text)
@@ -33,11 +33,11 @@ among_added texts text other = by (is_among texts text) refl
   where
     by : (b : Bool) → is_among texts text ≡ b → is_among (cond b texts (texts ++ text ∷ [])) other ≡ (is_among texts other || same_text other text)
     by true h = or_there (same_text other text) (is_among texts other) (λ e. ap (is_among texts) (is_same other text e) ∙ h)
-    by false h = among_behind texts text other
+    by false h = among_after texts text other
 
 -- a text that is new follows the others
-pub text_behind : (texts : List Text) (text : Text) → is_among texts text ≡ false → with_text texts text ≡ texts ++ text ∷ []
-text_behind texts text new = ap (λ b. cond b texts (texts ++ text ∷ [])) new
+pub text_after : (texts : List Text) (text : Text) → is_among texts text ≡ false → with_text texts text ≡ texts ++ text ∷ []
+text_after texts text new = ap (λ b. cond b texts (texts ++ text ∷ [])) new
 
 -- a text that is there changes nothing
 pub text_there : (texts : List Text) (text : Text) → is_among texts text ≡ true → with_text texts text ≡ texts
@@ -59,7 +59,7 @@ kept (t ∷ ts) text other h = by (same_text text t) refl (kept ts text other h)
     by true e more = more ∙ ap (λ b. b || is_among ts other) (sym h ∙ ap (same_text other) (is_same text t e))
     by false e more = ap (λ b. same_text other t || b) more
 
--- what was taken away is not there, and all else is
+-- what was removed is not there, and everything else is
 pub among_removed : (texts : List Text) (text other : Text) → is_among (without_text texts text) other ≡ (not (same_text other text) && is_among texts other)
 among_removed texts text other = by (same_text other text) refl
   where
@@ -92,7 +92,7 @@ module _ {V : Type 0} where
   never true o h = h
   never false o h = refl
 
-  -- a name that was taken away has no value, and other names keep theirs
+  -- a name that was removed has no value, and other names keep theirs
   pub value_removed : (pairs : List (Text × V)) (name other : Text) → value_of (without_name pairs name) other ≡ cond (same_text other name) None (value_of pairs other)
   value_removed [] name other = never (same_text other name) None refl
   value_removed (p ∷ ps) name other = by (same_text name p.0) refl (value_removed ps name other)
@@ -113,9 +113,9 @@ module _ {V : Type 0} where
       by false e more = apart (same_text other name) (same_text other p.0) (λ x y. sym (are_same name p.0 (sym (is_same other name x) ∙ is_same other p.0 y)) ∙ e) (value_of (without_name ps name) other) more
 
   -- a name that is new follows the others
-  pub set_behind : (pairs : List (Text × V)) (name : Text) (value : V) → named pairs name ≡ false → with_value pairs name value ≡ pairs ++ (name, value) ∷ []
-  set_behind [] name value new = refl
-  set_behind (p ∷ ps) name value new = by (same_text name p.0) new (set_behind ps name value)
+  pub set_after : (pairs : List (Text × V)) (name : Text) (value : V) → named pairs name ≡ false → with_value pairs name value ≡ pairs ++ (name, value) ∷ []
+  set_after [] name value new = refl
+  set_after (p ∷ ps) name value new = by (same_text name p.0) new (set_after ps name value)
     where
       by : (b : Bool) → (b || named ps name) ≡ false → (named ps name ≡ false → with_value ps name value ≡ ps ++ (name, value) ∷ []) → cond b ((p.0, value) ∷ ps) (p ∷ with_value ps name value) ≡ p ∷ (ps ++ (name, value) ∷ [])
       by true new more = cc
@@ -130,7 +130,7 @@ module _ {V : Type 0} where
       by true there more = refl
       by false there more = ap (λ ns. p.0 ∷ ns) (more there)
 
-  -- a name is there where it has a value
+  -- a name is there exactly if it has a value
   pub named_is : (pairs : List (Text × V)) (name : Text) → named pairs name ≡ is_some (value_of pairs name)
   named_is [] name = refl
   named_is (p ∷ ps) name = by (same_text name p.0) (named_is ps name)

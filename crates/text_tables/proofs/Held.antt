@@ -17,7 +17,7 @@ module _ {K : Type 0} (text : K → List ℕ) where
   abbrev pub is_text : List ℕ → K → Bool
   is_text t k = pointwise nat_eq t (text k)
 
-  -- a text is found where the list has it
+  -- a text is found exactly if the list has it
   pub among : (ks : List K) (t : List ℕ) → list_any (is_text t) ks ≡ is_among (map text ks) t
   among [] t = refl
   among (k ∷ ks) t = ap (λ b. is_text t k || b) (among ks t)
@@ -40,7 +40,7 @@ module _ {K : Type 0} (text : K → List ℕ) where
       by true h more = cc
       by false h more = ap (λ ts. text k ∷ ts) (more h)
 
-  -- a text that is taken away, and is not found any more, was there once
+  -- a text that is removed, and is not found any more, was there once
   pub removed : (ks : List K) (t : List ℕ) → list_any (is_text t) (remove_key (is_text t) ks) ≡ false → map text (remove_key (is_text t) ks) ≡ without_text (map text ks) t
   removed [] t h = refl
   removed (k ∷ ks) t h = by (is_text t k) refl h (no_other ks t) (removed ks t)
@@ -73,19 +73,19 @@ module _ {K V W : Type 0} (text : K → List ℕ) (value : V → W) where
       elim (is_text text name e.0) as (λ b. option_map value (cond b (Some e.1) (lookup (is_text text name) es)) ≡ cond b (Some (value e.1)) (value_of (map seen es) name))
       [ true ↦ refl | false ↦ found es name ]
 
-  -- and what is lent of it
-  pub lent : (es : List (K × V)) (name : List ℕ) (o : Option (Bor V)) → option_copied o ≡ lookup (is_text text name) es → option_map (λ v. value v.now) o ≡ value_of (map seen es) name
-  lent es name None h = ap (option_map value) h ∙ found es name
-  lent es name (Some v) h = ap (option_map value) h ∙ found es name
+  -- and what is borrowed of it
+  pub borrowed : (es : List (K × V)) (name : List ℕ) (o : Option (Bor V)) → option_copied o ≡ lookup (is_text text name) es → option_map (λ v. value v.now) o ≡ value_of (map seen es) name
+  borrowed es name None h = ap (option_map value) h ∙ found es name
+  borrowed es name (Some v) h = ap (option_map value) h ∙ found es name
 
-  -- a name is found where the list has it
+  -- a name is found exactly if the list has it
   pub has : (es : List (K × V)) (name : List ℕ) → is_some (lookup (is_text text name) es) ≡ named (map seen es) name
   has [] name = refl
   has (e ∷ es) name =
       elim (is_text text name e.0) as (λ b. is_some (cond b (Some e.1) (lookup (is_text text name) es)) ≡ (b || named (map seen es) name))
       [ true ↦ refl | false ↦ has es name ]
 
-  -- an entry that is put in stands where the list has it
+  -- inserting an entry sets its name to its value
   pub set : (es : List (K × V)) (k : K) (v : V) → map seen (insert_entry (same text) es k v) ≡ with_value (map seen es) (text k) (value v)
   set [] k v = refl
   set (e ∷ es) k v =
@@ -100,7 +100,7 @@ module _ {K V W : Type 0} (text : K → List ℕ) (value : V → W) where
       by true h more = cc
       by false h more = ap (λ ps. seen e ∷ ps) (more h)
 
-  -- a name that is taken away, and is not found any more, was there once
+  -- a name that is removed, and is not found any more, was there once
   pub removed_name : (es : List (K × V)) (name : List ℕ) → lookup (is_text text name) (remove_entry (is_text text name) es) ≡ None → map seen (remove_entry (is_text text name) es) ≡ without_name (map seen es) name
   removed_name [] name h = refl
   removed_name (e ∷ es) name h = by (is_text text name e.0) refl h (no_other_name es name) (removed_name es name)
@@ -120,7 +120,7 @@ module _ {K V W : Type 0} (text : K → List ℕ) (value : V → W) where
   pub names_once : (es : List (K × V)) → IsDistinct (same text) (keys_of es) → AreOnce (names (map seen es))
   names_once es h = rw (names_are es) (once text (keys_of es) h)
 
--- a name is new where no value was found
+-- a name is new exactly if no value was found
 pub new_is : {V : Type 0} (before : Option V) (r has : Bool) → is_some before ≡ not r → is_some before ≡ has → r ≡ not has
 new_is None true has h e = ap not e
 new_is None false has h e = cc

@@ -1,11 +1,11 @@
--- What a fold over a list has come to when a first part of the list was gone through.
+-- The state of a fold over a list after a first part of the list.
 use Rattle.std.proofs.Common.{◌≡◌, ℕ, ◌+◌, ◌<◌, List, [], ◌∷◌, ◌++◌, length, take, drop, get_or, map, refl, ap, sym, ◌∙◌, append_assoc, add-one, drop-cons}
 use Rattle.std.proofs.Math.Seq.{take-append_seam}
 use Rattle.std.proofs.lemmas.List.Sums.{fold-append}
 use Rattle.std.specs.Prelude.{fold}
 
 module _ {A B : Type 0} where
-  -- the rest of the whole list is left, and what stood before it was taken in
+  -- the rest of the whole list is left, and what came before it was taken in
   pub record Partway (f : B → A → B) (old : B) (whole : List A) (now : B) (rest : List A) : Type 0 where
     pub past : List A
     pub cut : past ++ rest ≡ whole

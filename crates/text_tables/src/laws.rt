@@ -11,7 +11,7 @@ pub fn added_texts_are_there()
 {}
 
 /// A text that is new follows the others, and one that is there changes nothing.
-pub fn new_texts_stand_last()
+pub fn new_texts_come_last()
     ensures new { (texts : List Text) (text : Text) → is_among texts text ≡ false → with_text texts text ≡ texts ++ text ∷ [] }
     ensures there { (texts : List Text) (text : Text) → is_among texts text ≡ true → with_text texts text ≡ texts }
 {}
@@ -27,7 +27,7 @@ pub fn set_names_have_their_values<V>()
 {}
 
 /// A name that is new follows the others.
-pub fn new_names_stand_last<V>()
+pub fn new_names_come_last<V>()
     ensures { (pairs : List (Text × V)) (name : Text) (value : V) → named pairs name ≡ false → with_value pairs name value ≡ pairs ++ (name, value) ∷ [] }
 {}
 

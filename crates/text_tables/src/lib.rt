@@ -16,7 +16,7 @@ mod table;
 mod texts;
 
 pub use laws::{
-    added_texts_are_there, names_have_values, new_names_stand_last, new_texts_stand_last,
+    added_texts_are_there, names_have_values, new_names_come_last, new_texts_come_last,
     removed_names_are_gone, removed_texts_are_gone, set_names_have_their_values,
     set_names_stay_in_place,
 };

@@ -1,13 +1,12 @@
 -- What the nodes of a trie list answers as its entries do.
-use Rattle.std.proofs.Common.{◌≡◌, ℕ, zero, suc, ◌+◌, ◌-◌, ◌<◌, ◌≤◌, List, ◌∷◌, [], ◌++◌, length, take, drop, map, filter, get_or, refl, sym, ◌∙◌, ap, subst, arith, inl, inr, add-one, zero-add}
+use Rattle.std.proofs.Common.{◌≡◌, ℕ, zero, suc, ◌+◌, ◌-◌, ◌<◌, ◌≤◌, List, ◌∷◌, [], ◌++◌, length, take, drop, map, get_or, refl, sym, ◌∙◌, ap, subst, arith, inl, inr, add-one}
 use Rattle.std.proofs.Math.Seq.{take-length}
 use Rattle.std.proofs.lemmas.Bool.Decides.{leb_tells}
 use Rattle.std.proofs.lemmas.List.{get_or-drop, get_or-map, get_or-take, get_or_default, length-drop, length-take, take-append-drop}
 use Rattle.std.proofs.Math.Seq.{drop-cons}
 use Rattle.std.proofs.lemmas.List.Elements.{All-append, All-cons, All-contains, All-weaker}
 use Rattle.std.proofs.lemmas.List.Sorted.{Contains-permutation, IsPermutation-sym}
-use Rattle.std.specs.List.{All, Contains, range_with_len, sum_by}
-use Rattle.text_core.specs.Fits.{fits}
+use Rattle.std.specs.List.{All, Contains, range_with_len}
 use Rattle.text_core.specs.declared.item.Item.{Item}
 use Rattle.hwdb_lookup.specs.Orders.{Rising}
 use Rattle.hwdb_lookup.specs.Query.{winners}
@@ -15,14 +14,14 @@ use Rattle.hwdb_lookup.specs.Winning.{Applies, Counts, IsAnswer}
 use Rattle.hwdb_lookup.specs.declared.entry.Entry.{Entry}
 use Rattle.hwdb_lookup.proofs.Counting.{winners_answer}
 use Rattle.hwdb_lookup.proofs.Unique.{only_winners}
-use Rattle.trie_nodes.specs.Tree.{active_after, count, node_at, numbers, path}
+use Rattle.trie_nodes.specs.Tree.{node_at, numbers, path}
 use Rattle.trie_nodes.specs.Values.{entry, listed, value_at, values_of}
-use Rattle.trie_nodes.proofs.Pieces.{filter_range_same}
 use Rattle.trie_build.specs.Distinct.{IsIn}
 use Rattle.trie_build.specs.Paths.{paths_of, patterns_of}
 use Rattle.trie_build.proofs.Distinguishing.{flat_map_in, get_in, in_flat_map, in_get, in_map, in_range, map_in, range_in}
-use Rattle.trie_build.proofs.Paths.{front_is_path}
-use Rattle.trie_build.specs.Content.{Content, IsTrie, IsValueOf, active_count, active_nodes, all_values, entry_at, no_entry, pattern_of, value_of}
+use Rattle.trie_build.proofs.Paths.{prefix_is_path}
+use Rattle.trie_build.specs.Content.{Content, all_values, entry_at, no_entry, value_of}
+use Rattle.trie_build.specs.Held.{IsHeld, IsValueOf, pattern_of}
 
 pub contains_of : {A : Type 0} (x : A) (xs : List A) → IsIn x xs → Contains xs x
 contains_of x xs i = let w = in_get x x xs i in (w.0, w.1, sym w.2)
@@ -48,15 +47,15 @@ module _ (xs ys : List Entry) (rising : Rising ys) (to : (e : Entry) → IsIn e 
 
     highest : (o : Entry) → IsIn o xs → NotAbove o
     highest o i =
-        let behind : All NotAbove counts.after = All-weaker (λ (p : Entry). Applies m e.key p → p.order < e.order) NotAbove (λ p h a. omega (arith, h a)) counts.after counts.later in
-        let all : All NotAbove (counts.before ++ e ∷ counts.after) = All-append NotAbove counts.before (e ∷ counts.after) counts.earlier (All-cons NotAbove e counts.after (λ a. omega arith) behind) in
+        let following : All NotAbove counts.after = All-weaker (λ (p : Entry). Applies m e.key p → p.order < e.order) NotAbove (λ p h a. omega (arith, h a)) counts.after counts.later in
+        let all : All NotAbove (counts.before ++ e ∷ counts.after) = All-append NotAbove counts.before (e ∷ counts.after) counts.earlier (All-cons NotAbove e counts.after (λ a. omega arith) following) in
         All-contains NotAbove xs o (subst (All NotAbove) (sym counts.listed) all) (contains_of o xs i)
 
     itself : IsIn e xs
     itself = subst (IsIn e) (sym counts.listed) (seam counts.before) where
-      seam : (front : List Entry) → IsIn e (front ++ e ∷ counts.after)
+      seam : (prefix : List Entry) → IsIn e (prefix ++ e ∷ counts.after)
       seam [] = inl refl
-      seam (x ∷ front) = inr (seam front)
+      seam (x ∷ prefix) = inr (seam prefix)
 
     abbrev place : (n : ℕ) × (n < length ys) × (e ≡ entry_at ys n)
     place = in_get no_entry e ys (to e itself)
@@ -97,20 +96,16 @@ module _ (xs ys : List Entry) (rising : Rising ys) (to : (e : Entry) → IsIn e 
   pub same_winners : winners xs m ≡ winners ys m
   same_winners = only_winners ys m (winners xs m) (same_answer (winners xs m) (winners_answer xs m))
 
-map_same : {A B : Type 0} (f g : A → B) → ((x : A) → f x ≡ g x) → (xs : List A) → map f xs ≡ map g xs
-map_same f g same [] = refl
-map_same f g same (x ∷ xs) = ap (λ y. y ∷ map f xs) (same x) ∙ ap (λ l. g x ∷ l) (map_same f g same xs)
-
-module _ (t : Content) (is : IsTrie t) where
+module _ (t : Content) (is : IsHeld t) where
   abbrev all_listed : List Entry
   all_listed = listed t.nodes (all_values t)
 
   -- the entry that a value is
-  abbrev told : ℕ → Entry
-  told j = entry_at t.entries (get_or t.numbers j 0)
+  abbrev reported : ℕ → Entry
+  reported j = entry_at t.entries (get_or t.numbers j 0)
 
-  pub value_told : (j : ℕ) → j < length t.numbers → value_at (all_values t) j ≡ value_of (told j)
-  value_told j h = get_or-map (λ i. value_of (entry_at t.entries i)) t.numbers j 0 (value_at [] 0) h
+  pub value_reported : (j : ℕ) → j < length t.numbers → value_at (all_values t) j ≡ value_of (reported j)
+  value_reported j h = get_or-map (λ i. value_of (entry_at t.entries i)) t.numbers j 0 (value_at [] 0) h
 
   pub number_within : (j : ℕ) → j < length t.numbers → get_or t.numbers j 0 < length t.entries
   number_within j h =
@@ -132,8 +127,8 @@ module _ (t : Content) (is : IsTrie t) where
       let span = in_range j (node_at t.nodes node).first_value (node_at t.nodes node).values c.1 in
       let inside : j < length t.numbers = omega (arith, span.1, is.within node here) in
       let pattern : pattern_of t j ≡ path t.nodes node = (is.own node j here inside).0 (span.0, span.1) in
-      let same : e ≡ told j =
-      b.2 ∙ ap (entry (path t.nodes node)) (c.2 ∙ value_told j inside) ∙ ap (λ p. entry p (value_of (told j))) (sym pattern) in
+      let same : e ≡ reported j =
+      b.2 ∙ ap (entry (path t.nodes node)) (c.2 ∙ value_reported j inside) ∙ ap (λ p. entry p (value_of (reported j))) (sym pattern) in
       subst (λ x. IsIn x t.entries) (sym same) (get_in no_entry t.entries (get_or t.numbers j 0) (number_within j inside))
 
   fro : (e : Entry) → IsIn e t.entries → IsIn e all_listed
@@ -143,18 +138,18 @@ module _ (t : Content) (is : IsTrie t) where
       let named = Contains-permutation (range_with_len 0 (length t.entries)) t.numbers n is.values (contains_of n (range_with_len 0 (length t.entries)) (range_in n 0 (length t.entries) (omega arith) (omega (arith, w.1)))) in
       let j : ℕ = named.0 in
       let number : get_or t.numbers j 0 ≡ n = get_or_default t.numbers j 0 n named.1 ∙ named.2 in
-      let own : told j ≡ e = ap (entry_at t.entries) number ∙ sym w.2 in
+      let own : reported j ≡ e = ap (entry_at t.entries) number ∙ sym w.2 in
       let p : List Item = e.pattern in
-      let front : IsIn p (paths_of t.entries) =
-      subst (λ q. IsIn q (paths_of t.entries)) (take-length p) (front_is_path (patterns_of t.entries) p (length p) (map_in (λ (x : Entry). x.pattern) e t.entries i) (omega arith)) in
-      let at = in_get [] p (paths_of t.entries) front in
+      let prefix : IsIn p (paths_of t.entries) =
+      subst (λ q. IsIn q (paths_of t.entries)) (take-length p) (prefix_is_path (patterns_of t.entries) p (length p) (map_in (λ (x : Entry). x.pattern) e t.entries i) (omega arith)) in
+      let at = in_get [] p (paths_of t.entries) prefix in
       let node : ℕ = at.0 in
       let here : node < length t.nodes = omega (arith, at.1, is.count) in
       let path_is : p ≡ path t.nodes node = at.2 ∙ sym (is.paths node here) in
       let pattern : pattern_of t j ≡ path t.nodes node = ap (λ (x : Entry). x.pattern) own ∙ path_is in
       let span : IsValueOf (node_at t.nodes node) j = (is.own node j here named.1).1 pattern in
       let same : entry (path t.nodes node) (value_at (all_values t) j) ≡ e =
-      ap (entry (path t.nodes node)) (value_told j named.1 ∙ ap value_of own) ∙ ap (λ q. entry q (value_of e)) (sym path_is) in
+      ap (entry (path t.nodes node)) (value_reported j named.1 ∙ ap value_of own) ∙ ap (λ q. entry q (value_of e)) (sym path_is) in
       let value : IsIn (value_at (all_values t) j) (values_of t.nodes (all_values t) node) =
       map_in (value_at (all_values t)) j (range_with_len (node_at t.nodes node).first_value (node_at t.nodes node).values) (range_in j (node_at t.nodes node).first_value (node_at t.nodes node).values span.0 span.1) in
       subst (λ x. IsIn x all_listed) same
@@ -164,13 +159,3 @@ module _ (t : Content) (is : IsTrie t) where
   -- what counts among the listed entries is what counts among the entries
   pub listed_answers : (m : List ℕ) → winners all_listed m ≡ winners t.entries m
   listed_answers m = same_winners all_listed t.entries is.rising to fro m
-
-  pub active_is : (m : List ℕ) → active_after t.nodes m ≡ active_nodes t.entries m
-  active_is m =
-      filter_range_same (λ i. fits (path t.nodes i) m) (λ i. fits (get_or (paths_of t.entries) i []) m) 0 (length t.nodes) (λ j h.
-      let e : 0 + j ≡ j = zero-add j in
-      ap (λ p. fits p m) (is.paths (0 + j) (omega (arith, h))))
-      ∙ ap (λ n. filter (λ i. fits (get_or (paths_of t.entries) i []) m) (range_with_len 0 n)) is.count
-
-  pub count_is : (m : List ℕ) → count t.nodes m ≡ active_count t.entries m
-  count_is m = ap (sum_by length) (map_same (λ j. active_after t.nodes (take j m)) (λ j. active_nodes t.entries (take j m)) (λ j. active_is (take j m)) (range_with_len 0 (length m + 1)))

@@ -3,7 +3,7 @@ use Rattle.std.proofs.Common.{◌≡◌, ℕ, zero, suc, ◌+◌, ◌≤◌, Boo
 use Rattle.std.proofs.lemmas.List.Sums.{sum_by-append, sum_by-cons}
 use Rattle.std.specs.List.{list_any, sum_by}
 use Rattle.std.specs.Prelude.{is_ok}
-use Rattle.text_core.specs.Spell.{items_at, max_len, spell, spell_by, with_front, with_item, front}
+use Rattle.text_core.specs.Spell.{items_at, max_len, spell, spell_by, with_first, with_item, first_item}
 use Rattle.text_core.specs.declared.glob_fault.GlobFault.{GlobFault}
 use Rattle.text_core.specs.declared.glob_fault.GlobFault.TheVariants.{TooLong}
 use Rattle.text_core.specs.declared.item.Item.{Item}
@@ -15,6 +15,7 @@ use Rattle.text_bytes.specs.Lines.{NumberedLine}
 use Rattle.hwdb_core.specs.Paragraphs.{Cut}
 use Rattle.hwdb_core.specs.Properties.{Pair, Property, cut_match_bytes, cut_properties, from_line, from_pair, from_spelled, gives_entry, pair_of}
 use Rattle.hwdb_core.specs.Sources.{WithinBounds, cuts_of, entries_from, entries_of, entry_at, match_bytes_of, properties_of, text_len}
+use Rattle.hwdb_core.proofs.Bounds.{HoldFew, within_few}
 use Rattle.hwdb_lookup.specs.declared.entry.Entry.{Entry}
 use Rattle.trie_build.specs.Distinct.{IsIn}
 use Rattle.trie_build.specs.Paths.{paths_of, patterns_of}
@@ -22,18 +23,18 @@ use Rattle.trie_build.specs.Sizes.{KeepsBounds, names_of}
 use Rattle.trie_build.proofs.Counting.{few_names, few_paths, few_sets}
 use Rattle.trie_build.proofs.Distinguishing.{flat_map_in, in_flat_map, in_map, map_in}
 
--- items are no more than the bytes that spell them
+-- there are no more items than bytes that spell them
 items_few : (t : List ℕ) (passed at : ℕ) (items : List Item) → items_at Exact t passed at ≡ Ok items → length items ≤ length t
 items_few [] passed at items e = let same : ◌≡◌ {A = List Item} [] items = cc in let len : length {A = Item} [] ≡ length items = ap length same in omega (arith, len)
-items_few (b ∷ t) zero at items e = by_front (λ n rest f. items_few t n (at + 1) rest f) (front Exact at b t) e where
+items_few (b ∷ t) zero at items e = by_first_item (λ n rest f. items_few t n (at + 1) rest f) (first_item Exact at b t) e where
   by_rest : (x : Item) (r : Result (List Item) GlobFault) → ((rest : List Item) → r ≡ Ok rest → length rest ≤ length t) → with_item x r ≡ Ok items → length items ≤ length (b ∷ t)
   by_rest x (Ok rest) few f = let same : x ∷ rest ≡ items = cc in let len : length (x ∷ rest) ≡ length items = ap length same in let short : length rest ≤ length t = few rest refl in omega (arith, len, short)
   by_rest x (Err fault) few f = cc
 
-  by_front : ((n : ℕ) (rest : List Item) → items_at Exact t n (at + 1) ≡ Ok rest → length rest ≤ length t) → (h : Result Head GlobFault)
-      → with_front h (λ n. items_at Exact t n (at + 1)) ≡ Ok items → length items ≤ length (b ∷ t)
-  by_front few (Ok head) f = by_rest head.item (items_at Exact t head.behind (at + 1)) (λ rest g. few head.behind rest g) f
-  by_front few (Err fault) f = cc
+  by_first_item : ((n : ℕ) (rest : List Item) → items_at Exact t n (at + 1) ≡ Ok rest → length rest ≤ length t) → (h : Result Head GlobFault)
+      → with_first h (λ n. items_at Exact t n (at + 1)) ≡ Ok items → length items ≤ length (b ∷ t)
+  by_first_item few (Ok head) f = by_rest head.item (items_at Exact t head.following (at + 1)) (λ rest g. few head.following rest g) f
+  by_first_item few (Err fault) f = cc
 items_few (b ∷ t) (suc n) at items e = let short : length items ≤ length t = items_few t n (at + 1) items e in omega (arith, short)
 
 spell_few : (t : List ℕ) (items : List Item) → spell t ≡ Ok items → length items ≤ length t
@@ -88,18 +89,18 @@ some_any p x (y ∷ ys) (inr i) h = either (p y) (some_any p x ys i h) where
   either false e = e
 
 -- a property is below a match that gives an entry
-record Stands (name : List ℕ) (properties : List NumberedLine) (l : NumberedLine) (q : Property) : Type 0 where
+record IsPresent (name : List ℕ) (properties : List NumberedLine) (l : NumberedLine) (q : Property) : Type 0 where
   file : q.file ≡ name
   pattern : IsIn q.pattern (match_patterns properties l)
 
-stands : (file : List ℕ) (properties : List NumberedLine) (l : NumberedLine) (q : Property) → IsIn q (from_spelled file properties (spell l.text)) → Stands file properties l q
-stands file properties l q i = by (spell l.text) refl i where
+is_present : (file : List ℕ) (properties : List NumberedLine) (l : NumberedLine) (q : Property) → IsIn q (from_spelled file properties (spell l.text)) → IsPresent file properties l q
+is_present file properties l q i = by (spell l.text) refl i where
   by_pair : (pattern : List Item) (number : ℕ) (r : Result Pair MessageKind) → IsIn q (from_pair file pattern number r) → (q.file ≡ file) × (q.pattern ≡ pattern) × (is_ok r ≡ true)
   by_pair pattern number (Ok pair) (inl e) = (ap (λ (p : Property). p.file) e, ap (λ (p : Property). p.pattern) e, refl)
   by_pair pattern number (Ok pair) (inr none) = absurd none
   by_pair pattern number (Err kind) none = absurd none
 
-  by : (r : Result (List Item) GlobFault) → spell l.text ≡ r → IsIn q (from_spelled file properties r) → Stands file properties l q
+  by : (r : Result (List Item) GlobFault) → spell l.text ≡ r → IsIn q (from_spelled file properties r) → IsPresent file properties l q
   by (Ok pattern) e j =
       let w = in_flat_map (from_line file pattern) q properties j in
       let own = by_pair pattern w.0.number (pair_of w.0) w.2 in
@@ -126,7 +127,7 @@ comes files e i =
     let f = in_flat_map (λ f. flat_map (cut_properties f.name) (cuts_of f)) q files w.1 in
     let c = in_flat_map (cut_properties f.0.name) q (cuts_of f.0) f.2 in
     let l = in_flat_map (λ l. from_spelled f.0.name c.0.properties (spell l.text)) q c.0.matches c.2 in
-    let own : Stands f.0.name c.0.properties l.0 q = stands f.0.name c.0.properties l.0 q l.2 in
+    let own : IsPresent f.0.name c.0.properties l.0 q = is_present f.0.name c.0.properties l.0 q l.2 in
     record {
       file = subst (λ n. IsIn n (map (λ (g : SourceFile). g.name) files)) (sym (w.3 ∙ own.file)) (map_in (λ (g : SourceFile). g.name) f.0 files f.1);
       pattern = subst (λ p. IsIn p (flat_map file_patterns files)) (sym w.2)
@@ -148,7 +149,8 @@ sum_names (f ∷ fs) =
     sum_by-cons length f.name (map (λ (g : SourceFile). g.name) fs) ∙ ap (λ m. length f.name + m) (sum_names fs) ∙ sym (sum_by-cons (λ (g : SourceFile). length g.name) f fs)
 
 pub never_too_large : (files : List SourceFile) → WithinBounds files → KeepsBounds (entries_of files)
-never_too_large files within =
+never_too_large files few =
+    let within : HoldFew files = within_few files few in
     let es : List Entry = entries_of files in
     let count : length es ≡ length (properties_of files) = count_entries 0 (properties_of files) in
     let paths : length (paths_of es) ≤ 1 + sum_by length (flat_map file_patterns files) =

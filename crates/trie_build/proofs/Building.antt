@@ -37,7 +37,7 @@ pub record IsBuilt (ps : List (List Item)) (nodes : List Node) (groups : List Gr
   pub sum : length groups ≡ 1 + sum_by (λ n. n.count) nodes
   pub valid : (c : Group) → IsIn c groups → IsGroup ps c
   pub paths : map (path_of ps) groups ≡ [] ∷ flat_map (children_in (paths_among ps)) (take (length nodes) (map (path_of ps) groups))
-  pub front : take (length nodes) (paths_among ps) ≡ take (length nodes) (map (path_of ps) groups)
+  pub prefix : take (length nodes) (paths_among ps) ≡ take (length nodes) (map (path_of ps) groups)
   pub reach : length nodes ≤ length (paths_among ps)
   pub each : (i : ℕ) → i < length nodes → IsNodeAt ps (get_or (map (path_of ps) groups) i []) (node_at nodes i)
 
@@ -45,7 +45,7 @@ pub record IsBuilt (ps : List (List Item)) (nodes : List Node) (groups : List Gr
 pub valid_at : (ps : List (List Item)) (nodes : List Node) (groups : List Group) → IsBuilt ps nodes groups → (g : Group) (i : ℕ) → i < length groups → g ≡ get_or groups i g → IsGroup ps g
 valid_at ps nodes groups built g i h e = built.valid g (subst (λ d. IsIn d groups) (sym e) (get_in g groups i h))
 
--- the group at a place, whatever stands for those beyond
+-- the group at a place, whatever is used for those beyond
 pub group_at : (groups : List Group) (g : Group) (i k : ℕ) → i ≡ k → k < length groups → g ≡ get_or groups i g → g ≡ get_or groups k no_group
 group_at groups g i k same h e = e ∙ ap (λ j. get_or groups j g) same ∙ get_or_default groups k g no_group h
 
@@ -65,26 +65,26 @@ module _ (ps : List (List Item)) where
       levels.first
       ∙ ap (λ l. [] ∷ l) (sym levels.children ∙ ap below (sym (take-append-drop i all_paths)) ∙ flat_map-append (children_in all_paths) (take i all_paths) (drop i all_paths))
 
-  -- what begins as the paths do, and goes on with children of its front, is no longer than they are
+  -- what begins as the paths do, and continues with children of its front, is no longer than they are
   pub no_longer : (k : ℕ) (made : List (List Item)) → take k all_paths ≡ take k made → made ≡ [] ∷ below (take k made) → length made ≤ length all_paths
-  no_longer k made front is =
-      let all : length all_paths ≡ suc (length (below (take k made) ++ below (drop k all_paths))) = ap length (all_is k) ∙ ap (λ l. suc (length (below l ++ below (drop k all_paths)))) front in
+  no_longer k made prefix is =
+      let all : length all_paths ≡ suc (length (below (take k made) ++ below (drop k all_paths))) = ap length (all_is k) ∙ ap (λ l. suc (length (below l ++ below (drop k all_paths)))) prefix in
       let both : length (below (take k made) ++ below (drop k all_paths)) ≡ length (below (take k made)) + length (below (drop k all_paths)) = length-append (below (take k made)) (below (drop k all_paths)) in
       let own : length made ≡ suc (length (below (take k made))) = ap length is in
       omega (arith, all, both, own)
 
   -- one path more agrees
-  front_more : (k : ℕ) (made : List (List Item)) → take k all_paths ≡ take k made → made ≡ [] ∷ below (take k made) → k < length made → take (suc k) all_paths ≡ take (suc k) made
-  front_more k made front is more =
+  prefix_more : (k : ℕ) (made : List (List Item)) → take k all_paths ≡ take k made → made ≡ [] ∷ below (take k made) → k < length made → take (suc k) all_paths ≡ take (suc k) made
+  prefix_more k made prefix is more =
       let own : length made ≡ suc (length (below (take k made))) = ap length is in
       let enough : k ≤ length (below (take k made)) = omega (arith, own) in
-      ap (take (suc k)) (all_is k ∙ ap (λ l. [] ∷ (below l ++ below (drop k all_paths))) front)
+      ap (take (suc k)) (all_is k ∙ ap (λ l. [] ∷ (below l ++ below (drop k all_paths))) prefix)
       ∙ ap (λ l. [] ∷ l) (take-append-le k (below (take k made)) (below (drop k all_paths)) enough)
       ∙ sym (ap (take (suc k)) is)
 
-  -- where children are made of all, there are no other paths
+  -- if children are made of all, there are no other paths
   pub all_made : (made : List (List Item)) → take (length made) all_paths ≡ take (length made) made → made ≡ [] ∷ below (take (length made) made) → length made ≤ length all_paths → made ≡ all_paths
-  all_made made front is reach =
+  all_made made prefix is reach =
       let k : ℕ = length made in
       let whole : take k made ≡ made = take-length made in
       let own : length made ≡ suc (length (below made)) = ap length is ∙ ap (λ l. suc (length (below l))) whole in
@@ -92,13 +92,13 @@ module _ (ps : List (List Item)) where
         | inl t ↦ t.1
         | inr t ↦
             let enough : k ≤ length (below (take k all_paths)) = children_enough all_paths (paths_tree ps) k t.1 in
-            let same : length (below (take k all_paths)) ≡ length (below made) = ap (λ l. length (below l)) (front ∙ whole) in
+            let same : length (below (take k all_paths)) ≡ length (below made) = ap (λ l. length (below l)) (prefix ∙ whole) in
             absurd (omega (arith, enough, same, own))
       ] in
-      sym whole ∙ sym front ∙ take_all k all_paths end
+      sym whole ∙ sym prefix ∙ take_all k all_paths end
 
-  abbrev told : List Group → List (List Item)
-  told groups = map (path_of ps) groups
+  abbrev reported : List Group → List (List Item)
+  reported groups = map (path_of ps) groups
 
   -- one group more is cut, and its node is made
   module _ (nodes : List Node) (groups groups2 : List Group) (built : IsBuilt ps nodes groups) (inside : length nodes < length groups) (group : Group)
@@ -115,35 +115,35 @@ module _ (ps : List (List Item)) where
     groups_are : groups2 ≡ groups ++ added
     groups_are = sym (take-append-drop (length groups) groups2) ∙ ap (λ l. l ++ added) children.kept
 
-    told_more : told groups2 ≡ told groups ++ children_in all_paths (path_of ps group)
-    told_more = ap told groups_are ∙ map-append (path_of ps) groups added ∙ ap (λ l. told groups ++ l) children.paths
+    reported_more : reported groups2 ≡ reported groups ++ children_in all_paths (path_of ps group)
+    reported_more = ap reported groups_are ∙ map-append (path_of ps) groups added ∙ ap (λ l. reported groups ++ l) children.paths
 
-    length_told : length (told groups) ≡ length groups
-    length_told = length-map groups (path_of ps)
+    length_reported : length (reported groups) ≡ length groups
+    length_reported = length-map groups (path_of ps)
 
-    own_path : get_or (told groups) k [] ≡ path_of ps group
+    own_path : get_or (reported groups) k [] ≡ path_of ps group
     own_path = get_or-map (path_of ps) groups k no_group [] inside ∙ ap (path_of ps) (sym is)
 
-    take_told : (i : ℕ) → i ≤ length groups → take i (told groups2) ≡ take i (told groups)
-    take_told i h = ap (take i) told_more ∙ take-append-le i (told groups) (children_in all_paths (path_of ps group)) (omega (arith, length_told))
+    take_reported : (i : ℕ) → i ≤ length groups → take i (reported groups2) ≡ take i (reported groups)
+    take_reported i h = ap (take i) reported_more ∙ take-append-le i (reported groups) (children_in all_paths (path_of ps group)) (omega (arith, length_reported))
 
-    next_front : take (suc k) (told groups) ≡ take k (told groups) ++ path_of ps group ∷ []
-    next_front = rw (← add-one k) (take_more (told groups) k [] (omega (arith, length_told)) ∙ ap (λ p. take k (told groups) ++ p ∷ []) own_path)
+    next_prefix : take (suc k) (reported groups) ≡ take k (reported groups) ++ path_of ps group ∷ []
+    next_prefix = rw (← add-one k) (take_more (reported groups) k [] (omega (arith, length_reported)) ∙ ap (λ p. take k (reported groups) ++ p ∷ []) own_path)
 
-    one_below : below (take k (told groups) ++ path_of ps group ∷ []) ≡ below (take k (told groups)) ++ children_in all_paths (path_of ps group)
-    one_below = flat_map-append (children_in all_paths) (take k (told groups)) (path_of ps group ∷ []) ∙ ap (λ l. below (take k (told groups)) ++ l) (append-nil (children_in all_paths (path_of ps group)))
+    one_below : below (take k (reported groups) ++ path_of ps group ∷ []) ≡ below (take k (reported groups)) ++ children_in all_paths (path_of ps group)
+    one_below = flat_map-append (children_in all_paths) (take k (reported groups)) (path_of ps group ∷ []) ∙ ap (λ l. below (take k (reported groups)) ++ l) (append-nil (children_in all_paths (path_of ps group)))
 
-    pub paths_next : told groups2 ≡ [] ∷ below (take (suc k) (told groups2))
+    pub paths_next : reported groups2 ≡ [] ∷ below (take (suc k) (reported groups2))
     paths_next =
-        told_more ∙ ap (λ l. l ++ children_in all_paths (path_of ps group)) built.paths
-        ∙ ap (λ l. [] ∷ l) (sym one_below ∙ ap below (sym next_front) ∙ ap below (sym (take_told (suc k) (omega arith))))
+        reported_more ∙ ap (λ l. l ++ children_in all_paths (path_of ps group)) built.paths
+        ∙ ap (λ l. [] ∷ l) (sym one_below ∙ ap below (sym next_prefix) ∙ ap below (sym (take_reported (suc k) (omega arith))))
 
-    pub front_next : take (suc k) all_paths ≡ take (suc k) (told groups2)
-    front_next = front_more k (told groups) built.front built.paths (omega (arith, length_told)) ∙ sym (take_told (suc k) (omega arith))
+    pub prefix_next : take (suc k) all_paths ≡ take (suc k) (reported groups2)
+    prefix_next = prefix_more k (reported groups) built.prefix built.paths (omega (arith, length_reported)) ∙ sym (take_reported (suc k) (omega arith))
 
-    -- the groups are no more than the paths
+    -- there are no more groups than paths
     pub not_more : length groups2 ≤ length all_paths
-    not_more = let len : length (told groups2) ≡ length groups2 = length-map groups2 (path_of ps) in omega (arith, len, no_longer (suc k) (told groups2) front_next paths_next)
+    not_more = let len : length (reported groups2) ≡ length groups2 = length-map groups2 (path_of ps) in omega (arith, len, no_longer (suc k) (reported groups2) prefix_next paths_next)
 
     count_is : length groups2 ≡ length groups + length (children_in all_paths (path_of ps group))
     count_is =
@@ -184,15 +184,15 @@ module _ (ps : List (List Item)) where
       node_old : (i : ℕ) → i < k → node_at (nodes ++ node ∷ []) i ≡ node_at nodes i
       node_old i h = get_or-append nodes (node ∷ []) nowhere i h
 
-      path_old : (i : ℕ) → i < length groups → get_or (told groups2) i [] ≡ get_or (told groups) i []
-      path_old i h = ap (λ l. get_or l i []) told_more ∙ get_or-append (told groups) (children_in all_paths path_here) [] i (omega (arith, length_told))
+      path_old : (i : ℕ) → i < length groups → get_or (reported groups2) i [] ≡ get_or (reported groups) i []
+      path_old i h = ap (λ l. get_or l i []) reported_more ∙ get_or-append (reported groups) (children_in all_paths path_here) [] i (omega (arith, length_reported))
 
       sum_more : sum_by (λ (n : Node). n.count) (nodes ++ node ∷ []) ≡ sum_by (λ (n : Node). n.count) nodes + node.count
       sum_more = sum_by-append (λ (n : Node). n.count) nodes (node ∷ []) ∙ ap (λ n. sum_by (λ (m : Node). m.count) nodes + n) (zero-add node.count)
 
       root_label : k ≡ 0 → node.label ≡ One
       root_label none =
-          let first_path : get_or (told groups) k [] ≡ [] = ap (λ i. get_or (told groups) i []) none ∙ ap (λ l. get_or l 0 []) built.paths in
+          let first_path : get_or (reported groups) k [] ≡ [] = ap (λ i. get_or (reported groups) i []) none ∙ ap (λ l. get_or l 0 []) built.paths in
           let empty : length path_here ≡ 0 = ap length (sym own_path ∙ first_path) in
           root (sym valid.depth ∙ empty)
 
@@ -203,17 +203,17 @@ module _ (ps : List (List Item)) where
         sum = omega (arith, count, children.longer, built.sum, sum_more);
         valid = λ c i. ⊎_elim (λ old. built.valid c old) (λ new. children.groups c new) (in_append c groups added (subst (IsIn c) groups_are i));
         paths = rw nodes_len paths_next;
-        front = rw nodes_len front_next;
+        prefix = rw nodes_len prefix_next;
         reach = omega (arith, nodes_len, inside, children.longer, not_more);
         each = λ i h. elim (leb_tells k i) [
           | inl t ↦
               let e : i ≡ k = omega (arith, t.1, nodes_len) in
-              let here : get_or (told groups2) i [] ≡ path_here = path_old i (omega (arith, e, inside)) ∙ ap (λ j. get_or (told groups) j []) e ∙ own_path in
+              let here : get_or (reported groups2) i [] ≡ path_here = path_old i (omega (arith, e, inside)) ∙ ap (λ j. get_or (reported groups) j []) e ∙ own_path in
               let own : node_at (nodes ++ node ∷ []) i ≡ node = ap (node_at (nodes ++ node ∷ [])) e ∙ get_or-append_seam nodes node [] nowhere in
               subst (λ p. IsNodeAt ps p (node_at (nodes ++ node ∷ []) i)) (sym here) (subst (IsNodeAt ps path_here) (sym own) node_here)
           | inr t ↦
               subst (λ p. IsNodeAt ps p (node_at (nodes ++ node ∷ []) i)) (sym (path_old i (omega (arith, t.1, inside))))
-              (subst (IsNodeAt ps (get_or (told groups) i [])) (sym (node_old i t.1)) (built.each i t.1))
+              (subst (IsNodeAt ps (get_or (reported groups) i [])) (sym (node_old i t.1)) (built.each i t.1))
         ];
       }
 
@@ -234,28 +234,28 @@ module _ (ps : List (List Item)) where
         sum = refl;
         valid = λ c i. ⊎_elim (λ e. subst (IsGroup ps) (sym e) own) (λ none. absurd none) i;
         paths = ap (λ p. p ∷ []) empty;
-        front = refl;
+        prefix = refl;
         reach = omega arith;
         each = λ i h. absurd (omega arith);
       }
 
   -- all groups are cut
   module _ (nodes : List Node) (groups : List Group) (built : IsBuilt ps nodes groups) (done : length groups ≤ length nodes) where
-    len : length nodes ≡ length (told groups)
-    len = let e : length (told groups) ≡ length groups = length-map groups (path_of ps) in omega (arith, e, done, built.ahead)
+    len : length nodes ≡ length (reported groups)
+    len = let e : length (reported groups) ≡ length groups = length-map groups (path_of ps) in omega (arith, e, done, built.ahead)
 
-    told_is : told groups ≡ all_paths
-    told_is = all_made (told groups) (subst (λ n. take n all_paths ≡ take n (told groups)) len built.front) (subst (λ n. told groups ≡ [] ∷ below (take n (told groups))) len built.paths)
+    reported_is : reported groups ≡ all_paths
+    reported_is = all_made (reported groups) (subst (λ n. take n all_paths ≡ take n (reported groups)) len built.prefix) (subst (λ n. reported groups ≡ [] ∷ below (take n (reported groups))) len built.paths)
         (omega (arith, len, built.reach))
 
     pub counted : length nodes ≡ length all_paths
-    counted = len ∙ ap length told_is
+    counted = len ∙ ap length reported_is
 
     shape : Shape nodes
     shape = shape_from nodes (length nodes) built.numbered (omega (arith, built.sum, done, built.ahead))
 
     pub node_is : (i : ℕ) → i < length nodes → IsNodeAt ps (get_or all_paths i []) (node_at nodes i)
-    node_is i h = subst (λ l. IsNodeAt ps (get_or l i []) (node_at nodes i)) told_is (built.each i h)
+    node_is i h = subst (λ l. IsNodeAt ps (get_or l i []) (node_at nodes i)) reported_is (built.each i h)
 
     -- how many children the first paths have
     children_before : (p : ℕ) → p ≤ length nodes → length (below (take p all_paths)) ≡ sum_by (λ (n : Node). n.count) (take p nodes)

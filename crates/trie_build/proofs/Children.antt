@@ -5,18 +5,18 @@ use Rattle.std.proofs.lemmas.Bool.{and_parts, eqb-true}
 use Rattle.std.proofs.lemmas.Cmp.{nat_cmp_total, ranked, tied_itself}
 use Rattle.std.proofs.lemmas.List.{length-take, take-append-drop}
 use Rattle.std.specs.Cmp.Lexicographic.{slice_cmp}
-use Rattle.std.specs.Ordering.{nat_cmp, ordering_then, MatchOrdering}
+use Rattle.std.specs.Ordering.{MatchOrdering, is_eq, nat_cmp, ordering_then}
 use Rattle.std.specs.declared.cmp.Ordering.{Ordering}
 use Rattle.std.specs.declared.cmp.Ordering.TheVariants.{Less, Equal, Greater}
 use Rattle.text_core.specs.declared.item.Item.{Item}
-use Rattle.trie_build.specs.Distinct.{IsIn, Rises, is_equal}
+use Rattle.trie_build.specs.Distinct.{IsIn, Rises}
 use Rattle.trie_build.specs.Paths.{children_in, is_child, same_path}
 use Rattle.trie_build.specs.Order.{label_cmp, path_cmp, pattern_cmp}
 use Rattle.trie_build.specs.Tree.{IsLevelByLevel, IsTree}
 use Rattle.trie_build.proofs.Distinguishing.{all_in, filter_in, flat_map_in, in_filter, in_flat_map, one_list, rises_filter, rises_flat_map}
 use Rattle.trie_build.proofs.Orders.{labels_order, paths_order}
 
-tied : (o : Ordering) → is_equal o ≡ true → o ≡ Equal
+pub tied : (o : Ordering) → is_eq o ≡ true → o ≡ Equal
 tied Less h = cc
 tied Equal h = refl
 tied Greater h = cc
@@ -37,7 +37,7 @@ child_of p c h =
 pub of_child : (p c : List Item) → length c ≡ length p + 1 → take (length p) c ≡ p → is_child p c ≡ true
 of_child p c e f =
     ap (λ v. v && same_path p (take (length p) c)) (eq-eqb (length c) (length p + 1) e)
-    ∙ ap (λ (q : List Item). is_equal (path_cmp p q)) f ∙ ap is_equal (paths_order.itself p)
+    ∙ ap (λ (q : List Item). is_eq (path_cmp p q)) f ∙ ap is_eq (paths_order.itself p)
 
 -- what is below stays so with more labels after
 longer_below : (p q us vs : List Item) → length p ≡ length q → slice_cmp label_cmp p q ≡ Less → slice_cmp label_cmp (p ++ us) (q ++ vs) ≡ Less
@@ -80,7 +80,7 @@ child_above p c h =
     let child : IsChildOf p c = child_of p c h in
     ap (λ o. ordering_then o (slice_cmp label_cmp p c)) (less_is (length p) (length c) (omega (arith, child.longer)))
 
--- the root stands first
+-- the root comes first
 root_first : (ps : List (List Item)) → Rises path_cmp ps → IsIn [] ps → ps ≡ [] ∷ drop 1 ps
 root_first [] h i = absurd i
 root_first (p ∷ ps) h (inl e) = ap (λ q. q ∷ ps) (sym e)
@@ -133,9 +133,9 @@ module _ (ps : List (List Item)) (t : IsTree ps) where
   }
 
 -- what begins alike compares as the rest does
-pub same_front : (q us vs : List Item) → pattern_cmp (q ++ us) (q ++ vs) ≡ pattern_cmp us vs
-same_front [] us vs = refl
-same_front (x ∷ q) us vs = ap (λ o. ordering_then o (pattern_cmp (q ++ us) (q ++ vs))) (labels_order.itself x) ∙ same_front q us vs
+pub same_prefix : (q us vs : List Item) → pattern_cmp (q ++ us) (q ++ vs) ≡ pattern_cmp us vs
+same_prefix [] us vs = refl
+same_prefix (x ∷ q) us vs = ap (λ o. ordering_then o (pattern_cmp (q ++ us) (q ++ vs))) (labels_order.itself x) ∙ same_prefix q us vs
 
 -- of two children of one path, that with the lower label is below
 pub children_rise : (q : List Item) (a b : Item) → label_cmp a b ≡ Less → path_cmp (q ++ a ∷ []) (q ++ b ∷ []) ≡ Less
@@ -143,4 +143,4 @@ children_rise q a b less =
     let len : length (q ++ a ∷ []) ≡ length (q ++ b ∷ []) = length-append q (a ∷ []) ∙ sym (length-append q (b ∷ [])) in
     let tie : nat_cmp (length (q ++ a ∷ [])) (length (q ++ b ∷ [])) ≡ Equal = ap (λ n. nat_cmp (length (q ++ a ∷ [])) n) (sym len) ∙ tied_itself nat_cmp_total (length (q ++ a ∷ [])) in
     ap (λ o. ordering_then o (pattern_cmp (q ++ a ∷ []) (q ++ b ∷ []))) tie
-    ∙ same_front q (a ∷ []) (b ∷ []) ∙ ap (λ o. ordering_then o (pattern_cmp [] [])) less
+    ∙ same_prefix q (a ∷ []) (b ∷ []) ∙ ap (λ o. ordering_then o (pattern_cmp [] [])) less

@@ -11,16 +11,18 @@ use Rattle.std.specs.declared.cmp.Ordering.TheVariants.{Less, Equal}
 use Rattle.text_core.specs.declared.item.Item.{Item}
 use Rattle.text_core.specs.declared.item.Item.TheVariants.{Byte, One, Many, Among}
 use Rattle.hwdb_lookup.specs.declared.entry.Entry.{Entry}
-use Rattle.trie_build.specs.Distinct.{IsDistinctOf, IsIn, IsOrder, Rises}
+use Rattle.trie_build.specs.Distinct.{IsDistinctOf, IsIn, Rises}
+use Rattle.trie_build.proofs.TotalOrder.{IsOrder}
 use Rattle.trie_build.specs.Order.{path_cmp}
 use Rattle.trie_build.specs.Paths.{paths_among, paths_of}
-use Rattle.trie_build.specs.Sizes.{last_label, names_of, set_in, sets_of, text_cmp}
+use Rattle.trie_build.specs.Sizes.{last_label, names_of, set_in, sets_of}
+use Rattle.text_bytes.specs.Insertion.{text_order}
 use Rattle.trie_build.proofs.Distinguishing.{all_in, append_left, append_right, distinct_is, flat_map_in, in_append, in_map, map_in, range_in}
 use Rattle.trie_build.proofs.Orders.{paths_order, texts_order}
-use Rattle.trie_build.proofs.Paths.{path_is_front, paths_tree}
+use Rattle.trie_build.proofs.Paths.{path_is_prefix, paths_tree}
 
--- what stands around a member
-around : {A : Type 0} (x : A) (xs : List A) → IsIn x xs → (front : List A) × (back : List A) × (xs ≡ front ++ x ∷ back)
+-- what is around a member
+around : {A : Type 0} (x : A) (xs : List A) → IsIn x xs → (prefix : List A) × (back : List A) × (xs ≡ prefix ++ x ∷ back)
 around x [] i = absurd i
 around x (y ∷ ys) (inl e) = ([], ys, ap (λ z. z ∷ ys) (sym e))
 around x (y ∷ ys) (inr i) = let w = around x ys i in (y ∷ w.0, w.1, ap (λ l. y ∷ l) w.2)
@@ -34,14 +36,14 @@ module _ {A : Type 0} (cmp : A → A → Ordering) (order : IsOrder cmp) where
   sum_within f [] xs up to = omega arith
   sum_within f (y ∷ ys) xs up to =
       let w = around y xs (to y (inl refl)) in
-      let front : List A = w.0 in
+      let prefix : List A = w.0 in
       let back : List A = w.1 in
-      let others : (z : A) → IsIn z ys → IsIn z (front ++ back) = λ z i.
-      ⊎_elim (λ a. append_left z front back a) (λ b. ⊎_elim (λ e. absurd (apart y z (all_in (λ v. cmp y v ≡ Less) z ys up.0 i) (sym e))) (λ c. append_right z front back c) b)
-      (in_append z front (y ∷ back) (subst (IsIn z) w.2 (to z (inr i)))) in
-      let rest : sum_by f ys ≤ sum_by f (front ++ back) = sum_within f ys (front ++ back) up.1 others in
-      let all : sum_by f xs ≡ sum_by f front + (f y + sum_by f back) = ap (sum_by f) w.2 ∙ sum_by-append f front (y ∷ back) ∙ ap (λ n. sum_by f front + n) (sum_by-cons f y back) in
-      let some : sum_by f (front ++ back) ≡ sum_by f front + sum_by f back = sum_by-append f front back in
+      let others : (z : A) → IsIn z ys → IsIn z (prefix ++ back) = λ z i.
+      ⊎_elim (λ a. append_left z prefix back a) (λ b. ⊎_elim (λ e. absurd (apart y z (all_in (λ v. cmp y v ≡ Less) z ys up.0 i) (sym e))) (λ c. append_right z prefix back c) b)
+      (in_append z prefix (y ∷ back) (subst (IsIn z) w.2 (to z (inr i)))) in
+      let rest : sum_by f ys ≤ sum_by f (prefix ++ back) = sum_within f ys (prefix ++ back) up.1 others in
+      let all : sum_by f xs ≡ sum_by f prefix + (f y + sum_by f back) = ap (sum_by f) w.2 ∙ sum_by-append f prefix (y ∷ back) ∙ ap (λ n. sum_by f prefix + n) (sum_by-cons f y back) in
+      let some : sum_by f (prefix ++ back) ≡ sum_by f prefix + sum_by f back = sum_by-append f prefix back in
       omega (arith, rest, all, some, sum_by-cons f y ys)
 
 sum_ones : {A : Type 0} (xs : List A) → sum_by (λ x. 1) xs ≡ length xs
@@ -49,31 +51,31 @@ sum_ones [] = refl
 sum_ones (x ∷ xs) = let rest : sum_by (λ y. 1) xs ≡ length xs = sum_ones xs in omega (arith, rest, sum_by-cons (λ y. 1) x xs)
 
 -- the prefixes of a pattern that are not empty
-abbrev fronts : List Item → List (List Item)
-fronts p = map (λ n. take n p) (range_with_len 1 (length p))
+abbrev first_labels : List Item → List (List Item)
+first_labels p = map (λ n. take n p) (range_with_len 1 (length p))
 
-count_fronts : (ps : List (List Item)) → sum_by (λ q. 1) (flat_map fronts ps) ≡ sum_by length ps
-count_fronts [] = refl
-count_fronts (p ∷ ps) =
-    let own : sum_by (λ q. 1) (fronts p) ≡ length p = sum_ones (fronts p) ∙ length-map (range_with_len 1 (length p)) (λ n. take n p) ∙ length-range_with_len 1 (length p) in
-    let rest : sum_by (λ q. 1) (flat_map fronts ps) ≡ sum_by length ps = count_fronts ps in
-    let both : sum_by (λ q. 1) (fronts p ++ flat_map fronts ps) ≡ sum_by (λ q. 1) (fronts p) + sum_by (λ q. 1) (flat_map fronts ps) = sum_by-append (λ q. 1) (fronts p) (flat_map fronts ps) in
+count_prefixes : (ps : List (List Item)) → sum_by (λ q. 1) (flat_map first_labels ps) ≡ sum_by length ps
+count_prefixes [] = refl
+count_prefixes (p ∷ ps) =
+    let own : sum_by (λ q. 1) (first_labels p) ≡ length p = sum_ones (first_labels p) ∙ length-map (range_with_len 1 (length p)) (λ n. take n p) ∙ length-range_with_len 1 (length p) in
+    let rest : sum_by (λ q. 1) (flat_map first_labels ps) ≡ sum_by length ps = count_prefixes ps in
+    let both : sum_by (λ q. 1) (first_labels p ++ flat_map first_labels ps) ≡ sum_by (λ q. 1) (first_labels p) + sum_by (λ q. 1) (flat_map first_labels ps) = sum_by-append (λ q. 1) (first_labels p) (flat_map first_labels ps) in
     omega (arith, own, rest, both, sum_by-cons length p ps)
 
-among_fronts : (ps qs : List (List Item)) → ((p : List Item) → IsIn p ps → IsIn p qs) → (z : List Item) → IsIn z (paths_among ps) → IsIn z ([] ∷ flat_map fronts qs)
-among_fronts ps qs to [] i = inl refl
-among_fronts ps qs to (x ∷ z) i =
-    let w = path_is_front ps (x ∷ z) i (omega arith) in
+among_prefixes : (ps qs : List (List Item)) → ((p : List Item) → IsIn p ps → IsIn p qs) → (z : List Item) → IsIn z (paths_among ps) → IsIn z ([] ∷ flat_map first_labels qs)
+among_prefixes ps qs to [] i = inl refl
+among_prefixes ps qs to (x ∷ z) i =
+    let w = path_is_prefix ps (x ∷ z) i (omega arith) in
     let p : List Item = w.0 in
     let n : ℕ = length (x ∷ z) in
-    let front : IsIn (take n p) (fronts p) = map_in (λ k. take k p) n (range_with_len 1 (length p)) (range_in n 1 (length p) (omega arith) (omega (arith, w.2))) in
-    inr (flat_map_in fronts (x ∷ z) p qs (to p w.1) (subst (λ q. IsIn q (fronts p)) (sym w.3) front))
+    let prefix : IsIn (take n p) (first_labels p) = map_in (λ k. take k p) n (range_with_len 1 (length p)) (range_in n 1 (length p) (omega arith) (omega (arith, w.2))) in
+    inr (flat_map_in first_labels (x ∷ z) p qs (to p w.1) (subst (λ q. IsIn q (first_labels p)) (sym w.3) prefix))
 
 pub few_paths : (ps qs : List (List Item)) → ((p : List Item) → IsIn p ps → IsIn p qs) → length (paths_among ps) ≤ 1 + sum_by length qs
 few_paths ps qs to =
-    let within : sum_by (λ p. 1) (paths_among ps) ≤ sum_by (λ p. 1) ([] ∷ flat_map fronts qs) =
-    sum_within path_cmp paths_order (λ p. 1) (paths_among ps) ([] ∷ flat_map fronts qs) (paths_tree ps).rises (among_fronts ps qs to) in
-    omega (arith, within, sum_by-cons (λ p. 1) [] (flat_map fronts qs), sum_ones (paths_among ps), count_fronts qs)
+    let within : sum_by (λ p. 1) (paths_among ps) ≤ sum_by (λ p. 1) ([] ∷ flat_map first_labels qs) =
+    sum_within path_cmp paths_order (λ p. 1) (paths_among ps) ([] ∷ flat_map first_labels qs) (paths_tree ps).rises (among_prefixes ps qs to) in
+    omega (arith, within, sum_by-cons (λ p. 1) [] (flat_map first_labels qs), sum_ones (paths_among ps), count_prefixes qs)
 
 one_set : (x : Item) → length (set_in x) ≤ 1
 one_set (Byte b) = omega arith
@@ -93,12 +95,12 @@ sets_few (p ∷ ps) =
 pub few_sets : (es : List Entry) → length (sets_of es) ≤ length (paths_of es)
 few_sets es =
     let listed : List (List ℕ) = flat_map (λ p. set_in (last_label p)) (paths_of es) in
-    let is : IsDistinctOf text_cmp listed (sets_of es) = distinct_is text_cmp texts_order listed in
-    let within : sum_by (λ s. 1) (sets_of es) ≤ sum_by (λ s. 1) listed = sum_within text_cmp texts_order (λ s. 1) (sets_of es) listed is.rises is.only in
+    let is : IsDistinctOf text_order listed (sets_of es) = distinct_is text_order texts_order listed in
+    let within : sum_by (λ s. 1) (sets_of es) ≤ sum_by (λ s. 1) listed = sum_within text_order texts_order (λ s. 1) (sets_of es) listed is.rises is.only in
     omega (arith, within, sum_ones (sets_of es), sum_ones listed, sets_few (paths_of es))
 
 pub few_names : (es : List Entry) (names : List (List ℕ)) → ((e : Entry) → IsIn e es → IsIn e.file names) → sum_by length (names_of es) ≤ sum_by length names
 few_names es names to =
     let listed : List (List ℕ) = map (λ (e : Entry). e.file) es in
-    let is : IsDistinctOf text_cmp listed (names_of es) = distinct_is text_cmp texts_order listed in
-    sum_within text_cmp texts_order length (names_of es) names is.rises (λ z i. let w = in_map (λ (e : Entry). e.file) z es (is.only z i) in subst (λ n. IsIn n names) (sym w.2) (to w.0 w.1))
+    let is : IsDistinctOf text_order listed (names_of es) = distinct_is text_order texts_order listed in
+    sum_within text_order texts_order length (names_of es) names is.rises (λ z i. let w = in_map (λ (e : Entry). e.file) z es (is.only z i) in subst (λ n. IsIn n names) (sym w.2) (to w.0 w.1))

@@ -4,9 +4,15 @@ use Rattle.std.proofs.Math.Logic.{⊎_elim}
 use Rattle.std.proofs.lemmas.Bool.{cases_order}
 use Rattle.std.proofs.lemmas.Bool.Decides.{eqb_tells}
 use Rattle.std.specs.List.{AllByRecursion, range_with_len}
+use Rattle.std.specs.Ordering.{match_ordering}
 use Rattle.std.specs.declared.cmp.Ordering.{Ordering}
 use Rattle.std.specs.declared.cmp.Ordering.TheVariants.{Less, Equal, Greater}
-use Rattle.trie_build.specs.Distinct.{distinct, place, placed, IsDistinctOf, IsIn, IsOrder, Rises}
+use Rattle.trie_build.specs.Distinct.{distinct, inserted, IsDistinctOf, IsIn, Rises}
+use Rattle.trie_build.proofs.TotalOrder.{IsOrder}
+
+-- x before y, as y, or after it, as x is below y, the same or above it
+abbrev pub placed : {A : Type 0} → Ordering → A → A → List A → List A → List A
+placed o x y ys following = match_ordering o (x ∷ y ∷ ys) (y ∷ ys) (y ∷ following)
 
 all_weaker : {A : Type 0} (P Q : A → Type 0) → ((x : A) → P x → Q x) → (xs : List A) → AllByRecursion P xs → AllByRecursion Q xs
 all_weaker P Q w [] h = tt
@@ -18,66 +24,66 @@ all_in P x (y ∷ ys) h (inl e) = subst P (sym e) h.0
 all_in P x (y ∷ ys) h (inr i) = all_in P x ys h.1 i
 
 module _ {A : Type 0} (cmp : A → A → Ordering) (order : IsOrder cmp) where
-  place_all : (P : A → Type 0) (x : A) (ys : List A) → AllByRecursion P ys → P x → AllByRecursion P (place cmp x ys)
+  place_all : (P : A → Type 0) (x : A) (ys : List A) → AllByRecursion P ys → P x → AllByRecursion P (inserted cmp x ys)
   place_all P x [] h p = (p, tt)
   place_all P x (y ∷ ys) h p = by (cmp x y) (place_all P x ys h.1 p) where
-    by : (o : Ordering) → AllByRecursion P (place cmp x ys) → AllByRecursion P (placed o x y ys (place cmp x ys))
+    by : (o : Ordering) → AllByRecursion P (inserted cmp x ys) → AllByRecursion P (placed o x y ys (inserted cmp x ys))
     by Less rest = (p, h)
     by Equal rest = h
     by Greater rest = (h.0, rest)
 
-  place_rises : (x : A) (ys : List A) → Rises cmp ys → Rises cmp (place cmp x ys)
+  place_rises : (x : A) (ys : List A) → Rises cmp ys → Rises cmp (inserted cmp x ys)
   place_rises x [] h = (tt, tt)
   place_rises x (y ∷ ys) h = by (cmp x y) refl (place_rises x ys h.1) where
-    by : (o : Ordering) → cmp x y ≡ o → Rises cmp (place cmp x ys) → Rises cmp (placed o x y ys (place cmp x ys))
+    by : (o : Ordering) → cmp x y ≡ o → Rises cmp (inserted cmp x ys) → Rises cmp (placed o x y ys (inserted cmp x ys))
     by Less e rest = ((e, all_weaker (λ z. cmp y z ≡ Less) (λ z. cmp x z ≡ Less) (λ z less. order.trans x y z e less) ys h.0), h)
     by Equal e rest = h
-    by Greater e rest = (place_all (λ z. cmp y z ≡ Less) x ys h.0 (order.turned x y e), rest)
+    by Greater e rest = (place_all (λ z. cmp y z ≡ Less) x ys h.0 (order.reversed x y e), rest)
 
-  place_has : (x : A) (ys : List A) → IsIn x (place cmp x ys)
+  place_has : (x : A) (ys : List A) → IsIn x (inserted cmp x ys)
   place_has x [] = inl refl
   place_has x (y ∷ ys) = by (cmp x y) refl (place_has x ys) where
-    by : (o : Ordering) → cmp x y ≡ o → IsIn x (place cmp x ys) → IsIn x (placed o x y ys (place cmp x ys))
+    by : (o : Ordering) → cmp x y ≡ o → IsIn x (inserted cmp x ys) → IsIn x (placed o x y ys (inserted cmp x ys))
     by Less e rest = inl refl
     by Equal e rest = inl (order.same x y e)
     by Greater e rest = inr rest
 
-  place_keeps : (x z : A) (ys : List A) → IsIn z ys → IsIn z (place cmp x ys)
+  place_keeps : (x z : A) (ys : List A) → IsIn z ys → IsIn z (inserted cmp x ys)
   place_keeps x z [] i = absurd i
   place_keeps x z (y ∷ ys) i = by (cmp x y) (place_keeps x z ys) i where
-    by : (o : Ordering) → (IsIn z ys → IsIn z (place cmp x ys)) → IsIn z (y ∷ ys) → IsIn z (placed o x y ys (place cmp x ys))
+    by : (o : Ordering) → (IsIn z ys → IsIn z (inserted cmp x ys)) → IsIn z (y ∷ ys) → IsIn z (placed o x y ys (inserted cmp x ys))
     by Less keep i = inr i
     by Equal keep i = i
     by Greater keep (inl e) = inl e
     by Greater keep (inr i) = inr (keep i)
 
-  place_only : (x z : A) (ys : List A) → IsIn z (place cmp x ys) → (z ≡ x) ⊎ IsIn z ys
+  place_only : (x z : A) (ys : List A) → IsIn z (inserted cmp x ys) → (z ≡ x) ⊎ IsIn z ys
   place_only x z [] (inl e) = inl e
   place_only x z [] (inr i) = absurd i
   place_only x z (y ∷ ys) i = by (cmp x y) (place_only x z ys) i where
-    by : (o : Ordering) → (IsIn z (place cmp x ys) → (z ≡ x) ⊎ IsIn z ys) → IsIn z (placed o x y ys (place cmp x ys)) → (z ≡ x) ⊎ IsIn z (y ∷ ys)
+    by : (o : Ordering) → (IsIn z (inserted cmp x ys) → (z ≡ x) ⊎ IsIn z ys) → IsIn z (placed o x y ys (inserted cmp x ys)) → (z ≡ x) ⊎ IsIn z (y ∷ ys)
     by Less only (inl e) = inl e
     by Less only (inr i) = inr i
     by Equal only i = inr i
     by Greater only (inl e) = inr (inl e)
     by Greater only (inr i) = ⊎_elim (λ e. inl e) (λ rest. inr (inr rest)) (only i)
 
-  fold_rises : (acc xs : List A) → Rises cmp acc → Rises cmp (fold (λ ys x. place cmp x ys) acc xs)
+  fold_rises : (acc xs : List A) → Rises cmp acc → Rises cmp (fold (λ ys x. inserted cmp x ys) acc xs)
   fold_rises acc [] h = h
-  fold_rises acc (x ∷ xs) h = fold_rises (place cmp x acc) xs (place_rises x acc h)
+  fold_rises acc (x ∷ xs) h = fold_rises (inserted cmp x acc) xs (place_rises x acc h)
 
-  fold_keeps : (z : A) (acc xs : List A) → IsIn z acc → IsIn z (fold (λ ys x. place cmp x ys) acc xs)
+  fold_keeps : (z : A) (acc xs : List A) → IsIn z acc → IsIn z (fold (λ ys x. inserted cmp x ys) acc xs)
   fold_keeps z acc [] i = i
-  fold_keeps z acc (x ∷ xs) i = fold_keeps z (place cmp x acc) xs (place_keeps x z acc i)
+  fold_keeps z acc (x ∷ xs) i = fold_keeps z (inserted cmp x acc) xs (place_keeps x z acc i)
 
-  fold_has : (z : A) (acc xs : List A) → IsIn z xs → IsIn z (fold (λ ys x. place cmp x ys) acc xs)
+  fold_has : (z : A) (acc xs : List A) → IsIn z xs → IsIn z (fold (λ ys x. inserted cmp x ys) acc xs)
   fold_has z acc [] i = absurd i
-  fold_has z acc (x ∷ xs) (inl e) = fold_keeps z (place cmp x acc) xs (subst (λ w. IsIn w (place cmp x acc)) (sym e) (place_has x acc))
-  fold_has z acc (x ∷ xs) (inr i) = fold_has z (place cmp x acc) xs i
+  fold_has z acc (x ∷ xs) (inl e) = fold_keeps z (inserted cmp x acc) xs (subst (λ w. IsIn w (inserted cmp x acc)) (sym e) (place_has x acc))
+  fold_has z acc (x ∷ xs) (inr i) = fold_has z (inserted cmp x acc) xs i
 
-  fold_only : (z : A) (acc xs : List A) → IsIn z (fold (λ ys x. place cmp x ys) acc xs) → IsIn z acc ⊎ IsIn z xs
+  fold_only : (z : A) (acc xs : List A) → IsIn z (fold (λ ys x. inserted cmp x ys) acc xs) → IsIn z acc ⊎ IsIn z xs
   fold_only z acc [] i = inl i
-  fold_only z acc (x ∷ xs) i = ⊎_elim (λ a. ⊎_elim (λ e. inr (inl e)) (λ b. inl b) (place_only x z acc a)) (λ b. inr (inr b)) (fold_only z (place cmp x acc) xs i)
+  fold_only z acc (x ∷ xs) i = ⊎_elim (λ a. ⊎_elim (λ e. inr (inl e)) (λ b. inl b) (place_only x z acc a)) (λ b. inr (inr b)) (fold_only z (inserted cmp x acc) xs i)
 
   pub distinct_is : (xs : List A) → IsDistinctOf cmp xs (distinct cmp xs)
   distinct_is xs = record {

@@ -7,10 +7,11 @@ use Rattle.hwdb_lookup.specs.declared.entry.Entry.{Entry}
 use Rattle.trie_nodes.specs.Tree.{node_at, nowhere}
 use Rattle.trie_nodes.specs.Values.{bare, listed, value_at}
 use Rattle.trie_nodes.specs.declared.node.Node.{Node}
-use Rattle.trie_build.specs.Content.{Content, IsTrie, all_values, entry_at, no_entry, value_of}
-use Rattle.trie_build.proofs.Answering.{listed_answers, number_within, value_told}
+use Rattle.trie_build.specs.Content.{Content, all_values, entry_at, no_entry, value_of}
+use Rattle.trie_build.specs.Held.{IsHeld}
+use Rattle.trie_build.proofs.Answering.{listed_answers, number_within, value_reported}
 
-module _ (t held : Content) (view : t ≡ held) (is : IsTrie held) where
+module _ (t held : Content) (view : t ≡ held) (is : IsHeld held) where
   pub value_inside : (j : ℕ) → j < length (all_values t) → j < length held.numbers
   value_inside j h =
       let len : length (all_values t) ≡ length t.numbers = simp length-map in
@@ -27,7 +28,7 @@ module _ (t held : Content) (view : t ≡ held) (is : IsTrie held) where
       let inside : j < length held.numbers = value_inside j h in
       let number : n ≡ get_or held.numbers j 0 = e ∙ get_or_default held.numbers j n 0 inside in
       let own : x ≡ entry_at held.entries (get_or held.numbers j 0) = f ∙ get_or_default held.entries n x no_entry (entry_inside j n h e) ∙ ap (λ k. get_or held.entries k no_entry) number in
-      ap (λ y. bare (value_of y)) own ∙ ap bare (sym (value_told held is j inside)) ∙ ap (λ (c : Content). bare (value_at (all_values c) j)) (sym view)
+      ap (λ y. bare (value_of y)) own ∙ ap bare (sym (value_reported held is j inside)) ∙ ap (λ (c : Content). bare (value_at (all_values c) j)) (sym view)
 
   pub span_small : (i : ℕ) (n : Node) → i < length t.nodes → n ≡ get_or held.nodes i n → length held.numbers ≤ max_entries → n.first_value + n.values < 2 ^ 32
   span_small i n h e few =
@@ -37,7 +38,7 @@ module _ (t held : Content) (view : t ≡ held) (is : IsTrie held) where
       let values : n.values ≡ (node_at held.nodes i).values = ap (λ (m : Node). m.values) own in
       omega (arith, first, values, is.within i inside, few)
 
-module _ (t : Content) (is : IsTrie t) (m : List ℕ) where
+module _ (t : Content) (is : IsHeld t) (m : List ℕ) where
   pub query_is : query (listed t.nodes (all_values t)) m ≡ query t.entries m
   query_is = ap (map property) (listed_answers t is m)
 

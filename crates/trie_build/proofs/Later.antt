@@ -22,20 +22,20 @@ drop_in b zero xs h = h
 drop_in b (suc i) [] h = absurd h
 drop_in b (suc i) (x ∷ xs) h = inr (drop_in b i xs h)
 
--- of a rising list, what stands up to i is no more than what stands from i on
-front_below : {A : Type 0} (cmp : A → A → Ordering) (i : ℕ) (xs : List A) (a b : A) → Rises cmp xs → IsIn a (take (suc i) xs) → IsIn b (drop i xs) → (a ≡ b) ⊎ (cmp a b ≡ Less)
-front_below cmp zero [] a b h i j = absurd j
-front_below cmp zero (x ∷ xs) a b h (inl e) (inl f) = inl (e ∙ sym f)
-front_below cmp zero (x ∷ xs) a b h (inl e) (inr j) = inr (subst (λ w. cmp w b ≡ Less) (sym e) (all_in (λ z. cmp x z ≡ Less) b xs h.0 j))
-front_below cmp zero (x ∷ xs) a b h (inr i) j = absurd i
-front_below cmp (suc n) [] a b h i j = absurd j
-front_below cmp (suc n) (x ∷ xs) a b h (inl e) j = inr (subst (λ w. cmp w b ≡ Less) (sym e) (all_in (λ z. cmp x z ≡ Less) b xs h.0 (drop_in b n xs j)))
-front_below cmp (suc n) (x ∷ xs) a b h (inr i) j = front_below cmp n xs a b h.1 i j
+-- in a rising list, what is up to place i is not above what is from i on
+prefix_below : {A : Type 0} (cmp : A → A → Ordering) (i : ℕ) (xs : List A) (a b : A) → Rises cmp xs → IsIn a (take (suc i) xs) → IsIn b (drop i xs) → (a ≡ b) ⊎ (cmp a b ≡ Less)
+prefix_below cmp zero [] a b h i j = absurd j
+prefix_below cmp zero (x ∷ xs) a b h (inl e) (inl f) = inl (e ∙ sym f)
+prefix_below cmp zero (x ∷ xs) a b h (inl e) (inr j) = inr (subst (λ w. cmp w b ≡ Less) (sym e) (all_in (λ z. cmp x z ≡ Less) b xs h.0 j))
+prefix_below cmp zero (x ∷ xs) a b h (inr i) j = absurd i
+prefix_below cmp (suc n) [] a b h i j = absurd j
+prefix_below cmp (suc n) (x ∷ xs) a b h (inl e) j = inr (subst (λ w. cmp w b ≡ Less) (sym e) (all_in (λ z. cmp x z ≡ Less) b xs h.0 (drop_in b n xs j)))
+prefix_below cmp (suc n) (x ∷ xs) a b h (inr i) j = prefix_below cmp n xs a b h.1 i j
 
-seam_in : {A : Type 0} (g : A) (i : ℕ) (front more : List A) → length front < i → IsIn g (take i (front ++ g ∷ more))
-seam_in g zero front more h = absurd (omega arith)
+seam_in : {A : Type 0} (g : A) (i : ℕ) (prefix more : List A) → length prefix < i → IsIn g (take i (prefix ++ g ∷ more))
+seam_in g zero prefix more h = absurd (omega arith)
 seam_in g (suc i) [] more h = inl refl
-seam_in g (suc i) (x ∷ front) more h = inr (seam_in g i front more (omega arith))
+seam_in g (suc i) (x ∷ prefix) more h = inr (seam_in g i prefix more (omega arith))
 
 module _ (ps : List (List Item)) (t : IsTree ps) where
   levels : IsLevelByLevel ps
@@ -48,18 +48,18 @@ module _ (ps : List (List Item)) (t : IsTree ps) where
       let itself : path_cmp p p ≡ Equal = paths_order.itself p in
       ⊎_elim (λ e. let tie : path_cmp p g ≡ Equal = ap (path_cmp p) e ∙ itself in cc)
       (λ less. let round : path_cmp p p ≡ Less = paths_order.trans p g p above less in cc)
-      (front_below path_cmp i ps g p t.rises here there)
+      (prefix_below path_cmp i ps g p t.rises here there)
 
   abbrev before : ℕ → List (List Item)
   before i = flat_map (children_in ps) (take i ps)
 
-  abbrev behind : ℕ → List (List Item)
-  behind i = flat_map (children_in ps) (drop i ps)
+  abbrev following : ℕ → List (List Item)
+  following i = flat_map (children_in ps) (drop i ps)
 
-  split : (i : ℕ) → drop 1 ps ≡ before i ++ behind i
+  split : (i : ℕ) → drop 1 ps ≡ before i ++ following i
   split i = sym levels.children ∙ ap (flat_map (children_in ps)) (sym (take-append-drop i ps)) ∙ flat_map-append (children_in ps) (take i ps) (drop i ps)
 
-  enough : (i : ℕ) → i < length ps → (rest : List (List Item)) → drop 1 ps ≡ before i ++ rest → ((g : List Item) → IsIn g rest → IsIn g (behind i)) → i ≤ length (before i)
+  enough : (i : ℕ) → i < length ps → (rest : List (List Item)) → drop 1 ps ≡ before i ++ rest → ((g : List Item) → IsIn g rest → IsIn g (following i)) → i ≤ length (before i)
   enough i h [] e among =
       let whole : length ps ≡ length ([] ∷ drop 1 ps) = ap length levels.first in
       let len : length (drop 1 ps) ≡ length (before i) + 0 = ap length e ∙ length-append (before i) [] in
@@ -73,7 +73,7 @@ module _ (ps : List (List Item)) (t : IsTree ps) where
 
   -- the first i paths have i children or more
   pub children_enough : (i : ℕ) → i < length ps → i ≤ length (before i)
-  children_enough i h = enough i h (behind i) (split i) (λ g j. j)
+  children_enough i h = enough i h (following i) (split i) (λ g j. j)
 
   pub later : (i : ℕ) → i < length ps → i < 1 + sum_by (λ p. count_by (is_child p) ps) (take i ps)
   later i h =

@@ -1,3 +1,4 @@
+pub mod TotalOrder
 pub mod Distinguishing
 pub mod Counting
 pub mod Children
@@ -12,7 +13,9 @@ pub mod Sorting
 pub mod MadeNodes
 pub mod Building
 pub mod Answering
-pub mod Fronting
+pub mod Parts
+pub mod Gathering
+pub mod Prefixing
 pub mod Words
 pub mod Splitting
 pub mod Bounding

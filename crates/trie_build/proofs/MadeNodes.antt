@@ -14,10 +14,11 @@ use Rattle.trie_build.specs.Order.{path_cmp}
 use Rattle.trie_build.specs.Paths.{paths_among, paths_of, patterns_of}
 use Rattle.trie_build.proofs.Distinguishing.{get_in, in_get, in_map, map_in, one_list, range_in}
 use Rattle.trie_build.proofs.Orders.{paths_order}
-use Rattle.trie_build.proofs.Paths.{front_is_path, path_is_front, paths_tree}
+use Rattle.trie_build.proofs.Paths.{path_is_prefix, paths_tree, prefix_is_path}
 use Rattle.trie_build.specs.Building.{AreNodes}
-use Rattle.trie_build.specs.Content.{IsTrie, entry_at, no_entry}
-use Rattle.trie_build.specs.Rows.{SameRise, Tells, pattern_at, patterns}
+use Rattle.trie_build.specs.Content.{entry_at, no_entry}
+use Rattle.trie_build.specs.Held.{IsHeld}
+use Rattle.trie_build.specs.Rows.{Reports, SameRise, pattern_at, patterns}
 use Rattle.trie_build.specs.declared.fault.TrieFault.{TrieFault}
 use Rattle.trie_build.specs.declared.fault.TrieFault.TheVariants.{TooLarge}
 use Rattle.trie_build.specs.declared.rows.Row.{Row}
@@ -32,29 +33,29 @@ refused {T} r y e P Q f g h = subst (λ (x : Result T TrieFault). MatchResult x 
 among : (ps qs : List (List Item)) → ((p : List Item) → IsIn p ps → IsIn p qs) → (z : List Item) → IsIn z (paths_among ps) → IsIn z (paths_among qs)
 among ps qs to [] i = (paths_tree qs).root
 among ps qs to (x ∷ z) i =
-    let w = path_is_front ps (x ∷ z) i (omega arith) in
-    subst (λ q. IsIn q (paths_among qs)) (sym w.3) (front_is_path qs w.0 (length (x ∷ z)) (to w.0 w.1) w.2)
+    let w = path_is_prefix ps (x ∷ z) i (omega arith) in
+    subst (λ q. IsIn q (paths_among qs)) (sym w.3) (prefix_is_path qs w.0 (length (x ∷ z)) (to w.0 w.1) w.2)
 
 same_paths : (ps qs : List (List Item)) → ((p : List Item) → IsIn p ps → IsIn p qs) → ((p : List Item) → IsIn p qs → IsIn p ps) → paths_among ps ≡ paths_among qs
 same_paths ps qs to fro = one_list path_cmp paths_order (paths_among ps) (paths_among qs) (paths_tree ps).rises (paths_tree qs).rises (among ps qs to) (among qs ps fro)
 
-module _ (es : List Entry) (rows : List Row) (tells : All (Tells es) rows) (numbers : List ℕ) (same : numbers ≡ map (λ (r : Row). r.number) rows)
+module _ (es : List Entry) (rows : List Row) (reports : All (Reports es) rows) (numbers : List ℕ) (same : numbers ≡ map (λ (r : Row). r.number) rows)
     (each : IsPermutation (range_with_len 0 (length es)) (map (λ (r : Row). r.number) rows)) where
-  row_told : (x : ℕ) → x < length rows → pattern_at (patterns rows) x ≡ (entry_at es (get_or numbers x 0)).pattern
-  row_told x h =
+  row_reported : (x : ℕ) → x < length rows → pattern_at (patterns rows) x ≡ (entry_at es (get_or numbers x 0)).pattern
+  row_reported x h =
       let w = row_at rows x h in
       let r : Row = w.0 in
-      let told : Tells es r = subst (Tells es) (w.2 r) (tells x r h) in
+      let reported : Reports es r = subst (Reports es) (w.2 r) (reports x r h) in
       let number : get_or numbers x 0 ≡ r.number = ap (λ l. get_or l x 0) same ∙ get_or-map (λ (s : Row). s.number) rows x r 0 h ∙ ap (λ (s : Row). s.number) (w.2 r) in
-      w.1 ∙ told.items ∙ ap (λ n. (entry_at es n).pattern) (sym number)
+      w.1 ∙ reported.items ∙ ap (λ n. (entry_at es n).pattern) (sym number)
 
   to : (p : List Item) → IsIn p (patterns rows) → IsIn p (patterns_of es)
   to p i =
       let w = in_map (λ (r : Row). r.items.now) p rows i in
       let r : Row = w.0 in
       let at = in_get r r rows w.1 in
-      let told : Tells es r = subst (Tells es) (sym at.2) (tells at.0 r at.1) in
-      subst (λ q. IsIn q (patterns_of es)) (sym (w.2 ∙ told.items)) (map_in (λ (e : Entry). e.pattern) (entry_at es r.number) es (get_in no_entry es r.number told.within))
+      let reported : Reports es r = subst (Reports es) (sym at.2) (reports at.0 r at.1) in
+      subst (λ q. IsIn q (patterns_of es)) (sym (w.2 ∙ reported.items)) (map_in (λ (e : Entry). e.pattern) (entry_at es r.number) es (get_in no_entry es r.number reported.within))
 
   fro : (p : List Item) → IsIn p (patterns_of es) → IsIn p (patterns rows)
   fro p i =
@@ -66,14 +67,14 @@ module _ (es : List Entry) (rows : List Row) (tells : All (Tells es) rows) (numb
       let own = in_map (λ (r : Row). r.number) n rows (in_of n (map (λ (r : Row). r.number) rows) named) in
       let r : Row = own.0 in
       let place = in_get r r rows own.1 in
-      let told : Tells es r = subst (Tells es) (sym place.2) (tells place.0 r place.1) in
-      let pattern : p ≡ r.items.now = w.2 ∙ ap (λ (e : Entry). e.pattern) at.2 ∙ ap (λ k. (entry_at es k).pattern) own.2 ∙ sym told.items in
+      let reported : Reports es r = subst (Reports es) (sym place.2) (reports place.0 r place.1) in
+      let pattern : p ≡ r.items.now = w.2 ∙ ap (λ (e : Entry). e.pattern) at.2 ∙ ap (λ k. (entry_at es k).pattern) own.2 ∙ sym reported.items in
       subst (λ q. IsIn q (patterns rows)) (sym pattern) (map_in (λ (s : Row). s.items.now) r rows own.1)
 
   pub paths_are : paths_among (patterns rows) ≡ paths_of es
   paths_are = same_paths (patterns rows) (patterns_of es) to fro
 
-  pub made : Rising es → SameRise rows → (nodes : List Node) → AreNodes (patterns rows) nodes → IsTrie (record { entries = es; numbers = numbers; nodes = nodes })
+  pub made : Rising es → SameRise rows → (nodes : List Node) → AreNodes (patterns rows) nodes → IsHeld (record { entries = es; numbers = numbers; nodes = nodes })
   made rising rise nodes are =
       let len : length numbers ≡ length rows = ap length same ∙ length-map rows (λ (r : Row). r.number) in
       let long : length (patterns rows) ≡ length rows = length-map rows (λ (r : Row). r.items.now) in
@@ -85,8 +86,8 @@ module _ (es : List Entry) (rows : List Row) (tells : All (Tells es) rows) (numb
         values = subst (IsPermutation (range_with_len 0 (length es))) (sym same) each;
         within = λ i h. omega (arith, (are.each i h).within, len, long);
         own = λ i j h k. (
-          (λ v. sym (row_told j (omega (arith, k, len))) ∙ (are.each i h).own j v.0 v.1 ∙ sym (are.paths i h)),
-          (λ e. (are.each i h).has j (omega (arith, k, len, long)) (row_told j (omega (arith, k, len)) ∙ e ∙ are.paths i h)),
+          (λ v. sym (row_reported j (omega (arith, k, len))) ∙ (are.each i h).own j v.0 v.1 ∙ sym (are.paths i h)),
+          (λ e. (are.each i h).has j (omega (arith, k, len, long)) (row_reported j (omega (arith, k, len)) ∙ e ∙ are.paths i h)),
         );
         by_order = λ i j k h v w less.
             let there : k < length rows = omega (arith, w.1, (are.each i h).within, long) in
@@ -94,8 +95,8 @@ module _ (es : List Entry) (rows : List Row) (tells : All (Tells es) rows) (numb
             (are.each i h).own j v.0 v.1 ∙ sym ((are.each i h).own k w.0 w.1) in
             let up : get_or (map (λ (r : Row). r.number) rows) j 0 < get_or (map (λ (r : Row). r.number) rows) k 0 = rise j k less there one in
             let r = row_at rows k there in
-            let told : Tells es r.0 = subst (Tells es) (r.2 r.0) (tells k r.0 there) in
+            let reported : Reports es r.0 = subst (Reports es) (r.2 r.0) (reports k r.0 there) in
             let last : get_or (map (λ (s : Row). s.number) rows) k 0 ≡ r.0.number = get_or-map (λ (s : Row). s.number) rows k r.0 0 there ∙ ap (λ (s : Row). s.number) (r.2 r.0) in
             subst (λ l. (entry_at es (get_or l j 0)).order < (entry_at es (get_or l k 0)).order) (sym same)
-            (rising_far es rising (get_or (map (λ (s : Row). s.number) rows) j 0) (get_or (map (λ (s : Row). s.number) rows) k 0) up (omega (arith, last, told.within)));
+            (rising_far es rising (get_or (map (λ (s : Row). s.number) rows) j 0) (get_or (map (λ (s : Row). s.number) rows) k 0) up (omega (arith, last, reported.within)));
       }

@@ -9,16 +9,16 @@ use Rattle.std.specs.declared.cmp.Ordering.TheVariants.{Less, Equal, Greater}
 use Rattle.hwdb_lookup.proofs.Keys.{same_key}
 use Rattle.text_core.specs.declared.item.Item.{Item}
 use Rattle.text_core.specs.declared.item.Item.TheVariants.{Byte, One, Many, Among}
-use Rattle.trie_build.specs.Distinct.{IsOrder}
+use Rattle.trie_build.proofs.TotalOrder.{IsOrder}
 use Rattle.trie_build.specs.Order.{label_cmp, label_key, path_cmp, pattern_cmp}
-use Rattle.trie_build.specs.Sizes.{text_cmp}
+use Rattle.text_bytes.specs.Insertion.{text_order}
 
 -- an order of which what ties is one
 order_of : {A : Type 0} (cmp : A → A → Ordering) → IsTotalOrder cmp → ((x y : A) → cmp x y ≡ Equal → x ≡ y) → IsOrder cmp
 order_of cmp o same = record {
   itself = tied_itself o;
   same = same;
-  turned = λ x y e. o.antisymm y x ∙ ap ordering_reverse e;
+  reversed = λ x y e. o.antisymm y x ∙ ap ordering_reverse e;
   trans = λ x y z e f. o.trans x y z e f;
 }
 
@@ -79,5 +79,5 @@ patterns_total = lists_total labels_total
 pub patterns_order : IsOrder pattern_cmp
 patterns_order = order_of pattern_cmp patterns_total (same_lists label_cmp same_label)
 
-pub texts_order : IsOrder text_cmp
-texts_order = order_of text_cmp nat_list_cmp_total same_key
+pub texts_order : IsOrder text_order
+texts_order = order_of text_order nat_list_cmp_total same_key

@@ -1,4 +1,4 @@
--- What stands from a place on in a pattern.
+-- The part of a pattern from a place on.
 use Rattle.std.proofs.Common.{◌≡◌, ℕ, suc, ◌+◌, ◌<◌, ◌≤◌, List, [], ◌∷◌, length, drop, get_or, drop-cons, ap, ◌∙◌, arith}
 use Rattle.std.proofs.lemmas.List.{drop_all}
 use Rattle.std.specs.Ordering.{ordering_then}
@@ -10,7 +10,7 @@ use Rattle.trie_build.specs.Order.{label_cmp, pattern_cmp}
 pub here : (p : List Item) (at : ℕ) → at < length p → drop at p ≡ get_or p at One ∷ drop (at + 1) p
 here p at h = drop-cons p at One h ∙ ap (λ n. get_or p at One ∷ drop n p) (let e : suc at ≡ at + 1 = omega arith in e)
 
--- patterns compare from places on by the labels that stand there, and then from the next places on
+-- patterns compare from places on by the labels there, and then from the next places on
 pub compare_step : (p q : List Item) (at next : ℕ) → at < length p → next < length q
     → pattern_cmp (drop at p) (drop next q) ≡ ordering_then (label_cmp (get_or p at One) (get_or q next One)) (pattern_cmp (drop (at + 1) p) (drop (next + 1) q))
 compare_step p q at next h k = ap (λ l. pattern_cmp l (drop next q)) (here p at h) ∙ ap (pattern_cmp (get_or p at One ∷ drop (at + 1) p)) (here q next k)

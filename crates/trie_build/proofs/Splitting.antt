@@ -13,10 +13,10 @@ use Rattle.text_core.specs.declared.item.Item.TheVariants.{One}
 use Rattle.trie_build.specs.Distinct.{IsIn, Rises}
 use Rattle.trie_build.specs.Order.{label_cmp, path_cmp, pattern_cmp}
 use Rattle.trie_build.specs.Paths.{children_in, is_child, paths_among}
-use Rattle.trie_build.proofs.Children.{IsChildOf, child_of, children_rise, of_child, same_front}
+use Rattle.trie_build.proofs.Children.{IsChildOf, child_of, children_rise, of_child, same_prefix}
 use Rattle.trie_build.proofs.Distinguishing.{append_left, append_right, filter_in, get_in, in_append, in_filter, in_get, one_list, rises_append, rises_filter}
 use Rattle.trie_build.proofs.Orders.{labels_order, paths_order}
-use Rattle.trie_build.proofs.Paths.{front_is_path, path_is_front, paths_tree}
+use Rattle.trie_build.proofs.Paths.{path_is_prefix, paths_tree, prefix_is_path}
 use Rattle.trie_build.specs.declared.groups.Group.{Group}
 use Rattle.trie_build.specs.Groups.{AreChildren, IsGroup, IsRun, IsSplit, label_at, path_of}
 use Rattle.trie_build.specs.Rows.{IsSorted, pattern_at}
@@ -41,7 +41,7 @@ less_of Greater h k = absurd (k refl)
 not_itself : (x y : Item) → x ≡ y → label_cmp x y ≡ Less → ⊥
 not_itself x y e less = let tie : label_cmp x y ≡ Equal = ap (label_cmp x) (sym e) ∙ labels_order.itself x in cc
 
--- where the patterns of a group are longer from some place on
+-- the patterns of a group, if they are longer from some place on
 pub split_at : (ps : List (List Item)) → IsSorted ps → (g : Group) → IsGroup ps g → (at : ℕ) → g.start ≤ at → at < g.end
     → ((x : ℕ) → g.start ≤ x → x < at → length (pattern_at ps x) ≡ g.depth) → g.depth < length (pattern_at ps at) → IsSplit ps g at
 split_at ps sorted g group at h k own long = record {
@@ -50,11 +50,11 @@ split_at ps sorted g group at h k own long = record {
   own = own;
   longer = λ y i l. elim (leb_tells y at) [
     | inl t ↦ let e : at ≡ y = omega (arith, t.1) in subst (λ z. g.depth < length (pattern_at ps z)) e long
-    | inr t ↦ behind y t.1 l
+    | inr t ↦ following y t.1 l
   ];
 } where
-  behind : (y : ℕ) → at < y → y < g.end → g.depth < length (pattern_at ps y)
-  behind y i l = elim (leb_tells (length (pattern_at ps y)) g.depth) [
+  following : (y : ℕ) → at < y → y < g.end → g.depth < length (pattern_at ps y)
+  following y i l = elim (leb_tells (length (pattern_at ps y)) g.depth) [
     | inl t ↦
         let p : List Item = pattern_at ps at in
         let q : List Item = path_of ps g in
@@ -64,7 +64,7 @@ split_at ps sorted g group at h k own long = record {
         ap (λ (u : List Item). u ++ label ∷ r) (sym (group.inside at h k)) ∙ ap (λ (u : List Item). take g.depth p ++ u) (sym (drop-cons p g.depth One long)) ∙ take-append-drop g.depth p in
         let last : q ++ [] ≡ pattern_at ps y = append-nil q ∙ sym (group.inside y (omega arith) l) ∙ take_all g.depth (pattern_at ps y) t.1 in
         let above : pattern_cmp p (pattern_at ps y) ≡ Greater =
-        ap (λ u. pattern_cmp u (pattern_at ps y)) (sym first) ∙ ap (pattern_cmp (q ++ label ∷ r)) (sym last) ∙ same_front q (label ∷ r) [] in
+        ap (λ u. pattern_cmp u (pattern_at ps y)) (sym first) ∙ ap (pattern_cmp (q ++ label ∷ r)) (sym last) ∙ same_prefix q (label ∷ r) [] in
         absurd (sorted at y i (omega (arith, group.within)) above)
     | inr t ↦ t.1
   ]
@@ -80,8 +80,8 @@ module _ (ps : List (List Item)) (sorted : IsSorted ps) (g : Group) (group : IsG
   abbrev label : ℕ → Item
   label x = label_at ps g.depth x
 
-  abbrev front : ℕ → List Item
-  front x = take (g.depth + 1) (pattern_at ps x)
+  abbrev prefix : ℕ → List Item
+  prefix x = take (g.depth + 1) (pattern_at ps x)
 
   -- a longer pattern is the path, its label and a rest
   whole_is : (x : ℕ) → from ≤ x → x < g.end → q ++ label x ∷ drop (suc g.depth) (pattern_at ps x) ≡ pattern_at ps x
@@ -90,27 +90,27 @@ module _ (ps : List (List Item)) (sorted : IsSorted ps) (g : Group) (group : IsG
       ∙ ap (λ (l : List Item). take g.depth (pattern_at ps x) ++ l) (sym (drop-cons (pattern_at ps x) g.depth One (cut.longer x h k)))
       ∙ take-append-drop g.depth (pattern_at ps x)
 
-  front_is : (x : ℕ) → from ≤ x → x < g.end → front x ≡ q ++ label x ∷ []
-  front_is x h k =
+  prefix_is : (x : ℕ) → from ≤ x → x < g.end → prefix x ≡ q ++ label x ∷ []
+  prefix_is x h k =
       take_more (pattern_at ps x) g.depth One (cut.longer x h k)
       ∙ ap (λ (l : List Item). l ++ label x ∷ []) (group.inside x (omega (arith, cut.start)) k)
 
-  length_front : (x : ℕ) → from ≤ x → x < g.end → length (front x) ≡ g.depth + 1
-  length_front x h k = ap length (front_is x h k) ∙ length-append q (label x ∷ []) ∙ ap (λ n. n + 1) group.depth
+  length_prefix : (x : ℕ) → from ≤ x → x < g.end → length (prefix x) ≡ g.depth + 1
+  length_prefix x h k = ap length (prefix_is x h k) ∙ length-append q (label x ∷ []) ∙ ap (λ n. n + 1) group.depth
 
   labels_up : (x y : ℕ) → from ≤ x → x < y → y < g.end → label_cmp (label x) (label y) ≡ Greater → ⊥
   labels_up x y h k l greater =
       let rx : List Item = drop (suc g.depth) (pattern_at ps x) in
       let ry : List Item = drop (suc g.depth) (pattern_at ps y) in
-      let far : pattern_cmp (q ++ label x ∷ rx) (q ++ label y ∷ ry) ≡ Greater = same_front q (label x ∷ rx) (label y ∷ ry) ∙ ap (λ o. ordering_then o (pattern_cmp rx ry)) greater in
+      let far : pattern_cmp (q ++ label x ∷ rx) (q ++ label y ∷ ry) ≡ Greater = same_prefix q (label x ∷ rx) (label y ∷ ry) ∙ ap (λ o. ordering_then o (pattern_cmp rx ry)) greater in
       let whole : pattern_cmp (pattern_at ps x) (pattern_at ps y) ≡ Greater =
       ap (λ p. pattern_cmp p (pattern_at ps y)) (sym (whole_is x h (omega arith)))
       ∙ ap (pattern_cmp (q ++ label x ∷ rx)) (sym (whole_is y (omega arith) l)) ∙ far in
       sorted x y k (omega (arith, group.within)) whole
 
-  fronts_rise : (x y : ℕ) → from ≤ x → x < g.end → from ≤ y → y < g.end → label_cmp (label x) (label y) ≡ Less → path_cmp (front x) (front y) ≡ Less
-  fronts_rise x y h k i l less =
-      ap (λ p. path_cmp p (front y)) (front_is x h k) ∙ ap (path_cmp (q ++ label x ∷ [])) (front_is y i l) ∙ children_rise q (label x) (label y) less
+  prefixes_rise : (x y : ℕ) → from ≤ x → x < g.end → from ≤ y → y < g.end → label_cmp (label x) (label y) ≡ Less → path_cmp (prefix x) (prefix y) ≡ Less
+  prefixes_rise x y h k i l less =
+      ap (λ p. path_cmp p (prefix y)) (prefix_is x h k) ∙ ap (path_cmp (q ++ label x ∷ [])) (prefix_is y i l) ∙ children_rise q (label x) (label y) less
 
   pub start : (old : List Group) → IsSoFar ps g from from old old
   start old =
@@ -142,8 +142,8 @@ module _ (ps : List (List Item)) (sorted : IsSorted ps) (g : Group) (group : IsG
     inside : at < g.end
     inside = omega (arith, run.more, run.within)
 
-    own_path : path_of ps c ≡ front at
-    own_path = ap (λ n. take n (pattern_at ps c.start)) c_depth ∙ ap (λ x. front x) c_start
+    own_path : path_of ps c ≡ prefix at
+    own_path = ap (λ n. take n (pattern_at ps c.start)) c_depth ∙ ap (λ x. prefix x) c_start
 
     one_label : (x : ℕ) → at ≤ x → x < stop → label at ≡ label x
     one_label x h k = labels_order.same (label at) (label x) (run.same x h k)
@@ -161,23 +161,23 @@ module _ (ps : List (List Item)) (sorted : IsSorted ps) (g : Group) (group : IsG
     below_more : (x y : ℕ) → from ≤ x → x < stop → stop ≤ y → y < g.end → label_cmp (label x) (label y) ≡ Less
     below_more x y h k i l = ⊎_elim (λ (less : x < at). so_far.below x y h less (omega (arith, run.more)) l) (λ (more : at ≤ x). subst (λ z. label_cmp z (label y) ≡ Less) (one_label x more k) (next_above y i l)) (below_or x at)
 
-    front_same : (x : ℕ) → at ≤ x → x < stop → front x ≡ front at
-    front_same x h k =
-        front_is x (omega (arith, so_far.start)) (omega (arith, run.within)) ∙ ap (λ z. q ++ z ∷ []) (sym (one_label x h k))
-        ∙ sym (front_is at so_far.start inside)
+    prefix_same : (x : ℕ) → at ≤ x → x < stop → prefix x ≡ prefix at
+    prefix_same x h k =
+        prefix_is x (omega (arith, so_far.start)) (omega (arith, run.within)) ∙ ap (λ z. q ++ z ∷ []) (sym (one_label x h k))
+        ∙ sym (prefix_is at so_far.start inside)
 
-    shorter : (x : ℕ) → take g.depth (front x) ≡ take g.depth (pattern_at ps x)
+    shorter : (x : ℕ) → take g.depth (prefix x) ≡ take g.depth (pattern_at ps x)
     shorter x = take-take g.depth (g.depth + 1) (pattern_at ps x) (omega arith)
 
-    found : (x : ℕ) → x < length ps → front x ≡ front at → (at ≤ x) × (x < stop)
+    found : (x : ℕ) → x < length ps → prefix x ≡ prefix at → (at ≤ x) × (x < stop)
     found x h e =
         let alike : take g.depth (pattern_at ps x) ≡ q = sym (shorter x) ∙ ap (take g.depth) e ∙ shorter at ∙ group.inside at (omega (arith, cut.start, so_far.start)) inside in
         let here : (g.start ≤ x) × (x < g.end) = group.outside x h alike in
-        let len : length (front x) ≡ g.depth + 1 = ap length e ∙ length_front at so_far.start inside in
+        let len : length (prefix x) ≡ g.depth + 1 = ap length e ∙ length_prefix at so_far.start inside in
         let long : from ≤ x = ⊎_elim (λ (less : x < from).
         let own : length (pattern_at ps x) ≡ g.depth = cut.own x here.0 less in
-        let all : front x ≡ pattern_at ps x = take_all (g.depth + 1) (pattern_at ps x) (omega (arith, own)) in
-        let bad : length (front x) ≡ g.depth = ap length all ∙ own in absurd (omega (arith, len, bad))) (λ more. more) (below_or x from) in
+        let all : prefix x ≡ pattern_at ps x = take_all (g.depth + 1) (pattern_at ps x) (omega (arith, own)) in
+        let bad : length (prefix x) ≡ g.depth = ap length all ∙ own in absurd (omega (arith, len, bad))) (λ more. more) (below_or x from) in
         let tie : label x ≡ label at =
         sym (get_or-take (g.depth + 1) (pattern_at ps x) g.depth One (omega arith)) ∙ ap (λ l. get_or l g.depth One) e ∙ get_or-take (g.depth + 1) (pattern_at ps at) g.depth One (omega arith) in (
           ⊎_elim (λ (less : x < at). absurd (not_itself (label x) (label at) tie (so_far.below x at long less (omega arith) inside))) (λ more. more) (below_or x at),
@@ -188,8 +188,8 @@ module _ (ps : List (List Item)) (sorted : IsSorted ps) (g : Group) (group : IsG
     new_group = record {
       ordered = omega (arith, c_start, c_end, run.more);
       within = omega (arith, c_end, run.within, group.within);
-      depth = ap length own_path ∙ length_front at so_far.start inside ∙ sym c_depth;
-      inside = λ x h k. ap (λ n. take n (pattern_at ps x)) c_depth ∙ front_same x (omega (arith, c_start)) (omega (arith, c_end)) ∙ sym own_path;
+      depth = ap length own_path ∙ length_prefix at so_far.start inside ∙ sym c_depth;
+      inside = λ x h k. ap (λ n. take n (pattern_at ps x)) c_depth ∙ prefix_same x (omega (arith, c_start)) (omega (arith, c_end)) ∙ sym own_path;
       outside = λ x h e.
           let w : (at ≤ x) × (x < stop) = found x h (ap (λ n. take n (pattern_at ps x)) (sym c_depth) ∙ e ∙ own_path) in
           (omega (arith, c_start, w.0), omega (arith, c_end, w.1));
@@ -206,15 +206,15 @@ module _ (ps : List (List Item)) (sorted : IsSorted ps) (g : Group) (group : IsG
           (in_append d added (c ∷ []) (subst (IsIn d) added_more i));
       rises = subst (Rises path_cmp) (sym paths_more) (rises_append path_cmp (map (path_of ps) added) (path_of ps c ∷ []) so_far.rises (tt, tt) (λ a b i j.
           let w = so_far.sound a i in
-          let is : b ≡ front at = ⊎_elim (λ e. e ∙ own_path) (λ none. absurd none) j in
-          ap (λ p. path_cmp p b) w.3 ∙ ap (path_cmp (front w.0)) is
-          ∙ fronts_rise w.0 at w.1 (omega (arith, w.2, inside)) so_far.start inside (so_far.below w.0 at w.1 w.2 (omega arith) inside)));
+          let is : b ≡ prefix at = ⊎_elim (λ e. e ∙ own_path) (λ none. absurd none) j in
+          ap (λ p. path_cmp p b) w.3 ∙ ap (path_cmp (prefix w.0)) is
+          ∙ prefixes_rise w.0 at w.1 (omega (arith, w.2, inside)) so_far.start inside (so_far.below w.0 at w.1 w.2 (omega arith) inside)));
       sound = λ p i. ⊎_elim (λ old_one. let w = so_far.sound p old_one in (w.0, w.1, omega (arith, w.2, run.more), w.3))
           (λ new_one. (at, so_far.start, run.more, ⊎_elim (λ e. e ∙ own_path) (λ none. absurd none) new_one))
           (in_append p (map (path_of ps) added) (path_of ps c ∷ []) (subst (IsIn p) paths_more i));
-      whole = λ x h k. subst (IsIn (front x)) (sym paths_more) (⊎_elim
-          (λ (less : x < at). append_left (front x) (map (path_of ps) added) (path_of ps c ∷ []) (so_far.whole x h less))
-          (λ (more : at ≤ x). append_right (front x) (map (path_of ps) added) (path_of ps c ∷ []) (inl (front_same x more k ∙ sym own_path)))
+      whole = λ x h k. subst (IsIn (prefix x)) (sym paths_more) (⊎_elim
+          (λ (less : x < at). append_left (prefix x) (map (path_of ps) added) (path_of ps c ∷ []) (so_far.whole x h less))
+          (λ (more : at ≤ x). append_right (prefix x) (map (path_of ps) added) (path_of ps c ∷ []) (inl (prefix_same x more k ∙ sym own_path)))
           (below_or x at));
     }
 
@@ -229,8 +229,8 @@ module _ (ps : List (List Item)) (sorted : IsSorted ps) (g : Group) (group : IsG
         let here : w.0 < g.end = omega (arith, w.2, so_far.end) in
         let p : List Item = pattern_at ps w.0 in
         let long : g.depth < length p = cut.longer w.0 w.1 here in
-        let there : IsIn z (paths_among ps) = subst (λ l. IsIn l (paths_among ps)) (sym w.3) (front_is_path ps p (g.depth + 1) (get_in [] ps w.0 (omega (arith, here, group.within))) (omega (arith, long))) in
-        let len : length z ≡ length q + 1 = ap length w.3 ∙ length_front w.0 w.1 here ∙ ap (λ n. n + 1) (sym group.depth) in
+        let there : IsIn z (paths_among ps) = subst (λ l. IsIn l (paths_among ps)) (sym w.3) (prefix_is_path ps p (g.depth + 1) (get_in [] ps w.0 (omega (arith, here, group.within))) (omega (arith, long))) in
+        let len : length z ≡ length q + 1 = ap length w.3 ∙ length_prefix w.0 w.1 here ∙ ap (λ n. n + 1) (sym group.depth) in
         let begins : take (length q) z ≡ q =
         ap (λ n. take n z) group.depth ∙ ap (take g.depth) w.3 ∙ take-take g.depth (g.depth + 1) p (omega arith) ∙ group.inside w.0 (omega (arith, w.1, cut.start)) here in
         filter_in (is_child q) z (paths_among ps) there (of_child q z len begins)
@@ -239,7 +239,7 @@ module _ (ps : List (List Item)) (sorted : IsSorted ps) (g : Group) (group : IsG
     fro z i =
         let kept = in_filter (is_child q) z (paths_among ps) i in
         let child : IsChildOf q z = child_of q z kept.1 in
-        let w = path_is_front ps z kept.0 (omega (arith, child.longer)) in
+        let w = path_is_prefix ps z kept.0 (omega (arith, child.longer)) in
         let p : List Item = w.0 in
         let n = in_get [] p ps w.1 in
         let x : ℕ = n.0 in
@@ -250,8 +250,8 @@ module _ (ps : List (List Item)) (sorted : IsSorted ps) (g : Group) (group : IsG
         sym (take-take g.depth (g.depth + 1) (pattern_at ps x) (omega arith)) ∙ ap (take g.depth) (sym z_is) ∙ ap (λ k. take k z) (sym group.depth) ∙ child.begins in
         let here : (g.start ≤ x) × (x < g.end) = group.outside x n.1 alike in
         let long : g.depth + 1 ≤ length (pattern_at ps x) = let e : length p ≡ length (pattern_at ps x) = ap length is in omega (arith, w.2, len, e) in
-        let behind : from ≤ x = ⊎_elim (λ (less : x < from). let own : length (pattern_at ps x) ≡ g.depth = cut.own x here.0 less in absurd (omega (arith, own, long))) (λ more. more) (below_or x from) in
-        subst (λ l. IsIn l made) (sym z_is) (so_far.whole x behind (omega (arith, here.1, done)))
+        let following : from ≤ x = ⊎_elim (λ (less : x < from). let own : length (pattern_at ps x) ≡ g.depth = cut.own x here.0 less in absurd (omega (arith, own, long))) (λ more. more) (below_or x from) in
+        subst (λ l. IsIn l made) (sym z_is) (so_far.whole x following (omega (arith, here.1, done)))
 
     pub all_made : AreChildren ps g old new
     all_made = record {

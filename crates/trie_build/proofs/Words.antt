@@ -7,13 +7,13 @@ use Rattle.std.specs.Ordering.{nat_cmp, ordering_index, ordering_then}
 use Rattle.std.specs.Slice.Scan.{big_endian}
 use Rattle.std.specs.declared.cmp.Ordering.{Ordering}
 use Rattle.std.specs.declared.cmp.Ordering.TheVariants.{Less, Equal, Greater}
-use Rattle.trie_build.proofs.Fronting.{less, more, tied}
+use Rattle.trie_build.proofs.Prefixing.{less, more, tied}
 
 -- each is a byte
 abbrev AreBytes : List ℕ → Type 0
 AreBytes xs = (k : ℕ) → k < length xs → get_or xs k 0 < 256
 
--- so many bytes that stand from a place on, one by one
+-- so many bytes from a place on, one by one
 abbrev bytes_at : List ℕ → ℕ → ℕ → ℕ → List ℕ
 bytes_at xs i k zero = []
 bytes_at xs i k (suc n) = get_or xs (i + k) 0 ∷ bytes_at xs i (suc k) n
@@ -50,8 +50,8 @@ by_number [] [] us vs m len p q = sym (ap (λ o. ordering_then o (slice_cmp nat_
 by_number [] (y ∷ ys) us vs m len p q = absurd (omega arith)
 by_number (x ∷ xs) [] us vs m len p q = absurd (omega arith)
 by_number (x ∷ xs) (y ∷ ys) us vs m len p q = ⊎_elim (same (by_number xs ys us vs (m * 256 + x) (omega arith) (λ k l. p (suc k) (omega arith)) (λ k l. q (suc k) (omega arith)))) (λ rest. ⊎_elim below above rest) (cases_order x y) where
-  behind : Ordering
-  behind = slice_cmp nat_cmp us vs
+  following : Ordering
+  following = slice_cmp nat_cmp us vs
 
   both : Ordering
   both = slice_cmp nat_cmp (xs ++ us) (ys ++ vs)
@@ -62,27 +62,27 @@ by_number (x ∷ xs) (y ∷ ys) us vs m len p q = ⊎_elim (same (by_number xs y
   other : ℕ
   other = big_endian (m * 256 + y) ys
 
-  below : x < y → ordering_then (nat_cmp x y) both ≡ ordering_then (nat_cmp own other) behind
-  below h = ap (λ o. ordering_then o both) (less x y h) ∙ sym (ap (λ o. ordering_then o behind) (less own other (lower xs ys (m * 256 + x) (m * 256 + y) (omega arith) (λ k l. p (suc k) (omega arith)) (omega arith))))
+  below : x < y → ordering_then (nat_cmp x y) both ≡ ordering_then (nat_cmp own other) following
+  below h = ap (λ o. ordering_then o both) (less x y h) ∙ sym (ap (λ o. ordering_then o following) (less own other (lower xs ys (m * 256 + x) (m * 256 + y) (omega arith) (λ k l. p (suc k) (omega arith)) (omega arith))))
 
-  above : y < x → ordering_then (nat_cmp x y) both ≡ ordering_then (nat_cmp own other) behind
-  above h = ap (λ o. ordering_then o both) (more x y h) ∙ sym (ap (λ o. ordering_then o behind) (more own other (lower ys xs (m * 256 + y) (m * 256 + x) (omega arith) (λ k l. q (suc k) (omega arith)) (omega arith))))
+  above : y < x → ordering_then (nat_cmp x y) both ≡ ordering_then (nat_cmp own other) following
+  above h = ap (λ o. ordering_then o both) (more x y h) ∙ sym (ap (λ o. ordering_then o following) (more own other (lower ys xs (m * 256 + y) (m * 256 + x) (omega arith) (λ k l. q (suc k) (omega arith)) (omega arith))))
 
-  same : both ≡ ordering_then (nat_cmp own (big_endian (m * 256 + x) ys)) behind → x ≡ y → ordering_then (nat_cmp x y) both ≡ ordering_then (nat_cmp own other) behind
-  same rest e = ap (λ o. ordering_then o both) (tied x y e) ∙ rest ∙ ap (λ z. ordering_then (nat_cmp own (big_endian (m * 256 + z) ys)) behind) e
+  same : both ≡ ordering_then (nat_cmp own (big_endian (m * 256 + x) ys)) following → x ≡ y → ordering_then (nat_cmp x y) both ≡ ordering_then (nat_cmp own other) following
+  same rest e = ap (λ o. ordering_then o both) (tied x y e) ∙ rest ∙ ap (λ z. ordering_then (nat_cmp own (big_endian (m * 256 + z) ys)) following) e
 
 -- eight bytes from a place on, and what follows them
 pub words_compare : (xs ys : List ℕ) (i : ℕ) → i + 8 ≤ length xs → i + 8 ≤ length ys → AreBytes xs → AreBytes ys
     → slice_cmp nat_cmp (drop i xs) (drop i ys) ≡ ordering_then (nat_cmp (big_endian 0 (take 8 (drop i xs))) (big_endian 0 (take 8 (drop i ys)))) (slice_cmp nat_cmp (drop (i + 8) xs) (drop (i + 8) ys))
 words_compare xs ys i h k p q =
-    let front : List ℕ = take 8 (drop i xs) in
+    let prefix : List ℕ = take 8 (drop i xs) in
     let back : List ℕ = take 8 (drop i ys) in
-    let len : length front ≡ length back = omega (arith, length-take-le 8 (drop i xs) (omega (arith, length-drop i xs)), length-take-le 8 (drop i ys) (omega (arith, length-drop i ys))) in
+    let len : length prefix ≡ length back = omega (arith, length-take-le 8 (drop i xs) (omega (arith, length-drop i xs)), length-take-le 8 (drop i ys) (omega (arith, length-drop i ys))) in
     ap (λ l. slice_cmp nat_cmp l (drop i ys)) (sym (take-append-drop 8 (drop i xs)))
-    ∙ ap (slice_cmp nat_cmp (front ++ drop 8 (drop i xs))) (sym (take-append-drop 8 (drop i ys)))
-    ∙ by_number front back (drop 8 (drop i xs)) (drop 8 (drop i ys)) 0 len (within xs h p) (within ys k q)
-    ∙ ap (λ l. ordering_then (nat_cmp (big_endian 0 front) (big_endian 0 back)) (slice_cmp nat_cmp l (drop 8 (drop i ys)))) (drop-drop 8 i xs)
-    ∙ ap (λ l. ordering_then (nat_cmp (big_endian 0 front) (big_endian 0 back)) (slice_cmp nat_cmp (drop (i + 8) xs) l)) (drop-drop 8 i ys)
+    ∙ ap (slice_cmp nat_cmp (prefix ++ drop 8 (drop i xs))) (sym (take-append-drop 8 (drop i ys)))
+    ∙ by_number prefix back (drop 8 (drop i xs)) (drop 8 (drop i ys)) 0 len (within xs h p) (within ys k q)
+    ∙ ap (λ l. ordering_then (nat_cmp (big_endian 0 prefix) (big_endian 0 back)) (slice_cmp nat_cmp l (drop 8 (drop i ys)))) (drop-drop 8 i xs)
+    ∙ ap (λ l. ordering_then (nat_cmp (big_endian 0 prefix) (big_endian 0 back)) (slice_cmp nat_cmp (drop (i + 8) xs) l)) (drop-drop 8 i ys)
   where
     within : (zs : List ℕ) → i + 8 ≤ length zs → AreBytes zs → AreBytes (take 8 (drop i zs))
     within zs le bytes n l =
@@ -90,7 +90,7 @@ words_compare xs ys i h k p q =
         let at : get_or (take 8 (drop i zs)) n 0 ≡ get_or zs (i + n) 0 = get_or-take 8 (drop i zs) n 0 (omega (arith, len)) ∙ get_or-drop i zs n 0 in
         omega (arith, at, bytes (i + n) (omega (arith, len)))
 
--- what is no tie decides
+-- what is not a tie decides
 pub decides : (o next : Ordering) → not (ordering_index o == 1) ≡ true → ordering_then o next ≡ o
 decides Less next h = refl
 decides Equal next h = cc
@@ -102,7 +102,7 @@ leaves Less next h = cc
 leaves Equal next h = refl
 leaves Greater next h = cc
 
--- where nothing follows all is decided
+-- if nothing follows, everything is decided
 pub ends : (o : Ordering) (xs ys : List ℕ) → length xs ≡ 24 → length ys ≡ 24 → ordering_then o (slice_cmp nat_cmp (drop 24 xs) (drop 24 ys)) ≡ o
 ends o xs ys len other =
     let none : drop 24 xs ≡ [] = drop_of_length-le xs (let long : length xs ≤ 24 = omega (arith, len) in long) in

@@ -4,9 +4,10 @@ pub mod Distinct
 pub mod Order
 pub mod Paths
 pub mod Content
+pub mod Held
 pub mod Groups
 pub mod Building
 pub mod Shown
-pub mod Fronts
+pub mod Prefixes
 pub mod Rows
 pub mod FaultTexts

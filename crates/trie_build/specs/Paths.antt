@@ -3,7 +3,8 @@ use Rattle.std.specs.Prelude.{◌+◌, Bool, ◌&&◌, nat_eq, List, ◌∷◌, 
 use Rattle.std.specs.List.{range_with_len}
 use Rattle.text_core.specs.declared.item.Item.{Item}
 use Rattle.hwdb_lookup.specs.declared.entry.Entry.{Entry}
-use Rattle.trie_build.specs.Distinct.{distinct, is_equal}
+use Rattle.trie_build.specs.Distinct.{distinct}
+use Rattle.std.specs.Ordering.{is_eq}
 use Rattle.trie_build.specs.Order.{path_cmp}
 
 -- a pattern's prefixes, the empty one and itself included
@@ -24,7 +25,11 @@ paths_of es = paths_among (patterns_of es)
 
 -- whether two paths are one
 abbrev pub same_path : List Item → List Item → Bool
-same_path p q = is_equal (path_cmp p q)
+same_path p q = is_eq (path_cmp p q)
+
+-- the entries whose pattern is a path, in their order
+abbrev pub ending_at : List Entry → List Item → List Entry
+ending_at es p = filter (λ e. same_path e.pattern p) es
 
 -- whether a path is another with one label more
 abbrev pub is_child : List Item → List Item → Bool

@@ -9,18 +9,18 @@ use Rattle.text_core.specs.declared.item.Item.TheVariants.{One}
 use Rattle.hwdb_lookup.specs.declared.entry.Entry.{Entry}
 use Rattle.trie_build.specs.Order.{label_cmp, pattern_cmp}
 use Rattle.trie_build.specs.Content.{entry_at}
-use Rattle.trie_build.specs.Fronts.{codes}
+use Rattle.trie_build.specs.Prefixes.{codes}
 use Rattle.trie_build.specs.declared.rows.Row.{Row}
 
 -- a row has the pattern of the entry with its number
-pub record Tells (es : List Entry) (r : Row) : Type 0 where
+pub record Reports (es : List Entry) (r : Row) : Type 0 where
   pub within : r.number < length es
   pub items : r.items.now ≡ (entry_at es r.number).pattern
-  pub front : r.front ≡ codes 24 r.items.now
+  pub prefix : r.prefix ≡ codes 24 r.items.now
 
 -- the bytes of a row are those of its pattern's first labels
-abbrev pub HasFront : Row → Type 0
-HasFront r = r.front ≡ codes 24 r.items.now
+abbrev pub HasPrefix : Row → Type 0
+HasPrefix r = r.prefix ≡ codes 24 r.items.now
 
 -- two rows of 24 bytes have so many in common at their fronts, and no more
 pub record AreAlike (bs cs : List ℕ) (n : ℕ) : Type 0 where
@@ -30,13 +30,13 @@ pub record AreAlike (bs cs : List ℕ) (n : ℕ) : Type 0 where
 
 -- what the bytes of its first labels leave open of a pattern: if there is a last one, they determine all labels
 -- before that
-abbrev pub untold : List ℕ → List Item → List Item
-untold front p = if slice_index_or front 23 0 == 0 then p else drop (min (length p) 23) p
+abbrev pub undetermined : List ℕ → List Item → List Item
+undetermined prefix p = if slice_index_or prefix 23 0 == 0 then p else drop (min (length p) 23) p
 
 -- how a row compares with another: by the first labels, by what these leave open, and for equal patterns by the
 -- numbers
 abbrev pub row_cmp : Row → Row → Ordering
-row_cmp r s = ordering_then (slice_cmp nat_cmp r.front s.front) (ordering_then (pattern_cmp (untold r.front r.items.now) (untold s.front s.items.now)) (nat_cmp r.number s.number))
+row_cmp r s = ordering_then (slice_cmp nat_cmp r.prefix s.prefix) (ordering_then (pattern_cmp (undetermined r.prefix r.items.now) (undetermined s.prefix s.items.now)) (nat_cmp r.number s.number))
 
 -- the patterns of rows
 abbrev pub patterns : List Row → List (List Item)

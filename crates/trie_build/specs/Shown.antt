@@ -4,7 +4,8 @@ use Rattle.hwdb_lookup.specs.Bounds.{header_len, node_len, second_version, set_l
 use Rattle.hwdb_lookup.specs.declared.entry.Entry.{Entry}
 use Rattle.trie_nodes.specs.declared.node.Node.{Node}
 use Rattle.trie_build.specs.Distinct.{distinct}
-use Rattle.trie_build.specs.Sizes.{set_in, text_cmp, text_len}
+use Rattle.trie_build.specs.Sizes.{set_in, text_len}
+use Rattle.text_bytes.specs.Insertion.{text_order}
 
 -- how many bytes the key and the value of an entry have
 abbrev pub own_len : Entry → ℕ
@@ -16,7 +17,7 @@ all_len e = own_len e + length e.file
 
 -- the sets of the nodes' labels, each once
 abbrev pub node_sets : List Node → List (List ℕ)
-node_sets nodes = distinct text_cmp (flat_map (λ n. set_in n.label) nodes)
+node_sets nodes = distinct text_order (flat_map (λ n. set_in n.label) nodes)
 
 -- how many bytes the index of entries has whose nodes these are
 abbrev pub index_len_by : List Node → List Entry → ℕ

@@ -1,18 +1,12 @@
 -- How long the index file of a list of entries is, and how large a trie may be.
 use Rattle.std.specs.Prelude.{ℕ, ◌+◌, ◌-◌, ◌*◌, ◌^◌, ◌≤◌, List, ◌∷◌, [], length, map, flat_map, sum_by, slice_index_or}
-use Rattle.std.specs.Ordering.{nat_cmp}
-use Rattle.std.specs.Cmp.Lexicographic.{slice_cmp}
-use Rattle.std.specs.declared.cmp.Ordering.{Ordering}
+use Rattle.text_bytes.specs.Insertion.{text_order}
 use Rattle.text_core.specs.declared.item.Item.{Item}
 use Rattle.text_core.specs.declared.item.Item.TheVariants.{Byte, One, Many, Among}
-use Rattle.hwdb_lookup.specs.Bounds.{header_len, max_entries, node_len, second_version, set_len, value_len}
+use Rattle.hwdb_lookup.specs.Bounds.{header_len, max_entries, max_nodes, node_len, second_version, set_len, value_len}
 use Rattle.hwdb_lookup.specs.declared.entry.Entry.{Entry}
 use Rattle.trie_build.specs.Distinct.{distinct}
 use Rattle.trie_build.specs.Paths.{paths_of}
-
--- how a text, or the bytes of a set, compares with another: byte by byte
-abbrev pub text_cmp : List ℕ → List ℕ → Ordering
-text_cmp s t = slice_cmp nat_cmp s t
 
 -- the bytes of a label's set, if it has one
 abbrev pub set_in : Item → List (List ℕ)
@@ -27,11 +21,11 @@ last_label p = slice_index_or p (length p - 1) One
 
 -- the sets by which nodes are reached, as their bytes, each once, sorted
 abbrev pub sets_of : List Entry → List (List ℕ)
-sets_of es = distinct text_cmp (flat_map (λ p. set_in (last_label p)) (paths_of es))
+sets_of es = distinct text_order (flat_map (λ p. set_in (last_label p)) (paths_of es))
 
 -- the names of the files that the entries come from, each once, sorted
 abbrev pub names_of : List Entry → List (List ℕ)
-names_of es = distinct text_cmp (map (λ e. e.file) es)
+names_of es = distinct text_order (map (λ e. e.file) es)
 
 -- the bytes of the texts of an index: each entry's key and value, and each file's name once
 abbrev pub text_len : List Entry → ℕ
@@ -40,10 +34,6 @@ text_len es = sum_by (λ e. length e.key + length e.value) es + sum_by length (n
 -- how many bytes the index of a list of entries has, in the version that is written
 abbrev pub index_len : List Entry → ℕ
 index_len es = header_len + node_len * length (paths_of es) + value_len second_version * length es + set_len * length (sets_of es) + text_len es
-
--- how many nodes a trie may have
-abbrev pub max_nodes : ℕ
-max_nodes = 2 ^ 26
 
 -- how many bytes its index may have
 abbrev pub max_index_len : ℕ

@@ -3,29 +3,26 @@
 //! The groups of rows are in the order of the nodes. Each is cut once into its children, which are added at the
 //! end: so the nodes are ordered by the length of their paths, and then label by label.
 ghost use Rattle.std.specs.Prelude.{◌≡◌, ◌-◌, ◌<◌, ◌≤◌, All, IfOk, MatchResult, length};
-ghost use Rattle.hwdb_lookup.specs.Bounds.{max_entries};
+ghost use Rattle.hwdb_lookup.specs.Bounds.{max_entries, max_nodes};
 ghost use Rattle.text_core.specs.declared.item.Item.TheVariants.{One};
 ghost use Rattle.trie_build.specs.Building.{AreNodes};
 ghost use Rattle.trie_build.specs.Groups.{IsGroup, label_at};
-ghost use Rattle.trie_build.specs.Rows.{AreShared, HasFront, IsSorted, patterns};
+ghost use Rattle.trie_build.specs.Rows.{AreShared, HasPrefix, IsSorted, patterns};
 ghost use Rattle.trie_build.specs.declared.fault.TrieFault.TheVariants.{TooLarge};
 ghost use Rattle.trie_build.specs.Paths.{paths_among};
-ghost use Rattle.trie_build.specs.Sizes.{max_nodes};
 
 use crate::fault::TrieFault;
 use crate::groups::{Group, label_of, longer_from, split};
 use crate::rows::{Row, Sorted};
+use hwdb_lookup::MAX_NODES;
 use std::alloc::Global;
 use text_core::Item;
 use trie_nodes::Node;
 
-/// How many nodes a trie may have.
-const MAX_NODES: usize = 1 << 26;
-
 /// The label that leads to a group; for the root, to which none leads, `?`.
 fn last_label(rows: &[Row<'_>], group: Group) -> Item
     requires group { IsGroup (patterns rows.now) group }
-    requires fronts { All HasFront rows.now }
+    requires first_labels { All HasPrefix rows.now }
     ensures root { group.depth ≡ 0 → result ≡ One }
     ensures label { 0 < group.depth → result ≡ label_at (patterns rows.now) (group.depth - 1) group.start }
 {
@@ -40,7 +37,7 @@ pub(crate) fn nodes_of(alloc: Global, sorted: Sorted<'_, '_>) -> Result<Vec<Node
     requires few { length (patterns sorted.rows.now) ≤ max_entries }
     requires up { IsSorted (patterns sorted.rows.now) }
     requires shared { AreShared (patterns sorted.rows.now) sorted.shared.now }
-    requires fronts { All HasFront sorted.rows.now }
+    requires first_labels { All HasPrefix sorted.rows.now }
     ensures nodes { IfOk result (λ nodes. AreNodes (patterns sorted.entry.rows.now) nodes.items) }
     ensures fits { MatchResult result (λ _. length (paths_among (patterns sorted.entry.rows.now)) ≤ max_nodes) (λ fault. fault ≡ TooLarge → max_nodes < length (paths_among (patterns sorted.entry.rows.now))) }
 {

@@ -4,9 +4,9 @@
 //! on with it.
 ghost use Rattle.std.specs.Prelude.{◌≡◌, ◌+◌, ◌<◌, ◌≤◌, ◌^◌, All, OnOk, length, take, ℕ};
 ghost use Rattle.trie_build.specs.Groups.{AreChildren, IsGroup, IsRun, IsSplit, label_at};
-ghost use Rattle.trie_build.specs.Rows.{AreShared, HasFront, IsSorted, pattern_at, patterns};
+ghost use Rattle.trie_build.specs.Rows.{AreShared, HasPrefix, IsSorted, pattern_at, patterns};
 
-use crate::fronts::{FRONT, label_by};
+use crate::first_labels::{PREFIX, label_by};
 use crate::rows::{Row, Sorted, items_at};
 use std::alloc::AllocError;
 use text_core::Item;
@@ -40,12 +40,12 @@ pub(crate) fn longer_from(rows: &[Row<'_>], group: Group) -> usize
 /// The label of a row after its first labels: by its front, or else by its pattern.
 pub(crate) fn label_of(rows: &[Row<'_>], depth: usize, at: usize) -> Item
     requires within { at < length (patterns rows.now) }
-    requires fronts { All HasFront rows.now }
+    requires first_labels { All HasPrefix rows.now }
     requires longer { depth < length (pattern_at (patterns rows.now) at) }
     ensures { result ≡ label_at (patterns rows.now) depth at }
 {
-    if depth < FRONT {
-        if let Some(label) = label_by(rows[at].front[depth]) {
+    if depth < PREFIX {
+        if let Some(label) = label_by(rows[at].prefix[depth]) {
             return label;
         }
     }

@@ -5,7 +5,7 @@
 
 mod build;
 mod fault;
-mod fronts;
+mod first_labels;
 mod groups;
 mod made;
 mod order;

@@ -30,7 +30,7 @@ pub fn compare_labels(label: &Item, other: &Item) -> Ordering
     }
 }
 
-/// How what stands from a place on in a pattern compares with what stands from one on in another, label by label: a
+/// How the part of a pattern from a place on compares with the part of another from a place on, label by label: a
 /// pattern comes before a longer one that begins with it, and of two labels a byte before `?`, that before `*`, and that
 /// before a set.
 pub fn compare_from(

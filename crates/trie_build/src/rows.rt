@@ -6,9 +6,9 @@ ghost use Rattle.std.specs.Prelude.{◌≡◌, ◌-◌, ◌<◌, ◌≤◌, ◌^
 ghost use Rattle.std.specs.List.{range_with_len};
 ghost use Rattle.std.specs.List.Sorted.{IsPermutation};
 ghost use Rattle.hwdb_lookup.specs.Bounds.{max_entries};
-ghost use Rattle.trie_build.specs.Rows.{AreAlike, AreShared, HasFront, IsCommon, IsSorted, SameRise, Tells, pattern_at, patterns, row_cmp, untold};
+ghost use Rattle.trie_build.specs.Rows.{AreAlike, AreShared, HasPrefix, IsCommon, IsSorted, Reports, SameRise, pattern_at, patterns, row_cmp, undetermined};
 
-use crate::fronts::{FRONT, compare_fronts, front_of};
+use crate::first_labels::{PREFIX, compare_prefixes, prefix_of};
 use crate::order::{compare_from, compare_labels};
 use hwdb_lookup::Entry;
 use std::alloc::{AllocError, Global};
@@ -21,21 +21,21 @@ pub(crate) struct Row<'a> {
     /// The items of the pattern.
     pub(crate) items: &'a PackedPattern,
     /// The bytes of the pattern's first labels.
-    pub(crate) front: [u8; FRONT],
+    pub(crate) prefix: [u8; PREFIX],
     /// The entry's number.
     pub(crate) number: u32,
 }
 
-/// Where begins what a row's front leaves open of its pattern: where the front has a last byte, it says all labels before
-/// that.
-fn untold_from(row: &Row<'_>) -> usize
-    ensures value { drop result row.now.items.now ≡ untold row.now.front row.now.items.now }
+/// The place where the part of a row's pattern begins that the row's front leaves open: if the front has a last byte, it
+/// says all labels before that.
+fn undetermined_from(row: &Row<'_>) -> usize
+    ensures value { drop result row.now.items.now ≡ undetermined row.now.prefix row.now.items.now }
     ensures within { result ≤ length row.now.items.now }
 {
-    if row.front[FRONT - 1] == 0 {
+    if row.prefix[PREFIX - 1] == 0 {
         return 0;
     }
-    row.items.len().min(FRONT - 1)
+    row.items.len().min(PREFIX - 1)
 }
 
 /// How a row compares with another: by the patterns, which mostly differ in their first labels, and for equal
@@ -43,9 +43,14 @@ fn untold_from(row: &Row<'_>) -> usize
 fn compare_rows(row: &Row<'_>, other: &Row<'_>) -> Ordering
     ensures { result ≡ row_cmp row.now other.now }
 {
-    match compare_fronts(&row.front, &other.front) {
+    match compare_prefixes(&row.prefix, &other.prefix) {
         Ordering::Equal => {
-            let labels = compare_from(row.items, untold_from(row), other.items, untold_from(other));
+            let labels = compare_from(
+                row.items,
+                undetermined_from(row),
+                other.items,
+                undetermined_from(other),
+            );
             labels.then(row.number.cmp(&other.number))
         }
         order => order,
@@ -56,13 +61,13 @@ fn compare_rows(row: &Row<'_>, other: &Row<'_>) -> Ordering
 fn rows_in_order<'a>(alloc: Global, entries: &'a [Entry]) -> Result<Vec<Row<'a>>, AllocError>
     requires { length entries.now ≤ max_entries }
     ensures numbers { IfOk result (λ rows. map (λ r. r.number) rows.items ≡ range_with_len 0 (length entries.now)) }
-    ensures rows { IfOk result (λ rows. All (Tells entries.now) rows.items) }
+    ensures rows { IfOk result (λ rows. All (Reports entries.now) rows.items) }
 {
     let mut rows = Vec::with_capacity(alloc, entries.len())?;
     for (i, entry) in entries.iter().enumerate() {
         rows.push(Row {
             items: &entry.pattern,
-            front: front_of(&entry.pattern),
+            prefix: prefix_of(&entry.pattern),
             number: i as u32,
         })?;
     }
@@ -76,7 +81,7 @@ pub(crate) fn sorted_rows<'a>(
 ) -> Result<Vec<Row<'a>>, AllocError>
     requires { length entries.now ≤ max_entries }
     ensures numbers { IfOk result (λ rows. IsPermutation (range_with_len 0 (length entries.now)) (map (λ r. r.number) rows.items)) }
-    ensures rows { IfOk result (λ rows. All (Tells entries.now) rows.items) }
+    ensures rows { IfOk result (λ rows. All (Reports entries.now) rows.items) }
     ensures sorted { IfOk result (λ rows. IsSorted (patterns rows.items)) }
     ensures rise { IfOk result (λ rows. SameRise rows.items) }
 {
@@ -95,7 +100,7 @@ pub(crate) struct Sorted<'r, 'a> {
 }
 
 /// How many labels two patterns have in common at their fronts.
-fn common_front(pattern: &PackedPattern, other: &PackedPattern) -> usize
+fn common_prefix(pattern: &PackedPattern, other: &PackedPattern) -> usize
     ensures { IsCommon pattern.now other.now result }
 {
     let len = pattern.len().min(other.len());
@@ -108,37 +113,37 @@ fn common_front(pattern: &PackedPattern, other: &PackedPattern) -> usize
 }
 
 /// How many bytes two fronts have in common, up to the first in which they differ.
-fn common_bytes(front: &[u8; FRONT], other: &[u8; FRONT]) -> usize
-    ensures { AreAlike front.now other.now result }
+fn common_bytes(prefix: &[u8; PREFIX], other: &[u8; PREFIX]) -> usize
+    ensures { AreAlike prefix.now other.now result }
 {
-    for at in 0..FRONT {
-        if front[at] != other[at] {
+    for at in 0..PREFIX {
+        if prefix[at] != other[at] {
             return at;
         }
     }
-    FRONT
+    PREFIX
 }
 
 /// How many labels a row has in common with the row before it; the first has none. Mostly their fronts decide,
 /// without a look at the patterns.
 fn shared_at(rows: &[Row<'_>], at: usize) -> usize
     requires within { at < length (patterns rows.now) }
-    requires fronts { All HasFront rows.now }
+    requires first_labels { All HasPrefix rows.now }
     ensures { 0 < at → IsCommon (pattern_at (patterns rows.now) (at - 1)) (pattern_at (patterns rows.now) at) result }
 {
     if at == 0 {
         return 0;
     }
-    let bytes = common_bytes(&rows[at - 1].front, &rows[at].front);
-    if bytes < FRONT {
+    let bytes = common_bytes(&rows[at - 1].prefix, &rows[at].prefix);
+    if bytes < PREFIX {
         return bytes;
     }
-    common_front(items_at(rows, at - 1), items_at(rows, at))
+    common_prefix(items_at(rows, at - 1), items_at(rows, at))
 }
 
 /// How many labels each row has at its front in common with the row before it.
-pub(crate) fn shared_fronts(alloc: Global, rows: &[Row<'_>]) -> Result<Vec<usize>, AllocError>
-    requires { All HasFront rows.now }
+pub(crate) fn shared_prefixes(alloc: Global, rows: &[Row<'_>]) -> Result<Vec<usize>, AllocError>
+    requires { All HasPrefix rows.now }
     ensures { IfOk result (λ shared. AreShared (patterns rows.now) shared.items) }
 {
     let mut shared = Vec::with_capacity(alloc, rows.len())?;

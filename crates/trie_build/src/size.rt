@@ -7,7 +7,8 @@ ghost use Rattle.hwdb_lookup.specs.Bounds.{max_entries};
 ghost use Rattle.trie_build.specs.Content.{shown};
 ghost use Rattle.trie_build.specs.Shown.{all_len, index_len_by, node_sets, own_len};
 ghost use Rattle.trie_build.specs.Distinct.{distinct};
-ghost use Rattle.trie_build.specs.Sizes.{max_index_len, names_of, set_in, text_cmp};
+ghost use Rattle.trie_build.specs.Sizes.{max_index_len, names_of, set_in};
+ghost use Rattle.text_bytes.specs.Insertion.{text_order};
 
 use hwdb_lookup::Entry;
 use std::alloc::{AllocError, Global};
@@ -20,7 +21,7 @@ const MAX_INDEX_LEN: u128 = (1 << 32) - 1;
 /// Keeps each of some texts once, sorted. Equal texts are mostly side by side, and are dropped before the rest is
 /// sorted.
 fn keep_distinct(texts: &mut Vec<&[u8]>)
-    ensures { shown texts.new.items ≡ distinct text_cmp (shown texts.old.items) }
+    ensures { shown texts.new.items ≡ distinct text_order (shown texts.old.items) }
 {
     texts.dedup();
     texts.sort_unstable();
@@ -62,7 +63,7 @@ pub(crate) fn names_of(alloc: Global, entries: &[Entry]) -> Result<Vec<&[u8]>, A
 }
 
 /// What the keys and values of entries leave of some room, if they fit into it.
-fn behind_entries(entries: &[Entry], room: u128) -> Option<u128>
+fn after_entries(entries: &[Entry], room: u128) -> Option<u128>
     ensures { MatchOption result (room < sum_by own_len entries.now) (λ left. left + sum_by own_len entries.now ≡ room) }
 {
     let mut left = room;
@@ -95,7 +96,7 @@ fn names_fit(names: &[&[u8]], room: u128) -> bool
 fn texts_fit(entries: &[Entry], names: &[&[u8]], room: u128) -> bool
     ensures { IsTrue result ↔ (sum_by own_len entries.now + sum_by (λ t. length t.now) names.now ≤ room) }
 {
-    match behind_entries(entries, room) {
+    match after_entries(entries, room) {
         Some(left) => names_fit(names, left),
         None => false,
     }

@@ -3,16 +3,18 @@
 //! The entries stay as they were given. The nodes know their values as a range of the numbers of the
 //! entries, sorted by pattern, so that nothing of an entry is held twice.
 ghost use Rattle.std.specs.Prelude.{◌≡◌, ◌*◌, ◌+◌, ◌<◌, ◌≤◌, IfOk, MatchResult, length};
-ghost use Rattle.hwdb_lookup.specs.Bounds.{max_entries};
+ghost use Rattle.hwdb_lookup.specs.Bounds.{max_entries, max_nodes};
 ghost use Rattle.hwdb_lookup.specs.Orders.{Rising};
-ghost use Rattle.trie_build.specs.Content.{IsTrie, active_count, active_nodes, all_values, shown};
+ghost use Rattle.trie_nodes.specs.Tree.{active_after, count};
+ghost use Rattle.trie_build.specs.Content.{IsTrie, all_values, shown};
+ghost use Rattle.trie_build.specs.Held.{IsHeld};
 ghost use Rattle.trie_build.specs.declared.fault.TrieFault.TheVariants.{TooLarge};
 ghost use Rattle.trie_build.specs.Paths.{paths_of};
-ghost use Rattle.trie_build.specs.Sizes.{KeepsBounds, max_nodes, names_of, sets_of};
+ghost use Rattle.trie_build.specs.Sizes.{KeepsBounds, names_of, sets_of};
 
 use crate::build::nodes_of;
 use crate::fault::TrieFault;
-use crate::rows::{Sorted, numbers_of, shared_fronts, sorted_rows};
+use crate::rows::{Sorted, numbers_of, shared_prefixes, sorted_rows};
 use crate::size::{index_fits, names_of, sets_of};
 use hwdb_lookup::{Entry, Found, Lookup, MAX_ENTRIES, Sourced};
 use std::alloc::{AllocError, Global};
@@ -33,15 +35,16 @@ pub struct Trie {
 
 impl Model for Trie {
     ghost use Rattle.std.specs.Prelude.{◌≤◌, length};
-    ghost use Rattle.hwdb_lookup.specs.Bounds.{max_entries};
-    ghost use Rattle.trie_build.specs.Content.{Content, IsTrie};
-    ghost use Rattle.trie_build.specs.Sizes.{KeepsBounds, max_nodes};
+    ghost use Rattle.hwdb_lookup.specs.Bounds.{max_entries, max_nodes};
+    ghost use Rattle.trie_build.specs.Content.{Content};
+    ghost use Rattle.trie_build.specs.Held.{IsHeld};
+    ghost use Rattle.trie_build.specs.Sizes.{KeepsBounds};
 
     ghost Value = { Content };
 
     ghost view = { λ t. record { entries = t.entries.items; numbers = t.numbers.items; nodes = t.nodes.items } };
 
-    ghost invariant = { λ t. IsTrie (record { entries = t.entries.items; numbers = t.numbers.items; nodes = t.nodes.items }) × (length t.nodes.items ≤ max_nodes) × (length t.numbers.items ≤ max_entries) × KeepsBounds t.entries.items };
+    ghost invariant = { λ t. IsHeld (record { entries = t.entries.items; numbers = t.numbers.items; nodes = t.nodes.items }) × (length t.nodes.items ≤ max_nodes) × (length t.numbers.items ≤ max_entries) × KeepsBounds t.entries.items };
 }
 
 /// What is made from entries for their trie.
@@ -52,14 +55,14 @@ struct Made {
 }
 
 /// The nodes for some entries, and the entries' numbers, sorted by pattern.
-fn made_of(alloc: Global, entries: &[Entry]) -> Result<Made, TrieFault>
+fn made_from(alloc: Global, entries: &[Entry]) -> Result<Made, TrieFault>
     requires rising { Rising entries.now }
     requires few { length entries.now ≤ max_entries }
-    ensures trie { IfOk result (λ made. IsTrie (record { entries = entries.now; numbers = made.numbers.items; nodes = made.nodes.items })) }
+    ensures trie { IfOk result (λ made. IsHeld (record { entries = entries.now; numbers = made.numbers.items; nodes = made.nodes.items })) }
     ensures fits { MatchResult result (λ _. length (paths_of entries.now) ≤ max_nodes) (λ fault. fault ≡ TooLarge → max_nodes < length (paths_of entries.now)) }
 {
     let rows = sorted_rows(alloc, entries)?;
-    let shared = shared_fronts(alloc, &rows)?;
+    let shared = shared_prefixes(alloc, &rows)?;
     let sorted = Sorted {
         rows: &rows,
         shared: &shared,
@@ -70,13 +73,13 @@ fn made_of(alloc: Global, entries: &[Entry]) -> Result<Made, TrieFault>
 }
 
 /// What is made from some entries, unless it is too large.
-fn small_made_of(alloc: Global, entries: &[Entry]) -> Result<Made, TrieFault>
+fn small_made_from(alloc: Global, entries: &[Entry]) -> Result<Made, TrieFault>
     requires rising { Rising entries.now }
     requires few { length entries.now ≤ max_entries }
-    ensures trie { IfOk result (λ made. IsTrie (record { entries = entries.now; numbers = made.numbers.items; nodes = made.nodes.items })) }
+    ensures trie { IfOk result (λ made. IsHeld (record { entries = entries.now; numbers = made.numbers.items; nodes = made.nodes.items })) }
     ensures fits { MatchResult result (λ _. KeepsBounds entries.now) (λ fault. fault ≡ TooLarge → KeepsBounds entries.now → ⊥) }
 {
-    let made = made_of(alloc, entries)?;
+    let made = made_from(alloc, entries)?;
     if !index_fits(alloc, entries, &made.nodes)? {
         return Err(TrieFault::TooLarge);
     }
@@ -99,7 +102,7 @@ impl Trie {
         if entries.len() > MAX_ENTRIES {
             return Err(TrieFault::TooLarge);
         }
-        let Made { numbers, nodes } = small_made_of(alloc, &entries)?;
+        let Made { numbers, nodes } = small_made_from(alloc, &entries)?;
         Ok(Trie {
             entries,
             numbers,
@@ -109,7 +112,8 @@ impl Trie {
 
     /// What holds for every trie. It is called only for the proofs, which learn it from the look at a field.
     fn known(&self)
-        ensures { IsTrie self.now }
+        ensures trie { IsTrie self.now }
+        ensures held { IsHeld self.now }
     {
         let _ = &self.nodes;
     }
@@ -118,8 +122,10 @@ impl Trie {
     pub fn entries(&self) -> &[Entry]
         ensures value { result.now ≡ self.now.entries }
         ensures trie { IsTrie self.now }
+        ensures held { IsHeld self.now }
         ensures bounds { KeepsBounds self.now.entries }
     {
+        self.known();
         &self.entries
     }
 
@@ -156,8 +162,9 @@ impl Trie {
     /// The nodes that are active at the end of a modalias, rising, and how many are active after each length of it
     /// from 0 on, summed. Fails only if there is no memory for the lists.
     pub fn visits(&self, alloc: Global, modalias: &[u8]) -> Result<(Vec<u32>, u128), AllocError>
-        ensures nodes { IfOk result (λ r. r.0.items ≡ active_nodes self.now.entries modalias.now) }
-        ensures count { IfOk result (λ r. r.1 ≡ active_count self.now.entries modalias.now) }
+        ensures trie { IsTrie self.now }
+        ensures nodes { IfOk result (λ r. r.0.items ≡ active_after self.now.nodes modalias.now) }
+        ensures count { IfOk result (λ r. r.1 ≡ count self.now.nodes modalias.now) }
         ensures bound { IfOk result (λ r. r.1 ≤ length (paths_of self.now.entries) * (length modalias.now + 1)) }
     {
         self.known();

@@ -9,7 +9,8 @@ use Rattle.text_core.specs.declared.byte_set.ByteSet.{ByteSet}
 use Rattle.text_core.specs.declared.item.Item.{Item}
 use Rattle.text_core.specs.declared.item.Item.TheVariants.{Among}
 use Rattle.hwdb_lookup.specs.declared.entry.Entry.{Entry}
-use Rattle.trie_build.specs.Content.{Content, IsTrie, entry_at}
+use Rattle.trie_build.specs.Content.{Content, entry_at}
+use Rattle.trie_build.specs.Held.{IsHeld}
 use Rattle.trie_build.proofs.Sizing.{own_label}
 use Rattle.trie_nodes.specs.Tree.{node_at, nowhere}
 use Rattle.trie_nodes.specs.declared.node.Node.{Node}
@@ -23,12 +24,12 @@ use Rattle.index_reading.specs.Written.{draft_header, written}
 use Rattle.index_reading.specs.declared.records.NodeRecord.{NodeRecord}
 use Rattle.trie_core.specs.Image.{all_names, all_texts, as_set, by_nodes, child_count, draft_of, image, image_node, image_text, label_byte, label_kind, label_set, path_kind, value_count}
 use Rattle.trie_core.proofs.Imaging.{node_is, nodes_len, value_is, values_len}
-use Rattle.index_reading.proofs.Standing.{no_node, no_value}
-use Rattle.trie_core.proofs.Spelling.{behind_root, root_path, set_there}
+use Rattle.index_reading.proofs.Placement.{no_node, no_value}
+use Rattle.trie_core.proofs.Spelling.{after_root, root_path, set_there}
 use Rattle.trie_core.specs.Writing.{node_record, node_records, value_record, value_records}
 use Rattle.trie_core.proofs.Counting.{child_count_is}
-use Rattle.trie_core.proofs.Gathering.{gathered, part_len}
-use Rattle.trie_core.proofs.Lists.{flat_mapped}
+use Rattle.trie_build.proofs.Gathering.{gathered, part_len}
+use Rattle.trie_build.proofs.Parts.{flat_mapped}
 
 pub sum_pair : {A B : Type 0} (f : A → ℕ) (g : B → ℕ) (d : A) (e : B) (xs : List A) (ys : List B) → length xs ≡ length ys → ((k : ℕ) → k < length xs → f (get_or xs k d) ≡ g (get_or ys k e)) → (i : ℕ) → sum_by f (take i xs) ≡ sum_by g (take i ys)
 sum_pair f g d e xs ys len same zero = refl
@@ -39,7 +40,7 @@ sum_pair f g d e (x ∷ xs) (y ∷ ys) len same (suc i) =
     sum_by-cons f x (take i xs) ∙ ap (λ n. n + sum_by f (take i xs)) (same 0 (omega arith))
     ∙ ap (λ n. g y + n) (sum_pair f g d e xs ys (omega arith) (λ k h. same (suc k) (omega arith)) i) ∙ sym (sum_by-cons g y (take i ys))
 
-module _ (t : Content) (is : IsTrie t) where
+module _ (t : Content) (is : IsHeld t) where
   abbrev es : List Entry
   es = t.entries
 
@@ -60,7 +61,7 @@ module _ (t : Content) (is : IsTrie t) where
   kind_is : (i : ℕ) → i < length t.nodes → cond (eqb i 0) 0 (label_kind (node_at t.nodes i).label) ≡ path_kind (path_at i)
   kind_is zero h = sym (ap path_kind (root_path es))
   kind_is (suc i) h =
-      ap (λ v. cond v 0 (label_kind (node_at t.nodes (suc i)).label)) (ne_eqb (suc i) 0 (λ e. absurd (omega (arith, e)))) ∙ ap label_kind (label_is (suc i) h) ∙ by (path_at (suc i)) (behind_root es (suc i) (omega arith) (omega (arith, is.count))) where
+      ap (λ v. cond v 0 (label_kind (node_at t.nodes (suc i)).label)) (ne_eqb (suc i) 0 (λ e. absurd (omega (arith, e)))) ∙ ap label_kind (label_is (suc i) h) ∙ by (path_at (suc i)) (after_root es (suc i) (omega arith) (omega (arith, is.count))) where
         by : (p : List Item) → 0 < length p → label_kind (last_label p) ≡ path_kind p
         by [] some = absurd (omega arith)
         by (x ∷ p) some = refl
@@ -69,8 +70,8 @@ module _ (t : Content) (is : IsTrie t) where
   made kind byte set first count first_value values =
       record { kind = kind; byte = byte; first_zero = 0; second_zero = 0; set = set; first = first; count = count; first_value = first_value; values = values }
 
-  node_told : (i : ℕ) → i < length t.nodes → image_node es i (path_at i) ≡ node_record sets t.nodes i
-  node_told i h =
+  node_reported : (i : ℕ) → i < length t.nodes → image_node es i (path_at i) ≡ node_record sets t.nodes i
+  node_reported i h =
       let p : List Item = path_at i in
       let n : Node = node_at t.nodes i in
       let kind = kind_is i h in
@@ -96,13 +97,13 @@ module _ (t : Content) (is : IsTrie t) where
       ∙ ap (λ x. made a' (label_byte n.label) (label_set sets n.label) n.first n.count x w) first_value
       ∙ ap (λ x. made a' (label_byte n.label) (label_set sets n.label) n.first n.count (sum_by (λ (m : Node). m.values) (take i t.nodes)) x) values
 
-  nodes_told : (draft_of es).nodes ≡ node_records sets t.nodes
-  nodes_told =
+  nodes_reported : (draft_of es).nodes ≡ node_records sets t.nodes
+  nodes_reported =
       fill_by_all (node_record sets t.nodes) (draft_of es).nodes (length t.nodes) no_node (nodes_len es ∙ sym is.count) (λ i h.
-      node_is es i no_node (omega (arith, nodes_len es, is.count)) ∙ node_told i h)
+      node_is es i no_node (omega (arith, nodes_len es, is.count)) ∙ node_reported i h)
 
-  values_told : (draft_of es).values ≡ value_records (by_nodes es) (names_of es)
-  values_told =
+  values_reported : (draft_of es).values ≡ value_records (by_nodes es) (names_of es)
+  values_reported =
       fill_by_all (value_record (by_nodes es) (names_of es)) (draft_of es).values (length (by_nodes es)) no_value (values_len es) (λ j h.
       value_is es j no_value (omega (arith, values_len es)))
 
@@ -111,8 +112,8 @@ module _ (t : Content) (is : IsTrie t) where
       → header ++ (flat_map node_bytes (node_records sets t.nodes) ++ (flat_map value_bytes (value_records (by_nodes es) (names_of es)) ++ (all_names sets ++ (all_texts es ++ all_names (names_of es))))) ≡ image es
   unfolding image written
   whole header is_header =
-      let nodes : flat_map node_bytes (node_records sets t.nodes) ≡ flat_map node_bytes (draft_of es).nodes = ap (flat_map node_bytes) (sym nodes_told) in
-      let values : flat_map value_bytes (value_records (by_nodes es) (names_of es)) ≡ flat_map value_bytes (draft_of es).values = ap (flat_map value_bytes) (sym values_told) in
+      let nodes : flat_map node_bytes (node_records sets t.nodes) ≡ flat_map node_bytes (draft_of es).nodes = ap (flat_map node_bytes) (sym nodes_reported) in
+      let values : flat_map value_bytes (value_records (by_nodes es) (names_of es)) ≡ flat_map value_bytes (draft_of es).values = ap (flat_map value_bytes) (sym values_reported) in
       let all_sets : all_names sets ≡ flat_map set_bytes (draft_of es).sets = sym (flat_mapped set_bytes as_set sets) in
       ap (λ l. l ++ (flat_map node_bytes (node_records sets t.nodes) ++ (flat_map value_bytes (value_records (by_nodes es) (names_of es)) ++ (all_names sets ++ image_text es)))) is_header
       ∙ ap (λ l. header_bytes (draft_header (draft_of es)) ++ (l ++ (flat_map value_bytes (value_records (by_nodes es) (names_of es)) ++ (all_names sets ++ image_text es)))) nodes

@@ -18,7 +18,7 @@ use Rattle.index_reading.specs.Numbers.{IsSmall}
 use Rattle.index_reading.specs.Written.{IsSmallNode, IsSmallValue, IsWritable}
 use Rattle.index_reading.specs.declared.records.NodeRecord.{NodeRecord}
 use Rattle.index_reading.specs.declared.records.ValueRecord.{ValueRecord}
-use Rattle.index_reading.proofs.Sums.{sum_front}
+use Rattle.index_reading.proofs.Sums.{sum_prefix}
 use Rattle.trie_core.specs.Entries.{AreTyped}
 use Rattle.trie_core.specs.Image.{all_names, all_texts, as_set, by_nodes, draft_of, image_text, own_text}
 use Rattle.trie_core.specs.Sound.{IsSound, first_children, first_values}
@@ -26,7 +26,7 @@ use Rattle.trie_core.proofs.Imaging.{all_children, all_values, in_place, nodes_l
 use Rattle.trie_core.proofs.Permuting.{nodes_permute}
 use Rattle.trie_core.proofs.Rising.{orders}
 use Rattle.trie_core.proofs.Spelling.{labels}
-use Rattle.trie_core.proofs.Texting.{all_of, texts, told, told_in}
+use Rattle.trie_core.proofs.Texting.{all_of, reported, reported_in, texts}
 
 sum_same : {A : Type 0} (f g : A → ℕ) → ((x : A) → f x ≡ g x) → (xs : List A) → sum_by f xs ≡ sum_by g xs
 sum_same f g same [] = refl
@@ -67,8 +67,8 @@ module _ (es : List Entry) (rising : Rising es) (bounds : KeepsBounds es) where
       let own : NodeRecord = get_or (draft_of es).nodes i n in
       let place : IsInPlace i (first_children (draft_of es) i) (first_values (draft_of es) i) own = in_place es i n h in
       let label : IsLabelled (length (draft_of es).sets) i own = labels es i n h in
-      let children = sum_front (λ (m : NodeRecord). m.count) (draft_of es).nodes i n h in
-      let values = sum_front (λ (m : NodeRecord). m.values) (draft_of es).nodes i n h in
+      let children = sum_prefix (λ (m : NodeRecord). m.count) (draft_of es).nodes i n h in
+      let values = sum_prefix (λ (m : NodeRecord). m.values) (draft_of es).nodes i n h in
       let every_child : sum_by (λ (m : NodeRecord). m.count) (draft_of es).nodes ≡ first_children (draft_of es) (length (draft_of es).nodes) = ap (sum_by (λ (m : NodeRecord). m.count)) (sym (take-length (draft_of es).nodes)) in
       let every_value : sum_by (λ (m : NodeRecord). m.values) (draft_of es).nodes ≡ first_values (draft_of es) (length (draft_of es).nodes) = ap (sum_by (λ (m : NodeRecord). m.values)) (sym (take-length (draft_of es).nodes)) in
       let few : length (draft_of es).nodes ≤ 2 ^ 26 = sound.nodes in
@@ -90,10 +90,10 @@ module _ (es : List Entry) (rising : Rising es) (bounds : KeepsBounds es) (typed
   small_value j v h =
       let inside : j < length (by_nodes es) = omega (arith, values_len es) in
       let read = texts es rising j v h in
-      let order : (get_or (draft_of es).values j v).order ≡ (told es j).order = ap (λ (w : ValueRecord). w.order) (value_is es j v h) in
-      let line : (get_or (draft_of es).values j v).line ≡ (told es j).line = ap (λ (w : ValueRecord). w.line) (value_is es j v h) in
-      let low = all_of (λ (e : Entry). IsSmall e.order) es (told es j) typed.orders (told_in es j inside) in
-      let few = all_of (λ (e : Entry). IsSmall e.line) es (told es j) typed.lines (told_in es j inside) in
+      let order : (get_or (draft_of es).values j v).order ≡ (reported es j).order = ap (λ (w : ValueRecord). w.order) (value_is es j v h) in
+      let line : (get_or (draft_of es).values j v).line ≡ (reported es j).line = ap (λ (w : ValueRecord). w.line) (value_is es j v h) in
+      let low = all_of (λ (e : Entry). IsSmall e.order) es (reported es j) typed.orders (reported_in es j inside) in
+      let few = all_of (λ (e : Entry). IsSmall e.line) es (reported es j) typed.lines (reported_in es j inside) in
       record {
         key = record { place = omega (arith, read.key, short es rising bounds); len = omega (arith, read.key, short es rising bounds) };
         value = record { place = omega (arith, read.value, short es rising bounds); len = omega (arith, read.value, short es rising bounds) };

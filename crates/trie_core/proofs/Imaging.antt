@@ -9,10 +9,10 @@ use Rattle.std.proofs.lemmas.List.Sums.{sum_by-cons}
 use Rattle.text_core.specs.declared.item.Item.{Item}
 use Rattle.hwdb_lookup.specs.declared.entry.Entry.{Entry}
 use Rattle.index_reading.specs.Accepted.{IsInPlace}
-use Rattle.trie_build.specs.Paths.{paths_of, patterns_of}
+use Rattle.trie_build.specs.Paths.{ending_at, paths_of, patterns_of}
 use Rattle.trie_build.proofs.Later.{later}
 use Rattle.trie_build.proofs.Paths.{count_children, paths_tree}
-use Rattle.trie_core.specs.Image.{by_nodes, child_count, draft_of, ending_at, image_node, image_value, value_count}
+use Rattle.trie_core.specs.Image.{by_nodes, child_count, draft_of, image_node, image_value, value_count}
 use Rattle.trie_core.specs.Sound.{first_children, first_values}
 use Rattle.index_reading.specs.declared.records.NodeRecord.{NodeRecord}
 use Rattle.index_reading.specs.declared.records.ValueRecord.{ValueRecord}

@@ -6,10 +6,8 @@ pub mod Sounding
 pub mod Spelling
 pub mod Texting
 pub mod Imaging
-pub mod Gathering
 pub mod Numbers
 pub mod Counting
 pub mod Meeting
 pub mod Placing
-pub mod Lists
 pub mod Composing

@@ -6,14 +6,16 @@ use Rattle.std.proofs.lemmas.List.Concat.{length-flat_map}
 use Rattle.std.proofs.lemmas.List.Sums.{sum_by-cons}
 use Rattle.std.specs.List.{sum_by}
 use Rattle.hwdb_lookup.specs.declared.entry.Entry.{Entry}
-use Rattle.trie_build.specs.Content.{Content, IsTrie}
+use Rattle.trie_build.specs.Content.{Content}
+use Rattle.trie_build.specs.Held.{IsHeld, own_numbers}
 use Rattle.text_core.specs.declared.byte_set.ByteSet.{ByteSet}
 use Rattle.text_core.specs.declared.item.Item.TheVariants.{Among}
 use Rattle.trie_nodes.specs.Tree.{node_at, nowhere}
 use Rattle.trie_nodes.specs.declared.node.Node.{Node}
 use Rattle.trie_build.specs.Distinct.{IsDistinctOf, IsIn}
-use Rattle.trie_build.specs.Paths.{paths_of}
-use Rattle.trie_build.specs.Sizes.{KeepsBounds, last_label, names_of, set_in, sets_of, text_cmp}
+use Rattle.trie_build.specs.Paths.{ending_at, paths_of}
+use Rattle.trie_build.specs.Sizes.{KeepsBounds, last_label, names_of, set_in, sets_of}
+use Rattle.text_bytes.specs.Insertion.{text_order}
 use Rattle.trie_build.proofs.Counting.{few_sets, sum_within}
 use Rattle.trie_build.proofs.Distinguishing.{distinct_is, map_in}
 use Rattle.trie_build.proofs.Orders.{texts_order}
@@ -23,18 +25,18 @@ use Rattle.index_reading.specs.Numbers.{IsSmall}
 use Rattle.index_reading.specs.Records.{node_bytes, value_bytes}
 use Rattle.index_reading.specs.Written.{draft_header}
 use Rattle.index_reading.specs.declared.header.Header.{Header}
-use Rattle.trie_core.specs.Image.{all_names, all_texts, by_nodes, draft_of, ending_at, image, image_text, own_text, value_count}
+use Rattle.trie_core.specs.Image.{all_names, all_texts, by_nodes, draft_of, image, image_text, own_text, value_count}
 use Rattle.trie_core.proofs.Fitting.{few_values, sets_len, short}
 use Rattle.trie_core.proofs.Imaging.{nodes_len, values_len}
-use Rattle.trie_core.specs.Writing.{AreTexts, named, node_records, own_numbers, value_records}
+use Rattle.trie_core.specs.Writing.{AreTexts, named, node_records, value_records}
 use Rattle.trie_core.proofs.Composing.{set_among, sum_pair, values_are, whole}
-use Rattle.trie_core.proofs.Gathering.{all_gathered, all_small}
+use Rattle.trie_build.proofs.Gathering.{all_gathered, all_small}
 
 ones : {A : Type 0} (xs : List A) → sum_by (λ x. 1) xs ≡ length xs
 ones [] = refl
 ones (x ∷ xs) = let rest : sum_by (λ y. 1) xs ≡ length xs = ones xs in omega (arith, rest, sum_by-cons (λ y. 1) x xs)
 
-module _ (t : Content) (is : IsTrie t) (bounds : KeepsBounds t.entries) where
+module _ (t : Content) (is : IsHeld t) (bounds : KeepsBounds t.entries) where
   abbrev es : List Entry
   es = t.entries
 
@@ -50,8 +52,8 @@ module _ (t : Content) (is : IsTrie t) (bounds : KeepsBounds t.entries) where
   pub texts_small : IsSmall (length (flat_map own_text (named es order)))
   texts_small = omega (arith, texts_are, all_short)
 
-  pub names_behind : IsSmall (length (flat_map own_text (named es order)) + length (all_names (names_of es)))
-  names_behind = omega (arith, texts_are, all_short)
+  pub names_after : IsSmall (length (flat_map own_text (named es order)) + length (all_names (names_of es)))
+  names_after = omega (arith, texts_are, all_short)
 
   pub names_short : IsSmall (length (all_names (names_of es)))
   names_short = omega (arith, all_short)
@@ -81,16 +83,16 @@ module _ (t : Content) (is : IsTrie t) (bounds : KeepsBounds t.entries) where
 
   pub sets_texts : AreTexts (sets_of es)
   sets_texts = let few : length (paths_of es) ≤ 2 ^ 26 = bounds.nodes in record {
-    rise = (distinct_is text_cmp texts_order (flat_map (λ p. set_in (last_label p)) (paths_of es))).rises;
+    rise = (distinct_is text_order texts_order (flat_map (λ p. set_in (last_label p)) (paths_of es))).rises;
     few = omega (arith, few_sets es, few);
   }
 
-  names_are : IsDistinctOf text_cmp (map (λ (e : Entry). e.file) es) (names_of es)
-  names_are = distinct_is text_cmp texts_order (map (λ (e : Entry). e.file) es)
+  names_are : IsDistinctOf text_order (map (λ (e : Entry). e.file) es) (names_of es)
+  names_are = distinct_is text_order texts_order (map (λ (e : Entry). e.file) es)
 
   pub names_texts : AreTexts (names_of es)
   names_texts =
-      let within : sum_by (λ s. 1) (names_of es) ≤ sum_by (λ s. 1) (map (λ (e : Entry). e.file) es) = sum_within text_cmp texts_order (λ s. 1) (names_of es) (map (λ (e : Entry). e.file) es) names_are.rises names_are.only in
+      let within : sum_by (λ s. 1) (names_of es) ≤ sum_by (λ s. 1) (map (λ (e : Entry). e.file) es) = sum_within text_order texts_order (λ s. 1) (names_of es) (map (λ (e : Entry). e.file) es) names_are.rises names_are.only in
       let files : length (map (λ (e : Entry). e.file) es) ≡ length es = simp length-map in
       let few : length es ≤ 2 ^ 24 = bounds.entries in record {
         rise = names_are.rises;
@@ -112,11 +114,11 @@ module _ (t : Content) (is : IsTrie t) (bounds : KeepsBounds t.entries) where
     pub need_short : IsSmall (length (flat_map own_text (named entries listed)))
     need_short = let same : length (flat_map own_text (named entries listed)) ≡ length (all_texts es) = ap (λ (l : List Entry). length (flat_map own_text l)) named_is in omega (arith, same, all_short)
 
-    pub need_behind : length (flat_map own_text (named entries listed)) + length (all_names names) < 2 ^ 32
-    need_behind =
+    pub need_after : length (flat_map own_text (named entries listed)) + length (all_names names) < 2 ^ 32
+    need_after =
         let same : length (flat_map own_text (named entries listed)) ≡ length (all_texts es) = ap (λ (l : List Entry). length (flat_map own_text l)) named_is in
-        let behind : length (all_names names) ≡ length (all_names (names_of es)) = ap (λ l. length (all_names l)) m in
-        omega (arith, same, behind, all_short)
+        let following : length (all_names names) ≡ length (all_names (names_of es)) = ap (λ l. length (all_names l)) m in
+        omega (arith, same, following, all_short)
 
     pub need_values : IsSmall (length listed)
     need_values = let same : length listed ≡ length order = ap length o in omega (arith, same, few_order)
@@ -142,9 +144,9 @@ module _ (t : Content) (is : IsTrie t) (bounds : KeepsBounds t.entries) where
     abbrev made : ℕ → ℕ → ℕ → ℕ → Header
     made nodes_len values_len sets_len text = record { version = second_version; nodes = nodes_len; values = values_len; sets = sets_len; text = text; reserved = 0 }
 
-    pub header_told : (text set_count : ℕ) → text ≡ length (flat_map own_text (named entries listed)) + length (all_names names) → set_count ≡ length sets
+    pub header_reported : (text set_count : ℕ) → text ≡ length (flat_map own_text (named entries listed)) + length (all_names names) → set_count ≡ length sets
         → made (length nodes) (length listed) set_count text ≡ draft_header (draft_of es)
-    header_told text set_count at count =
+    header_reported text set_count at count =
         let nodes_are : length nodes ≡ length (draft_of es).nodes = ap length n ∙ is.count ∙ sym (nodes_len es) in
         let values_are : length listed ≡ length (draft_of es).values = ap length o ∙ order_len ∙ sym (few_values es is.rising bounds) ∙ sym (values_len es) in
         let sets_are : set_count ≡ length (draft_of es).sets = count ∙ ap length s ∙ sym (sets_len es is.rising bounds) in
@@ -158,7 +160,7 @@ module _ (t : Content) (is : IsTrie t) (bounds : KeepsBounds t.entries) where
     pub composed : (header : List ℕ) → header ≡ header_bytes (draft_header (draft_of es))
         → header ++ (flat_map node_bytes (node_records sets nodes) ++ (flat_map value_bytes (value_records (named entries listed) names) ++ (all_names sets ++ (flat_map own_text (named entries listed) ++ all_names names)))) ≡ image es
     composed header is_header =
-        let front : List ℕ → List ℕ → List ℕ → List ℕ → List ℕ → List ℕ = λ a b c d f. header ++ (a ++ (b ++ (c ++ (d ++ f)))) in
+        let prefix : List ℕ → List ℕ → List ℕ → List ℕ → List ℕ → List ℕ = λ a b c d f. header ++ (a ++ (b ++ (c ++ (d ++ f)))) in
         let a : flat_map node_bytes (node_records sets nodes) ≡ flat_map node_bytes (node_records (sets_of es) t.nodes) =
         ap (λ l. flat_map node_bytes (node_records l nodes)) s ∙ ap (λ l. flat_map node_bytes (node_records (sets_of es) l)) n in
         let b : flat_map value_bytes (value_records (named entries listed) names) ≡ flat_map value_bytes (value_records (by_nodes es) (names_of es)) =
@@ -166,11 +168,11 @@ module _ (t : Content) (is : IsTrie t) (bounds : KeepsBounds t.entries) where
         let c : all_names sets ≡ all_names (sets_of es) = ap all_names s in
         let d : flat_map own_text (named entries listed) ≡ all_texts es = ap (flat_map own_text) named_is in
         let f : all_names names ≡ all_names (names_of es) = ap all_names m in
-        ap (λ x. front x (flat_map value_bytes (value_records (named entries listed) names)) (all_names sets) (flat_map own_text (named entries listed)) (all_names names)) a
-        ∙ ap (λ x. front (flat_map node_bytes (node_records (sets_of es) t.nodes)) x (all_names sets) (flat_map own_text (named entries listed)) (all_names names)) b
-        ∙ ap (λ x. front (flat_map node_bytes (node_records (sets_of es) t.nodes)) (flat_map value_bytes (value_records (by_nodes es) (names_of es))) x (flat_map own_text (named entries listed)) (all_names names)) c
-        ∙ ap (λ x. front (flat_map node_bytes (node_records (sets_of es) t.nodes)) (flat_map value_bytes (value_records (by_nodes es) (names_of es))) (all_names (sets_of es)) x (all_names names)) d
-        ∙ ap (λ x. front (flat_map node_bytes (node_records (sets_of es) t.nodes)) (flat_map value_bytes (value_records (by_nodes es) (names_of es))) (all_names (sets_of es)) (all_texts es) x) f
+        ap (λ x. prefix x (flat_map value_bytes (value_records (named entries listed) names)) (all_names sets) (flat_map own_text (named entries listed)) (all_names names)) a
+        ∙ ap (λ x. prefix (flat_map node_bytes (node_records (sets_of es) t.nodes)) x (all_names sets) (flat_map own_text (named entries listed)) (all_names names)) b
+        ∙ ap (λ x. prefix (flat_map node_bytes (node_records (sets_of es) t.nodes)) (flat_map value_bytes (value_records (by_nodes es) (names_of es))) x (flat_map own_text (named entries listed)) (all_names names)) c
+        ∙ ap (λ x. prefix (flat_map node_bytes (node_records (sets_of es) t.nodes)) (flat_map value_bytes (value_records (by_nodes es) (names_of es))) (all_names (sets_of es)) x (all_names names)) d
+        ∙ ap (λ x. prefix (flat_map node_bytes (node_records (sets_of es) t.nodes)) (flat_map value_bytes (value_records (by_nodes es) (names_of es))) (all_names (sets_of es)) (all_texts es) x) f
         ∙ whole t is header is_header
 
 -- the parts one after another

@@ -6,13 +6,14 @@ use Rattle.std.specs.List.Sorted.{IsPermutation}
 use Rattle.std.specs.declared.cmp.Ordering.TheVariants.{Less, Equal}
 use Rattle.text_core.specs.declared.item.Item.{Item}
 use Rattle.hwdb_lookup.specs.declared.entry.Entry.{Entry}
-use Rattle.trie_build.specs.Distinct.{IsIn, Rises, is_equal}
+use Rattle.trie_build.specs.Distinct.{IsIn, Rises}
+use Rattle.std.specs.Ordering.{is_eq}
 use Rattle.trie_build.specs.Order.{path_cmp}
-use Rattle.trie_build.specs.Paths.{paths_of, patterns_of, same_path}
+use Rattle.trie_build.specs.Paths.{ending_at, paths_of, patterns_of, same_path}
 use Rattle.trie_build.proofs.Distinguishing.{all_in, in_filter}
 use Rattle.trie_build.proofs.Orders.{paths_order}
 use Rattle.trie_build.proofs.Paths.{paths_tree}
-use Rattle.trie_core.specs.Image.{by_nodes, ending_at}
+use Rattle.trie_core.specs.Image.{by_nodes}
 use Rattle.trie_core.proofs.Members.{pattern_in, tied}
 
 -- what passes the first test passes the second
@@ -50,7 +51,7 @@ permuted (p ∷ ps) es up among =
     let split : IsPermutation es (filter own es ++ rest) = IsPermutation-filter_both own others (λ e. refl) es in
     let left : (e : Entry) → IsIn e rest → IsIn e.pattern ps = λ e i.
     let w = in_filter others e es i in
-    ⊎_elim (λ same. absurd (let tie : same_path e.pattern p ≡ true = ap (λ q. same_path q p) same ∙ ap is_equal (paths_order.itself p) in let not_own : not (same_path e.pattern p) ≡ true = w.1 in cc)) (λ j. j) (among e w.0) in
+    ⊎_elim (λ same. absurd (let tie : same_path e.pattern p ≡ true = ap (λ q. same_path q p) same ∙ ap is_eq (paths_order.itself p) in let not_own : not (same_path e.pattern p) ≡ true = w.1 in cc)) (λ j. j) (among e w.0) in
     let on : IsPermutation rest (flat_map (ending_at rest) ps) = permuted ps rest up.1 left in
     let same : flat_map (ending_at rest) ps ≡ flat_map (ending_at es) ps =
     flat_map_same (ending_at rest) (ending_at es) ps (λ q i. filter_twice (λ (e : Entry). same_path e.pattern q) others

@@ -1,4 +1,4 @@
--- Where texts and names stand, and what a value is written as.
+-- Where texts and names are, and what a value is written as.
 use Rattle.std.proofs.Common.{◌≡◌, ℕ, ◌+◌, ◌<◌, ◌≤◌, List, [], length, take, flat_map, get_or, sym, ◌∙◌, ap, subst, arith, length-append, zero-add, All}
 use Rattle.std.proofs.Math.ListN.{get_or-map as get_or-mapped}
 use Rattle.std.proofs.Math.Seq.{take-length}
@@ -10,14 +10,14 @@ use Rattle.std.specs.Borrow.{Bor}
 use Rattle.hwdb_lookup.specs.declared.entry.Entry.{Entry}
 use Rattle.trie_build.specs.Content.{entry_at, no_entry, shown}
 use Rattle.trie_build.specs.Distinct.{IsIn, number_in}
-use Rattle.trie_build.specs.Sizes.{text_cmp}
+use Rattle.text_bytes.specs.Insertion.{text_order}
 use Rattle.trie_build.proofs.Distinguishing.{get_in, in_get}
 use Rattle.trie_build.proofs.Orders.{texts_order}
 use Rattle.index_reading.specs.declared.records.ValueRecord.{ValueRecord}
 use Rattle.trie_core.specs.Image.{all_names, own_text}
 use Rattle.trie_core.proofs.Members.{number_within}
 use Rattle.trie_core.specs.Writing.{name_before, name_places, named, place_before, value_record}
-use Rattle.trie_core.proofs.Lists.{taken_more}
+use Rattle.trie_build.proofs.Parts.{taken_more}
 
 pub text_at : (ws : List (Bor (List ℕ))) (k : ℕ) (d : Bor (List ℕ)) → get_or (shown ws) k d.now ≡ (get_or ws k d).now
 text_at ws k d = get_or-mapped (λ (t : Bor (List ℕ)). t.now) ws k d
@@ -64,18 +64,18 @@ made place name e = record {
   line = e.line;
 }
 
-pub value_told : (es : List Entry) (names : List (List ℕ)) (places : List ℕ) (j place : ℕ) (e : Entry) → places ≡ name_places es names → place ≡ place_before es j → e ≡ entry_at es j → IsIn e.file names
-    → made place (get_or places (number_in text_cmp names e.file) 0) e ≡ value_record es names j
-value_told es names places j place e is at same there =
-    let k : ℕ = number_in text_cmp names e.file in
-    let inside : k < length names = number_within text_cmp texts_order e.file names there in
+pub value_reported : (es : List Entry) (names : List (List ℕ)) (places : List ℕ) (j place : ℕ) (e : Entry) → places ≡ name_places es names → place ≡ place_before es j → e ≡ entry_at es j → IsIn e.file names
+    → made place (get_or places (number_in text_order names e.file) 0) e ≡ value_record es names j
+value_reported es names places j place e is at same there =
+    let k : ℕ = number_in text_order names e.file in
+    let inside : k < length names = number_within text_order texts_order e.file names there in
     let name : get_or places k 0 ≡ name_before es names k =
     ap (λ l. get_or l k 0) is ∙ get_or-map-range_with_len (name_before es names) 0 (length names + 1) k k 0 (omega (arith, inside)) (zero-add k) in
     ap (λ n. made place n e) name ∙ ap (λ p. made p (name_before es names k) e) at
-    ∙ ap (λ x. made (place_before es j) (name_before es names (number_in text_cmp names x.file)) x) same
+    ∙ ap (λ x. made (place_before es j) (name_before es names (number_in text_order names x.file)) x) same
 
 -- where the last name ends
-pub text_told : (es : List Entry) (names : List (List ℕ)) (places : List ℕ) (n d : ℕ) → places ≡ name_places es names → n ≡ length names → get_or places n d ≡ length (flat_map own_text es) + length (all_names names)
-text_told es names places n d is last =
+pub text_reported : (es : List Entry) (names : List (List ℕ)) (places : List ℕ) (n d : ℕ) → places ≡ name_places es names → n ≡ length names → get_or places n d ≡ length (flat_map own_text es) + length (all_names names)
+text_reported es names places n d is last =
     ap (λ l. get_or l n d) is ∙ get_or-map-range_with_len (name_before es names) 0 (length names + 1) n n d (omega (arith, last)) (zero-add n)
     ∙ ap (name_before es names) last ∙ ap (λ l. length (flat_map own_text es) + length (all_names l)) (take-length names)

@@ -11,11 +11,11 @@ use Rattle.text_core.specs.declared.item.Item.{Item}
 use Rattle.hwdb_lookup.specs.Orders.{Rising}
 use Rattle.hwdb_lookup.specs.declared.entry.Entry.{Entry}
 use Rattle.trie_build.specs.Distinct.{Rises}
-use Rattle.trie_build.specs.Paths.{paths_of, same_path}
+use Rattle.trie_build.specs.Paths.{ending_at, paths_of, same_path}
 use Rattle.trie_build.proofs.Distinguishing.{rises_filter}
 use Rattle.index_reading.specs.declared.records.NodeRecord.{NodeRecord}
 use Rattle.index_reading.specs.declared.records.ValueRecord.{ValueRecord}
-use Rattle.trie_core.specs.Image.{by_nodes, draft_of, ending_at, value_count}
+use Rattle.trie_core.specs.Image.{by_nodes, draft_of, value_count}
 use Rattle.trie_core.proofs.Imaging.{no_entry, node_is, nodes_len, value_is, values_len}
 
 -- how entries compare by their orders
@@ -73,14 +73,14 @@ module _ (es : List Entry) (rising : Rising es) where
       let inside : i < length (paths_of es) = omega (arith, nodes_len es) in
       let p : List Item = get_or (paths_of es) i [] in
       let own : List Entry = ending_at es p in
-      let front : ℕ = length (flat_map (ending_at es) (take i (paths_of es))) in
+      let prefix : ℕ = length (flat_map (ending_at es) (take i (paths_of es))) in
       let first : (get_or (draft_of es).nodes i n).first_value ≡ sum_by (value_count es) (take i (paths_of es)) = ap (λ (m : NodeRecord). m.first_value) (node_is es i n h) in
       let count : (get_or (draft_of es).nodes i n).values ≡ length own = ap (λ (m : NodeRecord). m.values) (node_is es i n h) in
-      let sum : front ≡ sum_by (value_count es) (take i (paths_of es)) = length-flat_map (ending_at es) (take i (paths_of es)) in
-      let all : front + length own ≤ length (by_nodes es) = length-flat_map-take (ending_at es) (paths_of es) i [] inside in
-      let k : ℕ = j - front in
-      let at : front + k ≡ j = omega (arith, sum, first, low) in
-      let next : front + (k + 1) ≡ j + 1 = omega (arith, at) in
+      let sum : prefix ≡ sum_by (value_count es) (take i (paths_of es)) = length-flat_map (ending_at es) (take i (paths_of es)) in
+      let all : prefix + length own ≤ length (by_nodes es) = length-flat_map-take (ending_at es) (paths_of es) i [] inside in
+      let k : ℕ = j - prefix in
+      let at : prefix + k ≡ j = omega (arith, sum, first, low) in
+      let next : prefix + (k + 1) ≡ j + 1 = omega (arith, at) in
       let here : get_or (by_nodes es) j no_entry ≡ get_or own k no_entry =
       ap (λ m. get_or (by_nodes es) m no_entry) (sym at) ∙ get_or-flat_map (ending_at es) (paths_of es) i k [] no_entry inside (omega (arith, at, sum, first, count, high)) in
       let there : get_or (by_nodes es) (j + 1) no_entry ≡ get_or own (k + 1) no_entry =

@@ -9,10 +9,10 @@ use Rattle.index_reading.specs.Written.{Draft, IsWritable, SaysDraft, written}
 use Rattle.index_reading.specs.declared.fault.IndexFault.TheVariants.{Short, Magic, Version, Size, Shape, Label, Text, Order}
 use Rattle.index_reading.specs.declared.header.Header.{Header}
 use Rattle.index_reading.specs.declared.records.NodeRecord.{NodeRecord}
-use Rattle.index_reading.proofs.Standing.{no_node, no_value, node_of_draft, value_of_draft, written_says}
+use Rattle.index_reading.proofs.Placement.{no_node, no_value, node_of_draft, value_of_draft, written_says}
 use Rattle.index_reading.proofs.CheckSums.{children_more, values_more, values_within}
 
--- where some bytes say what a draft says
+-- some bytes say what a draft says
 module _ (bytes : List ℕ) (d : Draft) (says : SaysDraft bytes d) where
   node_count : (header_of bytes).nodes ≡ length d.nodes
   node_count = ap (λ (h : Header). h.nodes) says.header

@@ -10,7 +10,8 @@ use Rattle.text_core.specs.declared.item.Item.TheVariants.{Byte, One, Many, Amon
 use Rattle.hwdb_lookup.specs.declared.entry.Entry.{Entry}
 use Rattle.trie_build.specs.Distinct.{IsDistinctOf, IsIn, Rises}
 use Rattle.trie_build.specs.Paths.{paths_of, patterns_of}
-use Rattle.trie_build.specs.Sizes.{last_label, set_in, sets_of, text_cmp}
+use Rattle.trie_build.specs.Sizes.{last_label, set_in, sets_of}
+use Rattle.text_bytes.specs.Insertion.{text_order}
 use Rattle.trie_build.proofs.Children.{level_by_level}
 use Rattle.trie_build.proofs.Distinguishing.{all_in, distinct_is, flat_map_in, get_in}
 use Rattle.trie_build.proofs.Orders.{paths_order, texts_order}
@@ -34,8 +35,8 @@ module _ (es : List Entry) where
   abbrev listed : List (List ℕ)
   listed = flat_map (λ p. set_in (last_label p)) all_paths
 
-  all_sets : IsDistinctOf text_cmp listed (sets_of es)
-  all_sets = distinct_is text_cmp texts_order listed
+  all_sets : IsDistinctOf text_order listed (sets_of es)
+  all_sets = distinct_is text_order texts_order listed
 
   -- the set of a path's last label is among the sets
   pub set_there : (p : List Item) (set : ByteSet) → IsIn p all_paths → last_label p ≡ Among set → IsIn set.bits (sets_of es)
@@ -84,7 +85,7 @@ module _ (es : List Entry) where
     first_zero = refl;
     second_zero = refl;
     no_set = λ k. absurd (k refl);
-    a_set = λ k. number_within text_cmp texts_order set.bits (sets_of es) (set_there (x ∷ q) set among e);
+    a_set = λ k. number_within text_order texts_order set.bits (sets_of es) (set_there (x ∷ q) set among e);
   })
 
   root_label : IsLabelled (length (sets_of es)) 0 (image_node es 0 [])
@@ -104,9 +105,9 @@ module _ (es : List Entry) where
   by_path (suc i) (x ∷ q) among root first = own_label (suc i) x q (omega arith) among (last_label (x ∷ q)) refl
 
   -- the paths after the first have a label
-  pub behind_root : (i : ℕ) → 0 < i → i < length all_paths → 0 < length (get_or all_paths i [])
-  behind_root zero h k = absurd (omega arith)
-  behind_root (suc i) h k =
+  pub after_root : (i : ℕ) → 0 < i → i < length all_paths → 0 < length (get_or all_paths i [])
+  after_root zero h k = absurd (omega arith)
+  after_root (suc i) h k =
       let rises : Rises path_cmp ([] ∷ drop 1 all_paths) = subst (Rises path_cmp) levels.first (paths_tree (patterns_of es)).rises in
       let len : length all_paths ≡ length ([] ∷ drop 1 all_paths) = ap length levels.first in
       let there : IsIn (get_or (drop 1 all_paths) i []) (drop 1 all_paths) = get_in [] (drop 1 all_paths) i (omega (arith, len)) in
@@ -120,6 +121,6 @@ module _ (es : List Entry) where
       let sets : length (draft_of es).sets ≡ length (sets_of es) = length-map (sets_of es) as_set in
       let root : get_or all_paths i [] ≡ [] → i ≡ 0 = λ e. elim (leb_tells i 0) [
         | inl t ↦ omega (arith, t.1)
-        | inr t ↦ absurd (let none : length (get_or all_paths i []) ≡ 0 = ap length e in omega (arith, none, behind_root i t.1 inside))
+        | inr t ↦ absurd (let none : length (get_or all_paths i []) ≡ 0 = ap length e in omega (arith, none, after_root i t.1 inside))
       ] in
       rw (sets, node_is es i n h) (by_path i (get_or all_paths i []) (get_in [] all_paths i inside) root (λ e. ap (λ k. get_or all_paths k []) e ∙ root_path))

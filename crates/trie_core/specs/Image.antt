@@ -1,13 +1,14 @@
 -- The index of a list of entries: its nodes, values, sets and text.
-use Rattle.std.specs.Prelude.{ℕ, ◌+◌, List, ◌∷◌, [], ◌++◌, length, map, filter, flat_map, take, sum_by, count_by}
+use Rattle.std.specs.Prelude.{ℕ, ◌+◌, List, ◌∷◌, [], ◌++◌, length, map, flat_map, take, sum_by, count_by}
 use Rattle.std.specs.List.{enumerate_from}
 use Rattle.text_core.specs.declared.byte_set.ByteSet.{ByteSet}
 use Rattle.text_core.specs.declared.item.Item.{Item}
 use Rattle.text_core.specs.declared.item.Item.TheVariants.{Byte, One, Many, Among}
 use Rattle.hwdb_lookup.specs.declared.entry.Entry.{Entry}
 use Rattle.trie_build.specs.Distinct.{number_in}
-use Rattle.trie_build.specs.Paths.{is_child, paths_of, same_path}
-use Rattle.trie_build.specs.Sizes.{last_label, names_of, sets_of, text_cmp}
+use Rattle.trie_build.specs.Paths.{ending_at, is_child, paths_of}
+use Rattle.trie_build.specs.Sizes.{last_label, names_of, sets_of}
+use Rattle.text_bytes.specs.Insertion.{text_order}
 use Rattle.index_reading.specs.Kinds.{root_kind, byte_kind, one_kind, many_kind, among_kind}
 use Rattle.index_reading.specs.Written.{Draft, written}
 use Rattle.index_reading.specs.declared.records.NodeRecord.{NodeRecord}
@@ -16,10 +17,6 @@ use Rattle.index_reading.specs.declared.records.ValueRecord.{ValueRecord}
 -- how many children the node with a path has
 abbrev pub child_count : List Entry → List Item → ℕ
 child_count es p = count_by (is_child p) (paths_of es)
-
--- the entries whose pattern is a path, in their order
-abbrev pub ending_at : List Entry → List Item → List Entry
-ending_at es p = filter (λ e. same_path e.pattern p) es
 
 -- how many values the node with a path has
 abbrev pub value_count : List Entry → List Item → ℕ
@@ -46,7 +43,7 @@ abbrev pub label_set : List (List ℕ) → Item → ℕ
 label_set sets (Byte b) = 0
 label_set sets One = 0
 label_set sets Many = 0
-label_set sets (Among set) = number_in text_cmp sets set.bits
+label_set sets (Among set) = number_in text_order sets set.bits
 
 -- the kind of the node with a path: the root's is its own, and the others' is that of the last label
 abbrev pub path_kind : List Item → ℕ
@@ -90,7 +87,7 @@ text_place es j = length (flat_map own_text (take j (by_nodes es)))
 
 -- where a file's name begins
 abbrev pub name_place : List Entry → List ℕ → ℕ
-name_place es name = length (all_texts es) + length (all_names (take (number_in text_cmp (names_of es) name) (names_of es)))
+name_place es name = length (all_texts es) + length (all_names (take (number_in text_order (names_of es) name) (names_of es)))
 
 -- the value with a number, of an entry
 abbrev pub image_value : List Entry → ℕ → Entry → ValueRecord

@@ -5,7 +5,8 @@ use Rattle.text_core.specs.declared.item.Item.{Item}
 use Rattle.text_core.specs.declared.item.Item.TheVariants.{Byte, One, Many, Among}
 use Rattle.trie_nodes.specs.declared.node.Node.{Node}
 use Rattle.trie_nodes.specs.Values.{Value}
-use Rattle.index_reading.specs.Accepted.{HasTexts, IsInPlace, IsLabelled, max_nodes, max_sets, max_values}
+use Rattle.hwdb_lookup.specs.Bounds.{max_entries, max_nodes}
+use Rattle.index_reading.specs.Accepted.{HasTexts, IsInPlace, IsLabelled}
 use Rattle.index_reading.specs.Contents.{Contents}
 use Rattle.index_reading.specs.Kinds.{byte_kind, many_kind, among_kind}
 use Rattle.index_reading.specs.Written.{Draft}
@@ -25,8 +26,8 @@ first_values d i = sum_by (λ n. n.values) (take i d.nodes)
 pub record IsSound (d : Draft) : Type 0 where
   pub some : 0 < length d.nodes
   pub nodes : length d.nodes ≤ max_nodes
-  pub values : length d.values ≤ max_values
-  pub sets : length d.sets ≤ max_sets
+  pub values : length d.values ≤ max_entries
+  pub sets : length d.sets ≤ max_nodes
   pub in_place : (i : ℕ) (n : NodeRecord) → i < length d.nodes → IsInPlace i (first_children d i) (first_values d i) (slice_index_or d.nodes i n)
   pub children : 1 + first_children d (length d.nodes) ≡ length d.nodes
   pub all_values : first_values d (length d.nodes) ≡ length d.values

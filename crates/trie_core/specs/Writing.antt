@@ -1,21 +1,17 @@
 -- Serves inner proofs only: what is written, by the nodes and the entries that it is written from.
-use Rattle.std.specs.Prelude.{ℕ, Bool, ◌+◌, ◌==◌, if◌then◌else◌, List, length, map, flat_map, take, drop, sum_by}
+use Rattle.std.specs.Prelude.{ℕ, Bool, ◌+◌, ◌==◌, if◌then◌else◌, List, length, map, flat_map, take, sum_by}
 use Rattle.std.specs.List.{range_with_len}
 use Rattle.hwdb_lookup.specs.declared.entry.Entry.{Entry}
 use Rattle.trie_build.specs.Content.{entry_at}
 use Rattle.trie_nodes.specs.Tree.{node_at}
 use Rattle.trie_nodes.specs.declared.node.Node.{Node}
 use Rattle.trie_build.specs.Distinct.{Rises, number_in}
-use Rattle.trie_build.specs.Sizes.{text_cmp}
+use Rattle.text_bytes.specs.Insertion.{text_order}
 use Rattle.index_reading.specs.Kinds.{root_kind}
 use Rattle.index_reading.specs.Numbers.{IsSmall}
 use Rattle.index_reading.specs.declared.records.NodeRecord.{NodeRecord}
 use Rattle.index_reading.specs.declared.records.ValueRecord.{ValueRecord}
 use Rattle.trie_core.specs.Image.{all_names, label_byte, label_kind, label_set, own_text}
-
--- the numbers of a node's values
-abbrev pub own_numbers : List ℕ → Node → List ℕ
-own_numbers numbers n = take n.values (drop n.first_value numbers)
 
 -- the entries with these numbers
 abbrev pub named : List Entry → List ℕ → List Entry
@@ -55,7 +51,7 @@ value_record es names j = record {
   key = record { place = place_before es j; len = length (entry_at es j).key };
   value = record { place = place_before es j + length (entry_at es j).key; len = length (entry_at es j).value };
   order = (entry_at es j).order;
-  file = record { place = name_before es names (number_in text_cmp names (entry_at es j).file); len = length (entry_at es j).file };
+  file = record { place = name_before es names (number_in text_order names (entry_at es j).file); len = length (entry_at es j).file };
   line = (entry_at es j).line;
 }
 
@@ -68,5 +64,5 @@ name_places es names = map (name_before es names) (range_with_len 0 (length name
 
 -- texts that rise, and are few
 pub record AreTexts (texts : List (List ℕ)) : Type 0 where
-  pub rise : Rises text_cmp texts
+  pub rise : Rises text_order texts
   pub few : IsSmall (length texts)

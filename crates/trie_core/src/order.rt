@@ -3,7 +3,7 @@
 //! The values of a trie are ordered by patterns, so that its nodes are ranges of them. Those of an index are
 //! ordered level by level, as its nodes are.
 ghost use Rattle.std.specs.Prelude.{◌≡◌, ◌+◌, ◌≤◌, All, IfOk, flat_map, length};
-ghost use Rattle.trie_core.specs.Writing.{own_numbers};
+ghost use Rattle.trie_build.specs.Held.{own_numbers};
 
 use std::alloc::{AllocError, Global};
 use trie_nodes::Node;

@@ -1,7 +1,7 @@
 //! Sorted texts, each once: the names of files, and the bytes of sets.
 ghost use Rattle.std.specs.Prelude.{◌≡◌, ◌++◌, IfOk, OnOk, length};
 ghost use Rattle.trie_build.specs.Distinct.{IsIn, number_in};
-ghost use Rattle.trie_build.specs.Sizes.{text_cmp};
+ghost use Rattle.text_bytes.specs.Insertion.{text_order};
 ghost use Rattle.trie_core.specs.Image.{all_names};
 ghost use Rattle.trie_build.specs.Content.{shown};
 ghost use Rattle.trie_core.specs.Writing.{AreTexts};
@@ -12,7 +12,7 @@ use std::alloc::AllocError;
 pub(crate) fn number_of(texts: &[&[u8]], text: &[u8]) -> u32
     requires texts { AreTexts (shown texts.now) }
     requires there { IsIn text.now (shown texts.now) }
-    ensures { result ≡ number_in text_cmp (shown texts.now) text.now }
+    ensures { result ≡ number_in text_order (shown texts.now) text.now }
 {
     match texts.binary_search_by(|other| (*other).cmp(text)) {
         Ok(number) => number as u32,

@@ -6,7 +6,7 @@ ghost use Rattle.std.specs.List.{range_with_len};
 ghost use Rattle.hwdb_lookup.specs.declared.entry.Entry.{Entry};
 ghost use Rattle.trie_build.specs.Content.{entry_at, shown};
 ghost use Rattle.trie_build.specs.Distinct.{IsIn, number_in};
-ghost use Rattle.trie_build.specs.Sizes.{text_cmp};
+ghost use Rattle.text_bytes.specs.Insertion.{text_order};
 ghost use Rattle.index_reading.specs.Numbers.{IsSmall};
 ghost use Rattle.index_reading.specs.Records.{value_bytes};
 ghost use Rattle.trie_core.specs.Image.{all_names, own_text};
@@ -69,7 +69,7 @@ fn record_of(entry: &Entry, place: u32, names: &[&[u8]], places: &[u32]) -> Valu
     requires there { IsIn entry.now.file (shown names.now) }
     requires short { IsSmall (length entry.now.file) }
     requires places { length names.now < length places.now }
-    ensures { result ≡ record { key = record { place = place; len = length entry.now.key }; value = record { place = place + length entry.now.key; len = length entry.now.value }; order = entry.now.order; file = record { place = slice_index places.now (number_in text_cmp (shown names.now) entry.now.file); len = length entry.now.file }; line = entry.now.line } }
+    ensures { result ≡ record { key = record { place = place; len = length entry.now.key }; value = record { place = place + length entry.now.key; len = length entry.now.value }; order = entry.now.order; file = record { place = slice_index places.now (number_in text_order (shown names.now) entry.now.file); len = length entry.now.file }; line = entry.now.line } }
 {
     let key = entry.key.as_slice();
     let value = entry.value.as_slice();

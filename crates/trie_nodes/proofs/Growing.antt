@@ -9,7 +9,8 @@ use Rattle.text_core.specs.declared.item.Item.TheVariants.{Byte, One, Many, Amon
 use Rattle.text_core.specs.Fits.{fits}
 use Rattle.trie_nodes.proofs.Snoc.{fits_next_single, fits_next_many}
 use Rattle.trie_nodes.specs.Paths.{Link}
-use Rattle.trie_nodes.specs.Paths.{grow, paths, goes_on}
+use Rattle.trie_nodes.specs.Paths.{grow, paths}
+use Rattle.trie_nodes.specs.Steps.{proceeds}
 
 -- the paths that there are stay
 kept : (links : List Link) (ps : List (List Item)) (k : ℕ) → k < length ps → get_or (fold grow ps links) k [] ≡ get_or ps k []
@@ -45,7 +46,7 @@ paths_more links i link start h is = fold_more grow ([] ∷ []) links i start h 
 
 -- how a path goes on with a byte
 pub fits_next : (p : List Item) (x : Item) (t : List ℕ) (b : ℕ)
-    → fits (p ++ x ∷ []) (t ++ b ∷ []) ≡ goes_on x (fits p t) (fits p (t ++ b ∷ [])) (fits (p ++ x ∷ []) t) b
+    → fits (p ++ x ∷ []) (t ++ b ∷ []) ≡ proceeds x (fits p t) (fits p (t ++ b ∷ [])) (fits (p ++ x ∷ []) t) b
 fits_next p Many t b = fits_next_many b p t
 fits_next p (Byte c) t b = fits_next_single (Byte c) b tt p t
 fits_next p One t b = fits_next_single One b tt p t
@@ -54,14 +55,14 @@ fits_next p (Among set) t b = fits_next_single (Among set) b tt p t
 -- a path is that of the parent and one label more
 pub path_step : (links : List Link) (i : ℕ) (start : Link) → i < length links → (get_or links i start).parent ≤ i
     → get_or (paths links) (i + 1) [] ≡ get_or (paths links) (get_or links i start).parent [] ++ (get_or links i start).label ∷ []
-path_step links i start h behind =
+path_step links i start h following =
     let own : Link = get_or links i start in
     let parent_path : List Item = get_or (paths (take i links)) own.parent [] in
-    let front : length (paths (take i links)) ≡ i + 1 = length-paths (take i links) ∙ (simp length-take (omega arith)) in
+    let prefix : length (paths (take i links)) ≡ i + 1 = length-paths (take i links) ∙ (simp length-take (omega arith)) in
     let grows : paths (take (i + 1) links) ≡ paths (take i links) ++ (parent_path ++ own.label ∷ []) ∷ [] = paths_more links i own start h refl in
     let longer : length (paths (take (i + 1) links)) ≡ length (paths (take i links)) + 1 = ap length grows ∙ length-append (paths (take i links)) ((parent_path ++ own.label ∷ []) ∷ []) in
-    path-kept links (i + 1) (i + 1) (omega (arith, longer, front))
+    path-kept links (i + 1) (i + 1) (omega (arith, longer, prefix))
     ∙ ap (λ (ps : List (List Item)). get_or ps (i + 1) []) grows
-    ∙ ap (λ (n : ℕ). get_or (paths (take i links) ++ (parent_path ++ own.label ∷ []) ∷ []) n []) (sym front)
+    ∙ ap (λ (n : ℕ). get_or (paths (take i links) ++ (parent_path ++ own.label ∷ []) ∷ []) n []) (sym prefix)
     ∙ get_or-append_seam (paths (take i links)) (parent_path ++ own.label ∷ []) [] []
-    ∙ ap (λ (p : List Item). p ++ own.label ∷ []) (sym (path-kept links i own.parent (omega (arith, front))))
+    ∙ ap (λ (p : List Item). p ++ own.label ∷ []) (sym (path-kept links i own.parent (omega (arith, prefix))))

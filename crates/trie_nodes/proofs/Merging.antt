@@ -75,7 +75,7 @@ module _ (p : ℕ → Bool) where
   passing_not : (n r : ℕ) → p n ≡ false → passing n (suc r) ≡ passing (n + 1) r
   passing_not n r h = ap (λ v. cond v (n ∷ filter p (range_with_len (n + 1) r)) (filter p (range_with_len (n + 1) r))) h
 
-  -- where the first stands later, the place itself does not pass
+  -- if the first is later, the place itself does not pass
   not_here : (n r : ℕ) (xs : List ℕ) → xs ≡ passing n (suc r) → IsFrom (n + 1) xs → p n ≡ false
   not_here n r xs e h = false_from_ne_true (p n) (λ yes.
       let later : n + 1 ≤ n = subst (IsFrom (n + 1)) (e ∙ passing_here n r yes) h in omega arith)
@@ -95,47 +95,47 @@ module _ (p : ℕ → Bool) where
   pub passing_below : {k : ℕ} (n r x : ℕ) (xs : List ℕ) → x ∷ xs ≡ passing n r → n + r ≤ k → x < k
   passing_below {k} n r x xs e h = (subst (AllByRecursion (λ c. c < k)) (sym e) (below_all n r k h)).0
 
--- What goes on is taken, stays, or stands as a star under what goes on. more gives the stars under a node, which follow it.
-pub record Going (end : ℕ) (taken stays starred goes : ℕ → Bool) (more : ℕ → List ℕ) : Type 0 where
-  pub each : (c : ℕ) → 0 < c → c < end → goes c ≡ (taken c || stays c) || starred c
-  pub behind : (p : ℕ) → AllByRecursion (λ c. p < c) (more p)
+-- What goes on is taken, stays, or is a star under what goes on. more gives the stars under a node, which follow it.
+pub record Going (end : ℕ) (taken stays starred advances : ℕ → Bool) (more : ℕ → List ℕ) : Type 0 where
+  pub each : (c : ℕ) → 0 < c → c < end → advances c ≡ (taken c || stays c) || starred c
+  pub following : (p : ℕ) → AllByRecursion (λ c. p < c) (more p)
 
 -- so far met: the nodes before n, of which r are left
-pub record Met (end : ℕ) (taken stays starred goes : ℕ → Bool) (more : ℕ → List ℕ) (met xs ys zs : List ℕ) (n r : ℕ) : Type 0 where
+pub record Met (end : ℕ) (taken stays starred advances : ℕ → Bool) (more : ℕ → List ℕ) (met xs ys zs : List ℕ) (n r : ℕ) : Type 0 where
   pub place : 0 < n
   pub left : n + r ≡ end
-  pub all : met ++ passing goes n r ≡ passing goes 0 end
+  pub all : met ++ passing advances n r ≡ passing advances 0 end
   pub xs_are : xs ≡ passing taken n r
   pub ys_are : ys ≡ passing stays n r
-  pub zs_are : zs ++ flat_map more (passing goes n r) ≡ passing starred n r
+  pub zs_are : zs ++ flat_map more (passing advances n r) ≡ passing starred n r
 
-module _ (end : ℕ) (taken stays starred goes : ℕ → Bool) (more : ℕ → List ℕ) (g : Going end taken stays starred goes more) where
+module _ (end : ℕ) (taken stays starred advances : ℕ → Bool) (more : ℕ → List ℕ) (g : Going end taken stays starred advances more) where
   abbrev pub M : List ℕ → List ℕ → List ℕ → List ℕ → ℕ → ℕ → Type 0
-  M met xs ys zs n r = Met end taken stays starred goes more met xs ys zs n r
+  M met xs ys zs n r = Met end taken stays starred advances more met xs ys zs n r
 
-  under_beyond : (n a r : ℕ) → n ≤ a → AllByRecursion (λ c. n < c) (flat_map more (passing goes a r))
+  under_beyond : (n a r : ℕ) → n ≤ a → AllByRecursion (λ c. n < c) (flat_map more (passing advances a r))
   under_beyond n a zero h = tt
   under_beyond n a (suc r) h =
-      let rest : AllByRecursion (λ c. n < c) (flat_map more (filter goes (range_with_len (a + 1) r))) = under_beyond n (a + 1) r (omega arith) in
-      elim (goes a) as (λ v. AllByRecursion (λ c. n < c) (flat_map more (cond v (a ∷ filter goes (range_with_len (a + 1) r)) (filter goes (range_with_len (a + 1) r)))))
-      [ true ↦ all_append (λ c. n < c) (more a) (flat_map more (filter goes (range_with_len (a + 1) r))) (all_beyond n a (more a) h (g.behind a)) rest | false ↦ rest ]
+      let rest : AllByRecursion (λ c. n < c) (flat_map more (filter advances (range_with_len (a + 1) r))) = under_beyond n (a + 1) r (omega arith) in
+      elim (advances a) as (λ v. AllByRecursion (λ c. n < c) (flat_map more (cond v (a ∷ filter advances (range_with_len (a + 1) r)) (filter advances (range_with_len (a + 1) r)))))
+      [ true ↦ all_append (λ c. n < c) (more a) (flat_map more (filter advances (range_with_len (a + 1) r))) (all_beyond n a (more a) h (g.following a)) rest | false ↦ rest ]
 
   -- a node that is in none of the lists
   skip_one : (met xs ys zs : List ℕ) (n r : ℕ) → M met xs ys zs n (suc r) → IsFrom (n + 1) xs → IsFrom (n + 1) ys → IsFrom (n + 1) zs → M met xs ys zs (n + 1) r
   skip_one met xs ys zs n r m hx hy hz =
       let no_x : taken n ≡ false = not_here taken n r xs m.xs_are hx in
       let no_y : stays n ≡ false = not_here stays n r ys m.ys_are hy in
-      let later : IsFrom (n + 1) (zs ++ flat_map more (passing goes n (suc r))) =
-      from_append (n + 1) zs (flat_map more (passing goes n (suc r))) hz (from_all n (flat_map more (passing goes n (suc r))) (under_beyond n n (suc r) (omega arith))) in
-      let no_z : starred n ≡ false = not_here starred n r (zs ++ flat_map more (passing goes n (suc r))) m.zs_are later in
-      let no : goes n ≡ false = g.each n m.place (omega (arith, m.left)) ∙ or_from (taken n || stays n) (starred n) (or_from (taken n) (stays n) no_x no_y) no_z in
+      let later : IsFrom (n + 1) (zs ++ flat_map more (passing advances n (suc r))) =
+      from_append (n + 1) zs (flat_map more (passing advances n (suc r))) hz (from_all n (flat_map more (passing advances n (suc r))) (under_beyond n n (suc r) (omega arith))) in
+      let no_z : starred n ≡ false = not_here starred n r (zs ++ flat_map more (passing advances n (suc r))) m.zs_are later in
+      let no : advances n ≡ false = g.each n m.place (omega (arith, m.left)) ∙ or_from (taken n || stays n) (starred n) (or_from (taken n) (stays n) no_x no_y) no_z in
       record {
         place = omega arith;
         left = omega (arith, m.left);
-        all = ap (λ (l : List ℕ). met ++ l) (sym (passing_not goes n r no)) ∙ m.all;
+        all = ap (λ (l : List ℕ). met ++ l) (sym (passing_not advances n r no)) ∙ m.all;
         xs_are = m.xs_are ∙ passing_not taken n r no_x;
         ys_are = m.ys_are ∙ passing_not stays n r no_y;
-        zs_are = ap (λ (l : List ℕ). zs ++ flat_map more l) (sym (passing_not goes n r no)) ∙ m.zs_are ∙ passing_not starred n r no_z;
+        zs_are = ap (λ (l : List ℕ). zs ++ flat_map more l) (sym (passing_not advances n r no)) ∙ m.zs_are ∙ passing_not starred n r no_z;
       }
 
   -- up to a place that none of the lists has passed
@@ -152,16 +152,16 @@ module _ (end : ℕ) (taken stays starred goes : ℕ → Bool) (more : ℕ → L
       (skip_one met xs ys zs n (d + rest) (subst (λ k. M met xs ys zs n k) left w) (from_below (n + 1) m xs up hx) (from_below (n + 1) m ys up hy) (from_below (n + 1) m zs up hz))
       hx hy hz
 
-  -- a node that stands first in one of them
-  pub meet : (met xs ys zs : List ℕ) (n r : ℕ) → M met xs ys zs n (suc r) → goes n ≡ true → M (met ++ n ∷ []) (past n xs) (past n ys) (past n zs ++ more n) (n + 1) r
+  -- a node that is first in one of them
+  pub meet : (met xs ys zs : List ℕ) (n r : ℕ) → M met xs ys zs n (suc r) → advances n ≡ true → M (met ++ n ∷ []) (past n xs) (past n ys) (past n zs ++ more n) (n + 1) r
   meet met xs ys zs n r m here =
-      let rest : List ℕ = flat_map more (passing goes (n + 1) r) in
-      let split : passing goes n (suc r) ≡ n ∷ passing goes (n + 1) r = passing_here goes n r here in
-      let new_beyond : IsFrom (n + 1) (more n ++ rest) = from_all n (more n ++ rest) (all_append (λ c. n < c) (more n) rest (g.behind n) (under_beyond n (n + 1) r (omega arith))) in
+      let rest : List ℕ = flat_map more (passing advances (n + 1) r) in
+      let split : passing advances n (suc r) ≡ n ∷ passing advances (n + 1) r = passing_here advances n r here in
+      let new_beyond : IsFrom (n + 1) (more n ++ rest) = from_all n (more n ++ rest) (all_append (λ c. n < c) (more n) rest (g.following n) (under_beyond n (n + 1) r (omega arith))) in
       record {
         place = omega arith;
         left = omega (arith, m.left);
-        all = append_assoc met (n ∷ []) (passing goes (n + 1) r) ∙ ap (λ (l : List ℕ). met ++ l) (sym split) ∙ m.all;
+        all = append_assoc met (n ∷ []) (passing advances (n + 1) r) ∙ ap (λ (l : List ℕ). met ++ l) (sym split) ∙ m.all;
         xs_are = passing_past taken n r xs m.xs_are;
         ys_are = passing_past stays n r ys m.ys_are;
         zs_are = append_assoc (past n zs) (more n) rest
@@ -170,12 +170,12 @@ module _ (end : ℕ) (taken stays starred goes : ℕ → Bool) (more : ℕ → L
       }
 
   -- at the end
-  pub met_all : (met xs ys zs : List ℕ) (n : ℕ) → M met xs ys zs n 0 → met ≡ passing goes 0 end
+  pub met_all : (met xs ys zs : List ℕ) (n : ℕ) → M met xs ys zs n 0 → met ≡ passing advances 0 end
   met_all met xs ys zs n m = sym (append-nil met) ∙ m.all
 
-  stands_first : (p : ℕ → Bool) (n r : ℕ) (xs ws : List ℕ) → xs ++ ws ≡ passing p n (suc r) → n < end → first_or end xs ≡ n → p n ≡ true
-  stands_first p n r [] ws e h f = absurd (omega arith)
-  stands_first p n r (x ∷ xs) ws e h f = true_from_ne_false (p n) (λ not.
+  comes_first : (p : ℕ → Bool) (n r : ℕ) (xs ws : List ℕ) → xs ++ ws ≡ passing p n (suc r) → n < end → first_or end xs ≡ n → p n ≡ true
+  comes_first p n r [] ws e h f = absurd (omega arith)
+  comes_first p n r (x ∷ xs) ws e h f = true_from_ne_false (p n) (λ not.
       let later : IsFrom (n + 1) (passing p (n + 1) r) = from_all n (passing p (n + 1) r) (passing_beyond p n (n + 1) r (omega arith)) in
       let wrong : n + 1 ≤ x = subst (IsFrom (n + 1)) (sym (passing_not p n r not) ∙ sym e) later in
       omega arith)
@@ -199,14 +199,14 @@ module _ (end : ℕ) (taken stays starred goes : ℕ → Bool) (more : ℕ → L
     after_y = not_before stays from (end - from) ys [] (append-nil ys ∙ w.ys_are) w.place (omega (arith, w.left))
 
     after_z : from ≤ first_or end zs
-    after_z = not_before starred from (end - from) zs (flat_map more (passing goes from (end - from))) w.zs_are w.place (omega (arith, w.left))
+    after_z = not_before starred from (end - from) zs (flat_map more (passing advances from (end - from))) w.zs_are w.place (omega (arith, w.left))
 
     -- it follows what was met
     pub not_met : from ≤ node
     not_met = omega (arith, after, after_y, after_z)
 
-    come_to : (place rest : ℕ) → from ≤ place → place ≤ node → place + rest ≡ end → M met xs ys zs place rest
-    come_to place rest f h e =
+    arrive_at : (place rest : ℕ) → from ≤ place → place ≤ node → place + rest ≡ end → M met xs ys zs place rest
+    arrive_at place rest f h e =
         let here : place ≡ from + (place - from) = omega arith in
         let left : end - from ≡ (place - from) + rest = omega arith in
         let lx : place ≤ first_or end xs = omega arith in
@@ -218,20 +218,20 @@ module _ (end : ℕ) (taken stays starred goes : ℕ → Bool) (more : ℕ → L
     pub next : node < end → M (met ++ node ∷ []) (past node xs) (past node ys) (past node zs ++ more node) (node + 1) (end - (node + 1))
     next h =
         let rest : ℕ = end - (node + 1) in
-        let m : M met xs ys zs node (suc rest) = come_to node (suc rest) not_met (omega arith) (omega arith) in
+        let m : M met xs ys zs node (suc rest) = arrive_at node (suc rest) not_met (omega arith) (omega arith) in
         let one : (first_or end xs ≡ node) ⊎ ((first_or end ys ≡ node) ⊎ (first_or end zs ≡ node)) = which (first_or end xs) (first_or end ys) (first_or end zs) least in
-        let goes_on : goes node ≡ true = g.each node (omega (arith, not_met, w.place)) h ∙ elim one [
-          | inl e ↦ ap (λ v. (v || stays node) || starred node) (stands_first taken node rest xs [] (append-nil xs ∙ m.xs_are) h e)
-          | inr (inl e) ↦ ap (λ v. (taken node || v) || starred node) (stands_first stays node rest ys [] (append-nil ys ∙ m.ys_are) h e) ∙ ap (λ v. v || starred node) (or_true (taken node))
-          | inr (inr e) ↦ ap (λ v. (taken node || stays node) || v) (stands_first starred node rest zs (flat_map more (passing goes node (suc rest))) m.zs_are h e) ∙ or_true (taken node || stays node)
+        let proceeds : advances node ≡ true = g.each node (omega (arith, not_met, w.place)) h ∙ elim one [
+          | inl e ↦ ap (λ v. (v || stays node) || starred node) (comes_first taken node rest xs [] (append-nil xs ∙ m.xs_are) h e)
+          | inr (inl e) ↦ ap (λ v. (taken node || v) || starred node) (comes_first stays node rest ys [] (append-nil ys ∙ m.ys_are) h e) ∙ ap (λ v. v || starred node) (or_true (taken node))
+          | inr (inr e) ↦ ap (λ v. (taken node || stays node) || v) (comes_first starred node rest zs (flat_map more (passing advances node (suc rest))) m.zs_are h e) ∙ or_true (taken node || stays node)
         ] in
-        meet met xs ys zs node rest m goes_on
+        meet met xs ys zs node rest m proceeds
 
-    -- there is none left
-    pub finish : end ≤ node → met ≡ passing goes 0 end
+    -- nothing is left
+    pub finish : end ≤ node → met ≡ passing advances 0 end
     finish h =
-        met_all met xs ys zs end (come_to end 0 (omega (arith, w.left)) h (omega arith))
+        met_all met xs ys zs end (arrive_at end 0 (omega (arith, w.left)) h (omega arith))
 
   -- what is next is a node
   pub inside : (met xs ys zs : List ℕ) (n r node : ℕ) → M met xs ys (node ∷ zs) n r → node < end
-  inside met xs ys zs n r node w = passing_below starred n r node (zs ++ flat_map more (passing goes n r)) w.zs_are (omega (arith, w.left))
+  inside met xs ys zs n r node w = passing_below starred n r node (zs ++ flat_map more (passing advances n r)) w.zs_are (omega (arith, w.left))

@@ -124,10 +124,10 @@ module _ (nodes : List Node) (s : Shape nodes) where
       let own : Link = record { parent = up nodes c; label = (node_at nodes c).label } in
       let is : get_or (links nodes) (c - 1) start ≡ own = link_at c h k start in
       let within : c - 1 < length (links nodes) = simp (length-map, length-zip, length-drop) (omega (arith, parents_all)) in
-      let behind : (get_or (links nodes) (c - 1) start).parent ≤ c - 1 = rw is (omega (arith, up_before c h k)) in
+      let following : (get_or (links nodes) (c - 1) start).parent ≤ c - 1 = rw is (omega (arith, up_before c h k)) in
       let e : (c - 1) + 1 ≡ c = omega arith in
       ap (λ i. get_or (paths (links nodes)) i []) (sym e)
-      ∙ path_step (links nodes) (c - 1) start within behind
+      ∙ path_step (links nodes) (c - 1) start within following
       ∙ ap (λ (l : Link). get_or (paths (links nodes)) l.parent [] ++ l.label ∷ []) is
 
 pub path_root : (nodes : List Node) → path nodes 0 ≡ []
@@ -143,8 +143,8 @@ module _ (nodes : List Node) (s : Shape nodes) (q : ℕ → List Item) (root : q
   below (suc n) (suc c) h k =
       let w : (p : ℕ) × ((j : ℕ) × IsChild nodes (suc c) p j) = found nodes s (suc c) (omega arith) k in
       let e : up nodes (suc c) ≡ w.0 = up_is nodes s (suc c) w.0 w.1.0 w.1.1 in
-      let behind : up nodes (suc c) < suc c = up_before nodes s (suc c) (omega arith) k in
-      let so_far : path nodes w.0 ≡ q w.0 = below n w.0 (omega (arith, e, behind)) w.1.1.parent in
+      let following : up nodes (suc c) < suc c = up_before nodes s (suc c) (omega arith) k in
+      let so_far : path nodes w.0 ≡ q w.0 = below n w.0 (omega (arith, e, following)) w.1.1.parent in
       path_on nodes s (suc c) (omega arith) k
       ∙ ap (λ i. path nodes i ++ (node_at nodes (suc c)).label ∷ []) e
       ∙ ap (λ (p : List Item). p ++ (node_at nodes (suc c)).label ∷ []) so_far

@@ -14,8 +14,8 @@ use Rattle.text_core.specs.Items.{takes}
 use Rattle.text_core.specs.Fits.{fits}
 use Rattle.trie_nodes.proofs.Snoc.{not_whole, fits_start_single, fits_start_many}
 use Rattle.trie_nodes.specs.declared.node.Node.{Node}
-use Rattle.trie_nodes.specs.Paths.{goes_on}
-use Rattle.trie_nodes.specs.Tree.{Shape, nowhere, node_at, children, numbers, path, is_active, active_after, is_star, stars, takers}
+use Rattle.trie_nodes.specs.Tree.{Shape, nowhere, node_at, children, numbers, path, is_active, active_after, is_star}
+use Rattle.trie_nodes.specs.Steps.{proceeds, stars, takers}
 use Rattle.trie_nodes.proofs.Growing.{fits_next}
 use Rattle.trie_nodes.proofs.Pieces.{filter_range_same, filter_gated, filter_pieces, filter_twice, range-append}
 use Rattle.trie_nodes.proofs.Merging.{Going, Met, passing, passing_beyond, not_met, next, finish, inside, past_here}
@@ -35,7 +35,7 @@ single false t o n = elim o as (λ w. false ≡ (false || (w && false)) || (n &&
   none true = refl
   none false = refl
 
-go_cases : (x : Item) (p n o : Bool) (b : ℕ) → goes_on x p n o b ≡ ((p && takes x b) || (o && is_star x)) || (n && is_star x)
+go_cases : (x : Item) (p n o : Bool) (b : ℕ) → proceeds x p n o b ≡ ((p && takes x b) || (o && is_star x)) || (n && is_star x)
 go_cases Many true n true b = elim n as (λ v. v || true ≡ true || (v && true)) [ true ↦ refl | false ↦ refl ]
 go_cases Many true n false b = elim n as (λ v. v || false ≡ (false || false) || (v && true)) [ true ↦ refl | false ↦ refl ]
 go_cases Many false true true b = refl
@@ -66,11 +66,11 @@ module _ (nodes : List Node) (m : List ℕ) (i : ℕ) where
   more p = stars nodes (children nodes p)
 
 -- the number after the last node that was met; at the start that after the root
-abbrev pub behind_last : List ℕ → ℕ
-behind_last met = get_or met (length met - 1) 0 + 1
+abbrev pub after_last : List ℕ → ℕ
+after_last met = get_or met (length met - 1) 0 + 1
 
-pub behind_pushed : (met met2 : List ℕ) (node : ℕ) → met2 ≡ met ++ node ∷ [] → behind_last met2 ≡ node + 1
-behind_pushed met met2 node e =
+pub after_pushed : (met met2 : List ℕ) (node : ℕ) → met2 ≡ met ++ node ∷ [] → after_last met2 ≡ node + 1
+after_pushed met met2 node e =
     let len : length met2 ≡ length met + 1 = ap length e ∙ length-append met (node ∷ []) in
     let last : length met2 - 1 ≡ length met = omega arith in
     ap (λ k. get_or met2 k 0 + 1) last ∙ ap (λ (l : List ℕ). get_or l (length met) 0 + 1) e ∙ ap (λ k. k + 1) (get_or-append_seam met node [] 0)
@@ -124,8 +124,8 @@ module _ (nodes : List Node) (s : Shape nodes) where
       filter_pieces (children nodes) a (λ c. a (up nodes c) && r c) r (gated a r) (numbers nodes)
       ∙ ap (filter (λ c. a (up nodes c) && r c)) all_children
 
-  behind : (m : List ℕ) (i p : ℕ) → AllByRecursion (λ c. p < c) (more nodes m i p)
-  behind m i p = elim (leb_tells (length nodes) p) [
+  following : (m : List ℕ) (i p : ℕ) → AllByRecursion (λ c. p < c) (more nodes m i p)
+  following m i p = elim (leb_tells (length nodes) p) [
     | inl t ↦ let e : children nodes p ≡ [] = no_children p t.1 in subst (λ (l : List ℕ). AllByRecursion (λ c. p < c) (stars nodes l)) (sym e) tt
     | inr t ↦ passing_beyond (λ c. is_star (node_at nodes c).label) p (node_at nodes p).first (node_at nodes p).count (s.later p t.1)
   ]
@@ -147,14 +147,14 @@ module _ (nodes : List Node) (s : Shape nodes) where
         ap (λ (q : List Item). fits q (take (i + 1) m)) own
         ∙ ap (fits (p ++ x ∷ [])) text_more
         ∙ fits_next p x t b
-        ∙ ap (λ (u : List ℕ). goes_on x (fits p t) (fits p u) (fits (p ++ x ∷ []) t) b) (sym text_more)
-        ∙ ap (λ (q : List Item). goes_on x (fits p t) (fits p (take (i + 1) m)) (fits q t) b) (sym own)
+        ∙ ap (λ (u : List ℕ). proceeds x (fits p t) (fits p u) (fits (p ++ x ∷ []) t) b) (sym text_more)
+        ∙ ap (λ (q : List Item). proceeds x (fits p t) (fits p (take (i + 1) m)) (fits q t) b) (sym own)
         ∙ go_cases x (fits p t) (fits p (take (i + 1) m)) (is_active nodes t c) b
 
-    pub goes : Going (length nodes) (taking nodes m i) (staying nodes m i) (starring nodes m i) (going nodes m i) (more nodes m i)
-    goes = record {
+    pub advances : Going (length nodes) (taking nodes m i) (staying nodes m i) (starring nodes m i) (going nodes m i) (more nodes m i)
+    advances = record {
       each = each;
-      behind = behind m i;
+      following = following m i;
     }
 
     taken_is : flat_map (λ p. takers nodes (byte nodes m i) (children nodes p)) (active_after nodes (take i m)) ≡ passing (taking nodes m i) 1 (length nodes - 1)
@@ -196,7 +196,7 @@ module _ (nodes : List Node) (s : Shape nodes) (m : List ℕ) (i : ℕ) (within 
   module _ (met xs ys zs : List ℕ) (from node : ℕ) (w : Walked nodes m i met xs ys zs from)
       (least : node ≡ min (first_or (length nodes) xs) (min (first_or (length nodes) ys) (first_or (length nodes) zs))) where
     g : Going (length nodes) (taking nodes m i) (staying nodes m i) (starring nodes m i) (going nodes m i) (more nodes m i)
-    g = goes nodes s m i within
+    g = advances nodes s m i within
 
     pub nearer : node < length nodes → length nodes - (node + 1) < length nodes - from
     nearer h = omega (arith, not_met (length nodes) (taking nodes m i) (staying nodes m i) (starring nodes m i) (going nodes m i) (more nodes m i) g met xs ys zs from node w least)
@@ -238,10 +238,10 @@ first_cases p One = fits_start_single p One tt ∙ elim (fits p []) as (λ v. fa
 first_cases p (Among set) = fits_start_single p (Among set) tt ∙ elim (fits p []) as (λ v. false ≡ (v && false)) [ true ↦ refl | false ↦ refl ]
 
 module _ (nodes : List Node) (s : Shape nodes) where
-  first_goes : Going (length nodes) none none (starring_first nodes) (is_active nodes []) (stars_under nodes)
-  first_goes = record {
+  first_advances : Going (length nodes) none none (starring_first nodes) (is_active nodes []) (stars_under nodes)
+  first_advances = record {
     each = λ c h k. ap (λ (q : List Item). fits q []) (path_on nodes s c h k) ∙ first_cases (path nodes (up nodes c)) (node_at nodes c).label;
-    behind = behind nodes s [] 0;
+    following = following nodes s [] 0;
   }
 
   nothing : (a r : ℕ) → [] ≡ passing none a r
@@ -282,7 +282,7 @@ module _ (nodes : List Node) (s : Shape nodes) where
 
     pub is_node : get_or list at 0 < length nodes
     unfolding node
-    is_node = inside (length nodes) none none (starring_first nodes) (is_active nodes []) (stars_under nodes) first_goes (take at list) [] [] (drop (at + 1) list) from (length nodes - from) node here
+    is_node = inside (length nodes) none none (starring_first nodes) (is_active nodes []) (stars_under nodes) first_advances (take at list) [] [] (drop (at + 1) list) from (length nodes - from) node here
 
     least : node ≡ min (length nodes) (min (length nodes) node)
     unfolding node
@@ -290,17 +290,17 @@ module _ (nodes : List Node) (s : Shape nodes) where
 
     pub first_nearer : from ≤ get_or list at 0
     unfolding node
-    first_nearer = not_met (length nodes) none none (starring_first nodes) (is_active nodes []) (stars_under nodes) first_goes (take at list) [] [] (node ∷ drop (at + 1) list) from node here least
+    first_nearer = not_met (length nodes) none none (starring_first nodes) (is_active nodes []) (stars_under nodes) first_advances (take at list) [] [] (node ∷ drop (at + 1) list) from node here least
 
     pub start_on : (list2 : List ℕ) → list2 ≡ list ++ stars_under nodes (get_or list at 0) → Started nodes (take (at + 1) list2) (drop (at + 1) list2) (get_or list at 0 + 1)
     unfolding node
     start_on list2 e =
         let extra : List ℕ = stars_under nodes node in
         let inside_list : at + 1 ≤ length list = omega arith in
-        let front : take (at + 1) list2 ≡ take at list ++ node ∷ [] = ap (take (at + 1)) e ∙ take-append-le (at + 1) list extra inside_list ∙ take_more list at 0 within in
+        let prefix : take (at + 1) list2 ≡ take at list ++ node ∷ [] = ap (take (at + 1)) e ∙ take-append-le (at + 1) list extra inside_list ∙ take_more list at 0 within in
         let back : drop (at + 1) list2 ≡ past node (node ∷ drop (at + 1) list) ++ extra =
         ap (drop (at + 1)) e ∙ drop-append-le (at + 1) list extra inside_list ∙ ap (λ (l : List ℕ). l ++ extra) (sym (past_here node (drop (at + 1) list))) in
-        rw (front, back) (next (length nodes) none none (starring_first nodes) (is_active nodes []) (stars_under nodes) first_goes (take at list) [] [] (node ∷ drop (at + 1) list) from node here least is_node)
+        rw (prefix, back) (next (length nodes) none none (starring_first nodes) (is_active nodes []) (stars_under nodes) first_advances (take at list) [] [] (node ∷ drop (at + 1) list) from node here least is_node)
 
   pub all_started : (list : List ℕ) (at from : ℕ) → Started nodes (take at list) (drop at list) from → length list ≤ at → list ≡ active_after nodes []
   all_started list at from w h =
@@ -309,7 +309,7 @@ module _ (nodes : List Node) (s : Shape nodes) where
       let w2 : Started nodes list [] from = subst (λ (l : List ℕ). Started nodes list l from) over (subst (λ (l : List ℕ). Started nodes l (drop at list) from) whole w) in
       let n : ℕ = length nodes in
       let least : n ≡ min n (min n n) = omega arith in
-      finish n none none (starring_first nodes) (is_active nodes []) (stars_under nodes) first_goes list [] [] [] from n w2 least (omega arith)
+      finish n none none (starring_first nodes) (is_active nodes []) (stars_under nodes) first_advances list [] [] [] from n w2 least (omega arith)
 
 -- at most all nodes are active
 pub at_most_all : (nodes : List Node) (t : List ℕ) → length (active_after nodes t) ≤ length nodes

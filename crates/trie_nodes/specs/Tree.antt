@@ -3,7 +3,6 @@ use Rattle.std.specs.Prelude.{ℕ, ◌+◌, ◌<◌, ◌≡◌, Bool, true, fals
 use Rattle.std.specs.List.{range_with_len}
 use Rattle.text_core.specs.declared.item.Item.{Item}
 use Rattle.text_core.specs.declared.item.Item.TheVariants.{Byte, One, Many}
-use Rattle.text_core.specs.Items.{takes}
 use Rattle.text_core.specs.Fits.{fits}
 use Rattle.trie_nodes.specs.declared.node.Node.{Node}
 use Rattle.trie_nodes.specs.Paths.{Link, paths}
@@ -67,10 +66,3 @@ pub record Shape (nodes : List Node) : Type 0 where
 abbrev pub is_star : Item → Bool
 is_star Many = true
 is_star x = false
-
--- serves inner proofs only: the stars among some nodes, and those that take a byte
-abbrev pub stars : List Node → List ℕ → List ℕ
-stars nodes is = filter (λ i. is_star (node_at nodes i).label) is
-
-abbrev pub takers : List Node → ℕ → List ℕ → List ℕ
-takers nodes b is = filter (λ i. takes (node_at nodes i).label b) is

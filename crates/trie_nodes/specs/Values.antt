@@ -1,5 +1,5 @@
 -- What the nodes of a database hold for the devices that reach them.
-use Rattle.std.specs.Prelude.{ℕ, ◌+◌, ◌≤◌, ◌<◌, List, [], length, map, flat_map, slice_index_or}
+use Rattle.std.specs.Prelude.{ℕ, List, [], map, flat_map, slice_index_or}
 use Rattle.std.specs.List.{range_with_len}
 use Rattle.text_core.specs.declared.item.Item.{Item}
 use Rattle.hwdb_lookup.specs.declared.entry.Entry.{Entry}
@@ -25,10 +25,6 @@ value_at values j = slice_index_or values j no_value
 -- a node's values
 abbrev pub values_of : List Node → List Value → ℕ → List Value
 values_of nodes values i = map (value_at values) (range_with_len (node_at nodes i).first_value (node_at nodes i).values)
-
--- the values of each node are among all n
-abbrev pub ValuesWithin : List Node → ℕ → Type 0
-ValuesWithin nodes n = (i : ℕ) → i < length nodes → (node_at nodes i).first_value + (node_at nodes i).values ≤ n
 
 -- a value as an entry of a pattern
 abbrev pub entry : List Item → Value → Entry

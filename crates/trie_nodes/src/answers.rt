@@ -1,6 +1,6 @@
 //! What the nodes of a database answer for a modalias: only the active nodes are looked at.
 ghost use Rattle.std.specs.Prelude.{◌≡◌, ◌<◌, [], ◌++◌, IfOk, OnOk, flat_map, fold, length, map};
-ghost use Rattle.hwdb_lookup.specs.Found.{all_seen};
+ghost use Rattle.hwdb_lookup.specs.Found.{found_entries};
 ghost use Rattle.hwdb_lookup.specs.Query.{put, query, shown, shown_origin, sourced};
 ghost use Rattle.trie_nodes.specs.Tree.{active_after};
 ghost use Rattle.trie_nodes.specs.Values.{bare, listed, values_of};
@@ -17,7 +17,7 @@ fn push_values<'a, D: Database>(
     i: u32,
 ) -> Result<(), AllocError>
     requires { i < length (D.nodes database.now) }
-    ensures { OnOk result (all_seen found.new.items ≡ all_seen found.old.items ++ map bare (values_of (D.nodes database.now) (D.values database.now) i)) }
+    ensures { OnOk result (found_entries found.new.items ≡ found_entries found.old.items ++ map bare (values_of (D.nodes database.now) (D.values database.now) i)) }
 {
     let numbers = database.values_of(i);
     for j in numbers.start..numbers.end {
@@ -32,7 +32,7 @@ fn winners<'a, D: Database>(
     database: &'a D,
     modalias: &[u8],
 ) -> Result<Vec<Found<'a>>, AllocError>
-    ensures { IfOk result (λ won. all_seen won.items ≡ fold put [] (map bare (flat_map (values_of (D.nodes database.now) (D.values database.now)) (active_after (D.nodes database.now) modalias.now)))) }
+    ensures { IfOk result (λ won. found_entries won.items ≡ fold put [] (map bare (flat_map (values_of (D.nodes database.now) (D.values database.now)) (active_after (D.nodes database.now) modalias.now)))) }
 {
     let (active, _) = visits(alloc, database, modalias)?;
     let mut found = Vec::new(alloc);

@@ -1,6 +1,6 @@
 //! Nodes by number, however they are held.
 ghost use Rattle.std.specs.Prelude.{◌≡◌, ◌+◌, ◌<◌, ◌≤◌, List, length};
-ghost use Rattle.hwdb_lookup.specs.Found.{seen};
+ghost use Rattle.hwdb_lookup.specs.Found.{found_entry};
 ghost use Rattle.trie_nodes.specs.Tree.{Shape, is_star, node_at};
 ghost use Rattle.trie_nodes.specs.Values.{Value, bare, value_at};
 ghost use Rattle.trie_nodes.specs.declared.node.Node.{Node};
@@ -58,5 +58,5 @@ pub trait Database: Nodes {
     /// A value.
     fn value(&self, j: u32) -> Found<'_>
         requires { j < length (values self.now) }
-        ensures { seen result ≡ bare (value_at (values self.now) j) };
+        ensures { found_entry result ≡ bare (value_at (values self.now) j) };
 }

@@ -1,11 +1,17 @@
 //! A walk along a tree, in time that grows with the active nodes and their children.
 //!
-//! After each byte the nodes whose path fits what was read are the children of the earlier ones that take the byte,
-//! the stars among the earlier ones, and the stars below these. All three come in rising order, so one merge gives
-//! the active nodes in theirs. The lists are reused from step to step, so that a walk takes memory only while they
-//! grow.
+//! A node's path is the list of labels from the root, and a node is *active* after a text if its path, as a pattern,
+//! fits the text. So the active nodes are a filter over all nodes, which knows of no walk. With one byte more, the
+//! active nodes are the children of the former ones that take the byte, the stars that were active, and the stars below
+//! nodes that are active now. Nodes are numbered level by level, so each of the three is a rising list, and one merge
+//! meets every active node once and in order. The lists are reused from step to step, so a walk takes memory only while
+//! they grow.
+//!
+//! Building a tree is the same idea turned round: entries are sorted by pattern, a node is a range of them, and each
+//! range is cut into its children level by level.
 ghost use Rattle.std.specs.Prelude.{◌≡◌, ◌+◌, ◌*◌, ◌<◌, ◌≤◌, [], ◌++◌, IfOk, OnOk, length, min, take, drop, All, flat_map, slice_index};
-ghost use Rattle.trie_nodes.specs.Tree.{Shape, active_after, children, stars, takers, count};
+ghost use Rattle.trie_nodes.specs.Tree.{Shape, active_after, children, count};
+ghost use Rattle.trie_nodes.specs.Steps.{stars, takers};
 ghost use Rattle.trie_nodes.specs.Merge.{first_or, past};
 
 use crate::tree::Nodes;

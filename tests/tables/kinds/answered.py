@@ -11,13 +11,13 @@ def escaped(text):
 
 
 def place(line):
-    """Where a line of an answer stands: by its first word, lines of `env` by their name besides."""
+    """Where a line of an answer belongs: by its first word, and lines of `env` also by their names."""
     first = ORDER.index(line.split(b" ")[0].decode())
     return (first, line.split(b"=")[0] if line.startswith(b"env ") else b"")
 
 
 def answer(path, lines):
-    """An answer to the action `add` at a path, with these lines besides its own."""
+    """An answer to the action `add` at a path, with these lines in addition to its own."""
     shown = escaped(path)
     own = [b"event add " + shown, b"env ACTION=add", b"env DEVPATH=" + shown]
     return b"\n".join(sorted(own + [as_bytes(line) for line in lines], key=place)) + b"\n\n"
@@ -29,8 +29,8 @@ def block(path, *lines):
 
 
 def answered(name, rules, *asked, path="/d", messages=b""):
-    """A run over a file `r.rules` of these lines. Each thing asked is a pair: the lines of a block behind its path, and the
-    lines that its answer has besides the event, ACTION and DEVPATH."""
+    """A run over a file `r.rules` of these lines. Each thing asked is a pair: the lines of a block after its path, and the lines
+    that its answer has in addition to the event, ACTION and DEVPATH."""
     return Row(
         name,
         "events -r none r.rules",

@@ -1,6 +1,7 @@
 """The blocks of the cases of builtins. The devices are made up; their chains and attributes are as a kernel 6 has them.
 
-`K: PATH=VALUE` tells of a file of /sys by its path, where a link leads, or that a folder is there: docs/udev/BUILTINS.md.
+`K: PATH=VALUE` gives a file of /sys by its path, the place where a link leads, or says that a folder exists:
+docs/udev/BUILTINS.md.
 """
 
 ROOT = '/devices/pci0000:00'
@@ -16,7 +17,7 @@ def device(path, subsystem, *lines):
 
 
 def outside(path, subsystem, **attributes):
-    """the lines of a device outside of the chain"""
+    """the lines of a device outside the chain"""
     return ''.join(f'K: {path}/{name}={value}\n' for name, value in ({'subsystem': subsystem} | attributes).items())
 
 
@@ -26,7 +27,7 @@ def event(*devices):
 
 
 def descriptors(*triples, begin='12010003000000098107830600010102030109021f0001010080fa'):
-    """descriptors of a device with one configuration: its interfaces, each with one endpoint behind it"""
+    """descriptors of a device with one configuration: its interfaces, each followed by one endpoint"""
     faces = ''.join(f'0904{number:02x}0001{triple}00' + '0705810200020000'[:14] for number, triple in enumerate(triples))
     return f'K: {PORT}/descriptors={begin}{faces}'
 
@@ -36,7 +37,7 @@ ABOVE_USB = device(CONTROLLER, 'pci', 'V: xhci_hcd', 'A: class=0x0c0330') + DOMA
 
 
 def hub(*lines):
-    """a root hub and what is above it; lines given take the place of its own"""
+    """a root hub and what is above it; given lines replace its own"""
     own = lines or ('A: bDeviceProtocol=01', 'A: speed=480')
     return device(HUB, 'usb', 'V: usb', 'A: idVendor=1d6b', 'A: idProduct=0002', *own, 'E: DEVTYPE=usb_device') + ABOVE_USB
 
@@ -45,7 +46,7 @@ STICK_TEXTS = ('A: manufacturer=SanDisk', 'A: product=Ultra Fit', 'A: serial=4C5
 
 
 def stick(*lines, descriptor=None):
-    """a USB device in a port; lines given take the place of its texts"""
+    """a USB device in a port; given lines replace its texts"""
     return device(PORT, 'usb', 'V: usb', 'A: idVendor=0781', 'A: idProduct=5583', 'A: bcdDevice=0100', *(lines or STICK_TEXTS),
                   'E: DEVTYPE=usb_device', descriptor or descriptors('080650'))
 
@@ -92,7 +93,7 @@ NVME_DISK = event(
 
 
 def capabilities(*, ev='0', key='0', rel='0', abs_='0', props='0', bus='0003'):
-    """what an input device tells of itself"""
+    """what an input device reports about itself"""
     return (f'A: capabilities/ev={ev}', f'A: capabilities/key={key}', f'A: capabilities/rel={rel}', f'A: capabilities/abs={abs_}',
             f'A: properties={props}', f'A: id/bustype={bus}')
 
@@ -136,7 +137,7 @@ ETHERNET = {'iflink': '2', 'type': '1', 'addr_assign_type': '0', 'address': '54:
 
 
 def interface(above, *lines, name='eth0', **attributes):
-    """an interface below a device; an attribute given as None is not there"""
+    """an interface below a device; an attribute given as None does not exist"""
     given = ETHERNET | attributes
     return device(f'{above}/net/{name}', 'net', *[f'A: {key}={value}' for key, value in given.items() if value is not None], *lines, 'E: IFINDEX=2', 'E: INTERFACE=eth0')
 

@@ -1,4 +1,4 @@
-"""Indexes made number by number, as docs/format.md tells the format; nothing here asks the program."""
+"""Indexes made number by number, as docs/format.md describes the format; nothing here asks the program."""
 import struct
 
 # What leads to a node.
@@ -34,7 +34,7 @@ def numbers(*values):
 
 
 def node(kind, byte=0, number=0, children=0, values=0):
-    """What a node says of itself: its label, how many children and how many values it has."""
+    """What a node says about itself: its label, and how many children and how many values it has."""
     return kind, ord(byte) if byte else 0, number, children, values
 
 
@@ -58,5 +58,5 @@ def index(version, nodes, values, text, sets=()):
 
 
 def with_bytes(whole, at, there):
-    """An index in which other bytes stand at a place."""
+    """An index with other bytes at a place."""
     return whole[:at] + there + whole[at + len(there):]

@@ -1,8 +1,8 @@
-"""Files whose faulty places are marked by hand, and what each format says of them.
+"""Files whose faulty places are marked by hand, and what each format says about them.
 
-A mark is `<CODES|PLACE>`: the place stands in the file, and the codes are of the messages about it. Where the word of a
-message is another text than the place, it stands between: `<V6=a$nope|$nope>`. Nothing here asks the program: columns
-are counted in what is left where the marks are taken out, and the formats are written anew from docs/behaviour.md.
+A mark is `<CODES|PLACE>`: the place is part of the file, and the codes are those of the messages about it. If the word of a
+message is not the text of the place, it is added: `<V6=a$nope|$nope>`. Nothing here asks the program: columns are counted in
+the text without the marks, and the formats are written anew from docs/behaviour.md.
 """
 import json
 import re
@@ -14,7 +14,7 @@ from tables.kinds.row import Read, Row, as_bytes
 
 DOCS = Path(__file__).resolve().parents[3] / "docs"
 
-# What each code says, by the tables of the reference.
+# What each code says, from the tables of the reference.
 TEXTS = {
     "V1": "bad syntax",
     "V2": "unknown key",
@@ -71,7 +71,7 @@ TEXTS = {
     "I2": "unknown code",
 }
 MARK = re.compile(rb"<([VSHIW]\d+(?: [VSHIW]\d+)*)(?:=([^|<>]*))?\|([^<>]*)>")
-# Lints of one rule stand by their codes, but for these, which come last.
+# Lints of one rule are ordered by their codes, except for these, which come last.
 LAST_LINTS = [6, 7, 13]
 FORMATS = ["plain", "gcc", "github", "gitlab", "json", "human"]
 
@@ -81,7 +81,7 @@ WORD = 32
 
 @dataclass
 class Found:
-    """A message with its place: the line that it tells, and the physical line with the columns of the place in it."""
+    """A message with its place: the line that it reports, and the physical line with the columns of the place in it."""
 
     code: str
     begins: int
@@ -101,8 +101,8 @@ class Found:
 
     @property
     def turn(self):
-        """Where it stands among the messages of its file: of one rule V by number and place, S by place and number, S4
-        last, then W by number and place, but for the last of them."""
+        """Where it comes among the messages of its file: of one rule V by number and place, S by place and number, S4 last,
+        then W by number and place, except for the last of them."""
         number, place = int(self.code[1:]), (self.line, self.column)
         if self.code[0] == "W":
             return (self.begins, 3, number in LAST_LINTS, number, place)
@@ -137,21 +137,21 @@ def read_marks(lines, rules=True):
         comment = line.lstrip(b" \t").startswith(b"#")
         begins = begins if open_line else number
         for codes, word, column, end in places:
-            tells = number if comment or not rules else begins
-            found += [Found(code, tells, number, column, end, word, line) for code in codes]
+            reports = number if comment or not rules else begins
+            found += [Found(code, reports, number, column, end, word, line) for code in codes]
         open_line = rules and (open_line if comment else line.endswith(b"\\"))
     return text, sorted(found, key=lambda it: it.turn)
 
 
 @cache
 def sentence(code):
-    """The first sentence of the section of docs/messages.md on a code, without the marks of code."""
+    """The first sentence of the section of docs/messages.md about a code, without the backquotes."""
     section = re.search(rf"^### {code} .*\n\n([^#]*)", (DOCS / "messages.md").read_text(), re.M)[1]
     return re.match(r"(.*?[.?])(?:\s|$)", section.split("\n\n")[0], re.S)[1].replace("\n", " ").replace("`", "").encode()
 
 
 def with_word(found, word):
-    """What a message says: its text, and the word where there is one."""
+    """What a message says: its text, and the word if there is one."""
     return found.text + (b": " + word if word else b"")
 
 
@@ -165,7 +165,7 @@ def gcc(found, name, path):
 
 
 def percent(text, signs):
-    """A text in which these signs are written as GitHub reads them, and all else stands as it is."""
+    """A text in which these signs are written as GitHub reads them, and everything else is unchanged."""
     return b"".join(b"%%%02X" % byte if byte in signs else bytes([byte]) for byte in text)
 
 
@@ -189,7 +189,7 @@ def json_line(found, name, path):
 
 
 def columns(text):
-    """How many columns bytes take: one a byte, but for those that go on a character of UTF-8."""
+    """How many columns bytes take: one for each, except for those that continue a character of UTF-8."""
     return sum(not 0x80 <= byte < 0xC0 for byte in text)
 
 
@@ -203,7 +203,7 @@ def human(found, name, path):
 
 
 def gitlab_report(text):
-    """What GitLab reads of a report: of each message its path, its line, its severity, its code and its description."""
+    """What GitLab reads of a report: for each message its path, its line, its severity, its code and its description."""
     report = json.loads(text.decode("utf-8"))
     prints = [it["fingerprint"] for it in report]
     if not all(isinstance(mark, str) and mark for mark in prints) or len(set(prints)) < len(prints):
@@ -223,7 +223,7 @@ LINES = {"plain": plain, "gcc": gcc, "github": github, "json": json_line, "human
 
 
 def messages(form, files):
-    """All that a format says of messages: `files` are name, path and messages of each file."""
+    """Everything that a format says about messages: `files` are name, path and messages of each file."""
     every = [(it, as_bytes(name), as_bytes(path)) for name, path, found in files for it in found]
     if form == "gitlab":
         return Read(gitlab_report, [gitlab(*it) for it in every])
@@ -237,7 +237,7 @@ def summary(files):
 
 
 def in_formats(name, *lines, file=b"r.rules", formats=FORMATS, words=(), beside=None):
-    """A run of `verify` over a file of these marked lines for each format, with these words, beside other files."""
+    """A run of `verify` over a file of these marked lines for each format, with these words, and with other files in the folder."""
     text, found = read_marks(lines)
     file = as_bytes(file)
     files = [(file, file, found)]

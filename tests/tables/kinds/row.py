@@ -1,15 +1,15 @@
-"""What a row of a table is: one run of the program, and all that it has to write."""
+"""What a row of a table is: one run of the program, and everything that it has to write."""
 from dataclasses import dataclass, field
 from typing import Any, Callable
 
 
 class Begins(bytes):
-    """The text that an output begins with, where the rest belongs to a library, as clap's usage does."""
+    """The text that an output begins with, if the rest belongs to a library, as clap's usage does."""
 
 
 @dataclass
 class Read:
-    """What a reader makes of an output, where a format leaves its bytes open."""
+    """What a reader makes of an output, if a format leaves its bytes open."""
 
     reader: Callable[[bytes], Any]
     wanted: Any
@@ -48,7 +48,7 @@ class Row:
     output: bytes | str | Read = b""
     messages: bytes | str | Read = b""
     status: int = 0
-    # whether a user is asked for whom permissions count: root is not
+    # whether it is run by a user for whom permissions count: root is not one
     plain: bool = False
 
 

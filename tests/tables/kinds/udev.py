@@ -1,9 +1,9 @@
-"""Rows of `verify --udev` over one rules file: cases of which udevadm 257 was asked.
+"""Rows of `verify --udev` over one rules file: cases about which udevadm 257 was asked.
 
 A case has a name, the file, the verdict of `udevadm verify`, the line and the class of each of its messages in its order
-(e error, w warning, n notice; `filee` is about the file), and the codes that devdry tells, as LINE:CODE, each of a line
-once. The verdicts and classes are udevadm's own words, of systemd 257.13 in Debian trixie; bench/udev_cases.py asks for
-them again. The users and groups of that machine were root, daemon and disk.
+(e error, w warning, n notice; `filee` is about the file), and the codes that devdry reports, as LINE:CODE, each once for a
+line. The verdicts and classes are those of udevadm of systemd 257.13 in Debian trixie; bench/udev_verify.py asks for them
+again. The users and groups of that machine were root, daemon and disk.
 """
 import re
 
@@ -12,10 +12,10 @@ from tables.kinds.row import Read, Row
 MESSAGE = re.compile(rb"r\.rules:(\d+): ([A-Z]+\d+) ")
 
 
-def codes_in(told):
-    """The codes of messages, each of a line once, in the order of lines and codes."""
-    found = {(int(line), code.decode()) for line, code in MESSAGE.findall(told)}
-    if len(MESSAGE.findall(told)) != len(told.splitlines()):
+def codes_in(reported):
+    """The codes of messages, each once for a line, in the order of lines and codes."""
+    found = {(int(line), code.decode()) for line, code in MESSAGE.findall(reported)}
+    if len(MESSAGE.findall(reported)) != len(reported.splitlines()):
         raise ValueError("a line is no message")
     return sorted(found)
 
@@ -27,7 +27,7 @@ def wanted_codes(codes):
 
 
 def as_udev(cases, options=(), files=None):
-    """A run over the file of each case, with these options and beside these files."""
+    """A run over the file of each case, with these options and with these files beside it."""
     rows = []
     for name, text, verdict, _, codes in cases:
         good = verdict == "good"

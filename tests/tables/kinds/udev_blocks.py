@@ -1,6 +1,6 @@
-"""The devices and the database of the rows of `events --udev`, and how an answer is written down in short.
+"""The devices and the database of the rows of `events --udev`, and how an answer is abbreviated.
 
-Bytes that are no UTF-8 stand as Python's surrogate escapes (`os.fsencode`).
+Bytes that are not UTF-8 are Python's surrogate escapes (`os.fsencode`).
 """
 import os
 
@@ -23,6 +23,9 @@ P: /devices/pci0
 U: pci
 A: vendor=0x8086
 '''
+
+# The same below a device with attributes in folders.
+FOLDERS = DISK.replace('A: serial=7\n', 'A: serial=7\nA: q/a/x=1\nA: r/a/b/y=2\n')
 
 # A partition of a disk whose node has another name than the kernel's.
 PART = '''C: add
@@ -80,7 +83,7 @@ P: /devices/pci0
 U: pci
 '''
 
-# A device of the subsystem net that is no interface.
+# A device of the subsystem net that is not an interface.
 PHY = '''C: add
 P: /devices/pci0/net/phy0
 U: net
@@ -168,19 +171,19 @@ def printing(*lines):
 
 
 def plugged(*lines, kind='usb_device'):
-    """A device of USB with these lines, in the socket of a hub with a modalias."""
-    told = [f'E: DEVTYPE={kind}'] * (kind is not None) + list(lines)
-    return ('C: add\nP: /devices/pci0/usb1/1-1\nU: usb\n' + ''.join(line + '\n' for line in told) +
+    """A USB device with these lines, in the socket of a hub with a modalias."""
+    reported = [f'E: DEVTYPE={kind}'] * (kind is not None) + list(lines)
+    return ('C: add\nP: /devices/pci0/usb1/1-1\nU: usb\n' + ''.join(line + '\n' for line in reported) +
             'P: /devices/pci0/usb1\nU: usb\nE: DEVTYPE=usb_device\nE: MODALIAS=hub:v9\nP: /devices/pci0\nU: pci\n')
 
 
 def removed(block):
-    """The block of a device that goes."""
+    """The block of a device that is removed."""
     return block.replace('C: add', 'C: remove', 1)
 
 
 def begun(block):
-    """The lines that an answer has of the block alone: the event's, and its properties."""
+    """The lines of an answer that come from the block alone: the event's, and its properties."""
     properties, device = {}, 0
     for line in filter(None, block.split('\n')):
         letter, text = line[0], line[3:]
@@ -202,7 +205,7 @@ def begun(block):
 
 
 def answer_lines(block, lines):
-    """The lines of an answer: what the block alone tells, with these in place of those of the same property."""
+    """The lines of an answer: those that come from the block alone, with these in place of those of the same property."""
     again = {line.split('=')[0] for line in lines if line.startswith('env ')}
-    told = [line for line in begun(block) if line.split('=')[0] not in again] + lines
-    return sorted((escaped(os.fsencode(line)) for line in told), key=place)
+    reported = [line for line in begun(block) if line.split('=')[0] not in again] + lines
+    return sorted((escaped(os.fsencode(line)) for line in reported), key=place)

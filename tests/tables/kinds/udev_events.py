@@ -1,8 +1,9 @@
-"""Rows of `events --udev` over one rules file and one block: cases of which udevadm 257 was asked.
+"""Rows of `events --udev` over one rules file and one block: cases about which udevadm 257 was asked.
 
-A case has a name; the rules; the block; the lines that its answer has besides those of the block alone, unescaped; and the codes of the
-messages about the rules, as LINE:CODE, where there are any. The lines but the notes are what `udevadm test` of systemd
-257.13 in Debian trixie told; bench/udev_events.py asks for them again. All cases have one database.
+A case has a name; the rules; the block; the lines that its answer has in addition to those of the block alone, unescaped; and
+the codes of the messages about the rules, as LINE:CODE, if there are any. The lines other than the notes are what
+`udevadm test` of systemd 257.13 in Debian trixie reported; bench/udev_events.py asks for them again. All cases have one
+database.
 """
 import os
 
@@ -27,5 +28,5 @@ def answered_as_udev(cases):
 
 
 def answered_otherwise(cases):
-    """The same of cases in which devdry answers otherwise than udevadm: these have udevadm's lines and then devdry's."""
+    """The same for cases in which devdry's answer is not udevadm's: they have udevadm's lines and then devdry's."""
     return answered_as_udev((name, rules, block, own) for name, rules, block, _, own in cases)

@@ -3,8 +3,8 @@ from tables.kinds.row import Row, as_bytes
 
 
 def verified(name, *lines, ends=b"\n", words="verify"):
-    """A run over a file `r.rules` of these lines, each with what is said of it behind it: `(line, message..)`, or the line
-    alone where nothing is. A message is what follows `r.rules:N: `. `words` stand before the file."""
+    """A run over a file `r.rules` of these lines, each followed by what is said about it: `(line, message..)`, or the line alone
+    if nothing is. A message is what follows `r.rules:N: `. `words` come before the file."""
     text = b""
     messages = b""
     for number, line in enumerate(lines, 1):

@@ -6,36 +6,36 @@ from tables.kinds.row import Row, as_bytes
 SHOWN = 200
 LONGEST = 16_384
 
-# A property that is not printed, and a text that is too long where the property has over half of the bytes.
+# A property that is not printed, and a text that is too long if the property has over half of the bytes.
 LONG = "E: .L=" + "l" * (LONGEST // 2 + 1)
 TWICE = "$env{.L}$env{.L}"
 
 
 def cut(text):
-    """A text over 200 bytes as it is shown, where nothing of it is escaped."""
+    """A text over 200 bytes as it is shown, with nothing of it escaped."""
     return f"{text[:SHOWN]}.. ({len(text)} bytes)"
 
 
-def of(number, *told):
-    """The lines that tell of the rule in one line."""
-    return [b"%d: %s" % (number, as_bytes(line)) for line in told]
+def of(number, *reported):
+    """The lines about the rule in one line."""
+    return [b"%d: %s" % (number, as_bytes(line)) for line in reported]
 
 
 def why(name, rules, lines, wanted, *courses, path="/d", asked=("r.rules",), messages=b"", files=(), root="none", options=(), udev=False):
-    """A run over a file `r.rules` of these rules, over a block with these lines behind its path.
+    """A run over a file `r.rules` of these rules, over a block with these lines after its path.
 
-    `wanted` are the lines that its answer has besides the event, ACTION and DEVPATH. `courses` are lists of what stands
-    behind them, as `of` gives them: each line without its `why r.rules:`. `files` and `root` may hold a database, and
-    `options` are given besides. `udev` asks as udev itself has it.
+    `wanted` are the lines that its answer has in addition to the event, ACTION and DEVPATH. `courses` are lists of what
+    follows them, as `of` gives them: each line without its `why r.rules:`. `files` and `root` may hold a database, and
+    `options` are added. `udev` evaluates as udev itself does.
     """
     answered = answer(path, wanted)
-    told = b"".join(b"why r.rules:" + line + b"\n" for course in courses for line in course)
+    reported = b"".join(b"why r.rules:" + line + b"\n" for course in courses for line in course)
     words = ["events", *(["--udev"] * udev), *options, "-r", root, *(word for text in asked for word in ("--why", text)), "r.rules"]
     return Row(
         name,
         words,
         {"r.rules": b"".join(as_bytes(rule) + b"\n" for rule in rules), **dict(files)},
         input=block(path, *lines),
-        output=answered[:-1] + told + b"\n",
+        output=answered[:-1] + reported + b"\n",
         messages=messages,
     )

@@ -1,6 +1,6 @@
 use Rattle.std.proofs.Common.{◌∙◌}
 use Rattle.builtin_net.specs.Slots.{is_slot_of, slot_files}
-use Rattle.builtin_net.proofs.LentFiles.{any_file}
+use Rattle.builtin_net.proofs.BorrowedFiles.{any_file}
 use Rattle.builtin_net.proofs.slots.has_slot_of.Goals as goal
 
 pub returns : goal.returns

@@ -3,7 +3,7 @@ use Rattle.std.specs.Prelude.{option_and_then}
 use Rattle.std.specs.List.{find}
 use Rattle.text_links.specs.Kernels.{kernel_name}
 use Rattle.builtin_net.specs.Slots.{holds, number_by_place, slot_files, slot_number}
-use Rattle.builtin_net.proofs.LentFiles.{file_found}
+use Rattle.builtin_net.proofs.BorrowedFiles.{file_found}
 use Rattle.builtin_net.proofs.slots.number_by_place.Goals as goal
 
 pub returns : goal.returns

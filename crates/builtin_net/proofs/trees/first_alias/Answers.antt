@@ -1,7 +1,7 @@
 use Rattle.std.proofs.Common.{◌∙◌}
 use Rattle.builtin_devices.specs.Files.{files_below}
 use Rattle.builtin_net.specs.Trees.{alias_end, aliases_folder, is_alias}
-use Rattle.builtin_net.proofs.LentFiles.{file_found}
+use Rattle.builtin_net.proofs.BorrowedFiles.{file_found}
 use Rattle.builtin_net.proofs.trees.first_alias.Goals as goal
 
 pub returns : goal.returns

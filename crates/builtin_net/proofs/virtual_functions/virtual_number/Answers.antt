@@ -1,7 +1,7 @@
 use Rattle.std.proofs.Common.{◌∙◌}
 use Rattle.builtin_devices.specs.Files.{files_below}
 use Rattle.builtin_net.specs.Virtual.{leads_to, virtual_digits, virtual_number}
-use Rattle.builtin_net.proofs.LentFiles.{file_found}
+use Rattle.builtin_net.proofs.BorrowedFiles.{file_found}
 use Rattle.builtin_net.proofs.virtual_functions.virtual_number.Goals as goal
 
 pub returns : goal.returns

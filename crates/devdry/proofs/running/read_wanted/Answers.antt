@@ -21,8 +21,8 @@ handed_on P (Ok x) fault is h = tt
 handed_on P (Err e) fault is h = subst P (sym is) h
 
 -- a fault at the index, after all files
-behind : (may : Answer → Type 0) (w : Wanted) (path : List ℕ) (files : List SourceFile) → AreWanted may w files → IsFaultyIndex may w path → IsFaultyRead may w path
-behind may w path files were h = inr (record { files = files; were_read = were; faulty = h })
+following : (may : Answer → Type 0) (w : Wanted) (path : List ℕ) (files : List SourceFile) → AreWanted may w files → IsFaultyIndex may w path → IsFaultyRead may w path
+following may w path files were h = inr (record { files = files; were_read = were; faulty = h })
 
 pub returns-in_err-wanted-clause-fault : goal.returns-in_err-wanted-clause-fault
 returns-in_err-wanted-clause-fault g c =
@@ -42,7 +42,7 @@ returns-in_err-index-clause-fault g c =
     let may = g.D.Disk.may_answer c.args.disk.now in
     let w = c.in_ok-wanted.wanted in
     let fault = c.in_err-index.field-0.0 in
-    let last = λ (path : List ℕ) (h : IsFaultyIndex may w path). behind may w path c.in_ok-files.files.items c.in_ok-files.ensures.files h in
+    let last = λ (path : List ℕ) (h : IsFaultyIndex may w path). following may w path c.in_ok-files.files.items c.in_ok-files.ensures.files h in
     handed_on (IsFaultOf may c.args.line.now) c.from_residual-in_err-index.result fault c.from_residual-in_err-index.ensures.1
     (inr (w, c.in_ok-wanted.ensures, weaker (IsFaultyIndex may w) (IsFaultyRead may w) last fault c.in_err-index.ensures.fault))
 

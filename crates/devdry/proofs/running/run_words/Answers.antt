@@ -14,4 +14,4 @@ returns-in-Ok g c = inl (record {
 })
 
 pub returns-in-Err : goal.returns-in-Err
-returns-in-Err g c = inr (record { fault = c.in-Err.fault; answers = c.in-Err.ensures.fault; tells = c.tell_line_fault.ensures; unread = refl })
+returns-in-Err g c = inr (record { fault = c.in-Err.fault; answers = c.in-Err.ensures.fault; reports = c.report_line_fault.ensures; unread = refl })

@@ -94,8 +94,8 @@ returns-in-AssignExpected-clause-advice c = rw c.in-AssignExpected.is refl
 pub returns-in-UnknownAccount-clause-advice : goal.returns-in-UnknownAccount-clause-advice
 returns-in-UnknownAccount-clause-advice c = rw c.in-UnknownAccount.is refl
 
-pub returns-in-FileGivenUp-clause-advice : goal.returns-in-FileGivenUp-clause-advice
-returns-in-FileGivenUp-clause-advice c = rw c.in-FileGivenUp.is refl
+pub returns-in-FileAbandoned-clause-advice : goal.returns-in-FileAbandoned-clause-advice
+returns-in-FileAbandoned-clause-advice c = rw c.in-FileAbandoned.is refl
 
 pub returns-in-CommaExpected-clause-advice : goal.returns-in-CommaExpected-clause-advice
 returns-in-CommaExpected-clause-advice c = rw c.in-CommaExpected.is refl

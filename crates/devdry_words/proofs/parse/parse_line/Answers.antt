@@ -8,7 +8,7 @@ use Rattle.engine_ends.specs.declared.line.Request.{Request}
 use Rattle.engine_ends.specs.declared.line.LineFault.{LineFault}
 use Rattle.engine_ends.specs.declared.line.LineFault.TheVariants.{Memory}
 use Rattle.devdry_words.specs.Commands.{devdry}
-use Rattle.devdry_words.specs.Answers.{AnswersOneOf, AnswersSubcommand, AnswersWords, IsAnswer}
+use Rattle.devdry_words.specs.Answers.{AnswersKind, AnswersOneOf, AnswersSubcommand, AnswersWords}
 use Rattle.devdry_words.specs.Requests.{IsRequestOf, NamesSubcommand}
 use Rattle.devdry_words.proofs.Asked.{devdry_is_simple, devdry_is_simple_and_free, names_a_subcommand}
 use Rattle.devdry_words.proofs.parse.parse_line.Goals as goal
@@ -25,7 +25,7 @@ always (Err e) p = tt
 
 answered : (a : App) (words : List Text) (k : ErrorKind) (f : LineFault) → a ≡ devdry
     → (is_simple_and_free a ≡ true → (k ≡ kind.OutOfMemory) ⊎ IsAmong k (fault_of a words))
-    → (k ≡ kind.OutOfMemory → f ≡ Memory) → IsAnswer f k → AnswersOneOf (fault_of devdry words) f
+    → (k ≡ kind.OutOfMemory → f ≡ Memory) → AnswersKind f k → AnswersOneOf (fault_of devdry words) f
 answered a words k f is fails memory said = elim (fails (ap is_simple_and_free is ∙ devdry_is_simple_and_free)) [
   | inl m ↦ inl (memory m)
   | inr among ↦ inr (k, subst (λ x. IsAmong k (fault_of x words)) is among, said)

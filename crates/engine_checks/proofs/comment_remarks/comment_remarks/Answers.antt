@@ -1,7 +1,7 @@
 use Rattle.std.proofs.Common.{sym, ◌∙◌, ap, ◌++◌, option_map, option_to_list}
 use Rattle.engine_checks.specs.Tables.{remark_by}
-use Rattle.engine_checks.specs.Told.{comment_diagnostic}
-use Rattle.engine_checks.proofs.Telling.{filter_map_more}
+use Rattle.engine_checks.specs.Reported.{comment_diagnostic}
+use Rattle.engine_checks.proofs.Reporting.{filter_map_more}
 use Rattle.engine_checks.proofs.comment_remarks.comment_remarks.Goals as goal
 
 pub loop-ignore-preserved : goal.loop-ignore-preserved

@@ -1,7 +1,7 @@
 use Rattle.std.proofs.Common.{◌≡◌, take, option_map}
 use Rattle.std.specs.List.{filter_map}
 use Rattle.engine_checks.specs.Tables.{remark_by}
-use Rattle.engine_checks.specs.Told.{comment_diagnostic}
+use Rattle.engine_checks.specs.Reported.{comment_diagnostic}
 use Rattle.engine_checks.proofs.comment_remarks.comment_remarks.Given as goal
 
 abbrev pub invariant-loop-ignore : goal.invariant-loop-ignore

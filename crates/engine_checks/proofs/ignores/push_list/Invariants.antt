@@ -4,7 +4,7 @@ use Rattle.engine_checks.proofs.ignores.push_list.Given as goal
 
 abbrev pub invariant-loop-code : goal.invariant-loop-code
 invariant-loop-code l = record {
-  told : l.ignores.items ++ codes_of l.line l.scope l.end l.rest ≡ l.initial.ignores.items ++ codes_of l.line l.scope l.end l.fn.list;
+  reported : l.ignores.items ++ codes_of l.line l.scope l.end l.rest ≡ l.initial.ignores.items ++ codes_of l.line l.scope l.end l.fn.list;
   within : length l.rest ≤ l.end;
 }
 

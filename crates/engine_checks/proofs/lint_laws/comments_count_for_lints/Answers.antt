@@ -1,4 +1,4 @@
-use Rattle.engine_checks.proofs.LintsTold.{commented_lints}
+use Rattle.engine_checks.proofs.LintsReported.{commented_lints}
 use Rattle.engine_checks.proofs.lint_laws.comments_count_for_lints.Goals as goal
 
 pub returns : goal.returns

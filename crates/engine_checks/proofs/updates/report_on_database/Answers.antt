@@ -16,4 +16,4 @@ trie_of-requires-clause-bounds c = subst KeepsBounds (sym c.in_ok-database.ensur
 pub returns-clause-said : goal.returns-clause-said
 returns-clause-said c =
     let few = updates_few c.args.line.now c.deref.result.now c.in_ok-database.ensures.within in
-    rw (← c.deref.ensures.value, few) (rw (c.in_ok-told.ensures.text, c.in_ok-told.ensures.count, c.in_ok-trie.ensures, c.in_ok-database.ensures.entries, c.deref-2.ensures.value, ← c.deref.ensures.value) at c.in_ok-report.ensures.said)
+    rw (← c.deref.ensures.value, few) (rw (c.in_ok-reported.ensures.text, c.in_ok-reported.ensures.count, c.in_ok-trie.ensures, c.in_ok-database.ensures.entries, c.deref-2.ensures.value, ← c.deref.ensures.value) at c.in_ok-report.ensures.said)

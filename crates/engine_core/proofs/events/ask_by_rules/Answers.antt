@@ -9,4 +9,4 @@ returns g c =
     let opened = shown_rules c.args.read (g.L.Lookup.entries c.args.lookup) in
     let messages : c.deref.result.now ≡ c.args.read.messages.items = search rules in
     let tables : c.new-tables.result ≡ tables_of opened = search rules in
-    asked_runs c.args.line.now opened c.deref.result.now c.new-tables.result _ _ _ c.requires messages tables c.answer_behind.ensures.steps
+    asked_runs c.args.line.now opened c.deref.result.now c.new-tables.result _ _ _ c.requires messages tables c.answer_after_messages.ensures.steps

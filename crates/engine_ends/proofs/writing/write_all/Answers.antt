@@ -1,5 +1,5 @@
 use Rattle.std.proofs.Common.{arith, ◌∙◌}
-use Rattle.engine_ends.proofs.Told.{followed_by-part}
+use Rattle.engine_ends.proofs.Reported.{followed_by-part}
 use Rattle.engine_ends.proofs.writing.write_all.Goals as goal
 
 pub loop-done-preserved : goal.loop-done-preserved

@@ -2,7 +2,7 @@ use Rattle.std.proofs.Common.{◌≡◌, ◌-◌, ◌+◌, false, List, ℕ, len
 use Rattle.std.proofs.lemmas.List.{append-nil}
 use Rattle.std.proofs.lemmas.Result.{err_from_is_err_and, on_err_weaker}
 use Rattle.text_bytes.specs.Escapes.{escape_byte, escape_text, is_escaped}
-use Rattle.engine_ends.proofs.Escaped.{breaks-in-escape, breaks-in-run, plain-more, takes-more, told, untold}
+use Rattle.engine_ends.proofs.Escaped.{breaks-in-escape, breaks-in-run, plain-more, reported, takes-more, unreported}
 use Rattle.engine_ends.proofs.writing.write_escaped.Goals.{in-Some+in_ok-write_all+in_ok-write_all-2, in_default}
 use Rattle.engine_ends.proofs.writing.write_escaped.Goals as goal
 
@@ -17,7 +17,7 @@ returns-in_err-write_all-2-clause-part g c =
     let text : List ℕ = c.args.text.now in
     let so_far = c.loop-at.invariant in
     let b : ℕ = get_or text c.loop-at.at 0 in
-    let is : c.in-Some.shown ≡ escape_byte b = told (is_escaped b) (escape_byte b) c.in-Some.shown (sym c.escaped_byte.ensures ∙ c.in-Some.is) in
+    let is : c.in-Some.shown ≡ escape_byte b = reported (is_escaped b) (escape_byte b) c.in-Some.shown (sym c.escaped_byte.ensures ∙ c.in-Some.is) in
     let p = err_from_is_err_and c.from_residual-in_err-write_all-2.result c.from_residual-in_err-write_all-2.ensures.1 in
     rw p.1 (breaks-in-escape _ _ _ _ text _ c.loop-at.done c.loop-at.at c.loop-at-test.true so_far.plain so_far.so_far c.in_ok-write_all.ensures.whole (rw is at c.in_err-write_all-2.ensures.part))
 
@@ -29,7 +29,7 @@ loop-at-preserved g c =
     let b : ℕ = get_or text at 0 in
     elim c.match-escaped_byte.branch [
       | in-Some+in_ok-write_all+in_ok-write_all-2 w ↦ (
-          let is : w.in-Some.shown ≡ escape_byte b = told (is_escaped b) (escape_byte b) w.in-Some.shown (sym c.escaped_byte.ensures ∙ w.in-Some.is) in
+          let is : w.in-Some.shown ≡ escape_byte b = reported (is_escaped b) (escape_byte b) w.in-Some.shown (sym c.escaped_byte.ensures ∙ w.in-Some.is) in
           let none : at + 1 - (at + 1) ≡ 0 = omega arith in
           rw (w.done-is, w.sink-is) record {
             within = omega arith;
@@ -37,7 +37,7 @@ loop-at-preserved g c =
             so_far = takes-more _ _ _ _ text _ c.loop-at.done at c.loop-at-test.true so_far.plain so_far.so_far w.in_ok-write_all.ensures.whole (rw is at w.in_ok-write_all-2.ensures.whole);
           })
       | in_default w ↦ (
-          let stays : is_escaped b ≡ false = untold (is_escaped b) (escape_byte b) (λ shown h. w.in_default.not-Some shown (c.escaped_byte.ensures ∙ h)) in
+          let stays : is_escaped b ≡ false = unreported (is_escaped b) (escape_byte b) (λ shown h. w.in_default.not-Some shown (c.escaped_byte.ensures ∙ h)) in
           rw (w.done-is, w.sink-is) record {
             within = omega (arith, so_far.within);
             plain = plain-more text _ c.loop-at.done at so_far.within c.loop-at-test.true stays so_far.plain;

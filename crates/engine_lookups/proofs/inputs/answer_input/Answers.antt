@@ -2,14 +2,14 @@ use Rattle.std.proofs.Common.{arith, ◌≡◌, ℕ, ◌≤◌, true, false, sub
 use Rattle.engine_sessions.specs.Inputs.{most_turns}
 use Rattle.engine_lookups.specs.Inputs.{Turns}
 use Rattle.engine_lookups.specs.Outcomes.{answer_to}
-use Rattle.engine_lookups.proofs.InputLemmas.{Turned, failed, finished, turned_at_start, turned_more, turned_open, used_up}
+use Rattle.engine_lookups.proofs.InputLemmas.{AfterTurns, failed, finished, turns_at_start, turns_more, turns_open, used_up}
 use Rattle.engine_lookups.proofs.inputs.answer_input.Goals as goal
 
 pub loop-made-init : goal.loop-made-init
-loop-made-init g c = turned_at_start _ _ _ _ c.new-held.ensures
+loop-made-init g c = turns_at_start _ _ _ _ c.new-held.ensures
 
 pub turn-requires-clause-open : goal.turn-requires-clause-open
-turn-requires-clause-open g c = turned_open _ _ _ _ _ _ _ c.loop-made.invariant
+turn-requires-clause-open g c = turns_open _ _ _ _ _ _ _ c.loop-made.invariant
 
 pub turn-requires-clause-few : goal.turn-requires-clause-few
 turn-requires-clause-few g c = omega (arith, c.loop-made.invariant.few, c.loop-made-test.true)
@@ -27,15 +27,15 @@ returns-then-not-more g c =
 pub loop-made-preserved : goal.loop-made-preserved
 loop-made-preserved g c =
     let answer = answer_to c.args.sources (g.L.Lookup.entries c.args.database.now) in
-    let goes = subst (λ m. Turns answer m c.loop-made.held c.turn.new.held (g.R.Source.shown c.loop-made.input) (g.R.Source.shown c.turn.new.input) (g.W.Sink.shown c.loop-made.output) (g.W.Sink.shown c.turn.new.output))
+    let advances = subst (λ m. Turns answer m c.loop-made.held c.turn.new.held (g.R.Source.shown c.loop-made.input) (g.R.Source.shown c.turn.new.input) (g.W.Sink.shown c.loop-made.output) (g.W.Sink.shown c.turn.new.output))
     c.if-not-more.false c.in-Ok.ensures.ok in
-    turned_more answer _ _ _ _ _ _ _ _ _ c.loop-made.invariant goes
+    turns_more answer _ _ _ _ _ _ _ _ _ c.loop-made.invariant advances
 
 pub returns : goal.returns
 returns g c =
     let all : c.loop-made._made ≡ most_turns = all_made c.loop-made._made c.loop-made.auto._made-end c.loop-made-test.false in
     let answer = answer_to c.args.sources (g.L.Lookup.entries c.args.database.now) in
-    used_up answer _ _ _ _ _ (subst (λ n. Turned answer n c.loop-made.held (g.R.Source.shown c.args.input.now) (g.R.Source.shown c.loop-made.input) (g.W.Sink.shown c.args.output.now) (g.W.Sink.shown c.loop-made.output)) all c.loop-made.invariant)
+    used_up answer _ _ _ _ _ (subst (λ n. AfterTurns answer n c.loop-made.held (g.R.Source.shown c.args.input.now) (g.R.Source.shown c.loop-made.input) (g.W.Sink.shown c.args.output.now) (g.W.Sink.shown c.loop-made.output)) all c.loop-made.invariant)
   where
     all_made : (n : ℕ) → n ≤ 281474976710656 → 281474976710656 ≤ n → n ≡ most_turns
     all_made n h k = omega (arith, h, k)

@@ -1,7 +1,7 @@
 use Rattle.std.proofs.Common.{arith, ◌≡◌, ℕ, ◌≤◌, true, false, subst}
 use Rattle.std.proofs.lemmas.Bool.{not-false, not-true}
 use Rattle.engine_sessions.specs.Sessions.{answer_of}
-use Rattle.engine_sessions.specs.Turns.{FailsBy}
+use Rattle.engine_sessions.specs.Turns.{TurnFailsBy}
 use Rattle.engine_sessions.specs.Findings.{TurnsFinding}
 use Rattle.engine_sessions.specs.Inputs.{most_turns}
 use Rattle.engine_sessions.proofs.TurnLemmas.{at}
@@ -11,27 +11,27 @@ use Rattle.engine_sessions.proofs.inputs.make_turns.Goals as goal
 pub returns-in-Err : goal.returns-in-Err
 returns-in-Err g c =
     let s = c.loop-made.invariant in
-    let turn = subst (λ a. FailsBy (answer_of g.A.Answering.answers a) c.in-Err.fault (at c.loop-made.session (g.R.Source.shown c.loop-made.input) (g.W.Sink.shown c.loop-made.output)) (at c.turn_finding.new.session (g.R.Source.shown c.turn_finding.new.input) (g.W.Sink.shown c.turn_finding.new.output))) s.served.answering c.in-Err.ensures.err in
+    let turn = subst (λ a. TurnFailsBy (answer_of g.A.Answering.answers a) c.in-Err.fault (at c.loop-made.session (g.R.Source.shown c.loop-made.input) (g.W.Sink.shown c.loop-made.output)) (at c.turn_finding.new.session (g.R.Source.shown c.turn_finding.new.input) (g.W.Sink.shown c.turn_finding.new.output))) s.served.answering c.in-Err.ensures.err in
     finding_failed (answer_of g.A.Answering.answers c.args.session.now.answering) c.in-Err.fault c.args.session.now c.loop-made.session c.turn_finding.new.session _ _ _ _ _ _ c.loop-made._made c.loop-made.finds s turn
 
 pub loop-made-init : goal.loop-made-init
 loop-made-init g c = finding_at_start _ _ _ _ c.requires
 
-pub returns-then-not-turned : goal.returns-then-not-turned
-returns-then-not-turned g c =
+pub returns-then-not-after_turn : goal.returns-then-not-after_turn
+returns-then-not-after_turn g c =
     let s = c.loop-made.invariant in
-    let ok = subst (λ m. TurnsFinding (answer_of g.A.Answering.answers c.loop-made.session.answering) m c.in-Ok.turned.finds (at c.loop-made.session (g.R.Source.shown c.loop-made.input) (g.W.Sink.shown c.loop-made.output)) (at c.turn_finding.new.session (g.R.Source.shown c.turn_finding.new.input) (g.W.Sink.shown c.turn_finding.new.output)))
-    (not-true c.in-Ok.turned.more c.if-not-turned.true) c.in-Ok.ensures.ok in
-    let turn = subst (λ a. TurnsFinding (answer_of g.A.Answering.answers a) false c.in-Ok.turned.finds (at c.loop-made.session (g.R.Source.shown c.loop-made.input) (g.W.Sink.shown c.loop-made.output)) (at c.turn_finding.new.session (g.R.Source.shown c.turn_finding.new.input) (g.W.Sink.shown c.turn_finding.new.output))) s.served.answering ok in
-    finding_finished (answer_of g.A.Answering.answers c.args.session.now.answering) c.args.session.now c.loop-made.session c.turn_finding.new.session _ _ _ _ _ _ c.loop-made._made c.loop-made.finds c.in-Ok.turned.finds s turn
+    let ok = subst (λ m. TurnsFinding (answer_of g.A.Answering.answers c.loop-made.session.answering) m c.in-Ok.after_turn.finds (at c.loop-made.session (g.R.Source.shown c.loop-made.input) (g.W.Sink.shown c.loop-made.output)) (at c.turn_finding.new.session (g.R.Source.shown c.turn_finding.new.input) (g.W.Sink.shown c.turn_finding.new.output)))
+    (not-true c.in-Ok.after_turn.more c.if-not-after_turn.true) c.in-Ok.ensures.ok in
+    let turn = subst (λ a. TurnsFinding (answer_of g.A.Answering.answers a) false c.in-Ok.after_turn.finds (at c.loop-made.session (g.R.Source.shown c.loop-made.input) (g.W.Sink.shown c.loop-made.output)) (at c.turn_finding.new.session (g.R.Source.shown c.turn_finding.new.input) (g.W.Sink.shown c.turn_finding.new.output))) s.served.answering ok in
+    finding_finished (answer_of g.A.Answering.answers c.args.session.now.answering) c.args.session.now c.loop-made.session c.turn_finding.new.session _ _ _ _ _ _ c.loop-made._made c.loop-made.finds c.in-Ok.after_turn.finds s turn
 
 pub loop-made-preserved : goal.loop-made-preserved
 loop-made-preserved g c =
     let s = c.loop-made.invariant in
-    let ok = subst (λ m. TurnsFinding (answer_of g.A.Answering.answers c.loop-made.session.answering) m c.in-Ok.turned.finds (at c.loop-made.session (g.R.Source.shown c.loop-made.input) (g.W.Sink.shown c.loop-made.output)) (at c.turn_finding.new.session (g.R.Source.shown c.turn_finding.new.input) (g.W.Sink.shown c.turn_finding.new.output)))
-    (not-false c.in-Ok.turned.more c.if-not-turned.false) c.in-Ok.ensures.ok in
-    let turn = subst (λ a. TurnsFinding (answer_of g.A.Answering.answers a) true c.in-Ok.turned.finds (at c.loop-made.session (g.R.Source.shown c.loop-made.input) (g.W.Sink.shown c.loop-made.output)) (at c.turn_finding.new.session (g.R.Source.shown c.turn_finding.new.input) (g.W.Sink.shown c.turn_finding.new.output))) s.served.answering ok in
-    finding_more (answer_of g.A.Answering.answers c.args.session.now.answering) c.args.session.now c.loop-made.session c.turn_finding.new.session _ _ _ _ _ _ c.loop-made._made c.loop-made.finds c.in-Ok.turned.finds s turn c.turn_finding.ensures.fits
+    let ok = subst (λ m. TurnsFinding (answer_of g.A.Answering.answers c.loop-made.session.answering) m c.in-Ok.after_turn.finds (at c.loop-made.session (g.R.Source.shown c.loop-made.input) (g.W.Sink.shown c.loop-made.output)) (at c.turn_finding.new.session (g.R.Source.shown c.turn_finding.new.input) (g.W.Sink.shown c.turn_finding.new.output)))
+    (not-false c.in-Ok.after_turn.more c.if-not-after_turn.false) c.in-Ok.ensures.ok in
+    let turn = subst (λ a. TurnsFinding (answer_of g.A.Answering.answers a) true c.in-Ok.after_turn.finds (at c.loop-made.session (g.R.Source.shown c.loop-made.input) (g.W.Sink.shown c.loop-made.output)) (at c.turn_finding.new.session (g.R.Source.shown c.turn_finding.new.input) (g.W.Sink.shown c.turn_finding.new.output))) s.served.answering ok in
+    finding_more (answer_of g.A.Answering.answers c.args.session.now.answering) c.args.session.now c.loop-made.session c.turn_finding.new.session _ _ _ _ _ _ c.loop-made._made c.loop-made.finds c.in-Ok.after_turn.finds s turn c.turn_finding.ensures.fits
 
 pub returns : goal.returns
 returns g c =

@@ -16,11 +16,11 @@ returns-in-Ok-answer_last-clause-ok g c =
     let going : c.args.session.now.ended ≡ false = search rules in
     let reads : Reads false (g.R.Source.shown c.args.input.now) [] (g.R.Source.shown c.read.new.self) = search rules in
     turn_finds (answer_of g.A.Answering.answers c.args.session.now.answering) false c.in-Ok-answer_last.finds c.args.session.now c.answer_last.new.session _ _ _ _
-    (record { goes_on = going; piece = []; reads = reads; sends = c.in-Ok-answer_last.ensures.ok }) c.in-Ok-answer_last.ensures.finds
+    (record { proceeds = going; piece = []; reads = reads; sends = c.in-Ok-answer_last.ensures.ok }) c.in-Ok-answer_last.ensures.finds
 
 pub returns-in-Ok-answer_piece-clause-ok : goal.returns-in-Ok-answer_piece-clause-ok
 returns-in-Ok-answer_piece-clause-ok g c =
     let going : c.args.session.now.ended ≡ false = search rules in
     let reads : Reads true (g.R.Source.shown c.args.input.now) (take c.in-Ok.len c.read.new.into) (g.R.Source.shown c.read.new.self) = search rules in
     turn_finds (answer_of g.A.Answering.answers c.args.session.now.answering) true c.in-Ok-answer_piece.finds c.args.session.now c.answer_piece.new.session _ _ _ _
-    (record { goes_on = going; piece = take c.in-Ok.len c.read.new.into; reads = reads; sends = c.in-Ok-answer_piece.ensures.ok }) c.in-Ok-answer_piece.ensures.finds
+    (record { proceeds = going; piece = take c.in-Ok.len c.read.new.into; reads = reads; sends = c.in-Ok-answer_piece.ensures.ok }) c.in-Ok-answer_piece.ensures.finds

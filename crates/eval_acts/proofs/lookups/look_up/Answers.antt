@@ -1,5 +1,5 @@
 use Rattle.std.proofs.Common.{◌≡◌, ◌++◌, ◌==◌, [], length, map, ap, sym, ◌∙◌}
-use Rattle.eval_acts.specs.LookUps.{answer, candidates, first_found, found, modaliases}
+use Rattle.eval_acts.specs.LookUps.{candidates, counted_properties, first_found, found, modaliases}
 use Rattle.eval_acts.proofs.Finding.{first_here}
 use Rattle.eval_acts.proofs.lookups.look_up.Goals as goal
 
@@ -9,7 +9,7 @@ returns-then-not-is_empty g c =
     let hwdb = c.args.hwdb.now in
     let devices : c.deref.result.now ≡ candidates c.args.state.now = c.deref.ensures.value ∙ c.in_ok-devices.ensures in
     let profile : c.profile-profile.result ≡ c.args.state.now.event.profile = c.profile-profile.ensures ∙ ap (λ e. e.profile) c.event.ensures in
-    let asked = answer (g.L.Lookup.entries c.args.database.now) hwdb in
+    let asked = counted_properties (g.L.Lookup.entries c.args.database.now) hwdb in
     first_here asked hwdb.prefix c.deref-modalias-items.result.now c.loop-modalias.modalias-index (record { ref_ptr = (0, 0); now = [] })
     c.in_ok-properties.properties.items _
     c.loop-modalias-test.true

@@ -7,7 +7,7 @@ use Rattle.eval_assignments.proofs.links.components.Goals as goal
 pub loop-component-preserved : goal.loop-component-preserved
 loop-component-preserved c =
     rw c.in_ok-push_step.ensures
-    (parts_more is_step slash (map (λ t. t.now) c.loop-component.steps.items) c.loop-component.rest.now c.in-Some.component.now c.in-Some.behind.now (sym c.in-Some.ensures.value)
+    (parts_more is_step slash (map (λ t. t.now) c.loop-component.steps.items) c.loop-component.rest.now c.in-Some.component.now c.in-Some.following.now (sym c.in-Some.ensures.value)
     ∙ c.loop-component.invariant)
 
 pub returns : goal.returns

@@ -5,8 +5,8 @@ use Rattle.device_core.specs.Values.{EventValue}
 use Rattle.eval_state.specs.declared.scene.Scene.{Scene}
 use Rattle.eval_rules.specs.Steps.{Went, apply}
 use Rattle.eval_core.specs.Marks.{marks}
-use Rattle.eval_core.proofs.Coursing.{foretold_so}
-use Rattle.eval_core.proofs.Skipping.{run_behind, run_end}
+use Rattle.eval_core.proofs.Coursing.{predicted_so}
+use Rattle.eval_core.proofs.Skipping.{run_after, run_end}
 use Rattle.eval_rules.proofs.Staying.{event_stays}
 use Rattle.eval_core.proofs.running.run.Goals as goal
 
@@ -21,10 +21,10 @@ loop-place-init g c = record {
 
 pub step-requires : goal.step-requires
 step-requires g c =
-    foretold_so (g.L.Lookup.entries c.args.lookup.now) c.args.layout.names.now c.args.scene.now.state.event c.args.layout.rules.now c.args.layout.courses.now
-    c.deref.result.now c.marks-found.result c.profile-profile.result c.loop-place.place c.index-layout-place.result _ c.loop-place.scene c.foretold_by-fate.result
+    predicted_so (g.L.Lookup.entries c.args.lookup.now) c.args.layout.names.now c.args.scene.now.state.event c.args.layout.rules.now c.args.layout.courses.now
+    c.deref.result.now c.marks-found.result c.profile-profile.result c.loop-place.place c.index-layout-place.result _ c.loop-place.scene c.predicted_by-fate.result
     c.loop-place-test.true c.loop-place.invariant.event c.requires.known (c.deref.ensures.value ∙ c.in_ok-seen.ensures)
-    (c.marks-found.ensures ∙ ap marks c.event.ensures) (c.profile-profile.ensures ∙ ap (λ (v : EventValue). v.profile) c.event-2.ensures) c.foretold_by-fate.ensures
+    (c.marks-found.ensures ∙ ap marks c.event.ensures) (c.profile-profile.ensures ∙ ap (λ (v : EventValue). v.profile) c.event-2.ensures) c.predicted_by-fate.ensures
 
 pub loop-place-preserved : goal.loop-place-preserved
 loop-place-preserved g c =
@@ -36,10 +36,10 @@ loop-place-preserved g c =
     let event : EventValue = c.args.scene.now.state.event in
     let went : (c.step.new.scene, c.in_ok-reached.reached) ≡ apply es r s = c.in_ok-reached.ensures in
     let same : c.step.new.scene.state.event ≡ event = ap (λ (w : Went). w.0.state.event) went ∙ event_stays es r s ∙ c.loop-place.invariant.event in
-    let to : c.behind-place.result ≡ place + 1 + cond c.in_ok-reached.reached (get_or c.args.layout.passes.now place 0) 0 = c.behind-place.ensures.value in
+    let to : c.following-place.result ≡ place + 1 + cond c.in_ok-reached.reached (get_or c.args.layout.passes.now place 0) 0 = c.following-place.ensures.value in
     record {
       whole =
-          run_behind es rules place c.index-layout-place.result 0 s c.step.new.scene c.in_ok-reached.reached c.behind-place.result c.loop-place-test.true
+          run_after es rules place c.index-layout-place.result 0 s c.step.new.scene c.in_ok-reached.reached c.following-place.result c.loop-place-test.true
           went
           (to ∙ ap (λ ps. place + 1 + cond c.in_ok-reached.reached (get_or ps place 0) 0) c.requires.over)
           ∙ c.loop-place.invariant.whole;

@@ -1,5 +1,5 @@
-use Rattle.eval_courses.proofs.Finding.{named_told}
+use Rattle.eval_courses.proofs.Finding.{named_reported}
 use Rattle.eval_courses.proofs.laws.search_names_the_first_to_meet.Goals as goal
 
 pub returns : goal.returns
-returns c = named_told
+returns c = named_reported

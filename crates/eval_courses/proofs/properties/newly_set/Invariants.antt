@@ -1,7 +1,7 @@
 use Rattle.std.proofs.Common.{◌≡◌, ◌++◌, map}
-use Rattle.eval_courses.specs.Acts.{newly_set, property_told}
+use Rattle.eval_courses.specs.Acts.{newly_set, property_report}
 use Rattle.eval_courses.proofs.properties.newly_set.Given as goal
 
 abbrev pub invariant-loop-name : goal.invariant-loop-name
 invariant-loop-name l =
-    l.texts.items ++ map property_told (newly_set l.before (map (λ e. (e.0.items, e.1)) l.name-iterator)) ≡ map property_told (newly_set l.fn.before l.fn.now)
+    l.texts.items ++ map property_report (newly_set l.before (map (λ e. (e.0.items, e.1)) l.name-iterator)) ≡ map property_report (newly_set l.fn.before l.fn.now)

@@ -3,4 +3,4 @@ use Rattle.eval_effects.specs.Changes.{removed_item}
 use Rattle.eval_effects.proofs.changes.push_all_removed.Given as goal
 
 abbrev pub invariant-loop-item : goal.invariant-loop-item
-invariant-loop-item l = l.told.items ≡ l.initial.told.items ++ flat_map (removed_item l.now) (take l.item-index l.was)
+invariant-loop-item l = l.reported.items ≡ l.initial.reported.items ++ flat_map (removed_item l.now) (take l.item-index l.was)

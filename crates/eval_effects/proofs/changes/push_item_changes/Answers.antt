@@ -1,6 +1,6 @@
-use Rattle.eval_effects.proofs.Tables.{told_same}
+use Rattle.eval_effects.proofs.Tables.{reported_same}
 use Rattle.eval_effects.proofs.changes.push_item_changes.Goals as goal
 
 pub returns : goal.returns
 returns c =
-    told_same _ _ _ c.args.was.now c.args.now.now _ _ c.in_ok-was_table.ensures c.in_ok-now_table.ensures c.in_ok-push_all_set.ensures c.in_ok-push_all_removed.ensures
+    reported_same _ _ _ c.args.was.now c.args.now.now _ _ c.in_ok-was_table.ensures c.in_ok-now_table.ensures c.in_ok-push_all_set.ensures c.in_ok-push_all_removed.ensures

@@ -3,7 +3,7 @@ use Rattle.std.proofs.lemmas.List.{take_all}
 use Rattle.text_tables.specs.Pairs.{Pair}
 use Rattle.text_tables.specs.Texts.{Text}
 use Rattle.eval_effects.specs.Inner.{tag_item}
-use Rattle.eval_effects.proofs.Tags.{tags_told}
+use Rattle.eval_effects.proofs.Tags.{tags_reported}
 use Rattle.eval_effects.proofs.items.push_tags.Goals as goal
 
 pub returns : goal.returns
@@ -13,4 +13,4 @@ returns c =
     c.loop-tag.invariant
     ∙ ap (λ (texts : List (Vec ℕ Global)). start ++ flat_map (tag_item gone) (map (λ t. t.items) texts)) (take_all _ _ c.loop-tag-test.false)
     ∙ ap (λ (texts : List Text). start ++ flat_map (tag_item gone) texts) c.as_slice-tag-items.ensures.texts
-    ∙ ap (λ (told : List Pair). start ++ told) (tags_told gone c.args.scene.now.state.tags)
+    ∙ ap (λ (reported : List Pair). start ++ reported) (tags_reported gone c.args.scene.now.state.tags)

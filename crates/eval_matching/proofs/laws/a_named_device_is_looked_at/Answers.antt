@@ -28,7 +28,7 @@ module _ (text : Text) (event : EventValue) (own : Option Text) where
       by_name (Some n) e
       ∙ ap (λ b. cond (not b && is_none (named_place n event)) udev_unread (udev_attribute (cond b None (found_value event n.attribute (named_place n event))))) h
 
-  -- by where the device stands
+  -- by the place of the device
   by_place : (n : NamedValue) → named name ≡ Some n → is_empty n.attribute ≡ false → (place : Option ℕ) → named_place n event ≡ place
       → udev_subject name event own ≡ cond (is_none place) udev_unread (udev_attribute (found_value event n.attribute place))
   by_place n e h place at = by_attribute n e false h ∙ ap (λ p. cond (is_none p) udev_unread (udev_attribute (found_value event n.attribute p))) at

@@ -2,7 +2,7 @@ use Rattle.std.proofs.Common.{[], sym, ap, ◌∙◌}
 use Rattle.rule_templates.specs.Cuts.{copied}
 use Rattle.eval_rendering.specs.Lengthened.{lengthened}
 use Rattle.eval_rendering.specs.Names.{name_piece}
-use Rattle.eval_rendering.proofs.Naming.{lengthened_nothing, name_ends, name_goes_on, name_stops}
+use Rattle.eval_rendering.proofs.Naming.{lengthened_nothing, name_ends, name_proceeds, name_stops}
 use Rattle.eval_rendering.proofs.names.rendered_name.Goals as goal
 
 pub returns-in_default-kept : goal.returns-in_default-kept
@@ -15,7 +15,7 @@ loop-byte-preserved c =
     let state = record c.args.state.now { selected = c.args.selected } in
     let piece = name_piece state (copied c.in-Some-kept.cut) in record {
       whole =
-          name_goes_on state c.in-Some.byte.now c.in-Some.after.now c.loop-byte.rest.now (copied c.in-Some-kept.cut) c.in-Some-kept.next.now c.loop-byte.text c.push_cut.new.text
+          name_proceeds state c.in-Some.byte.now c.in-Some.after.now c.loop-byte.rest.now (copied c.in-Some-kept.cut) c.in-Some-kept.next.now c.loop-byte.text c.push_cut.new.text
           c.in-Some.ensures.cases.0 (sym c.in-Some-kept.ensures.value) c.push_cut.ensures
           ∙ c.loop-byte.invariant.whole;
       fits = ap (λ s. lengthened s []) c.push_cut.ensures ∙ lengthened_nothing c.loop-byte.text piece ∙ sym c.push_cut.ensures;
@@ -26,7 +26,7 @@ loop-byte-preserved-in-Some-kept c =
     let state = record c.args.state.now { selected = c.args.selected } in
     let piece = name_piece state (copied c.in-Some-kept.cut) in record {
       whole =
-          name_goes_on state c.in-Some.byte.now c.in-Some.after.now c.loop-byte.rest.now (copied c.in-Some-kept.cut) c.in-Some-kept.next.now c.loop-byte.text c.push_cut.new.text
+          name_proceeds state c.in-Some.byte.now c.in-Some.after.now c.loop-byte.rest.now (copied c.in-Some-kept.cut) c.in-Some-kept.next.now c.loop-byte.text c.push_cut.new.text
           c.in-Some.ensures.cases.0 (sym c.in-Some-kept.ensures.value) c.push_cut.ensures
           ∙ c.loop-byte.invariant.whole;
       fits = ap (λ s. lengthened s []) c.push_cut.ensures ∙ lengthened_nothing c.loop-byte.text piece ∙ sym c.push_cut.ensures;
@@ -37,7 +37,7 @@ loop-byte-preserved-in-Some-kept-2 c =
     let state = record c.args.state.now { selected = c.args.selected } in
     let piece = name_piece state (copied c.in-Some-kept.cut) in record {
       whole =
-          name_goes_on state c.in-Some.byte.now c.in-Some.after.now c.loop-byte.rest.now (copied c.in-Some-kept.cut) c.in-Some-kept.next.now c.loop-byte.text c.push_cut.new.text
+          name_proceeds state c.in-Some.byte.now c.in-Some.after.now c.loop-byte.rest.now (copied c.in-Some-kept.cut) c.in-Some-kept.next.now c.loop-byte.text c.push_cut.new.text
           c.in-Some.ensures.cases.0 (sym c.in-Some-kept.ensures.value) c.push_cut.ensures
           ∙ c.loop-byte.invariant.whole;
       fits = ap (λ s. lengthened s []) c.push_cut.ensures ∙ lengthened_nothing c.loop-byte.text piece ∙ sym c.push_cut.ensures;
@@ -48,7 +48,7 @@ loop-byte-preserved-in-Some-kept-3 c =
     let state = record c.args.state.now { selected = c.args.selected } in
     let piece = name_piece state (copied c.in-Some-kept.cut) in record {
       whole =
-          name_goes_on state c.in-Some.byte.now c.in-Some.after.now c.loop-byte.rest.now (copied c.in-Some-kept.cut) c.in-Some-kept.next.now c.loop-byte.text c.push_cut.new.text
+          name_proceeds state c.in-Some.byte.now c.in-Some.after.now c.loop-byte.rest.now (copied c.in-Some-kept.cut) c.in-Some-kept.next.now c.loop-byte.text c.push_cut.new.text
           c.in-Some.ensures.cases.0 (sym c.in-Some-kept.ensures.value) c.push_cut.ensures
           ∙ c.loop-byte.invariant.whole;
       fits = ap (λ s. lengthened s []) c.push_cut.ensures ∙ lengthened_nothing c.loop-byte.text piece ∙ sym c.push_cut.ensures;
@@ -59,7 +59,7 @@ loop-byte-preserved-in-Some-kept-4 c =
     let state = record c.args.state.now { selected = c.args.selected } in
     let piece = name_piece state (copied c.in-Some-kept.cut) in record {
       whole =
-          name_goes_on state c.in-Some.byte.now c.in-Some.after.now c.loop-byte.rest.now (copied c.in-Some-kept.cut) c.in-Some-kept.next.now c.loop-byte.text c.push_cut.new.text
+          name_proceeds state c.in-Some.byte.now c.in-Some.after.now c.loop-byte.rest.now (copied c.in-Some-kept.cut) c.in-Some-kept.next.now c.loop-byte.text c.push_cut.new.text
           c.in-Some.ensures.cases.0 (sym c.in-Some-kept.ensures.value) c.push_cut.ensures
           ∙ c.loop-byte.invariant.whole;
       fits = ap (λ s. lengthened s []) c.push_cut.ensures ∙ lengthened_nothing c.loop-byte.text piece ∙ sym c.push_cut.ensures;

@@ -1,7 +1,7 @@
-use Rattle.eval_rules.proofs.PassedOver.{passed_is}
+use Rattle.eval_rules.proofs.Skipped.{passed_is}
 use Rattle.eval_rules.proofs.steps.pass_over.Goals as goal
 
 pub returns-clause-scene : goal.returns-clause-scene
 returns-clause-scene g c =
-    passed_is (g.L.Lookup.entries c.args.lookup.now) c.args.rule.now c.args.scene.now c.try_rule.new.scene c.note_all.new.scene c.in_ok-goes_on.goes_on
-    c.requires c.in_ok-goes_on.ensures.scene c.in_ok-note_all.ensures.scene
+    passed_is (g.L.Lookup.entries c.args.lookup.now) c.args.rule.now c.args.scene.now c.try_rule.new.scene c.note_all.new.scene c.in_ok-proceeds.proceeds
+    c.requires c.in_ok-proceeds.ensures.scene c.in_ok-note_all.ensures.scene

@@ -1,5 +1,5 @@
 use Rattle.std.proofs.Common.{◌≡◌, ◌++◌, drop, map}
-use Rattle.eval_sources.specs.Told.{sourced_made}
+use Rattle.eval_sources.specs.Reported.{sourced_made}
 use Rattle.eval_sources.proofs.commands.add_made.Given as goal
 
 abbrev pub invariant-loop-each : goal.invariant-loop-each

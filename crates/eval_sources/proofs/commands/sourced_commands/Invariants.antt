@@ -1,6 +1,6 @@
 use Rattle.std.proofs.Common.{◌≡◌, ◌++◌, None, drop}
 use Rattle.eval_rules.specs.Steps.{with_selected}
-use Rattle.eval_sources.specs.Told.{sourced_commands}
+use Rattle.eval_sources.specs.Reported.{sourced_commands}
 use Rattle.eval_sources.proofs.commands.sourced_commands.Given as goal
 
 abbrev pub invariant-loop-kept : goal.invariant-loop-kept

@@ -1,8 +1,9 @@
-use Rattle.std.proofs.Common.{◌∙◌, sym, ap, subst}
+use Rattle.std.proofs.Common.{◌≡◌, true, ◌∙◌, sym, ap, subst}
 use Rattle.std.proofs.lemmas.Result.{err_from_is_err_and}
 use Rattle.hwdb_core.specs.Found.{Held, found_in, onto}
 use Rattle.hwdb_core.specs.Parts.{file_found}
 use Rattle.hwdb_lookup.specs.Orders.{Rising}
+use Rattle.hwdb_core.proofs.Bounds.{within_few}
 use Rattle.hwdb_core.proofs.Orders.{rising_counting}
 use Rattle.hwdb_core.proofs.Totals.{beyond_at, read_entries, read_messages, within}
 use Rattle.hwdb_core.proofs.database.read_counting.Goals as goal
@@ -27,3 +28,8 @@ pub returns-in_err-read_files-clause-too_many : goal.returns-in_err-read_files-c
 returns-in_err-read_files-clause-too_many c =
     let p = err_from_is_err_and c.from_residual.result c.from_residual.ensures.1 in
     rw p.1 (λ t. beyond_at _ c.new-found.result c.args.files.now c.in_err-read_files.field-0.0 c.new-found.ensures c.in_err-read_files.ensures (sym p.2 ∙ t))
+
+pub returns-then-not-names_fit-clause-too_many : goal.returns-then-not-names_fit-clause-too_many
+returns-then-not-names_fit-clause-too_many c is within =
+    let fits : c.names_fit.result ≡ true = c.names_fit.ensures.1 (within_few c.args.files.now within).name_bytes in
+    cc

@@ -1,7 +1,7 @@
 use Rattle.std.proofs.Common.{◌+◌, drop}
 use Rattle.std.proofs.lemmas.Result.{err_from_is_err_and}
 use Rattle.hwdb_core.specs.Parts.{file_found}
-use Rattle.hwdb_core.proofs.Joining.{ends, fails, goes_on, returned}
+use Rattle.hwdb_core.proofs.Joining.{ends, fails, proceeds, returned}
 use Rattle.hwdb_core.proofs.Showing.{drop_item, nothing_left}
 use Rattle.hwdb_core.proofs.database.read_files.Goals as goal
 
@@ -14,7 +14,7 @@ returns-in_err-read_file c =
 
 pub loop-file-preserved : goal.loop-file-preserved
 loop-file-preserved c =
-    goes_on file_found c.args.found.now c.loop-file.found c.read_file.new.found c.args.files.now (drop c.loop-file.file-index c.args.files.now) c.file-item.result (drop (c.loop-file.file-index + 1) c.args.files.now)
+    proceeds file_found c.args.found.now c.loop-file.found c.read_file.new.found c.args.files.now (drop c.loop-file.file-index c.args.files.now) c.file-item.result (drop (c.loop-file.file-index + 1) c.args.files.now)
     c.loop-file.invariant (drop_item c.args.files.now c.loop-file.file-index c.file-item.result c.loop-file-test.true c.file-item.is) c.in_ok-read_file.ensures
 
 pub returns : goal.returns

@@ -3,7 +3,7 @@ use Rattle.hwdb_core.specs.Found.{found_in}
 use Rattle.hwdb_core.specs.Parts.{pair_found}
 use Rattle.std.proofs.Common.{[], ◌∙◌, ap, sym}
 use Rattle.hwdb_core.specs.Ruling.{passes_over}
-use Rattle.hwdb_core.proofs.RuledOut.{passed_over}
+use Rattle.hwdb_core.proofs.RuledOut.{skipped}
 use Rattle.hwdb_core.proofs.Joining.{first_failed, found_as, returned, same_failed, same_part, second_part}
 use Rattle.hwdb_core.proofs.Showing.{match_read}
 use Rattle.hwdb_core.proofs.reading.read_match.Goals as goal
@@ -25,4 +25,4 @@ returns-in_err-count_match-in-Ok c =
 
 pub returns-then-passes_over : goal.returns-then-passes_over
 returns-then-passes_over c =
-    c.pass_over.ensures c.args.file.now (passed_over c.args.found.now.wanted c.args.line.now.text (ap (passes_over c.args.found.now.wanted) (sym c.text.ensures) ∙ sym c.passes_over.ensures ∙ c.if-passes_over.true))
+    c.pass_over.ensures c.args.file.now (skipped c.args.found.now.wanted c.args.line.now.text (ap (passes_over c.args.found.now.wanted) (sym c.text.ensures) ∙ sym c.passes_over.ensures ∙ c.if-passes_over.true))

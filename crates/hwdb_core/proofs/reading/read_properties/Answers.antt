@@ -1,7 +1,7 @@
 use Rattle.std.proofs.Common.{◌+◌, drop}
 use Rattle.std.proofs.lemmas.Result.{err_from_is_err_and}
 use Rattle.hwdb_core.specs.Parts.{property_found}
-use Rattle.hwdb_core.proofs.Joining.{ends, fails, goes_on, returned}
+use Rattle.hwdb_core.proofs.Joining.{ends, fails, proceeds, returned}
 use Rattle.hwdb_core.proofs.Showing.{drop_item, nothing_left}
 use Rattle.hwdb_core.proofs.reading.read_properties.Goals as goal
 
@@ -14,7 +14,7 @@ returns-in_err-read_property c =
 
 pub loop-line-preserved : goal.loop-line-preserved
 loop-line-preserved c =
-    goes_on (property_found c.args.file.now) c.args.found.now c.loop-line.found c.read_property.new.found c.args.properties.now (drop c.loop-line.line-index c.args.properties.now) c.line-item.result (drop (c.loop-line.line-index + 1) c.args.properties.now)
+    proceeds (property_found c.args.file.now) c.args.found.now c.loop-line.found c.read_property.new.found c.args.properties.now (drop c.loop-line.line-index c.args.properties.now) c.line-item.result (drop (c.loop-line.line-index + 1) c.args.properties.now)
     c.loop-line.invariant (drop_item c.args.properties.now c.loop-line.line-index c.line-item.result c.loop-line-test.true c.line-item.is) c.in_ok-read_property.ensures
 
 pub returns : goal.returns

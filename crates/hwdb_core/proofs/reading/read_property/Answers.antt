@@ -1,7 +1,7 @@
 use Rattle.std.proofs.Common.{◌∙◌, sym, ap}
 use Rattle.hwdb_core.specs.Found.{onto}
 use Rattle.hwdb_core.proofs.Joining.{onto_nothing, same_part}
-use Rattle.hwdb_core.proofs.Showing.{property_good, property_told}
+use Rattle.hwdb_core.proofs.Showing.{property_good, property_reported}
 use Rattle.hwdb_core.proofs.reading.read_property.Goals as goal
 
 pub returns-in-Ok : goal.returns-in-Ok
@@ -10,6 +10,6 @@ returns-in-Ok c =
 
 pub returns-in-Err : goal.returns-in-Err
 returns-in-Err c =
-    same_part c.args.found.now c.tell.new.self _ _ c.tell.result
-    (property_told c.args.file.now c.args.line.now c.number.result c.property_text.result.now c.in-Err.kind c.in-Err.ensures c.number.ensures c.property_text.ensures)
-    c.tell.ensures
+    same_part c.args.found.now c.report.new.self _ _ c.report.result
+    (property_reported c.args.file.now c.args.line.now c.number.result c.property_text.result.now c.in-Err.kind c.in-Err.ensures c.number.ensures c.property_text.ensures)
+    c.report.ensures

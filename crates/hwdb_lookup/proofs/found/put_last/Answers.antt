@@ -2,7 +2,7 @@ use Rattle.std.proofs.Common.{◌-◌, List, length, set, arith, ap, sym, ◌∙
 use Rattle.std.proofs.lemmas.Bool.Decides.{Decides-eqb}
 use Rattle.std.proofs.lemmas.Slice.Eq.{slice_eq-Decides}
 use Rattle.hwdb_lookup.specs.declared.found.Found.{Found}
-use Rattle.hwdb_lookup.specs.Found.{all_seen}
+use Rattle.hwdb_lookup.specs.Found.{found_entries}
 use Rattle.hwdb_lookup.proofs.Places.{enters, last_has, loses, other_last, wins}
 use Rattle.hwdb_lookup.proofs.found.put_last.Goals as goal
 use Rattle.hwdb_lookup.proofs.found.put_last.Goals.{in_default-via-in-Some+else-eq, in_default-via-in_default}
@@ -12,7 +12,7 @@ returns-then-last-found c =
     let items : List Found = c.args.won.now.items in
     let item = rw c.deref.ensures.value at c.in-Some.ensures.item in
     let same = (slice_eq-Decides Decides-eqb c.in-Some.last.now.key.now c.args.found.key.now c.eq.result c.eq.ensures).0 c.if-eq.true in
-    ap (λ n. all_seen (set items (n - 1) c.args.found)) (c.len-place.ensures ∙ sym c.deref.ensures.len ∙ ap length c.deref.ensures.value)
+    ap (λ n. found_entries (set items (n - 1) c.args.found)) (c.len-place.ensures ∙ sym c.deref.ensures.len ∙ ap length c.deref.ensures.value)
     ∙ wins items (length items - 1) c.args.found c.in-Some.last.now c.requires.rise (last_has items c.in-Some.last.now c.args.found.key.now item.3.0 item.1 same) item.1 c.if-last-found.true
 
 pub returns-else-last-found : goal.returns-else-last-found
@@ -24,7 +24,7 @@ returns-else-last-found c =
 
 pub returns-in_ok-push-in_default : goal.returns-in_ok-push-in_default
 returns-in_ok-push-in_default c =
-    ap all_seen c.in_ok-push-in_default.ensures.items
+    ap found_entries c.in_ok-push-in_default.ensures.items
     ∙ enters c.args.won.now.items c.args.found c.requires.rise c.requires.last (elim c.in_default.branch [
       | in_default-via-in-Some+else-eq w ↦
           let item = rw c.deref.ensures.value at w.in-Some.ensures.item in

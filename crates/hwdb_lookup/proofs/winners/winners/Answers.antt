@@ -1,6 +1,6 @@
 use Rattle.std.proofs.Common.{◌≡◌, IfOk, subst, sym, ◌∷◌, [], ◌++◌, ◌∙◌, ap, arith, map, fold}
 use Rattle.std.proofs.lemmas.List.{map-append, take_all}
-use Rattle.hwdb_lookup.specs.Found.{all_seen, seen, stripped}
+use Rattle.hwdb_lookup.specs.Found.{found_entries, found_entry, stripped}
 use Rattle.hwdb_lookup.specs.Query.{fitting, put}
 use Rattle.hwdb_lookup.proofs.Placing.{fits_more, passes_more}
 use Rattle.hwdb_lookup.proofs.winners.winners.Goals as goal
@@ -9,19 +9,19 @@ use Rattle.hwdb_lookup.proofs.winners.winners.Goals.{then-fits+in_ok-push, else-
 pub loop-entry-preserved : goal.loop-entry-preserved
 loop-entry-preserved c = elim c.if-fits.branch [
   | then-fits+in_ok-push w ↦
-      ap (λ v. all_seen v.items) w.found-is
-      ∙ ap all_seen w.in_ok-push.ensures.items
-      ∙ map-append seen c.loop-entry.found.items (w.of.result ∷ [])
-      ∙ ap (λ e. all_seen c.loop-entry.found.items ++ e ∷ []) w.of.ensures
+      ap (λ v. found_entries v.items) w.found-is
+      ∙ ap found_entries w.in_ok-push.ensures.items
+      ∙ map-append found_entry c.loop-entry.found.items (w.of.result ∷ [])
+      ∙ ap (λ e. found_entries c.loop-entry.found.items ++ e ∷ []) w.of.ensures
       ∙ ap (λ l. l ++ stripped c.entry-item.result ∷ []) c.loop-entry.invariant
       ∙ fits_more c.args.entries.now c.args.modalias.now c.loop-entry.entry-index c.entry-item.result c.loop-entry-test.true c.entry-item.is (sym c.fits.ensures ∙ w.if-fits.true)
   | else-fits w ↦
-      ap (λ v. all_seen v.items) w.found-is
+      ap (λ v. found_entries v.items) w.found-is
       ∙ c.loop-entry.invariant
       ∙ passes_more c.args.entries.now c.args.modalias.now c.loop-entry.entry-index c.entry-item.result c.loop-entry-test.true c.entry-item.is (sym c.fits.ensures ∙ w.if-fits.false)
 ]
 
 pub returns : goal.returns
 returns c =
-    subst (λ es. IfOk c.settle.result (λ won. all_seen won.items ≡ fold put [] es))
+    subst (λ es. IfOk c.settle.result (λ won. found_entries won.items ≡ fold put [] es))
     (c.loop-entry.invariant ∙ ap (λ es. map stripped (fitting es c.args.modalias.now)) (take_all c.loop-entry.entry-index c.args.entries.now (omega arith))) c.settle.ensures

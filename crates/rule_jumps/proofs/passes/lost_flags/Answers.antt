@@ -4,7 +4,7 @@ use Rattle.std.proofs.lemmas.Iterator.Adapters.{YieldsList-from_rev_slice}
 use Rattle.std.proofs.lemmas.Iterator.Consumers.{YieldsList-end}
 use Rattle.rule_jumps.specs.Jumps.{Names}
 use Rattle.rule_jumps.specs.Passes.{misses, with_name}
-use Rattle.rule_jumps.proofs.Passing.{GoesUp, up_start, up_past, up_end}
+use Rattle.rule_jumps.proofs.Passing.{Ascends, up_start, up_past, up_end}
 use Rattle.rule_jumps.proofs.passes.lost_flags.Goals as goal
 
 pub loop-rule-init : goal.loop-rule-init
@@ -13,11 +13,11 @@ loop-rule-init c = up_start c.new-below.result c.in_ok-flags.flags.items c.new-b
 pub loop-rule-preserved : goal.loop-rule-preserved
 loop-rule-preserved c =
     let past : List Names = map (λ r. r.now) c.loop-rule.yielded in
-    let more : GoesUp c.add.new.names c.push.new.self.items (past ++ c.in-Some.rule.now ∷ []) =
+    let more : Ascends c.add.new.names c.push.new.self.items (past ++ c.in-Some.rule.now ∷ []) =
     up_past c.loop-rule.below c.add.new.names c.loop-rule.flags.items c.push.new.self.items past c.in-Some.rule.now c.misses.result c.loop-rule.invariant
     (c.misses.ensures ∙ ap (misses c.loop-rule.below) c.goto.ensures) c.in_ok-push.ensures.items
     (c.in_ok-add.ensures ∙ ap (with_name c.loop-rule.below) c.label.ensures) in
-    subst (λ (rs : List Names). GoesUp c.add.new.names c.push.new.self.items rs) (sym (map-append (λ r. r.now) c.loop-rule.yielded (c.in-Some.rule ∷ []))) more
+    subst (λ (rs : List Names). Ascends c.add.new.names c.push.new.self.items rs) (sym (map-append (λ r. r.now) c.loop-rule.yielded (c.in-Some.rule ∷ []))) more
 
 pub returns : goal.returns
 returns c =

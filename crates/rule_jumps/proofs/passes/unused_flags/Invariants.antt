@@ -1,5 +1,5 @@
-use Rattle.rule_jumps.proofs.Passing.{GoesDown}
+use Rattle.rule_jumps.proofs.Passing.{Descends}
 use Rattle.rule_jumps.proofs.passes.unused_flags.Given as goal
 
 abbrev pub invariant-loop-rule : goal.invariant-loop-rule
-invariant-loop-rule l = GoesDown l.waiting l.flags.items l.rules l.rule-index
+invariant-loop-rule l = Descends l.waiting l.flags.items l.rules l.rule-index

@@ -8,5 +8,5 @@ use Rattle.rule_laws.proofs.udev.last_label_counts.Goals as goal
 pub returns : goal.returns
 returns c = λ line parts name. record {
   counts = ap (λ (d : Draft). d.label) (one_more Udev parts (part.Label name));
-  told = ap (λ (d : Draft). d.findings) (one_more Udev parts (part.Label name));
+  reported = ap (λ (d : Draft). d.findings) (one_more Udev parts (part.Label name));
 }

@@ -1,5 +1,5 @@
 use Rattle.std.proofs.Common.{◌≡◌, drop}
-use Rattle.rule_core.specs.Drafts.{first}
+use Rattle.text_bytes.specs.Texts.{first}
 use Rattle.rule_lints.specs.FileRules.{labels_of}
 use Rattle.rule_lints.proofs.landed.first_label.Given as goal
 

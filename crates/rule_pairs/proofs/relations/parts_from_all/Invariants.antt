@@ -5,5 +5,5 @@ use Rattle.rule_pairs.proofs.relations.parts_from_all.Given as goal
 
 abbrev pub invariant-loop-other : goal.invariant-loop-other
 invariant-loop-other l =
-    list_all (λ v. part_ways l.front (beginning v)) (map (λ word. word.items) (drop l.other-index l.others))
-    ≡ list_all (λ v. part_ways l.front (beginning v)) (map (λ word. word.items) l.others)
+    list_all (λ v. part_ways l.prefix (beginning v)) (map (λ word. word.items) (drop l.other-index l.others))
+    ≡ list_all (λ v. part_ways l.prefix (beginning v)) (map (λ word. word.items) l.others)

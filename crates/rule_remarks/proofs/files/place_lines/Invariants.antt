@@ -4,4 +4,4 @@ use Rattle.rule_remarks.proofs.files.place_lines.Given as goal
 
 abbrev pub invariant-loop-line : goal.invariant-loop-line
 invariant-loop-line l =
-    l.told.items ++ remarks_from l.accounts l.kept l.start (drop l.line-index l.lines) ≡ l.initial.told.items ++ remarks_from l.accounts l.kept 0 l.lines
+    l.reported.items ++ remarks_from l.accounts l.kept l.start (drop l.line-index l.lines) ≡ l.initial.reported.items ++ remarks_from l.accounts l.kept 0 l.lines

@@ -1,6 +1,6 @@
 use Rattle.std.proofs.Common.{sym}
 use Rattle.rule_templates.specs.Names.{long_names, old_names}
-use Rattle.rule_templates.proofs.Fronts.{named_first}
+use Rattle.rule_templates.proofs.FirstPieces.{named_first}
 use Rattle.rule_templates.proofs.names.long_name.Goals as goal
 
 pub returns-in-Some : goal.returns-in-Some

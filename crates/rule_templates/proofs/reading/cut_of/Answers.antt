@@ -1,6 +1,6 @@
 use Rattle.rule_templates.specs.Cuts.{copied}
 use Rattle.rule_templates.specs.Names.{long_names_as, short_names_as}
-use Rattle.rule_templates.proofs.Fronts.{found_leaves, seen_shorter}
+use Rattle.rule_templates.proofs.FirstPieces.{found_leaves, seen_shorter}
 use Rattle.rule_templates.proofs.reading.cut_of.Goals as goal
 
 pub returns-in-36-clause-shorter : goal.returns-in-36-clause-shorter

@@ -1,7 +1,7 @@
 use Rattle.std.proofs.Common.{◌≡◌, [], rules, true, sym, ◌∙◌, arith}
 use Rattle.text_core.specs.Brackets.{elements_at}
 use Rattle.text_core.specs.Elements.{symbol_len}
-use Rattle.text_core.proofs.Tables.{tells_drop, tells_tail}
+use Rattle.text_core.proofs.Tables.{reports_drop, reports_tail}
 use Rattle.text_core.proofs.Closing.{elements_close, elements_end, elements_more, elements_open, with_elements-none}
 use Rattle.text_core.proofs.brackets.read_to_end.Goals as goal
 
@@ -16,7 +16,7 @@ loop-byte-init c = record {
 
 pub element_of-requires : goal.element_of-requires
 element_of-requires c =
-    tells_tail symbol_len c.args.lens.now c.loop-byte.rest.now c.in-Some.byte.now c.in-Some.after.now c.loop-byte.invariant.symbols c.in-Some.ensures.cases.0
+    reports_tail symbol_len c.args.lens.now c.loop-byte.rest.now c.in-Some.byte.now c.in-Some.after.now c.loop-byte.invariant.symbols c.in-Some.ensures.cases.0
 
 pub returns-then-closes_set-clause-value : goal.returns-then-closes_set-clause-value
 returns-then-closes_set-clause-value c =
@@ -38,8 +38,8 @@ loop-byte-preserved c = record {
       ∙ c.loop-byte.invariant.read);
   rest = omega (arith, c.in-Some.ensures.cases.1, c.split_at.ensures.back_len);
   symbols =
-      tells_drop symbol_len c.args.lens.now c.in-Some.after.now c.split_at.result.1.now c.in-Some-element_of.found.behind
-      (tells_tail symbol_len c.args.lens.now c.loop-byte.rest.now c.in-Some.byte.now c.in-Some.after.now c.loop-byte.invariant.symbols c.in-Some.ensures.cases.0)
+      reports_drop symbol_len c.args.lens.now c.in-Some.after.now c.split_at.result.1.now c.in-Some-element_of.found.following
+      (reports_tail symbol_len c.args.lens.now c.loop-byte.rest.now c.in-Some.byte.now c.in-Some.after.now c.loop-byte.invariant.symbols c.in-Some.ensures.cases.0)
       c.split_at.ensures.back;
 }
 

@@ -3,18 +3,18 @@ use Rattle.std.proofs.lemmas.Result.{IfOk-weaker}
 use Rattle.text_core.specs.Elements.{symbol_len}
 use Rattle.text_core.proofs.Closing.{are_closed}
 use Rattle.text_core.proofs.Fnmatching.{items_all, items_more}
-use Rattle.text_core.proofs.Tables.{tells_drop, tells_tail}
+use Rattle.text_core.proofs.Tables.{reports_drop, reports_tail}
 use Rattle.text_core.proofs.fnmatch.read_pattern.Goals as goal
 
-pub front-requires-clause-symbols : goal.front-requires-clause-symbols
-front-requires-clause-symbols c =
+pub first_item-requires-clause-symbols : goal.first_item-requires-clause-symbols
+first_item-requires-clause-symbols c =
     rw c.as_slice-in-Some.ensures.value (
-    tells_tail symbol_len c.in_ok-lens.lens.items c.loop-byte.rest.now c.in-Some.byte.now c.in-Some.after.now c.loop-byte.invariant.symbols c.in-Some.ensures.cases.0)
+    reports_tail symbol_len c.in_ok-lens.lens.items c.loop-byte.rest.now c.in-Some.byte.now c.in-Some.after.now c.loop-byte.invariant.symbols c.in-Some.ensures.cases.0)
 
-pub front-requires-clause-closings : goal.front-requires-clause-closings
-front-requires-clause-closings c =
+pub first_item-requires-clause-closings : goal.first_item-requires-clause-closings
+first_item-requires-clause-closings c =
     rw c.as_slice-in-Some-2.ensures.value (
-    tells_tail (are_closed c.args.reading) c.in_ok-closed.closed.items c.loop-byte.rest.now c.in-Some.byte.now c.in-Some.after.now c.loop-byte.invariant.closings c.in-Some.ensures.cases.0)
+    reports_tail (are_closed c.args.reading) c.in_ok-closed.closed.items c.loop-byte.rest.now c.in-Some.byte.now c.in-Some.after.now c.loop-byte.invariant.closings c.in-Some.ensures.cases.0)
 
 pub loop-byte-preserved : goal.loop-byte-preserved
 loop-byte-preserved c = record {
@@ -23,12 +23,12 @@ loop-byte-preserved c = record {
       c.in-Some.ensures.cases.0 c.in_ok-head.ensures.value c.split_at.ensures.back
       ∙ c.loop-byte.invariant.read);
   symbols =
-      tells_drop symbol_len c.in_ok-lens.lens.items c.in-Some.after.now c.split_at.result.1.now c.in_ok-head.head.behind
-      (tells_tail symbol_len c.in_ok-lens.lens.items c.loop-byte.rest.now c.in-Some.byte.now c.in-Some.after.now c.loop-byte.invariant.symbols c.in-Some.ensures.cases.0)
+      reports_drop symbol_len c.in_ok-lens.lens.items c.in-Some.after.now c.split_at.result.1.now c.in_ok-head.head.following
+      (reports_tail symbol_len c.in_ok-lens.lens.items c.loop-byte.rest.now c.in-Some.byte.now c.in-Some.after.now c.loop-byte.invariant.symbols c.in-Some.ensures.cases.0)
       c.split_at.ensures.back;
   closings =
-      tells_drop (are_closed c.args.reading) c.in_ok-closed.closed.items c.in-Some.after.now c.split_at.result.1.now c.in_ok-head.head.behind
-      (tells_tail (are_closed c.args.reading) c.in_ok-closed.closed.items c.loop-byte.rest.now c.in-Some.byte.now c.in-Some.after.now c.loop-byte.invariant.closings c.in-Some.ensures.cases.0)
+      reports_drop (are_closed c.args.reading) c.in_ok-closed.closed.items c.in-Some.after.now c.split_at.result.1.now c.in_ok-head.head.following
+      (reports_tail (are_closed c.args.reading) c.in_ok-closed.closed.items c.loop-byte.rest.now c.in-Some.byte.now c.in-Some.after.now c.loop-byte.invariant.closings c.in-Some.ensures.cases.0)
       c.split_at.ensures.back;
 }
 

@@ -11,8 +11,8 @@ loop-i-preserved c = record {
   done = below_more _ _
       (λ k h. let other : k ≢ c.loop-i.i = omega arith in rw get_or-set_other (c.loop-i.invariant.done k h))
       (let within : c.loop-i.i < length c.loop-i.bits = omega arith in
-      let turned : c.loop-i.i * 8 ≡ 8 * c.loop-i.i = omega arith in
-      rw get_or-set_same (c.eight.ensures ∙ ap (λ (n : ℕ). bits_of (between_takes c.args.reading c.args.negated c.args.between) n 8) turned));
+      let reversed : c.loop-i.i * 8 ≡ 8 * c.loop-i.i = omega arith in
+      rw get_or-set_same (c.membership_byte.ensures ∙ ap (λ (n : ℕ). bits_of (between_takes c.args.reading c.args.negated c.args.between) n 8) reversed));
 }
 
 pub returns : goal.returns

@@ -18,4 +18,4 @@ pub returns-clause-many : goal.returns-clause-many
 returns-clause-many c = any_fits
 
 pub returns-clause-joined : goal.returns-clause-joined
-returns-clause-joined c = λ p q t. (whole_parts p q t, λ s. ap (fits (p ++ q)) s.whole ∙ parts_whole p q s.front s.back s.second_passes s.first_passes)
+returns-clause-joined c = λ p q t. (whole_parts p q t, λ s. ap (fits (p ++ q)) s.whole ∙ parts_whole p q s.prefix s.back s.second_passes s.first_passes)

@@ -3,7 +3,7 @@ use Rattle.std.specs.Prelude.{codes}
 use Rattle.text_core.specs.Classes.{class_has, class_name, class_of}
 use Rattle.text_core.specs.Elements.{element_of, named_class, takes_among}
 use Rattle.text_core.specs.Fits.{fits}
-use Rattle.text_core.specs.Fnmatch.{fnmatch_bracket, fnmatch_front, fnmatch_items}
+use Rattle.text_core.specs.Fnmatch.{fnmatch_bracket, fnmatch_first, fnmatch_items}
 use Rattle.text_core.specs.Items.{set_has}
 use Rattle.text_core.specs.Sets.{set_of}
 use Rattle.text_core.specs.declared.byte_class.ByteClass.{ByteClass}
@@ -16,7 +16,7 @@ use Rattle.text_laws.proofs.Belonging.{set_has-set_of}
 use Rattle.text_laws.proofs.udev_patterns.class_takes_its_bytes.Goals as goal
 
 spelled : (reading : Reading) (class : ByteClass) → fnmatch_items reading (codes "[[:" ++ class_name class ++ codes ":]]") 0 ≡ Among (set_of (takes_among reading false (Class class ∷ []))) ∷ []
-unfolding fnmatch_front fnmatch_bracket element_of named_class class_of
+unfolding fnmatch_first fnmatch_bracket element_of named_class class_of
 spelled reading Alphanumeric = refl
 spelled reading Alphabetic = refl
 spelled reading Blank = refl

@@ -5,18 +5,18 @@ use Rattle.trie_nodes.specs.Tree.{node_at, nowhere}
 use Rattle.trie_nodes.specs.declared.node.Node.{Node}
 use Rattle.index_reading.specs.Records.{node_bytes}
 use Rattle.index_reading.specs.declared.records.NodeRecord.{NodeRecord}
-use Rattle.index_reading.proofs.Sums.{sum_front}
+use Rattle.index_reading.proofs.Sums.{sum_prefix}
 use Rattle.trie_build.specs.Content.{shown}
 use Rattle.trie_core.specs.Writing.{node_record, record_of}
-use Rattle.trie_core.proofs.Lists.{one_more, pieces_more}
+use Rattle.trie_build.proofs.Parts.{one_more, pieces_more}
 use Rattle.trie_core.proofs.nodes.push_nodes.Goals as goal
 
 pub overflow_add-first_value : goal.overflow_add-first_value
 overflow_add-first_value c =
     let nodes : List Node = c.args.nodes.now in
     let inside : c.loop-i.i < length nodes = omega arith in
-    let front : sum_by (λ (n : Node). n.values) (take c.loop-i.i nodes) + (node_at nodes c.loop-i.i).values ≤ sum_by (λ (n : Node). n.values) nodes = sum_front (λ (n : Node). n.values) nodes c.loop-i.i nowhere inside in
-    omega (arith, front, c.loop-i.invariant.first, c.requires.values)
+    let prefix : sum_by (λ (n : Node). n.values) (take c.loop-i.i nodes) + (node_at nodes c.loop-i.i).values ≤ sum_by (λ (n : Node). n.values) nodes = sum_prefix (λ (n : Node). n.values) nodes c.loop-i.i nowhere inside in
+    omega (arith, prefix, c.loop-i.invariant.first, c.requires.values)
 
 pub loop-i-preserved : goal.loop-i-preserved
 loop-i-preserved c =

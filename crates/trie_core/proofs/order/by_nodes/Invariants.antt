@@ -1,5 +1,5 @@
 use Rattle.std.proofs.Common.{◌≡◌, flat_map, take}
-use Rattle.trie_core.specs.Writing.{own_numbers}
+use Rattle.trie_build.specs.Held.{own_numbers}
 use Rattle.trie_core.proofs.order.by_nodes.Given as goal
 
 abbrev pub invariant-loop-node : goal.invariant-loop-node

@@ -1,7 +1,7 @@
 use Rattle.std.proofs.Common.{◌≡◌, ℕ, List, ◌++◌, take, flat_map, sym, ◌∙◌, ap, arith}
 use Rattle.std.proofs.lemmas.List.{take_all}
 use Rattle.std.specs.Borrow.{Bor}
-use Rattle.trie_core.proofs.Lists.{flat_mapped}
+use Rattle.trie_build.proofs.Parts.{flat_mapped}
 use Rattle.trie_core.proofs.texts.push_all.Goals as goal
 
 pub returns : goal.returns

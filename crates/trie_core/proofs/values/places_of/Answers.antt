@@ -3,7 +3,7 @@ use Rattle.std.specs.Borrow.{Bor}
 use Rattle.std.specs.List.{range_with_len}
 use Rattle.trie_core.specs.Image.{all_names}
 use Rattle.trie_build.specs.Content.{shown}
-use Rattle.trie_core.proofs.Lists.{mapped_more}
+use Rattle.trie_build.proofs.Parts.{mapped_more}
 use Rattle.trie_core.proofs.Placing.{length_shown, name_within, names_more, text_at}
 use Rattle.trie_core.proofs.values.places_of.Goals as goal
 

@@ -7,8 +7,8 @@ use Rattle.trie_core.specs.Image.{own_text}
 use Rattle.index_reading.specs.Records.{value_bytes}
 use Rattle.index_reading.specs.declared.records.ValueRecord.{ValueRecord}
 use Rattle.trie_core.specs.Writing.{named, value_record}
-use Rattle.trie_core.proofs.Lists.{one_more, pieces_more}
-use Rattle.trie_core.proofs.Placing.{in_named, length_named, length_places, length_shown, member_short, texts_more, texts_within, value_told}
+use Rattle.trie_build.proofs.Parts.{one_more, pieces_more}
+use Rattle.trie_core.proofs.Placing.{in_named, length_named, length_places, length_shown, member_short, texts_more, texts_within, value_reported}
 use Rattle.trie_core.proofs.values.push_values.Goals as goal
 
 pub record_of-requires-clause-own : goal.record_of-requires-clause-own
@@ -53,7 +53,7 @@ loop-j-preserved c =
     let j : ℕ = c.loop-j.j in
     let there : IsIn c.entry_of-entry.result.now.file names = c.requires.there c.entry_of-entry.result.now (subst (λ e. IsIn e c.args.entries.now) (sym c.entry_of-entry.ensures) among) in
     let written : c.record_of.result ≡ value_record es names j =
-    c.record_of.ensures ∙ value_told es names c.args.places.now j c.loop-j.place c.entry_of-entry.result.now c.requires.places c.loop-j.invariant.place c.entry_of-entry.ensures there in
+    c.record_of.ensures ∙ value_reported es names c.args.places.now j c.loop-j.place c.entry_of-entry.result.now c.requires.places c.loop-j.invariant.place c.entry_of-entry.ensures there in
     record {
       out = one_more c.write.new.out.items c.loop-j.out.items c.args.out.now.items (flat_map value_bytes (map (value_record es names) (range_with_len 0 j)))
           (flat_map value_bytes (map (value_record es names) (range_with_len 0 (j + 1)))) (value_bytes (value_record es names j))

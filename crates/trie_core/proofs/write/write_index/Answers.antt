@@ -2,21 +2,22 @@ use Rattle.std.proofs.Common.{◌≡◌, ℕ, ◌+◌, ◌++◌, List, length, m
 use Rattle.std.proofs.lemmas.List.FromFn.{length-map-range_with_len}
 use Rattle.std.specs.List.{range_with_len}
 use Rattle.hwdb_lookup.specs.declared.entry.Entry.{Entry}
-use Rattle.trie_build.specs.Content.{Content, IsTrie, shown}
+use Rattle.trie_build.specs.Content.{Content, shown}
+use Rattle.trie_build.specs.Held.{IsHeld, own_numbers}
 use Rattle.trie_build.specs.Sizes.{KeepsBounds, names_of, sets_of}
 use Rattle.index_reading.specs.Header.{header_bytes}
 use Rattle.index_reading.specs.Records.{node_bytes, value_bytes}
 use Rattle.index_reading.specs.Written.{draft_header}
 use Rattle.trie_core.specs.Image.{all_names, draft_of, own_text}
-use Rattle.trie_core.specs.Writing.{name_places, named, node_records, own_numbers, value_records}
-use Rattle.trie_core.proofs.Meeting.{composed, header_told, joined, need_behind, need_lengths, need_name, need_names, need_set, need_sets, need_short, need_sum, need_values, need_within}
-use Rattle.trie_core.proofs.Placing.{length_shown, text_told}
+use Rattle.trie_core.specs.Writing.{name_places, named, node_records, value_records}
+use Rattle.trie_core.proofs.Meeting.{composed, header_reported, joined, need_after, need_lengths, need_name, need_names, need_set, need_sets, need_short, need_sum, need_values, need_within}
+use Rattle.trie_core.proofs.Placing.{length_shown, text_reported}
 use Rattle.trie_core.proofs.write.write_index.Goals as goal
 
 pub texts_len-requires-clause-within : goal.texts_len-requires-clause-within
 texts_len-requires-clause-within c =
     let t : Content = c.args.trie.now in
-    let is : IsTrie t = c.entries-entries.ensures.trie in
+    let is : IsHeld t = c.entries-entries.ensures.held in
     let bounds : KeepsBounds t.entries = c.entries-entries.ensures.bounds in
     let sets : shown c.as_slice-sets.result.now ≡ sets_of t.entries = ap shown c.as_slice-sets.ensures.value ∙ c.in_ok-all_sets.ensures in
     let names : shown c.as_slice-names.result.now ≡ names_of t.entries = ap shown c.as_slice-names.ensures.value ∙ c.in_ok-all_names.ensures in
@@ -27,7 +28,7 @@ texts_len-requires-clause-within c =
 pub texts_len-requires-clause-short : goal.texts_len-requires-clause-short
 texts_len-requires-clause-short c =
     let t : Content = c.args.trie.now in
-    let is : IsTrie t = c.entries-entries.ensures.trie in
+    let is : IsHeld t = c.entries-entries.ensures.held in
     let bounds : KeepsBounds t.entries = c.entries-entries.ensures.bounds in
     let sets : shown c.as_slice-sets.result.now ≡ sets_of t.entries = ap shown c.as_slice-sets.ensures.value ∙ c.in_ok-all_sets.ensures in
     let names : shown c.as_slice-names.result.now ≡ names_of t.entries = ap shown c.as_slice-names.ensures.value ∙ c.in_ok-all_names.ensures in
@@ -38,13 +39,13 @@ texts_len-requires-clause-short c =
 pub places_of-requires : goal.places_of-requires
 places_of-requires c =
     let t : Content = c.args.trie.now in
-    let is : IsTrie t = c.entries-entries.ensures.trie in
+    let is : IsHeld t = c.entries-entries.ensures.held in
     let bounds : KeepsBounds t.entries = c.entries-entries.ensures.bounds in
     let sets : shown c.as_slice-sets.result.now ≡ sets_of t.entries = ap shown c.as_slice-sets.ensures.value ∙ c.in_ok-all_sets.ensures in
     let names : shown c.as_slice-names.result.now ≡ names_of t.entries = ap shown c.as_slice-names.ensures.value ∙ c.in_ok-all_names.ensures in
     let order : c.as_slice-order.result.now ≡ flat_map (own_numbers t.numbers) t.nodes =
     c.as_slice-order.ensures.value ∙ c.in_ok-numbers.ensures ∙ ap (λ l. flat_map (own_numbers l) c.nodes-nodes.result.now) c.numbers.ensures ∙ ap (flat_map (own_numbers t.numbers)) c.nodes-nodes.ensures in
-    omega (arith, c.texts_len.ensures, need_behind t is bounds c.entries-entries.result.now c.nodes-nodes.result.now (shown c.as_slice-sets.result.now) (shown c.as_slice-names.result.now) c.as_slice-order.result.now c.entries-entries.ensures.value c.nodes-nodes.ensures sets names order)
+    omega (arith, c.texts_len.ensures, need_after t is bounds c.entries-entries.result.now c.nodes-nodes.result.now (shown c.as_slice-sets.result.now) (shown c.as_slice-names.result.now) c.as_slice-order.result.now c.entries-entries.ensures.value c.nodes-nodes.ensures sets names order)
 
 pub bounds-places-names : goal.bounds-places-names
 bounds-places-names c =
@@ -56,7 +57,7 @@ bounds-places-names c =
 pub header_of-header-requires-clause-values : goal.header_of-header-requires-clause-values
 header_of-header-requires-clause-values c =
     let t : Content = c.args.trie.now in
-    let is : IsTrie t = c.entries-entries.ensures.trie in
+    let is : IsHeld t = c.entries-entries.ensures.held in
     let bounds : KeepsBounds t.entries = c.entries-entries.ensures.bounds in
     let sets : shown c.as_slice-sets.result.now ≡ sets_of t.entries = ap shown c.as_slice-sets.ensures.value ∙ c.in_ok-all_sets.ensures in
     let names : shown c.as_slice-names.result.now ≡ names_of t.entries = ap shown c.as_slice-names.ensures.value ∙ c.in_ok-all_names.ensures in
@@ -67,7 +68,7 @@ header_of-header-requires-clause-values c =
 pub push_nodes-requires-clause-values : goal.push_nodes-requires-clause-values
 push_nodes-requires-clause-values c =
     let t : Content = c.args.trie.now in
-    let is : IsTrie t = c.entries-entries.ensures.trie in
+    let is : IsHeld t = c.entries-entries.ensures.held in
     let bounds : KeepsBounds t.entries = c.entries-entries.ensures.bounds in
     let sets : shown c.as_slice-sets.result.now ≡ sets_of t.entries = ap shown c.as_slice-sets.ensures.value ∙ c.in_ok-all_sets.ensures in
     let names : shown c.as_slice-names.result.now ≡ names_of t.entries = ap shown c.as_slice-names.ensures.value ∙ c.in_ok-all_names.ensures in
@@ -78,7 +79,7 @@ push_nodes-requires-clause-values c =
 pub push_nodes-requires-clause-sets : goal.push_nodes-requires-clause-sets
 push_nodes-requires-clause-sets c =
     let t : Content = c.args.trie.now in
-    let is : IsTrie t = c.entries-entries.ensures.trie in
+    let is : IsHeld t = c.entries-entries.ensures.held in
     let bounds : KeepsBounds t.entries = c.entries-entries.ensures.bounds in
     let sets : shown c.as_slice-sets.result.now ≡ sets_of t.entries = ap shown c.as_slice-sets.ensures.value ∙ c.in_ok-all_sets.ensures in
     let names : shown c.as_slice-names.result.now ≡ names_of t.entries = ap shown c.as_slice-names.ensures.value ∙ c.in_ok-all_names.ensures in
@@ -89,7 +90,7 @@ push_nodes-requires-clause-sets c =
 pub push_nodes-requires-clause-there : goal.push_nodes-requires-clause-there
 push_nodes-requires-clause-there c =
     let t : Content = c.args.trie.now in
-    let is : IsTrie t = c.entries-entries.ensures.trie in
+    let is : IsHeld t = c.entries-entries.ensures.held in
     let bounds : KeepsBounds t.entries = c.entries-entries.ensures.bounds in
     let sets : shown c.as_slice-sets.result.now ≡ sets_of t.entries = ap shown c.as_slice-sets.ensures.value ∙ c.in_ok-all_sets.ensures in
     let names : shown c.as_slice-names.result.now ≡ names_of t.entries = ap shown c.as_slice-names.ensures.value ∙ c.in_ok-all_names.ensures in
@@ -100,7 +101,7 @@ push_nodes-requires-clause-there c =
 pub push_values-requires-clause-within : goal.push_values-requires-clause-within
 push_values-requires-clause-within c =
     let t : Content = c.args.trie.now in
-    let is : IsTrie t = c.entries-entries.ensures.trie in
+    let is : IsHeld t = c.entries-entries.ensures.held in
     let bounds : KeepsBounds t.entries = c.entries-entries.ensures.bounds in
     let sets : shown c.as_slice-sets.result.now ≡ sets_of t.entries = ap shown c.as_slice-sets.ensures.value ∙ c.in_ok-all_sets.ensures in
     let names : shown c.as_slice-names.result.now ≡ names_of t.entries = ap shown c.as_slice-names.ensures.value ∙ c.in_ok-all_names.ensures in
@@ -111,7 +112,7 @@ push_values-requires-clause-within c =
 pub push_values-requires-clause-names : goal.push_values-requires-clause-names
 push_values-requires-clause-names c =
     let t : Content = c.args.trie.now in
-    let is : IsTrie t = c.entries-entries.ensures.trie in
+    let is : IsHeld t = c.entries-entries.ensures.held in
     let bounds : KeepsBounds t.entries = c.entries-entries.ensures.bounds in
     let sets : shown c.as_slice-sets.result.now ≡ sets_of t.entries = ap shown c.as_slice-sets.ensures.value ∙ c.in_ok-all_sets.ensures in
     let names : shown c.as_slice-names.result.now ≡ names_of t.entries = ap shown c.as_slice-names.ensures.value ∙ c.in_ok-all_names.ensures in
@@ -122,7 +123,7 @@ push_values-requires-clause-names c =
 pub push_values-requires-clause-there : goal.push_values-requires-clause-there
 push_values-requires-clause-there c =
     let t : Content = c.args.trie.now in
-    let is : IsTrie t = c.entries-entries.ensures.trie in
+    let is : IsHeld t = c.entries-entries.ensures.held in
     let bounds : KeepsBounds t.entries = c.entries-entries.ensures.bounds in
     let sets : shown c.as_slice-sets.result.now ≡ sets_of t.entries = ap shown c.as_slice-sets.ensures.value ∙ c.in_ok-all_sets.ensures in
     let names : shown c.as_slice-names.result.now ≡ names_of t.entries = ap shown c.as_slice-names.ensures.value ∙ c.in_ok-all_names.ensures in
@@ -133,7 +134,7 @@ push_values-requires-clause-there c =
 pub push_values-requires-clause-lengths : goal.push_values-requires-clause-lengths
 push_values-requires-clause-lengths c =
     let t : Content = c.args.trie.now in
-    let is : IsTrie t = c.entries-entries.ensures.trie in
+    let is : IsHeld t = c.entries-entries.ensures.held in
     let bounds : KeepsBounds t.entries = c.entries-entries.ensures.bounds in
     let sets : shown c.as_slice-sets.result.now ≡ sets_of t.entries = ap shown c.as_slice-sets.ensures.value ∙ c.in_ok-all_sets.ensures in
     let names : shown c.as_slice-names.result.now ≡ names_of t.entries = ap shown c.as_slice-names.ensures.value ∙ c.in_ok-all_names.ensures in
@@ -153,7 +154,7 @@ push_values-requires-clause-places c =
 pub push_texts-requires : goal.push_texts-requires
 push_texts-requires c =
     let t : Content = c.args.trie.now in
-    let is : IsTrie t = c.entries-entries.ensures.trie in
+    let is : IsHeld t = c.entries-entries.ensures.held in
     let bounds : KeepsBounds t.entries = c.entries-entries.ensures.bounds in
     let sets : shown c.as_slice-sets.result.now ≡ sets_of t.entries = ap shown c.as_slice-sets.ensures.value ∙ c.in_ok-all_sets.ensures in
     let names : shown c.as_slice-names.result.now ≡ names_of t.entries = ap shown c.as_slice-names.ensures.value ∙ c.in_ok-all_names.ensures in
@@ -164,7 +165,7 @@ push_texts-requires c =
 pub returns : goal.returns
 returns c =
     let t : Content = c.args.trie.now in
-    let is : IsTrie t = c.entries-entries.ensures.trie in
+    let is : IsHeld t = c.entries-entries.ensures.held in
     let bounds : KeepsBounds t.entries = c.entries-entries.ensures.bounds in
     let sets : shown c.as_slice-sets.result.now ≡ sets_of t.entries = ap shown c.as_slice-sets.ensures.value ∙ c.in_ok-all_sets.ensures in
     let names : shown c.as_slice-names.result.now ≡ names_of t.entries = ap shown c.as_slice-names.ensures.value ∙ c.in_ok-all_names.ensures in
@@ -179,8 +180,8 @@ returns c =
     let shown_names : List (List ℕ) = shown c.as_slice-names.result.now in
     let header : c.header_of-header.result ≡ draft_header (draft_of t.entries) =
     c.header_of-header.ensures
-    ∙ header_told t is bounds c.entries-entries.result.now c.nodes-nodes.result.now (shown c.as_slice-sets.result.now) (shown c.as_slice-names.result.now) c.as_slice-order.result.now c.entries-entries.ensures.value c.nodes-nodes.ensures sets names order
-    _ (length c.as_slice-sets.result.now) (text_told listed shown_names c.as_slice-places.result.now (length c.as_slice-names.result.now) 0 places (sym (length_shown c.as_slice-names.result.now))) (sym (length_shown c.as_slice-sets.result.now)) in
+    ∙ header_reported t is bounds c.entries-entries.result.now c.nodes-nodes.result.now (shown c.as_slice-sets.result.now) (shown c.as_slice-names.result.now) c.as_slice-order.result.now c.entries-entries.ensures.value c.nodes-nodes.ensures sets names order
+    _ (length c.as_slice-sets.result.now) (text_reported listed shown_names c.as_slice-places.result.now (length c.as_slice-names.result.now) 0 places (sym (length_shown c.as_slice-names.result.now))) (sym (length_shown c.as_slice-sets.result.now)) in
     joined c.write.new.out.items c.push_nodes.new.out.items c.push_values.new.out.items c.push_all.new.out.items c.push_texts.new.out.items c.push_all-2.new.out.items
     (header_bytes c.header_of-header.result) (flat_map node_bytes (node_records shown_sets c.nodes-nodes.result.now)) (flat_map value_bytes (value_records listed shown_names)) (all_names shown_sets) (flat_map own_text listed) (all_names shown_names)
     c.in_ok-push_all-2.ensures c.in_ok-push_texts.ensures c.in_ok-push_all.ensures c.in_ok-push_values.ensures c.in_ok-push_nodes.ensures

@@ -3,7 +3,7 @@ use Rattle.std.proofs.lemmas.List.{take_all}
 use Rattle.hwdb_lookup.specs.Query.{origin, winners}
 use Rattle.hwdb_lookup.proofs.Stripping.{same_stripped}
 use Rattle.trie_nodes.specs.declared.node.Node.{Node}
-use Rattle.hwdb_lookup.specs.Found.{all_seen}
+use Rattle.hwdb_lookup.specs.Found.{found_entries}
 use Rattle.trie_nodes.specs.Values.{Value, listed}
 use Rattle.trie_nodes.proofs.Listing.{winners_by_nodes}
 use Rattle.trie_nodes.proofs.answers.query_sources.Goals as goal
@@ -13,6 +13,6 @@ returns g c =
     let nodes : List Node = g.D.Nodes.nodes c.args.database.now in
     let values : List Value = g.D.Database.values c.args.database.now in
     c.loop-winner.invariant
-    ∙ ap (λ l. map origin (all_seen l)) (take_all c.loop-winner.winner-index c.deref-winner-items.result.now (omega arith) ∙ c.deref-winner-items.ensures.value)
+    ∙ ap (λ l. map origin (found_entries l)) (take_all c.loop-winner.winner-index c.deref-winner-items.result.now (omega arith) ∙ c.deref-winner-items.ensures.value)
     ∙ ap (map origin) (c.in_ok-won.ensures ∙ sym (winners_by_nodes nodes values c.args.modalias.now))
     ∙ same_stripped origin (λ e. refl) (winners (listed nodes values) c.args.modalias.now)

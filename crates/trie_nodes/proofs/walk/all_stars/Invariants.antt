@@ -1,5 +1,5 @@
 use Rattle.std.proofs.Common.{◌≡◌, take}
-use Rattle.trie_nodes.specs.Tree.{stars}
+use Rattle.trie_nodes.specs.Steps.{stars}
 use Rattle.trie_nodes.proofs.walk.all_stars.Given as goal
 
 abbrev pub invariant-loop-i : goal.invariant-loop-i

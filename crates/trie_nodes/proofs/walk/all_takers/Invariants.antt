@@ -1,6 +1,7 @@
 use Rattle.std.proofs.Common.{◌≡◌, take}
 use Rattle.std.specs.List.{flat_map}
-use Rattle.trie_nodes.specs.Tree.{children, takers}
+use Rattle.trie_nodes.specs.Tree.{children}
+use Rattle.trie_nodes.specs.Steps.{takers}
 use Rattle.trie_nodes.proofs.walk.all_takers.Given as goal
 
 abbrev pub invariant-loop-parent : goal.invariant-loop-parent

@@ -1,6 +1,7 @@
 use Rattle.std.proofs.Common.{◌≡◌, ◌++◌, ◌-◌}
 use Rattle.std.specs.List.{range_with_len}
-use Rattle.trie_nodes.specs.Tree.{children, takers}
+use Rattle.trie_nodes.specs.Tree.{children}
+use Rattle.trie_nodes.specs.Steps.{takers}
 use Rattle.trie_nodes.proofs.walk.push_takers.Given as goal
 
 abbrev pub invariant-loop-child : goal.invariant-loop-child

@@ -5,5 +5,5 @@ use Rattle.builtin_devices.proofs.devices.Devices.parents_of.Given as goal
 
 abbrev pub invariant-loop-place : goal.invariant-loop-place
 invariant-loop-place l =
-    map (λ device. device.now) l.parents.items ++ filter_map (device_before l.self l.path) (reverse (range_with_len 0 l.place))
+    map (λ device. device.now) l.parents.items ++ filter_map (device_before l.self l.path) (reverse (range_with_len 0 l.place-counter))
     ≡ filter_map (device_before l.self l.path) (reverse (range_with_len 0 (length l.path)))

@@ -1,6 +1,6 @@
 use Rattle.std.proofs.Common.{arith, rules}
 use Rattle.std.proofs.lemmas.Grind.{common_steps}
-use Rattle.engine_ends.proofs.Told.{cuts-append, given-is}
+use Rattle.engine_ends.proofs.Reported.{cuts-append, given-is}
 use Rattle.engine_ends.proofs.memory_source.MemorySourceSource.read.Goals as goal
 
 pub returns-clause-gives : goal.returns-clause-gives

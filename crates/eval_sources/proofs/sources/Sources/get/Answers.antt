@@ -1,5 +1,5 @@
-use Rattle.text_tables.proofs.Held.{lent}
+use Rattle.text_tables.proofs.Held.{borrowed}
 use Rattle.eval_sources.proofs.sources.Sources.get.Goals as goal
 
 pub returns : goal.returns
-returns c = rw (← c.self.view_is) (lent (λ k. k.items) (λ v. v) c.self.inside.held.entries c.args.name.now c.get.result c.get.ensures.value)
+returns c = rw (← c.self.view_is) (borrowed (λ k. k.items) (λ v. v) c.self.inside.held.entries c.args.name.now c.get.result c.get.ensures.value)

@@ -3,7 +3,7 @@ use Rattle.std.proofs.lemmas.Result.{err_from_is_err_and}
 use Rattle.text_bytes.specs.Messages.{capped}
 use Rattle.hwdb_core.specs.Found.{Held}
 use Rattle.hwdb_core.proofs.Joining.{returned}
-use Rattle.hwdb_core.proofs.Keeping.{entry_added_as, entry_passed_over_as, too_many_at}
+use Rattle.hwdb_core.proofs.Keeping.{entry_added_as, entry_skipped_as, too_many_at}
 use Rattle.hwdb_core.proofs.gathered.Gathered.add_entry.Goals as goal
 
 pub returns-in_err-count_entry : goal.returns-in_err-count_entry
@@ -15,7 +15,7 @@ returns-in_err-count_entry c =
 
 pub returns-then-not-counts : goal.returns-then-not-counts
 returns-then-not-counts c =
-    entry_passed_over_as c.args.self.now c.count_entry.new.self (record { pattern = c.args.pattern; key = c.args.pair.now.key.now; value = c.args.pair.now.value.now; file = c.args.file.now; line = capped c.args.number }) _
+    entry_skipped_as c.args.self.now c.count_entry.new.self (record { pattern = c.args.pattern; key = c.args.pair.now.key.now; value = c.args.pair.now.value.now; file = c.args.file.now; line = capped c.args.number }) _
     refl c.in_ok-count_entry.ensures.counted c.if-not-counts.ensures
 
 pub returns : goal.returns

@@ -16,7 +16,7 @@ returns-in_err-part-clause-value c =
 pub loop-place-preserved : goal.loop-place-preserved
 loop-place-preserved c =
     let at : ℕ = length c.args.text.now - length c.loop-place.rest.now in
-    let front : length c.split_at.result.0.now ≡ c.in-Some.place = c.split_at.ensures.front_len in
+    let prefix : length c.split_at.result.0.now ≡ c.in-Some.place = c.split_at.ensures.front_len in
     let back : length c.split_at-in-Some.result.1.now + (c.in-Some.place + 1) ≡ length c.loop-place.rest.now = c.split_at-in-Some.ensures.back_len in
     let within : length c.loop-place.rest.now ≤ length c.args.text.now = c.loop-place.invariant.rest in
     let next : at + length c.split_at.result.0.now + 1 ≡ length c.args.text.now - length c.split_at-in-Some.result.1.now = omega arith in

@@ -14,12 +14,12 @@ loop-byte-preserved c = record {
   read =
       let at : ℕ = c.args.at + (length c.args.text.now - length c.loop-byte.rest.now) in
       let shorter : length c.in-Some.after.now + 1 ≡ length c.loop-byte.rest.now = c.in-Some.ensures.cases.1 in
-      let left : length c.split_at.result.1.now + c.in_ok-head.head.behind ≡ length c.in-Some.after.now = c.split_at.ensures.back_len in
+      let left : length c.split_at.result.1.now + c.in_ok-head.head.following ≡ length c.in-Some.after.now = c.split_at.ensures.back_len in
       let within : length c.loop-byte.rest.now ≤ length c.args.text.now = c.loop-byte.invariant.rest in
-      let next : at + 1 + c.in_ok-head.head.behind ≡ c.args.at + (length c.args.text.now - length c.split_at.result.1.now) = omega arith in
-      let fits : c.in_ok-head.head.behind ≤ length c.in-Some.after.now = omega arith in
+      let next : at + 1 + c.in_ok-head.head.following ≡ c.args.at + (length c.args.text.now - length c.split_at.result.1.now) = omega arith in
+      let fits : c.in_ok-head.head.following ≤ length c.in-Some.after.now = omega arith in
       rw c.in_ok-push.ensures.items (
-      read_more c.args.reading c.loop-byte.items.items c.in_ok-head.head.item c.in_ok-head.head.behind at (c.args.at + (length c.args.text.now - length c.split_at.result.1.now))
+      read_more c.args.reading c.loop-byte.items.items c.in_ok-head.head.item c.in_ok-head.head.following at (c.args.at + (length c.args.text.now - length c.split_at.result.1.now))
       c.in-Some.byte.now c.in-Some.after.now c.loop-byte.rest.now c.split_at.result.1.now
       c.in-Some.ensures.cases.0 (sym c.in_ok-head.ensures.value) c.split_at.ensures.back fits next
       ∙ c.loop-byte.invariant.read);

@@ -4,7 +4,7 @@ use Rattle.std.proofs.Math.ListN.{drop_of_length-le}
 use Rattle.text_bytes.specs.Names.{is_whitespace}
 use Rattle.text_bytes.specs.Texts.{is_empty}
 use Rattle.text_links.specs.Steps.{added, grown}
-use Rattle.text_links.proofs.JoinedWords.{byte_goes_over}
+use Rattle.text_links.proofs.JoinedWords.{byte_passes}
 use Rattle.text_links.proofs.underscores.Word.push.Goals as goal
 
 pub loop-byte-preserved : goal.loop-byte-preserved
@@ -16,7 +16,7 @@ loop-byte-preserved c = λ left.
     let rest = drop (c.loop-byte.byte-index + 1) more ++ left in
     let next = c.push_byte.new.word.items in
     sym (at_drop_more (λ t. word ++ added (is_empty word) gap (t ++ left)) more c.loop-byte.byte-index 0 c.loop-byte-test.true
-    ∙ byte_goes_over word gap byte rest
+    ∙ byte_passes word gap byte rest
     ∙ ap (λ w. w ++ added (is_empty w) (is_whitespace byte) rest) (sym c.in_ok-push_byte.ensures)
     ∙ ap (λ g. next ++ added (is_empty next) g rest) (sym c.is_whitespace-self.ensures))
     ∙ c.loop-byte.invariant left

@@ -5,8 +5,10 @@ use Rattle.std.proofs.lemmas.List.Sorted.{length_permutation}
 use Rattle.hwdb_lookup.specs.declared.entry.Entry.{Entry}
 use Rattle.trie_nodes.specs.declared.node.Node.{Node}
 use Rattle.trie_build.specs.Paths.{paths_of}
-use Rattle.trie_build.specs.Sizes.{KeepsBounds, max_nodes}
-use Rattle.trie_build.specs.Content.{IsTrie}
+use Rattle.trie_build.specs.Sizes.{KeepsBounds}
+use Rattle.hwdb_lookup.specs.Bounds.{max_nodes}
+use Rattle.trie_build.specs.Held.{IsHeld}
+use Rattle.trie_build.proofs.Gathering.{is_trie}
 use Rattle.trie_build.proofs.trie.Trie.build.Goals as goal
 
 pub invariant_of-result : goal.invariant_of-result
@@ -14,8 +16,8 @@ invariant_of-result c =
     let entries : List Entry = c.args.entries.items in
     let numbers : List ℕ = c.in_ok-numbers.field-0.numbers.items in
     let nodes : List Node = c.in_ok-numbers.field-0.nodes.items in
-    let trie : IsTrie (record { entries = entries; numbers = numbers; nodes = nodes }) =
-    subst (λ (es : List Entry). IsTrie (record { entries = es; numbers = numbers; nodes = nodes })) c.deref.ensures.value c.in_ok-numbers.ensures.trie in
+    let trie : IsHeld (record { entries = entries; numbers = numbers; nodes = nodes }) =
+    subst (λ (es : List Entry). IsHeld (record { entries = es; numbers = numbers; nodes = nodes })) c.deref.ensures.value c.in_ok-numbers.ensures.trie in
     let keeps : KeepsBounds entries = subst KeepsBounds c.deref.ensures.value c.in_ok-numbers.ensures.fits in
     let fits : length (paths_of entries) ≤ max_nodes = keeps.nodes in
     let all : length numbers ≡ length (range_with_len 0 (length entries)) = length_permutation (range_with_len 0 (length entries)) numbers trie.values in
@@ -27,6 +29,6 @@ returns-clause-trie c =
     let entries : List Entry = c.args.entries.items in
     let numbers : List ℕ = c.in_ok-numbers.field-0.numbers.items in
     let nodes : List Node = c.in_ok-numbers.field-0.nodes.items in
-    let trie : IsTrie (record { entries = entries; numbers = numbers; nodes = nodes }) =
-    subst (λ (es : List Entry). IsTrie (record { entries = es; numbers = numbers; nodes = nodes })) c.deref.ensures.value c.in_ok-numbers.ensures.trie in
-    trie
+    let trie : IsHeld (record { entries = entries; numbers = numbers; nodes = nodes }) =
+    subst (λ (es : List Entry). IsHeld (record { entries = es; numbers = numbers; nodes = nodes })) c.deref.ensures.value c.in_ok-numbers.ensures.trie in
+    is_trie (record { entries = entries; numbers = numbers; nodes = nodes }) trie

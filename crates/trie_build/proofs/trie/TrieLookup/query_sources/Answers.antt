@@ -5,4 +5,4 @@ use Rattle.trie_build.proofs.trie.TrieLookup.query_sources.Goals as goal
 
 pub returns : goal.returns
 returns c =
-    subst (λ q. IfOk c.query_sources.result (λ found. map shown_origin found.items ≡ q)) (sources_are c.args.self.now c.known.ensures c.args.modalias.now) c.query_sources.ensures
+    subst (λ q. IfOk c.query_sources.result (λ found. map shown_origin found.items ≡ q)) (sources_are c.args.self.now c.known.ensures.held c.args.modalias.now) c.query_sources.ensures

@@ -1,5 +1,0 @@
-use Rattle.builtin_input.proofs.WordLaws.{zeros}
-use Rattle.builtin_input.proofs.laws.zeros_in_front_change_nothing.Goals as goal
-
-pub returns : goal.returns
-returns c = zeros

@@ -1,6 +1,0 @@
-use Rattle.std.proofs.lemmas.List.{append_cancel_left}
-use Rattle.builtin_path.specs.Usb.{port_start}
-use Rattle.builtin_path.proofs.laws.parts_tell_ports_apart.Goals as goal
-
-pub returns : goal.returns
-returns c = λ revision port other h. append_cancel_left (port_start revision) port other h

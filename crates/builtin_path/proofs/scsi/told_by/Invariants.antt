@@ -1,6 +1,0 @@
-use Rattle.std.proofs.Common.{◌≡◌, drop, map}
-use Rattle.builtin_path.specs.Scsi.{told_by}
-use Rattle.builtin_path.proofs.scsi.told_by.Given as goal
-
-abbrev pub invariant-loop-row : goal.invariant-loop-row
-invariant-loop-row l = told_by (map (λ row. (row.0.now, row.1)) (drop l.row-index l.rows)) l.path ≡ told_by (map (λ row. (row.0.now, row.1)) l.rows) l.path

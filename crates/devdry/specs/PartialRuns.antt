@@ -1,0 +1,61 @@
+-- What runs that go on after what can't be read do.
+use Rattle.std.specs.Prelude.{◌≡◌, ℕ, ◌⊎◌, List, [], None, max}
+use Rattle.engine_ends.specs.declared.line.Line.{Line}
+use Rattle.engine_ends.specs.Delivery.{Delivers, IsOutOfMemory}
+use Rattle.engine_ends.specs.Sinks.{BreaksOff, HandsOn, SinkState}
+use Rattle.engine_ends.specs.Streams.{Streams, outputs}
+use Rattle.engine_core.specs.Runs.{RunsOver}
+use Rattle.devdry_files.specs.Answers.{Answer}
+use Rattle.devdry_folders.specs.Surveys.{IsListed, IsReadSome}
+use Rattle.devdry_folders.specs.declared.reading.Listed.{Listed}
+use Rattle.devdry_folders.specs.declared.reading.ReadSome.{ReadSome}
+
+-- The error output has what is reported, and the run after that goes on from there; the status is the run's own, or
+-- the least one if that is greater.
+pub record Proceeds (reported : List ℕ) (least : ℕ) (Own : ℕ → Streams → Streams → Type 0) (status : ℕ) (before now : Streams) : Type 0 where
+  pub err : SinkState
+  pub hands_on : HandsOn before.err reported err
+  pub own : ℕ
+  pub runs : Own own (record { input = before.input; out = before.out; err = err }) now
+  pub status_is : status ≡ max own least
+
+-- The error output failed at what is reported, and nothing else was done.
+pub record FailsAtReport (reported : List ℕ) (status : ℕ) (before now : Streams) : Type 0 where
+  pub status_is : status ≡ 3
+  pub breaks_off : BreaksOff before.err reported now.err
+  pub unread : now.input ≡ before.input
+  pub untouched : now.out ≡ before.out
+
+-- what is reported is written first, and the run follows
+abbrev pub RunsAfter : List ℕ → ℕ → (ℕ → Streams → Streams → Type 0) → ℕ → Streams → Streams → Type 0
+RunsAfter reported least Own status before now = Proceeds reported least Own status before now ⊎ FailsAtReport reported status before now
+
+-- The reading ran out of memory, and that is reported; no input is read.
+pub record IsRefusedToRead (status : ℕ) (before now : Streams) : Type 0 where
+  pub refused : IsOutOfMemory status (outputs before) (outputs now)
+  pub unread : now.input ≡ before.input
+
+-- What can be read of all that the line asks for was read, and the line is run over that.
+pub record RunsOverSome (may : Answer → Type 0) (line : Line) (status : ℕ) (before now : Streams) : Type 0 where
+  pub some : ReadSome
+  pub is_some : IsReadSome may line some
+  pub runs : RunsAfter some.reported.items some.least (RunsOver line some.files.items None) status before now
+
+-- what a line that goes on after what can't be read does
+abbrev pub RunsSome : (Answer → Type 0) → Line → ℕ → Streams → Streams → Type 0
+RunsSome may line status before now = RunsOverSome may line status before now ⊎ IsRefusedToRead status before now
+
+-- the lines on the files of the folders go to the output, with status 0
+abbrev pub DeliversLines : List ℕ → ℕ → Streams → Streams → Type 0
+DeliversLines lines own before now = Delivers (record { output = lines; messages = []; status = 0 }) own (outputs before) (outputs now)
+
+-- The folders that the line asks for were visited, and their files are reported.
+pub record ReportsFiles (may : Answer → Type 0) (line : Line) (status : ℕ) (before now : Streams) : Type 0 where
+  pub listed : Listed
+  pub is_listed : IsListed may line listed
+  pub runs : RunsAfter listed.reported.items listed.least (DeliversLines listed.lines.items) status before now
+  pub unread : now.input ≡ before.input
+
+-- what `files` does for the line that reads the folders
+abbrev pub ListsFiles : (Answer → Type 0) → Line → ℕ → Streams → Streams → Type 0
+ListsFiles may line status before now = ReportsFiles may line status before now ⊎ IsRefusedToRead status before now

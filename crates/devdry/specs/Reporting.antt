@@ -1,0 +1,34 @@
+-- What is reported for words and files that can't be used, by the status.
+use Rattle.std.specs.Prelude.{◌≡◌, ℕ, List, [], ◌∷◌, ◌++◌, codes, string_bytes}
+use Rattle.text_bytes.specs.Escapes.{escape_text}
+use Rattle.text_bytes.specs.Names.{newline}
+use Rattle.engine_ends.specs.declared.line.LineFault.{LineFault}
+use Rattle.engine_ends.specs.declared.line.LineFault.TheVariants.{Help, Usage, Memory}
+use Rattle.engine_ends.specs.Sinks.{SinkState}
+use Rattle.engine_ends.specs.Streams.{Outputs}
+use Rattle.engine_ends.specs.Delivery.{Delivers, ReportsFailure, out_of_memory}
+use Rattle.devdry_files.specs.declared.fault.ReadFault.{ReadFault}
+use Rattle.devdry_files.specs.declared.fault.ReadFault.TheVariants as read
+
+-- the line on a file or a folder that could not be read, with its path escaped
+abbrev pub cannot_read : List ℕ → List ℕ
+cannot_read path = codes "devdry: cannot read " ++ escape_text path ++ newline ∷ []
+
+-- what is reported if an argument is not UTF-8
+abbrev pub not_text : List ℕ
+not_text = codes "error: an argument is not UTF-8\n\nFor more information, try '--help'.\n"
+
+-- Words are not a line: help goes to the output with status 0; what is wrong goes to the error output with status 2,
+-- and the output stays as it is.
+abbrev pub ReportsLineFault : LineFault → ℕ → Outputs → Outputs → Type 0
+ReportsLineFault (Help text) status before now =
+    Delivers (record { output = string_bytes text; messages = []; status = 0 }) status before now
+ReportsLineFault (Usage text) status before now =
+    (now.out ≡ before.out) × ReportsFailure (string_bytes text) 2 status before.err now.err
+ReportsLineFault Memory status before now =
+    (now.out ≡ before.out) × ReportsFailure out_of_memory 4 status before.err now.err
+
+-- files could not be read: the path is reported with status 3
+abbrev pub ReportsReadFault : ReadFault → ℕ → SinkState → SinkState → Type 0
+ReportsReadFault (read.Path path) status err err_now = ReportsFailure (cannot_read (string_bytes path)) 3 status err err_now
+ReportsReadFault read.Memory status err err_now = ReportsFailure out_of_memory 4 status err err_now

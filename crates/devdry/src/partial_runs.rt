@@ -1,0 +1,89 @@
+//! Runs that go on after what can't be read.
+//!
+//! What is reported for the reading is written first. Then the run is like any other, and its status is at least
+//! the one that the reading asks for.
+ghost use Rattle.engine_core.specs.Runs.{RunsOver};
+ghost use Rattle.engine_ends.specs.Sources.{SourceState};
+ghost use Rattle.std.specs.Prelude.{None};
+ghost use Rattle.devdry.specs.PartialRuns.{DeliversLines, ListsFiles, RunsAfter, RunsSome};
+
+use devdry_files::Disk;
+use devdry_folders::{Listed, ReadSome, list_files, read_what_can};
+use engine_core::serve;
+use engine_ends::{DeviceFault, Line, Sink, Source, deliver, hand_on, report_out_of_memory};
+use std::alloc::Global;
+
+/// Runs a line over what can be read of all that it asks for.
+pub(crate) fn run_some<D: Disk, I: Source, W: Sink, E: Sink>(
+    alloc: Global,
+    disk: &D,
+    line: &Line<'_>,
+    input: &mut I,
+    output: &mut W,
+    error: &mut E,
+) -> u8
+    ensures { RunsSome (D.may_answer disk.now) line.now result
+        (record { input = I.shown input.old; out = W.shown output.old; err = E.shown error.old })
+        (record { input = I.shown input.new; out = W.shown output.new; err = E.shown error.new }) }
+{
+    match read_what_can(alloc, disk, line) {
+        Ok(some) => run_over(alloc, line, some, input, output, error),
+        Err(_) => report_out_of_memory(error),
+    }
+}
+
+/// Reports what could not be read, and runs a line over what could.
+fn run_over<I: Source, W: Sink, E: Sink>(
+    alloc: Global,
+    line: &Line<'_>,
+    some: ReadSome,
+    input: &mut I,
+    output: &mut W,
+    error: &mut E,
+) -> u8
+    ensures { RunsAfter some.reported.items some.least (RunsOver line.now some.files.items None) result
+        (record { input = I.shown input.old; out = W.shown output.old; err = E.shown error.old })
+        (record { input = I.shown input.new; out = W.shown output.new; err = E.shown error.new }) }
+{
+    match hand_on(error, &some.reported) {
+        Ok(()) => {
+            let own = serve(alloc, line, some.files, None, input, output, error);
+            own.max(some.least)
+        }
+        Err(DeviceFault) => 3,
+    }
+}
+
+/// Reports which files of the folders that a line asks for count. No input is read.
+pub(crate) fn run_files<D: Disk, W: Sink, E: Sink>(
+    alloc: Global,
+    disk: &D,
+    line: &Line<'_>,
+    output: &mut W,
+    error: &mut E,
+) -> u8
+    ensures { (input : SourceState) → ListsFiles (D.may_answer disk.now) line.now result
+        (record { input = input; out = W.shown output.old; err = E.shown error.old })
+        (record { input = input; out = W.shown output.new; err = E.shown error.new }) }
+{
+    match list_files(alloc, disk, line) {
+        Ok(listed) => report_listed(&listed, output, error),
+        Err(_) => report_out_of_memory(error),
+    }
+}
+
+/// Writes what is reported for the folders, and then the lines on their files.
+fn report_listed<W: Sink, E: Sink>(listed: &Listed, output: &mut W, error: &mut E) -> u8
+    ensures { (input : SourceState) → RunsAfter listed.now.reported.items listed.now.least
+        (DeliversLines listed.now.lines.items) result
+        (record { input = input; out = W.shown output.old; err = E.shown error.old })
+        (record { input = input; out = W.shown output.new; err = E.shown error.new }) }
+{
+    match hand_on(error, &listed.reported) {
+        Ok(()) => {
+            let own = deliver(b"", &listed.lines, 0, output, error);
+            own.max(listed.least)
+        }
+        Err(DeviceFault) => 3,
+    }
+}

@@ -1,0 +1,64 @@
+//! The faults that `devdry` itself reports, each with its text.
+ghost use Rattle.std.specs.Prelude.{◌≡◌, IfOk, string_bytes};
+ghost use Rattle.devdry_words.specs.Answers.{Explains, IsHelpWith, IsUsageOf};
+ghost use Rattle.devdry_words.specs.Refusals.{invalid_value};
+
+use devdry_explanations::explanation;
+use engine_ends::LineFault;
+use std::alloc::{AllocError, Global};
+
+const NO_SUCH_CODE: &str = "' for '<CODE>'
+  [possible values: V1, V2, V3, V4, V5, V6, V7, V8, V9, V10, V11, V12, V13, V14, V15, V16, V17, V18, V19, V20, V21, V22, V23, V24, V25, V26, S1, S2, S3, S4, S5, S6, H1, H2, H3, H4, H5, H6, W1, W2, W3, W4, W5, W6, W7, W8, W9, W10, W11, W12, W13, I1, I2]
+
+For more information, try '--help'.
+";
+
+/// Help with this text.
+fn help(alloc: Global, text: &str) -> LineFault
+    ensures { IsHelpWith (λ said. said ≡ text.now) result }
+{
+    match String::from_str(alloc, text) {
+        Ok(text) => LineFault::Help(text),
+        Err(_) => LineFault::Memory,
+    }
+}
+
+/// Usage with this text.
+pub(crate) fn usage(alloc: Global, text: &str) -> LineFault
+    ensures { IsUsageOf text.now result }
+{
+    match String::from_str(alloc, text) {
+        Ok(text) => LineFault::Usage(text),
+        Err(_) => LineFault::Memory,
+    }
+}
+
+/// The text on a value that its argument does not take.
+fn invalid_value(alloc: Global, value: &str, following: &str) -> Result<String, AllocError>
+    ensures { IfOk result (λ text. string_bytes text ≡ invalid_value value.now following.now) }
+{
+    let mut text = String::from_str(alloc, "error: invalid value '")?;
+    text.push_str(value)?;
+    text.push_str(following)?;
+    Ok(text)
+}
+
+/// Usage on a value that its argument does not take, with what follows the value.
+pub(crate) fn usage_on_value(alloc: Global, value: &str, following: &str) -> LineFault
+    ensures { IsUsageOf (invalid_value value.now following.now) result }
+{
+    match invalid_value(alloc, value, following) {
+        Ok(text) => LineFault::Usage(text),
+        Err(_) => LineFault::Memory,
+    }
+}
+
+/// The section on the message of a code, as help, or usage that lists the codes.
+pub(crate) fn explained(alloc: Global, code: &str) -> LineFault
+    ensures { Explains code.now result }
+{
+    match explanation(code) {
+        Some(section) => help(alloc, section),
+        None => usage_on_value(alloc, code, NO_SUCH_CODE),
+    }
+}

@@ -1,8 +1,0 @@
-use Rattle.std.proofs.Common.{◌≡◌, map, take}
-use Rattle.std.specs.List.{flat_map}
-use Rattle.engine_formats.specs.Diagnostics.{shown}
-use Rattle.engine_checks.specs.Tables.{database_told_by}
-use Rattle.engine_checks.proofs.database_told.database_told.Given as goal
-
-abbrev pub invariant-loop-read : goal.invariant-loop-read
-invariant-loop-read l = map shown l.told.items ≡ flat_map (database_told_by l.asked.lint l.asked.style l.asked.ignored) (take l.read-index l.reads)

@@ -1,9 +1,0 @@
-use Rattle.engine_checks.proofs.Among.{messages_plainly_told}
-use Rattle.engine_checks.proofs.LintsTold.{same_messages}
-use Rattle.engine_checks.proofs.lint_laws.messages_are_told_as_without_lints.Goals as goal
-
-pub returns-clause-messages : goal.returns-clause-messages
-returns-clause-messages c line file = same_messages line file
-
-pub returns-clause-unasked : goal.returns-clause-unasked
-returns-clause-unasked c line file unasked counts = messages_plainly_told line file counts unasked

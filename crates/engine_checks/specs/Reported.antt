@@ -1,0 +1,104 @@
+-- Which diagnostics of a file are reported, and which remarks on its comments.
+use Rattle.std.specs.Prelude.{ℕ, Bool, true, false, not, ◌==◌, ◌||◌, ◌&&◌, nat_lt, if◌then◌else◌, List, [], ◌∷◌, ◌++◌, filter, filter_map, Option, Some, None, option_map}
+use Rattle.std.specs.List.{list_any, take_while}
+use Rattle.text_bytes.specs.Lines.{NumberedLine}
+use Rattle.text_bytes.specs.Texts.{skip_while}
+use Rattle.text_tables.specs.Texts.{Text, is_among, same_text}
+use Rattle.engine_reports.specs.Checks.{is_style}
+use Rattle.engine_formats.specs.Diagnostics.{DiagnosticValue}
+use Rattle.engine_formats.specs.Placing.{line_numbered}
+use Rattle.engine_formats.specs.Remarks.{code_of}
+use Rattle.engine_formats.specs.declared.remark.Remark.{Remark}
+use Rattle.engine_formats.specs.declared.remark.Remark.TheVariants.{Message, Lint, IdleIgnore, UnknownCode}
+use Rattle.engine_checks.specs.Codes.{is_code}
+use Rattle.engine_checks.specs.Ignores.{Ignore}
+use Rattle.engine_checks.specs.declared.ignores.Scope.{Scope}
+use Rattle.engine_checks.specs.declared.ignores.Scope.TheVariants.{File, Next, Unread}
+
+-- whether a comment is about what is reported for a line
+abbrev pub covers : Scope → ℕ → Bool
+covers File line = true
+covers (Next None) line = false
+covers (Next (Some next)) line = line == next
+covers Unread line = false
+
+-- whether a code in a comment silences a diagnostic: it is the diagnostic's code, and the comment is about the line
+-- for which the diagnostic is reported
+abbrev pub silences : Ignore → DiagnosticValue → Bool
+silences ignore d = covers ignore.scope d.begins && same_text (code_of d.remark) ignore.code
+
+-- whether one of these codes in comments silences a diagnostic
+abbrev pub is_silenced : List Ignore → DiagnosticValue → Bool
+is_silenced ignores d = list_any (λ ignore. silences ignore d) ignores
+
+-- whether a remark is a message about style
+abbrev pub is_about_style : Remark → Bool
+is_about_style (Message kind) = is_style kind
+is_about_style (Lint lint) = false
+is_about_style IdleIgnore = false
+is_about_style UnknownCode = false
+
+-- whether a remark is a lint
+abbrev pub is_lint : Remark → Bool
+is_lint (Message kind) = false
+is_lint (Lint lint) = true
+is_lint IdleIgnore = false
+is_lint UnknownCode = false
+
+-- whether a command line asks for a remark: with or without lints, with or without style, past the codes of `--ignore`
+abbrev pub is_asked : Bool → Bool → List Text → Remark → Bool
+is_asked lint style ignored remark = ((not (is_lint remark) || lint) && (style || not (is_about_style remark))) && not (is_among ignored (code_of remark))
+
+-- whether what was found is reported: it is asked for, and no code in a comment silences it
+abbrev pub is_reported : Bool → Bool → List Text → List Ignore → DiagnosticValue → Bool
+is_reported lint style ignored ignores d = is_asked lint style ignored d.remark && not (is_silenced ignores d)
+
+-- whether a code in a comment is unknown, or the comment is not understood
+abbrev pub is_unknown : Scope → Text → Bool
+is_unknown File code = not (is_code code)
+is_unknown (Next next) code = not (is_code code)
+is_unknown Unread code = true
+
+-- what is to be said about a code in a comment, by all that was found in the file: that there is no such code, or
+-- that it silences none of this
+abbrev pub remark_on : List DiagnosticValue → Ignore → Option Remark
+remark_on found ignore =
+    if is_unknown ignore.scope ignore.code then Some UnknownCode
+    else if list_any (silences ignore) found then None
+    else Some IdleIgnore
+
+-- a file as diagnostics show it: its name, the path by which it was opened, and its lines
+pub record FileText : Type 0 where
+  pub name : Text
+  pub path : Text
+  pub lines : List NumberedLine
+
+-- what is said about a code in a comment, as a diagnostic
+abbrev pub comment_diagnostic : FileText → Ignore → Remark → DiagnosticValue
+comment_diagnostic file ignore remark = record {
+  name = file.name;
+  path = file.path;
+  source = line_numbered file.lines ignore.line;
+  begins = ignore.line;
+  line = ignore.line;
+  column = ignore.column;
+  end = ignore.end;
+  remark = remark;
+  word = ignore.code;
+}
+
+-- what is to be said about the codes in comments of a file
+abbrev pub comment_diagnostics : FileText → List DiagnosticValue → List Ignore → List DiagnosticValue
+comment_diagnostics file found ignores = filter_map (λ ignore. option_map (comment_diagnostic file ignore) (remark_on found ignore)) ignores
+
+-- diagnostics with others merged in by line: each of the others comes after all diagnostics for its line or for one
+-- before it
+abbrev pub by_line : List DiagnosticValue → List DiagnosticValue → List DiagnosticValue
+by_line [] others = others
+by_line (d ∷ ds) others = take_while (λ o. nat_lt o.begins d.begins) others ++ d ∷ by_line ds (skip_while (λ o. nat_lt o.begins d.begins) others)
+
+-- what is reported for a file, by what was found in it and the codes in its comments; what is said about these also
+-- has to be asked for
+unfoldable pub file_reported : Bool → Bool → List Text → FileText → List Ignore → List DiagnosticValue → List DiagnosticValue
+file_reported lint style ignored file ignores found =
+    by_line (filter (is_reported lint style ignored ignores) found) (filter (λ d. is_asked lint style ignored d.remark) (comment_diagnostics file found ignores))

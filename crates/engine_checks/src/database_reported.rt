@@ -1,0 +1,53 @@
+//! What is reported for files of a database.
+ghost use Rattle.std.specs.Prelude.{◌≡◌, ◌∷◌, [], flat_map, map, IfOk};
+ghost use Rattle.hwdb_core.specs.Sources.{messages_of};
+ghost use Rattle.engine_formats.specs.Diagnostics.{shown};
+ghost use Rattle.engine_checks.specs.Tables.{database_reported_by};
+
+use crate::found::database_diagnostics;
+use crate::reads::FileRead;
+use crate::reported::{Asked, file_reported};
+use engine_formats::Diagnostic;
+use hwdb_core::read_sources;
+use std::alloc::{AllocError, Global};
+use std::slice::from_ref;
+use text_bytes::{Message, SourceFile};
+
+/// The messages about a file, which is one of files that hold no more than a database may. So the file holds no
+/// more either, and the error means that memory ran out.
+fn messages_about(alloc: Global, file: &SourceFile) -> Result<Vec<Message>, AllocError>
+    ensures { IfOk result (λ messages. messages.items ≡ messages_of (file.now ∷ [])) }
+{
+    match read_sources(alloc, from_ref(file)) {
+        Ok(database) => Ok(database.messages),
+        Err(_) => Err(AllocError),
+    }
+}
+
+/// What is reported for a file of a database.
+fn reported_for_file<'r>(
+    alloc: Global,
+    asked: &Asked<'_>,
+    read: &'r FileRead<'_>,
+) -> Result<Vec<Diagnostic<'r>>, AllocError>
+    ensures { IfOk result (λ reported. map shown reported.items ≡ database_reported_by asked.now.lint asked.now.style asked.now.ignored read.now) }
+{
+    let messages = messages_about(alloc, read.file())?;
+    let found = database_diagnostics(alloc, read.text(), &messages)?;
+    file_reported(alloc, asked, read.text(), read.ignores(), found)
+}
+
+/// What is reported for files of a database, file by file.
+pub(crate) fn database_reported<'r>(
+    alloc: Global,
+    asked: &Asked<'_>,
+    reads: &'r [FileRead<'_>],
+) -> Result<Vec<Diagnostic<'r>>, AllocError>
+    ensures { IfOk result (λ reported. map shown reported.items ≡ flat_map (database_reported_by asked.now.lint asked.now.style asked.now.ignored) reads.now) }
+{
+    let mut reported = Vec::new(alloc);
+    for read in reads {
+        reported.append(&mut reported_for_file(alloc, asked, read)?)?;
+    }
+    Ok(reported)
+}

@@ -1,0 +1,110 @@
+//! What is reported for a file.
+ghost use Rattle.std.specs.Prelude.{◌≡◌, filter, map, IfOk};
+ghost use Rattle.engine_formats.specs.Diagnostics.{shown};
+ghost use Rattle.engine_checks.specs.Tables.{is_reported_by};
+ghost use Rattle.engine_checks.specs.Reported.{file_reported, is_about_style, is_asked, is_lint};
+
+use crate::borrowed::Borrowed;
+use crate::by_line::by_line;
+use crate::comment_remarks::comment_remarks;
+use crate::file_text::FileText;
+use crate::ignores::Ignore;
+use crate::met::Met;
+use crate::silenced::Silenced;
+use engine_formats::{Diagnostic, Remark};
+use engine_reports::is_style;
+use rule_pairs::Accounts;
+use std::alloc::{AllocError, Global};
+use text_bytes::Profile;
+use text_tables::Texts;
+
+/// Which remarks a command line asks for.
+#[derive(Drop)]
+pub(crate) struct Asked<'a> {
+    /// The profile by which rules are read.
+    pub(crate) profile: Profile,
+    /// The users and the groups that are known.
+    pub(crate) accounts: Accounts,
+    /// Whether those about style are reported.
+    pub(crate) style: bool,
+    /// Whether lints are reported.
+    pub(crate) lint: bool,
+    /// The codes of those that are not reported.
+    pub(crate) ignored: Texts<'a>,
+}
+
+/// Whether a remark is a message about style.
+fn is_about_style(remark: Remark) -> bool
+    ensures { result ≡ is_about_style remark }
+{
+    match remark {
+        Remark::Message(kind) => is_style(kind),
+        _ => false,
+    }
+}
+
+/// Whether a remark is a lint.
+fn is_lint(remark: Remark) -> bool
+    ensures { result ≡ is_lint remark }
+{
+    match remark {
+        Remark::Lint(_) => true,
+        _ => false,
+    }
+}
+
+/// Whether a remark is asked for.
+fn is_asked(asked: &Asked<'_>, remark: Remark) -> bool
+    ensures { result ≡ is_asked asked.now.lint asked.now.style asked.now.ignored remark }
+{
+    (!is_lint(remark) || asked.lint)
+        && (asked.style || !is_about_style(remark))
+        && !asked.ignored.contains(remark.code())
+}
+
+/// Whether what was found is reported.
+fn is_reported(asked: &Asked<'_>, silenced: &Silenced<'_>, diagnostic: &Diagnostic<'_>) -> bool
+    ensures { result ≡ is_reported_by asked.now.lint asked.now.style asked.now.ignored silenced.now.in_file silenced.now.at_lines (shown diagnostic.now) }
+{
+    is_asked(asked, diagnostic.remark) && !silenced.has(diagnostic)
+}
+
+/// Those of diagnostics that are reported.
+fn keep_reported<'a>(
+    asked: &Asked<'_>,
+    silenced: &Silenced<'_>,
+    mut found: Vec<Diagnostic<'a>>,
+) -> Vec<Diagnostic<'a>>
+    ensures { result.items ≡ filter (λ d. is_reported_by asked.now.lint asked.now.style asked.now.ignored silenced.now.in_file silenced.now.at_lines (shown d)) found.entry.items }
+{
+    found.retain(|diagnostic| is_reported(asked, silenced, diagnostic));
+    found
+}
+
+/// Those of remarks on comments that are asked for.
+fn keep_asked<'r, 'a>(
+    asked: &Asked<'_>,
+    mut remarks: Vec<Borrowed<'r, 'a>>,
+) -> Vec<Borrowed<'r, 'a>>
+    ensures { result.items ≡ filter (λ r. is_asked asked.now.lint asked.now.style asked.now.ignored r.remark) remarks.entry.items }
+{
+    remarks.retain(|remark| is_asked(asked, remark.remark()));
+    remarks
+}
+
+/// The diagnostics to show for a file, from what was found in it and the codes in its comments.
+#[tactic(auto, unfolding(crate::specs::Reported::file_reported))]
+pub(crate) fn file_reported<'r>(
+    alloc: Global,
+    asked: &Asked<'_>,
+    file: &'r FileText<'_>,
+    ignores: &[Ignore<'_>],
+    found: Vec<Diagnostic<'r>>,
+) -> Result<Vec<Diagnostic<'r>>, AllocError>
+    ensures { IfOk result (λ reported. map shown reported.items ≡ file_reported asked.now.lint asked.now.style asked.now.ignored file.now ignores.now (map shown found.entry.items)) }
+{
+    let met = Met::of(alloc, &found)?;
+    let remarks = keep_asked(asked, comment_remarks(alloc, file, &met, ignores)?);
+    let silenced = Silenced::by(alloc, ignores)?;
+    by_line(alloc, keep_reported(asked, &silenced, found), &remarks)
+}

@@ -1,0 +1,53 @@
+-- Where nothing is reported for an event.
+use Rattle.std.proofs.Common.{◌≡◌, ◌↔◌, ℕ, ◌+◌, ◌==◌, ◌&&◌, Bool, true, false, cond, List, [], ◌∷◌, ◌++◌, length, refl, ap, ap₂, sym, ◌∙◌, append_assoc, arith}
+use Rattle.std.proofs.lemmas.Bool.{eqb-true}
+use Rattle.text_bytes.specs.Names.{newline, minus, plus}
+use Rattle.text_tables.specs.Texts.{Text}
+use Rattle.device_core.specs.Values.{EventValue}
+use Rattle.engine_answers.specs.Lines.{event_line}
+use Rattle.engine_compare.specs.Surplus.{times, surplus}
+use Rattle.engine_compare.specs.Differences.{compared_lines, differences, marked_lines, reported_for}
+use Rattle.engine_compare.proofs.Counting.{nothing_differs}
+
+-- four texts in a row, the first apart
+pub apart : (a b c d : Text) → ((a ++ b) ++ c) ++ d ≡ a ++ ((b ++ c) ++ d)
+apart a b c d = append_assoc (a ++ b) c d ∙ append_assoc a b (c ++ d) ∙ ap (λ t. a ++ t) (sym (append_assoc b c d))
+
+-- if two texts in a row have no byte, the second has none
+second_empty : {A : Type 0} (first second : List A) → first ++ second ≡ [] → second ≡ []
+second_empty [] second h = h
+second_empty (a ∷ first) second h = absurd (cc)
+
+-- what is reported for an event ends in an empty line
+reported_ends : (event : EventValue) (gone come : List Text) → event_line event.action event.device.path ++ marked_lines minus gone ++ marked_lines plus come ++ newline ∷ [] ≡ [] → ⊥
+reported_ends event gone come h =
+    let end : newline ∷ [] ≡ [] = second_empty (event_line event.action event.device.path ++ marked_lines minus gone ++ marked_lines plus come) (newline ∷ []) h in
+    cc
+
+both : (a b : Bool) → (a && b) ≡ true → (a ≡ true) × (b ≡ true)
+both true b h = (refl, h)
+both false b h = absurd (cc)
+
+none_in : (texts : List Text) → (length texts == 0) ≡ true → texts ≡ []
+none_in [] h = refl
+none_in (text ∷ texts) h = let none : length (text ∷ texts) ≡ 0 = eqb-true (length (text ∷ texts)) 0 h in absurd (omega (arith, none))
+
+reported_nothing : (event : EventValue) (gone come : List Text) → reported_for event gone come ≡ [] → (gone ≡ []) × (come ≡ [])
+reported_nothing event gone come h = by (length gone == 0 && length come == 0) refl h
+  where
+    by : (b : Bool) → (length gone == 0 && length come == 0) ≡ b
+        → cond b [] (event_line event.action event.device.path ++ marked_lines minus gone ++ marked_lines plus come ++ newline ∷ []) ≡ [] → (gone ≡ []) × (come ≡ [])
+    by true is none = let empty = both (length gone == 0) (length come == 0) is in (none_in gone empty.0, none_in come empty.1)
+    by false is none = absurd (reported_ends event gone come none)
+
+reports_nothing : (event : EventValue) (gone come : List Text) → (gone ≡ []) × (come ≡ []) → reported_for event gone come ≡ []
+reports_nothing event gone come e = ap₂ (reported_for event) e.0 e.1
+
+pub nothing_reported : (event : EventValue) (old new : Text) → (differences event old new ≡ []) ↔ ((text : Text) → times text (compared_lines old) ≡ times text (compared_lines new))
+nothing_reported event old new = (
+  (λ none. (nothing_differs (compared_lines old) (compared_lines new)).0 (reported_nothing event _ _ none)),
+  (λ same. reports_nothing event _ _ ((nothing_differs (compared_lines old) (compared_lines new)).1 same)),
+)
+
+pub same_answer : (event : EventValue) (answer : Text) → differences event answer answer ≡ []
+same_answer event answer = (nothing_reported event answer answer).1 (λ text. refl)

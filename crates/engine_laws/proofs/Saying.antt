@@ -1,0 +1,157 @@
+-- By the manual an event has the note that a command has no answer once for each time that the rules ask it.
+use Rattle.std.proofs.Common.{◌≡◌, Bool, true, false, cond, List, [], ◌∷◌, ◌++◌, map, Option, None, append_assoc, append-nil, refl, ap, sym, ◌∙◌}
+use Rattle.std.specs.List.{filter}
+use Rattle.std.proofs.lemmas.List.{map-append}
+use Rattle.std.proofs.lemmas.List.Elements.{filter-append}
+use Rattle.text_bytes.specs.Messages.{word_of}
+use Rattle.text_bytes.specs.declared.profile.Profile.TheVariants.{Manual}
+use Rattle.text_tables.specs.Texts.{Text}
+use Rattle.hwdb_lookup.specs.declared.entry.Entry.{Entry}
+use Rattle.device_core.specs.Values.{EventValue}
+use Rattle.rule_types.specs.declared.part.Act.{Act}
+use Rattle.rule_types.specs.declared.part.ActKind.{ActKind}
+use Rattle.rule_types.specs.declared.part.ActKind.TheVariants as act_kind
+use Rattle.rule_types.specs.declared.part.Import.{Import}
+use Rattle.rule_types.specs.Rules.{Rule}
+use Rattle.eval_rendering.specs.declared.rendered.Rendered.{Rendered}
+use Rattle.eval_rendering.specs.declared.rendered.Rendered.TheVariants as rendered
+use Rattle.eval_state.specs.Notes.{note_about}
+use Rattle.eval_state.specs.Runs.{RunValue}
+use Rattle.eval_state.specs.Scenes.{start}
+use Rattle.eval_state.specs.declared.note_kind.NoteKind.TheVariants.{NoAnswer}
+use Rattle.eval_state.specs.declared.notes.Note.{Note}
+use Rattle.eval_state.specs.declared.scene.Scene.{Scene}
+use Rattle.eval_state.specs.declared.state.State.{State}
+use Rattle.eval_acts.specs.ActTexts.{program_text, test_text}
+use Rattle.eval_acts.specs.Acts.{act_step, imported, on_text, performed}
+use Rattle.eval_acts.specs.Questions.{tested}
+use Rattle.eval_rules.specs.Idle.{is_idle_by}
+use Rattle.eval_rules.specs.Jumps.{is_passed, run, sought_after}
+use Rattle.eval_rules.specs.Outcomes.{late_note, late_notes, outcome, outcome_of, run_text}
+use Rattle.eval_rules.specs.Steps.{Went, apply, before_sets, if_proceeding, only_noted, result_step, set_all, steps, walk}
+use Rattle.eval_rules.proofs.Staying.{act_stays, event_stays, tried_stays}
+use Rattle.engine_questions.specs.Questions.{act_asks, acts_ask, asked_if_proceeding, before_acts, import_asks, rule_asks, rules_ask}
+use Rattle.engine_laws.specs.Noted.{is_no_answer}
+use Rattle.engine_laws.proofs.Noting.{by_text}
+use Rattle.engine_laws.proofs.Unanswered.{before_stays}
+use Rattle.engine_laws.proofs.Quiet.{Quiet, text_quiet, tested_quiet, imported_quiet, if_proceeding_quiet, before_quiet, results_quiet, sets_quiet}
+
+abbrev word : Note → Text
+word note = note.word
+
+abbrev no_answers : Scene → List Text
+no_answers s = map word (filter is_no_answer s.notes)
+
+abbrev Says : Scene → List Text → Scene → Type 0
+Says s asked t = no_answers t ≡ no_answers s ++ map word_of asked
+
+says_nothing : (s : Scene) → Says s [] s
+says_nothing s = sym (append-nil (no_answers s))
+
+quiet_says : (s t : Scene) → Quiet s t → Says s [] t
+quiet_says s t h = ap (map word) h ∙ says_nothing s
+
+quiet_first : (s t u : Scene) (asked : List Text) → Quiet s t → Says t asked u → Says s asked u
+quiet_first s t u asked h k = k ∙ ap (λ notes. map word notes ++ map word_of asked) h
+
+quiet_last : (s t u : Scene) (asked : List Text) → Says s asked t → Quiet t u → Says s asked u
+quiet_last s t u asked h k = ap (map word) k ∙ h
+
+both_say : (s t u : Scene) (asked more : List Text) → Says s asked t → Says t more u → Says s (asked ++ more) u
+both_say s t u asked more h k =
+    k
+    ∙ ap (λ words. words ++ map word_of more) h
+    ∙ append_assoc (no_answers s) (map word_of asked) (map word_of more)
+    ∙ ap (λ words. no_answers s ++ words) (sym (map-append word_of asked more))
+
+words_are : (r : Rule) (asked : List Text) → map word (map (note_about r NoAnswer) asked) ≡ map word_of asked
+words_are r [] = refl
+words_are r (command ∷ asked) = ap (λ words. word_of command ∷ words) (words_are r asked)
+
+act_kind_says : (es : List Entry) (r : Rule) (d : ActKind) (s : Scene) → s.state.event.profile ≡ Manual → Says s (act_asks d s.state) (performed es r d s).0
+act_kind_says es r (act_kind.Test mask t) s m = quiet_says s (on_text r (act_kind.Test mask t) (tested r mask) (test_text t s.state) s).0 (text_quiet r (act_kind.Test mask t) (tested r mask) (tested_quiet r mask) (test_text t s.state) s)
+act_kind_says es r (act_kind.Program t) s m =
+    ap (map word) (by_text r (act_kind.Program t) (program_text t s.state) s)
+    ∙ map-append word (filter is_no_answer s.notes) (map (note_about r NoAnswer) (act_asks (act_kind.Program t) s.state))
+    ∙ ap (λ words. no_answers s ++ words) (words_are r (act_asks (act_kind.Program t) s.state))
+act_kind_says es r (act_kind.Import i) s m =
+    quiet_says s (imported es r (act_kind.Import i) i s).0 (imported_quiet es r (act_kind.Import i) i s m)
+    ∙ ap (λ asked. no_answers s ++ map word_of asked) (sym (ap (λ p. import_asks p i s.state) m))
+
+act_says : (es : List Entry) (r : Rule) (act : Act) (s : Scene) → s.state.event.profile ≡ Manual → Says s (act_asks act.kind s.state) (act_step es r act s).0
+unfolding act_step
+act_says es r act s m = act_kind_says es r act.kind s m
+
+if_proceeding_says : (f : Scene → List Text) (g : Scene → Went) → ((t : Scene) → t.state.event.profile ≡ Manual → Says t (f t) (g t).0) → (w : Went) → w.0.state.event.profile ≡ Manual
+    → Says w.0 (asked_if_proceeding f w) (if_proceeding g w).0
+if_proceeding_says f g h w m = by w.1
+  where
+    by : (b : Bool) → Says w.0 (cond b (f w.0) []) (cond b (g w.0) w).0
+    by true = h w.0 m
+    by false = says_nothing w.0
+
+acts_say : (es : List Entry) (r : Rule) (acts : List Act) (s : Scene) → s.state.event.profile ≡ Manual → Says s (acts_ask es r acts s) (walk (act_step es r) acts s).0
+unfolding acts_ask walk
+acts_say es r [] s m = says_nothing s
+acts_say es r (act ∷ acts) s m =
+    both_say s (act_step es r act s).0 (if_proceeding (walk (act_step es r) acts) (act_step es r act s)).0 (act_asks act.kind s.state) (asked_if_proceeding (acts_ask es r acts) (act_step es r act s)) (act_says es r act s m)
+    (if_proceeding_says (acts_ask es r acts) (walk (act_step es r) acts) (acts_say es r acts) (act_step es r act s) (ap (λ (e : EventValue). e.profile) (act_stays es r act s) ∙ m))
+
+keys_say : (es : List Entry) (r : Rule) (s : Scene) → s.state.event.profile ≡ Manual → Says s (rule_asks es r s) (before_sets es r s).0
+unfolding rule_asks
+keys_say es r s m =
+    let acted : Went = if_proceeding (walk (act_step es r) r.acts) (before_acts r s) in
+    quiet_last s acted.0 (before_sets es r s).0 (asked_if_proceeding (acts_ask es r r.acts) (before_acts r s))
+    (quiet_first s (before_acts r s).0 acted.0 (asked_if_proceeding (acts_ask es r r.acts) (before_acts r s)) (before_quiet r s)
+    (if_proceeding_says (acts_ask es r r.acts) (walk (act_step es r) r.acts) (acts_say es r r.acts) (before_acts r s) (ap (λ (e : EventValue). e.profile) (before_stays r s) ∙ m)))
+    (if_proceeding_quiet (walk result_step r.results) (results_quiet r.results) acted.0 acted refl)
+
+steps_say : (es : List Entry) (r : Rule) (s : Scene) → s.state.event.profile ≡ Manual → Says s (rule_asks es r s) (steps es r s).0
+unfolding steps
+steps_say es r s m = quiet_last s (before_sets es r s).0 (if_proceeding (set_all r) (before_sets es r s)).0 (rule_asks es r s) (keys_say es r s m) (by (before_sets es r s).1)
+  where
+    by : (b : Bool) → Quiet (before_sets es r s).0 (cond b (set_all r (before_sets es r s).0) (before_sets es r s)).0
+    by true = sets_quiet r r.sets (before_sets es r s).0 (ap (λ (e : EventValue). e.profile) (tried_stays es r s) ∙ m)
+    by false = refl
+
+never_idle : (r : Rule) (event : EventValue) → is_idle_by Manual r event ≡ false
+unfolding is_idle_by
+never_idle r event = refl
+
+rule_says : (es : List Entry) (r : Rule) (s : Scene) → s.state.event.profile ≡ Manual → Says s (rule_asks es r s) (apply es r s).0
+unfolding apply
+rule_says es r s m =
+    let idle : is_idle_by s.state.event.profile r s.state.event ≡ false = ap (λ p. is_idle_by p r s.state.event) m ∙ never_idle r s.state.event in
+    ap (λ b. no_answers (cond b (only_noted es r s) (steps es r s)).0) idle ∙ steps_say es r s m
+
+rules_say : (es : List Entry) (sought : Option Text) (rules : List Rule) (s : Scene) → s.state.event.profile ≡ Manual → Says s (rules_ask es sought rules s) (run es sought rules s)
+unfolding rules_ask run
+rules_say es sought [] s m = says_nothing s
+rules_say es sought (r ∷ rs) s m =
+    by (rules_ask es sought rs s) _ (run es sought rs s) _ (is_passed sought r) (rules_say es sought rs s m)
+    (both_say s (apply es r s).0 (run es (sought_after (apply es r s).1 r) rs (apply es r s).0) (rule_asks es r s) (rules_ask es (sought_after (apply es r s).1 r) rs (apply es r s).0) (rule_says es r s m)
+    (rules_say es (sought_after (apply es r s).1 r) rs (apply es r s).0 (ap (λ (e : EventValue). e.profile) (event_stays es r s) ∙ m)))
+  where
+    by : (xs ys : List Text) (t u : Scene) (p : Bool) → Says s xs t → Says s ys u → Says s (cond p xs ys) (cond p t u)
+    by xs ys t u true h k = h
+    by xs ys t u false h k = k
+
+late_quiet : (state : State) (runs : List RunValue) → filter is_no_answer (late_notes state runs) ≡ []
+late_quiet state [] = refl
+late_quiet state (kept ∷ runs) = filter-append is_no_answer (late_note kept (run_text state kept)) (late_notes state runs) ∙ by (run_text state kept) ∙ late_quiet state runs
+  where
+    by : (text : Rendered) → filter is_no_answer (late_note kept text) ++ filter is_no_answer (late_notes state runs) ≡ filter is_no_answer (late_notes state runs)
+    by (rendered.Text text) = refl
+    by rendered.TooLong = refl
+
+ended : (s : Scene) → filter is_no_answer (outcome_of s).notes ≡ filter is_no_answer s.notes
+unfolding outcome_of
+ended s =
+    filter-append is_no_answer s.notes (late_notes s.state s.runs)
+    ∙ ap (λ notes. filter is_no_answer s.notes ++ notes) (late_quiet s.state s.runs)
+    ∙ append-nil (filter is_no_answer s.notes)
+
+-- the notes of an event that a command has no answer are those of what its rules ask
+pub asked_is_noted : (rules : List Rule) (es : List Entry) (event : EventValue) → event.profile ≡ Manual
+    → map (λ (n : Note). n.word) (filter is_no_answer (outcome rules es event).notes) ≡ map word_of (rules_ask es None rules (start event))
+asked_is_noted rules es event m = ap (map word) (ended (run es None rules (start event))) ∙ rules_say es None rules (start event) m

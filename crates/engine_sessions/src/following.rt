@@ -1,0 +1,133 @@
+//! Messages, and the answers to an input after them.
+ghost use Rattle.std.specs.Prelude.{◌≡◌, Err};
+ghost use Rattle.engine_sessions.specs.Findings.{FindsAll, found};
+ghost use Rattle.engine_sessions.specs.Outcomes.{input_outcome};
+ghost use Rattle.engine_sessions.specs.Sessions.{answer_of, asked_by};
+ghost use Rattle.engine_sessions.specs.Serves.{AnswersAll, Concludes, Serves};
+
+use crate::answering::Answering;
+use crate::block_faults::report_block_fault;
+use crate::inputs::answer_input;
+use crate::session::SessionFault;
+use crate::turning::TurnFault;
+use engine_ends::{Sink, Source, hand_on, report_failure, report_out_of_memory};
+use std::alloc::Global;
+use text_bytes::Profile;
+
+const READ_FAILED: &[u8] = b"devdry: read failed\n";
+
+const WRITE_FAILED: &[u8] = b"devdry: write failed\n";
+
+/// Writes messages to `error`, and then answers the blocks of the input on `output`, over whose events rules are
+/// evaluated by a profile; returns the status to exit with.
+///
+/// The status is 0; 1 if a block is faulty, which is reported on `error` after the answers to those before it; 3 if
+/// the input or an output failed, or the input did not end within 2^48 reads; 4 if memory ran out.
+pub fn answer_after_messages<A: Answering, R: Source, W: Sink, E: Sink>(
+    alloc: Global,
+    profile: Profile,
+    messages: &[u8],
+    answering: &A,
+    input: &mut R,
+    output: &mut W,
+    error: &mut E,
+) -> u8
+    ensures serves { Serves (input_outcome messages.now (answer_of A.answers (asked_by profile answering.now))) result
+        (record { input = R.shown input.old; out = W.shown output.old; err = E.shown error.old })
+        (record { input = R.shown input.new; out = W.shown output.new; err = E.shown error.new }) }
+    ensures steps { AnswersAll messages.now (answer_of A.answers (asked_by profile answering.now)) result
+        (record { input = R.shown input.old; out = W.shown output.old; err = E.shown error.old })
+        (record { input = R.shown input.new; out = W.shown output.new; err = E.shown error.new }) }
+{
+    answer_in_steps(alloc, profile, messages, answering, input, output, error)
+}
+
+/// The same, step by step.
+fn answer_in_steps<A: Answering, R: Source, W: Sink, E: Sink>(
+    alloc: Global,
+    profile: Profile,
+    messages: &[u8],
+    answering: &A,
+    input: &mut R,
+    output: &mut W,
+    error: &mut E,
+) -> u8
+    ensures { AnswersAll messages.now (answer_of A.answers (asked_by profile answering.now)) result
+        (record { input = R.shown input.old; out = W.shown output.old; err = E.shown error.old })
+        (record { input = R.shown input.new; out = W.shown output.new; err = E.shown error.new }) }
+{
+    if hand_on(error, messages).is_err() {
+        return 3;
+    }
+    match answer_input(alloc, profile, answering, input, output) {
+        Ok(_) => 0,
+        Err(fault) => conclude(fault, error),
+    }
+}
+
+/// Writes messages to `error`, and then answers the blocks of the input on `output`, as `answer_after_messages` does; the
+/// answers are findings, so that the status is 1 if any answer has a byte.
+///
+/// The status is 0; 1 if an answer has a byte or a block is faulty; 3 and 4 as with `answer_after_messages`, whatever was
+/// answered.
+pub fn find_after_messages<A: Answering, R: Source, W: Sink, E: Sink>(
+    alloc: Global,
+    profile: Profile,
+    messages: &[u8],
+    answering: &A,
+    input: &mut R,
+    output: &mut W,
+    error: &mut E,
+) -> u8
+    ensures serves { Serves (λ text. found (input_outcome messages.now (answer_of A.answers (asked_by profile answering.now)) text)) result
+        (record { input = R.shown input.old; out = W.shown output.old; err = E.shown error.old })
+        (record { input = R.shown input.new; out = W.shown output.new; err = E.shown error.new }) }
+    ensures steps { FindsAll messages.now (answer_of A.answers (asked_by profile answering.now)) result
+        (record { input = R.shown input.old; out = W.shown output.old; err = E.shown error.old })
+        (record { input = R.shown input.new; out = W.shown output.new; err = E.shown error.new }) }
+{
+    find_in_steps(alloc, profile, messages, answering, input, output, error)
+}
+
+/// The same, step by step.
+fn find_in_steps<A: Answering, R: Source, W: Sink, E: Sink>(
+    alloc: Global,
+    profile: Profile,
+    messages: &[u8],
+    answering: &A,
+    input: &mut R,
+    output: &mut W,
+    error: &mut E,
+) -> u8
+    ensures { FindsAll messages.now (answer_of A.answers (asked_by profile answering.now)) result
+        (record { input = R.shown input.old; out = W.shown output.old; err = E.shown error.old })
+        (record { input = R.shown input.new; out = W.shown output.new; err = E.shown error.new }) }
+{
+    if hand_on(error, messages).is_err() {
+        return 3;
+    }
+    match answer_input(alloc, profile, answering, input, output) {
+        Ok(true) => 1,
+        Ok(false) => 0,
+        Err(fault) => conclude(fault, error),
+    }
+}
+
+/// Reports why the answering of an input stopped, and returns the status for it, or 3 if the error output failed.
+fn conclude<E: Sink>(fault: TurnFault, error: &mut E) -> u8
+    requires { fault ≡ TurnFault.Session SessionFault.Ended → ⊥ }
+    ensures { Concludes (Err fault) result (E.shown error.old) (E.shown error.new) }
+{
+    match fault {
+        TurnFault::Read => report_failure(error, READ_FAILED, 3),
+        TurnFault::Write => report_failure(error, WRITE_FAILED, 3),
+        TurnFault::Session(SessionFault::Block(number, fault)) => {
+            report_block_fault(error, number, fault)
+        }
+        TurnFault::Session(SessionFault::Memory) => report_out_of_memory(error),
+        TurnFault::Session(SessionFault::Ended) => {
+            prove!(false);
+            3
+        }
+    }
+}

@@ -1,5 +1,0 @@
-use Rattle.eval_laws.proofs.LineLemmas.{line_of_excess-lines}
-use Rattle.eval_laws.proofs.blocks.excess_stands_in_the_last_line.Goals as goal
-
-pub returns : goal.returns
-returns c = line_of_excess-lines

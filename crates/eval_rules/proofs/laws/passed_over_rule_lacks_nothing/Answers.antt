@@ -1,5 +1,0 @@
-use Rattle.eval_rules.proofs.AsEvaluated.{passed_as}
-use Rattle.eval_rules.proofs.laws.passed_over_rule_lacks_nothing.Goals as goal
-
-pub returns : goal.returns
-returns c = λ entries r s idle g. passed_as entries r s idle g

@@ -1,6 +1,0 @@
-use Rattle.std.proofs.Common.{◌≡◌, option_map}
-use Rattle.eval_sources.specs.Sources.{kept_behind}
-use Rattle.eval_sources.proofs.sources.Sources.tell.Given as goal
-
-abbrev pub invariant-loop-item : goal.invariant-loop-item
-invariant-loop-item l = l.kept ≡ kept_behind l.self (option_map (λ r. r.now) l.rule) l.yielded

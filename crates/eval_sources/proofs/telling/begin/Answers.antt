@@ -1,9 +1,0 @@
-use Rattle.std.proofs.Common.{[], None, ap, ◌∙◌}
-use Rattle.eval_sources.specs.Sources.{kept_behind}
-use Rattle.eval_sources.proofs.Keeping.{keeps_start}
-use Rattle.eval_sources.proofs.telling.begin.Goals as goal
-
-pub returns : goal.returns
-returns c =
-    keeps_start _ _
-    (c.in_ok-tell.ensures ∙ ap (λ held. kept_behind held None c.in_ok-items.items.items) c.new-sources.ensures ∙ ap (kept_behind [] None) c.in_ok-items.ensures)

@@ -1,0 +1,205 @@
+-- Where what is reported for a rule is in its line.
+use Rattle.std.proofs.Common.{◌≡◌, ℕ, zero, suc, Bool, true, false, cond, true≢false, ◌||◌, List, [], ◌∷◌, ◌++◌, flat_map, filter_map, slice_get, is_ok, Option, Some, None, option_map, Ok, Err, refl, sym}
+use Rattle.std.specs.List.{AllByRecursion, cons_option, find}
+use Rattle.text_bytes.specs.Texts.{is_empty}
+use Rattle.text_bytes.specs.declared.message.MessageKind.{MessageKind}
+use Rattle.text_bytes.specs.declared.message.MessageKind.TheVariants.{AttributeElsewhere, BadAttributeSubstitution, BadSubstitution, BadValue, EmptyValue, OldSubsystemName, ResultBeforeProgram}
+use Rattle.text_bytes.specs.declared.profile.Profile.TheVariants.{Udev}
+use Rattle.rule_templates.specs.Reading.{is_faulty}
+use Rattle.rule_tokens.specs.Grammar.{Item, Placed, compares}
+use Rattle.rule_tokens.specs.Places.{IsSlice, LiesIn}
+use Rattle.rule_tokens.specs.declared.kinds.Operator.{Operator}
+use Rattle.rule_types.specs.Names.{key_of}
+use Rattle.rule_types.specs.declared.keys.Key.{Key}
+use Rattle.rule_types.specs.declared.keys.Key.TheVariants as key
+use Rattle.rule_parts.specs.Options.{is_known_option}
+use Rattle.rule_parts.specs.Parts.{meaning_of}
+use Rattle.rule_core.specs.Drafts.{draft_of, items_as, tokens_of}
+use Rattle.rule_pairs.specs.Accounts.{Accounts, given_in}
+use Rattle.rule_pairs.specs.Pairs.{message_of, pair_findings}
+use Rattle.rule_pairs.specs.declared.accounts.AccountKind.TheVariants.{User, Group}
+use Rattle.rule_pairs.specs.declared.accounts.Given.{Given}
+use Rattle.rule_pairs.specs.declared.accounts.Given.TheVariants as given
+use Rattle.rule_pairs.specs.declared.pair_finding.PairFinding.{PairFinding}
+use Rattle.rule_pairs.specs.declared.pair_finding.PairKind.{PairKind}
+use Rattle.rule_pairs.specs.declared.pair_finding.PairKind.TheVariants.{Same, Against}
+use Rattle.rule_places.specs.Laws.{IsQuotedThere, IsTextThere, is_about_text, is_about_value}
+use Rattle.rule_places.specs.Spots.{attribute_spot, key_spot, value_spot}
+use Rattle.rule_places.specs.declared.spot.Spot.{Spot}
+use Rattle.rule_places.proofs.PartPlacement.{AllPresent, IsPresent, attribute_in_place, both, key_in_place, one_or_none, value_in_place}
+use Rattle.rule_places.proofs.Placement.{all_lie, weaker}
+use Rattle.rule_remarks.specs.Attributes.{is_bad_name, is_elsewhere}
+use Rattle.rule_remarks.specs.Remarks.{attribute_remarks, fault_spot, is_of_key, is_program, is_result, late_program, order_remarks, pair_remark, remarks_by, rule_remarks, token_remarks, value_remarks}
+use Rattle.rule_remarks.specs.Rules.{line_remarks}
+use Rattle.rule_remarks.specs.Values.{assigned_fault, compared_fault, filled_fault, given_fault, text_fault, value_fault}
+
+-- what is wrong with a value is reported for the value or of the key
+abbrev IsOfValue : Option MessageKind → Type 0
+IsOfValue None = Unit {0}
+IsOfValue (Some kind) = (is_of_key kind || is_about_value kind) ≡ true
+
+text_kind : (text : List ℕ) → IsOfValue (text_fault text)
+text_kind text = by (is_faulty text)
+  where
+    by : (b : Bool) → IsOfValue (cond b (Some BadSubstitution) None)
+    by true = refl
+    by false = tt
+
+filled_kind : (text : List ℕ) → IsOfValue (filled_fault text)
+filled_kind text = by (is_empty text)
+  where
+    by : (b : Bool) → IsOfValue (cond b (Some EmptyValue) (text_fault text))
+    by true = refl
+    by false = text_kind text
+
+one_kind : (b : Bool) (kind : MessageKind) → (is_of_key kind || is_about_value kind) ≡ true → IsOfValue (cond b (Some kind) None)
+one_kind true kind e = e
+one_kind false kind e = tt
+
+other_kind : (b : Bool) (kind : MessageKind) → (is_of_key kind || is_about_value kind) ≡ true → IsOfValue (cond b None (Some kind))
+other_kind true kind e = tt
+other_kind false kind e = e
+
+given_kind : (g : Given) (text : List ℕ) → IsOfValue (given_fault g text)
+given_kind (given.Number n) text = tt
+given_kind given.Unknown text = refl
+given_kind given.Text text = filled_kind text
+
+compared_kind : (k : Key) (text : List ℕ) → IsOfValue (compared_fault k text)
+compared_kind key.Subsystem text = one_kind _ OldSubsystemName refl
+compared_kind key.Test text = filled_kind text
+compared_kind key.Program text = filled_kind text
+compared_kind key.Import text = filled_kind text
+compared_kind _ text = tt
+
+assigned_kind : (accounts : Accounts) (k : Key) (text : List ℕ) → IsOfValue (assigned_fault accounts k text)
+assigned_kind accounts key.Name text = text_kind text
+assigned_kind accounts key.Symlink text = text_kind text
+assigned_kind accounts key.Env text = text_kind text
+assigned_kind accounts key.Attr text = text_kind text
+assigned_kind accounts key.Sysctl text = text_kind text
+assigned_kind accounts key.Tag text = filled_kind text
+assigned_kind accounts key.Seclabel text = filled_kind text
+assigned_kind accounts key.Mode text = filled_kind text
+assigned_kind accounts key.Run text = filled_kind text
+assigned_kind accounts key.Program text = filled_kind text
+assigned_kind accounts key.Import text = filled_kind text
+assigned_kind accounts key.Owner text = given_kind (given_in accounts User text) text
+assigned_kind accounts key.Group text = given_kind (given_in accounts Group text) text
+assigned_kind accounts key.Options text = other_kind (is_known_option text) BadValue refl
+assigned_kind accounts _ text = tt
+
+value_kind : (accounts : Accounts) (k : Key) (o : Operator) (text : List ℕ) → IsOfValue (value_fault accounts k o text)
+unfolding value_fault
+value_kind accounts k o text = by (compares o)
+  where
+    by : (b : Bool) → IsOfValue (cond b (compared_fault k text) (assigned_fault accounts k text))
+    by true = compared_kind k text
+    by false = assigned_kind accounts k text
+
+keys_are_text : (kind : MessageKind) → is_of_key kind ≡ true → is_about_text kind ≡ true
+keys_are_text EmptyValue e = refl
+keys_are_text _ e = absurd (true≢false (sym e))
+
+fault_in_place : (line : List ℕ) (kind : MessageKind) (t : Placed) → IsSlice line t → (is_of_key kind || is_about_value kind) ≡ true → IsPresent line (fault_spot kind t)
+fault_in_place line kind t slice h = by (is_of_key kind) refl h
+  where
+    by : (b : Bool) → is_of_key kind ≡ b → (b || is_about_value kind) ≡ true → IsPresent line (cond b (key_spot kind t) (value_spot kind (meaning_of t) t))
+    by true e g = key_in_place line kind t slice (keys_are_text kind e)
+    by false e g = value_in_place line kind (meaning_of t) t slice g
+
+value_reported : (line : List ℕ) (t : Placed) (fault : Option MessageKind) → IsSlice line t → IsOfValue fault → AllPresent line (value_remarks fault t)
+value_reported line t None slice h = tt
+value_reported line t (Some kind) slice h = (fault_in_place line kind t slice h, tt)
+
+attribute_reported : (line : List ℕ) (k : Key) (t : Placed) (name : Option (List ℕ)) → IsSlice line t → AllPresent line (attribute_remarks k t name)
+attribute_reported line k t None slice = tt
+attribute_reported line k t (Some name) slice =
+    both line (cond (is_bad_name k name) (attribute_spot BadAttributeSubstitution t ∷ []) []) (cond (is_elsewhere k name) (attribute_spot AttributeElsewhere t ∷ []) [])
+    (one_or_none line (is_bad_name k name) (attribute_spot BadAttributeSubstitution t) (attribute_in_place line BadAttributeSubstitution t slice refl refl))
+    (one_or_none line (is_elsewhere k name) (attribute_spot AttributeElsewhere t) (attribute_in_place line AttributeElsewhere t slice refl refl))
+
+key_reported : (accounts : Accounts) (line : List ℕ) (t : Placed) (k : Option Key) → IsSlice line t → AllPresent line (remarks_by accounts t k)
+key_reported accounts line t None slice = tt
+key_reported accounts line t (Some k) slice =
+    both line (attribute_remarks k t t.parts.head.attribute) (value_remarks (value_fault accounts k t.parts.head.operator (meaning_of t)) t)
+    (attribute_reported line k t t.parts.head.attribute slice)
+    (value_reported line t (value_fault accounts k t.parts.head.operator (meaning_of t)) slice (value_kind accounts k t.parts.head.operator (meaning_of t)))
+
+token_reported : (accounts : Accounts) (line : List ℕ) (t : Placed) → IsSlice line t → AllPresent line (token_remarks accounts t)
+unfolding token_remarks
+token_reported accounts line t slice = key_reported accounts line t (key_of t.parts.head.key) slice
+
+tokens_reported : (accounts : Accounts) (line : List ℕ) (tokens : List Placed) → AllByRecursion (IsSlice line) tokens → AllPresent line (flat_map (token_remarks accounts) tokens)
+tokens_reported accounts line [] h = tt
+tokens_reported accounts line (t ∷ tokens) h =
+    both line (token_remarks accounts t) (flat_map (token_remarks accounts) tokens) (token_reported accounts line t h.0) (tokens_reported accounts line tokens h.1)
+
+-- a token that there may be
+abbrev MayBeSlice : List ℕ → Option Placed → Type 0
+MayBeSlice line None = Unit {0}
+MayBeSlice line (Some t) = IsSlice line t
+
+first_slice : (line : List ℕ) (p : Placed → Bool) (tokens : List Placed) → AllByRecursion (IsSlice line) tokens → MayBeSlice line (find p tokens)
+first_slice line p [] h = tt
+first_slice line p (t ∷ tokens) h = by (p t) (first_slice line p tokens h.1)
+  where
+    by : (b : Bool) → MayBeSlice line (find p tokens) → MayBeSlice line (cond b (Some t) (find p tokens))
+    by true more = h.0
+    by false more = more
+
+late_slice : (line : List ℕ) (tokens : List Placed) → AllByRecursion (IsSlice line) tokens → MayBeSlice line (late_program tokens)
+late_slice line [] h = tt
+late_slice line (t ∷ tokens) h = by (is_result t) (late_slice line tokens h.1)
+  where
+    by : (b : Bool) → MayBeSlice line (late_program tokens) → MayBeSlice line (cond b (find is_program tokens) (late_program tokens))
+    by true more = first_slice line is_program tokens h.1
+    by false more = more
+
+order_reported : (line : List ℕ) (t : Option Placed) → MayBeSlice line t → AllPresent line (order_remarks t)
+order_reported line None h = tt
+order_reported line (Some t) h = (key_in_place line ResultBeforeProgram t h refl, tt)
+
+nth_slice : (line : List ℕ) (tokens : List Placed) (n : ℕ) → AllByRecursion (IsSlice line) tokens → MayBeSlice line (slice_get tokens n)
+nth_slice line [] n h = tt
+nth_slice line (t ∷ tokens) zero h = h.0
+nth_slice line (t ∷ tokens) (suc n) h = nth_slice line tokens n h.1
+
+pairs_are_text : (kind : PairKind) → is_about_text (message_of kind) ≡ true
+pairs_are_text Same = refl
+pairs_are_text Against = refl
+
+pair_reported : (line : List ℕ) (kind : PairKind) (t : Option Placed) (others : List Spot) → MayBeSlice line t → AllPresent line others → AllPresent line (cons_option (option_map (key_spot (message_of kind)) t) others)
+pair_reported line kind None others h more = more
+pair_reported line kind (Some t) others h more = (key_in_place line (message_of kind) t h (pairs_are_text kind), more)
+
+pairs_reported : (line : List ℕ) (tokens : List Placed) (pairs : List PairFinding) → AllByRecursion (IsSlice line) tokens → AllPresent line (filter_map (pair_remark tokens) pairs)
+pairs_reported line tokens [] h = tt
+pairs_reported line tokens (p ∷ pairs) h =
+    pair_reported line p.kind (slice_get tokens p.token) (filter_map (pair_remark tokens) pairs) (nth_slice line tokens p.token h) (pairs_reported line tokens pairs h)
+
+rule_reported : (accounts : Accounts) (line : List ℕ) (tokens : List Placed) → AllByRecursion (IsSlice line) tokens → AllPresent line (rule_remarks accounts tokens)
+unfolding rule_remarks
+rule_reported accounts line tokens h =
+    both line (flat_map (token_remarks accounts) tokens) (order_remarks (late_program tokens) ++ filter_map (pair_remark tokens) (pair_findings accounts tokens)) (tokens_reported accounts line tokens h)
+    (both line (order_remarks (late_program tokens)) (filter_map (pair_remark tokens) (pair_findings accounts tokens)) (order_reported line (late_program tokens) (late_slice line tokens h)) (pairs_reported line tokens (pair_findings accounts tokens) h))
+
+-- the tokens of a line are slices of it
+slices : (line : List ℕ) (items : List Item) → AllByRecursion (LiesIn line) items → AllByRecursion (IsSlice line) (tokens_of items)
+slices line [] h = tt
+slices line (Ok t ∷ items) h = (h.0, slices line items h.1)
+slices line (Err fault ∷ items) h = slices line items h.1
+
+line_reported : (accounts : Accounts) (line : List ℕ) → AllPresent line (line_remarks accounts line)
+unfolding line_remarks
+line_reported accounts line = by (is_ok (draft_of Udev line))
+  where
+    by : (b : Bool) → AllPresent line (cond b (rule_remarks accounts (tokens_of (items_as Udev line))) [])
+    by true = rule_reported accounts line (tokens_of (items_as Udev line)) (slices line (items_as Udev line) (all_lie Udev line))
+    by false = tt
+
+pub words_in_place : (accounts : Accounts) (line : List ℕ) → AllByRecursion (IsTextThere line) (line_remarks accounts line)
+words_in_place accounts line = weaker line (IsTextThere line) (line_remarks accounts line) (λ s h. h.0) (line_reported accounts line)
+
+pub values_in_place : (accounts : Accounts) (line : List ℕ) → AllByRecursion (IsQuotedThere line) (line_remarks accounts line)
+values_in_place accounts line = weaker line (IsQuotedThere line) (line_remarks accounts line) (λ s h. h.1) (line_reported accounts line)

@@ -1,6 +1,0 @@
-use Rattle.std.proofs.Common.{◌∙◌, arith}
-use Rattle.trie_build.proofs.Words.{word_is}
-use Rattle.trie_build.proofs.fronts.word.Goals as goal
-
-pub returns : goal.returns
-returns c = c.from_be_bytes.ensures ∙ word_is c.args.front.now c.args.from (omega (arith, c.told-front, c.requires))

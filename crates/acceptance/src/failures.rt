@@ -63,7 +63,7 @@ s.hwdb:4: H1 property without a match: A=1\n";
         (Verb::Verify, about_rules),
         (Verb::Events, about_both),
     ] {
-        let reported_and_failed = format!(in rt.alloc(); "{told}devdry: write failed\n")?;
+        let reported_and_failed = format!(in rt.alloc(); "{reported}devdry: write failed\n")?;
         assert_failed(&rt, verb, room_for(0), AMPLE, reported_and_failed.as_str())?;
         assert_failed(&rt, verb, AMPLE, room_for(0), "")?;
         assert_failed(&rt, verb, AMPLE, UNFLUSHED, reported)?;

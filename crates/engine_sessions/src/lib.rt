@@ -17,6 +17,7 @@ pub use following::{answer_after_messages, find_after_messages};
 pub use inputs::answer_input;
 pub use laws::{
     answers_do_not_depend_on_the_pieces, answers_end_at_the_first_fault, known_answers_stay,
+    the_manual_changes_no_event,
 };
 pub use session::{Session, SessionFault, Step};
 pub use turning::{TurnFault, turn};

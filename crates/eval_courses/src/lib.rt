@@ -19,6 +19,6 @@ mod upward;
 
 pub use course::{Course, report_course};
 pub use laws::{
-    course_ends_as_its_rule, search_names_no_device_where_none_meets,
+    course_ends_as_its_rule, course_says_what_is_skipped, search_names_no_device_where_none_meets,
     search_names_the_first_to_meet,
 };

@@ -1,12 +1,13 @@
 //! What is true of names of attributes that also name their device, as udev reads them. Each function here is
 //! empty: its contract is the law.
-ghost use Rattle.std.specs.Prelude.{◌≡◌, ◌↔◌, ◌<◌, ◌∷◌, ℕ, Some, None, false, length};
+ghost use Rattle.std.specs.Prelude.{◌≡◌, ◌↔◌, ◌<◌, ◌∷◌, ◌++◌, ℕ, Some, None, false, length};
 ghost use Rattle.text_bytes.specs.Names.{close_bracket, slash};
 ghost use Rattle.text_bytes.specs.Texts.{begins_with};
 ghost use Rattle.text_tables.specs.Texts.{Text};
 ghost use Rattle.device_core.specs.Values.{EventValue, chain};
 ghost use Rattle.eval_state.specs.Chains.{device_at};
 ghost use Rattle.eval_state.specs.Named.{NamedValue, is_named, named, named_place};
+ghost use Rattle.eval_assignments.specs.Attributes.{named_whole};
 ghost use Rattle.eval_laws.specs.Naming.{HasNone, IsNearestNamed, IsWrittenSo, bracketed};
 
 /// A name that begins with `[SUBSYSTEM/KERNEL]` names a device and, after that, its attribute, if the subsystem has
@@ -22,4 +23,9 @@ pub fn a_name_in_brackets_names_a_device()
 pub fn the_nearest_device_is_named()
     ensures found { (is : NamedValue) (event : EventValue) (place : ℕ) → named_place is event ≡ Some place → IsNearestNamed is event place }
     ensures none { (is : NamedValue) (event : EventValue) → (named_place is event ≡ None) ↔ ((place : ℕ) → place < length (chain event) → is_named is (device_at event place) ≡ false) }
+{}
+
+/// An attribute that is found on a device above is reported with what stands before the attribute in the written name.
+pub fn an_attribute_above_keeps_what_stands_before_it()
+    ensures { (is : NamedValue) (front found : Text) → named_whole is (front ++ is.attribute) found ≡ front ++ found }
 {}

@@ -1,5 +1,5 @@
 -- The lines of an answer: a word, and what it says.
-use Rattle.std.specs.Prelude.{ℕ, ℤ, Bool, true, false, ◌==◌, cond, List, [], ◌∷◌, ◌++◌, Option, Some, None, codes, flat_map}
+use Rattle.std.specs.Prelude.{ℤ, Bool, true, false, ◌==◌, cond, List, [], ◌∷◌, ◌++◌, Option, Some, None, codes, flat_map}
 use Rattle.std.specs.Fmt.{signed_decimal}
 use Rattle.text_bytes.specs.Names.{space, equals, dot, newline}
 use Rattle.text_bytes.specs.Escapes.{escape_text}

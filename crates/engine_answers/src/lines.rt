@@ -22,7 +22,8 @@ fn is_plain_byte(byte: u8) -> bool
 fn is_plain(text: &[u8]) -> bool
     ensures { result ≡ list_all (λ b. not (is_escaped b)) text.now }
 {
-    text.iter().all(|byte| is_plain_byte(*byte))
+    text.iter()
+        .fold(true, |plain, byte| plain & is_plain_byte(*byte))
 }
 
 /// Puts a text after others, escaped. Mostly nothing has to be, and then it is copied as it is.

@@ -29,7 +29,7 @@ W2 = [
     linted("W2 of other commands", *reported(2, ('RUN{program}+="/bin/a > b"', "/bin/a > b"), ('RUN="/bin/a > b"', "/bin/a > b"),
         ('RUN:="/bin/a > b"', "/bin/a > b"), ('PROGRAM=="/bin/a | b"', "/bin/a | b"), ('PROGRAM!="a | b"', "a | b"), ('PROGRAM="a | b"', "a | b"),
         ('IMPORT{program}=="a; b"', "a; b"), ('IMPORT{program}="a && b"', "a && b"))),
-    linted("W2 behind quotes", *each_value(2, "RUN+=", ["/bin/a 'b' > c", "/bin/a 'b'>/run/c", "/bin/a '>' | 'x'"]),
+    linted("W2 after quotes", *each_value(2, "RUN+=", ["/bin/a 'b' > c", "/bin/a 'b'>/run/c", "/bin/a '>' | 'x'"]),
         *reported(2, ('RUN+=e"/bin/a \\"b\\" > c"', '/bin/a "b" > c'), ('RUN+=e"/bin/a \'\\"\' > c"', "/bin/a '\"' > c"))),
     linted("W2 of programs that only look like a shell", *each_value(2, "RUN+=", ["/bin/shx -c a >b > c", "/bin/xsh -c a > b", "/bin/sh/a > b",
         "/bin/fish -c a > b", "/bin/SH -c a > b", "/bin/a /bin/sh > b"])),
@@ -42,7 +42,7 @@ W2 = [
     linted("no W2 within a word", *(f'RUN+="/bin/a {word}"' for word in ["^fs.(a|b)", "http://h/?a=1;b=2", "a>b", "--only=a|b", "a;b", "1>2"])),
     linted("no W2 of other signs", 'RUN+="/bin/a & b & c"', 'RUN+="/bin/a < b"', 'RUN+="/bin/a * ? [b] (c) {d,e} ! # ~"',
         "RUN+=\"/bin/a &'&' b\""),
-    linted("no W2 of what is no command", 'RUN{builtin}+="kmod load a | b"', 'IMPORT{builtin}="hwdb a; b"', 'IMPORT{file}="/run/a | b"',
+    linted("no W2 of values that are not commands", 'RUN{builtin}+="kmod load a | b"', 'IMPORT{builtin}="hwdb a; b"', 'IMPORT{file}="/run/a | b"',
         'TEST=="a | b"', 'ENV{A}="a > b"', 'RESULT=="a | b"', 'ATTR{a}="x; y"'),
 ]
 
@@ -51,9 +51,9 @@ bash chgrp chmod chown cp date echo ethtool ifconfig ip iw kill ln logger mkdir 
 sleep su sudo systemctl systemd-run sysctl tee touch udevadm umount""".split()
 W3 = [
     linted("W3 of each command", *each_value(3, "RUN+=", [f"{command} /run/a" for command in COMMANDS])),
-    linted("W3 of a command alone", *each_value(3, "RUN+=", ["touch", " ln", "cp ", "  rm $env{A}", "mv %k"])),
+    linted("W3 of a command without arguments", *each_value(3, "RUN+=", ["touch", " ln", "cp ", "  rm $env{A}", "mv %k"])),
     linted("W3 by each operator and type", *reported(3, ('RUN="touch"', "touch"), ('RUN:="ln a"', "ln a"), ('RUN{program}+="rm"', "rm"))),
-    linted("W3 behind a tab", *reported(3, ('RUN+="\ttouch\ta"', "\\x09touch\\x09a"))),
+    linted("W3 after a tab", *reported(3, ('RUN+="\ttouch\ta"', "\\x09touch\\x09a"))),
     linted("no W3", *(f'RUN+="{value}"' for value in ["/bin/touch a", "helper %k", "hdparm", "a", "./touch a", "bin/touch", "Touch a", "touchx", "xtouch",
         "'touch' a", "touch,a", "a touch", "$env{A} touch", "%c", "", "  ", "sync"])),
     linted("no W3 of other commands", 'RUN{builtin}+="kmod load a"', 'RUN{builtin}+="touch"', 'PROGRAM=="touch a"', 'PROGRAM="touch"',
@@ -92,7 +92,7 @@ W5 = [
         ('ATTRS{id/vendor}=="1d6b", ATTRS{idVendor}=="1d6b"', "idVendor"),
         ('ATTRS{subsystem_vendor}=="0x1d6b", ATTRS{id/bustype}=="0003"', "id/bustype"),
         ('ATTRS{devnum}=="2", ATTRS{subsystem_device}=="0x1"', "subsystem_device"))),
-    linted("W5 once a rule, by the first that is known", *reported(5, ('ATTRS{serial}=="1", ATTRS{id/vendor}=="0001", ATTRS{id/product}=="2", '
+    linted("W5 once for a rule, with the first known attribute", *reported(5, ('ATTRS{serial}=="1", ATTRS{id/vendor}=="0001", ATTRS{id/product}=="2", '
         'ATTRS{idVendor}=="1d6b", ATTRS{bNumEndpoints}=="02"', "idVendor"))),
     linted("no W5", 'ATTRS{idVendor}=="1d6b", ATTRS{idProduct}=="0002", ATTRS{serial}=="x", ATTRS{bNumInterfaces}==" 1"',
         'ATTRS{bInterfaceNumber}=="01", ATTRS{bNumEndpoints}=="02"', 'ATTRS{id/vendor}=="1", ATTRS{id/version}=="2"',
@@ -115,27 +115,27 @@ SET_BY = [("blkid", "ID_FS_TYPE"), ("blkid", "ID_PART_ENTRY_TYPE"), ("path_id", 
     ("input_id", "ID_INPUT_KEY"), ("net_id", "ID_NET_NAME_SLOT"), ("usb_id", "ID_USB_VENDOR")]
 W6 = [
     *(row for builtin, key in SET_BY for row in below(f"{key} by {builtin}", key, f'IMPORT{{builtin}}="{builtin}"')),
-    *below("a builtin with words behind its name", "ID_FS_TYPE", 'IMPORT{builtin}="blkid --noraid"'),
+    *below("a builtin with arguments", "ID_FS_TYPE", 'IMPORT{builtin}="blkid --noraid"'),
     *below("a builtin by ==", "ID_FS_TYPE", 'IMPORT{builtin}=="blkid"'),
     *below("a builtin by !=", "ID_FS_TYPE", 'IMPORT{builtin}!="blkid", TAG+="t"'),
     *below("the command line of the kernel", "mine", 'IMPORT{cmdline}="mine"'),
     *below("other rules between", "mine", 'TAG+="t"', 'IMPORT{cmdline}="other"', 'ENV{other}=="x"', 'IMPORT{cmdline}="mine"'),
     linted("W6 in the rule of the import", *reported(6, ('ENV{mine}=="x", IMPORT{cmdline}="mine"', "mine"))),
-    linted("W6 in a rule that may have it itself", *reported(6, ('ENV{mine}=="x", IMPORT{db}="mine", IMPORT{parent}="*", IMPORT{file}="/a"', "mine")), 'IMPORT{cmdline}="mine"'),
+    linted("W6 in a rule that imports the property too", *reported(6, ('ENV{mine}=="x", IMPORT{db}="mine", IMPORT{parent}="*", IMPORT{file}="/a"', "mine")), 'IMPORT{cmdline}="mine"'),
     linted("W6 of each match", ('ENV{ID_PATH}=="x", ENV{ID_PATH_TAG}=="?*"', lint(6, "ID_PATH"), lint(6, "ID_PATH_TAG")),
         *reported(6, ('ENV{ID_PATH}=="y"', "ID_PATH")), 'IMPORT{builtin}="path_id"', 'ENV{ID_PATH}=="z"'),
-    linted("W6 in a rule that assigns it", *reported(6, ('ENV{mine}=="?*", ENV{mine}+="x"', "mine")), 'IMPORT{cmdline}="mine"'),
-    linted("W6 below imports of other properties", 'IMPORT{db}="ID_PATH_TAG"', 'IMPORT{parent}="ID_PAT"', 'IMPORT{builtin}="blkid"', 'ENV{ID_PAT}="x"',
+    linted("W6 in a rule that assigns the property", *reported(6, ('ENV{mine}=="?*", ENV{mine}+="x"', "mine")), 'IMPORT{cmdline}="mine"'),
+    linted("W6 after imports of other properties", 'IMPORT{db}="ID_PATH_TAG"', 'IMPORT{parent}="ID_PAT"', 'IMPORT{builtin}="blkid"', 'ENV{ID_PAT}="x"',
         *reported(6, ('ENV{ID_PATH}=="x"', "ID_PATH")), 'IMPORT{builtin}="path_id"'),
-    *(linted(f"no W6 of what a rule above may have by {line}", line, 'ENV{ID_PATH}=="x"', 'IMPORT{builtin}="path_id"')
+    *(linted(f"no W6 of a property that a rule above may set by {line}", line, 'ENV{ID_PATH}=="x"', 'IMPORT{builtin}="path_id"')
       for line in ['ENV{ID_PATH}="x"', 'ENV{ID_PATH}+="x"', 'IMPORT{db}="ID_PATH"', 'IMPORT{parent}="ID_PATH"', 'IMPORT{parent}="ID_*"', 'IMPORT{parent}="A*"',
                    'IMPORT{parent}="?"', 'IMPORT{parent}="[A]"', 'IMPORT{parent}="A|B"', 'IMPORT{program}="/bin/a"', 'IMPORT{file}="/run/a"',
                    'IMPORT{builtin}="hwdb"', 'IMPORT{builtin}=="net_setup_link"']),
-    linted("no W6 where nothing imports it", 'ENV{ID_FS_TYPE}=="x"', 'ENV{mine}=="x"', 'IMPORT{cmdline}="mine_too"', 'IMPORT{db}="mine"',
+    linted("no W6 of a property that nothing imports", 'ENV{ID_FS_TYPE}=="x"', 'ENV{mine}=="x"', 'IMPORT{cmdline}="mine_too"', 'IMPORT{db}="mine"',
         'IMPORT{builtin}="path_id"'),
     linted("no W6 of the empty text", 'ENV{mine}==""', 'ENV{mine}=="|x"', *reported(12, ('ENV{mine}=="*"', "ENV")), 'IMPORT{cmdline}="mine"'),
     linted("no W6 by !=", 'ENV{mine}!="x"', 'IMPORT{cmdline}="mine"'),
-    linted("no W6 of names beside those of builtins", *(f'ENV{{{name}}}=="x"' for name in ["ID_FS", "ID_PAR", "ID_USB", "ID_NET_NAME", "XID_PATH"]),
+    linted("no W6 of names that no builtin imports", *(f'ENV{{{name}}}=="x"' for name in ["ID_FS", "ID_PAR", "ID_USB", "ID_NET_NAME", "XID_PATH"]),
         *(f'IMPORT{{builtin}}="{builtin}"' for builtin in ["blkid", "usb_id", "path_id", "net_id", "input_id"])),
     linted("no W6 by other imports", 'ENV{ID_FS_TYPE}=="x"', 'IMPORT{program}="blkid"', 'IMPORT{file}="/run/blkid"',
         'IMPORT{parent}="ID_FS_TYPE"', 'IMPORT{builtin}="hwdb"', 'IMPORT{builtin}="keyboard"', 'IMPORT{builtin}="blkidx"',
@@ -146,17 +146,17 @@ W6 = [
 W7 = [
     linted("W7 of a property", 'ENV{A}=="1"', *reported(7, ('ENV{A}="1", KERNEL=="sd*"', "A"))),
     linted("W7 of an attribute", 'ATTR{power/control}=="auto"', *reported(7, ('ATTR{power/control}="auto", KERNEL=="sd*"', "power/control"))),
-    linted("W7 above the match that compares", *reported(7, ('ENV{A}="1", KERNEL=="sd*"', "A")), 'ENV{A}=="1", TAG+="t"'),
+    linted("W7 before the rule that compares", *reported(7, ('ENV{A}="1", KERNEL=="sd*"', "A")), 'ENV{A}=="1", TAG+="t"'),
     *(linted(f"W7 in {line}", 'ENV{A}=="1"', *reported(7, (line, "A"))) for line in ['ENV{A}="1", KERNELS=="sd*"', 'ENV{A}="1", PROGRAM=="/a", RESULT=="b"',
         'ENV{A}="1", TAG+="t", ENV{B}!="2"', 'TAG=="t", ENV{A}="1", ATTRS{c}!="2", TAG+="t"']),
     linted("W7 of a value with escapes", 'ENV{A}==e"\\x31"', *reported(7, ('ENV{A}="1", KERNEL=="sd*"', "A"))),
     linted("W7 of each assignment", 'ENV{A}=="1"', 'ENV{B}=="2"', ('ENV{B}="2", ENV{A}="1", KERNEL=="sd*"', lint(7, "B"), lint(7, "A"))),
     linted("W7 of a pattern", 'ENV{A}=="a|b*"', *reported(7, ('ENV{A}="a|b*", KERNEL=="sd*"', "A"))),
-    *(linted(f"no W7 behind the matches, in {line}", 'ENV{A}=="1"', line) for line in ['KERNEL=="sd*", ENV{A}="1"', 'KERNEL=="sd*", ENV{A}="1", TAG+="t"',
+    *(linted(f"no W7 after the matches, in {line}", 'ENV{A}=="1"', line) for line in ['KERNEL=="sd*", ENV{A}="1"', 'KERNEL=="sd*", ENV{A}="1", TAG+="t"',
         'ENV{A}="1"']),
-    *(linted(f"no W7 before an act alone, in {line}", 'ENV{A}=="1"', line) for line in ['ENV{A}="1", TEST=="b"', 'ENV{A}="1", PROGRAM=="/b"',
+    *(linted(f"no W7 before only an act, in {line}", 'ENV{A}=="1"', line) for line in ['ENV{A}="1", TEST=="b"', 'ENV{A}="1", PROGRAM=="/b"',
         'ENV{A}="1", IMPORT{db}=="C"']),
-    linted("W7 beside other assignments", 'ENV{A}=="1"', *reported(7, ('ENV{A}="1", KERNEL=="sd*"', "A")), 'ENV{A}="2"', 'ENV{B}="1"', 'ATTR{A}="1"',
+    linted("W7 with other assignments in the rule", 'ENV{A}=="1"', *reported(7, ('ENV{A}="1", KERNEL=="sd*"', "A")), 'ENV{A}="2"', 'ENV{B}="1"', 'ATTR{A}="1"',
         ('ENV{A}="1", FOO="x"', "V2 unknown key: FOO")),
     linted("no W7 by other operators", 'ENV{A}=="1"', 'ENV{B}!="1"', 'ENV{A}+="1", KERNEL=="sd*"', 'ENV{B}="1", KERNEL=="sd*"'),
     linted("no W7 of other values, names and keys", 'ENV{A}=="1"', 'ENV{A}="2", KERNEL=="a"', 'ENV{B}="1", KERNEL=="a"', 'ATTR{A}="1", KERNEL=="a"',
@@ -198,7 +198,7 @@ W11 = [
     linted("W11 of a value with escapes", *reported(11, ('KERNEL==e"\\x5Ea"', "^a"), ('KERNEL==e"sd\\\\d"', "sd\\x5Cd")), 'KERNEL=="\\x5Ea"'),
     linted("no W11", *(f'KERNEL=="{value}"' for value in ["a^b", "$a", "a$b", "sd.*", "a.*b", "*.*", ".", "a.", ".a*", "Disk (1)", "()", ")",
         "a(b", "a(b|c", "a|b)", "(a)|(b)", "a)b(c)", "{a}", "a,b", "}a,b{", "{a}b,c", "[$]", "a+", "a?", "[^a]b", "[!a]*", "a|b", "\\D", "a\\b"])),
-    linted("no W11 of what is no match", 'TEST=="^a"', 'PROGRAM=="/a ^b$$"', 'ENV{A}="^a"', 'RUN+="/a {b,c}"', 'SYMLINK+="a{b,c}"',
+    linted("no W11 of assignments", 'TEST=="^a"', 'PROGRAM=="/a ^b$$"', 'ENV{A}="^a"', 'RUN+="/a {b,c}"', 'SYMLINK+="a{b,c}"',
         'IMPORT{parent}="^A"'),
 ]
 
@@ -214,16 +214,16 @@ W12 = [
 
 W13 = [
     linted("W13", 'GOTO="end"', *reported(13, ('KERNEL=="sda", TAG+="t"', "end")), 'KERNEL=="sdb"', 'LABEL="end"'),
-    linted("W13 behind assignments", 'TAG+="t", GOTO="end", ENV{A}="1"', *reported(13, ('TAG+="u"', "end")), 'LABEL="end"'),
-    linted("W13 behind what is no rule", 'GOTO="end"', "# a comment", "", ('FOO="x"', "V2 unknown key: FOO"), *reported(13, ('TAG+="u"', "end")),
+    linted("W13 after assignments", 'TAG+="t", GOTO="end", ENV{A}="1"', *reported(13, ('TAG+="u"', "end")), 'LABEL="end"'),
+    linted("W13 after lines that are not rules", 'GOTO="end"', "# a comment", "", ('FOO="x"', "V2 unknown key: FOO"), *reported(13, ('TAG+="u"', "end")),
         'LABEL="end"'),
-    linted("W13 of a rule that jumps itself", 'GOTO="end"', *reported(13, ('GOTO="far"', "end"), ('TAG+="t"', "far")), 'LABEL="end"', 'LABEL="far"'),
-    *(linted(f"no W13 behind {match}", f'{match}, GOTO="end"', 'TAG+="t"', 'LABEL="end"') for match in ['KERNEL=="a"', 'ENV{A}!="1"',
+    linted("W13 of a rule that has a jump", 'GOTO="end"', *reported(13, ('GOTO="far"', "end"), ('TAG+="t"', "far")), 'LABEL="end"', 'LABEL="far"'),
+    *(linted(f"no W13 after {match}", f'{match}, GOTO="end"', 'TAG+="t"', 'LABEL="end"') for match in ['KERNEL=="a"', 'ENV{A}!="1"',
         'ATTRS{a}=="1"', 'TEST=="a"', 'PROGRAM=="/a"', 'IMPORT{db}="A"', 'RESULT=="a"', 'TAG=="a"']),
     linted("no W13 of a label that is used", 'GOTO="end"', 'LABEL="end"'),
     linted("no W13 of a label that is not used", 'GOTO="end"', ('LABEL="x", TAG+="t"', "S4 label unused: x"), 'LABEL="end"'),
     linted("no W13 of a label that another jump goes to", 'KERNEL=="a", GOTO="here"', 'GOTO="end"', 'LABEL="here", TAG+="t"', 'LABEL="end"'),
-    linted("no W13 behind a jump that is dropped", ('GOTO="none"', "V7 no later label: none"), 'TAG+="t"'),
+    linted("no W13 after a jump that is dropped", ('GOTO="none"', "V7 no later label: none"), 'TAG+="t"'),
 ]
 
 ROWS = [*W1, *W2, *W3, *W4, *W5, *W6, *W7, *W8, *W9, *W10, *W11, *W12, *W13]

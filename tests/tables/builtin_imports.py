@@ -48,7 +48,7 @@ ROWS = [
     imported('arguments after the name are ignored', 'IMPORT{builtin}="path_id --a b", ENV{A}="1"\n', BELOW_CARD, *PATH, 'env A=1'),
     imported('an unclosed quote after the name is ignored', 'IMPORT{builtin}="path_id \'b", ENV{A}="1"\n', BELOW_CARD, *PATH, 'env A=1'),
     imported('a builtin is also run by IMPORT{program}', 'IMPORT{program}="path_id", ENV{A}="1"\n', BELOW_CARD, *PATH, 'env A=1'),
-    imported('a builtin that would set too long a text sets nothing, and fails again', 'IMPORT{builtin}="usb_id", ENV{A}="1"\nIMPORT{builtin}!="usb_id", ENV{B}="1"\n', WORDY,
+    imported('a builtin that would set a text that is too long sets nothing, and fails again', 'IMPORT{builtin}="usb_id", ENV{A}="1"\nIMPORT{builtin}!="usb_id", ENV{B}="1"\n', WORDY,
              'env B=1', 'note r.rules:1: text too long: usb_id'),
     imported('net_id sets what the database has for the address', 'ENV{ID_X}="old"\nIMPORT{builtin}="net_id", ENV{A}="1"\n', PCI_CARD,
              *NAMES, 'env ID_OUI_FROM_DATABASE=Maker', 'env A=1', database='OUI:54E1AD*\n ID_OUI_FROM_DATABASE=Maker\n ID_X=\n'),

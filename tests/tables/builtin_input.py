@@ -55,7 +55,7 @@ CASES = [
      ['done', 'ID_INPUT=1', 'ID_INPUT_KEY=1']),
     ('the first 31 keys', can(keys=range(1, 32)),
      ['done', 'ID_INPUT=1', 'ID_INPUT_KEY=1', 'ID_INPUT_KEYBOARD=1']),
-    ('key 0 alone', can(keys=[0]),
+    ('only key 0', can(keys=[0]),
      ['done', 'ID_INPUT=1', 'ID_INPUT_KEY=1']),
     ('a power button', can(keys=[116]),
      ['done', 'ID_INPUT=1', 'ID_INPUT_KEY=1']),
@@ -90,7 +90,7 @@ CASES = [
     ('a wheel without its event type', can(rel=[8], ev=(0,)),
      ['done', 'ID_INPUT=1']),
     # mice and pointing sticks
-    ('buttons alone are a mouse', can(keys=[LEFT]),
+    ('only buttons are a mouse', can(keys=[LEFT]),
      ['done', 'ID_INPUT=1', 'ID_INPUT_MOUSE=1']),
     ('button 16 of a mouse', can(keys=[SIDE16]),
      ['done', 'ID_INPUT=1', 'ID_INPUT_MOUSE=1']),

@@ -209,8 +209,8 @@ def compared_attributes(name, key, block):
 
 # (the device has no parent here, so that ATTRS looks at it alone)
 ROWS = CONSTANTS + [
-    compared_attributes("ATTR drops whitespace at the end but for a value that ends in it", "ATTR", DEVICE + ATTRIBUTES),
-    compared_attributes("ATTRS drops whitespace at the end but for a value that ends in it", "ATTRS", DEVICE + ATTRIBUTES),
+    compared_attributes("ATTR drops trailing whitespace unless the value ends in whitespace", "ATTR", DEVICE + ATTRIBUTES),
+    compared_attributes("ATTRS drops trailing whitespace unless the value ends in whitespace", "ATTRS", DEVICE + ATTRIBUTES),
     compared(
         "ATTRS drops trailing whitespace of a parent's attribute",
         block="C: add\nP: /devices/h/x\nP: /devices/h\nA: serial=7 \n",

@@ -176,7 +176,7 @@ ORDERS = [
 def of_events(name, whole, check):
     """`events` by an index that fails a check: nothing is read of the input."""
     words = "events -r none --index i"
-    return Row(f"events by an index: {name}", words, {"i": whole}, "C: ", messages=f"devdry: index: {check}\n", status=1)
+    return Row(f"events with an index: {name}", words, {"i": whole}, "C: ", messages=f"devdry: index: {check}\n", status=1)
 
 
 ROWS = [

@@ -41,7 +41,7 @@ ROWS = [
         ('TEST-=i"x"', "V10 bad quote prefix: i"),
     ),
     verified(
-        "an i before the value is refused for keys that are not compared with names",
+        "the prefix i is refused for TEST, PROGRAM and IMPORT",
         ('TEST==i"x"', "V5 bad value: x"),
         ('TEST!=i"x"', "V5 bad value: x"),
         ('PROGRAM==i"x"', "V5 bad value: x"),

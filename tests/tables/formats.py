@@ -151,7 +151,7 @@ PLACES = [
     *in_formats("a word of over 32 bytes", 'SYMLINK+="<V6|' + "x" * 40 + '/$nope/y>"',
         "<V1|" + "long" * 30 + ">"),
     *in_formats("no message", 'TAG+="a"'),
-    *in_formats("four thousand messages of one line", 'TAG="",' + ",".join(["<S2|TAG>=\"\""] * 2_000), formats=["plain", "gcc",
+    *in_formats("four thousand messages about one line", 'TAG="",' + ",".join(["<S2|TAG>=\"\""] * 2_000), formats=["plain", "gcc",
         "github", "json", "gitlab"]),
 ]
 
@@ -227,7 +227,7 @@ WINDOWS = [
     *(in_window(f"{character} as the first character that is shown", long_line(200, 400, character.encode(), 160), blank_missing(201),
                 long_line(200, 400, character.encode(), 160)[160:320], " " * (41 - len(character.encode())) + "^~~")
       for character in ["ä", "€", "\U0001f600"]),
-    *(in_window(f"{character}, {gone} bytes of which come before what would be shown", long_line(200, 400, character.encode(), 160 - gone),
+    *(in_window(f"{character}, {gone} of its bytes before the part that would be shown", long_line(200, 400, character.encode(), 160 - gone),
                 blank_missing(201), long_line(200, 400, character.encode(), 160 - gone)[160 + kept:320 + kept], " " * (40 - kept) + "^~~")
       for character, gone, kept in [("ä", 1, 1), ("€", 1, 2), ("€", 2, 1), ("\U0001f600", 1, 3), ("\U0001f600", 2, 2), ("\U0001f600", 3, 1)]),
 ]
@@ -280,7 +280,7 @@ ROWS = [
     *SIGNS,
     *NAMES,
     *WINDOWS,
-    Row("a path is as it was opened, except in what GitHub reads", ["verify", "--format=github", GITHUB_PATH], {GITHUB_PATH: "FOO\\=\n"},
+    Row("a path is written as it was opened, except for GitHub", ["verify", "--format=github", GITHUB_PATH], {GITHUB_PATH: "FOO\\=\n"},
         output="1 files checked, 0 good, 1 bad\n", status=1,
         messages=b"::error file=a\\b%2Cc%3Ad%2525%0A%0De\t\x1b \xC3\xA4.rules,line=1,col=1,endColumn=6,title=V1::bad syntax: FOO\\x5C=\n"),
     *(in_image(form) for form in FORMATS),

@@ -43,7 +43,7 @@ ROWS = [
         "",
         (" C", bad("C")),
     ),
-    verified("a # that does not begin a line is no comment", ("a # b", bad("a # b")), ('TAG="a" # b', bad("# b"))),
+    verified("a # that does not begin a line is not a comment", ("a # b", bad("a # b")), ('TAG="a" # b', bad("# b"))),
     verified("empty lines are not rules, joined or not", "\\", "", " ", "\\", " \t"),
     verified("an empty line ends a continuation", ("a\\", bad("a")), "", ("b", bad("b"))),
     verified("a line that is continued at the file's end", ('KERNEL=="a" \\', OPEN)),

@@ -150,7 +150,7 @@ ROWS = [
         ),
     ),
     answered(
-        "a test with a mask is not made",
+        "TEST with a mask is not made",
         ['TEST{00777}=="f", TAG="mode"', 'TEST=="f", TAG+="any"'],
         (["A: f="], ["tag any", "note r.rules:1: test not made: f"]),
     ),

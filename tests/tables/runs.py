@@ -194,7 +194,7 @@ ROWS = [
     Row("a jump stays within its file", "events -r none d/x.rules x.rules",
         {"d/x.rules": JUMPS_DOWN_AND_UP, "x.rules": RULE_AND_JUMP}, BARE,
         bare(env="env E=1\nenv F=1\nenv G=1\nenv I=1\n"), "d/x.rules:4: V7 no later label: x\n"),
-    Row("a file read twice has two sets of jumps", "events -r none x.rules x.rules", {"x.rules": JUMPS_DOWN_AND_UP}, BARE,
+    Row("a file read twice: its jumps stay apart", "events -r none x.rules x.rules", {"x.rules": JUMPS_DOWN_AND_UP}, BARE,
         bare(env="env E=1\nenv F=1\n"), "x.rules:4: V7 no later label: x\n" * 2),
     Row("a thousand properties of the database", "events -r mnt r.rules",
         {"r.rules": 'IMPORT{builtin}="hwdb x"\n', "mnt/usr/lib/udev/hwdb.d/a.hwdb": WHOLE_DATABASE}, BARE, WHOLE_DATABASE_ANSWER),

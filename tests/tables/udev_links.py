@@ -89,7 +89,7 @@ CASES = [
      'SYMLINK+="a\'b j;k l\\x41 m(n) $$x %%y z?*[] t,u"\n',
      DISK,
      ['link a_b', 'link j_k', 'link l\\x41', 'link m_n_', 'link _x', 'link _y', 'link z____', 'link t_u']),
-    ('whitespace separates links',
+    ('whitespace separates links, other control characters do not',
      'SYMLINK+=e"a\\tb\\nc\\vd\\fe\\x01f\\x7fg"\n',
      DISK,
      ['link a', 'link b', 'link c', 'link d', 'link e_f_g']),

@@ -64,13 +64,13 @@ def main(write):
         total += lines
         print(f"{crate:18} {lines:6}")
         if lines != int(row[3]):
-            wrong.append(f"{crate} has {lines} lines, and not {row[3]}")
-    print(f"{'together':18} {total:6}")
+            wrong.append(f"{crate} has {lines} lines, not {row[3]}")
+    print(f"{'total':18} {total:6}")
     if SUM.findall(page) != [str(total)]:
-        wrong.append(f"together {total} lines, and not {' or '.join(SUM.findall(page)) or 'no number'}")
+        wrong.append(f"the total is {total} lines, not {' or '.join(SUM.findall(page)) or 'no number'}")
     named |= {(row[1], name) for row in COMPARED.finditer(page) for name in names_in(row[2])}
     wrong += [f"{crate} has no specs/{name}.antt" for crate, name in sorted(named) if not file_of(crate, name).is_file()]
-    wrong += [f"{crate}: {name} is used, and not named" for crate, name in sorted(used_by(RUN) - named)]
+    wrong += [f"{crate}: {name} is used but not named" for crate, name in sorted(used_by(RUN) - named)]
     for it in wrong:
         print(f"wrong: {it}")
     return not wrong

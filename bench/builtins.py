@@ -68,9 +68,9 @@ def compare(root, what, builtin, blocks, record=None):
         if theirs != compared(ours):
             wrong += 1
             print(f"{builtin} {block.splitlines()[1]}:")
-            print(f"    udevadm alone: {[line for line in theirs if line not in ours]}")
-            print(f"    devdry alone:  {[line for line in compared(ours) if line not in theirs]}", flush=True)
-    print(f"{what}, {builtin}: {len(blocks)} asked, {done} done, {noted} with a note, {wrong} differ", flush=True)
+            print(f"    only udevadm: {[line for line in theirs if line not in ours]}")
+            print(f"    only devdry:  {[line for line in compared(ours) if line not in theirs]}", flush=True)
+    print(f"{what}, {builtin}: {len(blocks)} devices, {done} done, {noted} with a note, {wrong} differ", flush=True)
     return wrong
 
 

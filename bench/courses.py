@@ -119,22 +119,22 @@ def end_faults(courses, rules, counts):
     for place, texts in courses.items():
         ends = [text for text in texts if text.startswith(ENDS)]
         if len(ends) != 1 or texts[-1] != ends[0]:
-            yield place, "has not just one end, as its last line"
+            yield place, "does not have exactly one end, as its last line"
             continue
         kind = next(kind for kind in ENDS if ends[0].startswith(kind))
         counts[kind.removesuffix(": ").removesuffix(" by GOTO of ")] += 1
         failing = [text for text in texts if '": fails, ' in text or text.startswith("no device meets")]
         jump = re.fullmatch(r"passed over by GOTO of (.+):(\d+)", ends[0])
         if kind == "stops there" and len(failing) != 1:
-            yield place, "stops without one key that fails"
+            yield place, "stops without exactly one key that fails"
         elif kind == "reached its end" and failing:
-            yield place, "reached its end by a key that fails"
+            yield place, "reached its end although a key fails"
         elif jump and ((jump[1], int(jump[2])) not in reached or len(texts) != 1):
             yield place, "is passed over by a rule that did not reach its end, or met a key"
         if kind == "reached its end":
             reached.add(place)
     for place in rules ^ courses.keys():
-        yield place, "is a rule that nothing is told of, or none"
+        yield place, "is a rule without lines, or not a rule"
 
 
 def reported_as(item):
@@ -162,14 +162,14 @@ def source_faults(plain, sources, courses, counts):
         found = SOURCE.fullmatch(sourced)
         if line.startswith(("event ", "note ")):
             if line != sourced:
-                yield line, "is another line with --sources"
+                yield line, "differs with --sources"
         elif not found or found[3] != line:
-            yield line, "is not what stands behind its source"
+            yield line, "is not the line after its source"
         elif found[1]:
             counts["lines from rules"] += 1
             texts = courses[found[1], int(found[2])]
             if not any(reported in text for reported in reported_as(line) for text in texts):
-                yield line, f"is not told by {found[1]}:{found[2]}"
+                yield line, f"is not reported by {found[1]}:{found[2]}"
 
 
 def answer_faults(answers, rules, counts):
@@ -177,9 +177,9 @@ def answer_faults(answers, rules, counts):
     plain, why = answers["plain"], answers["why"]
     end = len([line for line in why if not line.startswith("why ")])
     if why[:end] != plain:
-        yield "the answer", "has other lines with --why"
+        yield "the answer", "has different lines with --why"
     if answers["both"] != answers["sources"] + why[end:]:
-        yield "the answer", "has other lines with both options"
+        yield "the answer", "has different lines with both options"
     courses = collections.defaultdict(list)
     for reported in map(read_why, why[end:]):
         courses[reported.file, reported.line].append(reported.text)
@@ -197,13 +197,13 @@ def compare(runs, blocks, files, plainly):
     places = {(rule.file, rule.line) for rule in rules} | not_read.keys()
     counts, wrong = collections.Counter(rules=len(rules)), 0
     for at, block in enumerate(blocks):
-        faults = [("the answer", "is not given in each way")]
+        faults = [("the answer", "is missing in some way of asking")]
         if all(at < len(found) for found in answers.values()):
             faults = list(answer_faults({way: found[at] for way, found in answers.items()}, places, counts))
             if plainly:
                 lines, whys = plain_courses.answers(rules, block, not_read.values())
                 wanted = [f"{source}: {line}" if source else line for source, line in lines] + whys
-                faults += [(line, "is told by one of the program and the plain reading alone") for line in sorted(set(wanted) ^ set(answers["both"][at]))]
+                faults += [(line, "is reported only by the program or only by the plain reading") for line in sorted(set(wanted) ^ set(answers["both"][at]))]
                 faults += [("the answer", "has its lines in another order")] * (not faults and wanted != answers["both"][at])
         wrong += len(faults)
         path = re.search("^P: (.*)", block, re.M)[1]

@@ -198,7 +198,7 @@ def indexes(runs, chance, case):
 
 # What each kind is, the function that makes a case of it, and how many files a case has.
 KINDS = {
-    "rules": ("rules files", rules, BATCH), "blocks": ("blocks, by rules of which half are damaged", blocks, 1),
+    "rules": ("rules files", rules, BATCH), "blocks": ("blocks, with rules half of which are damaged", blocks, 1),
     "database": ("database files", hwdb, BATCH), "indexes": ("indexes", indexes, 1),
 }
 
@@ -229,11 +229,11 @@ def main(program, count, seed, kinds):
             if kind == "indexes" and count >= MANY:
                 faults += damaged_indexes.missing(ends)
             reported = ", ".join(f"{ends[end]} {end}" for end in sorted(ends))
-            print(f"{count} damaged {KINDS[kind][0]}: {reported}; the slowest {slowest:.2f} s; "
-                  f"{time.monotonic() - begin:.0f} s in all", flush=True)
+            print(f"{count} damaged {KINDS[kind][0]}: {reported}; slowest run {slowest:.2f} s; "
+                  f"{time.monotonic() - begin:.0f} s in total", flush=True)
     for fault in faults[:20]:
         print(fault)
-    print(f"{len(faults)} runs went wrong")
+    print(f"{len(faults)} runs failed")
     return bool(faults)
 
 

@@ -206,7 +206,7 @@ def compare(runs, chance, case, index, modalias):
     try:
         entries = plain_index.answer(plain_index.read(index), modalias)
         wanted = (0, b"event add /devices/x\n" if by_events else lines_of(entries, sources), b"")
-        came = "answered with properties" if entries else "answered without"
+        came = "answered with properties" if entries else "answered without properties"
     except plain_index.Refused as fault:
         wanted = (1, b"", b"devdry: index: %b\n" % str(fault).encode())
         came = f"refused: {fault}"

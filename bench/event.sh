@@ -50,7 +50,7 @@ def measure(name, rules, block):
     ((plain, plain_whole), (compiled, compiled_whole)), answer = times_of(rules, block)
     count = int(answer.split()[0])
     print(f"{name}: {answer}; evaluation {plain * 1e6:.1f} us, {plain / count * 1e9:.0f} ns a rule; compiled "
-          f"{compiled * 1e6:.1f} us, {plain / compiled:.2f} times as fast; with reading the block {plain_whole * 1e6:.1f} us, "
+          f"{compiled * 1e6:.1f} us, {plain / compiled:.2f} times as fast; including reading the block {plain_whole * 1e6:.1f} us, "
           f"compiled {compiled_whole * 1e6:.1f} us, {plain_whole / compiled_whole:.2f} times as fast", flush=True)
     return plain
 
@@ -74,8 +74,8 @@ for first in FIRST:
 measure("every tenth rule changes a property", made(4600, changing=True), BLOCK)
 if root:
     for name, lines in REAL.items():
-        for copies, said in ((1, "rules of a distribution"), (3, "three copies of them")):
+        for copies, said in ((1, "rules of a distribution"), (3, "three copies of these rules")):
             measure(f"{said}, {name}", distribution(copies), "\n".join(lines) + "\n")
     name, lines = next(iter(REAL.items()))
-    measure(f"twice as many, {name}", distribution(6), "\n".join(lines) + "\n")
+    measure(f"six copies of these rules, {name}", distribution(6), "\n".join(lines) + "\n")
 P

@@ -92,7 +92,7 @@ def main(words):
         print(f"{crate:18} " + " ".join(f"{seconds[crate, what] / 60:7.1f}" for what in ("proof", "tests", "edits")))
     for what in ("proof", "tests", "edits", "other"):
         print(f"{what:18} {sum(used for (_, it), used in seconds.items() if it == what) / 60:7.1f}")
-    print(f"all {(used.ru_utime + used.ru_stime) / 60:.0f} minutes of processor time, {used.ru_stime / 60:.0f} of them the system's, {(time.time() - began) / 60:.0f} by the clock")
+    print(f"total: {(used.ru_utime + used.ru_stime) / 60:.0f} minutes of processor time, {used.ru_stime / 60:.0f} of them in the kernel, {(time.time() - began) / 60:.0f} minutes of elapsed time")
     print("\n".join(last))
     return run.returncode == 0
 

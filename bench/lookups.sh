@@ -29,7 +29,7 @@ def modalias(number):
 
 with tempfile.TemporaryDirectory() as work:
     def put(name, lines):
-        """Writes a file of lines; answers its path."""
+        """Writes a file of lines; returns its path."""
         path = os.path.join(work, name)
         with open(path, "w", encoding="ascii") as file:
             file.writelines(f"{line}\n" for line in lines)

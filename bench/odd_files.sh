@@ -19,9 +19,9 @@ expect() {
     shift 3
     got=$("$@" 2>&1) || code=$?
     if [ "$code" = "$status" ] && [ "$got" = "$output" ]; then
-        echo "$case: as it should be"
+        echo "$case: ok"
     else
-        echo "$case: status $code, and it wrote: $got"
+        echo "$case: status $code, output: $got"
         failed=1
     fi
 }
@@ -34,7 +34,7 @@ wait
 
 name=$folder/$(printf '\377').hwdb
 touch "$name"
-expect "a name that is not UTF-8" 3 "devdry: cannot read $folder" "$program" query -r "$work" m
+expect "a file name that is not UTF-8" 3 "devdry: cannot read $folder" "$program" query -r "$work" m
 rm "$name"
 
 as_another=()
@@ -46,12 +46,12 @@ expect "a folder without permission" 3 "devdry: cannot read $folder" "${as_anoth
 chmod 755 "$folder"
 
 to_full() { "$@" >/dev/full; }
-expect "help to an output that is full" 3 "devdry: write failed" to_full "$program" --help
+expect "help to a full output" 3 "devdry: write failed" to_full "$program" --help
 
 # A file that can be opened but not read, a link to nothing, a folder that is not one.
-expect "a file that fails when it is read" 3 "devdry: cannot read /proc/self/mem" "$program" verify /proc/self/mem
+expect "a file that can't be read to its end" 3 "devdry: cannot read /proc/self/mem" "$program" verify /proc/self/mem
 ln -s nothing "$folder/a.hwdb"
-expect "a link to nothing in a folder" 3 "devdry: cannot read $folder/a.hwdb" "$program" query -r "$work" m
+expect "a broken symlink in a folder" 3 "devdry: cannot read $folder/a.hwdb" "$program" query -r "$work" m
 rm "$folder/a.hwdb"
 
 # Inputs and outputs of `events` that fail, at once or half way.
@@ -71,20 +71,20 @@ to_reader() {
     return "$(cat "$work/status")"
 }
 events=("$program" events -r none "$rules")
-expect "an input that fails when it is read" 3 "devdry: read failed" from_folder "${events[@]}"
-expect "an input that is closed" 3 "devdry: read failed" from_nothing "${events[@]}"
+expect "an input that can't be read" 3 "devdry: read failed" from_folder "${events[@]}"
+expect "a closed input" 3 "devdry: read failed" from_nothing "${events[@]}"
 expect "an input that ends in the middle of a line" 0 "$answer" from_half "${events[@]}"
-expect "an output that is closed" 3 "devdry: write failed" to_nothing "${events[@]}"
-expect "answers to an output that is full" 3 "devdry: write failed" blocks_to_full "${events[@]}"
-expect "a reader that goes away" 3 $'devdry: write failed\nevent add ' to_reader "${events[@]}"
+expect "a closed output" 3 "devdry: write failed" to_nothing "${events[@]}"
+expect "answers to a full output" 3 "devdry: write failed" blocks_to_full "${events[@]}"
+expect "a reader that closes early" 3 $'devdry: write failed\nevent add ' to_reader "${events[@]}"
 
 # The same for `query -`: the lines of that block and the empty line after them, one of which is answered.
 printf 'P*\n A=1\n' >"$work/a.hwdb"
 lines=("$program" query - "$work/a.hwdb")
-expect "modaliases: an input that fails when it is read" 3 "devdry: read failed" from_folder "${lines[@]}"
-expect "modaliases: an input that is closed" 3 "devdry: read failed" from_nothing "${lines[@]}"
+expect "modaliases: an input that can't be read" 3 "devdry: read failed" from_folder "${lines[@]}"
+expect "modaliases: a closed input" 3 "devdry: read failed" from_nothing "${lines[@]}"
 expect "modaliases: an input that ends in the middle of a line" 0 $'\nA=1' from_half "${lines[@]}"
-expect "modaliases: an output that is closed" 3 "devdry: write failed" to_nothing "${lines[@]}"
-expect "modaliases: answers to an output that is full" 3 "devdry: write failed" blocks_to_full "${lines[@]}"
-expect "modaliases: a reader that goes away" 3 $'devdry: write failed\n\nA=1\n\n\n\nA=' to_reader "${lines[@]}"
+expect "modaliases: a closed output" 3 "devdry: write failed" to_nothing "${lines[@]}"
+expect "modaliases: answers to a full output" 3 "devdry: write failed" blocks_to_full "${lines[@]}"
+expect "modaliases: a reader that closes early" 3 $'devdry: write failed\n\nA=1\n\n\n\nA=' to_reader "${lines[@]}"
 exit $failed

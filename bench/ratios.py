@@ -205,7 +205,7 @@ def table(bench, word, unit):
     runs = {name: bench.runs[name] for name in names}
     taken = least(runs, turns=5 if unit == "s" else 2)
     costs = {name: counted(run) for name, run in runs.items()} if unit != "s" else {name: it.seconds for name, it in taken.items()}
-    print("| What | It takes | Beside | Ratio | Aim | Peak | Aim |\n|---|---|---|---|---|---|---|")
+    print("| What | Cost | Compared with | Ratio | Aim | Peak memory | Aim |\n|---|---|---|---|---|---|---|")
     for row in rows:
         own = sum(costs[name] for name in row.runs) - sum(costs[name] for name in row.start)
         other = sum(costs[name] for name in row.beside)
@@ -216,7 +216,7 @@ def table(bench, word, unit):
 
 def growth(word, unit):
     """Prints what one, ten and a hundred times as much of each thing takes."""
-    print("\n| What | Once | Ten times | A hundred times | Ten times as much takes | Then |\n|---|---|---|---|---|---|")
+    print("\n| What | Once | Ten times | A hundred times | Ten times / once | A hundred times / ten times |\n|---|---|---|---|---|---|")
     for case in (case for case in GROWTH if word in case.name):
         costs = []
         for times in (0, 1, 10, 100):

@@ -4,8 +4,8 @@ Not made, because devdry answers otherwise on purpose (docs/differences.md), or 
 - names of users and groups that do not exist, also when they are rendered;
 - `driver`, `subsystem`, `uevent` and paths as attributes, a file where TEST looks for a folder, and SYSCTL that is there;
 - the properties TAGS, CURRENT_TAGS and DEVLINKS, and a parent's properties that are not in its lines `E:`;
-- a link `.`, vertical tabs, form feeds, numbers that are no characters, and newlines, which part what udevadm prints;
-- `--device` of hwdb, parts of a result that are no numbers, several links in `$links`, CONST, and `db_persist`.
+- a link `.`, vertical tabs, form feeds, code points that are not characters, and newlines, which part what udevadm prints;
+- `--device` of hwdb, parts of a result that are not numbers, several links in `$links`, CONST, and `db_persist`.
 """
 from udev_makers import odd
 

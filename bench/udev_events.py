@@ -104,9 +104,9 @@ def compare(root, name, rules, words, blocks):
         if theirs != ours:
             wrong += 1
             unexplained += not not_run
-            print(f"{name}, {' '.join(block.splitlines()[:2])}{', not all was run' if not_run else ''}:")
-            print(f"    udevadm alone: {[line for line in theirs if line not in ours]}")
-            print(f"    devdry alone:  {[line for line in ours if line not in theirs]}", flush=True)
+            print(f"{name}, {' '.join(block.splitlines()[:2])}{', some commands were not run' if not_run else ''}:")
+            print(f"    only udevadm: {[line for line in theirs if line not in ours]}")
+            print(f"    only devdry:  {[line for line in ours if line not in theirs]}", flush=True)
     return wrong, unexplained
 
 
@@ -123,7 +123,7 @@ def compare_files(root, files):
             wrong, unexplained, answers = wrong + more[0], unexplained + more[1], answers + len(blocks)
             if is_printed and more[0]:
                 print("    " + os.fsdecode(text).replace("\n", "\n    ").rstrip(), flush=True)
-    print(f"{answers} answers, {wrong} differ, {unexplained} of them though all was run")
+    print(f"{answers} answers, {wrong} differ, {unexplained} of them with all commands run")
     return unexplained
 
 
@@ -145,7 +145,7 @@ def compare_together(root, rules, database, blocks):
             for name, text in files.items():
                 Path(folder, "etc/udev", below, name).write_bytes(text)
         wrong, unexplained = compare(root, "together", rules, ["-r", folder], blocks)
-    print(f"{len(rules)} files together, {len(blocks)} events, {wrong} answers differ, {unexplained} of them though all was run")
+    print(f"{len(rules)} files together, {len(blocks)} events, {wrong} answers differ, {unexplained} of them with all commands run")
     return unexplained
 
 

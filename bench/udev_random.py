@@ -8,7 +8,7 @@ the folders.
 
 Not compared, and why:
 - which messages of a class are reported about a line, and how many: about a rule that is dropped devdry reports only the fault,
-  about a lost jump nothing else, and remarks on a gap are counted differently;
+  about a jump without a label nothing else, and remarks on a gap are counted differently;
 - the lines of a file that is abandoned: devdry reports only that;
 - names of users and groups, which are the machine's: udevadm is run with `--resolve-names=never`.
 bench/udev_makers.py says what is not made. What a pattern fits is not seen, because no verdict depends on it.

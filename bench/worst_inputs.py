@@ -79,7 +79,7 @@ def printing(count):
 
 
 def falling(count):
-    """An index of one node with properties whose keys fall."""
+    """An index of one node whose properties have descending keys."""
     keys = b"".join(b"%07d" % number for number in range(count, 0, -1))
     node = struct.pack("<BBHIIIII", 0, 0, 0, 0, 1, 1, 0, 0) + struct.pack("<BBHIIIII", 3, 0, 0, 0, 2, 0, 0, count)
     values = b"".join(struct.pack("<IIIII", 7 * number, 7, 0, 0, number) for number in range(count))
@@ -89,7 +89,7 @@ def falling(count):
 STARS = "".join(f"{'*' * count}b\n A=1\n\n" for count in range(1, 50))
 
 RENDERING = [
-    Case("lines of words behind the end of a result", 3,
+    Case("lines of words after the end of a result", 3,
          lambda n: events('PROGRAM="p"\n' + text_of("%c{65535}") * n, DEVICE + "Q: p\nR: 0 " + "a " * 100 + "\n")),
     Case("lines of a long attribute", 2, lambda n: events(text_of("$attr{x}") * n, f"{DEVICE}A: x={LONG}\n")),
     Case("lines of a long property, in a link", 2,
@@ -97,42 +97,42 @@ RENDERING = [
     Case("lines of a link of bytes that begin UTF-8", 300,
          lambda n: events('SYMLINK+="%E{x}"\n' * n, DEVICE.encode() + b"E: x=" + b"\xf0" * 16_384 + b"\n")),
     Case("lines of short substitutions", 30, lambda n: events(text_of("%k") * n)),
-    Case("links, each asked for all before it", 1_000, lambda n: events(each('SYMLINK+="l#", ENV{X}="$links"\n', n))),
-    Case("commands of different texts", 2_000, lambda n: events(each('RUN+="c#"\n', n))),
+    Case("links, with $links after each", 1_000, lambda n: events(each('SYMLINK+="l#", ENV{X}="$links"\n', n))),
+    Case("different commands", 2_000, lambda n: events(each('RUN+="c#"\n', n))),
 ]
 
 RULES = [
-    Case("jumps to labels behind them all", 10_000, lambda n: verify(each('GOTO="l#"\n', n) + each('LABEL="l#"\n', n))),
-    Case("labels of no jump, and jumps to none", 10_000, lambda n: verify(each('LABEL="a#"\nGOTO="b#"\n', n))),
+    Case("jumps to labels after all of them", 10_000, lambda n: verify(each('GOTO="l#"\n', n) + each('LABEL="l#"\n', n))),
+    Case("unused labels, and jumps without a label", 10_000, lambda n: verify(each('LABEL="a#"\nGOTO="b#"\n', n))),
     Case("lines of assignments", 20, lambda n: events(line('TAG="a"') * n)),
     Case("lines of one long set", 20, lambda n: verify(f'KERNEL=="[{LONG[:16_360]}]"\n' * n)),
-    Case("lines of brackets that are not closed", 3, lambda n: verify(f'KERNEL=="{"[" * 16_370}"\n' * n)),
+    Case("lines of unclosed brackets", 3, lambda n: verify(f'KERNEL=="{"[" * 16_370}"\n' * n)),
     Case("lines of tokens without a comma", 20, lambda n: verify(('TAG="a"' * 2_300 + "\n") * n)),
-    Case("lines that continue one", 100_000, lambda n: verify("a\\\n" * n)),
+    Case("lines joined into one", 100_000, lambda n: verify("a\\\n" * n)),
     Case("bytes of a line", 1_000_000, lambda n: verify('"' * n)),
     Case("messages", 10_000, lambda n: verify("x\n" * n)),
     Case("notes", 10_000, lambda n: events('TEST=="/x"\n' * n)),
     Case("tests of 8,000 tags", 300, lambda n: events('TAGS=="x"\n' * n, full("G: #\n"))),
-    Case("choices among 4,000 properties", 30, lambda n: events('IMPORT{parent}="*x|*y|*z"\n' * n, full("E: #=\n").replace(
+    Case("patterns over 4,000 properties", 30, lambda n: events('IMPORT{parent}="*x|*y|*z"\n' * n, full("E: #=\n").replace(
         "P: /a\n", "P: /a/b\nP: /a\n"))),
     Case("searches along 64 devices", 1_000, lambda n: events('ATTRS{5}=="1", ATTRS{6}=="*2"\n' * n, chain(each("A: #=1\n", 100)))),
-    Case("bytes of a pattern that nearly fits", 800, lambda n: events(f'ATTR{{x}}=="*{"a" * n}b"\n', f"{DEVICE}A: x={LONG}\n")),
+    Case("bytes of a pattern that almost fits", 800, lambda n: events(f'ATTR{{x}}=="*{"a" * n}b"\n', f"{DEVICE}A: x={LONG}\n")),
     Case("stars in a pattern", 800, lambda n: events(f'ATTR{{x}}=="{"*a" * n}*b"\n' * 10, f"{DEVICE}A: x={LONG}\n")),
-    Case("parts of a choice", 800, lambda n: events(f'ATTR{{x}}=="{"|" * n}b"\n' * 100, f"{DEVICE}A: x=a\n")),
+    Case("alternatives of a value", 800, lambda n: events(f'ATTR{{x}}=="{"|" * n}b"\n' * 100, f"{DEVICE}A: x=a\n")),
     # all links after one that is removed are moved up
-    Case("links that are added and removed again", 2_000,
+    Case("links that are added and removed", 2_000,
          lambda n: events(each('SYMLINK+="l#"\n', n) + each('SYMLINK-="l#"\n', n)), 150),
 ]
 
 UDEV = [
-    Case("links, each asked for all in the name of an attribute of 64 devices", 200,
+    Case("links, and rules with $links in the name of an attribute of 64 devices", 200,
          lambda n: as_udev(each('SYMLINK+="l#"\n', n) + 'ATTRS{%L}=="x", TAG+="t"\n' * n, chain("", "D: 8:0\n"))),
-    Case("lines of all links in the name of an attribute of 64 devices", 1,
+    Case("rules with many $links in the name of an attribute of 64 devices", 1,
          lambda n: as_udev(each('SYMLINK+="l#"\n', 100) + f'ATTRS{{{"%L" * 8_000}}}=="x", TAG+="t"\n' * n, chain("", "D: 8:0\n"))),
     Case("devices that are described by their paths, and components of a path", 160,
          lambda n: as_udev('IMPORT{builtin}="net_id"\n' * 20, interface_of(n))),
     # as with links, all properties after one that is removed are moved up
-    Case("properties that are printed and removed again", 300, lambda n: as_udev('IMPORT{program}="/p"\n' * 100, printing(n)), 150),
+    Case("properties that are imported and removed", 300, lambda n: as_udev('IMPORT{program}="/p"\n' * 100, printing(n)), 150),
 ]
 
 BLOCKS = [
@@ -147,11 +147,11 @@ BLOCKS = [
 DATABASE = [
     Case("modaliases, one a line", 10_000, lambda n: (["query", "-", "t.hwdb"], {"t.hwdb": each("m#*\n A=#\n\n", 1_000)}, each("m#\n", n))),
     Case("modaliases of 65,536 bytes", 3, lambda n: (["query", "-", "t.hwdb"], {"t.hwdb": STARS}, ("a" * 65_536 + "\n") * n)),
-    Case("properties whose keys fall", 5_000, lambda n: query("m\n" + "".join(f" k{key:07}=\n" for key in range(n, 0, -1)))),
-    Case("properties of an index whose keys fall", 5_000, lambda n: (["query", "--index", "i", "m"], {"i": falling(n)}, "")),
+    Case("properties with descending keys", 5_000, lambda n: query("m\n" + "".join(f" k{key:07}=\n" for key in range(n, 0, -1)))),
+    Case("properties of an index with descending keys", 5_000, lambda n: (["query", "--index", "i", "m"], {"i": falling(n)}, "")),
     Case("properties of one long match", 50, lambda n: query("m" * 16_384 + "\n" + " a=\n" * n)),
     Case("properties of 300 matches", 300, lambda n: query("m\n" * 300 + " a=\n" * n)),
-    Case("matches of brackets that are not closed", 3, lambda n: query(("[" * 16_384 + "\n") * n + " a=\n")),
+    Case("matches of unclosed brackets", 3, lambda n: query(("[" * 16_384 + "\n") * n + " a=\n")),
     Case("bytes of a modalias through 16,384 stars", 20, lambda n: query("*" * 16_384 + "\n a=\n", "a" * n)),
     Case("records", 10_000, lambda n: (["update", "t.hwdb"], {"t.hwdb": each("m#*\n A=#\n\n", n)}, "")),
     Case("look-ups along 64 devices", 3, lambda n: events(
@@ -162,7 +162,7 @@ DATABASE = [
     Case("files of two folders", 1_000, lambda n: (["verify", "-r", "."], {
         **{f"etc/udev/rules.d/b{number:05}.rules": "" for number in range(n)},
         **{f"run/udev/rules.d/a{number:05}.rules": "" for number in range(n)}}, "")),
-    Case("files that are named", 2_000, lambda n: (["verify", *["r"] * n], {"r": ""}, "")),
+    Case("named files", 2_000, lambda n: (["verify", *["r"] * n], {"r": ""}, "")),
 ]
 
 
@@ -195,15 +195,15 @@ def is_right(program, case):
     once, tenfold = taken(program, case, case.count), taken(program, case, 10 * case.count)
     times = tenfold.seconds / max(once.seconds, 0.001)
     right = tenfold.seconds < SHORT or times <= case.most
-    print(f"{case.count} {case.name}: {once.seconds:.2f} s, ten times as many {tenfold.seconds:.2f} s and {tenfold.peak:.0f} MB, "
-          f"{times:.0f} times as much{'' if right else ', which is too much'}", flush=True)
+    print(f"{case.count} {case.name}: {once.seconds:.2f} s, ten times as many: {tenfold.seconds:.2f} s and {tenfold.peak:.0f} MB, "
+          f"{times:.0f} times as long{'' if right else ', too long'}", flush=True)
     return right
 
 
 def main(program, word):
     cases = [case for case in [*RENDERING, *RULES, *UDEV, *BLOCKS, *DATABASE] if word in case.name]
     wrong = [case.name for case in cases if not is_right(program, case)]
-    print(f"{len(cases) - len(wrong)} of {len(cases)} expensive inputs take ten times as much where there is ten times as much")
+    print(f"{len(cases) - len(wrong)} of {len(cases)} expensive inputs take no more than about ten times as long for ten times as much")
     return bool(wrong)
 
 

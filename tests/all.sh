@@ -34,7 +34,7 @@ done
 times > "$work/times"
 awk -v clock="$SECONDS" -v processors="$(nproc)" '
     function seconds(told) { split(told, part, /[ms]/); return 60 * part[1] + part[2] }
-    NR == 2 { printf "the gate took %.0f minutes of processor time, %.0f of them the system'"'"'s, and %.0f by the clock on %d processors\n",
+    NR == 2 { printf "the gate took %.0f minutes of processor time, %.0f of them in the kernel, and %.0f minutes of elapsed time on %d processors\n",
         (seconds($1) + seconds($2)) / 60, seconds($2) / 60, clock / 60, processors }' "$work/times"
 echo "$passed passed, $failed failed"
 [ "$failed" = 0 ]

@@ -19,7 +19,7 @@ def applied(edit):
     path, old, pairs, texts = None, None, 0, {}
     for line in edit.read_text(encoding="utf-8").splitlines():
         if not line.startswith(MARKS):
-            yield f"{edit}: this line is not read: {line}"
+            yield f"{edit}: unknown line: {line}"
         elif line.startswith("file: "):
             path = crate / line.removeprefix("file: ").strip()
             if not path.is_file():
@@ -27,27 +27,27 @@ def applied(edit):
                 return
             texts.setdefault(path, path.read_text(encoding="utf-8"))
         elif path is None:
-            yield f"{edit}: a pair stands before any file"
+            yield f"{edit}: an old text before any file"
             return
         elif line.startswith("old: "):
             old = line.removeprefix("old: ")
         elif old is None:
-            yield f"{edit}: a new text stands behind no old one: {line}"
+            yield f"{edit}: a new text without an old text: {line}"
         else:
             count = texts[path].count(old)
             if count != 1:
-                yield f"{edit}: this stands {count} times in {path}: {old}"
+                yield f"{edit}: {path} contains this {count} times, not once: {old}"
             texts[path] = texts[path].replace(old, line.removeprefix("new:").removeprefix(" "), 1)
             old, pairs = None, pairs + 1
     if old is not None:
-        yield f"{edit}: no new text stands behind the last old one"
+        yield f"{edit}: the last old text has no new text"
     if pairs == 0:
-        yield f"{edit}: it changes nothing"
+        yield f"{edit}: no change"
 
 
 def strays(folder):
     """Files in a folder of edits that are neither edits nor notes about them."""
-    return [f"{path}: no edit" for path in folder.iterdir() if path.suffix not in (".edit", ".md")]
+    return [f"{path}: not an .edit file" for path in folder.iterdir() if path.suffix not in (".edit", ".md")]
 
 
 def report(case, found):
@@ -65,14 +65,14 @@ def main(top):
     count = sum(len(found) for found in edits.values())
 
     report(
-        "each old text of a wrong body stands just once in its file",
+        "each old text of a wrong body is in its file exactly once",
         [line for edit in every for line in applied(edit)],
     )
-    report("wrong bodies are files .edit", [line for folder in folders for line in strays(folder)])
-    report(f"at most {MAX_EDITS} wrong bodies are the gate's", [f"there are {count}"] if count > MAX_EDITS else [])
-    report("no crate has one wrong body alone in the gate", [str(crate) for crate in crates if len(edits[crate]) == 1])
+    report("wrong bodies are .edit files", [line for folder in folders for line in strays(folder)])
+    report(f"the gate has at most {MAX_EDITS} wrong bodies", [f"there are {count}"] if count > MAX_EDITS else [])
+    report("no crate has only one wrong body in the gate", [str(crate) for crate in crates if len(edits[crate]) == 1])
     report(
-        "no crate has two wrong bodies of one name",
+        "no crate has two wrong bodies with the same name",
         [
             str(mutant)
             for crate in crates

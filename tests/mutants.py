@@ -223,7 +223,7 @@ class Crate:
         if status:
             print(*lines, sep="\n")
             for mutant in mutants:
-                self.report(mutant, "NOT TRIED: the crate itself is not proved")
+                self.report(mutant, "NOT TRIED: the crate is not proved")
             return
         left = self.try_bodies([it for it in mutants if it.bodies])
         left += [it for it in mutants if not it.bodies]

@@ -74,15 +74,15 @@ def main():
         if not line.startswith("#"):
             crates[line.split(":")[0]] = functions(line.split(":")[0])
     wrong, names = named_functions((TOP / "docs/architecture.md").read_text(encoding="utf-8"), crates)
-    well = report("docs/architecture.md names functions that have a contract", wrong or ([] if names else ["it names none"]))
+    well = report("docs/architecture.md names functions that have a contract", wrong or ([] if names else ["no function is named"]))
     wrong, names = named_functions(page, crates)
-    well &= report("docs/proved.md names functions that have a contract", wrong or ([] if names else ["it names none"]))
+    well &= report("docs/proved.md names functions that have a contract", wrong or ([] if names else ["no function is named"]))
     reported = {f"{crate}::{name}" for crate, name, _ in names}
     well &= report("docs/proved.md names each law", [it for it in laws(crates) if it not in reported])
     quoted = re.findall(r"^```text (\S+)\n(.*?)^```$", page, re.M | re.S)
-    well &= report("docs/proved.md quotes the source as it stands", [
-        f"{path} has no such text:\n{text}" for path, text in quoted
-        if not (TOP / path).is_file() or text not in (TOP / path).read_text(encoding="utf-8")] or ([] if quoted else ["it quotes none"]))
+    well &= report("docs/proved.md quotes the current source", [
+        f"{path} does not contain this text:\n{text}" for path, text in quoted
+        if not (TOP / path).is_file() or text not in (TOP / path).read_text(encoding="utf-8")] or ([] if quoted else ["no source is quoted"]))
     return well
 
 

@@ -224,10 +224,10 @@ def wrong_caret(folder, whole, it):
     begins = window_of(line, column)
     marks = " " * columns(line[begins:column - 1]) + "^" + "~" * columns(line[column:min(end - 1, begins + SHOWN)])
     if shown != shown_bytes(line[begins:begins + SHOWN]):
-        return f"{whole}: {shown!r} is shown, and the line from byte {begins} on is {line[begins:begins + SHOWN]!r}"
+        return f"{whole}: shown: {shown!r}, but the line from byte {begins} on: {line[begins:begins + SHOWN]!r}"
     if caret != marks:
-        return f"{whole}: {shown!r} has the marks {caret!r} in place of {marks!r}"
-    return "" if sentence == first_sentence(code) else f"{it}: docs/messages.md begins by {first_sentence(code)!r}"
+        return f"{whole}: the marks under {shown!r} are {caret!r}, not {marks!r}"
+    return "" if sentence == first_sentence(code) else f"{it}: docs/messages.md begins with {first_sentence(code)!r}"
 
 
 def beside_a_reading(folder, words, whole):
@@ -260,23 +260,23 @@ def check(case, program, folder, words, name_of=lambda path: path):
         try:
             read[form] = reader(came[2])
         except (AttributeError, IndexError, KeyError, TypeError, ValueError) as fault:
-            reported(f"{case}: {form} is read", f"{fault!r} of {came[2][:1000]!r}")
+            reported(f"{case}: {form} is readable", f"{fault!r} of {came[2][:1000]!r}")
             continue
-        reported(f"{case}: {form} is read, with {len(read[form])} messages", "" if came[:2] == (status, output) else f"{came[:2]} and {(status, output)}")
+        reported(f"{case}: {form} is readable, with {len(read[form])} messages", "" if came[:2] == (status, output) else f"{came[:2]}, not {(status, output)}")
     same_plain = run(program, folder, *words, "--format=plain")
-    reported(f"{case}: plain is what is written without a format", "" if same_plain == (status, output, plain) else f"{same_plain}")
+    reported(f"{case}: plain is the same as no --format", "" if same_plain == (status, output, plain) else f"{same_plain}")
     whole = read.get("json")
     if whole is None:
         return
-    reported(f"{case}: json says what plain says", beside_plain(whole, plain_lines, name_of))
+    reported(f"{case}: json has the same messages as plain", beside_plain(whole, plain_lines, name_of))
     for form in READERS:
         if form != "json" and form in read:
-            reported(f"{case}: {form} says what json says", beside_json(form, whole, read[form]))
-    reported(f"{case}: each place has what the message is about", next(filter(None, (wrong_place(folder, it) for it in whole)), ""))
+            reported(f"{case}: {form} has the same messages as json", beside_json(form, whole, read[form]))
+    reported(f"{case}: each place contains the word of its message", next(filter(None, (wrong_place(folder, it) for it in whole)), ""))
     if words[0] == "verify" and "--no-style" not in words:
-        reported(f"{case}: messages and places are those of a plain reading", beside_a_reading(folder, words, whole))
+        reported(f"{case}: messages and places are the same as in a plain reading", beside_a_reading(folder, words, whole))
     if "human" in read:
-        reported(f"{case}: the caret stands below it, and the page says how to mend it",
+        reported(f"{case}: the caret is below the word, and the sentence is that of docs/messages.md",
              next(filter(None, (wrong_caret(folder, *pair) for pair in zip(whole, read["human"]))), ""))
 
 
@@ -329,14 +329,14 @@ def main(program):
         (folder / "made").mkdir()
         for number, path in enumerate(made):
             (folder / path).write_text(made_file(number))
-        check("200 files that are made by a seed", program, folder, ["verify", *made])
-        check("the same without style", program, folder, ["verify", "--no-style", *made])
-        check("the same with lints", program, folder, ["verify", "--lint", *made])
+        check("200 files made from a seed", program, folder, ["verify", *made])
+        check("200 files made from a seed, with --no-style", program, folder, ["verify", "--no-style", *made])
+        check("200 files made from a seed, with --lint", program, folder, ["verify", "--lint", *made])
         lints = [f"lints/{number}.rules" for number in range(200)]
         (folder / "lints").mkdir()
         for number, path in enumerate(lints):
             (folder / path).write_text(made_file(number, LINT_PIECES, 8))
-        check("200 files of what lints are told of", program, folder, ["verify", "--lint", *lints])
+        check("200 files with faults that --lint reports", program, folder, ["verify", "--lint", *lints])
         long = [f"long/{number}.rules" for number in range(100)]
         (folder / "long").mkdir()
         for number, path in enumerate(long):
@@ -348,21 +348,21 @@ def main(program):
             (folder / path).write_text('FOO="x"\nTAG="a",TAG="b",TAG="c"\n')
         check("odd names", program, folder, ["verify", *(path for path in NAMES if "\n" not in path)])
         status, _, text = run(program, folder, "verify", "--format=json", NAMES[-1])
-        reported("a name with a newline is whole in json",
+        reported("json has the full name of a file with a newline in its name",
              "" if [json.loads(line)["path"] for line in text.decode().split("\n")[:-1]] == [NAMES[-1]] * 3 else text_of(text))
 
         words = [f'LABEL="{word}"' for word in ODD_WORDS if '"' not in word] + ODD_WORDS
         (folder / "words.rules").write_text("".join(f"{word}\n" for word in words))
         check("odd words", program, folder, ["verify", "words.rules"])
         (folder / "bytes.rules").write_bytes(b'FOO\xFF="x"\nLABEL="\xE4"\nTAG="a",TAG="b"\n')
-        check("bytes that are no character", program, folder, ["verify", "bytes.rules"])
+        check("bytes that are not UTF-8", program, folder, ["verify", "bytes.rules"])
 
         image = folder / "image"
         for place, rule in (("etc/udev/rules.d/60-a.rules", 'FOO="1"'), ("usr/lib/udev/rules.d/50-b.rules", 'TAG="a",TAG="b"'),
                             ("run/udev/rules.d/70-c.rules", 'GOTO="x"')):
             (image / place).parent.mkdir(parents=True)
             (image / place).write_text(rule + "\n")
-        check("files of an image by their whole path", program, folder, ["verify", "-r", "image"], name_of=os.path.basename)
+        check("files of an image by their full path", program, folder, ["verify", "-r", "image"], name_of=os.path.basename)
 
         (folder / "good.rules").write_text('TAG="t"\n')
         check("no message", program, folder, ["verify", "good.rules"])
@@ -375,5 +375,5 @@ if __name__ == "__main__":
         main(os.path.realpath(sys.argv[1]))
     except Exception as fault:
         # (so that whoever counts the lines also sees a run that was cut off)
-        print(f"not ok the formats are all read: {fault!r}")
+        print(f"not ok tests/read_formats.py runs to its end: {fault!r}")
         raise

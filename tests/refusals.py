@@ -264,18 +264,18 @@ ROWS = [
         "C: add\nP: /a\n\nC: add\nP: /a\nP: /b\n", "event add /a\nenv ACTION=add\nenv DEVPATH=/a\n\n",
         "v.rules:1: V2 unknown key: FOO\n", "block 2, line 3: path\n", 1),
     Row(
-        "where lines come from", ["events", "-r", ".", "--sources", "w.rules"], REPORTED_FILES, REPORTED, REPORTED_SOURCES + "\n", REPORTED_MESSAGE),
+        "the sources of lines", ["events", "-r", ".", "--sources", "w.rules"], REPORTED_FILES, REPORTED, REPORTED_SOURCES + "\n", REPORTED_MESSAGE),
     Row(
-        "what rules met", ["events", "-r", ".", "--why", "w.rules", "w.rules"], REPORTED_FILES, REPORTED,
+        "--why", ["events", "-r", ".", "--why", "w.rules", "w.rules"], REPORTED_FILES, REPORTED,
         REPORTED_ANSWER + REPORTED_WHY + "\n", REPORTED_MESSAGE),
     Row(
-        "both, over two blocks", ["events", "-r", ".", "--why", "w.rules", "--sources", "w.rules"], REPORTED_FILES, REPORTED + "\n" + REPORTED,
+        "--sources and --why, over two blocks", ["events", "-r", ".", "--why", "w.rules", "--sources", "w.rules"], REPORTED_FILES, REPORTED + "\n" + REPORTED,
         (REPORTED_SOURCES + REPORTED_WHY + "\n") * 2, REPORTED_MESSAGE),
     Row(
-        "what rules ask", ["events", "-r", ".", "--questions", "w.rules"], REPORTED_FILES, REPORTED.replace("Q: /bin/id sda\nR: 0 ab cd\n", "") + "\n" + REPORTED,
+        "--questions", ["events", "-r", ".", "--questions", "w.rules"], REPORTED_FILES, REPORTED.replace("Q: /bin/id sda\nR: 0 ab cd\n", "") + "\n" + REPORTED,
         "event add /a/sda\nQ: /bin/id sda\n\nevent add /a/sda\n\n", REPORTED_MESSAGE),
     Row(
-        "a line that no rule has", ["events", "-r", ".", "--why", "w.rules:9", "w.rules"], REPORTED_FILES, REPORTED, "", REPORTED_MESSAGE,
+        "--why with a line that has no rule", ["events", "-r", ".", "--why", "w.rules:9", "w.rules"], REPORTED_FILES, REPORTED, "", REPORTED_MESSAGE,
         "devdry: --why w.rules:9: no such rule, the nearest is w.rules:5\n", 2),
     Row(
         "faulty rules", ["verify", "v.rules"], {"v.rules": FAULTY_RULES},
@@ -284,24 +284,24 @@ ROWS = [
         "rules with lints", ["verify", "--lint", "--ignore", "comments", "l.rules"], {"l.rules": LINTED_RULES},
         output="1 files checked, 0 good, 1 bad\n", messages=LINTED_RULES_REPORTED, status=1),
     Row(
-        "a faulty source", ["update", "-s", "s.hwdb"], {"s.hwdb": FAULTY_SOURCE},
+        "a faulty database file", ["update", "-s", "s.hwdb"], {"s.hwdb": FAULTY_SOURCE},
         output=EMPTY_INDEX, messages=FAULTY_SOURCE_REPORTED, status=1),
     Row("an index written", ["update", "t.hwdb"], {"t.hwdb": "a*\n K=V\n"}, output=INDEX),
     Row("an index", ["query", "--index", "a.index", "abc"], {"a.index": INDEX}, output="K=V\n"),
     Row("an index, line by line", ["query", "--index", "a.index", "-"], {"a.index": INDEX}, "abc\nb\na", "K=V\n\n\nK=V\n\n"),
     Row("files, line by line", ["query", "--sources", "-", "t.hwdb"], {"t.hwdb": "a*\n K=V\n"}, "abc\nb", "t.hwdb:2: K=V\n\n\n"),
     Row(
-        "an index beside rules", ["events", "--index", "a.index", "r.rules"], {"a.index": INDEX, "r.rules": DISK_RULE},
+        "an index with rules", ["events", "--index", "a.index", "r.rules"], {"a.index": INDEX, "r.rules": DISK_RULE},
         DISK, DISK_ANSWER),
     Row(
-        "a file that is no index", ["query", "--index", "r.rules", "abc"], {"r.rules": DISK_RULE},
+        "a file that is not an index", ["query", "--index", "r.rules", "abc"], {"r.rules": DISK_RULE},
         line="devdry: index: magic\n", status=1),
     Row("an absent file", ["verify", "none.rules"], line="devdry: cannot read none.rules\n", status=3),
     Row(
-        "an absent file whose name is escaped", ["verify", "a\n\x1bb\\"], line="devdry: cannot read a\\x0A\\x1Bb\\x5C\n",
+        "an absent file with an escaped name", ["verify", "a\n\x1bb\\"], line="devdry: cannot read a\\x0A\\x1Bb\\x5C\n",
         status=3),
     Row("help", ["query", "--help"], output=None),
-    Row("unknown words", ["verify", "--none"], line=None, status=2),
+    Row("an unknown option", ["verify", "--none"], line=None, status=2),
 ]
 
 
@@ -343,26 +343,26 @@ def is_whole(done, row):
 
 def check(which, done, is_right, what):
     if not is_right:
-        raise Wrong(f"{which}: {what}: status {done.returncode}, it said {done.stderr!r}")
+        raise Wrong(f"{which}: {what}: status {done.returncode}, messages {done.stderr!r}")
 
 
 def check_refused(which, done, row):
     """Checks a run that was refused memory."""
-    check(which, done, done.returncode == 4, "another status than 4")
-    check(which, done, row.output.startswith(done.stdout), "the output is no beginning of the row's")
-    check(which, done, done.stderr.endswith(OUT_OF_MEMORY), "nothing is said of memory")
+    check(which, done, done.returncode == 4, "the status is not 4")
+    check(which, done, row.output.startswith(done.stdout), "the output is not the beginning of the row's")
+    check(which, done, done.stderr.endswith(OUT_OF_MEMORY), "no message about memory")
     reported = done.stderr.removesuffix(OUT_OF_MEMORY)
-    check(which, done, row.messages.startswith(reported), "the messages are no beginning of the row's")
+    check(which, done, row.messages.startswith(reported), "the messages are not the beginning of the row's")
 
 
 def check_failed(which, done, row, call):
     """Checks a run in which a call failed."""
-    check(which, done, done.returncode == 3, "another status than 3")
-    check(which, done, row.output.startswith(done.stdout), "the output is no beginning of the row's")
+    check(which, done, done.returncode == 3, "the status is not 3")
+    check(which, done, row.output.startswith(done.stdout), "the output is not the beginning of the row's")
     line = FAILED.search(done.stderr)
-    check(which, done, line or call == "write", "nothing is said of a failure")
+    check(which, done, line or call == "write", "no message about the failure")
     reported = done.stderr[:line.start()] if line else done.stderr
-    check(which, done, (row.messages + row.line).startswith(reported), "the messages are no beginning of the row's")
+    check(which, done, (row.messages + row.line).startswith(reported), "the messages are not the beginning of the row's")
 
 
 def refuse_growths(runs, row):
@@ -421,12 +421,12 @@ def tried(program, library, row):
         row.output = whole.stdout if row.output is None else row.output
         row.line = whole.stderr if row.line is None else row.line
         try:
-            check("nothing refused", whole, is_whole(whole, row), "it comes to something else")
+            check("nothing refused", whole, is_whole(whole, row), "the result is not that of the row")
             growths, ahead = refuse_growths(runs, row)
             calls = refuse_calls(runs, row)
             done, _met = runs.run(SHORT=1)
-            check("a byte in each call", done, is_whole(done, row), "it comes to something else")
-            check("in all", done, growths and calls, "nothing was seen")
+            check("a byte in each call", done, is_whole(done, row), "the result is not that of the row")
+            check("in all", done, growths and calls, "no growth or no call was refused")
         except Wrong as wrong:
             return f"not ok {row.name}\n    {wrong}"
     return f"ok {row.name} ({growths} growths, {ahead} of them ahead of need, {calls} calls)"

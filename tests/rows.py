@@ -86,9 +86,9 @@ def run_row(started, table, row):
         try:
             came = run(started, row, folder)
         except subprocess.TimeoutExpired:
-            return [f"not ok {table}: {row.name}", f"    no end within {SECONDS} seconds"]
+            return [f"not ok {table}: {row.name}", f"    not finished after {SECONDS} seconds"]
     if came is None:
-        return [f"skipped {table}: {row.name}: as root it takes setpriv"]
+        return [f"skipped {table}: {row.name}: root needs setpriv"]
     wrong = differences("output", row.output, came.stdout) + differences("messages", row.messages, came.stderr)
     if came.returncode != row.status:
         wrong.append(f"    status wanted: {row.status}, got: {came.returncode}")
@@ -102,7 +102,7 @@ def main(program, tables):
     names = [(table, row.name) for table, row in rows]
     twice = sorted({name for name in names if names.count(name) > 1})
     for table, name in twice:
-        print(f"not ok {table}: two rows are called {name}")
+        print(f"not ok {table}: two rows with the name {name}")
     with tempfile.TemporaryDirectory() as reached, ThreadPoolExecutor(os.cpu_count()) as pool:
         # (copied once, before any row runs: a process that starts while the copy is being written would keep it busy)
         plain = as_plain_user(program, reached)
@@ -119,5 +119,5 @@ if __name__ == "__main__":
         sys.exit(not main(os.path.realpath(sys.argv[1]), sys.argv[2:]))
     except Exception as fault:
         # (so that whoever counts the lines also sees a table that can't be read)
-        print(f"not ok the rows are all run: {fault!r}")
+        print(f"not ok tests/rows.py runs to its end: {fault!r}")
         raise

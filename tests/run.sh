@@ -15,7 +15,7 @@ trap 'rm -f "$log"' EXIT
 for script in tests/test_*.sh; do
     echo "== $script"
     bash "$script" 2>&1 | tee -a "$log"
-    [ "${PIPESTATUS[0]}" = 0 ] || echo "not ok $script ends well" | tee -a "$log"
+    [ "${PIPESTATUS[0]}" = 0 ] || echo "not ok $script exits with status 0" | tee -a "$log"
 done
 passed=$(grep -c '^ok ' "$log")
 failed=$(grep -c '^not ok ' "$log")

@@ -4,7 +4,7 @@
 usage: tests/terminals.py PROGRAM
 
 Each terminal is a pseudoterminal that Python makes. Each case is reported in a line `ok CASE`, or `not ok CASE` followed
-by what was wanted and what came.
+by what was wanted and what was written.
 """
 import os
 import pty
@@ -39,7 +39,7 @@ BLOCK = "C: add\nP: /devices/x\n\n"
 
 
 def differs(case, wanted, came):
-    reported(case, "" if wanted == came else f"wanted: {wanted!r}\n    came:   {came!r}")
+    reported(case, "" if wanted == came else f"wanted: {wanted!r}\n    got:    {came!r}")
 
 
 def environment(no_color):
@@ -83,18 +83,18 @@ def at_terminals(program, folder, words, places, no_color=None):
 
 # (what is asked, words, which outputs are terminals, NO_COLOR, output, messages)
 COLORS = [
-    ("human at a terminal", "verify --format=human a.rules", ["stderr"], None, COUNTED, PAINTED),
-    ("both outputs at terminals", "verify --format=human a.rules", ["stdout", "stderr"], None, COUNTED, PAINTED),
+    ("human on a terminal", "verify --format=human a.rules", ["stderr"], None, COUNTED, PAINTED),
+    ("both outputs on terminals", "verify --format=human a.rules", ["stdout", "stderr"], None, COUNTED, PAINTED),
     ("an empty NO_COLOR", "verify --format=human a.rules", ["stderr"], "", COUNTED, PAINTED),
     ("NO_COLOR", "verify --format=human a.rules", ["stderr"], "1", COUNTED, PLAIN),
     ("NO_COLOR with a blank", "verify --format=human a.rules", ["stderr"], " ", COUNTED, PLAIN),
     ("NO_COLOR with a 0", "verify --format=human a.rules", ["stderr"], "0", COUNTED, PLAIN),
-    ("NO_COLOR that is no text", "verify --format=human a.rules", ["stderr"], os.fsdecode(b"\xFF"), COUNTED, PLAIN),
+    ("NO_COLOR that is not UTF-8", "verify --format=human a.rules", ["stderr"], os.fsdecode(b"\xFF"), COUNTED, PLAIN),
     ("human to a pipe", "verify --format=human a.rules", [], None, COUNTED, PLAIN),
-    ("human to a pipe, and the output at a terminal", "verify --format=human a.rules", ["stdout"], None, COUNTED, PLAIN),
-    ("gcc at a terminal", "verify --format=gcc a.rules", ["stderr"], None, COUNTED, GCC),
+    ("human to a pipe, with the output on a terminal", "verify --format=human a.rules", ["stdout"], None, COUNTED, PLAIN),
+    ("gcc on a terminal", "verify --format=gcc a.rules", ["stderr"], None, COUNTED, GCC),
     ("human of the database", "update --format=human a.hwdb", ["stderr"], None, None, OF_DATABASE),
-    ("what is no message", "verify --format=human none.rules", ["stderr"], None, "", "devdry: cannot read none.rules\n"),
+    ("a line that is not a message", "verify --format=human none.rules", ["stderr"], None, "", "devdry: cannot read none.rules\n"),
 ]
 
 
@@ -120,17 +120,17 @@ def check_waiting(program, folder, words, answer):
     ours, its = pty.openpty()
     with subprocess.Popen([program, *words.split()], cwd=folder, stdin=its, stdout=subprocess.PIPE, stderr=subprocess.PIPE) as run:
         os.close(its)
-        differs(f"{words}: the line on waiting", WAITING, line_of(run.stderr))
+        differs(f"{words}: the line about waiting", WAITING, line_of(run.stderr))
         os.write(ours, BLOCK.encode())
-        differs(f"{words}: what is typed is answered", answer, line_of(run.stdout))
+        differs(f"{words}: a typed block is answered", answer, line_of(run.stdout))
         os.write(ours, b"\x04")
         try:
             output, messages = run.communicate(timeout=SECONDS)
         except subprocess.TimeoutExpired:
             run.kill()
-            output, messages = b"no end in ten seconds", b""
-        differs(f"{words}: nothing else is told", b"", messages)
-        reported(f"{words}: it ends", "" if run.returncode in (0, 1) else f"status {run.returncode}, {output!r}")
+            output, messages = b"not finished after ten seconds", b""
+        differs(f"{words}: no other messages", b"", messages)
+        reported(f"{words}: the program ends", "" if run.returncode in (0, 1) else f"status {run.returncode}, {output!r}")
     os.close(ours)
 
 
@@ -141,7 +141,7 @@ def check_silence(program, folder, words, at_terminal):
                           timeout=SECONDS)
     os.close(its)
     os.close(ours)
-    differs(f"{words}: nothing is told of waiting where the input is {'a terminal' if at_terminal else 'none'}", b"", came.stderr)
+    differs(f"{words}: no line about waiting, with {'a terminal' if at_terminal else '/dev/null'} as input", b"", came.stderr)
 
 
 def main(program):
@@ -170,5 +170,5 @@ if __name__ == "__main__":
         main(os.path.realpath(sys.argv[1]))
     except Exception as fault:
         # (so that whoever counts the lines also sees a run that was cut off)
-        print(f"not ok the program at terminals: {fault!r}")
+        print(f"not ok tests/terminals.py runs to its end: {fault!r}")
         raise

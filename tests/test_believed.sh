@@ -4,7 +4,7 @@ set -uo pipefail
 # shellcheck source=lib.sh
 . "$(dirname "$0")/lib.sh"
 if has python3; then
-    goes_well "docs/architecture.md counts what is to be believed" python3 "$top/bench/believe.py"
+    goes_well "docs/architecture.md has the counts of lines to believe" python3 "$top/bench/believe.py"
 else
-    skipped "what docs/architecture.md counts" "there is no python3"
+    skipped "docs/architecture.md has the counts of lines to believe" "there is no python3"
 fi

@@ -22,7 +22,7 @@ E: INTERFACE=eth0
 E: IFINDEX=2
 $of_pci_card"
 same "a network card, by its class" "$of_card" "$("$capture" --sysfs "$sys" "$sys/class/net/eth0")"
-same "with another action" "C: change" "$("$capture" --action change --sysfs "$sys" "$sys/class/net/eth0" | head -n 1)"
+same "a network card with another action" "C: change" "$("$capture" --action change --sysfs "$sys" "$sys/class/net/eth0" | head -n 1)"
 
 of_disk="P: $disk
 U: scsi
@@ -69,7 +69,7 @@ E: PARTN=1
 $of_sda"
 same "a partition with its parents" "$of_sda1" \
     "$("$capture" --sysfs "$sys" "$sys$disk/block/sda/sda1" 2> /dev/null)"
-same "a name that can't stand in a block is told" \
+same "a name that a block can't contain is reported" \
     "devdry-capture: $sys$disk/block/sda/a=b: its name can't stand in a block" \
     "$("$capture" --sysfs "$sys" "$sys$disk/block/sda" 2>&1 > /dev/null)"
 
@@ -125,26 +125,26 @@ E: DEVNAME=/dev/null
 E: DEVMODE=0666"
 same "a character device, by its node" "$of_null" "$("$capture" --sysfs "$sys" /dev/null)"
 ln -s /dev/null "$work/by-link"
-same "by a link to its node" "$of_null" "$("$capture" --sysfs "$sys" "$work/by-link")"
+same "a character device, by a symlink to its node" "$of_null" "$("$capture" --sysfs "$sys" "$work/by-link")"
 if mknod "$work/sdx10" b 8 170 2> /dev/null && [ -b "$work/sdx10" ]; then
     ln -s "../..$disk/block/sda/sda1" "$sys/dev/block/8:170"
     same "a block device, by its node" "$of_sda1" "$("$capture" --sysfs "$sys" "$work/sdx10" 2> /dev/null)"
 else
-    skipped "a block device, by its node" "no node can be made here"
+    skipped "a block device, by its node" "mknod is not permitted"
 fi
 same "no such node" "1
 devdry-capture: /dev/none/such: no such node" "$(ends "$capture" --sysfs "$sys" /dev/none/such)"
-same "what is no node" "1
+same "a file that is not a node" "1
 devdry-capture: /dev/.: no device node" "$(ends "$capture" --sysfs "$sys" /dev/.)"
-same "a node of a device that is not there" "1
+same "a node whose device does not exist" "1
 devdry-capture: /dev/zero: $sys has no char device 1:5" "$(ends "$capture" --sysfs "$sys" /dev/zero)"
-same "one that is not there beside one that is" "1 $of_null" \
+same "one node whose device does not exist, and one whose device exists" "1 $of_null" \
     "$(said=$("$capture" --sysfs "$sys" /dev/zero /dev/null 2> /dev/null); echo "$? $said")"
 
 all=$("$capture" --sysfs "$sys" --all 2> /dev/null)
 same "all devices" "$(find "$sys/devices" -name uevent | sed "s|^$sys|P: |; s|^P: /|P: /|; s|/uevent$||" | LC_ALL=C sort)" \
     "$(awk 'BEGIN { RS = ""; FS = "\n" } { print $2 }' <<< "$all" | LC_ALL=C sort)"
-same "of all, a block is that of its device" "$of_card" "$(awk -v RS='' -v path="P: $card/net/eth0" 'index($0, path "\n")' <<< "$all")"
+same "one of all devices has the block of that device" "$of_card" "$(awk -v RS='' -v path="P: $card/net/eth0" 'index($0, path "\n")' <<< "$all")"
 
 : > "$work/none.rules"
 answers=$("$program" events -r "$work/none" "$work/none.rules" <<< "$all" 2>&1; echo "status $?")
@@ -180,17 +180,17 @@ chmod +x "$work/own/udevadm"
 # (udevadm is asked only about the real /sys: here the tree takes its place)
 sed "s|sysfs=/sys udevadm|sysfs=$sys udevadm|" "$capture" > "$work/own/capture" && cp "$capture.awk" "$work/own"
 own() { PATH=$work/own:$PATH sh "$work/own/capture" "$@"; }
-same "with what udev has kept" "${of_card%%"$of_pci_card"}E: DEVPATH=$card/net/eth0
+same "a network card with what udev has stored" "${of_card%%"$of_pci_card"}E: DEVPATH=$card/net/eth0
 E: SUBSYSTEM=net
 E: ID_NET_NAME=lan0
 G: systemd
 S: net/first
 $of_pci_card" "$(own "$sys/class/net/eth0")"
-same "of the device itself the kernel's alone" "$of_card" "$(own --kernel "$sys/class/net/eth0")"
+same "--kernel: only what the kernel has of the device" "$of_card" "$(own --kernel "$sys/class/net/eth0")"
 sed -i 's/E: INTERFACE=eth0/E: INTERFACE=lan0/' "$work/db"
 same "a property that udev has changed" "E: INTERFACE=lan0" "$(own "$sys/class/net/eth0" | grep INTERFACE)"
-same "of the kernel's alone" "E: INTERFACE=eth0" "$(own --kernel "$sys/class/net/eth0" | grep INTERFACE)"
-same "and of its parents all" "E: ID_VENDOR_FROM_DATABASE=Intel Corporation" \
+same "--kernel: a property that udev has changed" "E: INTERFACE=eth0" "$(own --kernel "$sys/class/net/eth0" | grep INTERFACE)"
+same "--kernel: all properties of the parents" "E: ID_VENDOR_FROM_DATABASE=Intel Corporation" \
     "$(own --kernel --all 2> /dev/null | awk -v RS='' -v path="P: $card/net/eth0" 'index($0, path "\n")' | tail -n 1)"
 
 # too much for a block
@@ -213,7 +213,7 @@ devdry-capture: $sys/class: no device" "$(said=$("$capture" --sysfs "$sys" "$sys
 
 # A file that is not a record, one that can't be read, and a tree without a device.
 echo "looking at device '/devices/x':" > "$work/walk"
-same "--from of what is no record" "1
+same "--from of a file that is not a record" "1
 devdry-capture: $work/walk: it has no device" "$(ends "$capture" --from "$work/walk")"
 same "--from of an empty input" "1
 devdry-capture: -: it has no device" "$(ends "$capture" --from - < /dev/null)"
@@ -227,14 +227,14 @@ for awk in awk mawk gawk 'busybox awk' original-awk; do
     has "${awk%% *}" || continue
     mkdir -p "$work/bin" && printf '#!/bin/sh\nexec %s "$@"\n' "$(command -v "${awk%% *}")${awk#"${awk%% *}"}" > "$work/bin/awk"
     chmod +x "$work/bin/awk"
-    same "an output that is full, by $awk" "3 devdry-capture: write failed" \
+    same "a full output, by $awk" "3 devdry-capture: write failed" \
         "$({ said=$(PATH=$work/bin:$PATH "$capture" --from "$work/db" 2>&1 >&3); echo "$? $said"; } 3> /dev/full)"
 done
-same "an output that is closed" "3 devdry-capture: write failed" \
+same "a closed output" "3 devdry-capture: write failed" \
     "$({ said=$("$capture" --from "$work/db" 2>&1 >&-); echo "$? $said"; })"
 for words in --help --version "--walk --sysfs $sys $sys/class/net/eth0" "--kernel --from $work/db"; do
     # shellcheck disable=SC2086
-    same "an output that is full: ${words%% *}" "3 devdry-capture: write failed" \
+    same "a full output: ${words%% *}" "3 devdry-capture: write failed" \
         "$({ said=$("$capture" $words 2>&1 >&3); echo "$? $said"; } 3> /dev/full)"
 done
 {
@@ -245,8 +245,8 @@ done
 same "a reader that closes early" "3|" "$(cat "$work/status")|$(cat "$work/err")"
 
 status() { "$@" > /dev/null 2>&1; echo $?; }
-same "no words" 2 "$(status "$capture")"
-same "an option that there is not" 2 "$(status "$capture" --none)"
+same "no arguments" 2 "$(status "$capture")"
+same "an unknown option" 2 "$(status "$capture" --none)"
 same "--all with a device" 2 "$(status "$capture" --all x)"
 same "--from without a file" 2 "$(status "$capture" --from)"
 same "--walk with an action" 2 "$(status "$capture" --walk --action add --sysfs "$sys" /dev/null)"
@@ -255,10 +255,10 @@ same "--from with --sysfs" 2 "$(status "$capture" --from "$work/db" --sysfs "$sy
 same "--from with --all" 2 "$(status "$capture" --from "$work/db" --all)"
 same "an empty action" 2 "$(status "$capture" --action '' --sysfs "$sys" /dev/null)"
 same "--help" 0 "$(status "$capture" --help)"
-same "its version is that of devdry" "$("$program" --version | sed 's/ /-capture /')" "$("$capture" --version)"
-same "and by its letter" "$("$capture" --version)" "$("$capture" -V)"
+same "--version is that of devdry" "$("$program" --version | sed 's/ /-capture /')" "$("$capture" --version)"
+same "-V" "$("$capture" --version)" "$("$capture" -V)"
 mkdir "$work/alone" && cp "$capture" "$work/alone"
-same "without its second step" "1
+same "without devdry-capture.awk" "1
 devdry-capture: $work/alone/../share/devdry/devdry-capture.awk: can't be read" "$(ends "$work/alone/devdry-capture" --all)"
 
 if has shellcheck; then

@@ -98,7 +98,7 @@ met() {
         | diff <(sort "$work/wanted") <(sort)
 }
 for path in "$odd" "$disk/block/sda" "$disk/block/sda/sda1" "$keyboard/1-1:1.0/input/input7/event3" "$card/net/eth0"; do
-    same "devdry takes each key of ${path##*/}, and each holds for its device" "" "$(met "$path")"
+    same "devdry reads each key of ${path##*/}, and each holds for its device" "" "$(met "$path")"
 done
 # The same by udev's reading of a value and by its patterns, which are those of the C library.
 if has python3; then
@@ -113,20 +113,20 @@ for line in sys.stdin.buffer.read().split(b"\n")[:-1]:
         glob = any(sign in value for sign in b"*?[")
         fits = [libc.fnmatch(part, text, 0) == 0 if glob else part == text for part in value.split(b"|")]
         print(found[1].decode()[:2], *fits)' "$sys$odd")
-    same "by udev, too" "$(printf '%s_ True\n' a b c d e f g h i j k; printf '%s True\n' po qu)" "$said"
+    same "each key holds as udev compares keys" "$(printf '%s_ True\n' a b c d e f g h i j k; printf '%s True\n' po qu)" "$said"
 else
-    skipped "what udev takes" "there is no python3"
+    skipped "each key holds as udev compares keys" "there is no python3"
 fi
 
 for shell in dash 'bash --posix' 'busybox sh'; do
     if has "${shell%% *}"; then
         # shellcheck disable=SC2086
-        same "by $shell" "$walked" "$($shell "$capture" --walk --sysfs "$sys" "$sys$odd")"
+        same "the keys of a device by $shell" "$walked" "$($shell "$capture" --walk --sysfs "$sys" "$sys$odd")"
     fi
 done
 for awk in mawk gawk 'busybox awk' original-awk; do
     if has "${awk%% *}"; then
         mkdir -p "$work/bin" && printf '#!/bin/sh\nexec %s "$@"\n' "$awk" > "$work/bin/awk" && chmod +x "$work/bin/awk"
-        same "by $awk" "$walked" "$(PATH=$work/bin:$PATH "$capture" --walk --sysfs "$sys" "$sys$odd")"
+        same "the keys of a device by $awk" "$walked" "$(PATH=$work/bin:$PATH "$capture" --walk --sysfs "$sys" "$sys$odd")"
     fi
 done

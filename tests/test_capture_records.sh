@@ -45,11 +45,11 @@ E: DEVPATH=$card
 E: SUBSYSTEM=pci
 E: DRIVER=e1000e
 E: ID_VENDOR_FROM_DATABASE=Intel Corporation" "$("$capture" --from "$work/db")"
-same "from it, one device, by the standard input" "$("$capture" --from "$work/db" "$disk/block/sda")" \
+same "from udevadm info --export-db, one device, through the standard input" "$("$capture" --from "$work/db" "$disk/block/sda")" \
     "$("$capture" --from - "/sys$disk/block/sda" < "$work/db")"
-same "from it, one device by its node" "$("$capture" --from "$work/db" "$disk/block/sda")" \
+same "from udevadm info --export-db, one device by its node" "$("$capture" --from "$work/db" "$disk/block/sda")" \
     "$("$capture" --from "$work/db" /dev/sda)"
-same "a node that it does not have" "1
+same "from udevadm info --export-db, a node without a record" "1
 devdry-capture: /dev/null: no device of the record" "$(ends "$capture" --from "$work/db" /dev/null)"
 same "the keys of one of its devices" "# $card/net/eth0
 KERNEL==\"eth0\"
@@ -59,7 +59,7 @@ SUBSYSTEM==\"net\"
 KERNELS==\"0000:00:03.0\"
 SUBSYSTEMS==\"pci\"
 DRIVERS==\"e1000e\"" "$("$capture" --walk --from "$work/db" $card/net/eth0)"
-same "a device that it does not have" "1
+same "from udevadm info --export-db, a device without a record" "1
 devdry-capture: /devices/none: no device of the record" \
     "$(said=$("$capture" --from "$work/db" /devices/none 2>&1); printf '%s\n%s' $? "$said")"
 
@@ -158,7 +158,7 @@ E: TAGS=:seat:
 E: UPOWER_VENDOR=Logitech
 A: idVendor=046d\\n
 END
-same "of a record what the kernel tells: what udevadm prints last is left out" "C: add
+same "--kernel of a record: without what udevadm prints last" "C: add
 P: $card/net/eth0
 U: net
 E: DEVPATH=$card/net/eth0
@@ -172,7 +172,7 @@ E: SUBSYSTEM=pci
 E: USEC_INITIALIZED=7
 E: ID_VENDOR_FROM_DATABASE=Intel Corporation
 G: systemd" "$("$capture" --kernel --from "$work/added" $card/net/eth0)"
-same "and so are udev's names" "C: change
+same "--kernel of a record: without udev's names" "C: change
 P: $keyboard
 U: usb
 V: usb
@@ -185,7 +185,7 @@ E: HID_NAME=kept
 E: ID=kept
 E: MODALIAS=usb:v046DpC31C
 E: SUBSYSTEM=usb" "$("$capture" --action change --kernel --from "$work/added" $keyboard)"
-same "without --kernel all stays" "C: add
+same "without --kernel everything is kept" "C: add
 P: $card/net/eth0
 U: net
 E: DEVPATH=$card/net/eth0
@@ -209,6 +209,6 @@ answer() {
     shift
     "$capture" "$@" --from "$work/added" $card/net/eth0 | "$program" events -r "$work/none" "$rules"
 }
-same "a link and a property that are taken away show" "< link net/first
+same "--kernel: a removed link and a removed property are shown" "< link net/first
 < env ID_NET_NAME=lan0" "$(diff <(answer old --kernel) <(answer new --kernel) | grep '^[<>]')"
-same "without --kernel they don't" "" "$(diff <(answer old) <(answer new))"
+same "without --kernel: a removed link and a removed property are not shown" "" "$(diff <(answer old) <(answer new))"

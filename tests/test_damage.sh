@@ -4,5 +4,5 @@
 set -uo pipefail
 # shellcheck source=lib.sh
 . "$(dirname "$0")/lib.sh"
-PYTHONDONTWRITEBYTECODE=1 goes_well "3,000 damaged indexes are read as a plain reading says" \
+PYTHONDONTWRITEBYTECODE=1 goes_well "3,000 damaged indexes are read as by a plain reading" \
     python3 "$top/bench/damaged.py" "$program" 3000 1 indexes

@@ -6,5 +6,5 @@ set -uo pipefail
 if has python3; then
     PYTHONDONTWRITEBYTECODE=1 python3 "$top/tests/read_formats.py" "$program"
 else
-    skipped "the formats" "there is no python3"
+    skipped "tests/read_formats.py" "there is no python3"
 fi

@@ -21,23 +21,23 @@ mkdir -p "$root/usr/local/bin"
 touch "$root/usr/local/bin/other"
 goes_well "make install" make_in install DESTDIR="$root"
 installed=$(wanted /usr/local /usr/local/share/zsh/site-functions '')
-same "what stands there then" "$({ echo "$installed"; echo /usr/local/bin/other; } | sorted)" "$(files_of "$root")"
-same "the program that was installed runs" "$("$program" --version)" "$(env -i "$root/usr/local/bin/devdry" --version)"
+same "the files after make install" "$({ echo "$installed"; echo /usr/local/bin/other; } | sorted)" "$(files_of "$root")"
+same "the installed program runs" "$("$program" --version)" "$(env -i "$root/usr/local/bin/devdry" --version)"
 captured=$("$top/tools/devdry-capture" --from "$top/examples/machine.txt")
 capture_in() { env -i PATH="$PATH" "$1/devdry-capture" --from "$top/examples/machine.txt"; }
-same "so does devdry-capture" "$captured" "$(capture_in "$root/usr/local/bin")"
+same "the installed devdry-capture runs" "$captured" "$(capture_in "$root/usr/local/bin")"
 ln -s "$root/usr/local/bin/devdry-capture" "$work/devdry-capture"
-same "and by a link" "$captured" "$(capture_in "$work")"
+same "the installed devdry-capture runs through a symlink" "$captured" "$(capture_in "$work")"
 goes_well "make uninstall" make_in uninstall DESTDIR="$root"
-same "what stands there then" /usr/local/bin/other "$(files_of "$root")"
+same "the files after make uninstall" /usr/local/bin/other "$(files_of "$root")"
 
 own=(PREFIX=/p BINDIR=/b MANDIR=/m BASHDIR=/c/bash ZSHDIR=/c/zsh FISHDIR=/c/fish)
-goes_well "make install with folders of one's own" make_in install DESTDIR="$work/own" "${own[@]}"
+goes_well "make install with other folders" make_in install DESTDIR="$work/own" "${own[@]}"
 moved='s|^/p/bin|/b|; s|^/p/share/devdry|/share/devdry|; s|^/p/share/man|/m|; s|^/p/share/bash-completion/completions|/c/bash|; s|^/p/share/fish/[a-z_.]*|/c/fish|'
-same "what stands there then" "$(wanted /p /c/zsh '' | sed "$moved" | sorted)" "$(files_of "$work/own")"
-same "devdry-capture runs there, too" "$captured" "$(capture_in "$work/own/b")"
-goes_well "make uninstall from there" make_in uninstall DESTDIR="$work/own" "${own[@]}"
-same "nothing stands there then" "" "$(files_of "$work/own")"
+same "the files after make install with other folders" "$(wanted /p /c/zsh '' | sed "$moved" | sorted)" "$(files_of "$work/own")"
+same "devdry-capture installed in other folders runs" "$captured" "$(capture_in "$work/own/b")"
+goes_well "make uninstall with other folders" make_in uninstall DESTDIR="$work/own" "${own[@]}"
+same "no files after make uninstall with other folders" "" "$(files_of "$work/own")"
 
 if ! has dpkg-deb || ! has strip; then
     skipped "make deb" "there is no dpkg-deb"
@@ -45,18 +45,18 @@ if ! has dpkg-deb || ! has strip; then
 fi
 mkdir "$work/debs" "$work/again"
 goes_well "packaging/deb.sh" "$top/packaging/deb.sh" "$program" "$work/debs"
-goes_well "packaging/deb.sh once more" "$top/packaging/deb.sh" "$program" "$work/again"
+goes_well "packaging/deb.sh a second time" "$top/packaging/deb.sh" "$program" "$work/again"
 deb=$(echo "$work"/debs/*.deb)
-goes_well "it gives the same package" cmp "$deb" "$work/again/${deb##*/}"
+goes_well "both packages are equal" cmp "$deb" "$work/again/${deb##*/}"
 docs=$(printf '/usr/share/doc/devdry/%s\n' README.md CHANGELOG.md.gz changelog.gz copyright \
     docs/{behaviour,writing-rules,messages,differences,format,measures,proved}.md $(cd "$top" && find examples -type f))
-same "its files" "$({ wanted /usr /usr/share/zsh/vendor-completions .gz; echo "$docs"; } | sorted)" \
+same "the files of the package" "$({ wanted /usr /usr/share/zsh/vendor-completions .gz; echo "$docs"; } | sorted)" \
     "$(dpkg-deb --fsys-tarfile "$deb" | tar -t | sed 's/^\.//' | grep -v '/$' | sorted)"
 
 as_root=()
 if [ "$(id -u)" != 0 ]; then as_root=(fakeroot); fi
 if [ "${#as_root[@]}" = 1 ] && ! has fakeroot; then
-    skipped "dpkg -i" "it takes root, or fakeroot"
+    skipped "dpkg -i" "dpkg -i needs root or fakeroot"
     exit 0
 fi
 machine=$work/machine
@@ -65,6 +65,6 @@ touch "$machine/var/lib/dpkg/status"
 # (in a root folder of its own dpkg knows no libc6)
 in_machine() { "${as_root[@]}" dpkg --root="$machine" --log=/dev/null --force-depends --force-script-chrootless "$@"; }
 goes_well "dpkg -i" in_machine -i "$deb"
-same "the program that it installed runs" "$("$program" --version)" "$(env -i "$machine/usr/bin/devdry" --version)"
+same "the program installed by dpkg runs" "$("$program" --version)" "$(env -i "$machine/usr/bin/devdry" --version)"
 goes_well "dpkg -r" in_machine -r devdry
-same "nothing of it stands there then" "" "$(files_of "$machine/usr" 2> /dev/null)"
+same "no files after dpkg -r" "" "$(files_of "$machine/usr" 2> /dev/null)"

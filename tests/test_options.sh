@@ -40,7 +40,7 @@ for verb in $verbs; do
         helps "$verb" | grep -qxe "$option" || missing+=" $option"
     done
     lines=$("$program" "$verb" --help | grep -cE '^ +(-., )? *--')
-    same "the synopsis of devdry-$verb(1) has all of them but help and version" "$((lines - 2))$missing" "$named$missing"
+    same "the synopsis of devdry-$verb(1) has all options except help and version" "$((lines - 2))$missing" "$named$missing"
     for name in $("$program" "$verb" --help | sed -nE '/^Arguments:/,/^$/s/^ +[[<]([A-Z]+).*/\1/p'); do
         goes_well "the synopsis of devdry-$verb(1) has the argument $name" \
             grep -qE "^\.(Op )?Ar $name" <(sed -n '/^\.Sh SYNOPSIS/,/^\.Sh DESC/p' "$page")
@@ -49,7 +49,7 @@ done
 
 captures=$(program=$top/tools/devdry-capture; helps)
 same "devdry-capture(1) has the options of --help" "$captures" "$(pages "$top/man/devdry-capture.1")"
-same "the synopsis of devdry-capture(1) has all of them but help and version" \
+same "the synopsis of devdry-capture(1) has all options except help and version" \
     "$(grep -vxE -e '-h|--help|-V|--version' <<< "$captures")" \
     "$(sed -n '/^\.Sh SYNOPSIS/,/^\.Sh DESC/p' "$top/man/devdry-capture.1" | grep -oE 'Fl Fl [a-z-]+' | sed 's/^Fl Fl /--/' | sort -u)"
 
@@ -72,28 +72,28 @@ done
     cd "$work" && mkdir folder && touch a.rules b.hwdb c.txt
     same "bash offers rules files and folders to verify" "a.rules folder" "$(bash_offers devdry verify '' | paste -s -d " " -)"
     same "bash offers database files to update" "b.hwdb folder" "$(bash_offers devdry update '' | paste -s -d " " -)"
-    same "bash offers folders behind -r" "folder" "$(bash_offers devdry query -r '' | paste -s -d " " -)"
+    same "bash offers folders after -r" "folder" "$(bash_offers devdry query -r '' | paste -s -d " " -)"
     same "bash offers no file for a modalias" "" "$(bash_offers devdry query '' | paste -s -d " " -)"
-    same "bash offers database files behind a modalias" "b.hwdb folder" "$(bash_offers devdry query -r folder m '' | paste -s -d " " -)"
-    same "bash offers all files behind --index" "a.rules b.hwdb c.txt folder" "$(bash_offers devdry query --index '' | paste -s -d " " -)"
-    same "bash offers rules files behind --why" "a.rules folder" "$(bash_offers devdry events --why '' | paste -s -d " " -)"
+    same "bash offers database files after a modalias" "b.hwdb folder" "$(bash_offers devdry query -r folder m '' | paste -s -d " " -)"
+    same "bash offers all files after --index" "a.rules b.hwdb c.txt folder" "$(bash_offers devdry query --index '' | paste -s -d " " -)"
+    same "bash offers rules files after --why" "a.rules folder" "$(bash_offers devdry events --why '' | paste -s -d " " -)"
     same "bash offers codes to explain" "V1 V10 V11 V12 V13 V14 V15 V16 V17 V18 V19" "$(bash_offers devdry explain V1 | paste -s -d " " -)"
     same "bash offers folders to compare" "folder" "$(bash_offers devdry compare folder '' | paste -s -d " " -)"
     same "bash offers no file to files" "" "$(bash_offers devdry files '' | paste -s -d " " -)"
-    same "bash offers no database file beside an index" "" "$(bash_offers devdry query --index c.txt m '' | paste -s -d " " -)"
-    same "bash offers rules files beside an index" "a.rules folder" "$(bash_offers devdry events --index c.txt '' | paste -s -d " " -)"
+    same "bash offers no database file with an index" "" "$(bash_offers devdry query --index c.txt m '' | paste -s -d " " -)"
+    same "bash offers rules files with an index" "a.rules folder" "$(bash_offers devdry events --index c.txt '' | paste -s -d " " -)"
     same "bash offers all files to devdry-capture" "a.rules b.hwdb c.txt folder" "$(bash_offers devdry-capture '' | paste -s -d " " -)"
-    same "bash offers all files behind --from" "c.txt" "$(bash_offers devdry-capture --from c)"
-    same "bash offers folders behind --sysfs" "folder" "$(bash_offers devdry-capture --sysfs '')"
+    same "bash offers all files after --from" "c.txt" "$(bash_offers devdry-capture --from c)"
+    same "bash offers folders after --sysfs" "folder" "$(bash_offers devdry-capture --sysfs '')"
 )
-same "bash offers formats behind --format" "gcc github gitlab" "$(bash_offers devdry verify --format g | paste -s -d " " -)"
-same "bash offers codes behind --ignore" "H1 H2 H3 H4 H5 H6" "$(bash_offers devdry update --ignore H | paste -s -d " " -)"
-same "bash offers codes of lints behind --ignore" "W1 W10 W11 W12 W13" "$(bash_offers devdry verify --ignore W1 | paste -s -d " " -)"
-same "bash offers codes behind a comma" "V6,S1 V6,S2 V6,S3 V6,S4 V6,S5 V6,S6" "$(bash_offers devdry verify --ignore V6,S | paste -s -d " " -)"
+same "bash offers formats after --format" "gcc github gitlab" "$(bash_offers devdry verify --format g | paste -s -d " " -)"
+same "bash offers codes after --ignore" "H1 H2 H3 H4 H5 H6" "$(bash_offers devdry update --ignore H | paste -s -d " " -)"
+same "bash offers codes of lints after --ignore" "W1 W10 W11 W12 W13" "$(bash_offers devdry verify --ignore W1 | paste -s -d " " -)"
+same "bash offers codes after a comma" "V6,S1 V6,S2 V6,S3 V6,S4 V6,S5 V6,S6" "$(bash_offers devdry verify --ignore V6,S | paste -s -d " " -)"
 same "bash offers the codes to explain" "$codes" "$(bash_offers devdry explain '' | LC_ALL=C sort)"
 same "docs/messages.md has these codes" "$codes" "$(sed -nE 's/^### ([A-Z][0-9]+) .*/\1/p' "$top/docs/messages.md" | LC_ALL=C sort)"
 same "bash offers the options of devdry-capture" "$captures" "$(bash_offers devdry-capture --kernel -)"
-same "bash offers actions behind --action" "change" "$(bash_offers devdry-capture --action c)"
+same "bash offers actions after --action" "change" "$(bash_offers devdry-capture --action c)"
 
 if has zsh; then
     # What the function of a program passes to _arguments for a command; the first words of each spec are options.
@@ -119,7 +119,7 @@ if has fish; then
     same "fish offers the commands" "$commands" "$(cd "$work" && fish_offers 'devdry ')"
     for verb in $verbs; do same "fish offers the options of $verb" "$(helps "$verb")" "$(fish_offers "devdry $verb -")"; done
     same "fish offers the options of devdry-capture" "$captures" "$(fish_offers 'devdry-capture -')"
-    same "fish offers actions behind --action" "change" "$(fish_offers 'devdry-capture --action c')"
+    same "fish offers actions after --action" "change" "$(fish_offers 'devdry-capture --action c')"
 else
     skipped "what fish offers" "there is no fish"
 fi

@@ -15,7 +15,7 @@ ends() {
     same "$case" "$status|$output|$errors" "$got|$(head -n 1 out)|$(head -n 1 err)"
 }
 ends "a good file" 0 "1 files checked, 1 good, 0 bad" "" verify disk.rules
-ends "a good file, not counted" 0 "" "" verify --no-summary disk.rules
+ends "a good file, with --no-summary" 0 "" "" verify --no-summary disk.rules
 ends "a bad file" 1 "1 files checked, 0 good, 1 bad" "mistakes.rules:2: V2 unknown key: SUBSYSTEMM" verify mistakes.rules
 ends "messages of the database" 0 "" "mistakes.hwdb:1: H1 property without a match: A=1" query none mistakes.hwdb
 ends "a query without a match" 0 "" "" query none trackball.hwdb
@@ -23,16 +23,16 @@ ends "a query without a match" 0 "" "" query none trackball.hwdb
 # With --all, /dev/stdin is read if it is a file, but not if it is a pipe.
 status=0
 "$program" verify --all /dev/stdin < disk.rules > out 2> err || status=$?
-same "--all and /dev/stdin that is a file" "0|1 files checked, 1 good, 0 bad|" "$status|$(cat out)|$(cat err)"
+same "--all with a file as /dev/stdin" "0|1 files checked, 1 good, 0 bad|" "$status|$(cat out)|$(cat err)"
 for verb in verify update; do
     status=0
     echo 'TAG="t"' | "$program" "$verb" --all /dev/stdin > out 2> err || status=$?
-    same "$verb --all and /dev/stdin behind a pipe" "3|devdry: cannot read /dev/stdin: not a regular file|devdry: no files" \
+    same "$verb --all with a pipe as /dev/stdin" "3|devdry: cannot read /dev/stdin: not a regular file|devdry: no files" \
         "$status|$(paste -s -d "|" err)"
 done
 status=0
 echo 'TAG="t"' | "$program" verify /dev/stdin > out 2> err || status=$?
-same "/dev/stdin behind a pipe without --all" "0|1 files checked, 1 good, 0 bad|" "$status|$(cat out)|$(cat err)"
+same "a pipe as /dev/stdin, without --all" "0|1 files checked, 1 good, 0 bad|" "$status|$(cat out)|$(cat err)"
 
 # A block is answered before the next one is there.
 block=$'C: add\nP: /devices/x\nU: block\nN: sda\n'
@@ -48,7 +48,7 @@ rest=$(cat <&4)
 exec 4<&-
 status=0
 wait $! || status=$?
-same "a faulty block behind it" "1|block 2, line 1: no device|env SUBSYSTEM=block" "$status|$(cat err)|$(tail -n 1 <<< "$rest")"
+same "a faulty block after an answer" "1|block 2, line 1: no device|env SUBSYSTEM=block" "$status|$(cat err)|$(tail -n 1 <<< "$rest")"
 # A modalias is answered before the next one is there.
 mkfifo lines
 "$program" query - trackball.hwdb < lines > answers 2> err &
@@ -63,9 +63,9 @@ exec 4<&-
 status=0
 wait $! || status=$?
 same "a last modalias without a newline" "0||MOUSE_DPI=1600@125|||end" "$status|$(cat err)|$rest"
-ends "events without a file that is there" 3 "" "devdry: cannot read none.rules" events -r none none.rules
+ends "events with a file that does not exist" 3 "" "devdry: cannot read none.rules" events -r none none.rules
 ends "events without a block" 0 "" "" events -r none disk.rules
-ends "a rule that is dropped" 0 "" "mistakes.rules:2: V2 unknown key: SUBSYSTEMM" events -r none mistakes.rules
+ends "a dropped rule" 0 "" "mistakes.rules:2: V2 unknown key: SUBSYSTEMM" events -r none mistakes.rules
 
 # A reader that closes early.
 {
@@ -76,12 +76,12 @@ ends "a rule that is dropped" 0 "" "mistakes.rules:2: V2 unknown key: SUBSYSTEMM
 same "a reader that closes early" "3|devdry: write failed" "$(cat status)|$(cat err)"
 status=0
 "$program" verify mistakes.rules 2> /dev/full > out || status=$?
-same "an error output that is full" "3|" "$status|$(cat out)"
+same "a full error output" "3|" "$status|$(cat out)"
 
 if [ "$(id -u)" != 0 ] || has setpriv; then
     # (a user without rights must be able to reach the program)
     chmod 755 "$work" && cp "$program" "$work/devdry" && program=$work/devdry
     goes_well "pipes, odd names, a full output (bench/odd_files.sh)" "$top/bench/odd_files.sh" "$program"
 else
-    skipped "bench/odd_files.sh" "as root it takes setpriv"
+    skipped "bench/odd_files.sh" "root needs setpriv"
 fi

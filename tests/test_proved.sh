@@ -6,5 +6,5 @@ set -uo pipefail
 if has python3; then
     PYTHONDONTWRITEBYTECODE=1 python3 "$top/tests/proved.py"
 else
-    skipped "what docs/proved.md names" "there is no python3"
+    skipped "tests/proved.py" "there is no python3"
 fi

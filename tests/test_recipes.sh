@@ -30,7 +30,7 @@ hwdb_message="hwdb/60-mine.hwdb:1: H1 property without a match: A=1"
 goes_well "Makefile: good files" make -C "$work/good" check
 refused "Makefile: mistakes" "$rules_message" make -C "$work/bad" check
 refused "Makefile: mistakes in the database" "$hwdb_message" make -C "$work/bad" check RULES=
-goes_well "Makefile: no file at all" make -C "$work/bad" check RULES= HWDB=
+goes_well "Makefile: no files" make -C "$work/bad" check RULES= HWDB=
 
 if has meson && has ninja; then
     (
@@ -50,7 +50,7 @@ for name in mine.udev udev; do
         in_project good make -f debian/rules override_dh_auto_test
     rm "$work/good/debian/$name"
 done
-goes_well "debian/rules: no file at all" in_project bad make -f debian/rules override_dh_auto_test RULES= HWDB=
+goes_well "debian/rules: no files" in_project bad make -f debian/rules override_dh_auto_test RULES= HWDB=
 
 if has rpmbuild; then
     packed() {
@@ -76,7 +76,7 @@ rules.d/50-mine.rules
 src/udev.rules
 udev/README
 udev/60-mine.hwdb'
-same "the hook takes udev's files alone" "$taken" \
+same "the hook selects only udev's files" "$taken" \
     "$(printf '%s\n' "$taken" "$others" | grep -E "$(sed -n 's/^  files: \(.*rules.*\)/\1/p' "$top/.pre-commit-hooks.yaml")")"
 if has pre-commit && has git; then
     # hooked PROJECT FOLDER: the hooks over a project whose rules are in that folder, with a file that ends in .rules and
@@ -138,10 +138,10 @@ for path, line, _, _, code, severity, said in READERS[sys.argv[1]](sys.stdin.buf
             local said status=0
             rm -f "$work/$2/report.json"
             said=$(runs_job "$2" "${6:-}" 2>&1) || status=$?
-            same "GitLab's job, $1: its end" "$3" "$status"
-            same "GitLab's job, $1: its report" "$(grep -c . <<< "$4"): $4" \
+            same "GitLab's job, $1: the status" "$3" "$status"
+            same "GitLab's job, $1: the report" "$(grep -c . <<< "$4"): $4" \
                 "$(jq length "$work/$2/report.json" 2>&1): $(reads gitlab < "$work/$2/report.json")"
-            goes_well "GitLab's job, $1: what it says" grep -qF "$5" <<< "$said"
+            goes_well "GitLab's job, $1: the printed text" grep -qF "$5" <<< "$said"
         }
         of_rules=$(grep '^rules/' <<< "$bad_messages")
         job_ends "mistakes" bad 1 "$bad_messages" '"check_name":"V2"'
@@ -150,9 +150,9 @@ for path, line, _, _, code, severity, said in READERS[sys.argv[1]](sys.stdin.buf
             job_ends "no database, $project rules" "$project-rules" 3 "$([ $project = good ] || echo "$of_rules")" \
                 "devdry: cannot read hwdb/*.hwdb"
         done
-        job_ends "no database and no line on it" bad-rules 1 "$of_rules" '"check_name":"V2"' "$(grep -v 'devdry update' <<< "$gitlab")"
+        job_ends "no database, without the command for the database" bad-rules 1 "$of_rules" '"check_name":"V2"' "$(grep -v 'devdry update' <<< "$gitlab")"
         rm -r "$work/good-rules/rules"
-        job_ends "no file at all" good-rules 3 "" "devdry: cannot read rules/*.rules"
+        job_ends "no files" good-rules 3 "" "devdry: cannot read rules/*.rules"
     else
         skipped "GitLab's report" "there is no jq"
     fi
@@ -171,7 +171,7 @@ for it in good bad; do
 done
 goes_well "image.sh: good files" "$ci/image.sh" "$work/good/root"
 refused "image.sh: mistakes" "root/usr/lib/udev/rules.d/60-mine.rules:2:1: error: unknown key: SUBSYSTEMM [V2]" "$ci/image.sh" "$work/bad/root"
-refused "image.sh: no file at all" "rules.d: absent" "$ci/image.sh" "$work/none"
+refused "image.sh: no files" "rules.d: absent" "$ci/image.sh" "$work/none"
 refused "image.sh: no root" "1" "$ci/image.sh" ""
 # image_ends CASE STATUS COMMAND..: image.sh ends in this way over a copy of the good image, in whose /usr/lib/udev the command was run
 image_ends() {
@@ -185,7 +185,7 @@ image_ends() {
 lost() { ln -s nothing "$1/90-lost.${1%.d}" && if [ $# = 2 ]; then cp "$top/examples/mistakes.${2%.d}" "$2"; fi; }
 image_ends "mistakes in rules" 1 cp "$top/examples/mistakes.rules" rules.d
 image_ends "mistakes in the database" 1 cp "$top/examples/mistakes.hwdb" hwdb.d
-image_ends "a substitution that no manual has" 0 sh -c "echo 'ENV{NODE}=\"\$tempnode\"' > rules.d/50-old.rules"
+image_ends "a substitution that the manual does not have" 0 sh -c "echo 'ENV{NODE}=\"\$tempnode\"' > rules.d/50-old.rules"
 image_ends "rules that can't be read" 3 lost rules.d
 image_ends "rules that can't be read, and mistakes in the database" 3 lost rules.d hwdb.d
 image_ends "a database that can't be read, and mistakes in rules" 3 lost hwdb.d rules.d
@@ -198,7 +198,7 @@ if has vim; then
         -c 'compiler devdry' -c 'silent make!' \
         -c 'call writefile(map(getqflist(), "bufname(v:val.bufnr).\" \".v:val.lnum.\" \".v:val.col.\" \".v:val.type.\" \".v:val.text"), "list")' \
         -c 'qall!' 2>&1 > /dev/null; cat "$work/bad/list")
-    same "vim's list of messages" "rules/60-mine.rules 2 1 e unknown key: SUBSYSTEMM [V2]
+    same "vim reads the messages" "rules/60-mine.rules 2 1 e unknown key: SUBSYSTEMM [V2]
 rules/60-mine.rules 4 22 e no later label: end [V7]
 rules/60-mine.rules 6 15 w blank after a comma expected: TAG [S2]" "$said"
 else
@@ -225,10 +225,10 @@ if has emacs; then
                                    (compilation--message->type message)))))
                 (forward-line)))' 2> /dev/null
     }
-    same "what emacs reads of messages on rules" "60-mine.rules 2 1 2
+    same "emacs reads messages about rules" "60-mine.rules 2 1 2
 60-mine.rules 4 22 2
 60-mine.rules 6 15 1" "$(emacs_reads rules/60-mine.rules)"
-    same "what emacs reads of messages on the database" "60-mine.hwdb 1 2 2
+    same "emacs reads messages about the database" "60-mine.hwdb 1 2 2
 60-mine.hwdb 3 1 2
 60-mine.hwdb 6 2 2
 60-mine.hwdb 7 2 2

@@ -6,5 +6,5 @@ set -uo pipefail
 if has python3; then
     PYTHONDONTWRITEBYTECODE=1 python3 "$top/tests/terminals.py" "$program"
 else
-    skipped "what is said to a terminal" "there is no python3"
+    skipped "tests/terminals.py" "there is no python3"
 fi

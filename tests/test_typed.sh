@@ -6,16 +6,16 @@ set -uo pipefail
 cd "$top" || exit 1
 if has python3; then
     # (each session has its own line)
-    python3 tests/typed.py "$program" README.md docs/*.md || not_ok "all that the documents show is typed" "$?"
+    python3 tests/typed.py "$program" README.md docs/*.md || not_ok "tests/typed.py runs to its end" "$?"
 else
-    skipped "what the documents show" "there is no python3"
+    skipped "tests/typed.py" "there is no python3"
 fi
 
 # Each code with its text is in the reference and in the examples, and each page has those of its command: V and S of
 # rules, W of rules by --lint, H of the database, I of comments in both.
 codes() { grep -oE '[VSHIW][0-9]+ [a-z][^|]*' | sed 's/ *$//' | LC_ALL=C sort; }
 reference=$(sed -nE 's/^\| ([VSHIW][0-9]+) \| ([^|]*[^| ]) *\|.*/\1 \2/p' docs/behaviour.md | codes)
-same "the reference has each code once" "" "$(cut -d ' ' -f 1 <<< "$reference" | uniq -d)"
+same "docs/behaviour.md has each code once" "" "$(cut -d ' ' -f 1 <<< "$reference" | uniq -d)"
 same "docs/messages.md has each message" "$reference" "$(sed -n 's/^### //p' docs/messages.md | codes)"
 listed() { sed -nE 's/^\.It ([VSHIW][0-9]+ .*)/\1/p' "man/$1.1" | codes; }
 same "devdry-verify(1) has each message on rules" "$(grep '^[VSIW]' <<< "$reference")" "$(listed devdry-verify)"

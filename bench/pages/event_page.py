@@ -22,7 +22,7 @@ for table in asking.TABLES:
         try:
             told = otherwise(rules, block, lines)
         except NotImplementedError as what:
-            print(f'{name}: {what} is not answered')
+            print(f'{name}: {what} is not implemented')
             continue
         if told:
             print(f'{name}: from the page {told}')

@@ -9,12 +9,12 @@ ANSWER = "event add /d\nenv ACTION=add\nenv DEVPATH=/d\n\n"
 
 def fault(text, line, reported, name=None):
     """A block that is refused at a line."""
-    return Row(name or f"{text!r} has {reported}", EVENTS, input=text, messages=f"block 1, line {line}: {reported}\n", status=1)
+    return Row(name or f"{text!r}: {reported}", EVENTS, input=text, messages=f"block 1, line {line}: {reported}\n", status=1)
 
 
 def below(lines, line, reported):
     """The same for lines after an action and a device, which are lines 1 and 2."""
-    return fault(b"C: add\nP: /d\n" + lines, line, reported, f"below a device, {lines!r} has {reported}")
+    return fault(b"C: add\nP: /d\n" + lines, line, reported, f"after a device, {lines!r}: {reported}")
 
 
 FIRST_LINES = [
@@ -167,22 +167,22 @@ run program [a]
 
 READ = [
     answered("a block with each kind of line", WHOLE, SHOWN, SHOWING),
-    answered("what the event says is set, and kernels have slashes", DISK, ASKED, ASKING),
+    answered("properties of the event are set, and kernel names have slashes", DISK, ASKED, ASKING),
     answered("the last line has no newline", "C: add\nP: /d", ANSWER),
-    answered("empty lines are passed over", "\n\nC: add\nP: /d\n\n\n\nC: add\nP: /d\n\n", ANSWER * 2),
+    answered("empty lines are skipped", "\n\nC: add\nP: /d\n\n\n\nC: add\nP: /d\n\n", ANSWER * 2),
     answered("no block", "", ""),
-    answered("empty lines alone", "\n\n\n", ""),
+    answered("only empty lines", "\n\n\n", ""),
     answered(
-        "numbers of devices as they are written",
+        "device numbers are kept as written",
         "C: add\nP: /d\nD: 4294967295:0000000001\n",
         ANSWER[:-1] + "env MAJOR=4294967295\nenv MINOR=0000000001\n\n",
     ),
     answered(
-        "two devices may have the same",
+        "two devices may have equal lines",
         "C: add\nP: /d/e\nU: x\nA: x=1\nP: /d\nU: x\nA: x=1\n",
         "event add /d/e\nenv ACTION=add\nenv DEVPATH=/d/e\nenv SUBSYSTEM=x\n\n",
     ),
-    answered("constants and programs stand before a device", "C: add\nK: arch=x\nQ: a\nR: 255 t\nP: /d\n", ANSWER),
+    answered("constants and programs before the first device", "C: add\nK: arch=x\nQ: a\nR: 255 t\nP: /d\n", ANSWER),
 ]
 
 
@@ -203,7 +203,7 @@ BOUNDS = [
         "event add /devices/x\nenv ACTION=add\nenv DEVPATH=/devices/x\nenv X=" + "v" * 65_509 + "\n\n",
     ),
     fault(letters(65_510), 3, "too long", "a block of 65,537 bytes"),
-    fault("X: y\n" + letters(65_510), 4, "too long", "a block that is too long is told of that before all else"),
+    fault("X: y\n" + letters(65_510), 4, "too long", "a block that is too long is reported before any other fault"),
     answered("64 devices", chain(64), f"event add {'/a' * 64}\nenv ACTION=add\nenv DEVPATH={'/a' * 64}\n\n"),
     fault(chain(65), 66, "too deep", "65 devices"),
 ]
@@ -218,7 +218,7 @@ RUNS = [
         status=1,
     ),
     Row(
-        "the first faulty line counts",
+        "the first faulty line is reported",
         EVENTS,
         input="C: add\nP: /d\nD: 8\nX: y\n",
         messages="block 1, line 3: number\n",

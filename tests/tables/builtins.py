@@ -37,7 +37,7 @@ def asked(name, rule, block, *lines, database=HUBS):
 def found(command, block, *lines, database=HUBS, name=None):
     """A command that finds these properties."""
     rule = f'IMPORT{{builtin}}=="{command}", TAG+="found"'
-    return asked(name or f"{command} finds something", rule, block, "tag found", *lines, database=database)
+    return asked(name or f"{command} finds properties", rule, block, "tag found", *lines, database=database)
 
 
 def fails(command, block, *notes, database=HUBS, name=None):
@@ -50,9 +50,9 @@ def fails(command, block, *notes, database=HUBS, name=None):
 LINUX = "env ID_VENDOR=Linux"
 
 CHAIN = [
-    asked("the device of USB above is looked up", 'IMPORT{builtin}="hwdb --subsystem=usb"', BELOW_HUB, LINUX),
+    asked("the USB parent is looked up", 'IMPORT{builtin}="hwdb --subsystem=usb"', BELOW_HUB, LINUX),
     found("hwdb --subsystem=usb", BELOW_HUB, LINUX),
-    fails("hwdb --subsystem=usb", BELOW_DEVICE, name="a device of USB ends the search"),
+    fails("hwdb --subsystem=usb", BELOW_DEVICE, name="a USB device ends the search"),
     found("hwdb", BELOW_HUB, LINUX),
     fails("hwdb --subsystem=pci", BELOW_HUB),
     fails("hwdb --subsystem=", BELOW_HUB),
@@ -61,7 +61,7 @@ CHAIN = [
         "hwdb --subsystem=pci",
         BELOW_DEVICE + "P: /devices\nU: pci\nE: MODALIAS=usb:v1D6B\n",
         LINUX,
-        name="a device of USB that the subsystem passes over does not end the search",
+        name="a USB device skipped by --subsystem does not end the search",
     ),
     found(
         "hwdb",
@@ -69,7 +69,7 @@ CHAIN = [
         "env MODALIAS=tty:unknown",
         "env SUBSYSTEM=tty",
         LINUX,
-        name="a modalias of which nothing is known is passed over",
+        name="a modalias that is not in the database is skipped",
     ),
     found(
         "hwdb --filter=ID_*",
@@ -78,7 +78,7 @@ CHAIN = [
         "env SUBSYSTEM=tty",
         LINUX,
         database=HUBS + "\ntty:*\n A=1\n",
-        name="and one of which the filter leaves nothing",
+        name="a modalias whose properties are all filtered out is skipped",
     ),
     found(
         "hwdb",
@@ -87,7 +87,7 @@ CHAIN = [
         "env SUBSYSTEM=tty",
         "env A=1",
         database=HUBS + "\ntty:*\n A=1\n",
-        name="behind a modalias of which something is known no other is looked up",
+        name="after a modalias that is in the database no other is looked up",
     ),
     asked(
         "a device without a subsystem is not looked up",
@@ -119,7 +119,7 @@ MODALIAS = [
         ALONE,
     ),
     asked(
-        "a command is rendered, with what earlier rules set",
+        "a command is rendered with the properties of earlier rules",
         'ENV{M}="usb:v1D6B"\nIMPORT{builtin}=="hwdb $env{M}"',
         ALONE,
         "env M=usb:v1D6B",
@@ -143,7 +143,7 @@ FILTERS = [
         ALONE,
         "env ID_A=1",
         database="m\n ID_A=1\n",
-        name="an earlier filter may be no pattern",
+        name="an earlier filter may be an invalid pattern",
     ),
 ]
 
@@ -162,10 +162,10 @@ FAULTY = [
 ]
 
 OTHERS = [
-    asked("another builtin is named", 'IMPORT{builtin}="kmod load"', ALONE, "note h.rules:1: builtin not run: kmod"),
+    asked("a note names another builtin", 'IMPORT{builtin}="kmod load"', ALONE, "note h.rules:1: builtin not run: kmod"),
     fails("kmod load", ALONE, "builtin not run: kmod"),
-    fails("", ALONE, "builtin not run", name="no word is no builtin"),
-    fails("''", ALONE, "builtin not run", name="nor is an empty one"),
+    fails("", ALONE, "builtin not run", name="no word: no builtin is run"),
+    fails("''", ALONE, "builtin not run", name="an empty word: no builtin is run"),
 ]
 
 ROWS = [*CHAIN, *MODALIAS, *FILTERS, *FAULTY, *OTHERS]

@@ -41,7 +41,7 @@ def asked(key, value, fitting, others, where):
     )
     texts = [(text, "tag equal") for text in fitting] + [(text, "tag unequal") for text in others]
     return Row(
-        f"what fits {key}=={as_bytes(value).decode(errors='backslashreplace')}",
+        f"texts that fit {key}=={as_bytes(value).decode(errors='backslashreplace')}",
         "events -r none r.rules",
         {"r.rules": rules},
         input=b"".join(block(*where(as_bytes(text))) for text, _ in texts),
@@ -53,7 +53,7 @@ ROWS = [
     *(asked("KERNEL", *choice, lambda text: (b"/x/" + text,)) for choice in OF_NAMES),
     *(asked("ENV{.T}", *choice, lambda text: ("/d", b"E: .T=" + text)) for choice in OF_PROPERTIES),
     verified(
-        "the value of a choice with a class is told whole",
+        "the value of a choice with a class is reported in full",
         ('KERNEL=="ab|[[:x]|[[=]"', "V11 set not supported: ab|[[:x]|[[=]"),
         ('KERNEL==i"ab|[[:x]|[[=]"', "V11 set not supported: ab|[[:x]|[[=]"),
         ('KERNEL=="[[:alpha:]]"', "V11 set not supported: [[:alpha:]]"),

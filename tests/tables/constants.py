@@ -17,7 +17,7 @@ def compared(name, holds, fails, block=DEVICE, answer=ANSWER):
 
 CONSTANTS = [
     compared(
-        "a constant is compared with the whitespace at its end",
+        "a constant is compared with its trailing whitespace",
         block=DEVICE + "K: arch=x86-64 \n",
         holds=[
             'CONST{arch}!="x86-64"',
@@ -43,7 +43,7 @@ CONSTANTS = [
         ],
     ),
     compared(
-        "a constant without whitespace at its end",
+        "a constant without trailing whitespace",
         block=DEVICE + "K: arch=x86-64\n",
         holds=[
             'CONST{arch}=="x86-64"',
@@ -64,7 +64,7 @@ CONSTANTS = [
         ],
     ),
     compared(
-        "a tab at the end of a constant counts, too",
+        "a trailing tab of a constant counts",
         block=DEVICE + "K: virt=kvm\t\nK: cvm=sev \t\n",
         holds=[
             'CONST{virt}!="kvm"',
@@ -85,7 +85,7 @@ CONSTANTS = [
         ],
     ),
     compared(
-        "a constant of whitespace alone is not empty",
+        "a constant of only whitespace is not empty",
         block=DEVICE + "K: arch= \nK: virt=\n",
         holds=[
             'CONST{arch}==" "',
@@ -104,7 +104,7 @@ CONSTANTS = [
         ],
     ),
     compared(
-        "a constant that is not given fails == and meets !=",
+        "an absent constant fails == and satisfies !=",
         block=DEVICE + "K: virt=kvm\n",
         holds=[
             'CONST{arch}!="kvm"',
@@ -122,7 +122,7 @@ CONSTANTS = [
         ],
     ),
     compared(
-        "a constant of another name fails == and !=, given or not",
+        "a constant with another name fails == and !=, given or not",
         block=DEVICE + "K: a=1 \n",
         holds=[],
         fails=[
@@ -209,10 +209,10 @@ def compared_attributes(name, key, block):
 
 # (the device has no parent here, so that ATTRS looks at it alone)
 ROWS = CONSTANTS + [
-    compared_attributes("ATTR drops whitespace at the end but for a value that ends in it", "ATTR", DEVICE + ATTRIBUTES),
-    compared_attributes("ATTRS drops whitespace at the end but for a value that ends in it", "ATTRS", DEVICE + ATTRIBUTES),
+    compared_attributes("ATTR drops trailing whitespace unless the value ends in whitespace", "ATTR", DEVICE + ATTRIBUTES),
+    compared_attributes("ATTRS drops trailing whitespace unless the value ends in whitespace", "ATTRS", DEVICE + ATTRIBUTES),
     compared(
-        "ATTRS drops it of a parent's attribute, too",
+        "ATTRS drops trailing whitespace of a parent's attribute",
         block="C: add\nP: /devices/h/x\nP: /devices/h\nA: serial=7 \n",
         answer="event add /devices/h/x\nenv ACTION=add\nenv DEVPATH=/devices/h/x\n",
         holds=[
@@ -228,7 +228,7 @@ ROWS = CONSTANTS + [
         ],
     ),
     compared(
-        "all other keys are compared with the whitespace at the end",
+        "all other keys are compared with trailing whitespace",
         block="C: add \nP: /devices/x \nU: tty \nV: uart \nE: X=1 \nG: g \nS: s \nQ: /bin/p\nR: 0 r \n",
         answer="event add  /devices/x \nlink s \ntag g \n"
         "env ACTION=add \nenv DEVPATH=/devices/x \nenv SUBSYSTEM=tty \nenv X=1 \n",

@@ -26,7 +26,7 @@ def cut():
     for version, whole in VERSIONS:
         for length in range(len(whole)):
             yield asked(f"{length} bytes of {version}", whole[:length], "short" if length < 32 else "size")
-        yield asked(f"the whole of {version}", whole, "K=V")
+        yield asked(f"all bytes of {version}", whole, "K=V")
         yield asked(f"one byte more than {version}", whole + b"\0", "size")
 
 
@@ -115,14 +115,14 @@ def changed():
     """Each field of both indexes raised, 0, and at its greatest."""
     for version, whole, fields in FIELDS:
         for at, length, raised, zero, greatest in fields:
-            yield asked(f"{version}, the field at {at} raised", with_bytes(whole, at, bytes([whole[at] + 1])), raised)
+            yield asked(f"{version}, the field at {at} is one greater", with_bytes(whole, at, bytes([whole[at] + 1])), raised)
             yield asked(f"{version}, the field at {at} is 0", with_bytes(whole, at, bytes(length)), zero)
-            yield asked(f"{version}, the field at {at} is the greatest", with_bytes(whole, at, b"\xff" * length), greatest)
+            yield asked(f"{version}, the field at {at} is the greatest number", with_bytes(whole, at, b"\xff" * length), greatest)
 
 
 # The byte of a node is the one that leads to it, and each byte of the text is answered.
 BYTES = [
-    asked("a node behind another byte", with_bytes(WITHOUT_FILE, 57, b"b"), "K=V", "bc"),
+    asked("a node after another byte", with_bytes(WITHOUT_FILE, 57, b"b"), "K=V", "bc"),
     *(
         asked(f"version 1, the text has {there} at {at}", with_bytes(WITHOUT_FILE, at, there), answer)
         for at, there, answer in [
@@ -176,7 +176,7 @@ ORDERS = [
 def of_events(name, whole, check):
     """`events` by an index that fails a check: nothing is read of the input."""
     words = "events -r none --index i"
-    return Row(f"events by an index: {name}", words, {"i": whole}, "C: ", messages=f"devdry: index: {check}\n", status=1)
+    return Row(f"events with an index: {name}", words, {"i": whole}, "C: ", messages=f"devdry: index: {check}\n", status=1)
 
 
 ROWS = [

@@ -17,7 +17,7 @@ ROWS = [
         ('ATTR=="x"', "V4 attribute missing or not allowed: ATTR"),
     ),
     verified(
-        "the first token with a fault has the line's only message",
+        "only the first faulty token of a line is reported",
         ('FOO="b", KERNEL=="sd*', "V2 unknown key: FOO"),
         ('KERNEL=="a", KERNEL=="sd*', 'V1 bad syntax: KERNEL=="sd*'),
         ('KERNEL=="[[:x:]]", FOO="b"', "V11 set not supported: [[:x:]]"),
@@ -28,7 +28,7 @@ ROWS = [
         ('LABEL="a", LABEL="b", GOTO="c", FOO="b"', "V2 unknown key: FOO"),
     ),
     verified(
-        "of one token the first fault",
+        "only the first fault of a token is reported",
         # not a token, letters before its quote, its key, its attribute, its operator, its value
         ('FOO{}-=x"[[:x:]]', "V10 bad quote prefix: x"),
         ('FOO{}-="[[:x:]]"', "V2 unknown key: FOO"),
@@ -41,7 +41,7 @@ ROWS = [
         ('TEST-=i"x"', "V10 bad quote prefix: i"),
     ),
     verified(
-        "values that ignore case are not for what is no choice of names",
+        "the prefix i is refused for TEST, PROGRAM and IMPORT",
         ('TEST==i"x"', "V5 bad value: x"),
         ('TEST!=i"x"', "V5 bad value: x"),
         ('PROGRAM==i"x"', "V5 bad value: x"),
@@ -54,21 +54,21 @@ ROWS = [
         'NAME==i"x", SYMLINK!=i"x", TAG==i"x", ATTR{a}==i"x", CONST{a}==i"x"',
     ),
     verified(
-        "the value of a message is what it means",
+        "a message shows a value without its escapes",
         ('KERNEL=="[[:x:]]\\""', 'V11 set not supported: [[:x:]]"'),
         ('KERNEL==e"[[:x:]]\\x41\\\\"', "V11 set not supported: [[:x:]]A\\x5C"),
         ('OWNER=e"\\x24nope"', "V6 bad substitution: $nope"),
         ('OPTIONS="0123456789abcdef0123456789abcdef0123"', "V5 bad value: 0123456789abcdef0123456789abcdef"),
     ),
     verified(
-        "a label and a jump have a name",
+        "LABEL and GOTO need a name",
         ('LABEL=""', "V5 bad value"),
         ('GOTO=""', "V5 bad value"),
         ('LABEL=e""', "V5 bad value"),
         ('LABEL=" "', UNUSED.format(" ")),
     ),
     verified(
-        "options",
+        "known options",
         *(
             f'OPTIONS{operator}"{option}"'
             for operator in ["=", "+=", ":="]
@@ -81,7 +81,7 @@ ROWS = [
         ),
     ),
     verified(
-        "options that there are not",
+        "unknown options",
         *(
             (f'OPTIONS="{option}"', f"V5 bad value: {option[:32]}" if option else "V5 bad value")
             for option in [
@@ -93,20 +93,20 @@ ROWS = [
             ]
         ),
     ),
-    answered("an option of the least priority", ['OPTIONS="link_priority=-2147483648"'], ([], ["priority -2147483648"])),
-    answered("an option of the greatest priority", ['OPTIONS="link_priority=+02147483647"'], ([], ["priority 2147483647"])),
-    answered("to watch", ['OPTIONS+="watch"'], ([], ["watch"])),
-    answered("the last of watching and not watching", ['OPTIONS+="watch"', 'OPTIONS+="nowatch"'], ([], ["nowatch"])),
+    answered("the least priority", ['OPTIONS="link_priority=-2147483648"'], ([], ["priority -2147483648"])),
+    answered("the greatest priority", ['OPTIONS="link_priority=+02147483647"'], ([], ["priority 2147483647"])),
+    answered("the option watch", ['OPTIONS+="watch"'], ([], ["watch"])),
+    answered("the last of watch and nowatch counts", ['OPTIONS+="watch"', 'OPTIONS+="nowatch"'], ([], ["nowatch"])),
     answered("options that change nothing", ['OPTIONS="log_level=", OPTIONS+="static_node=x"'], ([], [])),
-    answered("a priority of 0 is one, too", ['OPTIONS="link_priority=0"'], ([], ["priority 0"])),
+    answered("a priority of 0 is reported", ['OPTIONS="link_priority=0"'], ([], ["priority 0"])),
     answered(
-        "a rule with a fault is dropped, the others are not",
+        "only the rule with a fault is dropped",
         ['ENV{A}="1"', 'ENV{B}="1", OWNER="$nope"', 'ENV{C}="1", OWNER="[[:x:]]"'],
         ([], ["owner [[:x:]]", "env A=1", "env C=1"]),
         messages="r.rules:2: V6 bad substitution: $nope\n",
     ),
     Row(
-        "files with messages are counted, by their names",
+        "files with messages are counted",
         "verify a.rules b.rules c.rules",
         {"a.rules": "A\nB\n", "b.rules": 'TAG="x"\n', "c.rules": 'TAG="x",\n'},
         output="3 files checked, 1 good, 2 bad\n",

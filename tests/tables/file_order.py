@@ -25,7 +25,7 @@ def database(name, files, modalias, output):
 
 ROWS = [
     rules(
-        "of a name the file of the least rank, in the order of their names",
+        "of each name the file of the lowest rank, sorted by name",
         {
             (1, "70-b.rules"): "1",
             (1, "60-a.rules"): "2",
@@ -46,17 +46,17 @@ ROWS = [
         {(0, "a.rules"): "3", (0, "B.rules"): "2", (0, "10.rules"): "1", (0, "\u00E4.rules"): "4"},
         "1 2 3 4",
     ),
-    rules("/etc stands before the others", {(rank, "a.rules"): str(rank) for rank in (0, 1, 2, 3)}, "0"),
-    rules("/run stands before /usr", {(rank, "a.rules"): str(rank) for rank in (1, 2, 3)}, "1"),
-    rules("/usr/local/lib stands before /usr/lib", {(rank, "a.rules"): str(rank) for rank in (2, 3)}, "2"),
+    rules("/etc comes before the other folders", {(rank, "a.rules"): str(rank) for rank in (0, 1, 2, 3)}, "0"),
+    rules("/run comes before /usr", {(rank, "a.rules"): str(rank) for rank in (1, 2, 3)}, "1"),
+    rules("/usr/local/lib comes before /usr/lib", {(rank, "a.rules"): str(rank) for rank in (2, 3)}, "2"),
     rules(
-        "names that end otherwise are not read",
+        "files with another suffix are not read",
         {(0, "a.rules.old"): "1", (0, "b.hwdb"): "2", (0, "crules"): "3", (3, "RULES"): "4"},
         "",
     ),
-    rules("a name may be the ending alone", {(3, ".rules"): "1"}, "1"),
+    rules("a name may be only the suffix", {(3, ".rules"): "1"}, "1"),
     Row(
-        "rules: a file that holds nothing hides one below it",
+        "rules: an empty file hides a file of a higher rank",
         "verify -r root",
         {
             "root/etc/udev/rules.d/a.rules": "",
@@ -66,13 +66,13 @@ ROWS = [
         output="2 files checked, 2 good, 0 bad\n",
     ),
     database(
-        "a later name wins",
+        "the later name counts",
         {(1, "60-a.hwdb"): "m*\n A=1\n", (1, "70-b.hwdb"): "m*\n A=2\n", (1, "80-c.txt"): "m*\n A=3\n"},
         "mx",
         "A=2\n",
     ),
     database(
-        "a file of a lower rank hides one of its name",
+        "a file of a lower rank hides a file of the same name",
         {
             (1, "60-a.hwdb"): "m*\n A=1\n",
             (1, "70-b.hwdb"): "m*\n A=2\n",
@@ -88,15 +88,15 @@ ROWS = [
         "x",
         "A=1\nB=7\nC=1\nD=2\n",
     ),
-    database("no folder is no file", {}, "x", ""),
+    database("without folders no file is read", {}, "x", ""),
     Row(
-        "database: files that are named are read as they are named",
+        "database: named files are read in the order given",
         "query mx 70-b.hwdb 60-a.hwdb 80-c.txt",
         {"70-b.hwdb": "m*\n A=2\n B=2\n", "60-a.hwdb": "m*\n A=1\n B=3\n C=1\n", "80-c.txt": "m*\n A=4\n"},
         output="A=4\nB=3\nC=1\n",
     ),
     Row(
-        "rules: files that are named are read as they are named",
+        "rules: named files are read in the order given",
         "events -r none b.rules a.txt",
         {"b.rules": 'ENV{READ}+="1"\n', "a.txt": 'ENV{READ}+="2"\n'},
         input=block("/d"),

@@ -104,7 +104,7 @@ t.hwdb:11:1: error: pattern not supported: [[.a.]] [H6]
 
 # For each message lines that cause it, each with its place.
 EACH = [
-    *in_formats("V1, up to the line's end", '<V1|KERNEL=="sd*>', 'KERNEL=="sd*, TAG+="<V1|disk">', 'TAG+="x" <V1|# b>',
+    *in_formats("V1, to the end of the line", '<V1|KERNEL=="sd*>', 'KERNEL=="sd*, TAG+="<V1|disk">', 'TAG+="x" <V1|# b>',
         "<V1|A  >"),
     *in_formats("V2", 'KERNEL=="a" <V2|FOO>="b"', '<V2|subsystem>=="block", TAG+="x"'),
     *in_formats("V3", 'SUBSYSTEM=="x",<V3|ACTION>-="y"', '<V3|KERNEL> = "sda"', 'ENV{A}=="1", <V3|ENV>{B}-="1"'),
@@ -128,11 +128,11 @@ EACH = [
 ]
 
 PLACES = [
-    *in_formats("several of one line, and some of one place", '<S3|TAG>:="a"<S1 S3|MODE>+="b",<S2 S3|ENV>{C}:="c"<S1=|,>',
+    *in_formats("several messages about one line, some at one place", '<S3|TAG>:="a"<S1 S3|MODE>+="b",<S2 S3|ENV>{C}:="c"<S1=|,>',
                 'KERNEL=="a",,<S1 S2|TAG>="t"'),
-    *in_formats("V before S, S4 last", 'LABEL="<S4|e>",<S2|LABEL>="<V8|f>" <S1|GOTO>="<V7|g>"'),
-    *in_formats("twice the same in one line", 'TAG+="a",<S2|TAG>+="b",<S2|TAG>+="c"'),
-    *in_formats("indents count", ' \t<V2|FOO>="1"', '\t\tTAG+="a",<S2|TAG>+="b"'),
+    *in_formats("V messages come before S, and S4 last", 'LABEL="<S4|e>",<S2|LABEL>="<V8|f>" <S1|GOTO>="<V7|g>"'),
+    *in_formats("the same message twice about one line", 'TAG+="a",<S2|TAG>+="b",<S2|TAG>+="c"'),
+    *in_formats("leading blanks are counted", ' \t<V2|FOO>="1"', '\t\tTAG+="a",<S2|TAG>+="b"'),
     *in_formats("a continued rule", "# first", 'KERNEL=="a", \\', '  <V2|FOO>="b"', '\tKERNEL=="a", \\', 'TAG+="t",\\',
         '\t <S2|TAG>+="u"'),
     *in_formats("comments in a continued rule", 'KERNEL=="a", \\', "# between", ' \t# and \\', '    TAG+="t" \\',
@@ -141,30 +141,30 @@ PLACES = [
         'OPTIONS="<V5=link_priority=x|link_>\\',
                 'priority=x"'),
     *in_formats("bad syntax over several lines", '\t<V1=A, B|A, >\\', "  B", 'TAG+="x", <V1=B C|B >\\', "# between", "C"),
-    *in_formats("a value that begins in the next line", 'KERNEL=="\\', ' <V11|[[:x:]]>"', 'GOTO=\\', '   "<V7|y>"'),
-    *in_formats("a rule that goes over 20 lines", *['TAG+="t", \\'] * 19, '<V2|FOO>="1"'),
-    *in_formats("an open line with comments behind it", 'FOO="b", \\', 'BAR="c" <V12=|\\>', "# c", "#"),
-    *in_formats("the last line has an open line alone", 'TAG+="a"', "<V12=|\\>"),
+    *in_formats("a value that begins on the next line", 'KERNEL=="\\', ' <V11|[[:x:]]>"', 'GOTO=\\', '   "<V7|y>"'),
+    *in_formats("a rule of 20 lines", *['TAG+="t", \\'] * 19, '<V2|FOO>="1"'),
+    *in_formats("a line continued at the file's end, with comments after it", 'FOO="b", \\', 'BAR="c" <V12=|\\>', "# c", "#"),
+    *in_formats("the last line is only a line continuation", 'TAG+="a"', "<V12=|\\>"),
     *in_formats("a comma at the end of a continued rule", 'KERNEL=="a", \\', '  TAG+="t"<S1=|, >\\', ""),
-    *in_formats("a mark of the byte order", b"<V1|\xEF\xBB\xBFKERNEL==\"a\">"),
+    *in_formats("a byte order mark", b"<V1|\xEF\xBB\xBFKERNEL==\"a\">"),
     *in_formats("a carriage return", 'TAG="a"<V1|\r>'),
     *in_formats("a word of over 32 bytes", 'SYMLINK+="<V6|' + "x" * 40 + '/$nope/y>"',
         "<V1|" + "long" * 30 + ">"),
     *in_formats("no message", 'TAG+="a"'),
-    *in_formats("four thousand messages of one line", 'TAG="",' + ",".join(["<S2|TAG>=\"\""] * 2_000), formats=["plain", "gcc",
+    *in_formats("four thousand messages about one line", 'TAG="",' + ",".join(["<S2|TAG>=\"\""] * 2_000), formats=["plain", "gcc",
         "github", "json", "gitlab"]),
 ]
 
 # Texts that have a meaning in the formats.
 SIGNS = [
-    *in_formats("signs in a word", 'SYMLINK+="<V6|%25,a:b;c::d>"',
+    *in_formats("special characters in a word", 'SYMLINK+="<V6|%25,a:b;c::d>"',
                 '<V1|"quoted", {\'it\': 50%}>', 'LABEL="<S4|a::b,c=d%0Ae>"'),
     *in_formats("control bytes in a word", "<V1|A\x01\x1b[2J\x7f\r>", 'LABEL="<S4|a\tb>"'),
     *in_formats("a newline in a word", 'LABEL=e"<S4=a\nb|a\\nb>"'),
     *in_formats("a backslash in a word", "<V1|a\\b\\c>"),
     *in_formats("characters in a word", "<V1|\u00e4\u20ac\U0001f600>", 'OPTIONS="<V5|' + "0" * 31 + 'ä>"'),
     *in_formats("characters before the place", 'TAG="\u00e4\u20ac\U0001f600",<S2|TAG>+="x"'),
-    *in_formats("bytes that are no character", b"<V1|A\xFFB>", b'LABEL="<S4|\xE4>"'),
+    *in_formats("bytes that are not UTF-8", b"<V1|A\xFFB>", b'LABEL="<S4|\xE4>"'),
 ]
 
 FAULTY = ['<V2|FOO>="1"', 'TAG+="a"<S1=|,>']
@@ -210,24 +210,24 @@ def blank_missing(column):
 # and to. 40 bytes come before a place, more if the line ends.
 FAR = long_line(200, 400)
 WINDOWS = [
-    in_window("a place at the front of a long line", b'FOO="' + padded(394) + b'"', (1, "error: unknown key", "V2"),
+    in_window("a place at the start of a long line", b'FOO="' + padded(394) + b'"', (1, "error: unknown key", "V2"),
               (b'FOO="' + padded(394))[:160], "^~~"),
-    in_window("a place behind 40 bytes", long_line(40, 400), blank_missing(41), long_line(40, 400)[:160], " " * 40 + "^~~"),
-    in_window("a place behind 41 bytes", long_line(41, 400), blank_missing(42), long_line(41, 400)[1:161], " " * 40 + "^~~"),
+    in_window("a place after 40 bytes", long_line(40, 400), blank_missing(41), long_line(40, 400)[:160], " " * 40 + "^~~"),
+    in_window("a place after 41 bytes", long_line(41, 400), blank_missing(42), long_line(41, 400)[1:161], " " * 40 + "^~~"),
     in_window("a place in the middle of a long line", FAR, blank_missing(201), FAR[160:320], " " * 40 + "^~~"),
-    in_window("a place with 120 bytes from it on", long_line(280, 400), blank_missing(281), long_line(280, 400)[240:], " " * 40 + "^~~"),
-    in_window("a place with 119 bytes from it on", long_line(281, 400), blank_missing(282), long_line(281, 400)[240:], " " * 41 + "^~~"),
+    in_window("a place with 120 bytes to the end of the line", long_line(280, 400), blank_missing(281), long_line(280, 400)[240:], " " * 40 + "^~~"),
+    in_window("a place with 119 bytes to the end of the line", long_line(281, 400), blank_missing(282), long_line(281, 400)[240:], " " * 41 + "^~~"),
     in_window("a place at the end of a long line", long_line(394, 400), blank_missing(395), long_line(394, 400)[240:],
               " " * 154 + "^~~"),
     in_window("a place at the end of 160 bytes", long_line(154, 160), blank_missing(155), long_line(154, 160), " " * 154 + "^~~"),
     in_window("a place at the end of 161 bytes", long_line(155, 161), blank_missing(156), long_line(155, 161)[1:], " " * 154 + "^~~"),
-    in_window("a place that goes on behind what is shown", b'TAG="' + padded(190) + b'", [' + padded(201), (199, "error: bad syntax", "V1"),
+    in_window("a place that continues beyond what is shown", b'TAG="' + padded(190) + b'", [' + padded(201), (199, "error: bad syntax", "V1"),
               (b'TAG="' + padded(190) + b'", [' + padded(201))[158:318], " " * 40 + "^" + "~" * 119),
     in_window("the whole of a line that is too long", b"," * 16_385, (1, "error: line too long", "V9"), b"," * 160, "^" + "~" * 159),
-    *(in_window(f"{character} at the first byte that is shown", long_line(200, 400, character.encode(), 160), blank_missing(201),
+    *(in_window(f"{character} as the first character that is shown", long_line(200, 400, character.encode(), 160), blank_missing(201),
                 long_line(200, 400, character.encode(), 160)[160:320], " " * (41 - len(character.encode())) + "^~~")
       for character in ["ä", "€", "\U0001f600"]),
-    *(in_window(f"{character}, of which {gone} bytes stand before what would be shown", long_line(200, 400, character.encode(), 160 - gone),
+    *(in_window(f"{character}, {gone} of its bytes before the part that would be shown", long_line(200, 400, character.encode(), 160 - gone),
                 blank_missing(201), long_line(200, 400, character.encode(), 160 - gone)[160 + kept:320 + kept], " " * (40 - kept) + "^~~")
       for character, gone, kept in [("ä", 1, 1), ("€", 1, 2), ("€", 2, 1), ("\U0001f600", 1, 3), ("\U0001f600", 2, 2), ("\U0001f600", 3, 1)]),
 ]
@@ -241,7 +241,7 @@ def in_image(form):
         path = f"mnt/{folder}/{name}.rules"
         files[path], found = read_marks(['TAG+="x"', f'<V2|{name.upper() * 3}>="1"'])
         read.insert(0, (f"{name}.rules", path, found))
-    return Row(f"files of folders by their whole path, {form}", f"verify -r mnt --format {form}", files, output=summary(read),
+    return Row(f"files of folders by their full path, {form}", f"verify -r mnt --format {form}", files, output=summary(read),
                messages=messages(form, read), status=1)
 
 
@@ -260,10 +260,10 @@ BY_MARKS = [
     ("files of folders", {("a.hwdb", "mnt/usr/lib/udev/hwdb.d/a.hwdb"): [" <H1|A=1>"], ("b.hwdb",
         "mnt/etc/udev/hwdb.d/b.hwdb"): ["<H2|m>"]},
      ["-r", "mnt"]),
-    ("indents, and long words", {("t.hwdb", "t.hwdb"): [" \t <H1|A=1>", "", "<H2|" + "m" * 40 + ">", "", "# c", "<H2|\tm>"]}, ()),
-    ("two of one line", {("t.hwdb", "t.hwdb"): ["<H2 H6|[[.a.]]>"]}, ()),
-    ("a comment behind a match", {("t.hwdb", "t.hwdb"): ["<H2|m>  # c"]}, ()),
-    ("a name with signs", {("a,b:%\n.hwdb", "a,b:%\n.hwdb"): ["<H2|m:%,>"]}, ()),
+    ("leading blanks, and long words", {("t.hwdb", "t.hwdb"): [" \t <H1|A=1>", "", "<H2|" + "m" * 40 + ">", "", "# c", "<H2|\tm>"]}, ()),
+    ("two messages about one line", {("t.hwdb", "t.hwdb"): ["<H2 H6|[[.a.]]>"]}, ()),
+    ("a comment after a match", {("t.hwdb", "t.hwdb"): ["<H2|m>  # c"]}, ()),
+    ("a file name with special characters", {("a,b:%\n.hwdb", "a,b:%\n.hwdb"): ["<H2|m:%,>"]}, ()),
 ]
 
 ROWS = [
@@ -280,12 +280,12 @@ ROWS = [
     *SIGNS,
     *NAMES,
     *WINDOWS,
-    Row("a path is as it was opened but for what GitHub reads", ["verify", "--format=github", GITHUB_PATH], {GITHUB_PATH: "FOO\\=\n"},
+    Row("a path is written as it was opened, except for GitHub", ["verify", "--format=github", GITHUB_PATH], {GITHUB_PATH: "FOO\\=\n"},
         output="1 files checked, 0 good, 1 bad\n", status=1,
         messages=b"::error file=a\\b%2Cc%3Ad%2525%0A%0De\t\x1b \xC3\xA4.rules,line=1,col=1,endColumn=6,title=V1::bad syntax: FOO\\x5C=\n"),
     *(in_image(form) for form in FORMATS),
     *(of_database(form, *rest) for form in FORMATS for rest in BY_MARKS),
-    Row("plain is what is written without it", "verify --format plain r.rules", {"r.rules": MISTAKES},
+    Row("plain is the default format", "verify --format plain r.rules", {"r.rules": MISTAKES},
         output="1 files checked, 0 good, 1 bad\n",
         messages=SAID["plain"], status=1),
     Row("without style", "verify --format=gcc --no-style r.rules", {"r.rules": MISTAKES},
@@ -293,21 +293,21 @@ ROWS = [
         messages="".join(SAID["gcc"].splitlines(True)[:2]), status=1),
     Row("without the summary", "verify --no-summary --format=json r.rules", {"r.rules": MISTAKES}, messages=SAID["json"],
         status=1),
-    Row("style alone, and none of it", "verify --no-style --format=gitlab r.rules", {"r.rules": 'TAG="a",TAG="b"\n'},
+    Row("only messages about style, with --no-style", "verify --no-style --format=gitlab r.rules", {"r.rules": 'TAG="a",TAG="b"\n'},
         output="1 files checked, 1 good, 0 bad\n", messages=Read(gitlab_report, [])),
-    Row("two files, the named one as it is named", "verify -r mnt --format gcc b.rules a.rules", {"b.rules": "FOO\n",
+    Row("two files, the named one by its name as given", "verify -r mnt --format gcc b.rules a.rules", {"b.rules": "FOO\n",
         "a.rules": "BAR\n"},
         output="2 files checked, 0 good, 2 bad\n",
         messages="b.rules:1:1: error: bad syntax: FOO [V1]\na.rules:1:1: error: bad syntax: BAR [V1]\n", status=1),
     Row("an empty root", ["verify", "--format=gcc", "-r", "", "r.rules"], {"r.rules": "FOO\n"},
         output="1 files checked, 0 good, 1 bad\n",
         messages="r.rules:1:1: error: bad syntax: FOO [V1]\n", status=1),
-    Row("a root that ends in a slash", "verify --format=gcc -r mnt/", {"mnt/etc/udev/rules.d/r.rules": "FOO\n"},
+    Row("a root with a trailing slash", "verify --format=gcc -r mnt/", {"mnt/etc/udev/rules.d/r.rules": "FOO\n"},
         output="1 files checked, 0 good, 1 bad\n", messages="mnt//etc/udev/rules.d/r.rules:1:1: error: bad syntax: FOO [V1]\n",
         status=1),
-    *(Row(f"what can't be read is told as ever, {form}", f"verify --format {form} r.rules x.rules", {"r.rules": MISTAKES},
+    *(Row(f"an unreadable file is reported as without --format, {form}", f"verify --format {form} r.rules x.rules", {"r.rules": MISTAKES},
           messages="devdry: cannot read x.rules\n", status=3) for form in FORMATS),
-    *(Row(f"no such format, {words}", words, {"r.rules": MISTAKES}, messages=Begins(b"error: "), status=2)
+    *(Row(f"unknown format, {words}", words, {"r.rules": MISTAKES}, messages=Begins(b"error: "), status=2)
       for words in ["verify --format=xml r.rules", "verify --format GCC r.rules", "update --format= r.rules", "verify --format",
                     "verify --format=gcc --format=json r.rules", "query --format=gcc m r.rules", "events --format=gcc r.rules"]),
 ]

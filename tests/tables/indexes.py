@@ -259,12 +259,12 @@ READ = [
         ("usb:v12345", ""),
     ),
     *queries("forty stars", FORTY, ("a" * 200, "t.hwdb:2: K=V\n"), ("a" * 39, "")),
-    query("forty stars and a last byte that none takes", FORTY, "a" * 200 + "b", ""),
+    query("forty stars and a last byte that does not fit", FORTY, "a" * 200 + "b", ""),
     *queries("16,384 stars", STARS, ("a" * 10, "t.hwdb:2: K=V\n"), ("", "t.hwdb:2: K=V\n")),
     *queries("a chain", CHAIN, ("a" * 16_000, "-: K=V\n"), ("a", "-: K=V\n")),
     query("a chain, one byte too many", CHAIN, "a" * 16_001, ""),
     *queries(
-        "a foreign index",
+        "an index written by another program",
         FOREIGN,
         # the empty pattern and `*`
         ("", "-: K=V\nVW:7: KV=\nK:1: V=K\n"),
@@ -275,13 +275,13 @@ READ = [
         ("ab", "-: K=V\nK:1: V=K\n"),
     ),
     *queries("files of two folders", FOLDERS, ("mx", "70-b.hwdb:2: A=2\n")),
-    *queries("a file in the place of another", MASKED, ("mx", "60-a.hwdb:2: A=1\n"), ("z", "70-b.hwdb:2: A=2\n")),
+    *queries("a file that replaces one of the same name", MASKED, ("mx", "60-a.hwdb:2: A=1\n"), ("z", "70-b.hwdb:2: A=2\n")),
     *queries("ten thousand times one pattern", LONG, ("mx", "s.hwdb:29999: A=1\n")),
 ]
 
 WRITTEN = [
-    Row("no folder is the index of no entry", "update -r none", output=EMPTY),
-    update("an empty file is the index of no entry", {"s.hwdb": ""}, EMPTY),
+    Row("without folders the index has no entry", "update -r none", output=EMPTY),
+    update("of an empty file the index has no entry", {"s.hwdb": ""}, EMPTY),
     update("one entry", {"t.hwdb": "a*\n K=V\n"}, WITH_FILE),
     update("two patterns with a set", FOUR_FILES, FOUR),
     update("each match with each property", PAIRS_FILES, PAIRS),
@@ -291,14 +291,14 @@ WRITTEN = [
     update("forty stars", FORTY_FILES, FORTY),
     update("16,384 stars", STARS_FILES, STARS),
     Row(
-        "16,385 stars are no pattern",
+        "a pattern of 16,385 stars is refused",
         "update t.hwdb",
         {"t.hwdb": "*" * 16_385 + "\n K=V\n"},
         output=EMPTY,
         messages="t.hwdb:1: H6 pattern not supported: " + "*" * 32 + "\n",
     ),
     Row("files of two folders", "update -r r", FOLDERS_FILES, output=FOLDERS),
-    Row("a file in the place of another", "update -r r", MASKED_FILES, output=MASKED),
+    Row("a file that replaces one of the same name", "update -r r", MASKED_FILES, output=MASKED),
 ]
 
 # A rule that asks the database for the USB device at or above the event's, and such an event.
@@ -315,14 +315,14 @@ USB = index(
 EVENTS = [
     update("the vendor of hubs", {"u.hwdb": "usb:v1D6B*\n ID_VENDOR=Linux\n"}, USB),
     Row(
-        "events ask the index, and no folder of the database is opened",
+        "events reads the index, and opens no folder of the database",
         "events -r r --index i r.rules",
         {"i": USB, "r.rules": ASKS, "r/etc/udev/hwdb.d/bad.hwdb": " A=1\n"},
         BELOW_USB,
         "event add /a/b\nenv ACTION=add\nenv DEVPATH=/a/b\nenv ID_VENDOR=Linux\n\n",
     ),
     Row(
-        "a byte that is no character leads to a node",
+        "a node after a byte that is not UTF-8",
         "events --index i r.rules",
         {"i": with_bytes(WITHOUT_FILE, 57, b"\xff"), "r.rules": ASKS},
         BELOW_USB.encode().replace(b"usb:v1D6Bp0002", b"\xffbc"),

@@ -134,7 +134,7 @@ ROWS = [
         ('FOO{}-="b"', "V2 unknown key: FOO"),
     ),
     verified(
-        "types of IMPORT and RUN that there are not",
+        "unknown types of IMPORT and RUN",
         *(
             (f'{key}{{{name}}}="x"', f"V4 attribute missing or not allowed: {key}")
             for key, names in [("IMPORT", ["kernel", "DB", "dbx", "parents"]), ("RUN", ["file", "db", "Program", "builtins"])]
@@ -150,12 +150,12 @@ ROWS = [
         ),
     ),
     answered(
-        "a test with a mask is not made",
+        "TEST with a mask is not made",
         ['TEST{00777}=="f", TAG="mode"', 'TEST=="f", TAG+="any"'],
         (["A: f="], ["tag any", "note r.rules:1: test not made: f"]),
     ),
     answered(
-        "types of IMPORT as notes name them",
+        "types of IMPORT in notes",
         [f'IMPORT{{{name}}}!="x"' for name in NOT_RUN],
         ([], [f"note r.rules:{line}: import not run: {name}" for line, name in enumerate(NOT_RUN, 1)]),
     ),
@@ -164,38 +164,38 @@ ROWS = [
         ['RUN{builtin}+="b"', 'RUN+="a"', 'RUN{program}+="c"'],
         ([], ["run builtin b", "run program a", "run program c"]),
     ),
-    answered("a label keeps its module", ['SECLABEL{selinux}="u"'], ([], ["label selinux=u"])),
+    answered("a label is reported with its module", ['SECLABEL{selinux}="u"'], ([], ["label selinux=u"])),
     # the operators that are read as another one
     answered("MODE+= is read as =", ['MODE+="1"', 'MODE+="2"'], ([], ["mode 2"])),
     answered("MODE:= is final", ['MODE:="1"', 'MODE="2"'], ([], ["mode 1"])),
     answered("ENV:= is read as =, and not final", ['ENV{A}:="1"', 'ENV{A}="2"'], ([], ["env A=2"])),
     answered("TAG:= is read as =, and not final", ['TAG:="a"', 'TAG+="b"'], (["G: x"], ["tag a", "tag b"])),
     answered(
-        "PROGRAM and IMPORT are done whatever assigns",
+        "PROGRAM and IMPORT with assigning operators",
         ['PROGRAM+="p", TAG="p"', 'IMPORT{builtin}:="kmod"', 'IMPORT{parent}="*", TAG+="i"'],
         (["Q: p", "R: 0"], ["tag p", "note r.rules:2: builtin not run: kmod"]),
     ),
     answered(
-        "PROGRAM!= turns what came of it",
+        "PROGRAM!= holds if the program fails",
         ['PROGRAM!="p", TAG="p"', 'PROGRAM!="q", TAG="q"'],
         (["Q: p", "R: 0", "Q: q", "R: 1"], ["tag q"]),
     ),
     # what a key is for its rule
-    answered("KERNEL!= is a match of the event", ['KERNEL!="sd*", TAG="other"'], ([], ["tag other"])),
+    answered("KERNEL!= compares the event", ['KERNEL!="sd*", TAG="other"'], ([], ["tag other"])),
     answered(
-        "NAME!= is a match of the name",
+        "NAME!= compares the name",
         ['NAME!="lan", TAG="other"', 'NAME="lan"', 'NAME!="lan", TAG+="again"'],
         (["U: net"], ["name lan", "tag other", "env SUBSYSTEM=net"]),
     ),
     answered(
-        "TAGS is a match of one device of the chain",
+        "TAGS compares one device of the chain",
         ['TAGS=="seat", TAG+="found"'],
         (["P: /p", "G: seat"], ["tag found"]),
         (["P: /p", "G: seats"], []),
         path="/p/d",
     ),
     answered(
-        "RESULT is a match of what a program said",
+        "RESULT compares the result of a program",
         ['PROGRAM=="p"', 'RESULT=="1", TAG="one"'],
         (["Q: p", "R: 0 1"], ["tag one"]),
         (["Q: p", "R: 0 2"], []),

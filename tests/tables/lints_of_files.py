@@ -48,25 +48,25 @@ GOOD = [
 
 WHOLE = [
     linted("lints of one rule, in their order", *FILE),
-    linted("lints stand behind what else is told of their rule",
+    linted("lints come after the other messages about their rule",
         ('KERNEL=="*",MODE="x"', "S2 blank after a comma expected: MODE", lint(1, "x"), lint(12, "KERNEL")),
         ('LABEL="a", MODE="x"', "S4 label unused: a", lint(1, "x")),
         ('GOTO="z", MODE="x",', "V7 no later label: z", "S1 one comma expected", lint(1, "x")), 'TAG+="t"', ('MODE="y"', lint(1, "y"))),
-    linted("a line that is no rule has none", ('MODE="x", FOO="1"', "V2 unknown key: FOO"), ('KERNEL=="*", RUN+="a > b", ]', "V1 bad syntax: ]")),
-    linted("a line that stays open has none", ('MODE="x" \\', "V12 line continuation at the file's end")),
-    linted("a line that is too long has none", ('TAG+="t", ' * 1_640 + 'MODE="x"', "V9 line too long")),
-    linted("a file of which nothing is told", *GOOD),
+    linted("a line that is not a rule has no lints", ('MODE="x", FOO="1"', "V2 unknown key: FOO"), ('KERNEL=="*", RUN+="a > b", ]', "V1 bad syntax: ]")),
+    linted("a line continued at the file's end has no lints", ('MODE="x" \\', "V12 line continuation at the file's end")),
+    linted("a line that is too long has no lints", ('TAG+="t", ' * 1_640 + 'MODE="x"', "V9 line too long")),
+    linted("a file without lints", *GOOD),
     verified("no lints without --lint", *written(FILE)),
-    linted("--lint behind the other words", *FILE, words="verify --no-style --format=plain --lint"),
-    Row("--lint behind the files", "verify r.rules --lint", {"r.rules": 'MODE="x"\n'}, output=BAD, messages=MODE, status=1),
+    linted("--lint after the other options", *FILE, words="verify --no-style --format=plain --lint"),
+    Row("--lint after the files", "verify r.rules --lint", {"r.rules": 'MODE="x"\n'}, output=BAD, messages=MODE, status=1),
     Row("without the summary", "verify --no-summary --lint r.rules", {"r.rules": 'MODE="x"\n'}, messages=MODE, status=1),
     Row("without style", "verify --lint --no-style r.rules", {"r.rules": 'MODE="x",TAG+="t"\n'}, output=BAD, messages=MODE, status=1),
-    Row("each file by itself", "verify --lint a.rules r.rules c.rules", {"a.rules": 'ENV{ID_PATH}=="x"\nENV{A}="1", KERNEL=="a"\n',
+    Row("each file has its own lints", "verify --lint a.rules r.rules c.rules", {"a.rules": 'ENV{ID_PATH}=="x"\nENV{A}="1", KERNEL=="a"\n',
         "r.rules": 'MODE="x"\n', "c.rules": 'IMPORT{builtin}="path_id"\nENV{A}=="1"\n'}, output="3 files checked, 2 good, 1 bad\n", messages=MODE,
         status=1),
     Row("files of folders", "verify --lint -r mnt", {"mnt/etc/udev/rules.d/r.rules": 'MODE="x"\n', "mnt/usr/lib/udev/rules.d/s.rules": 'TAG+="t"\n'},
         output="2 files checked, 1 good, 1 bad\n", messages=MODE, status=1),
-    Row("events have no lints", "events -r none r.rules", {"r.rules": 'MODE="x"\n'}),
+    Row("events has no lints", "events -r none r.rules", {"r.rules": 'MODE="x"\n'}),
 ]
 
 # Codes that are left out of the file with many.
@@ -75,15 +75,15 @@ CODES = ["W1", "W4", "W12", "W6,W7,W13", "W1,W2,W3,W4,W5,W6,W7,W8,W9,W10,W11,W12
 IGNORED = [
     *(linted(f"without {codes}", *without(FILE, *codes.split(",")), words=f"verify --lint --ignore {codes}") for codes in CODES),
     verified("a code of lints without --lint", *written(FILE), words="verify --ignore W4"),
-    linted("a comment silences a lint", "# devdry: ignore W1", *without([TWO], "W1"), TWO, words="verify --lint --ignore comments"),
-    linted("a comment silences several", "# devdry: ignore W12, W1", TWO[0], words="verify --lint --ignore comments"),
+    linted("a comment about one lint", "# devdry: ignore W1", *without([TWO], "W1"), TWO, words="verify --lint --ignore comments"),
+    linted("a comment about several lints", "# devdry: ignore W12, W1", TWO[0], words="verify --lint --ignore comments"),
     linted("a comment about the whole file", TWO[0], "# devdry: ignore-file W1,W12", TWO[0], words="verify --lint --ignore comments"),
-    linted("comments are not asked for", "# devdry: ignore W1", TWO),
-    linted("comments that silence what --lint would tell", "# devdry: ignore W1", TWO[0], "# devdry: ignore-file W12",
+    linted("comments without --ignore", "# devdry: ignore W1", TWO),
+    linted("comments about lints, without --lint", "# devdry: ignore W1", TWO[0], "# devdry: ignore-file W12",
         words="verify --ignore comments"),
-    linted("a comment in vain", ("# devdry: ignore W2", "I1 nothing to ignore: W2"), TWO, words="verify --lint --ignore comments"),
-    linted("a comment in vain without --lint", ("# devdry: ignore W2", "I1 nothing to ignore: W2"), TWO[0], words="verify --ignore comments"),
-    linted("a code that there is not", ("# devdry: ignore W14", "I2 unknown code: W14"), TWO, words="verify --lint --ignore comments"),
+    linted("a comment that ignores nothing", ("# devdry: ignore W2", "I1 nothing to ignore: W2"), TWO, words="verify --lint --ignore comments"),
+    linted("a comment that ignores nothing, without --lint", ("# devdry: ignore W2", "I1 nothing to ignore: W2"), TWO[0], words="verify --ignore comments"),
+    linted("an unknown code", ("# devdry: ignore W14", "I2 unknown code: W14"), TWO, words="verify --lint --ignore comments"),
 ]
 
 # For each lint files that cause it, with its places.
@@ -101,11 +101,11 @@ EACH = {
     "W11": ['KERNEL=="<W11|^sd$>"', 'ENV{A}!="<W11|sd{a,b}>"', 'KERNEL=="<W11|sd\\d>"'],
     "W12": ['<W12|KERNEL>=="*", <W12|ENV>{A}=="a|*"'],
     "W13": ['GOTO="end"', '\t<W13=end|TAG>+="t"', 'LABEL="end"'],
-    "lints beside other messages": ['<S3|TAG>:="a",<S2|MODE>="<W1|x>", KERNEL=="<W11|^a>"', '<V2|FOO>="1", MODE="x"'],
-    "several lints of one place": ['SYMLINK+="a", RUN+="<W2 W3|cp a; b>"'],
+    "lints with other messages": ['<S3|TAG>:="a",<S2|MODE>="<W1|x>", KERNEL=="<W11|^a>"', '<V2|FOO>="1", MODE="x"'],
+    "several lints at one place": ['SYMLINK+="a", RUN+="<W2 W3|cp a; b>"'],
     "lints of a continued rule": ['KERNEL=="a", \\', '  MODE="<W1|rw>", \\', "# between", '  SYMLINK+="<W9|/dev/a>"'],
     "a rule never reached that is continued": ['GOTO="end"', '  <W13=end|KERNEL>=="a", \\', '  MODE="<W1|x>"', 'LABEL="end"'],
-    "signs in a value": ['MODE="<W1|a,b::c:d>"', 'RUN+="<W3|rm 50%%, {\'it\': ä}>"'],
+    "quotes and backslashes in a value": ['MODE="<W1|a,b::c:d>"', 'RUN+="<W3|rm 50%%, {\'it\': ä}>"'],
     "a long value": ['RUN+="<W3|rm ' + "long/" * 12 + '>"'],
 }
 

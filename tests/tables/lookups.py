@@ -32,11 +32,11 @@ def asked(name, text, lines, output, messages="", status=0):
 ANSWERS = [
     asked("each line is answered", RECORDS, "abc\nx\nab\n", ABC + NONE + AB),
     asked("the last line has no newline", RECORDS, "ab\nabc", AB + ABC),
-    asked("one line without a newline", RECORDS, "abc", ABC),
+    asked("a single line without a newline", RECORDS, "abc", ABC),
     asked("nothing fits", RECORDS, "x\n", NONE),
     asked("no input", RECORDS, "", ""),
-    asked("a newline alone is an empty line", ANY, "\n", "A=1\n\n"),
-    asked("empty lines are answered", ANY, "\nx\n\n", "A=1\n\nA=1\nB=2\n\nA=1\n\n"),
+    asked("a single newline is an empty line", ANY, "\n", "A=1\n\n"),
+    asked("an empty line is answered", ANY, "\nx\n\n", "A=1\n\nA=1\nB=2\n\nA=1\n\n"),
     asked("an empty line that nothing fits", RECORDS, "\n\nab\n", NONE + NONE + AB),
     asked("a carriage return is part of the line", "ab\n A=1\n\nab?\n B=2\n", "ab\r\nab\n", "B=2\n\nA=1\n\n"),
     asked("blanks are part of the line", "ab\n A=1\n\n?ab\n B=2\n\nab?\n C=3\n", " ab\nab\t\nab\n", "B=2\n\nC=3\n\nA=1\n\n"),
@@ -59,7 +59,7 @@ ANSWERS = [
     Row("sources of a file whose name is escaped", ["query", "--sources", "-", "a\\\n.hwdb"], {"a\\\n.hwdb": RECORDS}, "ab\n",
         output="a\\x5C\\x0A.hwdb:2: A=1\na\\x5C\\x0A.hwdb:3: B=2\n\n"),
     Row("a hyphen among the files is a file of that name", "query - -", {"-": RECORDS}, "ab\n", output=AB),
-    Row("behind two hyphens", "query -- - t.hwdb", {"t.hwdb": RECORDS}, "ab\n", output=AB),
+    Row("after two hyphens", "query -- - t.hwdb", {"t.hwdb": RECORDS}, "ab\n", output=AB),
     Row("folders", "query -r r -", {"r/usr/lib/udev/hwdb.d/60-a.hwdb": RECORDS}, "ab\n", output=AB),
     Row("no file", "query -r none -", {}, "ab\n", output=NONE),
     Row("two files", "query - a b", {"a": "m\n A=1\n", "b": "m*\n A=2\n B=3\n"}, "m\nmx\n", output="A=2\nB=3\n\nA=2\nB=3\n\n"),
@@ -71,8 +71,8 @@ INDEXES = [
     Row("an index of version 1, with sources", "query --sources --index i -", {"i": WITHOUT_FILE}, "ax\nx\n", output="-: K=V\n\n\n"),
     Row("an index and a file", "query --index i - t.hwdb", {"i": INDEX, "t.hwdb": RECORDS}, "m\n", messages=Begins(b"error: the argument '--index <FILE>'"), status=2),
     Row("an index is refused before the input is read", "query --index i -", {"i": INDEX[:-1]}, "m\n", messages="devdry: index: size\n", status=1),
-    Row("an index that is absent", "query --index i -", {}, "m\n", messages="devdry: cannot read i\n", status=3),
-    Row("a file that is absent", "query - t.hwdb", {}, "m\n", messages="devdry: cannot read t.hwdb\n", status=3),
+    Row("an index that does not exist", "query --index i -", {}, "m\n", messages="devdry: cannot read i\n", status=3),
+    Row("a file that does not exist", "query - t.hwdb", {}, "m\n", messages="devdry: cannot read t.hwdb\n", status=3),
 ]
 
 BOUNDS = [
@@ -81,7 +81,7 @@ BOUNDS = [
     asked("a line of 65,537 bytes", "a*\n A=1\n", f"ab\nx\n{LONG}a\nab\n", "A=1\n\n\n", "devdry: line 3: too long\n", 1),
     asked("a first line of 65,537 bytes", "a*\n A=1\n", f"{LONG}a\n", "", "devdry: line 1: too long\n", 1),
     asked("a last line of 65,537 bytes", "a*\n A=1\n", f"ab\n{LONG}a", "A=1\n\n", "devdry: line 2: too long\n", 1),
-    asked("empty lines count", "a*\n A=1\n", f"\n\n{LONG}a", "\n\n", "devdry: line 3: too long\n", 1),
+    asked("empty lines are counted", "a*\n A=1\n", f"\n\n{LONG}a", "\n\n", "devdry: line 3: too long\n", 1),
     Row(
         "a line that is too long, after messages",
         "query - t.hwdb",
@@ -90,7 +90,7 @@ BOUNDS = [
         messages="t.hwdb:1: H2 match without a property: m\ndevdry: line 1: too long\n",
         status=1,
     ),
-    Row("a line that is too long, by an index", "query --index i -", {"i": INDEX}, f"m\n{LONG}a\nm\n", output="A=1\nB=2\n\n", messages="devdry: line 2: too long\n", status=1),
+    Row("a line that is too long, with an index", "query --index i -", {"i": INDEX}, f"m\n{LONG}a\nm\n", output="A=1\nB=2\n\n", messages="devdry: line 2: too long\n", status=1),
 ]
 
 ROWS = ANSWERS + INDEXES + BOUNDS

@@ -57,7 +57,7 @@ ROWS = [
         ),
     ),
     answered(
-        "keys of one kind as they are written",
+        "keys of one kind in the order written",
         ['PROGRAM!="b", PROGRAM!="a", TEST!="/y", TEST!="/x"'],
         (
             [],
@@ -70,7 +70,7 @@ ROWS = [
         ),
     ),
     answered(
-        "matches of the event as they are written",
+        "matches of the event in the order written",
         ['SYSCTL{a}!="1", KERNEL=="x", SYSCTL{b}!="1"'],
         ([], ["note r.rules:1: sysctl not read: a"]),
     ),
@@ -85,12 +85,12 @@ ROWS = [
         ([], ["link l1", "env X=1", "attr a=1"]),
     ),
     answered(
-        "assignments of one kind as they are written",
+        "assignments of one kind in the order written",
         ['ENV{A}="1", ENV{B}="$env{A}", ENV{C}="$env{D}", ENV{D}="2"'],
         (["E: C=0"], ["env A=1", "env B=1", "env D=2"]),
     ),
     answered(
-        "commands of both types as they are written",
+        "commands of both types in the order written",
         ['RUN{builtin}+="b", RUN+="a", RUN{builtin}+="c"'],
         ([], ["run builtin b", "run program a", "run builtin c"]),
     ),

@@ -57,7 +57,7 @@ def matched(pattern, fitting, others):
     """Which texts fit, as a match of a property answers it. (A name that begins with a dot is not printed.)"""
     texts = [(text, ["tag fits"]) for text in fitting] + [(text, []) for text in others]
     return Row(
-        f"match: what fits {name_of(pattern)}",
+        f"match: texts that fit {name_of(pattern)}",
         "events -r none r.rules",
         {"r.rules": f'ENV{{.T}}=="{pattern}", TAG="fits"\n'},
         input=b"".join(block("/d", f"E: .T={text}") for text, _ in texts),
@@ -81,14 +81,14 @@ def refused(pattern):
     """A pattern with a class, as a database file and as a rules file have it."""
     return [
         Row(
-            f"query: {pattern} is no pattern",
+            f"query: {pattern} is not a pattern",
             "query a t.hwdb",
             {"t.hwdb": f"a\n{pattern}\n HIT=1\n"},
             output="HIT=1\n",
             messages=f"t.hwdb:2: H6 pattern not supported: {pattern}\n",
         ),
         Row(
-            f"verify: {pattern} is no pattern",
+            f"verify: {pattern} is not a pattern",
             "verify r.rules",
             {"r.rules": f'KERNEL=="{pattern}"\n'},
             output="1 files checked, 0 good, 1 bad\n",
@@ -127,7 +127,7 @@ ROWS = [
         messages=f"t.hwdb:2: H6 pattern not supported: {'[' * 32}\n",
     ),
     Row(
-        "query: a bar is a byte of a pattern",
+        "query: a bar is an ordinary byte of a pattern",
         "query a|b t.hwdb",
         {"t.hwdb": "a|b\n BOTH=1\n\na\n ONE=1\n"},
         output="BOTH=1\n",

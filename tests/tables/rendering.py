@@ -69,7 +69,7 @@ def network_name(rule, text):
 
 PLAIN = [
     of_disk(
-        "what substitutions stand for",
+        "the value of each substitution",
         b'PROGRAM=="p"',
         ("$kernel", "cciss/c0d1"),
         ("%n", "1"),
@@ -120,7 +120,7 @@ PLAIN = [
         ("a\\tb", "a\\x5Ctb"),
     ),
     of_network(
-        "a network device without a parent, and nothing is selected",
+        "each substitution at a network device without a parent and without a selected device",
         ("$kernel", "eth0"),
         ("$number", "0"),
         ("$devnode", "/dev/n0"),
@@ -135,7 +135,7 @@ PLAIN = [
 
 LINKS = [
     safe(
-        "what stands in the name of a link",
+        "substitutions and special characters in NAME",
         (b"$env{L}", b"a_b"),
         (b"%c", b"ab cd ef"),
         (b"\\x2F\\x2", b"\\x5Cx2F\\x5Cx2"),
@@ -149,7 +149,7 @@ LINKS = [
         (b"!()*,;<>?[]^`{|}~", b"_" * 17),
     ),
     safe("a result keeps its spaces", (b"%c", b"ab cd"), program=b"q"),
-    safe("pieces are judged as one text", (b"\xc3$env{A}", b"\xc3\xa4"), (b"$env{A}", b"_"), (b"\\$kernel", b"_cciss/c0d1")),
+    safe("UTF-8 is checked in the whole rendered text", (b"\xc3$env{A}", b"\xc3\xa4"), (b"$env{A}", b"_"), (b"\\$kernel", b"_cciss/c0d1")),
     links(b'SYMLINK+="$env{L}"', b"a_b"),
     links(b'SYMLINK+="x/$env{L} y;z"', b"x/a_b", b"y_z"),
     links(b'SYMLINK+="%c"', b"ab", b"cd", b"ef"),

@@ -37,7 +37,7 @@ ROWS = [
         ('KERNEL=="a", ,TAG="t"', comma("TAG"), blank("TAG")),
     ),
     verified(
-        "gaps at the end",
+        "gaps at the end of a line",
         'KERNEL=="a" \t',
         ('KERNEL=="a",', comma()),
         ('KERNEL=="a" , ', comma()),
@@ -45,7 +45,7 @@ ROWS = [
         ('KERNEL=="a", ENV{B}="1",', comma()),
     ),
     verified(
-        "what is said of one line stands by place",
+        "messages about one line are sorted by place",
         ('ENV{A}:="1",TAG+="t"', read_as("ENV"), blank("TAG")),
         ('KERNEL=="a"ENV{B}="1" , ,TAG="t"', comma("ENV"), comma("TAG"), blank("TAG")),
         (
@@ -67,7 +67,7 @@ ROWS = [
         ),
     ),
     verified(
-        "operators that are read as = and such that are not",
+        "operators that are read as =, and operators that are not",
         ('ENV{A}:="1"', read_as("ENV")),
         'ENV{A}+="1"',
         'IMPORT{db}+="x"',
@@ -77,7 +77,7 @@ ROWS = [
     ),
     # names that are given twice come before points of style, and the label that no jump reaches comes after them
     verified(
-        "labels and jumps of one line",
+        "several labels and jumps in one line",
         'GOTO="a"',
         ('LABEL="a", LABEL="b", GOTO="c", GOTO="d"', "V8 label or goto given twice: b", "V8 label or goto given twice: d"),
         'LABEL="c"',
@@ -98,7 +98,7 @@ ROWS = [
         ),
     ),
     answered(
-        "the first label and the first jump of a rule count, and the rule stands",
+        "the first label and the first jump of a rule count, and the rule is kept",
         [
             'GOTO="a"',
             'ENV{N}="1"',
@@ -112,18 +112,18 @@ ROWS = [
         messages="r.rules:4: V8 label or goto given twice: b\nr.rules:4: V8 label or goto given twice: d\n",
     ),
     answered(
-        "what is not written well means the same",
+        "faults of style do not change the meaning",
         ['ENV{A}:="1",ENV{B}="2"ENV{C}="3" , ,'],
         ([], ["env A=1", "env B=2", "env C=3"]),
     ),
     Row(
-        "style may be left out",
+        "messages about style may be left out",
         "verify --no-style r.rules",
         {"r.rules": UNUSED},
         output="1 files checked, 1 good, 0 bad\n",
     ),
     Row(
-        "style may be left out, what is wrong may not",
+        "--no-style does not leave out other messages",
         "verify --no-style r.rules",
         {"r.rules": UNUSED + 'GOTO="y",TAG="t"\n'},
         output="1 files checked, 0 good, 1 bad\n",
@@ -137,5 +137,5 @@ ROWS = [
         messages="".join(f"r.rules:1: {said}\n" for said in [blank("TAG"), read_as("TAG"), comma(), "S4 label unused: x"]),
         status=1,
     ),
-    Row("both may be left out", "verify --no-summary --no-style r.rules", {"r.rules": UNUSED}),
+    Row("messages about style and the summary may be left out", "verify --no-summary --no-style r.rules", {"r.rules": UNUSED}),
 ]

@@ -72,7 +72,7 @@ ROWS = [
         ("%k%n%p%b%s{a}%E{b}%M%m%c%P%r%S%N", "sda11/p/sda1sda1x yz81ab  cd ef above/dev/sys/dev/sda1"),
     ),
     rendered(
-        "what stands beside a substitution",
+        "texts before and after a substitution",
         ("", ""),
         ("plain", "plain"),
         ("$kernelx%%", "sda1x%"),
@@ -105,23 +105,23 @@ ROWS = [
         ("$result{0002+}", "cd ef "),
     ),
     answered(
-        "a property may have a name with a blank",
+        "a property name with a blank",
         ['ENV{T}="$env{a b}%E{c=}"'],
         (["E: a b=1", "E: c=2"], ["env T=1", "env a b=1", "env c=2"]),
     ),
     answered(
-        "what a bare device gives",
+        "substitutions at a device without lines",
         ['ENV{T}="<$id|$driver|$attr{a}|$env{b}|$major|$minor|$result|$parent|$links|$devnode|%n>"'],
         ([], ["env T=<||||0|0|||||>"]),
     ),
     answered(
-        "a name that is assigned",
+        "an assigned name",
         ['NAME="lan"', 'ENV{T}="$name $kernel"'],
         (["U: net"], ["name lan", "env SUBSYSTEM=net", "env T=lan d"]),
     ),
-    answered("links as they are now", ['SYMLINK+="b"', 'ENV{T}="$links"'], (["S: a"], ["link a", "link b", "env T=a b"])),
+    answered("$links has the current links", ['SYMLINK+="b"', 'ENV{T}="$links"'], (["S: a"], ["link a", "link b", "env T=a b"])),
     verified(
-        "names that no substitution has",
+        "unknown substitutions",
         *unknown(
             "$nope",
             "$sysfs",
@@ -145,7 +145,7 @@ ROWS = [
         ),
     ),
     verified(
-        "braces that are missing, empty or open",
+        "braces that are missing, empty or not closed",
         *unknown(
             "$attr",
             "$attrs{a}",
@@ -163,7 +163,7 @@ ROWS = [
         ),
     ),
     verified(
-        "numbers of words that there are not",
+        "invalid word numbers",
         *unknown(
             "%c{0}",
             "%c{0+}",
@@ -181,7 +181,7 @@ ROWS = [
         ),
     ),
     verified(
-        "a fault behind others, and behind what is none",
+        "a fault after other substitutions",
         *unknown("%k$env{}$nope", "$$$nope", "%%%", "$kernel$", "%c{1}%c{0}"),
         'ENV{B}="%c{65535}$result{1+}$sys$kernel%%$$%k{%%"',
     ),

@@ -16,7 +16,7 @@ def prefix(line, letters):
 
 ROWS = [
     verified(
-        "lines of no tokens",
+        "lines without a valid token",
         bad('KERNEL=="sd*'),
         bad('KERNEL=="a'),
         bad('KERNEL=="a\\\\ b', shown='KERNEL=="a\\x5C\\x5C b'),
@@ -47,7 +47,7 @@ ROWS = [
         b"# \0",
     ),
     verified(
-        "faults behind tokens stand at their own token",
+        "faults after tokens are reported at their own token",
         bad('KERNEL=="a" "b"', 12),
         bad('KERNEL=="a", KERNEL=="sd*', 13),
         bad('KERNEL=="a",, B', 14),
@@ -55,7 +55,7 @@ ROWS = [
         bad('KERNEL=="a" # b', 12),
     ),
     verified(
-        "letters before a quote",
+        "letters that are not allowed before a quote",
         prefix('KERNEL==x"a"', "x"),
         prefix('KERNEL==ii"x"', "ii"),
         prefix('KERNEL==ee"x"', "ee"),
@@ -76,7 +76,7 @@ ROWS = [
         bad('KERNEL==x'),
     ),
     verified(
-        "letters that may stand there",
+        "letters that are allowed before a quote",
         'KERNEL==i"SDA"',
         'KERNEL!=i"SDA"',
         'KERNEL==ie"SDA"',
@@ -86,7 +86,7 @@ ROWS = [
         'SYMLINK-=e"x"',
     ),
     verified(
-        "escapes that there are not",
+        "invalid escapes",
         *(
             bad(f'A=e"{escape}"', shown=f'A=e"{escape}"'.replace("\\", "\\x5C"))
             for escape in [
@@ -97,7 +97,7 @@ ROWS = [
         ),
     ),
     answered(
-        "what escapes mean",
+        "the meaning of escapes",
         [
             'ENV{A}=e"\\x41\\102\\n"',
             'ENV{B}=e"\\s\\u00E9"',
@@ -119,18 +119,18 @@ ROWS = [
         ),
     ),
     answered(
-        "a plain value has one escape",
+        "without e a value has one escape",
         ['ENV{A}="a\\"b", ENV{B}="\\n\\\\n", ENV{C}="\\\\\\"", ENV{D}="\\x41"'],
         ([], ['env A=a"b', "env B=\\x5Cn\\x5C\\x5Cn", 'env C=\\x5C\\x5C"', "env D=\\x5Cx41"]),
     ),
     answered(
-        "an attribute is any bytes up to a brace",
+        "an attribute has any bytes up to a brace",
         ['ENV{a b,="c{\\}="1", ENV{\\n}="2"'],
         ([], ['env \\x5Cn=2', 'env a b,="c{\\x5C=1']),
     ),
     # SYMLINK takes each of the six operators
     verified(
-        "each operator, blanks before and behind it",
+        "each operator, with blanks before and after it",
         'SYMLINK=="1", SYMLINK!="2", SYMLINK +="3", SYMLINK-= "4", SYMLINK := "5", SYMLINK\t=\t"6"',
     ),
     answered(
@@ -142,9 +142,9 @@ ROWS = [
     answered("adding", ['SYMLINK += "b"'], (["S: a"], ["link a", "link b"])),
     answered("removing", ['SYMLINK-= "b"'], (["S: a", "S: b"], ["link a"])),
     answered("assigning", ['SYMLINK="b"', 'SYMLINK+="c"'], (["S: a"], ["link b", "link c"])),
-    answered("assigning for the last time", ['SYMLINK := "b"', 'SYMLINK+="c"'], (["S: a"], ["link b"])),
+    answered("assigning with :=", ['SYMLINK := "b"', 'SYMLINK+="c"'], (["S: a"], ["link b"])),
     answered(
-        "a dropped line gives its label and its jump away",
+        "a dropped line has no label and no jump",
         ['GOTO="x", FOO="1"', 'ENV{A}="1"', 'GOTO="y"', 'ENV{B}="1"', 'LABEL="y", FOO="1"', 'ENV{C}="1"'],
         ([], ["env A=1", "env B=1", "env C=1"]),
         messages="r.rules:1: V2 unknown key: FOO\nr.rules:3: V7 no later label: y\nr.rules:5: V2 unknown key: FOO\n",

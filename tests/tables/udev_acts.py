@@ -33,7 +33,7 @@ CASES = [
       'RESULT=="a", ENV{T}="1"\n'),
      answering(DISK, ("ata_id a  b c", 0, "a b c")),
      ['env R=a b c|b|c|b c||a b c|b|b c||', 'env S=1']),
-    ('a result is made safe',
+    ('unsafe bytes of a result are replaced',
      ('PROGRAM="ata_id a=01b=7fc;de=c3=a9=ff(f)=09g=0bh/,=20=20=0a=0a", ENV{P}="[%c]"\n' +
       'RESULT=="*g h*", ENV{Q}="1"\n'),
      answering(DISK, ("ata_id a=01b=7fc;de=c3=a9=ff(f)=09g=0bh/,=20=20=0a=0a", 0, "a\x01b\x7fc;de\u00e9\udcff(f)\tg\vh/,  ")),
@@ -53,7 +53,7 @@ CASES = [
       'PROGRAM!="ata_id exit 3 two", ENV{P}="[%c]"\n'),
      answering(DISK, ("ata_id one", 0, "one"), ("ata_id exit 3 two", 3, "two")),
      ['env P=[]']),
-    ('the result is empty where the command is rendered',
+    ('the result is empty while the command is rendered',
      ('PROGRAM="ata_id one"\n' +
       'PROGRAM="ata_id x%cy", ENV{P}="%c"\n'),
      answering(DISK, ("ata_id one", 0, "one"), ("ata_id xy", 0, "xy")),
@@ -62,7 +62,7 @@ CASES = [
      'RESULT=="two", PROGRAM="ata_id two", ENV{P}="1"\n',
      answering(DISK, ("ata_id two", 0, "two")),
      ['env P=1']),
-    ('a part of a result that is no number',
+    ('a part of a result that is not a number',
      ('PROGRAM="ata_id one two"\n' +
       'ENV{A}="x$result{a}z", ENV{B}="x%c{-1}z", ENV{C}="x%c{2}z"\n' +
       'ENV{D}="x%c{3}z"\n'),
@@ -74,16 +74,16 @@ CASES = [
       'RUN+="/bin/b [$env{LATER}]"\n'),
      DISK,
      ['env LATER=1', 'run program /bin/a []', 'run program /bin/b [1]']),
-    ('RUN has the properties and links of its rule',
+    ('RUN is rendered with the properties and links at its rule',
      'RUN+="$env{Y} $links", ENV{Y}="2", SYMLINK+="m"\n',
      DISK,
      ['link m', 'env Y=2', 'run program 2 m']),
-    ('RUN has the result of its rule',
+    ('RUN is rendered with the result at its rule',
      ('RUN+="x %c", PROGRAM="ata_id r1"\n' +
       'PROGRAM="ata_id r2"\n'),
      answering(DISK, ("ata_id r1", 0, "r1"), ("ata_id r2", 0, "r2")),
      ['run program x r1']),
-    ('RUN has the device of its rule',
+    ('RUN is rendered with the selected device at its rule',
      ('SUBSYSTEMS=="usb", RUN+="y $id"\n' +
       'SUBSYSTEMS=="pci", RUN+="z $id"\n' +
       'RUN+="w $id"\n'),
@@ -93,7 +93,7 @@ CASES = [
      'RUN+="/bin/a", RUN{builtin}+="kmod load x", RUN+="/bin/b", RUN{builtin}+="kmod load y"\n',
      DISK,
      ['run builtin kmod load x', 'run builtin kmod load y', 'run program /bin/a', 'run program /bin/b']),
-    ('rules come one behind another',
+    ('commands are in the order of their rules',
      ('RUN+="/bin/a"\n' +
       'RUN{builtin}+="kmod load x"\n' +
       'RUN+="/bin/b"\n'),
@@ -108,13 +108,13 @@ CASES = [
      DISK,
      ['run program /bin/b', 'run program /bin/b', 'run program /bin/b', 'run builtin kmod load x',
       'run builtin kmod load x', 'run program kmod load x']),
-    ('commands begin anew',
+    ('= replaces the commands',
      ('RUN+="/bin/a"\n' +
       'RUN{builtin}="kmod load x"\n' +
       'RUN+="/bin/b"\n'),
      DISK,
      ['run builtin kmod load x', 'run program /bin/b']),
-    ('a program of = takes away the builtin of its rule',
+    ('= of a program removes the builtin of its rule',
      'RUN="/bin/a", RUN{builtin}+="kmod load x"\n',
      DISK,
      ['run program /bin/a']),
@@ -125,18 +125,18 @@ CASES = [
       'RUN=""\n'),
      DISK,
      ['run program /bin/b']),
-    ('a final builtin keeps out the program of its rule',
+    ('a final builtin excludes the program of its rule',
      ('RUN{builtin}:="kmod load a", RUN+="b"\n' +
       'RUN+="c"\n'),
      DISK,
      ['run builtin kmod load a']),
-    ('an empty command begins anew',
+    ('an empty command with = removes the commands',
      ('RUN+="/bin/a"\n' +
       'RUN=""\n' +
       'RUN+="/bin/z"\n'),
      DISK,
      ['run program /bin/z', 'note r.rules:2: no value: RUN']),
-    ('a command that comes to nothing',
+    ('a command that is empty once rendered',
      ('RUN+="$env{NONE}"\n' +
       'RUN+=" "\n' +
       'RUN+="/bin/x$env{NONE} "\n'),
@@ -150,7 +150,7 @@ CASES = [
      DISK,
      ['link q', 'env A=xsday', 'env B=a$disk%z', 'env C=q',
       'env D=/syst|/dev/sda|sda|Disk|||/dev|/sys|/dev/sda|8:0|||', 'run program /bin/x 100%']),
-    ('lone signs',
+    ('a $ or % alone',
      ('ENV{E}="100%"\n' +
       'ENV{F}="$%"\n' +
       'ENV{G}="$$$"\n' +
@@ -161,7 +161,7 @@ CASES = [
      'IMPORT{parent}="ID_*", ENV{A}="1"\n',
      THING,
      ['env A=1', 'env ID_BOTH=x', 'env ID_BUS=usb']),
-    ('IMPORT{parent} is done where nothing fits',
+    ('IMPORT{parent} is done even if nothing fits',
      ('IMPORT{parent}="NONE_*", ENV{A}="1"\n' +
       'IMPORT{parent}!="NONE_*", ENV{B}="1"\n'),
      THING,
@@ -190,12 +190,12 @@ CASES = [
       'IMPORT{parent}="ID_BO\\TH", ENV{B}="1"\n'),
      THING,
      ['env A=1', 'env B=1', 'env ID_BOTH=x', 'env ID_BUS=usb']),
-    ('an empty value of the database removes',
+    ('an empty value of the database removes the property',
      ('ENV{ID_Y}="old", ENV{ID_X}="old"\n' +
       'IMPORT{builtin}="hwdb usb:v1", ENV{A}="1"\n'),
      THING,
      ['env A=1', 'env ID_X=1']),
-    ('a value of the database that alone is empty',
+    ('a record of the database with only an empty value',
      ('ENV{ID_Y}="old"\n' +
       'IMPORT{builtin}="hwdb usb:v2", ENV{A}="1"\n'),
      THING,
@@ -210,7 +210,7 @@ CASES = [
       'IMPORT{builtin}!="hwdb usb:v9", ENV{B}="1"\n'),
      THING,
      ['env B=1']),
-    ("the beginning of a builtin's name",
+    ("a prefix of a builtin's name",
      'IMPORT{builtin}="h usb:v1", ENV{A}="1"\n',
      THING,
      ['env A=1', 'env ID_X=1']),
@@ -238,7 +238,7 @@ CASES = [
      'IMPORT{program}="ata_id exit 0", ENV{Z}="1"\n',
      answering(DISK, ('ata_id exit 0', 0, '')),
      ['env Z=1']),
-    ('the last of several lines counts, and an empty value between quotes removes',
+    ('the last of several lines counts, and an empty value in quotes removes the property',
      f'ENV{{C}}="old"\nIMPORT{{program}}="{AGAIN[0]}"\n',
      answering(DISK, AGAIN),
      ['env A=3']),
@@ -250,11 +250,11 @@ CASES = [
      f'IMPORT{{program}}="{BYTES[0]}"\n',
      answering(DISK, BYTES),
      ['env A=a\\x41\\"', 'env B=;|$kernel%k', 'env C=\u00e9\udcff', 'env D=\vx\f', 'env E=a\x01b']),
-    ('any name is imported',
+    ('properties of any name are imported',
      f'IMPORT{{program}}="{NAMES[0]}", ENV{{Z}}="$env{{.X}}"\n',
      answering(DISK, NAMES),
      ['env Z=1', 'env a.b/c=4', 'env \u00e9=3']),
-    ('names of the event are imported, and its matches do not look at them',
+    ('properties of the event are imported, and matches of the event do not use them',
      (f'IMPORT{{program}}="{OWN[0]}"\n' +
       'ACTION=="add", DEVPATH=="*/sda", ENV{B}="1"\n' +
       'ENV{ACTION}=="x", ENV{C}="$env{DEVPATH} $devpath $devnode"\n'),
@@ -287,7 +287,7 @@ CASES = [
      DISK,
      ['env Z=1', 'note r.rules:1: no answer for program: ata_id exit 4',
       'note r.rules:2: no answer for program: ata_id exit 4']),
-    ('a command of an import that is too long',
+    ('an import whose command is too long',
      (f'ENV{{L}}="{"x" * 500}"\n' +
       f'IMPORT{{program}}="ata_id exit 5 {"$env{L}" * 33}", ENV{{Y}}="1"\n' +
       f'IMPORT{{program}}!="ata_id exit 5 {"$env{L}" * 33}", ENV{{Z}}="1"\n'),
@@ -296,15 +296,15 @@ CASES = [
     words_of_hwdb('words of hwdb', THING, ['env ID_X=1'],
                   ('hwdb --nosuch usb:v1', True), ('hwdb -p usb: v1', True), ('hwdb --lookup-prefix usb: v1', True),
                   ("hwdb 'usb:v1", True), ('hwdb usb:v1 other', True), ('hwdb --lookup=usb: v1', True)),
-    words_of_hwdb('letters of hwdb', THING, ['env ID_X=1'],
+    words_of_hwdb('short options of hwdb', THING, ['env ID_X=1'],
                   ('hwdb -pusb: v1', True), ('hwdb -xpusb: v1', True), ('hwdb -xp usb: v1', True), ('hwdb -p=usb: v1', False),
                   ('hwdb -x usb:v1', True), ('hwdb -pusb: -f ID_X v1', True), ('hwdb -fID_N usb:v1', False), ('hwdb - usb:v1', False),
                   ('hwdb -f ID_N -f ID_X usb:v1', True)),
-    words_of_hwdb('the end of options of hwdb, and options without a value', THING, ['env ID_X=1'],
+    words_of_hwdb('options of hwdb: their end, and options without a value', THING, ['env ID_X=1'],
                   ('hwdb -- usb:v1', True), ('hwdb -- -p', False), ('hwdb usb:v1 -f ID_N', False), ('hwdb usb:v1 -- -f ID_N', True),
                   ('hwdb -p -- v1', False), ('hwdb -p', False), ('hwdb usb:v1 -f', True), ('hwdb usb:v1 --filter', True),
                   ('hwdb other usb:v1', False)),
-    words_of_hwdb('names of options of hwdb', THING, ['env ID_X=1'],
+    words_of_hwdb('long options of hwdb', THING, ['env ID_X=1'],
                   ('hwdb --l=usb: v1', True), ('hwdb --l usb: v1', True), ('hwdb --look= usb:v1', True), ('hwdb --lookup-prefixes=usb: v1', False),
                   ('hwdb --=usb: usb:v1', True), ('hwdb --filter=ID_N --fil ID_X usb:v1', True), ('hwdb --f= usb:v1', False)),
     words_of_hwdb('blanks and quotes of hwdb', THING, ['env ID_X=1'],
@@ -364,23 +364,23 @@ CASES = [
      LOOKS_UP,
      plugged('A: idVendor=0012', 'A: idProduct=100ff', 'A: product=N'),
      ['env A=1', 'env ID_HUB=1']),
-    ('a product that is no number',
+    ('a product that is not a number',
      LOOKS_UP,
      plugged('A: idVendor=0012', 'A: idProduct=00fg', 'A: product=N'),
      ['env A=1', 'env ID_HUB=1']),
-    ('an interface has no modalias made up',
+    ('no modalias is made up for an interface',
      LOOKS_UP,
      plugged(*NUMBERS, 'A: product=N', kind='usb_interface'),
      ['env A=1', 'env ID_HUB=1']),
-    ('a type that is imported makes no USB device',
+    ('an imported DEVTYPE does not make a device a USB device',
      f'IMPORT{{program}}="{TYPE[0]}"\n' + LOOKS_UP,
      answering(plugged(*NUMBERS, 'A: product=N', kind=None), TYPE),
      ['env A=1', 'env DEVTYPE=usb_device', 'env ID_HUB=1']),
-    ('a USB device stays one whatever type is imported',
+    ('a USB device stays a USB device with any imported DEVTYPE',
      f'IMPORT{{program}}="{NO_TYPE[0]}"\n' + LOOKS_UP,
      answering(plugged(*NUMBERS, 'A: product=N'), NO_TYPE),
      ['env A=1', 'env DEVTYPE=none', 'env ID_N=1']),
-    ('a modalias that a rule sets, and one that it takes away',
+    ('a modalias that a rule sets, and one that a rule removes',
      ('ENV{MODALIAS}="usb:v1"\n' +
       'IMPORT{builtin}="hwdb --subsystem=usb", ENV{A}="1"\n' +
       'ENV{MODALIAS}=""\n' +
@@ -420,12 +420,12 @@ CASES = [
      answering(DISK, ("?*", 0, "")),
      ['env A=1', 'env D=1', 'env E=1', 'note r.rules:1: import not run: db', 'note r.rules:2: import not run: db',
       'note r.rules:5: import not run: file', 'note r.rules:6: import not run: file']),
-    ('IMPORT{db} of a device that is new',
+    ('IMPORT{db} of a new device',
      ('IMPORT{db}=="ID_A", ENV{A}="1"\n' +
       'IMPORT{db}!="ID_A", ENV{B}="1"\n'),
      DISK,
      ['env B=1', 'note r.rules:1: import not run: db', 'note r.rules:2: import not run: db']),
-    ('TEST of an attribute, a folder and nothing',
+    ('TEST of an attribute, a folder and an absent file',
      ('TEST=="model", ENV{A}="1"\n' +
       'TEST=="q", ENV{E}="1"\n' +
       'TEST=="q/a", ENV{F}="1"\n' +
@@ -433,7 +433,7 @@ CASES = [
       'TEST!="q/none", ENV{H}="1"\n'),
      STAR,
      ['env A=1', 'env E=1', 'env F=1', 'env H=1']),
-    ('TEST with a folder of any name',
+    ('TEST with */',
      ('TEST=="q/*/x", ENV{B}="1"\n' +
       'TEST=="*/x", ENV{C}="1"\n' +
       'TEST!="r/*/x", ENV{D}="1"\n' +
@@ -446,7 +446,7 @@ CASES = [
       'TEST!="[usb/usb1]none", ENV{L}="1"\n'),
      DISK,
      ['env J=1', 'env K=1', 'env L=1']),
-    ('TEST of a device that is not there',
+    ('TEST of a device that does not exist',
      ('TEST=="[usb/none]x", ENV{L}="1"\n' +
       'TEST!="[usb/none]x", ENV{M}="1"\n'),
      DISK,
@@ -455,18 +455,18 @@ CASES = [
      'TEST=="", ENV{M}="1"\n',
      STAR,
      ['env M=1']),
-    ('an attribute is assigned in a folder of any name',
+    ('an attribute is assigned with */',
      ('ATTR{q/*/y}="2"\n' +
       'ATTR{q/*}="4"\n' +
       'ATTR{*/x}="5"\n'),
      STAR,
      ['attr q/b/y=2', 'attr q/*=4', 'attr r/x=5']),
-    ('no folder fits for an attribute',
+    ('*/ of an assigned attribute fits no folder',
      ('ATTR{q/*/none}="1"\n' +
       'ATTR{none/*/y}="3"\n'),
      STAR,
      ['note r.rules:1: attribute not found: q/*/none', 'note r.rules:2: attribute not found: none/*/y']),
-    ('a name of an attribute is assigned as it is written',
+    ('the name of an assigned attribute is used as written',
      ('ATTR{%k}="y"\n' +
       'ATTR{$kernel}="z"\n'),
      DISK,
@@ -475,17 +475,17 @@ CASES = [
      'ATTR{[usb/usb1]serial}="8"\n',
      DISK,
      ['attr [usb/usb1]serial=8']),
-    ('an attribute of another device is assigned in a folder of any name',
+    ('an attribute of another device is assigned with */',
      ('ATTR{[usb/usb1]q/*/x}="2"\n' +
       'ATTR{[usb/usb1]*/a/b/y}="3"\n' +
       'ATTR{[usb/usb1]q/*}="4"\n'),
      FOLDERS,
      ['attr [usb/usb1]q/a/x=2', 'attr [usb/usb1]r/a/b/y=3', 'attr [usb/usb1]q/*=4']),
-    ('an attribute of another device is assigned twice, once by its folder',
+    ('an attribute of another device is assigned twice, once with */',
      'ATTR{[usb/usb1]q/a/x}="2", ATTR{[usb/usb1]q/*/x}="3"\n',
      FOLDERS,
      ['attr [usb/usb1]q/a/x=3']),
-    ('no folder of another device fits for an attribute',
+    ('*/ of an assigned attribute of another device fits no folder',
      ('ATTR{[usb/usb1]q/*/none}="1"\n' +
       'ATTR{[pci/pci0]q/*/x}="2"\n' +
       'ATTR{[usb/none]q/*/x}="3"\n' +
@@ -493,7 +493,7 @@ CASES = [
      FOLDERS,
      ['attr [usb/none]x=4', 'note r.rules:1: attribute not found: [usb/usb1]q/*/none',
       'note r.rules:2: attribute not found: [pci/pci0]q/*/x', 'note r.rules:3: attribute not found: [usb/none]q/*/x']),
-    ('a folder of any name of the device itself, which is named',
+    ('*/ after [subsystem/kernel] of the device itself',
      'ATTR{[misc/star]*/x}="5"\n',
      STAR,
      ['attr r/x=5']),
@@ -503,13 +503,13 @@ CASES = [
       'ATTR{model}="$attr{size}"\n'),
      DISK,
      ['attr model=2048', 'attr size=']),
-    ('names of parameters are made plain',
+    ('names of kernel parameters are cleaned',
      ('SYSCTL{net.ipv4.$kernel}="9 "\n' +
       'SYSCTL{/net//x.y}="1"\n' +
       'SYSCTL{net.a/b}="1"\n'),
      DISK,
      ['sysctl net/ipv4/sda=9 ', 'sysctl net/x.y=1', 'sysctl net/a.b=1']),
-    ('a match of a parameter',
+    ('a match of a kernel parameter',
      'SYSCTL{test/none}=="x", ENV{A}="1"\n',
      DISK,
      ['note r.rules:1: sysctl not read: test/none']),

@@ -3,7 +3,7 @@ from tables.kinds.udev_blocks import DISK, STAR, THING
 from tables.kinds.udev_events import answered_otherwise
 
 CASES = [
-    ('a number that is no character in a link',
+    ('an escape in a link that is not a character',
      'SYMLINK+=e"c\\ufffe"\n',
      DISK,
      ['link c___'],
@@ -15,7 +15,7 @@ CASES = [
      DISK,
      ['link l', 'tag t', 'env A=:t:|:t:|/dev/l|', 'env B=1'],
      ['link l', 'tag t', 'env A=|||']),
-    ('the tags of a property and those taken away',
+    ('removed tags in properties',
      ('TAG+="t"\n' +
       'TAG+="u"\n' +
       'TAG-="t"\n' +
@@ -54,33 +54,33 @@ CASES = [
      DISK,
      ['link /dev'],
      ['note r.rules:1: link ignored: .']),
-    ('an unknown owner takes the one before away',
+    ('an unknown owner removes the earlier one',
      ('OWNER="daemon", MODE="0600"\n' +
       'OWNER="nosuch"\n'),
      DISK,
      ['mode 0600'],
      ['owner nosuch', 'mode 0600']),
-    ('an owner and a group that are written empty take those before away',
+    ('an owner and a group that are written empty remove the earlier ones',
      ('OWNER="daemon", GROUP="disk"\n' +
       'OWNER="", GROUP=""\n'),
      DISK,
      [],
      ['owner daemon', 'group disk', 'note r.rules:2: no value: OWNER', 'note r.rules:2: no value: GROUP']),
-    ('a file where a folder was looked for ends all rules',
+    ('a file in place of a folder before */ ends all rules',
      ('ENV{A}="1"\n' +
       'TEST=="model/*/x", ENV{B}="1"\n' +
       'ENV{C}="1"\n'),
      STAR,
      ['env A=1'],
      ['env A=1', 'env C=1']),
-    ('a path to an attribute',
+    ('a path as the name of an attribute',
      ('ATTR{../../serial}=="7", ENV{A}="1"\n' +
       'ATTR{./model}=="Disk", ENV{C}="1"\n' +
       'ENV{D}="$attr{../../serial}"\n'),
      DISK,
      ['env A=1', 'env C=1', 'env D=7'],
      []),
-    ("the parent's own names",
+    ("the parent's own properties",
      ('IMPORT{parent}="DEVPATH"\n' +
       'IMPORT{parent}="SUBSYS*"\n'),
      THING,
@@ -92,13 +92,13 @@ CASES = [
      DISK,
      ['link p-_a', 'env X=\x0ba'],
      ['link p-a', 'env X=\x0ba']),
-    ('blanks that are left out of a link count for its length',
+    ('blanks that are dropped from a link count for its length',
      ('ENV{X}=e"' + ' ' * 400 + 'b"\n' +
       'SYMLINK+="' + 'a' * 200 + '/' + 'a' * 200 + '/' + 'a' * 200 + '/' + 'a' * 200 + '$env{X}"\n'),
      DISK,
      ['env X=' + ' ' * 400 + 'b'],
      ['link ' + '/'.join(['a' * 200] * 4) + 'b', 'env X=' + ' ' * 400 + 'b']),
-    ('a part that is no number, without a result',
+    ('a part that is not a number, without a result',
      'ENV{A}="x$result{a}z", ENV{B}="x%c{1}z"\n',
      DISK,
      ['env A=xz', 'env B=xz'],

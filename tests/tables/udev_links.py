@@ -3,26 +3,26 @@ from tables.kinds.udev_blocks import BOTH, DISK, NET, THING, answering, removed
 from tables.kinds.udev_events import answered_as_udev
 
 CASES = [
-    ('a link is made plain',
+    ('a link is cleaned',
      'SYMLINK+="/dev/a b//c ./d e/ f/. n/./o //dev//q"\n',
      DISK,
      ['link a', 'link b/c', 'link d', 'link e', 'link f', 'link n/o', 'link q']),
-    ('the same link in several forms is one',
+    ('several forms of a link are one link',
      'SYMLINK+="a /dev/a ./a a/"\n',
      DISK,
      ['link a']),
-    ('an absolute link elsewhere is refused',
+    ('an absolute link outside /dev is refused',
      'SYMLINK+="/etc/x ok"\n',
      DISK,
      ['link ok', 'note r.rules:1: link ignored: /etc/x']),
-    ('the folder of nodes is no link',
+    ('/dev itself is refused',
      ('SYMLINK+="/dev/ ok"\n' +
       'SYMLINK+="/dev"\n' +
       'SYMLINK+="/"\n'),
      DISK,
      ['link ok', 'note r.rules:1: link ignored: /dev/', 'note r.rules:2: link ignored: /dev',
       'note r.rules:3: link ignored: /']),
-    ('a climbing link is refused',
+    ('a link with a component .. is refused',
      ('SYMLINK+="../g ok"\n' +
       'SYMLINK+="h/../i"\n' +
       'SYMLINK+="/dev/../z"\n' +
@@ -30,7 +30,7 @@ CASES = [
      DISK,
      ['link ok', 'note r.rules:1: link ignored: ../g', 'note r.rules:2: link ignored: h/../i',
       'note r.rules:3: link ignored: /dev/../z', 'note r.rules:4: link ignored: a/..']),
-    ('names of dots that do not climb',
+    ('other components with dots are ordinary',
      'SYMLINK+="... ..a a..b .c"\n',
      DISK,
      ['link ...', 'link ..a', 'link a..b', 'link .c']),
@@ -46,30 +46,30 @@ CASES = [
      'SYMLINK+="../a /etc/b c"\n',
      DISK,
      ['link c', 'note r.rules:1: link ignored: ../a']),
-    ('a link taken away in another form',
+    ('a link is removed in another form',
      ('SYMLINK+="a b c d/e"\n' +
       'SYMLINK-="/dev/a ./b d//e"\n'),
      DISK,
      ['link c']),
-    ('a climbing link taken away',
+    ('a link with a component .. is refused by -=',
      ('SYMLINK+="x"\n' +
       'SYMLINK-="../x"\n'),
      DISK,
      ['link x', 'note r.rules:2: link ignored: ../x']),
-    ('SYMLINK compared with plain links',
+    ('SYMLINK is compared with cleaned links',
      ('SYMLINK+="/dev/c d//e"\n' +
       'SYMLINK=="c", ENV{B}="1"\n' +
       'SYMLINK=="d/e", ENV{C}="1"\n' +
       'SYMLINK=="/dev/c", ENV{D}="1"\n'),
      DISK,
      ['link c', 'link d/e', 'env B=1', 'env C=1']),
-    ('links begin anew',
+    ('= replaces the links',
      ('SYMLINK+="a b"\n' +
       'SYMLINK="c"\n' +
       'SYMLINK+="d"\n'),
      DISK,
      ['link c', 'link d']),
-    ('links begin anew with nothing',
+    ('= of an empty text removes the links',
      ('SYMLINK+="a b"\n' +
       'SYMLINK=""\n'),
      DISK,
@@ -80,20 +80,20 @@ CASES = [
       'SYMLINK-="a"\n'),
      DISK,
      ['link a', 'link b']),
-    ('$links are plain',
+    ('$links are cleaned',
      ('SYMLINK+="./d//e"\n' +
       'ENV{A}="[$links]"\n'),
      DISK,
      ['link d/e', 'env A=[d/e]']),
-    ('bytes that do not belong in a link',
+    ('bytes that are not allowed in a link',
      'SYMLINK+="a\'b j;k l\\x41 m(n) $$x %%y z?*[] t,u"\n',
      DISK,
      ['link a_b', 'link j_k', 'link l\\x41', 'link m_n_', 'link _x', 'link _y', 'link z____', 'link t_u']),
-    ('control characters part links',
+    ('whitespace separates links, other control characters do not',
      'SYMLINK+=e"a\\tb\\nc\\vd\\fe\\x01f\\x7fg"\n',
      DISK,
      ['link a', 'link b', 'link c', 'link d', 'link e_f_g']),
-    ('no UTF-8 in a link',
+    ('a byte that is not UTF-8 in a link',
      'SYMLINK+=e"a\\u00e9 b\\xc3 c\\xff"\n',
      DISK,
      ['link aé', 'link b_', 'link c_']),
@@ -116,7 +116,7 @@ CASES = [
       'OPTIONS+="string_escape=none", SYMLINK+="p-$env{X}-q"\n'),
      DISK,
      ['link p-', 'link a', 'link b/c;d', 'link -q', 'env X= a  b/c;d ']),
-    ('a link that goes and comes',
+    ('a link that is removed and added again',
      ('SYMLINK+="a b"\n' +
       'SYMLINK-="a"\n' +
       'SYMLINK+="a"\n'),
@@ -126,12 +126,12 @@ CASES = [
      'OPTIONS+="string_escape=replace", SYMLINK+="a b;c $attr{model}"\n',
      DISK,
      ['link a_b_c_Disk']),
-    ('string_escape holds for its rule alone',
+    ('string_escape is only for its own rule',
      ('OPTIONS="string_escape=none"\n' +
       'SYMLINK+="p\'q"\n'),
      DISK,
      ['link p_q']),
-    ('of one rule replace wins',
+    ('replace wins over none in one rule',
      ('OPTIONS+="string_escape=replace", OPTIONS+="string_escape=none", SYMLINK+="x\'y"\n' +
       'OPTIONS+="string_escape=none", OPTIONS+="string_escape=replace", SYMLINK+="x\'z"\n'),
      DISK,
@@ -140,7 +140,7 @@ CASES = [
      'SYMLINK+="x"\n',
      THING,
      ['note r.rules:1: no device number: SYMLINK']),
-    ('no number: links beside a tag',
+    ('no number: links with a tag',
      ('SYMLINK+="x", TAG+="t"\n' +
       'ENV{A}="[$links]"\n'),
      THING,
@@ -192,14 +192,14 @@ CASES = [
       'ENV{F}="[$id]"\n'),
      THING,
      ['env F=[pci0]', 'note r.rules:1: no device number: SYMLINK']),
-    ('NAME alone selects nothing where there is no interface',
+    ('NAME alone selects nothing without an interface',
      ('SUBSYSTEMS=="usb", NAME="x"\n' +
       'ENV{C}="[$id]"\n' +
       'SUBSYSTEMS=="usb", SYMLINK+="x"\n' +
       'ENV{D}="[$id]"\n'),
      DISK,
      ['link x', 'env C=[]', 'env D=[usb1]', 'note r.rules:1: name ignored: x']),
-    ('an interface: links select nothing, NAME does',
+    ('an interface: links select nothing, NAME selects',
      ('SUBSYSTEMS=="pci", SYMLINK+="x", MODE="0600"\n' +
       'ENV{C}="[$id]"\n' +
       'SUBSYSTEMS=="pci", NAME="y"\n' +
@@ -207,35 +207,35 @@ CASES = [
      NET,
      ['name y', 'env C=[]', 'env D=[pci0]', 'note r.rules:1: no device number: MODE',
       'note r.rules:1: no device number: SYMLINK']),
-    ('where a device goes, links and modes alone select nothing',
+    ('remove: links and modes alone select nothing',
      ('SUBSYSTEMS=="usb", SYMLINK+="x", MODE="0600"\n' +
       'ENV{C}="[$id]"\n' +
       'SUBSYSTEMS=="usb", SYMLINK+="x", MODE="0600", TAG+="z"\n' +
       'ENV{D}="[$id]"\n'),
      removed(DISK),
      ['mode 0600', 'link x', 'tag z', 'env C=[]', 'env D=[usb1]']),
-    ('a program makes a rule of links count',
+    ('a rule with links and a program is evaluated',
      ('PROGRAM="ata_id one", SYMLINK+="x"\n' +
       'ENV{A}="%c"\n'),
      answering(DISK, ("ata_id one", 0, "one")),
      ['link x', 'env A=one']),
-    ('a rule with nothing but a level of the log is evaluated',
+    ('a rule with only a log level is evaluated',
      ('SUBSYSTEMS=="usb", OPTIONS="log_level=debug"\n' +
       'ENV{A}="[$id]"\n'),
      THING,
      ['env A=[usb1]']),
-    ('a level of the log counts beside a static node',
+    ('a rule with a log level and a static node is evaluated',
      ('SUBSYSTEMS=="usb", OPTIONS="static_node=x", OPTIONS+="log_level=6"\n' +
       'ENV{A}="[$id]"\n'),
      THING,
      ['env A=[usb1]']),
-    ('an option that udev does not know has no part in events',
+    ('an unknown option has no effect in events',
      ('SUBSYSTEMS=="usb", OPTIONS="nonsense"\n' +
       'ENV{A}="[$id]"\n'),
      THING,
      ['env A=[]'],
      '1:V18'),
-    ('static_node has no part in events',
+    ('static_node has no effect in events',
      ('SUBSYSTEMS=="usb", OPTIONS="static_node=x"\n' +
       'ENV{G}="[$id]"\n'),
      THING,

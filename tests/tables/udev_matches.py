@@ -9,21 +9,21 @@ CASES = [
       'ATTR{none}!="", ENV{C}="1"\n'),
      DISK,
      []),
-    ('an attribute that is there',
+    ('an existing attribute',
      'ATTR{model}!="1", ENV{A}="1"\n',
      DISK,
      ['env A=1']),
-    ('an absent attribute along the chain',
+    ('an absent attribute with ATTRS',
      ('ATTRS{vendor}!="1", ENV{D}="$id"\n' +
       'ATTRS{serial}!="7", ENV{E}="$id"\n' +
       'ATTRS{none}!="7", ENV{F}="$id"\n'),
      DISK,
      ['env D=pci0']),
-    ('a folder is no attribute',
+    ('a folder is not an attribute',
      'ATTR{q}!="x", ENV{H}="1"\n',
      STAR,
      []),
-    ('SUBSYSTEM of class',
+    ('SUBSYSTEM class',
      ('SUBSYSTEM=="subsystem", ENV{A}="1"\n' +
       'SUBSYSTEM=="bus", ENV{B}="1"\n' +
       'SUBSYSTEM!="bus", ENV{C}="1"\n' +
@@ -31,18 +31,18 @@ CASES = [
       'SUBSYSTEMS=="subsystem", ENV{E}="1"\n'),
      CLASS,
      ['env A=1', 'env B=1']),
-    ('SUBSYSTEM of class where case does not count',
+    ('SUBSYSTEM class with i, and a pattern',
      ('SUBSYSTEM==i"Class", ENV{G}="1"\n' +
       'SUBSYSTEM==i"sub*", ENV{H}="1"\n'),
      CLASS,
      ['env G=1']),
-    ('SUBSYSTEM of subsystem',
+    ('SUBSYSTEM subsystem',
      ('SUBSYSTEM=="bus", ENV{A}="1"\n' +
       'SUBSYSTEM=="class", ENV{B}="1"\n' +
       'SUBSYSTEM=="c*", ENV{C}="1"\n'),
      SUBSYSTEM,
      ['env A=1', 'env B=1']),
-    ('SUBSYSTEM of another device',
+    ('SUBSYSTEM of a device with another subsystem',
      ('SUBSYSTEM=="subsystem", ENV{A}="1"\n' +
       'SUBSYSTEM!="class", ENV{B}="1"\n'),
      DISK,
@@ -59,18 +59,18 @@ CASES = [
       'ATTR{[usb/usb1]none}=="x", ENV{G}="1"\n'),
      DISK,
      ['env E=1', 'env F=1']),
-    ('an attribute of a device that is not there',
+    ('an attribute of a device that does not exist',
      ('ATTR{[usb/none]serial}!="7", ENV{G}="1"\n' +
       'ATTR{[usb/usb1]}!="x", ENV{H}="1"\n' +
       'ATTR{[usb]x}!="x", ENV{I}="1"\n'),
      DISK,
      ['note r.rules:1: attribute not read: [usb/none]serial']),
-    ('the kernel name in brackets has its slashes',
+    ('a kernel name in brackets has its slashes',
      ('ATTR{[block/cciss/c0d0]x}=="", ENV{A}="1"\n' +
       'ATTR{[pci/12]x}=="", ENV{D}="1"\n'),
      BANG,
      ['env A=1', 'env D=1']),
-    ('an attribute of a device along the chain',
+    ('an attribute of a device of the chain, with ATTRS',
      'ATTRS{[usb/usb1]serial}=="7", ENV{I}="$id"\n',
      DISK,
      ['env I=sda']),
@@ -78,7 +78,7 @@ CASES = [
      'ENV{H}="$attr{[usb/usb1]serial}|$attr{[usb/usb1]none}|$attr{[usb/none]serial}|$attr{[usb]x}|"\n',
      DISK,
      ['env H=7||||']),
-    ('a name of an attribute is rendered',
+    ('the name of an attribute is rendered',
      ('ATTR{$kernel}=="x", ENV{A}="1"\n' +
       'ATTR{x%ny}=="1", ENV{B}="1"\n' +
       'ATTRS{%k}=="x", ENV{C}="$id"\n' +
@@ -86,7 +86,7 @@ CASES = [
       'ATTR{none%n}!="x", ENV{E}="1"\n'),
      BOTH+"A: both7=x\nA: x7y=1\n",
      ['env A=1', 'env B=1', 'env C=both7']),
-    ('a fault in a name of an attribute',
+    ('a fault in the name of an attribute',
      ('ATTR{%}=="1", ENV{A}="1"\n' +
       'ATTR{$disk}=="2", ENV{B}="1"\n' +
       'ATTR{a$attr}=="3", ENV{C}="1"\n' +
@@ -96,12 +96,12 @@ CASES = [
       'ATTR{$attr{a}!="x", ENV{G}="1"\n'),
      STAR+"A: %=1\nA: $disk=2\nA: a=3\n",
      ['env A=1', 'env B=1', 'env C=1', 'env D=1', 'env E=1', 'env F=1']),
-    ('signs in a name of an attribute',
+    ('$$ and %% in the name of an attribute',
      ('ATTR{a$$b}=="1", ENV{A}="1"\n' +
       'ATTR{c%%}=="2", ENV{B}="1"\n'),
      STAR+"A: a$b=1\nA: c%=2\n",
      ['env A=1', 'env B=1']),
-    ('substitutions in a name of an attribute',
+    ('substitutions in the name of an attribute',
      ('ATTR{v%M:%m}=="1", ENV{A}="1"\n' +
       'ATTR{n$name}=="2", ENV{B}="1"\n' +
       'ATTR{d$devnode}=="3", ENV{C}="1"\n' +
@@ -111,24 +111,24 @@ CASES = [
       'ATTR{[block/sda]model}=="Disk", ENV{G}="1"\n'),
      DISK.replace("A: size=2048\n", "A: size=2048\nA: v8:0=1\nA: nsda=2\nA: d/dev/sda=3\nA: r/dev.=4\nA: s/sys=5\nA: w/devices/pci0/usb1/block/sda=6\n"),
      ['env A=1', 'env B=1', 'env C=1', 'env D=1', 'env E=1', 'env F=1', 'env G=1']),
-    ('the node of the parent in a name of an attribute',
+    ('the node of the parent in the name of an attribute',
      'ATTR{p%P}=="1", ENV{A}="1"\n',
      PART.replace("D: 8:1\n", "D: 8:1\nA: pdisks/vda=1\n"),
      ['env A=1']),
-    ('links in a name of an attribute',
+    ('links in the name of an attribute',
      ('ATTR{l$links}=="0", ENV{A}="1"\n' +
       'SYMLINK+="a"\n' +
       'ATTR{l$links}=="1", ENV{B}="1"\n' +
       'ATTR{l%L.}=="2", ENV{C}="1"\n'),
      DISK.replace("A: size=2048\n", "A: size=2048\nA: l=0\nA: la=1\nA: la.=2\n"),
      ['link a', 'env A=1', 'env B=1', 'env C=1']),
-    ('the result of a program in a name of an attribute',
+    ('the result of a program in the name of an attribute',
      ('ATTR{r$result}=="0", ENV{A}="1"\n' +
       'PROGRAM="ata_id r1"\n' +
       'ATTR{r%c}=="1", ENV{B}="1"\n'),
      answering(DISK.replace("A: size=2048\n", "A: size=2048\nA: r=0\nA: rr1=1\n"), ("ata_id r1", 0, "r1")),
      ['env A=1', 'env B=1']),
-    ('the device that was selected, in a name of an attribute',
+    ('the selected device in the name of an attribute',
      ('ATTR{x$id}=="0", ENV{A}="1"\n' +
       'SUBSYSTEMS=="usb", ENV{B}="1"\n' +
       'ATTR{x$id}=="1", ENV{C}="1"\n' +
@@ -137,7 +137,7 @@ CASES = [
       'ATTR{x%b}=="0", ENV{F}="1"\n'),
      DISK.replace("A: size=2048\n", "A: size=2048\nA: x=0\nA: xusb1=1\nA: xhub=2\n"),
      ['env A=1', 'env B=1', 'env C=1', 'env D=1', 'env F=1']),
-    ('the device that is tried, in a name of an attribute',
+    ('the device being tried in the name of an attribute',
      ('ATTRS{x%b}=="1", ENV{A}="$id"\n' +
       'ATTR{x%b}=="3", ENV{C}="1"\n' +
       'ATTRS{x$driver}=="2", ENV{B}="$id"\n' +
@@ -145,14 +145,14 @@ CASES = [
       'ATTRS{x$id}!="1", ATTRS{x$id}!="3", ENV{E}="$id"\n'),
      DISK.replace("A: size=2048\n", "A: size=2048\nA: xusb1=3\nA: xsda=4\nA: x=2\n").replace("A: serial=7\n", "A: serial=7\nA: xusb1=1\nA: xsda=1\nA: xhub=2\n"),
      ['env A=usb1', 'env B=sda', 'env C=1', 'env D=sda', 'env E=sda']),
-    ('a rendered name of 511 bytes',
+    ('a rendered attribute name of 511 bytes',
      ('ATTR{' + 'd' * 250 + '/' + 'e' * 250 + '/' + 'f' * 6 + '%k}=="1", ENV{A}="1"\n' +
       'ATTR{' + 'd' * 250 + '/' + 'e' * 250 + '/' + 'f' * 7 + '%k}=="1", ENV{B}="1"\n' +
       'ATTR{' + 'd' * 250 + '/' + 'e' * 250 + '/' + 'f' * 7 + '%k}!="1", ENV{C}="1"\n' +
       'ATTR{' + 'd' * 250 + '/' + 'e' * 250 + '/' + 'f' * 7 + 'sda}=="1", ENV{D}="1"\n'),
      DISK.replace("A: size=2048\n", "A: size=2048\nA: " + 'd' * 250 + '/' + 'e' * 250 + '/' + 'f' * 6 + "sda=1\nA: " + 'd' * 250 + '/' + 'e' * 250 + '/' + 'f' * 7 + "sda=1\n"),
      ['env A=1', 'env D=1']),
-    ('no substitutions behind a bracket',
+    ('no substitutions after a bracket',
      'ATTR{[block/$kernel]size}!="1", ENV{J}="1"\n',
      DISK,
      ['note r.rules:1: attribute not read: [block/$kernel]size']),
@@ -235,7 +235,7 @@ CASES = [
       'RESULT=="?*", ENV{C}="1"\n'),
      DISK,
      ['env A=1', 'env B=1']),
-    ('an attribute that was read stays as it was',
+    ('an attribute that was read keeps its value',
      ('ATTR{model}=="Disk", ATTR{model}="New"\n' +
       'ATTR{model}=="Disk", ENV{A}="1"\n' +
       'ENV{B}="$attr{model}"\n'),
@@ -246,7 +246,7 @@ CASES = [
       'ATTR{blank}!="", ENV{I}="1"\n'),
      STAR,
      ['env I=1']),
-    ('SUBSYSTEM of class in other letters',
+    ('SUBSYSTEM class with i, and the other two words',
      ('SUBSYSTEM==i"SUBSYSTEM", ENV{F}="1"\n' +
       'SUBSYSTEM==i"Class", ENV{G}="1"\n' +
       'SUBSYSTEM==i"bus", ENV{H}="1"\n'),

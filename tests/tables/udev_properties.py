@@ -3,32 +3,32 @@ from tables.kinds.udev_blocks import DISK, NET
 from tables.kinds.udev_events import answered_as_udev
 
 CASES = [
-    ('ENV += of a text that comes to nothing',
+    ('ENV += of a text that is empty once rendered',
      ('ENV{A}+="$env{NONE}"\n' +
       'ENV{B}="1"\n' +
       'ENV{B}+="$env{NONE}"\n'),
      DISK,
      ['env B=1 ']),
-    ('ENV += of an empty text',
+    ('ENV += of a text that is written empty',
      ('ENV{C}="1"\n' +
       'ENV{C}+=""\n'),
      DISK,
      ['env C=1']),
-    ('ENV += of nothing twice',
+    ('ENV += after += of a text that is empty once rendered',
      ('ENV{B}="1"\n' +
       'ENV{B}+="$env{NONE}"\n' +
       'ENV{B}+="x"\n' +
       'ENV{G}="[$env{B}]"\n'),
      DISK,
      ['env B=1  x', 'env G=[1  x]']),
-    ('ENV = of nothing takes away',
+    ('ENV = of an empty text removes the property',
      ('ENV{D}="1"\n' +
       'ENV{D}="$env{NONE}"\n' +
       'ENV{E}="1"\n' +
       'ENV{E}=""\n'),
      DISK,
      []),
-    ('ENV := is =',
+    ('ENV := is read as =',
      ('ENV{A}:="1"\n' +
       'ENV{A}="2"\n'),
      DISK,
@@ -57,7 +57,7 @@ CASES = [
       'RUN+="/bin/x $env{A}"\n'),
      DISK,
      ['env A=a\tb\x01c\x7fd', 'env B=a\tb\x01c\x7fd', 'run program /bin/x a\tb\x01c\x7fd']),
-    ('names of properties are free',
+    ('properties of any name',
      ('ENV{.A}="1"\n' +
       'ENV{a b}="2"\n' +
       'ENV{.A}=="1", ENV{B}="1"\n'),
@@ -77,7 +77,7 @@ CASES = [
       'ENV{A}="' + 'x' * 512 + '"\n'),
      DISK,
      ['env A=1', 'note r.rules:2: text too long: ENV{A}']),
-    ('a property of two parts is too long',
+    ('a property of two parts that is too long',
      ('ENV{A}="' + 'x' * 511 + '"\n' +
       'ENV{H}="$env{A}y"\n' +
       'ENV{I}="a$env{A}"\n'),
@@ -93,12 +93,12 @@ CASES = [
       'ENV{F}+="yz"\n'),
      DISK,
      ['env F=' + 'x' * 509, 'note r.rules:2: text too long: ENV{F}']),
-    ('ENV += of nothing, 510 bytes',
+    ('ENV += of a text that is empty once rendered, after 510 bytes',
      ('ENV{D}="' + 'x' * 510 + '"\n' +
       'ENV{D}+="$env{NONE}"\n'),
      DISK,
      ['env D=' + 'x' * 510 + ' ']),
-    ('ENV += of nothing, 511 bytes',
+    ('ENV += of a text that is empty once rendered, after 511 bytes',
      ('ENV{G}="' + 'x' * 511 + '"\n' +
       'ENV{G}+="$env{NONE}"\n'),
      DISK,
@@ -107,18 +107,18 @@ CASES = [
      'SYMLINK="' + 'a' * 204 + ' ' + 'b' * 204 + ' ' + 'c' * 204 + ' ' + 'd' * 204 + ' ' + 'e' * 203 + '"\n',
      DISK,
      ['link ' + 'a' * 204, 'link ' + 'b' * 204, 'link ' + 'c' * 204, 'link ' + 'd' * 204, 'link ' + 'e' * 203]),
-    ('links of 1,024 bytes begin anew all the same',
+    ('= of links of 1,024 bytes removes the links',
      ('SYMLINK+="ok"\n' +
       'SYMLINK="' + 'a' * 204 + ' ' + 'b' * 204 + ' ' + 'c' * 204 + ' ' + 'd' * 204 + ' ' + 'f' * 204 + '"\n' +
       'SYMLINK+="z"\n'),
      DISK,
      ['link z', 'note r.rules:2: text too long: SYMLINK']),
-    ('a tag of 1,024 bytes keeps the others',
+    ('= of a tag of 1,024 bytes keeps the tags',
      ('TAG+="k"\n' +
       'TAG="' + 'x' * 1024 + '"\n'),
      DISK,
      ['tag k', 'note r.rules:2: text too long: TAG']),
-    ('a name of 1,024 bytes is final all the same',
+    ('a name of 1,024 bytes is final',
      ('NAME="old"\n' +
       'NAME:="' + 'x' * 1024 + '"\n' +
       'NAME="new"\n'),
@@ -131,14 +131,14 @@ CASES = [
      DISK,
      ['owner daemon', 'group disk', 'mode 0600', 'env A=' + 'x' * 500, 'note r.rules:3: text too long: OWNER',
       'note r.rules:3: text too long: GROUP', 'note r.rules:3: text too long: MODE']),
-    ('texts that are too long are final all the same',
+    ('texts that are too long are final',
      ('ENV{A}="' + 'x' * 500 + '"\n' +
       'OWNER:="$env{A}xxxxxxxxxxxx", GROUP:="$env{A}xxxxxxxxxxxx", MODE:="$env{A}xxxxxxxxxxxx", SYMLINK:="' + 'x' * 1024 + '"\n' +
       'OWNER="daemon", GROUP="disk", MODE="0600", SYMLINK+="a"\n'),
      DISK,
      ['env A=' + 'x' * 500, 'note r.rules:2: text too long: OWNER', 'note r.rules:2: text too long: GROUP',
       'note r.rules:2: text too long: MODE', 'note r.rules:2: text too long: SYMLINK']),
-    ('values of attributes and of parameters',
+    ('values of attributes and of kernel parameters',
      ('ATTR{model}="' + 'x' * 511 + '"\n' +
       'ATTR{size}="' + 'x' * 512 + '"\n' +
       'SYSCTL{a}="' + 'x' * 511 + '"\n' +
@@ -146,7 +146,7 @@ CASES = [
      DISK,
      ['attr model=' + 'x' * 511, 'sysctl a=' + 'x' * 511, 'note r.rules:2: text too long: ATTR{size}',
       'note r.rules:4: text too long: SYSCTL{b}']),
-    ('names of parameters',
+    ('names of kernel parameters',
      ('SYSCTL{' + 'x' * 1023 + '}="1"\n' +
       'SYSCTL{' + 'x' * 1024 + '}="1"\n'),
      DISK,
@@ -157,14 +157,14 @@ CASES = [
       'SECLABEL{b}="' + '$env{A}' * 32 + 'xxxxxxxxxxxxxxxxxxxxxxxxxxxxxxxx"\n'),
      DISK,
      ['label a=1', 'env A=' + 'x' * 511, 'note r.rules:3: text too long: SECLABEL{b}']),
-    ('a command of 16,384 bytes begins anew all the same',
+    ('= of a command of 16,384 bytes removes the commands',
      ('ENV{A}="' + 'x' * 511 + '"\n' +
       'RUN+="a"\n' +
       'RUN="' + '$env{A}' * 32 + 'xxxxxxxxxxxxxxxxxxxxxxxxxxxxxxxx"\n' +
       'RUN+="z"\n'),
      DISK,
      ['env A=' + 'x' * 511, 'run program z', 'note r.rules:3: text too long: RUN']),
-    ('a command of 16,384 bytes is final all the same',
+    ('a command of 16,384 bytes is final',
      ('ENV{A}="' + 'x' * 511 + '"\n' +
       'RUN+="a"\n' +
       'RUN{program}:="' + '$env{A}' * 32 + 'xxxxxxxxxxxxxxxxxxxxxxxxxxxxxxxx"\n' +

@@ -16,7 +16,7 @@ def note(number, text, word):
 # Tests: of an attribute that exists, of others, and those that a dry run does not make.
 TESTS = [
     why(
-        "tests of attributes",
+        "TEST of attributes",
         ['TEST=="model"', 'TEST!="model", TAG+="never"', 'TEST=="sub/$kernel", TAG+="never"', 'TEST!="sub/$kernel"', 'TEST=="%k/a"'],
         ["A: model=Disk", "A: p/a="],
         [],
@@ -28,7 +28,7 @@ TESTS = [
         path="/devices/p",
     ),
     why(
-        "tests that are not made",
+        "TEST that is not made",
         ['TEST=="/run/%k"', 'TEST!="/run/%k"', 'TEST{0644}=="model"', 'TEST{0644}!="model"'],
         ["A: model=Disk"],
         [
@@ -42,7 +42,7 @@ TESTS = [
         path="/devices/p",
     ),
     why(
-        "paths of tests that are empty, escaped, cut or too long",
+        "paths of TEST that are empty, escaped, cut or too long",
         ['TEST=="$env{.NONE}"', 'TEST=="$env{.ODD}"', 'TEST=="$env{.P}"', f'TEST=="{TWICE}"', f'TEST!="{TWICE}"'],
         ["E: .ODD=a\tb", "E: .P=" + "p" * 300, LONG],
         [note(4, "text too long", "TEST"), note(5, "text too long", "TEST")],
@@ -61,7 +61,7 @@ ANSWERS = ["Q: /bin/id p", "R: 0 ab cd", "Q: /bin/no p", "R: 1 oops", "Q: /bin/q
 
 PROGRAMS = [
     why(
-        "programs that are answered",
+        "programs with an answer",
         [
             'PROGRAM=="/bin/id %k", ENV{A}="%c"', 'PROGRAM=="/bin/no $kernel", TAG+="never"', 'PROGRAM!="/bin/no $kernel"',
             'PROGRAM=="/bin/quiet"', 'PROGRAM!="/bin/id p", TAG+="never"',
@@ -84,7 +84,7 @@ PROGRAMS = [
         path="/devices/p",
     ),
     why(
-        "a command without an answer is told whole",
+        "a command without an answer is shown in full",
         ['PROGRAM=="/bin/ask --for-a-text-of-over-32-bytes %k", TAG+="never"', 'PROGRAM!="/bin/none"'],
         ["A: ask=1"],
         [note(1, "no answer for program", ASKING), note(2, "no answer for program", "/bin/none")],
@@ -93,7 +93,7 @@ PROGRAMS = [
         path="/devices/p",
     ),
     why(
-        "what is copied into a block is the answer's command",
+        "an answer is found by its whole command",
         ['PROGRAM=="/bin/ask --for-a-text-of-over-32-bytes %k"'],
         ["Q: " + ASKING, "R: 255 no"],
         [],
@@ -101,7 +101,7 @@ PROGRAMS = [
         path="/devices/p",
     ),
     why(
-        "a command of over 200 bytes is told whole, the value that it was given is cut",
+        "a command of over 200 bytes is shown in full, its value in the rule is cut",
         ['PROGRAM=="$env{.C}"', f'PROGRAM=="{LONG_COMMAND}"'],
         ["E: .C=" + LONG_COMMAND, "Q: " + LONG_COMMAND, "R: 0 " + "t" * (SHOWN + 1)],
         [],
@@ -109,7 +109,7 @@ PROGRAMS = [
         of(2, f'PROGRAM=="{cut(LONG_COMMAND)}": holds, {LONG_COMMAND} answers 0 {cut("t" * (SHOWN + 1))}', "reached its end"),
     ),
     why(
-        "a long command without an answer is told whole",
+        "a long command without an answer is shown in full",
         ['PROGRAM=="$env{.C}"'],
         ["E: .C=" + LONG_COMMAND],
         [note(1, "no answer for program", LONG_COMMAND)],
@@ -150,7 +150,7 @@ IMPORTS = [
         path="/devices/h/p",
     ),
     why(
-        "there is no parent",
+        "properties of the parent, without a parent",
         ['IMPORT{parent}=="*", TAG+="never"', 'IMPORT{parent}!="*"'],
         ["E: X=0"],
         ["env X=0"],
@@ -158,7 +158,7 @@ IMPORTS = [
         of(2, 'IMPORT{parent}!="*": holds, sets nothing', "reached its end"),
     ),
     why(
-        "properties stand in their order, hidden ones too, an empty value as two quotes, a long one cut",
+        "imported properties: in their order, also hidden ones, an empty value as two quotes, a long value cut",
         ['IMPORT{parent}="?*"'],
         ODD_PARENT,
         ["env X=1", "env N=", "env L=" + "l" * 300],
@@ -166,7 +166,7 @@ IMPORTS = [
         path="/devices/h/p",
     ),
     why(
-        "imports that are never run",
+        "types of IMPORT that are never run",
         [
             'IMPORT{program}=="/bin/x %k", TAG+="never"', 'IMPORT{file}!="/etc/$kernel"', 'IMPORT{cmdline}="quiet", TAG+="never"',
             'IMPORT{db}:="ID_X", TAG+="never"', 'IMPORT{db}!="ID_X"',
@@ -183,7 +183,7 @@ IMPORTS = [
         of(5, 'IMPORT{db}!="ID_X": holds, not run', "reached its end"),
     ),
     why(
-        "builtins that are not run, and what hwdb does not take",
+        "builtins that are not run, and invalid arguments of hwdb",
         ['IMPORT{builtin}=="kmod load %k"', 'IMPORT{builtin}!="path_id"', 'IMPORT{builtin}="hwdb --none"', f'IMPORT{{builtin}}="{TWICE}"',
          f'IMPORT{{builtin}}!="{TWICE}"'],
         [LONG],
@@ -205,7 +205,7 @@ REPORTED = '/bin/ask p answers 0 A=1\\x0DB="2 3"'
 
 AS_UDEV = [
     why(
-        "programs that are imported with --udev",
+        "IMPORT{program} with --udev",
         [
             'IMPORT{program}=="/bin/ask %k", TAG+="t"', 'IMPORT{program}="/bin/ask $kernel"', 'IMPORT{program}!="/bin/ask p", TAG+="never"',
             'IMPORT{program}!="/bin/fail"', 'IMPORT{program}=="/bin/none %k", TAG+="never"', 'IMPORT{program}=="/bin/quiet"',
@@ -222,7 +222,7 @@ AS_UDEV = [
         udev=True,
     ),
     why(
-        "the command of an import is told whole, and its answer cut",
+        "the command of an import is shown in full, its answer is cut",
         [f'IMPORT{{program}}=="{LONG_COMMAND}"'],
         PRINTED,
         ["env L=" + "l" * SHOWN],
@@ -250,7 +250,7 @@ AS_UDEV = [
         udev=True,
     ),
     why(
-        "by the manual a program is not imported, whatever the block answers",
+        "without --udev IMPORT{program} is not run, even with an answer",
         ['IMPORT{program}=="/bin/ask %k"'],
         PRINTED,
         [note(1, "import not run", "program")],
@@ -314,9 +314,9 @@ ORDER = [
             "reached its end",
         ),
     ),
-    why("acts behind one that failed are not told", ['TEST=="none", PROGRAM=="p", IMPORT{db}=="d"'], [], [],
+    why("acts after one that failed are not shown", ['TEST=="none", PROGRAM=="p", IMPORT{db}=="d"'], [], [],
         of(1, 'TEST=="none": fails, none', "stops there")),
-    why("the result behind a program that failed is not told", ['PROGRAM=="p", RESULT==""'], [],
+    why("RESULT after a program that failed is not shown", ['PROGRAM=="p", RESULT==""'], [],
         ["note r.rules:1: no answer for program: p"], of(1, 'PROGRAM=="p": fails, no answer for p', "stops there")),
 ]
 

@@ -55,47 +55,47 @@ def asked(name, options, *reported, answer=ANSWER):
 
 
 ASKED = [
-    asked("no rule is asked", ""),
-    asked("all rules of one file", "--why a.rules", A1, A3, A4),
-    asked("all rules of the file with a line that is not read", "--why b.rules", B2, B1, B3),
-    asked("one rule", "--why a.rules:3", A3),
-    asked("one rule, and one line that is not read", "--why b.rules:2 --why a.rules:4", B2, A4),
-    asked("rules are told in the order of evaluation", "--why b.rules:3 --why=b.rules:1 --why a.rules:1", A1, B1, B3),
-    asked("a rule that is asked twice is told once", "--why a.rules:3 --why a.rules --why a.rules:3", A1, A3, A4),
-    asked("with where the lines come from", "--sources --why a.rules:4 --why b.rules", B2, A4, B1, B3, answer=SOURCED),
-    Row("options behind the files", "events a.rules b.rules --why a.rules:1 --sources -r none", FILES, BARE,
+    asked("no rule is asked about", ""),
+    asked("--why with a file: all its rules", "--why a.rules", A1, A3, A4),
+    asked("--why with a file that has a line that is not read", "--why b.rules", B2, B1, B3),
+    asked("--why with one rule", "--why a.rules:3", A3),
+    asked("--why with one rule and one line that is not read", "--why b.rules:2 --why a.rules:4", B2, A4),
+    asked("rules are shown in the order of evaluation", "--why b.rules:3 --why=b.rules:1 --why a.rules:1", A1, B1, B3),
+    asked("a rule that is asked about twice is shown once", "--why a.rules:3 --why a.rules --why a.rules:3", A1, A3, A4),
+    asked("with --sources", "--sources --why a.rules:4 --why b.rules", B2, A4, B1, B3, answer=SOURCED),
+    Row("options after the files", "events a.rules b.rules --why a.rules:1 --sources -r none", FILES, BARE,
         SOURCED + A1 + "\n", REPORTED_OF_B),
-    Row("each answer has its own", "events -r none --why r.rules r.rules", {"r.rules": 'KERNEL=="d", TAG+="t"\nFOO\n'},
+    Row("each answer has its own lines", "events -r none --why r.rules r.rules", {"r.rules": 'KERNEL=="d", TAG+="t"\nFOO\n'},
         BARE + "\nC: change\nP: /x\n",
         START + "tag t\n" + STARTED + "why r.rules:2: not read: V1 bad syntax: FOO\n"
         'why r.rules:1: KERNEL=="d": holds, d\nwhy r.rules:1: reached its end: tag t added\n\n'
         "event change /x\nenv ACTION=change\nenv DEVPATH=/x\nwhy r.rules:2: not read: V1 bad syntax: FOO\n"
         'why r.rules:1: KERNEL=="d": fails, x\nwhy r.rules:1: stops there\n\n', "r.rules:2: V1 bad syntax: FOO\n"),
-    Row("behind the notes", "events -r none --why r.rules r.rules", {"r.rules": 'IMPORT{db}!="X", TAG+="t"\n'}, BARE,
+    Row("the lines come after the notes", "events -r none --why r.rules r.rules", {"r.rules": 'IMPORT{db}!="X", TAG+="t"\n'}, BARE,
         START + "tag t\n" + STARTED + "note r.rules:1: import not run: db\n"
         'why r.rules:1: IMPORT{db}!="X": holds, not run\nwhy r.rules:1: reached its end: tag t added\n\n'),
-    Row("a continued rule has its first line", "events -r none --why r.rules:2 r.rules",
+    Row("a continued rule has the number of its first line", "events -r none --why r.rules:2 r.rules",
         {"r.rules": '# one\nKERNEL=="d", \\\n  TAG+="t"\n'}, BARE,
         START + "tag t\n" + STARTED + 'why r.rules:2: KERNEL=="d": holds, d\nwhy r.rules:2: reached its end: tag t added\n\n'),
-    Row("a file is asked by its name as it was given", "events -r none --why d/r.rules d/r.rules", {"d/r.rules": 'TAG+="t"\n'}, BARE,
+    Row("a named file is asked about by its name as given", "events -r none --why d/r.rules d/r.rules", {"d/r.rules": 'TAG+="t"\n'}, BARE,
         START + "tag t\n" + STARTED + "why d/r.rules:1: reached its end: tag t added\n\n"),
-    Row("a file of a folder is asked by its name without the folder", "events -r mnt --why r.rules:1",
+    Row("a file of a folder is asked about by its name without the folder", "events -r mnt --why r.rules:1",
         {"mnt/etc/udev/rules.d/r.rules": 'TAG+="t"\n'}, BARE,
         START + "tag t\n" + STARTED + "why r.rules:1: reached its end: tag t added\n\n"),
-    Row("a name that is escaped is asked as it is", ["events", "-r", "none", "--why", "a\tb.rules", "--why", "c\\d.rules:1", "a\tb.rules", "c\\d.rules"],
+    Row("a name that is escaped is asked about unescaped", ["events", "-r", "none", "--why", "a\tb.rules", "--why", "c\\d.rules:1", "a\tb.rules", "c\\d.rules"],
         {"a\tb.rules": 'TAG+="t", GOTO="e"\nTAG+="u"\nLABEL="e"\n', "c\\d.rules": 'OWNER:="a", OWNER="b"\n'}, BARE,
         START + "owner a\ntag t\n" + STARTED +
         "why a\\x09b.rules:1: reached its end: tag t added\nwhy a\\x09b.rules:2: passed over by GOTO of a\\x09b.rules:1\n"
         "why a\\x09b.rules:3: reached its end\n"
         "why c\\x5Cd.rules:1: reached its end: owner=a set, OWNER is final since c\\x5Cd.rules:1\n\n"),
-    Row("the name of a file may end as that of a rule", "events -r none --why r:1 r:1 r", {"r:1": 'TAG+="a"\nTAG+="b"\n', "r": 'TAG+="c"\nTAG+="d"\n'},
+    Row("a file name may end like FILE:LINE", "events -r none --why r:1 r:1 r", {"r:1": 'TAG+="a"\nTAG+="b"\n', "r": 'TAG+="c"\nTAG+="d"\n'},
         BARE, START + "tag a\ntag b\ntag c\ntag d\n" + STARTED +
         "why r:1:1: reached its end: tag a added\nwhy r:1:2: reached its end: tag b added\nwhy r:1: reached its end: tag c added\n\n"),
-    Row("a rule of a file whose name has a colon", "events -r none --why r:1:2 r:1", {"r:1": 'TAG+="a"\nTAG+="b"\n'}, BARE,
+    Row("a rule of a file with a colon in its name", "events -r none --why r:1:2 r:1", {"r:1": 'TAG+="a"\nTAG+="b"\n'}, BARE,
         START + "tag a\ntag b\n" + STARTED + "why r:1:2: reached its end: tag b added\n\n"),
-    Row("a faulty block ends the run behind the answers before it", "events -r none --why r.rules r.rules", {"r.rules": 'TAG+="t"\n'},
+    Row("a faulty block ends the run after the earlier answers", "events -r none --why r.rules r.rules", {"r.rules": 'TAG+="t"\n'},
         BARE + "\nC: add\n", START + "tag t\n" + STARTED + "why r.rules:1: reached its end: tag t added\n\n", "block 2, line 1: no device\n", 1),
-    Row("no block, no line", "events -r none --why r.rules r.rules", {"r.rules": 'TAG+="t"\n'}),
+    Row("without a block there are no lines", "events -r none --why r.rules r.rules", {"r.rules": 'TAG+="t"\n'}),
 ]
 
 # Rules in lines 2, 4 and 8, a line 12 that is not read, and a file that has only comments.
@@ -113,7 +113,7 @@ def nearest(*texts, place=None):
     words = [word for known_text in texts for word in ("--why", known_text)]
     said = f"no such rule, the nearest is {place}" if place else "no such rules file"
     shown = text.replace("\\", "\\x5C").replace("\t", "\\x09").replace("\n", "\\x0A")
-    return Row(f"{' and '.join(map(repr, texts))}, the nearest is {place}", ["events", "-r", "none", *words, *LINES], LINES, BARE,
+    return Row(f"{' and '.join(map(repr, texts))}: {said}", ["events", "-r", "none", *words, *LINES], LINES, BARE,
                messages=f"{MESSAGES}devdry: --why {shown}: {said}\n", status=2)
 
 
@@ -152,20 +152,20 @@ UNKNOWN = [
 ]
 
 FIRST = [
-    Row("the first text that asks for nothing is told", "events -r none --why r.rules --why r.rules:3 --why other r.rules none.rules bad.rules",
+    Row("the first --why without a rule is reported", "events -r none --why r.rules --why r.rules:3 --why other r.rules none.rules bad.rules",
         LINES, BARE, "", MESSAGES + "devdry: --why r.rules:3: no such rule, the nearest is r.rules:2\n", 2),
-    Row("with a faulty block", "events -r none --sources --why other r.rules", LINES, "nothing\n", "",
+    Row("an unknown file and a faulty block", "events -r none --sources --why other r.rules", LINES, "nothing\n", "",
         "r.rules:12: V2 unknown key: FOO\ndevdry: --why other: no such rules file\n", 2),
-    Row("behind the messages about the database", "events -r mnt --why other r.rules",
+    Row("an unknown file is reported after the messages about the database", "events -r mnt --why other r.rules",
         {"r.rules": "FOO\n", "mnt/etc/udev/hwdb.d/a.hwdb": " A=1\n"}, BARE, "",
         "r.rules:1: V1 bad syntax: FOO\na.hwdb:1: H1 property without a match: A=1\ndevdry: --why other: no such rules file\n", 2),
-    Row("no rules at all", "events -r none --why r.rules", {}, BARE, "", "devdry: --why r.rules: no such rules file\n", 2),
-    Row("an index that is none is told alone", "events --index r.rules --why other r.rules", LINES, BARE, "", "devdry: index: magic\n", 1),
+    Row("no rules files", "events -r none --why r.rules", {}, BARE, "", "devdry: --why r.rules: no such rules file\n", 2),
+    Row("a file that is not an index is the only message", "events --index r.rules --why other r.rules", LINES, BARE, "", "devdry: index: magic\n", 1),
 ]
 
 ROWS = [
-    Row("an adapter that is asked by attributes of two parents", "events -r none --why 99-mine.rules:2 99-mine.rules", MINE, ADAPTER, ADAPTER_ANSWER),
-    Row("rules that udev drops", "events --udev -r none --why r.rules r.rules",
+    Row("a rule that compares attributes of two parents", "events -r none --why 99-mine.rules:2 99-mine.rules", MINE, ADAPTER, ADAPTER_ANSWER),
+    Row("rules that --udev drops", "events --udev -r none --why r.rules r.rules",
         {"r.rules": 'ENV{DEVNAME}="x"\nKERNEL=="d"\nENV{B}="1"\n'}, BARE,
         START + "env ACTION=add\nenv B=1\nenv DEVPATH=/d\n"
         + "why r.rules:1: not read: V13 reserved property: DEVNAME\nwhy r.rules:2: not read: V18 rule without effect\n"

@@ -82,9 +82,9 @@ def note(number, key):
 
 
 EFFECTS = [
-    why("what each key does", [EACH_KEY], [NET], EACH_KEY_ANSWER,
+    why("the effect of each key", [EACH_KEY], [NET], EACH_KEY_ANSWER,
         of(1, 'SUBSYSTEM=="net": holds, net', "reached its end: " + EACH_KEY_DID), path="/devices/pci0/net/eth0"),
-    why("what each kind of assignment does, and what changes nothing", [rule for rule, _ in DID],
+    why("the effect of each kind of assignment, and assignments without effect", [rule for rule, _ in DID],
         ["S: one", "S: two", "G: t", "E: A=1"], DID_ANSWER,
         *(of(at, f"reached its end: {did}") for at, (_, did) in enumerate(DID, 1))),
     why(
@@ -95,17 +95,17 @@ EFFECTS = [
         of(1, "reached its end: OWNER left out, too long, MODE left out, too long, SECLABEL{m} left out, too long, "
            "ENV{A} left out, too long, ENV{.L} left out, too long, NAME left out, too long"),
     ),
-    why("a RUN is told as it is written, though it comes to too long a text", [f'RUN{{program}}+="{TWICE}"'], [LONG],
+    why("a RUN that is too long once rendered is shown as written", [f'RUN{{program}}+="{TWICE}"'], [LONG],
         [note(1, "RUN{program}")], of(1, f"reached its end: run program {TWICE} added")),
     why("texts that are set are escaped and cut", [f'ATTR{{a\\b}}="{"x" * 300}"', 'TAG+="a\\b"', 'RUN+="' + "r" * 300 + '"'], [],
         ["tag a\\x5Cb", "attr a\\x5Cb=" + "x" * 300, "run program " + "r" * 300],
         of(1, f'reached its end: attr a\\x5Cb={cut("x" * 300)} set'), of(2, "reached its end: tag a\\x5Cb added"),
         of(3, f'reached its end: run program {cut("r" * 300)} added')),
-    why("commands of which one stays", ['RUN+="/bin/a", RUN{builtin}+="b", RUN+="/bin/c"', 'RUN="/bin/a"'], [], ["run program /bin/a"],
+    why("replaced commands, one of which stays", ['RUN+="/bin/a", RUN{builtin}+="b", RUN+="/bin/c"', 'RUN="/bin/a"'], [], ["run program /bin/a"],
         of(1, "reached its end: run program /bin/a added, run builtin b added, run program /bin/c added"),
         of(2, "reached its end: run builtin b removed, run program /bin/c removed")),
     why(
-        "labels of one module with --udev: each is told, but one that is there changes nothing",
+        "labels of one module with --udev: each new label is shown",
         ['SECLABEL{a}+="x", SECLABEL{a}+="y"', 'SECLABEL{a}+="x"', 'SECLABEL{b}="z"'],
         ["N: d", "D: 1:1"],
         ["label b=z", "env DEVNAME=/dev/d", "env MAJOR=1", "env MINOR=1"],
@@ -115,7 +115,7 @@ EFFECTS = [
         udev=True,
     ),
     why(
-        "a name that comes to nothing with --udev is not told, but looked at",
+        "a name that is empty once rendered, with --udev",
         ['NAME="lan0"', 'NAME="$env{NONE}"', 'NAME=="", ENV{A}="[$name]"', 'NAME="lan1"'],
         [NET, "E: IFINDEX=2"],
         ["name lan1", "env A=[]", "env IFINDEX=2", "env SUBSYSTEM=net"],
@@ -158,15 +158,15 @@ FINALS_WORDS = (
 )
 
 FINALS = [
-    Row("keys that an earlier file made final", FINALS_WORDS, {"10-a.rules": FIRST, "99-b.rules": LAST}, block("/d", NET),
+    Row("keys that are final since an earlier file", FINALS_WORDS, {"10-a.rules": FIRST, "99-b.rules": LAST}, block("/d", NET),
         answer("/d", FINAL_ANSWER)[:-1] + FINAL_REPORTED.encode() + b"\n"),
-    why("a key that the very rule made final", ['OWNER:="a", OWNER="b", OWNER:="c"', 'OWNER=""'], [], ["owner a"],
+    why("a key that is final since the same rule", ['OWNER:="a", OWNER="b", OWNER:="c"', 'OWNER=""'], [], ["owner a"],
         of(1, "reached its end: owner=a set, OWNER is final since r.rules:1, OWNER is final since r.rules:1"),
         of(2, "reached its end: OWNER is final since r.rules:1")),
-    why("a key that was made final without a change", ['GROUP="g"', 'GROUP:="g"', 'GROUP="h"'], [], ["group g"],
+    why("a key that was made final without changing its value", ['GROUP="g"', 'GROUP:="g"', 'GROUP="h"'], [], ["group g"],
         of(1, "reached its end: group=g set"), of(2, "reached its end: GROUP changes nothing"),
         of(3, "reached its end: GROUP is final since r.rules:2")),
-    why("what is left out makes nothing final", [f'OWNER:="{TWICE}"', 'OWNER="b"', 'NAME:="n"', 'NAME="m"'], [LONG],
+    why("an assignment that is left out makes nothing final", [f'OWNER:="{TWICE}"', 'OWNER="b"', 'NAME:="n"', 'NAME="m"'], [LONG],
         ["owner b", note(1, "OWNER"), "note r.rules:3: name ignored: n", "note r.rules:4: name ignored: m"],
         of(1, "reached its end: OWNER left out, too long"), of(2, "reached its end: owner=b set"),
         of(3, "reached its end: NAME ignored, no network device"), of(4, "reached its end: NAME ignored, no network device")),
@@ -174,7 +174,7 @@ FINALS = [
         of(1, 'KERNEL=="x": fails, d', "stops there"), of(2, "reached its end: owner=b set")),
     why("other options are not final", ['OPTIONS:="db_persist"', 'OPTIONS+="db_persist"'], [], ["persist"],
         of(1, "reached its end: persist added"), of(2, "reached its end: OPTIONS changes nothing")),
-    why("what is final is told though its text would be too long", ['OWNER:="a"', f'OWNER="{TWICE}"'], [LONG], ["owner a"],
+    why("a final key is reported before a text that is too long", ['OWNER:="a"', f'OWNER="{TWICE}"'], [LONG], ["owner a"],
         of(1, "reached its end: owner=a set"), of(2, "reached its end: OWNER is final since r.rules:1")),
 ]
 
@@ -182,24 +182,24 @@ JUMP = ['SUBSYSTEM!="tty", GOTO="end"', 'ENV{A}="1", GOTO="end"', 'LABEL="other"
 JUMPED = ["env C=1", "env D=1"]
 
 JUMPS = [
-    why("rules that a jump passes over", JUMP, [], JUMPED,
+    why("rules that a jump skips", JUMP, [], JUMPED,
         of(1, 'SUBSYSTEM!="tty": holds, ""', "reached its end"), of(2, "passed over by GOTO of r.rules:1"),
         of(3, "passed over by GOTO of r.rules:1"), of(4, "reached its end: env C=1 set"), of(5, "reached its end: env D=1 set")),
-    why("one rule that a jump passes over", JUMP, [], JUMPED, of(2, "passed over by GOTO of r.rules:1"), asked=["r.rules:2"]),
-    why("a jump of a rule that stops is not done", JUMP, ["U: tty"], ["env A=1", "env C=1", "env D=1", "env SUBSYSTEM=tty"],
+    why("one rule that a jump skips", JUMP, [], JUMPED, of(2, "passed over by GOTO of r.rules:1"), asked=["r.rules:2"]),
+    why("a rule that stops does not jump", JUMP, ["U: tty"], ["env A=1", "env C=1", "env D=1", "env SUBSYSTEM=tty"],
         of(1, 'SUBSYSTEM!="tty": fails, tty', "stops there"), of(2, "reached its end: env A=1 set"),
         of(3, "passed over by GOTO of r.rules:2"), of(4, "reached its end: env C=1 set"), of(5, "reached its end: env D=1 set")),
-    why("from jump to jump", ['GOTO="x"', 'ENV{A}="1"', 'LABEL="x", GOTO="x", ENV{B}="1"', 'ENV{C}="1"', 'LABEL="x"'], [], ["env B=1"],
+    why("a jump to a rule with a jump", ['GOTO="x"', 'ENV{A}="1"', 'LABEL="x", GOTO="x", ENV{B}="1"', 'ENV{C}="1"', 'LABEL="x"'], [], ["env B=1"],
         of(1, "reached its end"), of(2, "passed over by GOTO of r.rules:1"), of(3, "reached its end: env B=1 set"),
         of(4, "passed over by GOTO of r.rules:3"), of(5, "reached its end")),
-    why("a jump that is lost is none", ['GOTO="y", ENV{A}="1"', 'ENV{B}="1"'], [], ["env A=1", "env B=1"],
+    why("a jump without a label is not shown", ['GOTO="y", ENV{A}="1"', 'ENV{B}="1"'], [], ["env A=1", "env B=1"],
         of(1, "reached its end: env A=1 set"), of(2, "reached its end: env B=1 set"),
         messages="r.rules:1: V7 no later label: y\n"),
 ]
 
 NOT_READ = [
     why(
-        "lines that are not read stand first, in the order of their messages",
+        "lines that are not read come first, in the order of their messages",
         ['KERNEL=="d", TAG+="t"', 'ENV{B}="$nope"', "", "# a comment", 'FOO="a\\b"', 'TAG+="u"'],
         [],
         ["tag t", "tag u"],
@@ -211,12 +211,12 @@ NOT_READ = [
     ),
     why("one line that is not read", ['TAG+="t"', 'KERNEL=="sd*'], [], ["tag t"], of(2, 'not read: V1 bad syntax: KERNEL=="sd*'),
         asked=["r.rules:2"], messages='r.rules:2: V1 bad syntax: KERNEL=="sd*\n'),
-    why("the word of a line that is not read is that of its message", ['ENV{B}="$nope\\' + "n" * 40 + '"'], [], [],
+    why("a line that is not read has the word of its message", ['ENV{B}="$nope\\' + "n" * 40 + '"'], [], [],
         of(1, "not read: V6 bad substitution: $nope\\x5C" + "n" * 26),
         messages="r.rules:1: V6 bad substitution: $nope\\x5C" + "n" * 26 + "\n"),
-    why("a line that is not read for its length", ['TAG+="' + "t" * 16_384 + '"'], [], [], of(1, "not read: V9 line too long"),
+    why("a line that is not read because of its length", ['TAG+="' + "t" * 16_384 + '"'], [], [], of(1, "not read: V9 line too long"),
         messages="r.rules:1: V9 line too long\n"),
-    why("a rule with a message is told as a rule", ['LABEL="a", LABEL="b", TAG+="t"'], [], ["tag t"],
+    why("a rule with a message is shown like other rules", ['LABEL="a", LABEL="b", TAG+="t"'], [], ["tag t"],
         of(1, "reached its end: tag t added"), messages="r.rules:1: V8 label or goto given twice: b\n"),
 ]
 

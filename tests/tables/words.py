@@ -394,7 +394,7 @@ def named(words):
     """The words as the name of a row."""
     if isinstance(words, str):
         return words or "no words"
-    return " ".join("a word that is not UTF-8" if isinstance(word, bytes) else word or "''" for word in words)
+    return " ".join("an argument that is not UTF-8" if isinstance(word, bytes) else word or "''" for word in words)
 
 
 ROWS = [

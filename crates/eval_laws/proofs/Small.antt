@@ -3,7 +3,7 @@ use Rattle.std.proofs.Common.{◌≡◌, ℕ, zero, suc, ◌+◌, ◌^◌, ◌�
 use Rattle.std.proofs.lemmas.Bool.{leb-true, ltb-true}
 use Rattle.std.specs.Prelude.{⊤}
 use Rattle.std.specs.Cmp.Lexicographic.{pointwise}
-use Rattle.std.specs.List.{cons_option, filter_map}
+use Rattle.std.specs.List.{cons_option, filter_map, range_with_len}
 use Rattle.std.specs.Option.{option_and_then, unwrap_or}
 use Rattle.text_bytes.specs.Numbers.{decimal, decimal_below, is_decimal}
 use Rattle.text_bytes.specs.declared.message.MessageKind.TheVariants.{BadValue, LineTooLong, RuleWithoutEffect}
@@ -37,7 +37,7 @@ use Rattle.rule_types.specs.declared.part.Part.TheVariants as part
 use Rattle.rule_core.specs.Effects.{lacks_effect}
 use Rattle.rule_core.specs.Ends.{abandoned}
 use Rattle.rule_core.specs.Drafts.{Draft, assignment_in, draft, draft_of, draft_with, items_as, most_bytes, part_of_item, parts_of, tokens_of, with_part}
-use Rattle.rule_core.specs.Turns.{assignment_turns, assignments_by_turn, of_turn, turn_of_assignment, turns_from}
+use Rattle.rule_core.specs.Turns.{assignment_turns, assignments_by_turn, of_turn, turn_of_assignment}
 use Rattle.rule_types.specs.Rules.{Rule}
 use Rattle.rule_core.specs.Rules.{Reading, file_rules, rules_unless, line_rules, names_of, reading_of, readings_of, set_of_as}
 
@@ -191,7 +191,7 @@ made_fits : {A : Type 0} (f : A → Part) → ((x : A) → PartFits (f x)) → (
 made_fits f each (Ok x) = each x
 made_fits f each (Err wrong) = tt
 
-found_fits : {A : Type 0} (wrong : Finding) (next : A → Result Part Finding) → ((x : A) → ResultFits (next x)) → (o : Option A) → ResultFits (if_found wrong next o)
+found_fits : {A : Type 0} (wrong : Finding) (next : A → Result Part Finding) → ((x : A) → ResultFits (next x)) → (o : Option A) → ResultFits (if_found o wrong next)
 found_fits wrong next each None = tt
 found_fits wrong next each (Some x) = each x
 
@@ -274,7 +274,7 @@ assignments_fit (p ∷ parts) h =
 
 sorted_fit : (profile : Profile) (sets : List Assignment) → SetsFit sets → SetsFit (assignments_by_turn profile sets)
 sorted_fit profile sets h =
-    each_flat_map (λ (a : Assignment). ChangeFits a.change) (of_turn (turn_of_assignment profile) sets) (λ t. each_filter (λ (a : Assignment). ChangeFits a.change) (λ x. turn_of_assignment profile x == t) sets h) (turns_from 0 (assignment_turns profile))
+    each_flat_map (λ (a : Assignment). ChangeFits a.change) (of_turn (turn_of_assignment profile) sets) (λ t. each_filter (λ (a : Assignment). ChangeFits a.change) (λ x. turn_of_assignment profile x == t) sets h) (range_with_len 0 (assignment_turns profile))
 
 abbrev DraftFits : Result Draft Finding → Type 0
 DraftFits (Ok d) = SetsFit d.sets

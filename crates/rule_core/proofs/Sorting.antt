@@ -1,12 +1,12 @@
 -- A stable sort by turns gives parts turn by turn.
 use Rattle.std.proofs.Common.{◌≡◌, ℕ, zero, suc, ◌+◌, ◌<◌, ◌≤◌, ◌==◌, ◌&&◌, Bool, true, false, not, cond, List, [], ◌∷◌, ◌++◌, length, filter, get_or, nat_lt, append-nil, refl, ap, sym, ◌∙◌, subst, arith, ◌⊎◌, inl, inr}
-use Rattle.std.specs.List.{flat_map}
+use Rattle.std.specs.List.{flat_map, range_with_len}
 use Rattle.std.specs.List.Sorted.{IsNonDecreasingBy, IsStableByKey, ties}
 use Rattle.std.specs.Ordering.{is_lt, nat_cmp}
 use Rattle.std.specs.declared.cmp.Ordering.TheVariants.{Less, Equal, Greater}
 use Rattle.std.proofs.lemmas.Bool.{cases_lt, eq-eqb, eqb-true, false≢true, le-ltb, lt-ltb}
 use Rattle.rule_core.specs.Laws.{IsInOrder, RisesFrom}
-use Rattle.rule_core.specs.Turns.{by_turn, of_turn, turns_from}
+use Rattle.rule_core.specs.Turns.{by_turn, of_turn}
 
 module _ {X : Type 0} (turn : X → ℕ) where
   -- each has a turn below this
@@ -49,18 +49,18 @@ module _ {X : Type 0} (turn : X → ℕ) where
       of_other x xs t (is_other t (turn x) (omega arith)) ∙ none_before t (turn x) xs (omega arith) r.1
 
   -- one that has its turn before these is in none of them
-  not_later : (x : X) (xs : List X) (u n : ℕ) → turn x < u → flat_map (of_turn turn (x ∷ xs)) (turns_from u n) ≡ flat_map (of_turn turn xs) (turns_from u n)
+  not_later : (x : X) (xs : List X) (u n : ℕ) → turn x < u → flat_map (of_turn turn (x ∷ xs)) (range_with_len u n) ≡ flat_map (of_turn turn xs) (range_with_len u n)
   not_later x xs u zero h = refl
   not_later x xs u (suc n) h =
-      ap (λ ys. ys ++ flat_map (of_turn turn (x ∷ xs)) (turns_from (u + 1) n)) (of_other x xs u (is_earlier (turn x) u h))
+      ap (λ ys. ys ++ flat_map (of_turn turn (x ∷ xs)) (range_with_len (u + 1) n)) (of_other x xs u (is_earlier (turn x) u h))
       ∙ ap (λ ys. of_turn turn xs u ++ ys) (not_later x xs (u + 1) n (omega arith))
 
-  none_left : (u n : ℕ) → flat_map (of_turn turn []) (turns_from u n) ≡ []
+  none_left : (u n : ℕ) → flat_map (of_turn turn []) (range_with_len u n) ≡ []
   none_left u zero = refl
   none_left u (suc n) = none_left (u + 1) n
 
   -- elements whose turns rise are listed turn by turn
-  in_turn_order : (u n : ℕ) (xs : List X) → RisesFrom turn u xs → AllBelow (u + n) xs → xs ≡ flat_map (of_turn turn xs) (turns_from u n)
+  in_turn_order : (u n : ℕ) (xs : List X) → RisesFrom turn u xs → AllBelow (u + n) xs → xs ≡ flat_map (of_turn turn xs) (range_with_len u n)
   in_turn_order u zero [] r b = refl
   in_turn_order u zero (x ∷ xs) r b =
       let first : u ≤ turn x = r.0 in
@@ -74,22 +74,22 @@ module _ {X : Type 0} (turn : X → ℕ) where
           let last : turn y < u + suc n = b.0 in
           (omega arith, more k ys b.1)
 
-      by : ((ys : List X) → RisesFrom turn (u + 1) ys → AllBelow (u + 1 + n) ys → ys ≡ flat_map (of_turn turn ys) (turns_from (u + 1) n))
-          → (ys : List X) → RisesFrom turn u ys → AllBelow (u + suc n) ys → ys ≡ flat_map (of_turn turn ys) (turns_from u (suc n))
+      by : ((ys : List X) → RisesFrom turn (u + 1) ys → AllBelow (u + 1 + n) ys → ys ≡ flat_map (of_turn turn ys) (range_with_len (u + 1) n))
+          → (ys : List X) → RisesFrom turn u ys → AllBelow (u + suc n) ys → ys ≡ flat_map (of_turn turn ys) (range_with_len u (suc n))
       by later [] r b = sym (none_left u (suc n))
       by later (y ∷ ys) r b = by_turn_of (turn y == u) refl (by later ys)
         where
-          by_turn_of : (c : Bool) → (turn y == u) ≡ c → (RisesFrom turn u ys → AllBelow (u + suc n) ys → ys ≡ flat_map (of_turn turn ys) (turns_from u (suc n))) → y ∷ ys ≡ flat_map (of_turn turn (y ∷ ys)) (turns_from u (suc n))
+          by_turn_of : (c : Bool) → (turn y == u) ≡ c → (RisesFrom turn u ys → AllBelow (u + suc n) ys → ys ≡ flat_map (of_turn turn ys) (range_with_len u (suc n))) → y ∷ ys ≡ flat_map (of_turn turn (y ∷ ys)) (range_with_len u (suc n))
           by_turn_of true e rest =
               let same : turn y ≡ u = eqb-true (turn y) u e in
               ap (λ zs. y ∷ zs) (rest (rises_less u (turn y) ys (omega arith) r.1) b.1)
-              ∙ ap (λ zs. zs ++ flat_map (of_turn turn ys) (turns_from (u + 1) n)) (sym (of_same y ys u e))
+              ∙ ap (λ zs. zs ++ flat_map (of_turn turn ys) (range_with_len (u + 1) n)) (sym (of_same y ys u e))
               ∙ ap (λ zs. of_turn turn (y ∷ ys) u ++ zs) (sym (not_later y ys (u + 1) n (omega arith)))
           by_turn_of false e rest =
               let first : u ≤ turn y = r.0 in
               let apart : u < turn y = past u (turn y) first e in
               later (y ∷ ys) (omega arith, r.1) (more 0 (y ∷ ys) b)
-              ∙ ap (λ zs. zs ++ flat_map (of_turn turn (y ∷ ys)) (turns_from (u + 1) n)) (sym (none_before u (u + 1) (y ∷ ys) (omega arith) (omega arith, r.1)))
+              ∙ ap (λ zs. zs ++ flat_map (of_turn turn (y ∷ ys)) (range_with_len (u + 1) n)) (sym (none_before u (u + 1) (y ∷ ys) (omega arith) (omega arith, r.1)))
             where
               past : (a b : ℕ) → a ≤ b → (b == a) ≡ false → a < b
               past a b h e = by_size (cases_lt a b)
@@ -149,10 +149,10 @@ module _ {X : Type 0} (turn : X → ℕ) where
       by (x ∷ those) these e f = at x (head_turn xs x those t e)
       by [] (y ∷ these) e f = at y (head_turn ys y these t f)
 
-  same_turns : (xs ys : List X) → ((t : ℕ) → of_turn turn ys t ≡ of_turn turn xs t) → (u n : ℕ) → flat_map (of_turn turn ys) (turns_from u n) ≡ flat_map (of_turn turn xs) (turns_from u n)
+  same_turns : (xs ys : List X) → ((t : ℕ) → of_turn turn ys t ≡ of_turn turn xs t) → (u n : ℕ) → flat_map (of_turn turn ys) (range_with_len u n) ≡ flat_map (of_turn turn xs) (range_with_len u n)
   same_turns xs ys e u zero = refl
   same_turns xs ys e u (suc n) =
-      ap (λ zs. zs ++ flat_map (of_turn turn ys) (turns_from (u + 1) n)) (e u) ∙ ap (λ zs. of_turn turn xs u ++ zs) (same_turns xs ys e (u + 1) n)
+      ap (λ zs. zs ++ flat_map (of_turn turn ys) (range_with_len (u + 1) n)) (e u) ∙ ap (λ zs. of_turn turn xs u ++ zs) (same_turns xs ys e (u + 1) n)
 
   all_below : (n : ℕ) → ((x : X) → turn x < n) → (xs : List X) → AllBelow n xs
   all_below n h [] = tt
@@ -191,19 +191,19 @@ module _ {X : Type 0} (turn : X → ℕ) where
       by true e more = of_other x (of_turn turn xs u) t (ap (λ n. n == t) (eqb-true (turn x) u e) ∙ h) ∙ more
       by false e more = more
 
-  none_of : (xs : List X) (u n t : ℕ) → ((s : ℕ) → u ≤ s → s < u + n → (s == t) ≡ false) → of_turn turn (flat_map (of_turn turn xs) (turns_from u n)) t ≡ []
+  none_of : (xs : List X) (u n t : ℕ) → ((s : ℕ) → u ≤ s → s < u + n → (s == t) ≡ false) → of_turn turn (flat_map (of_turn turn xs) (range_with_len u n)) t ≡ []
   none_of xs u zero t h = refl
   none_of xs u (suc n) t h =
-      of_both (of_turn turn xs u) (flat_map (of_turn turn xs) (turns_from (u + 1) n)) t
-      ∙ ap (λ zs. zs ++ of_turn turn (flat_map (of_turn turn xs) (turns_from (u + 1) n)) t) (of_apart xs u t (h u (omega arith) (omega arith)))
+      of_both (of_turn turn xs u) (flat_map (of_turn turn xs) (range_with_len (u + 1) n)) t
+      ∙ ap (λ zs. zs ++ of_turn turn (flat_map (of_turn turn xs) (range_with_len (u + 1) n)) t) (of_apart xs u t (h u (omega arith) (omega arith)))
       ∙ none_of xs (u + 1) n t (λ s g k. h s (omega arith) (omega arith))
 
-  one_of : (xs : List X) (u n t : ℕ) → u ≤ t → t < u + n → of_turn turn (flat_map (of_turn turn xs) (turns_from u n)) t ≡ of_turn turn xs t
+  one_of : (xs : List X) (u n t : ℕ) → u ≤ t → t < u + n → of_turn turn (flat_map (of_turn turn xs) (range_with_len u n)) t ≡ of_turn turn xs t
   one_of xs u zero t h k = absurd (omega arith)
   one_of xs u (suc n) t h k = of_both (of_turn turn xs u) rest t ∙ by (cases_lt u t) (one_of xs (u + 1) n t)
     where
       rest : List X
-      rest = flat_map (of_turn turn xs) (turns_from (u + 1) n)
+      rest = flat_map (of_turn turn xs) (range_with_len (u + 1) n)
 
       by : (u < t) ⊎ (t ≤ u) → (u + 1 ≤ t → t < u + 1 + n → of_turn turn rest t ≡ of_turn turn xs t) → of_turn turn (of_turn turn xs u) t ++ of_turn turn rest t ≡ of_turn turn xs t
       by (inl g) more = ap (λ zs. zs ++ of_turn turn rest t) (of_apart xs u t (is_earlier u t g)) ∙ more (omega arith) (omega arith)
@@ -231,9 +231,9 @@ module _ {X : Type 0} (turn : X → ℕ) where
           (omega arith, rises_less (turn x) t (of_turn turn xs t ++ others) (omega arith) near)
       by false e far near = far
 
-  rising : (b u n : ℕ) (xs : List X) → b ≤ u → RisesFrom turn b (flat_map (of_turn turn xs) (turns_from u n))
+  rising : (b u n : ℕ) (xs : List X) → b ≤ u → RisesFrom turn b (flat_map (of_turn turn xs) (range_with_len u n))
   rising b u zero xs h = tt
-  rising b u (suc n) xs h = turn_first b u xs (flat_map (of_turn turn xs) (turns_from (u + 1) n)) h (rising u (u + 1) n xs (omega arith))
+  rising b u (suc n) xs h = turn_first b u xs (flat_map (of_turn turn xs) (range_with_len (u + 1) n)) h (rising u (u + 1) n xs (omega arith))
 
   -- elements that are listed turn by turn are in order
   pub are_in_order : (n : ℕ) → ((x : X) → turn x < n) → (xs : List X) → IsInOrder turn xs (by_turn turn n xs)

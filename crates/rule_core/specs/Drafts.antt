@@ -1,6 +1,7 @@
 -- A joined line read as a rule, before its jumps are followed.
 use Rattle.std.specs.Prelude.{ℕ, nat_lt, if◌then◌else◌, List, [], ◌∷◌, ◌++◌, drop, filter_map, length, Option, Some, None, Result, Ok, Err}
 use Rattle.std.specs.List.{prefix_len}
+use Rattle.std.specs.Result.{result_ok}
 use Rattle.text_bytes.specs.Texts.{first, last}
 use Rattle.text_bytes.specs.declared.profile.Profile.{Profile}
 use Rattle.text_bytes.specs.declared.profile.Profile.TheVariants.{Manual, Udev}
@@ -68,9 +69,7 @@ parts_of by line (i ∷ items) = with_part (part_of_item by line i) (parts_of by
 
 -- the tokens of items
 abbrev pub tokens_of : List Item → List Placed
-tokens_of [] = []
-tokens_of (Ok t ∷ items) = t ∷ tokens_of items
-tokens_of (Err fault ∷ items) = tokens_of items
+tokens_of items = filter_map result_ok items
 
 -- what a part is, if it is that
 abbrev pub plain_in : Part → Option PlainMatch

@@ -1,5 +1,6 @@
 -- The rules of files, and the messages about them.
 use Rattle.std.specs.Prelude.{ℕ, if◌then◌else◌, List, [], ◌∷◌, ◌++◌, map, zip, flat_map, Option, Some, None, Result, Ok, Err}
+use Rattle.std.specs.Option.{unwrap_or}
 use Rattle.text_bytes.specs.declared.message.Message.{Message}
 use Rattle.text_bytes.specs.declared.message.MessageKind.TheVariants.{NoLaterLabel, OpenAtEnd, LabelUnused, FileAbandoned}
 use Rattle.text_bytes.specs.declared.profile.Profile.{Profile}
@@ -41,17 +42,12 @@ names_of (Err wrong) = record { label = None; goto = None }
 abbrev pub landed : List Reading → List (Reading × Landing)
 landed readings = zip readings (landings (map (λ r. names_of r.read) readings))
 
--- a name, empty if there is none
-abbrev pub name_in : Option (List ℕ) → List ℕ
-name_in None = []
-name_in (Some name) = name
-
 -- the findings about a rule: first about its jump, and about its label last
 abbrev pub findings_of : Draft → Landing → List Finding
 findings_of d l =
-    (if l.lost then finding NoLaterLabel (name_in d.goto) ∷ [] else [])
+    (if l.lost then finding NoLaterLabel (unwrap_or d.goto []) ∷ [] else [])
     ++ (d.findings
-    ++ (if l.unused then finding LabelUnused (name_in d.label) ∷ [] else []))
+    ++ (if l.unused then finding LabelUnused (unwrap_or d.label []) ∷ [] else []))
 
 -- a finding about a line of a file, as a message
 abbrev pub message_at : List ℕ → ℕ → Finding → Message

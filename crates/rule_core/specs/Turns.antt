@@ -1,5 +1,6 @@
 -- The order in which the parts of a rule that act are evaluated, and those that assign.
-use Rattle.std.specs.Prelude.{ℕ, zero, suc, ◌+◌, ◌==◌, Bool, false, if◌then◌else◌, List, [], ◌∷◌, filter, flat_map, Option, Some, is_none}
+use Rattle.std.specs.Prelude.{ℕ, ◌+◌, ◌==◌, Bool, false, if◌then◌else◌, List, filter, flat_map, Option, Some, is_none}
+use Rattle.std.specs.List.{range_with_len}
 use Rattle.text_bytes.specs.declared.profile.Profile.{Profile}
 use Rattle.text_bytes.specs.declared.profile.Profile.TheVariants.{Manual, Udev}
 use Rattle.rule_templates.specs.Substituted.{is_substituted}
@@ -99,14 +100,9 @@ assignment_turns Udev = 21
 abbrev pub of_turn : {X : Type 0} → (X → ℕ) → List X → ℕ → List X
 of_turn turn xs t = filter (λ x. turn x == t) xs
 
--- so many turns, from this one on
-abbrev pub turns_from : ℕ → ℕ → List ℕ
-turns_from t zero = []
-turns_from t (suc n) = t ∷ turns_from (t + 1) n
-
 -- parts turn by turn, of which there are so many
 abbrev pub by_turn : {X : Type 0} → (X → ℕ) → ℕ → List X → List X
-by_turn turn n xs = flat_map (of_turn turn xs) (turns_from 0 n)
+by_turn turn n xs = flat_map (of_turn turn xs) (range_with_len 0 n)
 
 -- acts in the order of evaluation
 abbrev pub acts_by_turn : List Act → List Act

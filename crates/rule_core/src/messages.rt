@@ -1,8 +1,9 @@
 //! What is found in the lines of a file, as messages.
 ghost use Rattle.std.specs.Prelude.{◌≡◌, ◌∷◌, ◌++◌, [], if◌then◌else◌, OnOk, map};
+ghost use Rattle.std.specs.Option.{unwrap_or};
 ghost use Rattle.text_bytes.specs.declared.message.MessageKind.TheVariants.{FileAbandoned, OpenAtEnd};
 ghost use Rattle.rule_parts.specs.Values.{finding};
-ghost use Rattle.rule_core.specs.Rules.{message_at, name_in, open_messages};
+ghost use Rattle.rule_core.specs.Rules.{message_at, open_messages};
 
 use rule_parts::Finding;
 use std::alloc::{AllocError, Global};
@@ -59,7 +60,7 @@ pub(crate) fn report_if(
     kind: MessageKind,
     name: &Option<Bytes>,
 ) -> Result<(), AllocError>
-    ensures { OnOk result (messages.new.items ≡ messages.old.items ++ map (message_at place.entry.file.now place.entry.line) (if wrong then finding kind (name_in name.now) ∷ [] else [])) }
+    ensures { OnOk result (messages.new.items ≡ messages.old.items ++ map (message_at place.entry.file.now place.entry.line) (if wrong then finding kind (unwrap_or name.now []) ∷ [] else [])) }
 {
     if wrong {
         report(
@@ -106,7 +107,7 @@ pub(crate) fn report_abandoned(
 
 /// A name, or the empty one if there is none.
 fn text_of(name: &Option<Bytes>) -> &[u8]
-    ensures { result.now ≡ name_in name.now }
+    ensures { result.now ≡ unwrap_or name.now [] }
 {
     match name {
         None => &[],

@@ -112,18 +112,18 @@ listed word blind text key about r =
     ∷ []
 
 by_operator : (word : List ℕ) (blind : Bool) (text : List ℕ) (key : Key) (about : Topic) (r : Option Role)
-    → result_err (if_found (finding OperatorNotAllowed word) (λ x. value_part Manual x blind text) r) ≡ first_of (listed word blind text (Some key) (Some about) r)
+    → result_err (if_found r (finding OperatorNotAllowed word) (λ x. value_part Manual x blind text)) ≡ first_of (listed word blind text (Some key) (Some about) r)
 by_operator word blind text key about None = refl
 by_operator word blind text key about (Some r) = by_value r blind text
 
 by_attribute : (word : List ℕ) (blind : Bool) (text : List ℕ) (o : Operator) (key : Key) (about : Option Topic)
-    → result_err (if_found (finding WrongAttribute word) (λ x. if_found (finding OperatorNotAllowed word) (λ y. value_part Manual y blind text) (role_of x o)) about)
+    → result_err (if_found about (finding WrongAttribute word) (λ x. if_found (role_of x o) (finding OperatorNotAllowed word) (λ y. value_part Manual y blind text)))
     ≡ first_of (listed word blind text (Some key) about (option_and_then (λ x. role_of x o) about))
 by_attribute word blind text o key None = refl
 by_attribute word blind text o key (Some about) = by_operator word blind text key about (role_of about o)
 
 by_key : (t : Placed) (word : List ℕ) (blind : Bool) (text : List ℕ) (key : Option Key)
-    → result_err (if_found (finding UnknownKey word) (λ k. if_found (finding WrongAttribute word) (λ x. if_found (finding OperatorNotAllowed word) (λ y. value_part Manual y blind text) (role_of x (read_as k t.parts.head.operator))) (topic_of Manual k t.parts.head.attribute)) key)
+    → result_err (if_found key (finding UnknownKey word) (λ k. if_found (topic_of Manual k t.parts.head.attribute) (finding WrongAttribute word) (λ x. if_found (role_of x (read_as k t.parts.head.operator)) (finding OperatorNotAllowed word) (λ y. value_part Manual y blind text))))
     ≡ first_of (listed word blind text key (option_and_then (λ k. topic_of Manual k t.parts.head.attribute) key) (option_and_then (λ k. option_and_then (λ x. role_of x (read_as k t.parts.head.operator)) (topic_of Manual k t.parts.head.attribute)) key))
 by_key t word blind text None = refl
 by_key t word blind text (Some key) = by_attribute word blind text (read_as key t.parts.head.operator) key (topic_of Manual key t.parts.head.attribute)

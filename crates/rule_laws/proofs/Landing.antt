@@ -1,13 +1,13 @@
 -- The jumps of the rules of files land in their own files.
-use Rattle.std.proofs.Common.{◌≡◌, ℕ, ◌||◌, Bool, true, false, List, [], ◌∷◌, ◌++◌, Some, refl, sym, ◌∙◌, ap, append_assoc, subst, ◌⊎◌, inl, inr}
+use Rattle.std.proofs.Common.{◌≡◌, ℕ, ◌+◌, ◌||◌, Bool, true, false, List, [], ◌∷◌, ◌++◌, map, Some, refl, sym, ◌∙◌, ap, append_assoc, subst, ◌⊎◌, inl, inr}
 use Rattle.std.proofs.lemmas.Bool.{false≢true}
 use Rattle.std.specs.List.{flat_map}
 use Rattle.text_bytes.specs.declared.source_file.SourceFile.{SourceFile}
 use Rattle.text_bytes.specs.declared.profile.Profile.TheVariants.{Manual}
 use Rattle.rule_core.specs.Lines.{NumberedLine, joined_lines}
 use Rattle.rule_jumps.specs.Jumps.{is_named}
-use Rattle.rule_laws.specs.Jumps.{JumpsStayInTheirFiles}
-use Rattle.rule_laws.specs.Outcomes.{AllBecome, HasLabel, LineOutcome, one_message, one_rule, rules_in}
+use Rattle.rule_laws.specs.Jumps.{JumpsStayInTheirFiles, LandsIn, numbered_rules, rules_in}
+use Rattle.rule_laws.specs.Outcomes.{AllBecome, HasLabel, LineOutcome, one_message, one_rule, rules_in as rules_of_outcome}
 use Rattle.rule_types.specs.Rules.{Rule}
 use Rattle.rule_core.specs.Rules.{file_rules, set_of_as}
 use Rattle.rule_laws.proofs.Outcomes.{bears, named_so, read_by_line, so_bears}
@@ -19,7 +19,7 @@ abbrev AllEnd : List Rule → Type 0
 AllEnd [] = Unit {0}
 AllEnd (r ∷ rules) = ((name : List ℕ) → r.goto ≡ Some name → HasLabel name rules) × AllEnd rules
 
-all_end : (file : List ℕ) (ls : List NumberedLine) (os : List LineOutcome) → AllBecome Manual file ls os → AllEnd (flat_map rules_in os)
+all_end : (file : List ℕ) (ls : List NumberedLine) (os : List LineOutcome) → AllBecome Manual file ls os → AllEnd (flat_map rules_of_outcome os)
 all_end file [] [] c = tt
 all_end file [] (o ∷ os) c = absurd c
 all_end file (l ∷ ls) [] c = absurd c
@@ -63,85 +63,114 @@ nearest name (r ∷ rules) h = by (is_named name r.label) refl (nearest name rul
 
 -- ---- in several files
 
--- a rule of two lists is in the first
-abbrev InFirst : List Rule → List Rule → List Rule → Rule → List Rule → Type 0
-InFirst xs ys above r below = (near : List Rule) × (xs ≡ above ++ r ∷ near) × (below ≡ near ++ ys)
+-- rules, each beside this number
+abbrev with_number : ℕ → List Rule → List (ℕ × Rule)
+with_number n rules = map (λ r. (n, r)) rules
 
--- a rule of two lists is in the second
-abbrev InSecond : List Rule → List Rule → List Rule → Rule → List Rule → Type 0
-InSecond xs ys above r below = (near : List Rule) × (above ≡ xs ++ near) × (ys ≡ near ++ r ∷ below)
+-- an element of two lists is in the first
+abbrev InFirst : List (ℕ × Rule) → List (ℕ × Rule) → List (ℕ × Rule) → ℕ × Rule → List (ℕ × Rule) → Type 0
+InFirst xs ys above x below = (near : List (ℕ × Rule)) × (xs ≡ above ++ x ∷ near) × (below ≡ near ++ ys)
 
-uncons : (x y : Rule) (xs ys : List Rule) → x ∷ xs ≡ y ∷ ys → (x ≡ y) × (xs ≡ ys)
+-- an element of two lists is in the second
+abbrev InSecond : List (ℕ × Rule) → List (ℕ × Rule) → ℕ × Rule → List (ℕ × Rule) → Type 0
+InSecond xs ys x below = (near : List (ℕ × Rule)) × (ys ≡ near ++ x ∷ below)
+
+uncons : {X : Type 0} (x y : X) (xs ys : List X) → x ∷ xs ≡ y ∷ ys → (x ≡ y) × (xs ≡ ys)
 uncons x y xs ys e = (cc, cc)
 
-cut : (xs ys above : List Rule) (r : Rule) (below : List Rule) → xs ++ ys ≡ above ++ r ∷ below → InFirst xs ys above r below ⊎ InSecond xs ys above r below
-cut [] ys above r below e = inr (above, refl, e)
-cut (x ∷ xs) ys [] r below e =
-    let both = uncons x r (xs ++ ys) below e in
-    inl (xs, ap (λ (y : Rule). y ∷ xs) both.0, sym both.1)
-cut (x ∷ xs) ys (a ∷ above) r below e =
-    let both = uncons x a (xs ++ ys) (above ++ r ∷ below) e in
-    by both.0 (cut xs ys above r below both.1)
+cut : (xs ys above : List (ℕ × Rule)) (x : ℕ × Rule) (below : List (ℕ × Rule)) → xs ++ ys ≡ above ++ x ∷ below → InFirst xs ys above x below ⊎ InSecond xs ys x below
+cut [] ys above x below e = inr (above, e)
+cut (z ∷ xs) ys [] x below e =
+    let both = uncons z x (xs ++ ys) below e in
+    inl (xs, ap (λ (y : ℕ × Rule). y ∷ xs) both.0, sym both.1)
+cut (z ∷ xs) ys (a ∷ above) x below e =
+    let both = uncons z a (xs ++ ys) (above ++ x ∷ below) e in
+    by both.0 (cut xs ys above x below both.1)
   where
-    by : x ≡ a → InFirst xs ys above r below ⊎ InSecond xs ys above r below → InFirst (x ∷ xs) ys (a ∷ above) r below ⊎ InSecond (x ∷ xs) ys (a ∷ above) r below
+    by : z ≡ a → InFirst xs ys above x below ⊎ InSecond xs ys x below → InFirst (z ∷ xs) ys (a ∷ above) x below ⊎ InSecond (z ∷ xs) ys x below
     by same (inl p) = inl (p.0, (λ i. same i ∷ p.1 i), p.2)
-    by same (inr p) = inr (p.0, (λ i. sym same i ∷ p.1 i), p.2)
+    by same (inr p) = inr p
 
--- the file that a rule is in
-record InFile (rules_of : SourceFile → List Rule) (files : List SourceFile) (above : List Rule) (r : Rule) (below : List Rule) : Type 0 where
-  files_before : List SourceFile
-  file : SourceFile
-  files_after : List SourceFile
-  files_are : files ≡ files_before ++ file ∷ files_after
+-- a rule of a file, with those of the file that are above it and below it
+record InFile (n file : ℕ) (rules : List Rule) (r : Rule) (near : List (ℕ × Rule)) : Type 0 where
   before : List Rule
-  near : List Rule
-  file_is : rules_of file ≡ before ++ r ∷ near
-  above_is : above ≡ flat_map rules_of files_before ++ before
-  below_is : below ≡ near ++ flat_map rules_of files_after
+  following : List Rule
+  same : file ≡ n
+  rules_are : rules ≡ before ++ r ∷ following
+  near_is : near ≡ with_number n following
 
-none_before : (above : List Rule) (r : Rule) (below : List Rule) → [] ≡ above ++ r ∷ below → ⊥
-none_before [] r below e = cc
-none_before (a ∷ above) r below e = cc
+none_there : (above : List (ℕ × Rule)) (x : ℕ × Rule) (below : List (ℕ × Rule)) → [] ≡ above ++ x ∷ below → ⊥
+none_there [] x below e = cc
+none_there (a ∷ above) x below e = cc
 
-in_file : (rules_of : SourceFile → List Rule) (files : List SourceFile) (above : List Rule) (r : Rule) (below : List Rule) → flat_map rules_of files ≡ above ++ r ∷ below → InFile rules_of files above r below
-in_file rules_of [] above r below e = absurd (none_before above r below e)
-in_file rules_of (f ∷ files) above r below e = by (λ near. in_file rules_of files near r below) (cut (rules_of f) (flat_map rules_of files) above r below e)
-  where
-    farther : (near : List Rule) → above ≡ rules_of f ++ near → InFile rules_of files near r below → InFile rules_of (f ∷ files) above r below
-    farther near is q = record {
-      files_before = f ∷ q.files_before;
-      file = q.file;
-      files_after = q.files_after;
-      files_are = ap (λ (fs : List SourceFile). f ∷ fs) q.files_are;
-      before = q.before;
-      near = q.near;
-      file_is = q.file_is;
-      above_is = is ∙ ap (λ (rs : List Rule). rules_of f ++ rs) q.above_is ∙ sym (append_assoc (rules_of f) (flat_map rules_of q.files_before) q.before);
-      below_is = q.below_is;
+in_file : (n file : ℕ) (rules : List Rule) (above : List (ℕ × Rule)) (r : Rule) (near : List (ℕ × Rule)) → with_number n rules ≡ above ++ (file, r) ∷ near → InFile n file rules r near
+in_file n file [] above r near e = absurd (none_there above (file, r) near e)
+in_file n file (q ∷ rules) [] r near e =
+    let both = uncons (n, q) (file, r) (with_number n rules) near e in
+    record {
+      before = [];
+      following = rules;
+      same = sym (ap (λ (x : ℕ × Rule). x.0) both.0);
+      rules_are = ap (λ (x : ℕ × Rule). x.1 ∷ rules) both.0;
+      near_is = sym both.1;
+    }
+in_file n file (q ∷ rules) (a ∷ above) r near e =
+    let both = uncons (n, q) a (with_number n rules) (above ++ (file, r) ∷ near) e in
+    let farther = in_file n file rules above r near both.1 in
+    record {
+      before = q ∷ farther.before;
+      following = farther.following;
+      same = farther.same;
+      rules_are = ap (λ (rs : List Rule). q ∷ rs) farther.rules_are;
+      near_is = farther.near_is;
     }
 
-    by : ((near : List Rule) → flat_map rules_of files ≡ near ++ r ∷ below → InFile rules_of files near r below)
-        → InFirst (rules_of f) (flat_map rules_of files) above r below ⊎ InSecond (rules_of f) (flat_map rules_of files) above r below → InFile rules_of (f ∷ files) above r below
-    by following (inl p) = record { files_before = []; file = f; files_after = files; files_are = refl; before = above; near = p.0; file_is = p.1; above_is = refl; below_is = p.2 }
-    by following (inr p) = farther p.0 p.1 (following p.0 p.2)
+-- rules are what they are without the numbers that are put beside them
+unnumbered : (n : ℕ) (rules : List Rule) → rules_in (with_number n rules) ≡ rules
+unnumbered n [] = refl
+unnumbered n (r ∷ rules) = ap (λ (rs : List Rule). r ∷ rs) (unnumbered n rules)
+
+numbered_append : (n : ℕ) (xs ys : List Rule) → with_number n (xs ++ ys) ≡ with_number n xs ++ with_number n ys
+numbered_append n [] ys = refl
+numbered_append n (x ∷ xs) ys = ap (λ (rs : List (ℕ × Rule)). (n, x) ∷ rs) (numbered_append n xs ys)
+
+rules_append : (xs ys : List (ℕ × Rule)) → rules_in (xs ++ ys) ≡ rules_in xs ++ rules_in ys
+rules_append [] ys = refl
+rules_append (x ∷ xs) ys = ap (λ (rs : List Rule). x.1 ∷ rs) (rules_append xs ys)
+
+same_rules : (n : ℕ) (files : List SourceFile) → rules_in (numbered_rules n files) ≡ flat_map (file_rules Manual) files
+same_rules n [] = refl
+same_rules n (f ∷ files) =
+    rules_append (with_number n (file_rules Manual f)) (numbered_rules (n + 1) files)
+    ∙ ap (λ (rs : List Rule). rs ++ rules_in (numbered_rules (n + 1) files)) (unnumbered n (file_rules Manual f))
+    ∙ ap (λ (rs : List Rule). file_rules Manual f ++ rs) (same_rules (n + 1) files)
+
+stays : (n : ℕ) (files : List SourceFile) (above : List (ℕ × Rule)) (file : ℕ) (r : Rule) (below : List (ℕ × Rule)) (name : List ℕ) → numbered_rules n files ≡ above ++ (file, r) ∷ below → r.goto ≡ Some name → LandsIn file name below
+stays n [] above file r below name e g = absurd (none_there above (file, r) below e)
+stays n (f ∷ files) above file r below name e g = by (λ near e. stays (n + 1) files near file r below name e g) (cut (with_number n (file_rules Manual f)) (numbered_rules (n + 1) files) above (file, r) below e)
+  where
+    by : ((near : List (ℕ × Rule)) → numbered_rules (n + 1) files ≡ near ++ (file, r) ∷ below → LandsIn file name below)
+        → InFirst (with_number n (file_rules Manual f)) (numbered_rules (n + 1) files) above (file, r) below
+        ⊎ InSecond (with_number n (file_rules Manual f)) (numbered_rules (n + 1) files) (file, r) below
+        → LandsIn file name below
+    by next (inr p) = next p.0 p.1
+    by next (inl p) =
+        let q = in_file n file (file_rules Manual f) above r p.0 p.1 in
+        let l = nearest name q.following (so_bears name q.following (jump_ends f q.before r q.following name q.rules_are g)) in
+        let rest = with_number n l.following ++ numbered_rules (n + 1) files in
+        record {
+          between = with_number n l.between;
+          landing = l.landing;
+          following = rest;
+          below_is =
+              p.2
+              ∙ ap (λ (xs : List (ℕ × Rule)). xs ++ numbered_rules (n + 1) files) (q.near_is ∙ ap (with_number n) l.is_present ∙ numbered_append n l.between (l.landing ∷ l.following))
+              ∙ append_assoc (with_number n l.between) ((n, l.landing) ∷ with_number n l.following) (numbered_rules (n + 1) files)
+              ∙ ap (λ (m : ℕ). with_number n l.between ++ (m, l.landing) ∷ rest) (sym q.same);
+          label = l.label;
+          next = λ a. false≢true (sym l.next ∙ so_bears name l.between (subst (HasLabel name) (unnumbered n l.between) a));
+        }
 
 pub jumps_stay : (files : List SourceFile) → JumpsStayInTheirFiles files
 unfolding set_of_as
-jumps_stay files above r below name e g =
-    let q = in_file (file_rules Manual) files above r below e in
-    let n = nearest name q.near (so_bears name q.near (jump_ends q.file q.before r q.near name q.file_is g)) in
-    record {
-      files_before = q.files_before;
-      file = q.file;
-      files_after = q.files_after;
-      files_are = q.files_are;
-      before = q.before;
-      between = n.between;
-      landing = n.landing;
-      following = n.following;
-      file_is = q.file_is ∙ ap (λ (rs : List Rule). q.before ++ r ∷ rs) n.is_present;
-      above_is = q.above_is;
-      below_is = q.below_is ∙ ap (λ (rs : List Rule). rs ++ flat_map (file_rules Manual) q.files_after) n.is_present ∙ append_assoc n.between (n.landing ∷ n.following) (flat_map (file_rules Manual) q.files_after);
-      label = n.label;
-      next = λ a. false≢true (sym n.next ∙ so_bears name n.between a);
-    }
+jumps_stay files = record { rules = same_rules 0 files; stay = stays 0 files }

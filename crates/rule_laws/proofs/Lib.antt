@@ -20,3 +20,6 @@ mod Understanding
 mod Landing
 mod Endings
 mod FirstPlaces
+mod OctalTexts
+mod Known
+mod Written

@@ -1,6 +1,7 @@
 -- The messages about a file are in order.
 use Rattle.std.proofs.Common.{◌≡◌, ℕ, ◌≤◌, ◌==◌, Bool, true, false, cond, nat_lt, List, [], ◌∷◌, ◌++◌, length, map, drop, Option, Some, None, Result, Ok, Err, refl, sym, subst, arith, append_assoc}
 use Rattle.std.specs.List.{filter_map}
+use Rattle.std.specs.Option.{unwrap_or}
 use Rattle.text_bytes.specs.Names.{comma}
 use Rattle.text_bytes.specs.declared.message.Message.{Message}
 use Rattle.text_bytes.specs.declared.message.MessageKind.TheVariants.{BlankExpected, CommaExpected, LabelUnused, LineTooLong, NoLaterLabel, ReadAsAssign}
@@ -20,7 +21,7 @@ use Rattle.rule_core.specs.Style.{between, commas, gap_findings, operator_findin
 use Rattle.rule_jumps.specs.Jumps.{Names, landings}
 use Rattle.rule_jumps.specs.declared.jumps.Landing.{Landing}
 use Rattle.rule_laws.specs.Order.{AreInOrder, ComesBeforeAny, rank}
-use Rattle.rule_core.specs.Rules.{file_messages, findings_of, line_messages, message_at, name_in, open_messages}
+use Rattle.rule_core.specs.Rules.{file_messages, findings_of, line_messages, message_at, open_messages}
 use Rattle.rule_laws.proofs.Landed.{landing_at, names_at, reported_below}
 use Rattle.rule_laws.proofs.Numbering.{IsAfter, Rise, numbers_reported, numbers_rise}
 
@@ -111,11 +112,11 @@ read_within line d e = by_length (nat_lt 16384 (length line)) e
 
 rule_within : (d : Draft) (k : Landing) → Within 8 13 d.findings → Within 7 14 (findings_of d k)
 rule_within d k w =
-    let lost : List Finding = cond k.lost (finding NoLaterLabel (name_in d.goto) ∷ []) [] in
-    let unused : List Finding = cond k.unused (finding LabelUnused (name_in d.label) ∷ []) [] in
-    within_both 7 7 14 lost (d.findings ++ unused) (maybe 7 (finding NoLaterLabel (name_in d.goto)) k.lost refl)
+    let lost : List Finding = cond k.lost (finding NoLaterLabel (unwrap_or d.goto []) ∷ []) [] in
+    let unused : List Finding = cond k.unused (finding LabelUnused (unwrap_or d.label []) ∷ []) [] in
+    within_both 7 7 14 lost (d.findings ++ unused) (maybe 7 (finding NoLaterLabel (unwrap_or d.goto [])) k.lost refl)
     (within_less 7 8 14 (d.findings ++ unused) (omega arith)
-    (within_both 8 13 14 d.findings unused w (within_less 13 14 14 unused (omega arith) (maybe 14 (finding LabelUnused (name_in d.label)) k.unused refl))))
+    (within_both 8 13 14 d.findings unused w (within_less 13 14 14 unused (omega arith) (maybe 14 (finding LabelUnused (unwrap_or d.label [])) k.unused refl))))
 
 -- ---- messages
 

@@ -13,6 +13,7 @@ use Rattle.rule_types.specs.Names.{key_of}
 use Rattle.rule_types.specs.Topics.{topic_of}
 use Rattle.rule_types.specs.Operators.{read_as}
 use Rattle.rule_types.specs.Roles.{role_of}
+use Rattle.rule_types.specs.declared.keys.Key.{Key}
 use Rattle.rule_types.specs.declared.types.ImportType.TheVariants as import_of
 use Rattle.rule_types.specs.declared.topics.Topic.{Topic}
 use Rattle.rule_types.specs.declared.roles.Role.{Role}
@@ -25,9 +26,13 @@ use Rattle.rule_parts.specs.declared.finding.Finding.{Finding}
 abbrev pub topic_in : Placed → Option Topic
 topic_in t = option_and_then (λ key. topic_of Manual key t.parts.head.attribute) (key_of t.parts.head.key)
 
--- what a token is for its rule, if its operator is taken too
+-- what a token with a key is for its rule, if the key takes its attribute and its operator
+abbrev pub role_with : Placed → Key → Option Role
+role_with t key = option_and_then (λ about. role_of about (read_as key t.parts.head.operator)) (topic_of Manual key t.parts.head.attribute)
+
+-- what a token is for its rule, if all three are taken
 abbrev pub role_in : Placed → Option Role
-role_in t = option_and_then (λ key. option_and_then (λ about. role_of about (read_as key t.parts.head.operator)) (topic_of Manual key t.parts.head.attribute)) (key_of t.parts.head.key)
+role_in t = option_and_then (role_with t) (key_of t.parts.head.key)
 
 -- whether there is a role, and it passes a test
 abbrev pub some_role : (Role → Bool) → Option Role → Bool

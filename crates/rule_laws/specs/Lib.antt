@@ -7,3 +7,4 @@ pub mod Laws
 pub mod Order
 pub mod LineEnds
 pub mod Udev
+pub mod Turns

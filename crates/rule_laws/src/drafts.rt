@@ -1,10 +1,12 @@
 //! Laws of drafts, each the contract of a function with an empty body.
-ghost use Rattle.std.specs.Prelude.{◌≡◌, ◌↔◌, [], None, List, ℕ};
+ghost use Rattle.std.specs.Prelude.{◌≡◌, ◌↔◌, [], None, List, filter_map, ℕ};
 ghost use Rattle.text_bytes.specs.declared.profile.Profile.{Profile};
 ghost use Rattle.text_bytes.specs.declared.profile.Profile.TheVariants.{Manual};
 ghost use Rattle.rule_types.specs.declared.part.Part.{Part};
 ghost use Rattle.rule_tokens.specs.Grammar.{Placed, answers};
 ghost use Rattle.rule_tokens.specs.Lines.{items_of};
+ghost use Rattle.rule_core.specs.Drafts.{assignment_in, draft};
+ghost use Rattle.rule_laws.specs.Turns.{EachKeyAsWritten};
 ghost use Rattle.rule_core.specs.Laws.{AreInOrder, IsPlain, IsReportedWhereAgain, NoneIsLost};
 ghost use Rattle.rule_core.specs.Style.{style_findings};
 
@@ -12,6 +14,11 @@ ghost use Rattle.rule_core.specs.Style.{style_findings};
 /// one turn as they are written.
 pub fn parts_are_kept_in_order()
     ensures { (by : Profile) (line : List ℕ) (parts : List Part) → AreInOrder by line parts }
+{}
+
+/// By the manual the assignments of each key are made as they are written, whatever their values are.
+pub fn keys_are_assigned_as_written()
+    ensures { (line : List ℕ) (parts : List Part) → EachKeyAsWritten (filter_map assignment_in parts) (draft Manual line parts).sets }
 {}
 
 /// Each part of a line is in one list of its draft, or gives a label or a jump.

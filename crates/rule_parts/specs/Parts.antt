@@ -39,10 +39,10 @@ abbrev pub made : {A B : Type 0} → (A → B) → Result A Finding → Result B
 made f (Ok x) = Ok (f x)
 made f (Err fault) = Err fault
 
--- what comes next for a thing that is there; if it is not, what is wrong
-abbrev pub if_found : {A B : Type 0} → Finding → (A → Result B Finding) → Option A → Result B Finding
-if_found wrong next None = Err wrong
-if_found wrong next (Some x) = next x
+-- of a thing that may be missing: what is wrong if it is, and what comes next if it is there
+abbrev pub if_found : {A B : Type 0} → Option A → Finding → (A → Result B Finding) → Result B Finding
+if_found None wrong next = Err wrong
+if_found (Some x) wrong next = next x
 
 -- the value of a token with its escapes read
 abbrev pub meaning_of : Placed → List ℕ
@@ -131,13 +131,10 @@ value_part by r blind text = if blind && not (is_match r) then Err (finding BadV
 -- the part of a rule that a token is, or what is wrong with it: the first of the key, the attribute, the operator and the value
 unfoldable pub part_of : Profile → Placed → Result Part Finding
 part_of by t =
-    if_found (finding UnknownKey t.parts.head.key) (λ key.
-    if_found (finding WrongAttribute t.parts.head.key) (λ about.
-    if_found (finding OperatorNotAllowed t.parts.head.key) (λ r.
-    value_part by r (ignores_case t.parts.quote) (meaning_of t))
-    (role_of about (operators.read_as key t.parts.head.operator)))
-    (topic_of by key t.parts.head.attribute))
-    (key_of t.parts.head.key)
+    if_found (key_of t.parts.head.key) (finding UnknownKey t.parts.head.key) (λ key.
+    if_found (topic_of by key t.parts.head.attribute) (finding WrongAttribute t.parts.head.key) (λ about.
+    if_found (role_of about (operators.read_as key t.parts.head.operator)) (finding OperatorNotAllowed t.parts.head.key) (λ r.
+    value_part by r (ignores_case t.parts.quote) (meaning_of t))))
 
 -- whether an operator is read as `=` after a key, if that is known
 abbrev pub is_read_so : Operator → Option Key → Bool

@@ -6,9 +6,10 @@ use Rattle.rule_tokens.specs.Grammar.{AllAre, Item, LexesAt, Placed, answers, is
 use Rattle.rule_tokens.specs.Lines.{is_over, items_from, items_left}
 use Rattle.rule_tokens.specs.declared.kinds.TokenFault.{TokenFault}
 use Rattle.rule_tokens.proofs.Steps.{left_done, left_given}
+use Rattle.rule_parts.specs.Parts.{part_of}
 use Rattle.rule_types.specs.declared.part.Part.{Part}
 use Rattle.rule_places.specs.Found.{RulePlaces}
-use Rattle.rule_places.specs.Reading.{part_reported, proceeds, taken}
+use Rattle.rule_places.specs.Reading.{proceeds, reported, taken}
 use Rattle.rule_places.specs.declared.line_reading.LineReading.{LineReading}
 use Rattle.rule_places.specs.declared.line_reading.LineReading.TheVariants.{Rule}
 use Rattle.rule_places.specs.declared.spot.Spot.{Spot}
@@ -92,5 +93,5 @@ token_read by r q t next items (Err found) f e = cc
 -- a line that is a rule has no fault
 pub rule_has_none : (by : Profile) (line : List ℕ) (items : List Item) (r q : RulePlaces) → taken by line r items ≡ Rule q → NoFault items
 rule_has_none by line [] r q e = tt
-rule_has_none by line (Ok t ∷ items) r q e = token_read by r q t (λ s. taken by line s items) items (part_reported by t) (λ s f. rule_has_none by line items s q f) e
+rule_has_none by line (Ok t ∷ items) r q e = token_read by r q t (λ s. taken by line s items) items (reported t (part_of by t)) (λ s f. rule_has_none by line items s q f) e
 rule_has_none by line (Err fault ∷ items) r q e = cc

@@ -11,6 +11,7 @@ mod Reporting
 mod Styling
 mod Reading
 pub mod Messages
+pub mod Cuts
 mod Prefixes
 mod Quotes
 mod Ending

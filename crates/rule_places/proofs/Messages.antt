@@ -1,6 +1,7 @@
 -- The findings of a file, without their places, are its messages.
 use Rattle.std.proofs.Common.{◌≡◌, ℕ, ◌+◌, Bool, true, false, cond, List, [], ◌∷◌, ◌++◌, length, map, zip, Option, Some, None, option_map, Result, Ok, Err, refl, ap, ◌∙◌}
 use Rattle.std.specs.List.{flat_map}
+use Rattle.std.specs.Option.{unwrap_or}
 use Rattle.std.proofs.lemmas.List.{map-append}
 use Rattle.text_bytes.specs.Lines.{NumberedLine}
 use Rattle.text_bytes.specs.declared.message.Message.{Message}
@@ -16,7 +17,7 @@ use Rattle.rule_core.specs.Drafts.{Draft, draft_of}
 use Rattle.rule_core.specs.Ends.{abandoned}
 use Rattle.rule_core.specs.Lines.{joined_lines}
 use Rattle.rule_core.specs.Rules as core
-use Rattle.rule_core.specs.Rules.{file_messages, findings_of, line_messages, message_at, messages_unless, name_in, open_messages, reading_of}
+use Rattle.rule_core.specs.Rules.{file_messages, findings_of, line_messages, message_at, messages_unless, open_messages, reading_of}
 use Rattle.rule_places.specs.Files.{findings_of_lines, findings_unless, line_findings, name_spot, names_of, open_findings, placed_findings, readings_from, rule_spots, spots_of}
 use Rattle.rule_places.specs.Found.{RulePlaces}
 use Rattle.rule_places.specs.Kept.{kept_lines}
@@ -32,12 +33,12 @@ use Rattle.rule_places.proofs.Reading.{Keeps, Matches, line_matches, name_of}
 use Rattle.rule_places.proofs.Styling.{appended}
 
 -- what is said of a name
-name_cut : (kind : MessageKind) (o : Option NamePlace) (name : Option (List ℕ)) → option_map name_of o ≡ name → cut (name_spot kind o) ≡ finding kind (name_in name)
-name_cut kind None name e = ap (λ (n : Option (List ℕ)). finding kind (name_in n)) e
-name_cut kind (Some place) name e = ap (λ (n : Option (List ℕ)). finding kind (name_in n)) e
+name_cut : (kind : MessageKind) (o : Option NamePlace) (name : Option (List ℕ)) → option_map name_of o ≡ name → cut (name_spot kind o) ≡ finding kind (unwrap_or name [])
+name_cut kind None name e = ap (λ (n : Option (List ℕ)). finding kind (unwrap_or n [])) e
+name_cut kind (Some place) name e = ap (λ (n : Option (List ℕ)). finding kind (unwrap_or n [])) e
 
 names_cut : (b : Bool) (kind : MessageKind) (o : Option NamePlace) (name : Option (List ℕ)) → option_map name_of o ≡ name
-    → map cut (cond b (name_spot kind o ∷ []) []) ≡ cond b (finding kind (name_in name) ∷ []) []
+    → map cut (cond b (name_spot kind o ∷ []) []) ≡ cond b (finding kind (unwrap_or name []) ∷ []) []
 names_cut true kind o name e = ap (λ (f : Finding). f ∷ []) (name_cut kind o name e)
 names_cut false kind o name e = refl
 

@@ -3,6 +3,7 @@ use Rattle.std.proofs.Common.{◌≡◌, ℕ, zero, suc, ◌+◌, ◌-◌, ◌<�
 use Rattle.std.specs.List.{AllByRecursion, prefix_len}
 use Rattle.std.proofs.lemmas.List.Sums.{prefix_len-le-length}
 use Rattle.std.proofs.lemmas.List.Elements.{recursion_from_All}
+use Rattle.std.specs.Option.{option_or}
 use Rattle.text_bytes.specs.Names.{comma, double_quote}
 use Rattle.text_bytes.specs.declared.message.MessageKind.{MessageKind}
 use Rattle.text_bytes.specs.declared.message.MessageKind.TheVariants.{LineTooLong, GivenTwice, NoLaterLabel, RuleWithoutEffect, LabelUnused, CommaExpected, BlankExpected, LeadingComma, BlankBeforeComma}
@@ -24,9 +25,9 @@ use Rattle.rule_core.specs.Style.{between, commas, has_blank_before_comma, read_
 use Rattle.rule_places.specs.Files.{name_spot, spots_of}
 use Rattle.rule_places.specs.Found.{RulePlaces, no_places}
 use Rattle.rule_places.specs.Laws.{FollowsTokens, IsAfterTokens, IsQuoted, IsQuotedThere, IsTextThere, IsWholeLine, PrecedesTokens, is_about_jump, is_about_text, is_about_value}
-use Rattle.rule_places.specs.Reading.{again, finished_reading, first_name, lost, name_place, proceeds, reading_of, reported, taken, with_label, with_part}
+use Rattle.rule_places.specs.Reading.{again, finished_reading, lost, name_place, proceeds, reading_of, reported, taken, with_label, with_part}
 use Rattle.rule_places.specs.Spots.{key_spot, spot, value_start}
-use Rattle.rule_places.specs.Style.{comma_spots, end_spots, gap_spots, leading_spots, operator_spots, style_after, style_spots, whole_gap}
+use Rattle.rule_places.specs.Style.{comma_spots, gap_spots, leading_spots, operator_spots, style_after, style_spots, whole_gap}
 use Rattle.rule_places.specs.declared.found.NamePlace.{NamePlace}
 use Rattle.rule_places.specs.declared.line_reading.LineReading.{LineReading}
 use Rattle.rule_places.specs.declared.line_reading.LineReading.TheVariants.{Rule, Wrong}
@@ -46,7 +47,7 @@ pub record RuleIsPresent (line : List ℕ) (r : RulePlaces) : Type 0 where
   pub goto : NameIsPresent line r.goto
   pub spots : AllPresent line r.spots
 
-given : (line : List ℕ) (o : Option NamePlace) (name : List ℕ) (t : Placed) → IsSlice line t → NameIsPresent line o → NameIsPresent line (first_name o (name_place name t))
+given : (line : List ℕ) (o : Option NamePlace) (name : List ℕ) (t : Placed) → IsSlice line t → NameIsPresent line o → NameIsPresent line (option_or o (Some (name_place name t)))
 given line None name t slice h = value_quoted line t slice
 given line (Some place) name t slice h = h
 
@@ -151,7 +152,7 @@ token_end line t slice =
     let closes : value_start t + length t.parts.value ≡ t.span.end - 1 = omega (arith, more, slice.closes) in
     (ap (λ (n : ℕ). take 1 (drop n line)) (sym closes) ∙ (value_quoted line t slice).closes, slice.within)
 
-end_in_place : (line : List ℕ) (place : ℕ) → IsEnd line place → AllAre is_gap_byte (drop place line) → AllPresent line (end_spots place (drop place line))
+end_in_place : (line : List ℕ) (place : ℕ) → IsEnd line place → AllAre is_gap_byte (drop place line) → AllPresent line (whole_gap CommaExpected place (drop place line))
 end_in_place line place end gap =
     let left = length-drop place line in
     let within = end.1 in

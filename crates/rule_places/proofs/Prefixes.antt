@@ -1,11 +1,11 @@
 -- The letters of a wrong prefix come directly before the first quote after the key and its braces.
 use Rattle.std.proofs.Common.{◌≡◌, ℕ, suc, ◌+◌, ◌-◌, ◌≤◌, ◌==◌, Bool, true, false, cond, true≢false, not, nat_lt, List, [], ◌∷◌, ◌++◌, length, take, drop, Option, Some, None, option_map, Ok, Err, refl, ap, sym, ◌∙◌, subst, append_assoc, length-append, length-drop, drop-drop, take_at, drop_at, lt-ltb, eqb-true, eq-eqb, arith}
-use Rattle.std.specs.List.{AllByRecursion, list_all, prefix_len}
+use Rattle.std.specs.List.{AllByRecursion, after_first, list_all}
 use Rattle.std.proofs.Math.Seq.{drop-append-add}
 use Rattle.std.proofs.lemmas.Bool.{and_from, and_parts}
 use Rattle.std.proofs.lemmas.List.{length-take-le, take-append-drop}
 use Rattle.text_bytes.specs.Names.{close_brace, double_quote, equals, bang, plus, minus, colon, is_blank, open_brace, space, tab}
-use Rattle.text_bytes.specs.Texts.{begins_with, split_once}
+use Rattle.text_bytes.specs.Texts.{begins_with}
 use Rattle.rule_tokens.specs.Grammar.{AllAre, BeginsOther, BeginsWithToken, IsFault, Item, LexesAt, Placed, WrongPrefix, answers, attribute_bytes, attribute_text, faulty, is_attribute_byte, is_key_byte, is_letter, last, more, operator_text}
 use Rattle.rule_tokens.specs.Lines.{is_over, items_from, items_left}
 use Rattle.rule_tokens.specs.Prefixes.{letters_at}
@@ -16,7 +16,7 @@ use Rattle.rule_tokens.proofs.HeadLemmas.{of_blank}
 use Rattle.rule_tokens.proofs.LetterLemmas.{letters_again}
 use Rattle.rule_tokens.proofs.RunLemmas.{apart, run_again}
 use Rattle.rule_tokens.proofs.Steps.{left_done, left_given}
-use Rattle.rule_places.specs.Letters.{after_braces, after_byte, after_cut, after_key, start_before_quote}
+use Rattle.rule_places.specs.Letters.{after_braces, after_key, start_before_quote}
 
 -- not this byte
 abbrev pub is_other : ℕ → ℕ → Bool
@@ -31,17 +31,10 @@ all_of p q [] f h = refl
 all_of p q (x ∷ xs) f h = let both = and_parts (p x) (list_all p xs) h in and_from (q x) _ (f x both.0) (all_of p q xs f both.1)
 
 -- what follows the first such byte
-after_first : (b : ℕ) (prefix rest : List ℕ) → AllAre (is_other b) prefix → after_byte b (prefix ++ b ∷ rest) ≡ rest
-unfolding split_once
-after_first b prefix rest all =
-    let text = prefix ++ b ∷ rest in
+after_prefix : (b : ℕ) (prefix rest : List ℕ) → AllAre (is_other b) prefix → after_first (λ x. x == b) (prefix ++ b ∷ rest) ≡ rest
+after_prefix b prefix rest all =
     let own : not (b == b) ≡ false = ap not (eq-eqb b b refl) in
-    let count : prefix_len (is_other b) text ≡ length prefix = run_again (is_other b) prefix (b ∷ rest) all own in
-    let long = length-append prefix (b ∷ rest) in
-    let within : nat_lt (length prefix) (length text) ≡ true = lt-ltb (length prefix) (length text) (omega (arith, long)) in
-    ap (λ (n : ℕ). after_cut (option_map (λ m. (take m text, drop (m + 1) text)) (cond (nat_lt n (length text)) (Some n) None))) count
-    ∙ ap (λ (c : Bool). after_cut (option_map (λ m. (take m text, drop (m + 1) text)) (cond c (Some (length prefix)) None))) within
-    ∙ drop-append-add prefix (b ∷ rest) 1
+    ap (λ (n : ℕ). drop (n + 1) (prefix ++ b ∷ rest)) (run_again (is_other b) prefix (b ∷ rest) all own) ∙ drop-append-add prefix (b ∷ rest) 1
 
 -- a text that begins with no such byte
 begins_other : (b : ℕ) (text : List ℕ) → BeginsOther (λ x. x == b) text → begins_with b text ≡ false
@@ -50,11 +43,11 @@ begins_other b (x ∷ text) h = h
 
 -- what follows a key, and after its braces
 after_attribute : (a : Option (List ℕ)) (rest : List ℕ) → AllAre is_attribute_byte (attribute_bytes a) → BeginsOther (λ x. x == open_brace) rest
-    → cond (begins_with open_brace (attribute_text a ++ rest)) (after_byte close_brace (attribute_text a ++ rest)) (attribute_text a ++ rest) ≡ rest
-after_attribute None rest all o = ap (λ (c : Bool). cond c (after_byte close_brace rest) rest) (begins_other open_brace rest o)
+    → cond (begins_with open_brace (attribute_text a ++ rest)) (after_first (λ b. b == close_brace) (attribute_text a ++ rest)) (attribute_text a ++ rest) ≡ rest
+after_attribute None rest all o = ap (λ (c : Bool). cond c (after_first (λ b. b == close_brace) rest) rest) (begins_other open_brace rest o)
 after_attribute (Some name) rest all o =
     let other : AllAre (is_other close_brace) name = all_of is_attribute_byte (is_other close_brace) name (λ b h. (and_parts (is_other close_brace b) _ h).0) all in
-    ap (after_byte close_brace) (append_assoc (open_brace ∷ name) (close_brace ∷ []) rest) ∙ after_first close_brace (open_brace ∷ name) rest other
+    ap (after_first (λ b. b == close_brace)) (append_assoc (open_brace ∷ name) (close_brace ∷ []) rest) ∙ after_prefix close_brace (open_brace ∷ name) rest other
 
 attribute_begins : (a : Option (List ℕ)) (rest : List ℕ) → BeginsOther is_key_byte rest → BeginsOther is_key_byte (attribute_text a ++ rest)
 attribute_begins None rest o = o
@@ -88,7 +81,7 @@ letter_other b h = by (b == double_quote) refl
     by false e = refl
 
 -- a wrong prefix: what follows the quote
-after_quote : (text : List ℕ) (w : WrongPrefix text) → after_byte double_quote (after_braces text) ≡ w.rest
+after_quote : (text : List ℕ) (w : WrongPrefix text) → after_first (λ b. b == double_quote) (after_braces text) ≡ w.rest
 after_quote text w =
     let s = w.is_present in
     let letters = w.letters ++ double_quote ∷ w.rest in
@@ -101,7 +94,7 @@ after_quote text w =
     ∙ ap (λ (n : ℕ). drop n (w.head.key ++ (attribute_text w.head.attribute ++ value))) (run_again is_key_byte w.head.key (attribute_text w.head.attribute ++ value) s.key starts)
     ∙ drop_at w.head.key (attribute_text w.head.attribute ++ value) (length w.head.key) refl in
     let braces : after_braces text ≡ value =
-    ap (λ (rest : List ℕ). cond (begins_with open_brace rest) (after_byte close_brace rest) rest) key
+    ap (λ (rest : List ℕ). cond (begins_with open_brace rest) (after_first (λ b. b == close_brace) rest) rest) key
     ∙ after_attribute w.head.attribute value s.attribute (other (λ b. b == open_brace) (refl, refl) (refl, refl, refl, refl, refl)) in
     let prefix = s.before ++ (operator_text w.head.operator ++ (s.following ++ w.letters)) in
     let cut : value ≡ prefix ++ double_quote ∷ w.rest = ap (λ (q : List ℕ). s.before ++ (operator_text w.head.operator ++ (s.following ++ q))) w.spelled ∙ sym (simp append_assoc) in
@@ -109,7 +102,7 @@ after_quote text w =
     all_both (is_other double_quote) s.before _ (all_of is_blank (is_other double_quote) s.before blank_other s.blanks.0)
     (all_both (is_other double_quote) (operator_text w.head.operator) _ (operator_other w.head.operator)
     (all_both (is_other double_quote) s.following w.letters (all_of is_blank (is_other double_quote) s.following blank_other s.blanks.1) (all_of is_letter (is_other double_quote) w.letters letter_other w.letters_are))) in
-    ap (after_byte double_quote) (braces ∙ cut) ∙ after_first double_quote prefix w.rest none
+    ap (after_first (λ b. b == double_quote)) (braces ∙ cut) ∙ after_prefix double_quote prefix w.rest none
 
 -- the letters are at the place that is given for them
 pub letters_in_place : (line : List ℕ) (at : ℕ) → at ≤ length line → WrongPrefix (drop at line)
@@ -119,7 +112,7 @@ letters_in_place line at within w =
     let s = w.is_present in
     let prefix = w.head.key ++ attribute_text w.head.attribute ++ s.before ++ operator_text w.head.operator ++ s.following in
     let same : letters_at text ≡ w.letters = letters_again text w in
-    let rest : after_byte double_quote (after_braces text) ≡ w.rest = after_quote text w in
+    let rest : after_first (λ b. b == double_quote) (after_braces text) ≡ w.rest = after_quote text w in
     let whole : length text ≡ length line - at = length-drop at line in
     let parts : length text ≡ length prefix + length w.quoted = ap length s.spelled ∙ length-append prefix w.quoted in
     let more : length w.quoted ≡ length w.letters + length (double_quote ∷ w.rest) = ap length w.spelled ∙ length-append w.letters (double_quote ∷ w.rest) in

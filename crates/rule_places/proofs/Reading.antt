@@ -1,5 +1,6 @@
 -- A line's reading, without the places.
 use Rattle.std.proofs.Common.{◌≡◌, ℕ, Bool, true, false, cond, nat_lt, List, [], ◌∷◌, ◌++◌, map, drop, length, Option, Some, None, option_map, Result, Ok, Err, refl, ap, sym, subst, append_assoc, append-nil}
+use Rattle.std.specs.Option.{option_or}
 use Rattle.text_bytes.specs.declared.message.MessageKind.TheVariants.{LineTooLong, RuleWithoutEffect}
 use Rattle.text_bytes.specs.declared.profile.Profile.{Profile}
 use Rattle.text_bytes.specs.declared.profile.Profile.TheVariants as profile
@@ -19,7 +20,7 @@ use Rattle.rule_core.proofs.Taking.{one_more}
 use Rattle.rule_places.specs.Found.{RulePlaces, no_places}
 use Rattle.rule_places.specs.Laws.{cut}
 use Rattle.rule_places.specs.Reading as places
-use Rattle.rule_places.specs.Reading.{again, finished_reading, first_name, lost, name_place, proceeds, reading_of, reported, taken, with_label}
+use Rattle.rule_places.specs.Reading.{again, finished_reading, lost, name_place, proceeds, reading_of, reported, taken, with_label}
 use Rattle.rule_places.specs.Spots.{spot, token_spot}
 use Rattle.rule_places.specs.Style.{style_spots}
 use Rattle.rule_places.specs.declared.found.NamePlace.{NamePlace}
@@ -38,7 +39,7 @@ pub record Keeps (r : RulePlaces) (d : Draft) : Type 0 where
   pub findings : map cut r.spots ≡ d.findings
 
 -- a name more
-given : (o : Option NamePlace) (names : Option (List ℕ)) (name : List ℕ) (t : Placed) → option_map name_of o ≡ names → option_map name_of (first_name o (name_place name t)) ≡ core.first_given names name
+given : (o : Option NamePlace) (names : Option (List ℕ)) (name : List ℕ) (t : Placed) → option_map name_of o ≡ names → option_map name_of (option_or o (Some (name_place name t))) ≡ core.first_given names name
 given None names name t e = ap (λ (n : Option (List ℕ)). core.first_given n name) e
 given (Some place) names name t e = ap (λ (n : Option (List ℕ)). core.first_given n name) e
 

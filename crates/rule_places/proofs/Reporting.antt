@@ -232,7 +232,7 @@ value_reports by t r blind named = on (blind && not (is_match r))
     on true = (refl, refl)
     on false = unless_reports t (refusal_by by r text) (part_by by (role_as by r text) blind text) (refusal_reports by t r named) (of_value t (part_by by (role_as by r text) blind text) (part_by_reports by (role_as by r text) blind text))
 
-if_found_reports : {A : Type 0} (t : Placed) (P : A → Type 0) (wrong : Finding) (next : A → Result Part Finding) (o : Option A) → Reports t (Err wrong) → IfSome o P → ((x : A) → P x → Reports t (next x)) → Reports t (if_found wrong next o)
+if_found_reports : {A : Type 0} (t : Placed) (P : A → Type 0) (wrong : Finding) (next : A → Result Part Finding) (o : Option A) → Reports t (Err wrong) → IfSome o P → ((x : A) → P x → Reports t (next x)) → Reports t (if_found o wrong next)
 if_found_reports t P wrong next None h p g = h
 if_found_reports t P wrong next (Some x) h p g = g x p
 

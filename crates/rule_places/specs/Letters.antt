@@ -1,17 +1,9 @@
 -- Where the letters of a wrong prefix are.
-use Rattle.std.specs.Prelude.{ℕ, ◌-◌, if◌then◌else◌, List, [], length, Option, Some, None}
+use Rattle.std.specs.Prelude.{ℕ, ◌-◌, ◌==◌, if◌then◌else◌, List, length}
+use Rattle.std.specs.List.{after_first}
 use Rattle.text_bytes.specs.Names.{double_quote, open_brace, close_brace}
-use Rattle.text_bytes.specs.Texts.{begins_with, skip_while, split_once}
+use Rattle.text_bytes.specs.Texts.{begins_with, skip_while}
 use Rattle.rule_tokens.specs.Grammar.{is_key_byte}
-
--- what follows a cut of a text, nothing if it is not cut
-abbrev pub after_cut : Option (List ℕ × List ℕ) → List ℕ
-after_cut None = []
-after_cut (Some x) = x.1
-
--- what follows the first such byte of a text, nothing if it has none
-abbrev pub after_byte : ℕ → List ℕ → List ℕ
-after_byte byte text = after_cut (split_once byte text)
 
 -- what follows the key that a text begins with
 abbrev pub after_key : List ℕ → List ℕ
@@ -19,9 +11,9 @@ after_key text = skip_while is_key_byte text
 
 -- the same, and after its braces if it has them
 abbrev pub after_braces : List ℕ → List ℕ
-after_braces text = if begins_with open_brace (after_key text) then after_byte close_brace (after_key text) else after_key text
+after_braces text = if begins_with open_brace (after_key text) then after_first (λ b. b == close_brace) (after_key text) else after_key text
 
 -- The place in a line of letters directly before a quote: the first one after the key, and the braces, of the text at
 -- the line's end.
 abbrev pub start_before_quote : List ℕ → List ℕ → List ℕ → ℕ
-start_before_quote line text letters = length line - length (after_byte double_quote (after_braces text)) - 1 - length letters
+start_before_quote line text letters = length line - length (after_first (λ b. b == double_quote) (after_braces text)) - 1 - length letters

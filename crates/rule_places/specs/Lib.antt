@@ -1,6 +1,7 @@
 pub mod Letters
 pub mod Spots
 pub mod Style
+pub mod TokenSpots
 pub mod Found
 pub mod Reading
 pub mod Kept

@@ -1,5 +1,6 @@
 -- A joined line, read for the findings about it and their places.
 use Rattle.std.specs.Prelude.{ℕ, nat_lt, if◌then◌else◌, List, [], ◌∷◌, ◌++◌, length, Option, Some, None, Result, Ok, Err}
+use Rattle.std.specs.Option.{option_or}
 use Rattle.text_bytes.specs.declared.message.MessageKind.TheVariants.{LineTooLong, GivenTwice, RuleWithoutEffect}
 use Rattle.text_bytes.specs.declared.profile.Profile.{Profile}
 use Rattle.text_bytes.specs.declared.profile.Profile.TheVariants.{Manual, Udev}
@@ -22,11 +23,6 @@ use Rattle.rule_places.specs.declared.spot.Spot.{Spot}
 abbrev pub name_place : List ℕ → Placed → NamePlace
 name_place name t = record { name = name; start = value_start t; size = length t.parts.value }
 
--- a name, or the one that was given before it
-abbrev pub first_name : Option NamePlace → NamePlace → Option NamePlace
-first_name None later = Some later
-first_name (Some place) later = Some place
-
 -- a name that was given before is reported at the later value
 abbrev pub again : Option NamePlace → List ℕ → Placed → List Spot
 again None name t = []
@@ -39,22 +35,19 @@ lost (Some place) = spot GivenTwice place.name place.start place.size ∷ []
 
 -- a rule with one more label: by the manual the first counts, for udev the last
 abbrev pub with_label : Profile → RulePlaces → Placed → List ℕ → RulePlaces
-with_label Manual r t name = record { label = first_name r.label (name_place name t); goto = r.goto; spots = r.spots ++ again r.label name t }
+with_label Manual r t name = record { label = option_or r.label (Some (name_place name t)); goto = r.goto; spots = r.spots ++ again r.label name t }
 with_label Udev r t name = record { label = Some (name_place name t); goto = r.goto; spots = r.spots ++ lost r.label }
 
 -- a rule with one more token, which is this part: of several jumps the first counts
 abbrev pub with_part : Profile → RulePlaces → Placed → Part → RulePlaces
 with_part by r t (part.Label name) = with_label by r t name
-with_part by r t (part.Goto name) = record { label = r.label; goto = first_name r.goto (name_place name t); spots = r.spots ++ again r.goto name t }
+with_part by r t (part.Goto name) = record { label = r.label; goto = option_or r.goto (Some (name_place name t)); spots = r.spots ++ again r.goto name t }
 with_part by r t _ = r
 
 -- a token, read as a part of a rule, or the finding about it
 abbrev pub reported : Placed → Result Part Finding → Result Part Spot
 reported t (Ok p) = Ok p
 reported t (Err found) = Err (part_spot found.kind t)
-
-abbrev pub part_reported : Profile → Placed → Result Part Spot
-part_reported by t = reported t (part_of by t)
 
 -- a rule goes on with a part, and ends if a token is not one
 abbrev pub proceeds : Profile → RulePlaces → Placed → (RulePlaces → LineReading) → Result Part Spot → LineReading
@@ -64,7 +57,7 @@ proceeds by r t next (Err found) = Wrong found
 -- a rule with the tokens of these items, or the finding about the first item that is not a part of a rule
 abbrev pub taken : Profile → List ℕ → RulePlaces → List Item → LineReading
 taken by line r [] = Rule r
-taken by line r (Ok t ∷ items) = proceeds by r t (λ s. taken by line s items) (part_reported by t)
+taken by line r (Ok t ∷ items) = proceeds by r t (λ s. taken by line s items) (reported t (part_of by t))
 taken by line r (Err fault ∷ items) = Wrong (token_spot fault.kind fault.at line)
 
 -- a rule, and after the findings about it those about how its line is written; about one without an effect there is

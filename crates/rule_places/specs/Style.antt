@@ -32,35 +32,16 @@ abbrev pub gap_spots : Profile → List ℕ → Placed → List Spot
 gap_spots Manual gap t = comma_spots gap t
 gap_spots Udev gap t = comma_spots gap t ++ (if has_blank_before_comma gap then key_spot BlankBeforeComma t ∷ [] else [])
 
--- the gap after the last token, which begins at a place
-abbrev pub end_spots : ℕ → List ℕ → List Spot
-end_spots place gap = whole_gap CommaExpected place gap
-
 -- a token's operator: its key
 abbrev pub operator_spots : Profile → Placed → List Spot
 operator_spots by t = if is_read_as_assign t then key_spot (read_as_assign_kind by) t ∷ [] else []
 
--- the gaps and tokens of a line after a place where a token ends
+-- the gaps and tokens of a line after a place where a token ends; no token follows the last gap
 abbrev pub style_after : Profile → List ℕ → ℕ → List Placed → List Spot
-style_after by line place [] = end_spots place (drop place line)
+style_after by line place [] = whole_gap CommaExpected place (drop place line)
 style_after by line place (t ∷ tokens) = gap_spots by (between place t.span.start line) t ++ (operator_spots by t ++ style_after by line t.span.end tokens)
 
 -- the gaps and tokens of a line, in the order of their places
 abbrev pub style_spots : Profile → List ℕ → List Placed → List Spot
 style_spots by line [] = []
 style_spots by line (t ∷ tokens) = leading_spots by (between 0 t.span.start line) ++ (operator_spots by t ++ style_after by line t.span.end tokens)
-
--- For inner functions: the gap before a token, from the place where the token before it ends, or from the line's start.
-abbrev pub spots_before : Profile → List ℕ → Option ℕ → Placed → List Spot
-spots_before by line None t = leading_spots by (between 0 t.span.start line)
-spots_before by line (Some place) t = gap_spots by (between place t.span.start line) t
-
--- For inner functions: the gap at the end of a line, from the place where its last token ends, if there is one.
-abbrev pub spots_at_end : List ℕ → Option ℕ → List Spot
-spots_at_end line None = []
-spots_at_end line (Some place) = end_spots place (drop place line)
-
--- For inner functions: the tokens after the place where a token ends, or all of them.
-abbrev pub spots_from : Profile → List ℕ → Option ℕ → List Placed → List Spot
-spots_from by line None tokens = style_spots by line tokens
-spots_from by line (Some place) tokens = style_after by line place tokens

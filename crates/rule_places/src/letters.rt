@@ -1,8 +1,8 @@
 //! Where the letters of a wrong prefix are.
-ghost use Rattle.std.specs.Prelude.{◌≡◌, ◌≤◌, ◌-◌, length};
-ghost use Rattle.std.specs.List.{prefix_len};
+ghost use Rattle.std.specs.Prelude.{◌≡◌, ◌==◌, ◌≤◌, ◌-◌, length};
+ghost use Rattle.std.specs.List.{after_first, prefix_len};
 ghost use Rattle.rule_tokens.specs.Grammar.{is_key_byte};
-ghost use Rattle.rule_places.specs.Letters.{after_braces, after_byte, after_key, start_before_quote};
+ghost use Rattle.rule_places.specs.Letters.{after_braces, after_key, start_before_quote};
 
 use text_bytes::{begins_with, split_once};
 
@@ -53,8 +53,9 @@ fn is_key_byte(byte: u8) -> bool
 }
 
 /// What follows the first such byte of a text, nothing if it has none.
+#[tactic(auto, using(crate::proofs::Cuts::rest_of_cut))]
 fn after_byte(byte: u8, text: &[u8]) -> &[u8]
-    ensures { result.now ≡ after_byte byte text.now }
+    ensures { result.now ≡ after_first (λ b. b == byte) text.now }
 {
     match split_once(byte, text) {
         Some((_, rest)) => rest,

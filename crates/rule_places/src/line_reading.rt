@@ -1,8 +1,9 @@
 //! Reading a joined line for the findings about it.
 ghost use Rattle.std.specs.Prelude.{◌≡◌, [], IfOk, length};
 ghost use Rattle.rule_core.specs.Drafts.{items_as};
+ghost use Rattle.rule_parts.specs.Parts.{part_of};
 ghost use Rattle.rule_places.specs.Found.{no_places};
-ghost use Rattle.rule_places.specs.Reading.{finished_reading, part_reported, reading_of, taken};
+ghost use Rattle.rule_places.specs.Reading.{finished_reading, reading_of, reported, taken};
 ghost use Rattle.rule_places.specs.Spots.{spot};
 
 use crate::found::RulePlaces;
@@ -101,7 +102,7 @@ fn part_reported(
     profile: Profile,
     token: &Token<'_>,
 ) -> Result<Result<Part, Spot>, AllocError>
-    ensures { IfOk result (λ reported. reported ≡ part_reported profile token.now) }
+    ensures { IfOk result (λ part. part ≡ reported token.now (part_of profile token.now)) }
 {
     match read_part(alloc, profile, token) {
         Ok(part) => Ok(Ok(part)),

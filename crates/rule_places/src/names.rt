@@ -1,8 +1,9 @@
 //! Taking the parts of a rule: of several labels the first counts, or for udev the last, and of several
 //! jumps the first.
 ghost use Rattle.std.specs.Prelude.{◌≡◌, ◌++◌, OnOk, Some};
+ghost use Rattle.std.specs.Option.{option_or};
 ghost use Rattle.rule_places.specs.Found.{no_places};
-ghost use Rattle.rule_places.specs.Reading.{again, first_name, lost, name_place, with_label, with_part};
+ghost use Rattle.rule_places.specs.Reading.{again, lost, name_place, with_label, with_part};
 
 use crate::found::{NamePlace, RulePlaces};
 use crate::spot::{Spot, value_spot};
@@ -62,7 +63,7 @@ fn give(
     token: &Token<'_>,
     name: Bytes,
 ) -> Result<(), AllocError>
-    ensures given { OnOk result (given.new ≡ first_name given.old (name_place name token.now)) }
+    ensures given { OnOk result (given.new ≡ option_or given.old (Some (name_place name token.now))) }
     ensures spots { OnOk result (spots.new.items ≡ spots.old.items ++ again given.old name token.now) }
 {
     match given {

@@ -1,7 +1,8 @@
 //! How a rule is written, with the places of its tokens and gaps.
 ghost use Rattle.std.specs.Prelude.{◌≡◌, ◌++◌, OnOk};
 ghost use Rattle.rule_core.specs.Drafts.{items_as, tokens_of};
-ghost use Rattle.rule_places.specs.Style.{comma_spots, gap_spots, leading_spots, operator_spots, spots_at_end, spots_before, style_spots, whole_gap};
+ghost use Rattle.rule_places.specs.Style.{comma_spots, gap_spots, leading_spots, operator_spots, style_spots, whole_gap};
+ghost use Rattle.rule_places.specs.TokenSpots.{spots_at_end, spots_before};
 
 use crate::spot::{Spot, key_spot};
 use rule_core::{

@@ -3,3 +3,4 @@ pub mod WayUp
 pub mod Placement
 pub mod OfRules
 pub mod ByLines
+pub mod Fields

@@ -1,10 +1,11 @@
 -- The users and groups that files like /etc/passwd and /etc/group list.
-use Rattle.std.specs.Prelude.{ℕ, ◌^◌, Bool, ◌||◌, ◌==◌, if◌then◌else◌, List, [], ◌∷◌, filter_map, Option, Some, None, is_some, option_map}
-use Rattle.std.specs.Option.{option_and_then}
+use Rattle.std.specs.Prelude.{ℕ, ◌^◌, Bool, ◌||◌, ◌==◌, codes, if◌then◌else◌, List, filter_map, Option, Some, None, is_some, option_map}
+use Rattle.std.specs.Option.{option_and_then, unwrap_or}
+use Rattle.std.specs.List.{before_first}
 use Rattle.text_bytes.specs.Lines.{NumberedLine, numbered_lines}
 use Rattle.text_bytes.specs.Names.{colon, hash, is_whitespace, minus, plus}
 use Rattle.text_bytes.specs.Numbers.{decimal_below}
-use Rattle.text_bytes.specs.Texts.{begins_with, skip_while, split_once}
+use Rattle.text_bytes.specs.Texts.{begins_with, following, skip_while, split_once}
 use Rattle.rule_pairs.specs.declared.accounts.AccountKind.{AccountKind}
 use Rattle.rule_pairs.specs.declared.accounts.AccountKind.TheVariants.{User, Group}
 use Rattle.rule_pairs.specs.declared.accounts.Account.{Account}
@@ -13,23 +14,13 @@ use Rattle.rule_pairs.specs.declared.accounts.Account.{Account}
 abbrev pub bare : List ℕ → List ℕ
 bare text = skip_while is_whitespace text
 
--- a text without a `+` at its start
-abbrev pub without_plus : List ℕ → List ℕ
-without_plus [] = []
-without_plus (b ∷ text) = if b == plus then text else b ∷ text
-
 -- the number that a field gives: perhaps white space and a `+`, and after it decimal digits of a number within 32 bits
 abbrev pub field_number : List ℕ → Option ℕ
-field_number text = decimal_below (2 ^ 32) (without_plus (bare text))
-
--- what comes before a cut of a text, all of it if it is not cut
-abbrev pub before_cut : List ℕ → Option (List ℕ × List ℕ) → List ℕ
-before_cut text None = text
-before_cut text (Some x) = x.0
+field_number text = decimal_below (2 ^ 32) (unwrap_or (following (codes "+") (bare text)) (bare text))
 
 -- the first field of a text: what comes before the first colon, all of it if there is none
 abbrev pub first_field : List ℕ → List ℕ
-first_field text = before_cut text (split_once colon text)
+first_field text = before_first (λ b. b == colon) text
 
 -- the number of a user, if a field with the number of its group follows
 abbrev pub user_number : List ℕ × List ℕ → Option ℕ

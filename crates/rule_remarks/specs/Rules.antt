@@ -23,13 +23,9 @@ remarks_from accounts kept start [] = []
 remarks_from accounts kept start (l ∷ ls) =
     map (placed kept l.number start) (line_remarks accounts l.text) ++ remarks_from accounts kept (start + length l.text) ls
 
--- what is reported for the joined lines of a file
-abbrev pub remarks_of_lines : Accounts → List ℕ → List PlacedFinding
-remarks_of_lines accounts bytes = remarks_from accounts (kept_lines bytes) 0 (joined_lines Udev bytes).lines
-
--- what is reported for a file, unless it is given up because of a line
+-- what is reported for the joined lines of a file, unless it is given up because of a line
 abbrev pub remarks_unless : Accounts → List ℕ → Option ℕ → List PlacedFinding
-remarks_unless accounts bytes None = remarks_of_lines accounts bytes
+remarks_unless accounts bytes None = remarks_from accounts (kept_lines bytes) 0 (joined_lines Udev bytes).lines
 remarks_unless accounts bytes (Some number) = []
 
 -- what is reported for the rules of a file with these bytes that stay, by line

@@ -2,7 +2,7 @@
 ghost use Rattle.std.specs.Prelude.{◌≡◌, ◌≤◌, IfOk, length, option_map};
 ghost use Rattle.std.specs.List.{prefix_len};
 ghost use Rattle.text_bytes.specs.Names.{is_whitespace};
-ghost use Rattle.rule_remarks.specs.AccountLines.{account, account_in, accounts_of, field_number, first_field, is_skipped, number_in, bare, without_plus};
+ghost use Rattle.rule_remarks.specs.AccountLines.{account, account_in, accounts_of, field_number, first_field, is_skipped, number_in, bare};
 
 use rule_pairs::{Account, AccountKind};
 use std::alloc::{AllocError, Global};
@@ -70,6 +70,7 @@ fn number_in(kind: AccountKind, fields: &[u8]) -> Option<u32>
 }
 
 /// What comes before the first colon of a text, all of it if there is none.
+#[tactic(auto, using(crate::proofs::Fields::field_of_cut))]
 fn first_field(text: &[u8]) -> &[u8]
     ensures { result.now ≡ first_field text.now }
 {
@@ -83,18 +84,9 @@ fn first_field(text: &[u8]) -> &[u8]
 fn field_number(text: &[u8]) -> Option<u32>
     ensures { result ≡ field_number text.now }
 {
-    let number = decimal_below(NUMBERS, without_plus(bare(text)))?;
+    let digits = bare(text);
+    let number = decimal_below(NUMBERS, digits.strip_prefix(b"+").unwrap_or(digits))?;
     Some(number as u32)
-}
-
-/// A text without a `+` at its start.
-fn without_plus(text: &[u8]) -> &[u8]
-    ensures { result.now ≡ without_plus text.now }
-{
-    match text.split_first() {
-        Some((b'+', following)) => following,
-        _ => text,
-    }
 }
 
 /// A text without the white space at its start.

@@ -1,6 +1,9 @@
 //! What is reported for the rules of a file that stay.
 ghost use Rattle.std.specs.Prelude.{◌≡◌, ◌++◌, IfOk, OnOk};
-ghost use Rattle.rule_remarks.specs.Rules.{file_remarks, remarks_from, remarks_of_lines};
+ghost use Rattle.text_bytes.specs.declared.profile.Profile.TheVariants.{Udev};
+ghost use Rattle.rule_core.specs.Lines.{joined_lines};
+ghost use Rattle.rule_places.specs.Kept.{kept_lines};
+ghost use Rattle.rule_remarks.specs.Rules.{file_remarks, remarks_from};
 
 use crate::line_remarks::line_remarks;
 use rule_core::{JoinedLine, abandoned_at, joined_lines};
@@ -37,7 +40,7 @@ fn remarks_of_lines(
     accounts: &Accounts,
     bytes: &[u8],
 ) -> Result<Vec<PlacedFinding>, AllocError>
-    ensures { IfOk result (λ reported. reported.items ≡ remarks_of_lines accounts.now bytes.now) }
+    ensures { IfOk result (λ reported. reported.items ≡ remarks_from accounts.now (kept_lines bytes.now) 0 (joined_lines Udev bytes.now).lines) }
 {
     let kept = KeptLines::of(alloc, bytes)?;
     let joined = joined_lines(alloc, Profile::Udev, bytes)?;

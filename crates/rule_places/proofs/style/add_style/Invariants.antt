@@ -1,6 +1,7 @@
 use Rattle.std.proofs.Common.{◌≡◌, ◌++◌}
 use Rattle.rule_core.specs.Drafts.{items_as, tokens_of}
-use Rattle.rule_places.specs.Style.{spots_from, style_spots}
+use Rattle.rule_places.specs.Style.{style_spots}
+use Rattle.rule_places.specs.TokenSpots.{spots_from}
 use Rattle.rule_places.proofs.style.add_style.Given as goal
 
 abbrev pub invariant-loop-item : goal.invariant-loop-item

@@ -1,5 +1,5 @@
 //! The outcome of a line whose reading goes on after what can't be read.
-ghost use Rattle.std.specs.Prelude.{◌≡◌, ◌≤◌, ◌==◌, ℕ, IfOk, List, [], false, if◌then◌else◌, length, not};
+ghost use Rattle.std.specs.Prelude.{◌≡◌, ◌≤◌, ◌==◌, IfOk, List, [], false, if◌then◌else◌, length, not};
 ghost use Rattle.devdry_folders.specs.Nothing.{AreElsewhere, nothing_lines};
 ghost use Rattle.devdry_folders.specs.Surveys.{AreVisitsFor, IsListed, IsReadSome, IsReported};
 ghost use Rattle.devdry_folders.specs.Unread.{least_status};

@@ -1,63 +1,121 @@
--- One more folder's files, and faults that are passed on.
-use Rattle.std.proofs.Common.{◌≡◌, ◌∙◌, ◌++◌, ◌<◌, ℕ, ap, Bor, drop, get_or, length, suc, take, List, map, [], ◌∷◌, append-nil, append_assoc, Err, IfErr, IsErrAnd, Ok, Result, inr, refl, subst, sym, string_bytes, String}
+-- One more item of a list that is read in order, the first that is faulty, and faults that are passed on.
+use Rattle.std.proofs.Common.{◌≡◌, ◌∙◌, ◌++◌, ◌+◌, ◌<◌, ℕ, ap, arith, drop, flat_map, get_or, length, suc, take, take-suc, List, map, [], ◌∷◌, append-nil, append_assoc, Err, IfErr, IsErrAnd, Ok, Result, inl, inr, refl, subst, sym, string_bytes, String}
 use Rattle.std.proofs.Math.Seq.{split_at}
 use Rattle.std.proofs.lemmas.List.{map-append}
+use Rattle.std.specs.List.{AllByRecursion, AllZip}
 use Rattle.std.specs.declared.alloc.Global.{Global}
 use Rattle.text_bytes.specs.declared.source_file.FileKind.{FileKind}
 use Rattle.text_bytes.specs.declared.source_file.SourceFile.{SourceFile}
 use Rattle.devdry_files.specs.Answers.{Answer}
-use Rattle.devdry_files.specs.Faults.{HasPath, IsFaultyIn, IsFaultyInOneOf, IsFaultyNamed, IsUnread}
-use Rattle.devdry_files.specs.Found.{AreFilesAt, AreInFolder, AreInFolders, AreNamed, AreNamesIn, path_in}
+use Rattle.devdry_files.specs.Answers.Answer.{Content}
+use Rattle.devdry_files.specs.Faults.{FirstFaulty, HasPath, IsFaultyIn, IsFaultyInOneOf, IsFirstUnread, IsUnread}
+use Rattle.devdry_files.specs.Found.{AreFilesAt, AreInFolder, AreInFolders, AreNamed, AreNamesIn, IsFileAt, path_in}
 use Rattle.devdry_files.specs.declared.fault.ReadFault.{ReadFault}
 use Rattle.devdry_files.specs.declared.fault.ReadFault.TheVariants.{Path, Memory}
 use Rattle.devdry_files.specs.declared.places.Folder.{Folder}
 
+-- the file at the path was read
+abbrev IsReadable : (Answer → Type 0) → List ℕ → Type 0
+IsReadable may path = (bytes : List ℕ) × may (Content path bytes)
+
+-- the places of a list before the next one
+pub one_more : {T : Type 0} (xs : List T) (place : ℕ) (d : T) → place < length xs → take (place + 1) xs ≡ take place xs ++ get_or xs place d ∷ []
+one_more xs place d within =
+    let one : place + 1 ≡ suc place = omega arith in
+    ap (λ n. take n xs) one ∙ take-suc xs place d within
+
+-- one more item of each of two lists
+pub zip_more : {A B : Type 0} (R : A → B → Type 0) (xs : List A) (ys : List B) (x : A) (y : B) → AllZip R xs ys → R x y → AllZip R (xs ++ x ∷ []) (ys ++ y ∷ [])
+zip_more R [] [] x y h here = (here, tt)
+zip_more R [] (z ∷ zs) x y h here = absurd h
+zip_more R (w ∷ ws) [] x y h here = absurd h
+zip_more R (w ∷ ws) (z ∷ zs) x y h here = (h.0, zip_more R ws zs x y h.1 here)
+
+-- the file of one more name
+pub file_more : {T : Type 0} (text : T → List ℕ) (may : Answer → Type 0) (kind : FileKind) (rank : ℕ) (path_of : List ℕ → List ℕ) (xs : List T) (files : List SourceFile) (x : T) (file : SourceFile)
+    → AreFilesAt may kind rank path_of (map text xs) files → IsFileAt may kind rank (path_of (text x)) (text x) file → AreFilesAt may kind rank path_of (map text (xs ++ x ∷ [])) (files ++ file ∷ [])
+file_more text may kind rank path_of xs files x file h here =
+    subst (λ names. AreFilesAt may kind rank path_of names (files ++ file ∷ [])) (sym (map-append text xs (x ∷ []))) (zip_more _ (map text xs) files (text x) file h here)
+
 -- the files of one more folder
 pub folders_more : (may : Answer → Type 0) (folders : List Folder) (files : List SourceFile) (folder : Folder) (own : List SourceFile) → AreInFolders may folders files → AreInFolder may folder own
     → AreInFolders may (folders ++ folder ∷ []) (files ++ own)
-folders_more may [] files folder own h here = record {
-  own = own;
-  following = [];
-  cut = rw (h, append-nil) refl;
-  in_folder = here;
-  others = refl;
-}
-folders_more may (g ∷ gs) files folder own h here = record {
-  own = h.own;
-  following = h.following ++ own;
-  cut = rw (h.cut, append_assoc) refl;
-  in_folder = h.in_folder;
-  others = folders_more may gs h.following folder own h.others here;
-}
+folders_more may folders files folder own h here = (
+  h.0 ++ own ∷ [],
+  zip_more (AreInFolder may) folders h.0 folder own h.1 here,
+  ap (λ fs. fs ++ own) h.2 ∙ sym (joined h.0),
+)
+  where
+    joined : (parts : List (List SourceFile)) → flat_map (λ part. part) (parts ++ own ∷ []) ≡ flat_map (λ part. part) parts ++ own
+    joined [] = append-nil own
+    joined (part ∷ parts) = ap (λ fs. part ++ fs) (joined parts) ∙ sym (append_assoc part (flat_map (λ p. p) parts) own)
+
+-- each item of the first list has one of the second
+each_has : {A B : Type 0} (R : A → B → Type 0) (P : A → Type 0) (step : (a : A) (b : B) → R a b → P a) (xs : List A) (ys : List B) → AllZip R xs ys → AllByRecursion P xs
+each_has R P step [] ys h = tt
+each_has R P step (x ∷ xs) [] h = absurd h
+each_has R P step (x ∷ xs) (y ∷ ys) h = (step x y h.0, each_has R P step xs ys h.1)
+
+-- files at these names were read at the paths of the names
+were_read : (may : Answer → Type 0) (kind : FileKind) (rank : ℕ) (path_of : List ℕ → List ℕ) (names : List (List ℕ)) (files : List SourceFile) → AreFilesAt may kind rank path_of names files → AllByRecursion (IsReadable may) (map path_of names)
+were_read may kind rank path_of [] files h = tt
+were_read may kind rank path_of (name ∷ names) [] h = absurd h
+were_read may kind rank path_of (name ∷ names) (file ∷ files) h = ((file.bytes, h.0.1), were_read may kind rank path_of names files h.1)
+
+-- the first that is faulty, if those before it were read
+first_at : {T : Type 0} (Read : T → Type 0) (Faulty : T → List ℕ → Type 0) (before : List T) (one : T) (following : List T) (path : List ℕ) → AllByRecursion Read before → Faulty one path
+    → FirstFaulty Read Faulty (before ++ one ∷ following) path
+first_at Read Faulty [] one following path were h = inl h
+first_at Read Faulty (x ∷ xs) one following path were h = inr (were.0, first_at Read Faulty xs one following path were.1 h)
+
+-- a fault at one of the items, if those before it were read
+at_one : {T : Type 0} (Read : T → Type 0) (Faulty : T → List ℕ → Type 0) (items before : List T) (one : T) (following : List T) (fault : ReadFault) → items ≡ before ++ one ∷ following → AllByRecursion Read before → HasPath (Faulty one) fault
+    → HasPath (FirstFaulty Read Faulty items) fault
+at_one Read Faulty items before one following (Path text) cut were h =
+    subst (λ xs. FirstFaulty Read Faulty xs (string_bytes text)) (sym cut) (first_at Read Faulty before one following (string_bytes text) were h)
+at_one Read Faulty items before one following Memory cut were h = tt
+
+-- a fault at one of the files, if those before it were read
+at_file : {T : Type 0} (text : T → List ℕ) (may : Answer → Type 0) (kind : FileKind) (rank : ℕ) (path_of : List ℕ → List ℕ) (items before : List T) (one : T) (following : List T) (files : List SourceFile) (fault : ReadFault)
+    → items ≡ before ++ one ∷ following → AreFilesAt may kind rank path_of (map text before) files → HasPath (λ p. (p ≡ path_of (text one)) × IsUnread may p) fault → HasPath (IsFirstUnread may (map path_of (map text items))) fault
+at_file text may kind rank path_of items before one following files fault cut were h =
+    at_one (IsReadable may) (λ at p. (p ≡ at) × IsUnread may p) (map path_of (map text items)) (map path_of (map text before)) (path_of (text one)) (map path_of (map text following)) fault
+    (ap (λ xs. map path_of (map text xs)) cut ∙ ap (map path_of) (map-append text before (one ∷ following)) ∙ map-append path_of (map text before) (text one ∷ map text following))
+    (were_read may kind rank path_of (map text before) files were) h
+
+-- a path is itself
+pub as_itself : (paths : List (List ℕ)) → map (λ path. path) paths ≡ paths
+as_itself [] = refl
+as_itself (path ∷ paths) = ap (λ ps. path ∷ ps) (as_itself paths)
 
 -- a fault at the named file of this place, if those before it were read
-pub at_named : (d : Bor (List ℕ)) (may : Answer → Type 0) (kind : FileKind) (paths : List (Bor (List ℕ))) (place : ℕ) (files : List SourceFile) (fault : ReadFault) → place < length paths → AreNamed may kind (map (λ p. p.now) (take place paths)) files
-    → HasPath (λ p. (p ≡ (get_or paths place d).now) × IsUnread may p) fault → HasPath (IsFaultyNamed may kind (map (λ p. p.now) paths)) fault
-at_named d may kind paths place files (Path text) within were h =
-    let cut : map (λ p. p.now) paths ≡ map (λ p. p.now) (take place paths) ++ (get_or paths place d).now ∷ map (λ p. p.now) (drop (suc place) paths) =
-    ap (map (λ (p : Bor (List ℕ)). p.now)) (split_at paths place d within) ∙ map-append (λ (p : Bor (List ℕ)). p.now) (take place paths) (get_or paths place d ∷ drop (suc place) paths) in
-    record {
-      before = map (λ p. p.now) (take place paths);
-      following = map (λ p. p.now) (drop (suc place) paths);
-      cut = subst (λ p. map (λ p. p.now) paths ≡ map (λ p. p.now) (take place paths) ++ p ∷ map (λ p. p.now) (drop (suc place) paths)) (sym h.0) cut;
-      files = files;
-      were_read = were;
-      unread = h.1;
-    }
-at_named d may kind paths place files Memory within were h = tt
+pub at_named : {T : Type 0} (text : T → List ℕ) (may : Answer → Type 0) (kind : FileKind) (items : List T) (place : ℕ) (d : T) (files : List SourceFile) (fault : ReadFault)
+    → place < length items → AreNamed may kind (map text (take place items)) files → HasPath (λ p. (p ≡ text (get_or items place d)) × IsUnread may p) fault → HasPath (IsFirstUnread may (map text items)) fault
+at_named text may kind items place d files fault within were h =
+    subst (λ ps. HasPath (IsFirstUnread may ps) fault) (as_itself (map text items))
+    (at_file text may kind 0 (λ path. path) items (take place items) (get_or items place d) (drop (suc place) items) files fault (split_at items place d within) were h)
+
+-- the named file of this place is read after those before it
+pub named_more : {T : Type 0} (text : T → List ℕ) (may : Answer → Type 0) (kind : FileKind) (items : List T) (place : ℕ) (d : T) (files : List SourceFile) (file : SourceFile)
+    → place < length items → AreNamed may kind (map text (take place items)) files → IsFileAt may kind 0 (text (get_or items place d)) (text (get_or items place d)) file
+    → AreNamed may kind (map text (take (place + 1) items)) (files ++ file ∷ [])
+named_more text may kind items place d files file within were h =
+    subst (λ ps. AreNamed may kind (map text ps) (files ++ file ∷ [])) (sym (one_more items place d within))
+    (file_more text may kind 0 (λ path. path) (take place items) files (get_or items place d) file were h)
 
 -- a fault at a file of the folder, if those before it were read
-pub at_file : (may : Answer → Type 0) (folder : Folder) (names before : List (String Global)) (name : String Global) (following : List (String Global)) (files : List SourceFile) (fault : ReadFault) → AreNamesIn may folder names → names ≡ before ++ name ∷ following → AreFilesAt may folder.kind folder.rank (path_in folder) (map string_bytes before) files
-    → HasPath (λ p. (p ≡ path_in folder (string_bytes name)) × IsUnread may p) fault → HasPath (IsFaultyIn may folder) fault
-at_file may folder names before name following files (Path path) are cut were h =
-    inr (record { names = names; are_names = are; before = before; name = name; following = following; cut = cut; files = files; were_read = were; path_is = h.0; unread = h.1 })
-at_file may folder names before name following files Memory are cut were h = tt
+pub at_file_in : (may : Answer → Type 0) (folder : Folder) (names before : List (String Global)) (name : String Global) (following : List (String Global)) (files : List SourceFile) (fault : ReadFault) → AreNamesIn may folder names → names ≡ before ++ name ∷ following
+    → AreFilesAt may folder.kind folder.rank (path_in folder) (map string_bytes before) files → HasPath (λ p. (p ≡ path_in folder (string_bytes name)) × IsUnread may p) fault → HasPath (IsFaultyIn may folder) fault
+at_file_in may folder names before name following files (Path path) are cut were h =
+    inr (names, are, at_file string_bytes may folder.kind folder.rank (path_in folder) names before name following files (Path path) cut were h)
+at_file_in may folder names before name following files Memory are cut were h = tt
 
 -- a fault at a folder among others, if those before it were read
 pub among : (may : Answer → Type 0) (folders before : List Folder) (folder : Folder) (following : List Folder) (files : List SourceFile) (fault : ReadFault) → folders ≡ before ++ folder ∷ following → AreInFolders may before files → HasPath (IsFaultyIn may folder) fault
     → HasPath (IsFaultyInOneOf may folders) fault
-among may folders before folder following files (Path path) cut were h = record { before = before; folder = folder; following = following; cut = cut; files = files; were_read = were; faulty = h }
-among may folders before folder following files Memory cut were h = tt
+among may folders before folder following files fault cut were h =
+    at_one (λ (f : Folder). (own : List SourceFile) × AreInFolder may f own) (IsFaultyIn may) folders before folder following fault cut
+    (each_has (AreInFolder may) _ (λ f own r. (own, r)) before were.0 were.1) h
 
 -- what `?` hands on is the fault itself
 pub handed_on : {T : Type 0} (P : List ℕ → Type 0) (r : Result T ReadFault) (fault : ReadFault) → IsErrAnd r (λ e. e ≡ fault) → HasPath P fault → IfErr r (HasPath P)

@@ -1,25 +1,16 @@
 -- What the fault of a reading is about.
-use Rattle.std.specs.Prelude.{◌≡◌, ◌++◌, ◌∷◌, ◌⊎◌, ⊤, ℕ, List, Some, String, map, string_bytes}
-use Rattle.std.specs.Option.{option_copied}
+use Rattle.std.specs.Prelude.{◌≡◌, ◌∷◌, ◌⊎◌, ⊤, ℕ, List, [], String, map, string_bytes}
+use Rattle.std.specs.Option.{option_copied, option_to_list}
 use Rattle.std.specs.declared.alloc.Global.{Global}
-use Rattle.text_bytes.specs.declared.source_file.FileKind.{FileKind}
 use Rattle.text_bytes.specs.declared.source_file.SourceFile.{SourceFile}
 use Rattle.devdry_files.specs.Answers.{Answer}
-use Rattle.devdry_files.specs.Answers.Answer.{NoContent, NoListing}
-use Rattle.devdry_files.specs.Found.{AreFilesAt, AreInFolders, AreNamed, AreNamesIn, path_in}
-use Rattle.devdry_files.specs.declared.disk.DiskFault.{DiskFault}
-use Rattle.devdry_files.specs.declared.disk.DiskFault.TheVariants.{Absent, Unreadable, NotUtf8, OutOfMemory}
+use Rattle.devdry_files.specs.Answers.Answer.{Content, NoContent, NoListing}
+use Rattle.devdry_files.specs.Found.{AreInFolder, AreNamed, AreNamesIn, path_in}
+use Rattle.devdry_files.specs.declared.disk.DiskFault.TheVariants.{Absent, Unreadable, NotUtf8}
 use Rattle.devdry_files.specs.declared.fault.ReadFault.{ReadFault}
 use Rattle.devdry_files.specs.declared.fault.ReadFault.TheVariants.{Path, Memory}
 use Rattle.devdry_files.specs.declared.places.Folder.{Folder}
 use Rattle.devdry_files.specs.declared.places.Wanted.{Wanted}
-
--- the fault of a disk at a path
-abbrev pub fault_of : String Global → DiskFault → ReadFault
-fault_of path Absent = Path path
-fault_of path Unreadable = Path path
-fault_of path NotUtf8 = Path path
-fault_of path OutOfMemory = Memory
 
 -- the fault has a path for which this holds, or memory ran out
 abbrev pub HasPath : (List ℕ → Type 0) → ReadFault → Type 0
@@ -34,54 +25,36 @@ IsUnlisted may path = may (NoListing path Unreadable) ⊎ may (NoListing path No
 abbrev pub IsUnread : (Answer → Type 0) → List ℕ → Type 0
 IsUnread may path = may (NoContent path Absent) ⊎ (may (NoContent path Unreadable) ⊎ may (NoContent path NotUtf8))
 
--- the path is that of a named file, which the disk may say that it can't read; those named before it were read
-pub record IsFaultyNamed (may : Answer → Type 0) (kind : FileKind) (paths : List (List ℕ)) (path : List ℕ) : Type 0 where
-  pub before : List (List ℕ)
-  pub following : List (List ℕ)
-  pub cut : paths ≡ before ++ path ∷ following
-  pub files : List SourceFile
-  pub were_read : AreNamed may kind before files
-  pub unread : IsUnread may path
+-- the first of the items that is faulty, with the path of its fault; each before it was read
+abbrev pub FirstFaulty : {T : Type 0} → (T → Type 0) → (T → List ℕ → Type 0) → List T → List ℕ → Type 0
+FirstFaulty WasRead IsFaulty [] path = ⊥
+FirstFaulty WasRead IsFaulty (item ∷ items) path =
+    IsFaulty item path ⊎ (WasRead item × FirstFaulty WasRead IsFaulty items path)
 
--- the path is that of one of the folder's files, which the disk may say that it can't read; those before it were read
-pub record IsFaultyFileIn (may : Answer → Type 0) (folder : Folder) (path : List ℕ) : Type 0 where
-  pub names : List (String Global)
-  pub are_names : AreNamesIn may folder names
-  pub before : List (String Global)
-  pub name : String Global
-  pub following : List (String Global)
-  pub cut : names ≡ before ++ name ∷ following
-  pub files : List SourceFile
-  pub were_read : AreFilesAt may folder.kind folder.rank (path_in folder) (map string_bytes before) files
-  pub path_is : path ≡ path_in folder (string_bytes name)
-  pub unread : IsUnread may path
+-- the path is the first of these at which the disk may say that it can't read a file; those before it were read
+abbrev pub IsFirstUnread : (Answer → Type 0) → List (List ℕ) → List ℕ → Type 0
+IsFirstUnread may paths path =
+    FirstFaulty (λ at. (bytes : List ℕ) × may (Content at bytes)) (λ at p. (p ≡ at) × IsUnread may p) paths path
 
--- the path is that of the folder, which the disk may say that it can't list, or of one of its files, which it may say that
--- it can't read
+-- the path is that of the folder, which the disk may say that it can't list, or of the first of its files that it may say
+-- that it can't read
 abbrev pub IsFaultyIn : (Answer → Type 0) → Folder → List ℕ → Type 0
-IsFaultyIn may folder path = ((path ≡ string_bytes folder.path) × IsUnlisted may path) ⊎ IsFaultyFileIn may folder path
+IsFaultyIn may folder path = ((path ≡ string_bytes folder.path) × IsUnlisted may path)
+    ⊎ ((names : List (String Global)) × AreNamesIn may folder names
+    × IsFirstUnread may (map (path_in folder) (map string_bytes names)) path)
 
--- the same for one of the folders; those before it were read
-pub record IsFaultyInOneOf (may : Answer → Type 0) (folders : List Folder) (path : List ℕ) : Type 0 where
-  pub before : List Folder
-  pub folder : Folder
-  pub following : List Folder
-  pub cut : folders ≡ before ++ folder ∷ following
-  pub files : List SourceFile
-  pub were_read : AreInFolders may before files
-  pub faulty : IsFaultyIn may folder path
-
--- the same for one of the folders that are wanted; all named files were read
-pub record IsFaultyFound (may : Answer → Type 0) (w : Wanted) (path : List ℕ) : Type 0 where
-  pub files : List SourceFile
-  pub were_read : AreNamed may w.kind (map (λ f. f.now) w.files.now) files
-  pub faulty : IsFaultyInOneOf may w.folders.items path
+-- the same for the first such of the folders
+abbrev pub IsFaultyInOneOf : (Answer → Type 0) → List Folder → List ℕ → Type 0
+IsFaultyInOneOf may folders path =
+    FirstFaulty (λ folder. (files : List SourceFile) × AreInFolder may folder files) (IsFaultyIn may) folders path
 
 -- The first of what is wanted, in the order of reading, that the disk may say it can't read or list: the path is that of a
--- named file, of a folder, or of a name in one.
+-- named file, or, when all of those were read, of a folder, or of a name in one.
 abbrev pub IsFaultyWanted : (Answer → Type 0) → Wanted → List ℕ → Type 0
-IsFaultyWanted may w path = IsFaultyNamed may w.kind (map (λ f. f.now) w.files.now) path ⊎ IsFaultyFound may w path
+IsFaultyWanted may w path = IsFirstUnread may (map (λ f. f.now) w.files.now) path
+    ⊎ ((named : List SourceFile) × AreNamed may w.kind (map (λ f. f.now) w.files.now) named
+    × IsFaultyInOneOf may w.folders.items path)
 
 -- the path is that of the index that is wanted, which the disk may say that it can't read
 abbrev pub IsFaultyIndex : (Answer → Type 0) → Wanted → List ℕ → Type 0
-IsFaultyIndex may w path = (option_copied w.index ≡ Some path) × IsUnread may path
+IsFaultyIndex may w path = IsFirstUnread may (option_to_list (option_copied w.index)) path

@@ -5,4 +5,5 @@ pub mod Answers
 pub mod Memory
 pub mod Faults
 pub mod FaultTexts
+pub mod FaultsAt
 pub mod AccountFiles

@@ -24,10 +24,6 @@ folder_place kind rank root = record { kind = kind; rank = rank; path = root ++ 
 abbrev pub place_of : Folder → Place
 place_of f = record { kind = f.kind; rank = f.rank; path = string_bytes f.path }
 
--- what a contract sees of folders
-abbrev pub places_of : List Folder → List Place
-places_of folders = map place_of folders
-
 -- the folders of a kind by rank, each after the text that comes before it
 abbrev pub folders_of : FileKind → List ℕ → List Place
 folders_of Hwdb root = folder_place Hwdb 0 root ∷ folder_place Hwdb 1 root ∷ []
@@ -45,5 +41,5 @@ folders_for line = flat_map (folders_of_kind line) (kinds_read line.verb)
 pub record Wants (line : Line) (w : Wanted) : Type 0 where
   pub files : map (λ f. f.now) w.files.now ≡ map (λ f. f.now) line.files.items
   pub kind : w.kind ≡ kind_named line.verb
-  pub folders : places_of w.folders.items ≡ folders_for line
+  pub folders : map place_of w.folders.items ≡ folders_for line
   pub index : option_copied w.index ≡ option_copied line.index

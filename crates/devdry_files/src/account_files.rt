@@ -1,7 +1,8 @@
 //! Reads the files of users and groups that a line names.
-ghost use Rattle.std.specs.Prelude.{IfErr, IfOk};
-ghost use Rattle.devdry_files.specs.AccountFiles.{AreAccountsRead, IsAccountRead, IsFaultyAccounts, IsUnreadAt};
-ghost use Rattle.devdry_files.specs.Faults.{HasPath};
+ghost use Rattle.std.specs.Option.{option_to_list};
+ghost use Rattle.std.specs.Prelude.{IfErr, IfOk, map};
+ghost use Rattle.devdry_files.specs.AccountFiles.{AreAccountsRead, IsAccountRead, IsFaultyAccounts};
+ghost use Rattle.devdry_files.specs.Faults.{HasPath, IsFirstUnread};
 
 use crate::disk::Disk;
 use crate::fault::ReadFault;
@@ -32,7 +33,8 @@ fn read_account_file<D: Disk>(
     file: &mut Option<AccountFile<'_>>,
 ) -> Result<(), ReadFault>
     ensures file { IfOk result (λ _. IsAccountRead (D.may_answer disk.now) file.old file.new) }
-    ensures fault { IfErr result (HasPath (IsUnreadAt (D.may_answer disk.now) file.old)) }
+    ensures fault { IfErr result (HasPath (IsFirstUnread (D.may_answer disk.now)
+        (map (λ f. f.path.now) (option_to_list file.old)))) }
 {
     if let Some(file) = file {
         let path = String::from_str(alloc, file.path)?;

@@ -1,6 +1,6 @@
 //! The files, the folders and the index that a line asks for.
-ghost use Rattle.std.specs.Prelude.{◌≡◌, IfOk};
-ghost use Rattle.devdry_files.specs.Places.{Wants, folder_place, folders_for, folders_of, place_of, places_of};
+ghost use Rattle.std.specs.Prelude.{◌≡◌, IfOk, map};
+ghost use Rattle.devdry_files.specs.Places.{Wants, folder_place, folders_for, folders_of, place_of};
 
 use crate::places::{Folder, Wanted};
 use engine_ends::{Line, folder_path};
@@ -22,7 +22,7 @@ fn folder(alloc: Global, kind: FileKind, rank: u8, root: &str) -> Result<Folder,
 
 /// The folders of the hardware database below a root, by rank.
 fn hwdb_folders(alloc: Global, root: &str) -> Result<Vec<Folder>, AllocError>
-    ensures { IfOk result (λ folders. places_of folders.items ≡ folders_of FileKind.Hwdb root.now) }
+    ensures { IfOk result (λ folders. map place_of folders.items ≡ folders_of FileKind.Hwdb root.now) }
 {
     let kind = FileKind::Hwdb;
     let mut folders = Vec::new(alloc);
@@ -33,7 +33,7 @@ fn hwdb_folders(alloc: Global, root: &str) -> Result<Vec<Folder>, AllocError>
 
 /// The folders of rules below a root, by rank.
 fn rules_folders(alloc: Global, root: &str) -> Result<Vec<Folder>, AllocError>
-    ensures { IfOk result (λ folders. places_of folders.items ≡ folders_of FileKind.Rules root.now) }
+    ensures { IfOk result (λ folders. map place_of folders.items ≡ folders_of FileKind.Rules root.now) }
 {
     let kind = FileKind::Rules;
     let mut folders = Vec::new(alloc);
@@ -46,7 +46,7 @@ fn rules_folders(alloc: Global, root: &str) -> Result<Vec<Folder>, AllocError>
 
 /// The folders of a kind, by rank.
 fn folders_of_kind(alloc: Global, kind: FileKind, root: &str) -> Result<Vec<Folder>, AllocError>
-    ensures { IfOk result (λ folders. places_of folders.items ≡ folders_of kind root.now) }
+    ensures { IfOk result (λ folders. map place_of folders.items ≡ folders_of kind root.now) }
 {
     match kind {
         FileKind::Hwdb => hwdb_folders(alloc, root),
@@ -56,7 +56,7 @@ fn folders_of_kind(alloc: Global, kind: FileKind, root: &str) -> Result<Vec<Fold
 
 /// The folders of the kinds that the line reads from folders.
 fn asked_folders(alloc: Global, line: &Line<'_>) -> Result<Vec<Folder>, AllocError>
-    ensures { IfOk result (λ folders. places_of folders.items ≡ folders_for line.now) }
+    ensures { IfOk result (λ folders. map place_of folders.items ≡ folders_for line.now) }
 {
     let mut folders = Vec::new(alloc);
     for kind in line.verb.kinds_read() {

@@ -2,7 +2,7 @@
 ghost use Rattle.std.specs.Prelude.{◌≡◌, ◌++◌, ◌∷◌, IfErr, IfOk, map, string_bytes};
 ghost use Rattle.text_bytes.specs.Names.{slash};
 ghost use Rattle.devdry_files.specs.Answers.Answer.{Content, NoContent};
-ghost use Rattle.devdry_files.specs.Faults.{HasPath, IsFaultyIn, IsFaultyInOneOf, IsFaultyIndex, IsFaultyNamed, IsFaultyWanted, IsUnread};
+ghost use Rattle.devdry_files.specs.Faults.{HasPath, IsFaultyIn, IsFaultyInOneOf, IsFaultyIndex, IsFaultyWanted, IsFirstUnread, IsUnread};
 ghost use Rattle.devdry_files.specs.Found.{AreInFolder, AreInFolders, AreNamed, AreWanted, IsFileAt, IsIndexWanted, path_in};
 
 use crate::disk::{Disk, DiskFault};
@@ -36,8 +36,7 @@ fn file_at<D: Disk>(
     rank: u8,
     name: Bytes,
 ) -> Result<SourceFile, ReadFault>
-    ensures name { IfOk result (λ file. file.name ≡ name) }
-    ensures file { IfOk result (IsFileAt (D.may_answer disk.now) kind rank (string_bytes path)) }
+    ensures file { IfOk result (IsFileAt (D.may_answer disk.now) kind rank (string_bytes path) name) }
     ensures fault { IfErr result (HasPath (λ p. (p ≡ string_bytes path)
         × IsUnread (D.may_answer disk.now) p)) }
     ensures memory { IfErr result (λ fault. fault ≡ ReadFault.Memory
@@ -69,9 +68,8 @@ fn file_in<D: Disk>(
     folder: &Folder,
     name: &str,
 ) -> Result<SourceFile, ReadFault>
-    ensures name { IfOk result (λ file. file.name ≡ name.now) }
     ensures file { IfOk result (IsFileAt (D.may_answer disk.now) folder.now.kind folder.now.rank
-        (path_in folder.now name.now)) }
+        (path_in folder.now name.now) name.now) }
     ensures fault { IfErr result (HasPath (λ p. (p ≡ path_in folder.now name.now)
         × IsUnread (D.may_answer disk.now) p)) }
 {
@@ -118,8 +116,7 @@ fn named_file<D: Disk>(
     kind: FileKind,
     path: &str,
 ) -> Result<SourceFile, ReadFault>
-    ensures name { IfOk result (λ file. file.name ≡ path.now) }
-    ensures file { IfOk result (IsFileAt (D.may_answer disk.now) kind 0 path.now) }
+    ensures file { IfOk result (IsFileAt (D.may_answer disk.now) kind 0 path.now path.now) }
     ensures fault { IfErr result (HasPath (λ p. (p ≡ path.now)
         × IsUnread (D.may_answer disk.now) p)) }
 {
@@ -138,7 +135,7 @@ fn named_files<D: Disk>(
     ensures files { IfOk result (λ files.
         AreNamed (D.may_answer disk.now) kind (map (λ p. p.now) paths.now) files.items) }
     ensures fault { IfErr result (HasPath
-        (IsFaultyNamed (D.may_answer disk.now) kind (map (λ p. p.now) paths.now))) }
+        (IsFirstUnread (D.may_answer disk.now) (map (λ p. p.now) paths.now))) }
 {
     let mut files = Vec::new(alloc);
     for path in paths {

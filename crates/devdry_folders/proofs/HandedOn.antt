@@ -1,8 +1,8 @@
 -- Whether any file was read, and whether any is passed on.
-use Rattle.std.proofs.Common.{◌≡◌, ◌∙◌, ◌++◌, ◌∷◌, ◌==◌, ◌||◌, [], ap, arith, Bool, false, flat_map, length, List, not, refl, sym, true, ℕ}
+use Rattle.std.proofs.Common.{◌≡◌, ◌∙◌, ◌++◌, ◌∷◌, ◌==◌, ◌||◌, [], ap, arith, Bool, cond, false, flat_map, length, List, not, refl, sym, true, ℕ}
 use Rattle.text_bytes.specs.declared.source_file.FileKind.{FileKind}
 use Rattle.text_bytes.specs.declared.source_file.SourceFile.{SourceFile}
-use Rattle.devdry_folders.specs.Unread.{file_of_met, file_of_sight, files_of, files_of_visit, has_file, has_files, is_file, name_reported}
+use Rattle.devdry_folders.specs.Unread.{file_of_met, file_of_sight, files_of, files_of_visit, has_file, has_files, is_file}
 use Rattle.devdry_folders.specs.declared.sights.Met.{Met}
 use Rattle.devdry_folders.specs.declared.sights.Met.TheVariants as met
 use Rattle.devdry_folders.specs.declared.sights.Sight.{Sight}
@@ -30,7 +30,7 @@ some_met kind rank name (met.Unread reason) = refl
 some_sights : (kind : FileKind) (rank : ℕ) (named : Bool) (sights : List Sight) → has_file sights ≡ any (flat_map (file_of_sight kind rank named) sights)
 some_sights kind rank named [] = refl
 some_sights kind rank named (s ∷ sights) =
-    ap (λ b. b || has_file sights) (some_met kind rank (name_reported named s) s.met)
+    ap (λ b. b || has_file sights) (some_met kind rank (cond named s.path s.name) s.met)
     ∙ ap (λ b. any (file_of_sight kind rank named s) || b) (some_sights kind rank named sights)
     ∙ sym (joined (file_of_sight kind rank named s) (flat_map (file_of_sight kind rank named) sights))
 

@@ -98,18 +98,14 @@ pub record AreElsewhereOf (may : Answer → Type 0) (root : List ℕ) (kinds : L
   pub kinds_are : map (λ e. e.kind) others ≡ kinds
   pub each : All (IsElsewhere may root) others
 
--- the path of `/lib` after a root
-abbrev pub lib_of : List ℕ → List ℕ
-lib_of root = root ++ codes "/lib"
-
 -- such a folder for each kind whose folders the line reads; but none if there is a symlink at `/lib`, since the files
 -- below it are those of the folder that it leads to
 abbrev pub AreElsewhereBy : (Answer → Type 0) → Line → Option (List ℕ) → List Elsewhere → Type 0
 AreElsewhereBy may line None others = AreElsewhereOf may line.root.now (filter (reads_folders_of line) (kinds_read line.verb)) others
 AreElsewhereBy may line (Some target) others = others ≡ []
 
--- the same, by what the disk may say about a symlink at `/lib`
+-- the same, by what the disk may say about a symlink at `/lib` after the root
 pub record AreElsewhere (may : Answer → Type 0) (line : Line) (others : List Elsewhere) : Type 0 where
   pub link : Option (List ℕ)
-  pub linked : may (Target (lib_of line.root.now) link)
+  pub linked : may (Target (line.root.now ++ codes "/lib") link)
   pub are : AreElsewhereBy may line link others

@@ -16,13 +16,9 @@ use Rattle.devdry_folders.specs.declared.sights.Met.TheVariants as met
 use Rattle.devdry_folders.specs.declared.sights.Sight.{Sight}
 use Rattle.devdry_folders.specs.declared.sights.Visit.{Visit}
 
--- the sights of one visit, if it is of the kind
-abbrev pub sights_if : FileKind → Visit → List Sight
-sights_if kind v = if same_kind kind v.kind then v.scan.sights.items else []
-
 -- the sights of a kind, folder by folder
 abbrev pub sights_of : FileKind → List Visit → List Sight
-sights_of kind visits = flat_map (sights_if kind) visits
+sights_of kind visits = flat_map (λ v. if same_kind kind v.kind then v.scan.sights.items else []) visits
 
 -- these sights by name, byte by byte, and those with the same name as they came, that is, in the order of their
 -- folders

@@ -1,5 +1,5 @@
 -- The outcome of a line whose reading goes on after what can't be read.
-use Rattle.std.specs.Prelude.{◌≡◌, ◌++◌, ℕ, Bool, false, List, [], if◌then◌else◌}
+use Rattle.std.specs.Prelude.{◌≡◌, ◌++◌, ℕ, false, List, [], if◌then◌else◌}
 use Rattle.engine_ends.specs.declared.line.Line.{Line}
 use Rattle.devdry_files.specs.Answers.{Answer}
 use Rattle.devdry_files.specs.Places.{Wants}
@@ -19,17 +19,11 @@ pub record AreVisitsFor (may : Answer → Type 0) (line : Line) (visits : List V
   pub wants : Wants line wanted
   pub are_visits : AreVisits may wanted visits
 
--- What is reported if no file was read: what was looked at; and nothing if some file was.
-pub record ReportsNothing (may : Answer → Type 0) (line : Line) (visits : List Visit) (some : Bool) (lines : List ℕ) : Type 0 where
-  pub others : List Elsewhere
-  pub elsewhere : some ≡ false → AreElsewhere may line others
-  pub reported : lines ≡ (if some then [] else nothing_lines line.root.now visits others)
-
 -- What is reported for visits before the run: what can't be read, and what was looked at if no file was read.
 pub record IsReported (may : Answer → Type 0) (line : Line) (visits : List Visit) (reported : List ℕ) : Type 0 where
-  pub nothing : List ℕ
-  pub reports : ReportsNothing may line visits (has_files visits) nothing
-  pub reported_is : reported ≡ unread_lines visits ++ nothing
+  pub others : List Elsewhere
+  pub elsewhere : has_files visits ≡ false → AreElsewhere may line others
+  pub reported_is : reported ≡ unread_lines visits ++ (if has_files visits then [] else nothing_lines line.root.now visits others)
 
 -- What the line asks for was visited; the files that were read, what is reported and the least status follow from
 -- that.

@@ -23,10 +23,6 @@ abbrev pub line_on_met : List ℕ → Met → List ℕ
 line_on_met path (met.Unread reason) = unread_line path reason
 line_on_met path _ = []
 
--- the line on a sight, if it can't be read
-abbrev pub line_on_sight : Sight → List ℕ
-line_on_sight s = line_on_met s.path s.met
-
 -- the line on what is at a path, if it can't be listed
 abbrev pub line_on_spot : List ℕ → Spot → List ℕ
 line_on_spot path (spot.Unread reason) = unread_line path reason
@@ -34,7 +30,7 @@ line_on_spot path _ = []
 
 -- the lines on a visit: on the folder, and on what is in it
 abbrev pub lines_on_visit : Visit → List ℕ
-lines_on_visit v = line_on_spot v.path v.scan.spot ++ flat_map line_on_sight v.scan.sights.items
+lines_on_visit v = line_on_spot v.path v.scan.spot ++ flat_map (λ s. line_on_met s.path s.met) v.scan.sights.items
 
 -- the lines on all that can't be read, in the order of the visits
 abbrev pub unread_lines : List Visit → List ℕ
@@ -58,13 +54,9 @@ abbrev pub file_of_met : FileKind → ℕ → List ℕ → Met → List SourceFi
 file_of_met kind rank name (met.File bytes) = record { kind = kind; rank = rank; name = name; bytes = bytes } ∷ []
 file_of_met kind rank name _ = []
 
--- the name of a file: in a folder of the system its name there, else its path
-abbrev pub name_reported : Bool → Sight → List ℕ
-name_reported named s = if named then s.path else s.name
-
--- the file of a sight, if it is one, by its kind, its rank and whether it is named
+-- the file of a sight, if it is one: its name is its path if it is named, else its name in its folder
 abbrev pub file_of_sight : FileKind → ℕ → Bool → Sight → List SourceFile
-file_of_sight kind rank named s = file_of_met kind rank (name_reported named s) s.met
+file_of_sight kind rank named s = file_of_met kind rank (if named then s.path else s.name) s.met
 
 -- the files of a visit
 abbrev pub files_of_visit : Visit → List SourceFile
@@ -74,10 +66,6 @@ files_of_visit v = flat_map (file_of_sight v.kind v.rank v.is_named) v.scan.sigh
 abbrev pub files_of : List Visit → List SourceFile
 files_of visits = flat_map files_of_visit visits
 
--- the least status of a run, by the lines on what can't be read and whether any file was read
-abbrev pub least_of : List ℕ → Bool → ℕ
-least_of unread some = if not (length unread == 0) then 3 else if some then 0 else 1
-
 -- the least status of a run over visits: 3 if something can't be read, else 1 if no file was read
 abbrev pub least_status : List Visit → ℕ
-least_status visits = least_of (unread_lines visits) (has_files visits)
+least_status visits = if not (length (unread_lines visits) == 0) then 3 else if has_files visits then 0 else 1

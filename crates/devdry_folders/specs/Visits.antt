@@ -9,7 +9,7 @@ use Rattle.text_bytes.specs.Names.{slash}
 use Rattle.text_bytes.specs.declared.source_file.FileKind.{FileKind}
 use Rattle.devdry_files.specs.Answers.{Answer}
 use Rattle.devdry_files.specs.Answers.Answer.{Listing, Looked, NoListing, Target}
-use Rattle.devdry_files.specs.Places.{Place, places_of}
+use Rattle.devdry_files.specs.Places.{Place, place_of}
 use Rattle.devdry_files.specs.declared.disk.DiskFault.TheVariants as disk
 use Rattle.devdry_files.specs.declared.disk.Entry.{Entry}
 use Rattle.devdry_files.specs.declared.look.Look.{Look}
@@ -90,15 +90,11 @@ pub record IsFolderVisit (may : Answer → Type 0) (v : Visit) : Type 0 where
   pub looked : may (Looked v.path look)
   pub scanned : IsScannedBy may v.kind v.path v.link look v.scan
 
--- the sight of what is met at the path of a named file
-abbrev pub sight_at : List ℕ → Met → Sight
-sight_at path it = record { name = path; path = path; met = it }
-
--- the outcome for a named file: what is met there
+-- the outcome for a named file: what is met at its path
 pub record IsOneFile (may : Answer → Type 0) (path : List ℕ) (look : Look) (scan : Scan) : Type 0 where
   pub at_file : scan.spot ≡ spot.File
   pub it : Met
-  pub alone : scan.sights.items ≡ sight_at path it ∷ []
+  pub alone : scan.sights.items ≡ record { name = path; path = path; met = it } ∷ []
   pub met_so : IsMetBy may path look it
 
 -- the outcome for what is named, by a look: a folder is listed
@@ -136,4 +132,4 @@ pub record AreVisits (may : Answer → Type 0) (w : Wanted) (visits : List Visit
   pub found : List Visit
   pub cut : visits ≡ named ++ found
   pub are_named : AreNamedVisits may w.kind (map (λ f. f.now) w.files.now) named
-  pub are_found : AreFolderVisits may (places_of w.folders.items) found
+  pub are_found : AreFolderVisits may (map place_of w.folders.items) found

@@ -1,9 +1,9 @@
 //! Files that are where none is read: below `/lib`, if that is not a symlink, as it mostly is to `/usr/lib`.
-ghost use Rattle.std.specs.Prelude.{◌≡◌, ◌⊎◌, [], IfOk, filter};
+ghost use Rattle.std.specs.Prelude.{◌≡◌, ◌++◌, ◌⊎◌, [], IfOk, codes, filter};
 ghost use Rattle.engine_ends.specs.Kinds.{kinds_read, reads_folders_of};
 ghost use Rattle.devdry_files.specs.Answers.Answer.{Listing, NoListing, Target};
 ghost use Rattle.devdry_files.specs.declared.disk.DiskFault.TheVariants as faults;
-ghost use Rattle.devdry_folders.specs.Nothing.{AreElsewhere, AreElsewhereOf, IsCounted, IsElsewhere, lib_of, unmerged_folder};
+ghost use Rattle.devdry_folders.specs.Nothing.{AreElsewhere, AreElsewhereOf, IsCounted, IsElsewhere, unmerged_folder};
 
 use devdry_files::{Disk, DiskFault, Entry, counts};
 use engine_ends::Line;
@@ -107,7 +107,7 @@ fn elsewhere_of_kinds<D: Disk>(
 
 /// Where the symlink at `/lib` after a root leads, if there is one.
 fn lib_target<D: Disk>(alloc: Global, disk: &D, root: &str) -> Result<Option<Bytes>, AllocError>
-    ensures { IfOk result (λ target. D.may_answer disk.now (Target (lib_of root.now) target)) }
+    ensures { IfOk result (λ target. D.may_answer disk.now (Target (root.now ++ codes "/lib") target)) }
 {
     let mut path = String::from_str(alloc, root)?;
     path.push_str("/lib")?;

@@ -1,7 +1,9 @@
 //! The outcome of a line whose reading goes on after what can't be read.
-ghost use Rattle.std.specs.Prelude.{◌≡◌, ◌≤◌, IfOk};
-ghost use Rattle.devdry_folders.specs.Surveys.{AreVisitsFor, IsListed, IsReadSome, IsReported, ReportsNothing};
-ghost use Rattle.devdry_folders.specs.Unread.{least_of, least_status};
+ghost use Rattle.std.specs.Prelude.{◌≡◌, ◌≤◌, ◌==◌, IfOk, List, [], false, if◌then◌else◌, length, not};
+ghost use Rattle.devdry_folders.specs.Nothing.{AreElsewhere, nothing_lines};
+ghost use Rattle.devdry_folders.specs.Surveys.{AreVisitsFor, IsListed, IsReadSome, IsReported};
+ghost use Rattle.devdry_folders.specs.Unread.{least_status};
+ghost use Rattle.devdry_folders.specs.declared.elsewhere.Elsewhere.{Elsewhere};
 
 use crate::elsewhere::files_elsewhere;
 use crate::files::files_of;
@@ -54,7 +56,7 @@ struct Reported {
 
 /// The least status of a run, by the lines on what can't be read and whether any file was read.
 fn least_of(unread: &[u8], some: bool) -> u8
-    ensures { result ≡ least_of unread.now some }
+    ensures { result ≡ (if not (length unread.now == 0) then 3 else if some then 0 else 1) }
 {
     if !unread.is_empty() {
         3
@@ -73,7 +75,9 @@ fn reported_for_nothing<D: Disk>(
     visits: &[Visit],
     some: bool,
 ) -> Result<Vec<u8>, AllocError>
-    ensures { IfOk result (λ lines. ReportsNothing (D.may_answer disk.now) line.now visits.now some lines.items) }
+    ensures { IfOk result (λ lines. (others : List Elsewhere)
+        × (some ≡ false → AreElsewhere (D.may_answer disk.now) line.now others)
+        × (lines.items ≡ (if some then [] else nothing_lines line.now.root.now visits.now others))) }
 {
     if some {
         return Ok(Vec::new(alloc));

@@ -6,7 +6,7 @@ ghost use Rattle.std.specs.Prelude.{◌≡◌, ◌++◌, ◌∷◌, ℕ, IfOk, L
 ghost use Rattle.text_bytes.specs.Escapes.{escape_text};
 ghost use Rattle.text_bytes.specs.Names.{newline};
 ghost use Rattle.text_tables.specs.Pairs.{value_of, with_value};
-ghost use Rattle.devdry_folders.specs.SightStatus.{AreByName, AreListed, counting, file_text, sight_status, sights_if, sights_of, status_lines, use_text};
+ghost use Rattle.devdry_folders.specs.SightStatus.{AreByName, AreListed, counting, file_text, sight_status, sights_of, status_lines, use_text};
 ghost use Rattle.devdry_folders.specs.Unread.{is_file};
 
 use crate::reasons::{push_escaped, push_reason};
@@ -26,9 +26,9 @@ struct ByKind {
 /// Adds the sights of a visit to those of its kind.
 fn push_visit(held: &mut ByKind, mut visit: Visit) -> Result<(), AllocError>
     ensures rules { OnOk result (held.new.rules.items
-        ≡ held.old.rules.items ++ sights_if FileKind.Rules visit) }
+        ≡ held.old.rules.items ++ sights_of FileKind.Rules (visit ∷ [])) }
     ensures database { OnOk result (held.new.database.items
-        ≡ held.old.database.items ++ sights_if FileKind.Hwdb visit) }
+        ≡ held.old.database.items ++ sights_of FileKind.Hwdb (visit ∷ [])) }
 {
     match visit.kind {
         FileKind::Rules => held.rules.append(&mut visit.scan.sights),

@@ -4,7 +4,7 @@ ghost use Rattle.std.specs.Prelude.{◌≡◌, IfOk, IsPermutation, IsSorted, fa
 ghost use Rattle.std.specs.String.{string_cmp};
 ghost use Rattle.text_bytes.specs.Kinds.{suffix_of};
 ghost use Rattle.devdry_files.specs.Answers.Answer.{Listing};
-ghost use Rattle.devdry_files.specs.Places.{place_of, places_of};
+ghost use Rattle.devdry_files.specs.Places.{place_of};
 ghost use Rattle.devdry_folders.specs.Meetings.{IsMet};
 ghost use Rattle.devdry_folders.specs.Visits.{AreFolderVisits, AreNamedVisits, AreSightsAt, AreSightsIn, AreVisits, IsFolderVisit, IsListedSo, IsNamedSo, IsNamedVisit, IsOneFile, IsScannedBy, IsSightIn, IsUnlisted, below, missing_folder, place_of_visit};
 
@@ -274,7 +274,7 @@ fn folder_visits<D: Disk>(
     folders: &[Folder],
 ) -> Result<Vec<Visit>, AllocError>
     ensures { IfOk result (λ visits.
-        AreFolderVisits (D.may_answer disk.now) (places_of folders.now) visits.items) }
+        AreFolderVisits (D.may_answer disk.now) (map place_of folders.now) visits.items) }
 {
     let mut visits = Vec::new(alloc);
     for folder in folders {

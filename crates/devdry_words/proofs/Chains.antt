@@ -4,7 +4,7 @@ use Rattle.clap.specs.Words.{AddsArg, App, Rule, Shape, app_of, rule_of, with_su
 use Rattle.clap.specs.Built.{AddsSubcommand}
 use Rattle.clap.specs.declared.builder.arg.Arg.{Arg}
 use Rattle.clap.specs.declared.builder.command.Command.{Command}
-use Rattle.devdry_words.specs.Commands.{IsCommand}
+use Rattle.devdry_words.specs.Built.{IsCommand}
 
 pub one_more : (old new : Command) (a : Arg) (s : Shape) (r : Rule) → IsCommand s old → (rule_of a ≡ r) × (a.global ≡ false) → AddsArg old a new
     → IsCommand (record s { rules = s.rules ++ r ∷ [] }) new

@@ -1,5 +1,5 @@
 -- The line that the matches of a subcommand mean.
-use Rattle.std.specs.Prelude.{◌≡◌, ℕ, ◌∷◌, if◌then◌else◌, List, [], Option, Some, find, flat_map, map, not, unwrap_or, codes}
+use Rattle.std.specs.Prelude.{◌≡◌, ◌∷◌, IfSome, if◌then◌else◌, List, [], Option, Some, find, flat_map, map, not, unwrap_or, codes}
 use Rattle.std.specs.Option.{option_map, option_map_or}
 use Rattle.std.specs.Str.{bytes_eq}
 use Rattle.clap.specs.Words.{Row, Text, first_of}
@@ -42,13 +42,9 @@ format_of rows = option_map_or format_named (first_of (codes "format") rows) (So
 abbrev pub profile_of : List Row → Profile
 profile_of rows = if is_set (codes "udev") rows then Udev else Manual
 
--- a file of users or groups: its path and its bytes
-abbrev pub path_and_bytes : AccountFile → Text × List ℕ
-path_and_bytes file = (file.path.now, file.bytes)
-
--- a file of which no byte has been read yet
-abbrev pub unread : Text → Text × List ℕ
-unread path = (path, [])
+-- the file of users or groups at the path, if there is one; none of its bytes has been read yet
+abbrev pub IsUnreadFile : Option Text → Option AccountFile → Type 0
+IsUnreadFile path file = (option_map (λ f. f.path.now) file ≡ path) × IfSome file (λ f. f.bytes ≡ [])
 
 -- the line is that of the verb, below the root, and its other fields are the values of the matches
 pub record Reads (verb : Verb) (root : Text) (rows : List Row) (line : Line) : Type 0 where
@@ -68,5 +64,5 @@ pub record Reads (verb : Verb) (root : Text) (rows : List Row) (line : Line) : T
   pub all : line.all ≡ is_set (codes "all") rows
   pub ignored : map (λ c. c.now) line.ignored.items ≡ flat_map cut_at_commas (texts_of (codes "ignore") rows)
   pub profile : line.profile ≡ profile_of rows
-  pub users : option_map path_and_bytes line.users ≡ option_map unread (first_of (codes "users") rows)
-  pub groups : option_map path_and_bytes line.groups ≡ option_map unread (first_of (codes "groups") rows)
+  pub users : IsUnreadFile (first_of (codes "users") rows) line.users
+  pub groups : IsUnreadFile (first_of (codes "groups") rows) line.groups

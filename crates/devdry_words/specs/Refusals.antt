@@ -58,26 +58,6 @@ refusal_of name rows = if names_two name rows then Some TwoDatabases
 abbrev pub invalid_value : Text → Text → Text
 invalid_value value following = codes "error: invalid value '" ++ value ++ following
 
--- what is said about a query that names two databases
-abbrev pub two_databases : Text
-two_databases = codes "error: the argument '--index <FILE>' cannot be used with '[FILE]...'\n\nUsage: devdry query --index <FILE> <MODALIAS>\n\nFor more information, try '--help'.\n"
-
--- what is said of questions beside what says more of answers
-abbrev pub two_answers : Text
-two_answers = codes "error: the argument '--questions' cannot be used with '--sources' or '--why <FILE[:LINE]>'\n\nUsage: devdry events --questions [FILE]...\n\nFor more information, try '--help'.\n"
-
--- what is said about an empty root if all is asked for, or which files count
-abbrev pub empty_root : Text
-empty_root = codes "error: an empty value of '--root <DIR>' names no folder\n\nFor more information, try '--help'.\n"
-
--- what is said about an empty root that is compared
-abbrev pub empty_side : Text
-empty_side = codes "error: an empty value of '<OLD>' or '<NEW>' names no folder; '/' is that of the running system\n\nFor more information, try '--help'.\n"
-
--- what is said about users or groups that are named although rules are not read as udev reads them
-abbrev pub no_udev : Text
-no_udev = codes "error: the arguments '--users <FILE>' and '--groups <FILE>' need '--udev'\n\nUsage: devdry verify --udev --users <FILE> --groups <FILE> [FILE]...\n\nFor more information, try '--help'.\n"
-
 -- what is said after the name of an unknown format
 abbrev pub no_such_format : Text
 no_such_format = codes "' for '--format <FORMAT>'\n  [possible values: plain, gcc, github, gitlab, json, human]\n\nFor more information, try '--help'.\n"
@@ -92,10 +72,10 @@ not_ignorable = codes "' for '--ignore <CODES>'\n  [possible values: " ++ known_
 
 -- what is said about matches that are refused
 abbrev pub said_of : Refusal → List Row → Text
-said_of TwoDatabases rows = two_databases
-said_of TwoAnswers rows = two_answers
-said_of EmptyRoot rows = empty_root
-said_of EmptySide rows = empty_side
-said_of NoUdev rows = no_udev
+said_of TwoDatabases rows = codes "error: the argument '--index <FILE>' cannot be used with '[FILE]...'\n\nUsage: devdry query --index <FILE> <MODALIAS>\n\nFor more information, try '--help'.\n"
+said_of TwoAnswers rows = codes "error: the argument '--questions' cannot be used with '--sources' or '--why <FILE[:LINE]>'\n\nUsage: devdry events --questions [FILE]...\n\nFor more information, try '--help'.\n"
+said_of EmptyRoot rows = codes "error: an empty value of '--root <DIR>' names no folder\n\nFor more information, try '--help'.\n"
+said_of EmptySide rows = codes "error: an empty value of '<OLD>' or '<NEW>' names no folder; '/' is that of the running system\n\nFor more information, try '--help'.\n"
+said_of NoUdev rows = codes "error: the arguments '--users <FILE>' and '--groups <FILE>' need '--udev'\n\nUsage: devdry verify --udev --users <FILE> --groups <FILE> [FILE]...\n\nFor more information, try '--help'.\n"
 said_of UnknownFormat rows = invalid_value (text_of (codes "format") rows) no_such_format
 said_of UnknownPart rows = invalid_value (unwrap_or (unknown_part rows) []) not_ignorable

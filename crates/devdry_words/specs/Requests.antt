@@ -17,14 +17,6 @@ subcommand_name Files = codes "files"
 subcommand_name Compare = codes "compare"
 subcommand_name Explain = codes "explain"
 
--- a name is that of a subcommand
-abbrev pub IsSubcommandName : Text → Type 0
-IsSubcommandName name = (s : Subcommand) × (subcommand_name s ≡ name)
-
--- the words name a subcommand
-abbrev pub NamesSubcommand : Option (Text × List Row) → Type 0
-NamesSubcommand asked = IsSomeAnd asked (λ p. IsSubcommandName p.0)
-
 -- a subcommand of this name asks for the request with these matches: one that is run for its line below the root,
 -- `files` for the line of `events` below the root, and `compare` for two such lines, one below each of its roots
 abbrev pub AsksFor : Text → List Row → Request → Type 0

@@ -4,12 +4,10 @@
 //! no text here, so the texts of the help are broken by hand.
 ghost use Rattle.std.specs.Prelude.{◌≡◌, IfOk, codes, false};
 ghost use Rattle.clap.specs.Words.{app_of, rule_of};
-ghost use Rattle.devdry_words.specs.Commands.{IsCommand, accounts_rule, all_rule, code_rule, compare_shape, devdry, events_shape};
-ghost use Rattle.devdry_words.specs.Commands.{explain_shape, files_rule, files_shape, flag_rule, format_rule};
-ghost use Rattle.devdry_words.specs.Commands.{ignore_rule, index_rule, lint_rule, modalias_rule, new_root_rule};
-ghost use Rattle.devdry_words.specs.Commands.{no_style_rule, no_summary_rule, old_rule, program as program_app};
-ghost use Rattle.devdry_words.specs.Commands.{query_shape, questions_rule, required_rule, root_rule, sources_rule, strict_rule};
-ghost use Rattle.devdry_words.specs.Commands.{udev_rule, update_shape, verify_shape, why_rule};
+ghost use Rattle.devdry_words.specs.Built.{IsCommand};
+ghost use Rattle.devdry_words.specs.Commands.{compare_shape, devdry, events_shape, explain_shape, files_rule};
+ghost use Rattle.devdry_words.specs.Commands.{files_shape, flag_rule, option_rule, program as program_app, query_shape};
+ghost use Rattle.devdry_words.specs.Commands.{repeated_rule, required_rule, root_rule, strict_rule, update_shape, verify_shape};
 
 use clap::{Arg, ArgAction, Command};
 use std::alloc::{AllocError, Global};
@@ -73,14 +71,14 @@ fn strict_flag<'a>(alloc: Global) -> Arg<'a>
 
 /// `--sources`: each line says where it comes from.
 fn sources_flag<'a>(alloc: Global) -> Arg<'a>
-    ensures { (rule_of result ≡ sources_rule) × (result.global ≡ false) }
+    ensures { (rule_of result ≡ flag_rule (codes "sources")) × (result.global ≡ false) }
 {
     flag(alloc, "sources", "Say where each line comes from")
 }
 
 /// `--why FILE[:LINE]`, which may be given any number of times.
 fn why_option<'a>(alloc: Global) -> Arg<'a>
-    ensures { (rule_of result ≡ why_rule) × (result.global ≡ false) }
+    ensures { (rule_of result ≡ repeated_rule (codes "why")) × (result.global ≡ false) }
 {
     Arg::new(alloc, "why")
         .long("why")
@@ -91,7 +89,7 @@ fn why_option<'a>(alloc: Global) -> Arg<'a>
 
 /// `--questions`: the commands that the blocks do not answer, in place of answers.
 fn questions_flag<'a>(alloc: Global) -> Arg<'a>
-    ensures { (rule_of result ≡ questions_rule) × (result.global ≡ false) }
+    ensures { (rule_of result ≡ flag_rule (codes "questions")) × (result.global ≡ false) }
 {
     flag(
         alloc,
@@ -102,7 +100,7 @@ fn questions_flag<'a>(alloc: Global) -> Arg<'a>
 
 /// `--index FILE`, the index to read in place of the database's folders.
 fn index_option<'a>(alloc: Global) -> Arg<'a>
-    ensures { (rule_of result ≡ index_rule) × (result.global ≡ false) }
+    ensures { (rule_of result ≡ option_rule (codes "index")) × (result.global ≡ false) }
 {
     Arg::new(alloc, "index")
         .long("index")
@@ -112,7 +110,7 @@ fn index_option<'a>(alloc: Global) -> Arg<'a>
 
 /// `--no-summary`: good and bad files are not counted.
 fn no_summary_flag<'a>(alloc: Global) -> Arg<'a>
-    ensures { (rule_of result ≡ no_summary_rule) × (result.global ≡ false) }
+    ensures { (rule_of result ≡ flag_rule (codes "no-summary")) × (result.global ≡ false) }
 {
     flag(
         alloc,
@@ -123,14 +121,14 @@ fn no_summary_flag<'a>(alloc: Global) -> Arg<'a>
 
 /// `--no-style`: there are no messages about style.
 fn no_style_flag<'a>(alloc: Global) -> Arg<'a>
-    ensures { (rule_of result ≡ no_style_rule) × (result.global ≡ false) }
+    ensures { (rule_of result ≡ flag_rule (codes "no-style")) × (result.global ≡ false) }
 {
     flag(alloc, "no-style", "Give no messages about style")
 }
 
 /// `--lint`: rules that are most likely not the ones that were meant are reported, too.
 fn lint_flag<'a>(alloc: Global) -> Arg<'a>
-    ensures { (rule_of result ≡ lint_rule) × (result.global ≡ false) }
+    ensures { (rule_of result ≡ flag_rule (codes "lint")) × (result.global ≡ false) }
 {
     flag(
         alloc,
@@ -141,14 +139,14 @@ fn lint_flag<'a>(alloc: Global) -> Arg<'a>
 
 /// `--udev`, with the help that its subcommand has for it.
 fn udev_flag<'a>(alloc: Global, help: &'a str) -> Arg<'a>
-    ensures { (rule_of result ≡ udev_rule) × (result.global ≡ false) }
+    ensures { (rule_of result ≡ flag_rule (codes "udev")) × (result.global ≡ false) }
 {
     flag(alloc, "udev", help)
 }
 
 /// An option that names a list of accounts, by its own name.
 fn accounts_option<'a>(alloc: Global, name: &'a str, help: &'a str) -> Arg<'a>
-    ensures { (rule_of result ≡ accounts_rule name.entry.now) × (result.global ≡ false) }
+    ensures { (rule_of result ≡ option_rule name.entry.now) × (result.global ≡ false) }
 {
     Arg::new(alloc, name)
         .long(name)
@@ -158,7 +156,7 @@ fn accounts_option<'a>(alloc: Global, name: &'a str, help: &'a str) -> Arg<'a>
 
 /// `--users FILE`, the users that OWNER may name.
 fn users_option<'a>(alloc: Global) -> Arg<'a>
-    ensures { (rule_of result ≡ accounts_rule (codes "users")) × (result.global ≡ false) }
+    ensures { (rule_of result ≡ option_rule (codes "users")) × (result.global ≡ false) }
 {
     accounts_option(
         alloc,
@@ -169,7 +167,7 @@ fn users_option<'a>(alloc: Global) -> Arg<'a>
 
 /// `--groups FILE`, the groups that GROUP may name.
 fn groups_option<'a>(alloc: Global) -> Arg<'a>
-    ensures { (rule_of result ≡ accounts_rule (codes "groups")) × (result.global ≡ false) }
+    ensures { (rule_of result ≡ option_rule (codes "groups")) × (result.global ≡ false) }
 {
     accounts_option(
         alloc,
@@ -180,7 +178,7 @@ fn groups_option<'a>(alloc: Global) -> Arg<'a>
 
 /// `--all`: the run goes on after what can't be read, and fails if there is no file.
 fn all_flag<'a>(alloc: Global) -> Arg<'a>
-    ensures { (rule_of result ≡ all_rule) × (result.global ≡ false) }
+    ensures { (rule_of result ≡ flag_rule (codes "all")) × (result.global ≡ false) }
 {
     flag(
         alloc,
@@ -191,7 +189,7 @@ fn all_flag<'a>(alloc: Global) -> Arg<'a>
 
 /// `--format FORMAT`, how messages are written.
 fn format_option<'a>(alloc: Global) -> Arg<'a>
-    ensures { (rule_of result ≡ format_rule) × (result.global ≡ false) }
+    ensures { (rule_of result ≡ option_rule (codes "format")) × (result.global ≡ false) }
 {
     Arg::new(alloc, "format")
         .long("format")
@@ -201,7 +199,7 @@ fn format_option<'a>(alloc: Global) -> Arg<'a>
 
 /// `--ignore CODES`, which may be given any number of times.
 fn ignore_option<'a>(alloc: Global) -> Arg<'a>
-    ensures { (rule_of result ≡ ignore_rule) × (result.global ≡ false) }
+    ensures { (rule_of result ≡ repeated_rule (codes "ignore")) × (result.global ≡ false) }
 {
     Arg::new(alloc, "ignore")
         .long("ignore")
@@ -219,7 +217,7 @@ fn required_argument<'a>(alloc: Global, name: &'a str, help: &'a str) -> Arg<'a>
 
 /// MODALIAS of `query`.
 fn modalias_argument<'a>(alloc: Global) -> Arg<'a>
-    ensures { (rule_of result ≡ modalias_rule) × (result.global ≡ false) }
+    ensures { (rule_of result ≡ required_rule (codes "MODALIAS")) × (result.global ≡ false) }
 {
     required_argument(
         alloc,
@@ -230,21 +228,21 @@ fn modalias_argument<'a>(alloc: Global) -> Arg<'a>
 
 /// OLD of `compare`, the root of the system before.
 fn old_argument<'a>(alloc: Global) -> Arg<'a>
-    ensures { (rule_of result ≡ old_rule) × (result.global ≡ false) }
+    ensures { (rule_of result ≡ required_rule (codes "OLD")) × (result.global ≡ false) }
 {
     required_argument(alloc, "OLD", "Root of the system before")
 }
 
 /// NEW of `compare`, the root of the system after.
 fn new_argument<'a>(alloc: Global) -> Arg<'a>
-    ensures { (rule_of result ≡ new_root_rule) × (result.global ≡ false) }
+    ensures { (rule_of result ≡ required_rule (codes "NEW")) × (result.global ≡ false) }
 {
     required_argument(alloc, "NEW", "Root of the system after")
 }
 
 /// CODE of `explain`.
 fn code_argument<'a>(alloc: Global) -> Arg<'a>
-    ensures { (rule_of result ≡ code_rule) × (result.global ≡ false) }
+    ensures { (rule_of result ≡ required_rule (codes "CODE")) × (result.global ≡ false) }
 {
     required_argument(alloc, "CODE", "Code of a message, as V6")
 }

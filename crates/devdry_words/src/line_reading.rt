@@ -1,7 +1,7 @@
 //! The line that the matches of a parse mean.
-ghost use Rattle.std.specs.Prelude.{◌≡◌, IfOk, option_map};
+ghost use Rattle.std.specs.Prelude.{◌≡◌, IfOk};
 ghost use Rattle.clap.specs.Words.{first_of, found_of, rows_of};
-ghost use Rattle.devdry_words.specs.Lines.{Reads, format_named, format_of, path_and_bytes, profile_of, unread};
+ghost use Rattle.devdry_words.specs.Lines.{IsUnreadFile, Reads, format_named, format_of, profile_of};
 
 use crate::values::{is_given, parts, text, texts, value};
 use clap::ArgMatches;
@@ -47,7 +47,7 @@ fn profile_of(matches: &ArgMatches<'_>) -> Profile
 
 /// The file of users or groups that an option names, if it was given. None of its bytes has been read yet.
 fn account_file<'a>(alloc: Global, matches: &ArgMatches<'a>, id: &str) -> Option<AccountFile<'a>>
-    ensures { option_map path_and_bytes result ≡ option_map unread (first_of id.now (rows_of (found_of matches.now))) }
+    ensures { IsUnreadFile (first_of id.now (rows_of (found_of matches.now))) result }
 {
     let path = value(matches, id)?;
     Some(AccountFile {

@@ -4,10 +4,11 @@
 //! errors the faults that the program distinguishes by their status.
 ghost use Rattle.std.specs.Prelude.{◌≡◌, ◌↔◌, ◌⊎◌, IsTrue, IfErr, IfOk, MatchResult, None, Ok, Err, [], map, string_bytes, true};
 ghost use Rattle.clap.specs.Words.{fault_of, found_of, kind_of, rows_of, subcommand_of, subcommand_rows_of, takes};
-ghost use Rattle.devdry_words.specs.Answers.{AnswersKind, AnswersMatches, AnswersSubcommand, AnswersWords, AsksForHelp};
+ghost use Rattle.devdry_words.specs.Answers.{AnswersWords, AsksForHelp};
 ghost use Rattle.devdry_words.specs.Commands.{devdry};
+ghost use Rattle.devdry_words.specs.Named.{AnswersKind, AnswersMatches, AnswersSubcommand, IsSubcommandName, NamesSubcommand};
 ghost use Rattle.devdry_words.specs.Refusals.{refusal_of};
-ghost use Rattle.devdry_words.specs.Requests.{AsksFor, IsRequestOf, IsSubcommandName, NamesSubcommand};
+ghost use Rattle.devdry_words.specs.Requests.{AsksFor, IsRequestOf};
 
 use crate::commands::devdry_command;
 use crate::refusals::{refusal_of, usage_of};
@@ -115,11 +116,9 @@ pub fn parse_line<'a>(alloc: Global, words: &'a [String]) -> Result<Request<'a>,
     // A fault answers what is wrong with the words, or what they ask for: help, or usage.
     ensures fault { IfErr result (AnswersWords (fault_of devdry (map string_bytes words.now))
         (subcommand_of devdry (map string_bytes words.now))) }
-    // Words that `clap` takes give no request only if memory runs out, or if they are refused or ask for an
-    // explanation.
+    // Words that `clap` takes are answered as words with no error of `clap`.
     ensures refusal { takes devdry (map string_bytes words.now) ≡ true
-        → IfErr result (λ fault. (fault ≡ LineFault.Memory)
-        ⊎ AnswersSubcommand (subcommand_of devdry (map string_bytes words.now)) fault) }
+        → IfErr result (AnswersWords [] (subcommand_of devdry (map string_bytes words.now))) }
 {
     let command = match devdry_command(alloc) {
         Ok(command) => command,

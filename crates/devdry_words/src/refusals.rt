@@ -4,7 +4,7 @@
 //! values split at commas, so these few cases are looked at here.
 ghost use Rattle.std.specs.Prelude.{◌≡◌};
 ghost use Rattle.clap.specs.Words.{found_of, rows_of};
-ghost use Rattle.devdry_words.specs.Answers.{IsUsageOf};
+ghost use Rattle.devdry_words.specs.Named.{IsUsageOf};
 ghost use Rattle.devdry_words.specs.Refusals.{asks_both, lacks_root, lacks_side, lacks_udev, names_two, refusal_of, said_of, unknown_value};
 
 use crate::ignored::{unknown_part, unknown_text};

@@ -1,6 +1,6 @@
 //! The faults that `devdry` itself reports, each with its text.
 ghost use Rattle.std.specs.Prelude.{◌≡◌, IfOk, string_bytes};
-ghost use Rattle.devdry_words.specs.Answers.{Explains, IsHelpWith, IsUsageOf};
+ghost use Rattle.devdry_words.specs.Named.{Explains, IsHelpWith, IsUsageOf};
 ghost use Rattle.devdry_words.specs.Refusals.{invalid_value};
 
 use devdry_explanations::explanation;

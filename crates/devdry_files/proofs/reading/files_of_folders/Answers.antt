@@ -1,8 +1,8 @@
-use Rattle.std.proofs.Common.{◌≡◌, ◌∙◌, ◌++◌, ◌+◌, ◌∷◌, [], ap, arith, drop, rules, subst, suc, sym, take, take-suc}
+use Rattle.std.proofs.Common.{◌≡◌, ◌∙◌, ◌++◌, ◌+◌, ◌∷◌, [], ap, drop, rules, subst, suc, sym, take}
 use Rattle.std.proofs.Math.Seq.{split_at}
 use Rattle.devdry_files.specs.Faults.{IsFaultyInOneOf}
 use Rattle.devdry_files.specs.Found.{AreInFolders}
-use Rattle.devdry_files.proofs.Adding.{among, folders_more, handed_on}
+use Rattle.devdry_files.proofs.Adding.{among, folders_more, handed_on, one_more}
 use Rattle.devdry_files.proofs.reading.files_of_folders.Goals as goal
 
 pub returns-in_err-files_in-clause-fault : goal.returns-in_err-files_in-clause-fault
@@ -22,8 +22,7 @@ loop-folder-preserved g c =
     let folders = c.args.folders.now in
     let folder = c.folder-item.result in
     let index = c.loop-folder.folder-index in
-    let one : index + 1 ≡ suc index = omega arith in
-    let next : take (index + 1) folders ≡ take index folders ++ folder ∷ [] = ap (λ n. take n folders) one ∙ take-suc folders index folder (search rules) ∙ ap (λ f. take index folders ++ f ∷ []) (sym c.folder-item.is) in
+    let next : take (index + 1) folders ≡ take index folders ++ folder ∷ [] = one_more folders index folder (search rules) ∙ ap (λ f. take index folders ++ f ∷ []) (sym c.folder-item.is) in
     let more : AreInFolders may (take index folders ++ folder ∷ []) (c.loop-folder.files.items ++ c.in_ok-files_in.field-0.items) = folders_more may (take index folders) c.loop-folder.files.items folder c.in_ok-files_in.field-0.items c.loop-folder.invariant c.in_ok-files_in.ensures.files in
     let grown : c.append.new.self.items ≡ c.loop-folder.files.items ++ c.in_ok-files_in.field-0.items = search rules in
     rw (next, grown) more

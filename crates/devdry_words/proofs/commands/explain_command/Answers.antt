@@ -1,7 +1,7 @@
 use Rattle.std.proofs.Common.{rules, codes}
 use Rattle.std.proofs.lemmas.Result.{IfOk-weaker}
 use Rattle.clap.specs.Simple.{new_shape}
-use Rattle.devdry_words.specs.Commands.{IsCommand}
+use Rattle.devdry_words.specs.Built.{IsCommand}
 use Rattle.devdry_words.proofs.Chains.{one_more}
 use Rattle.devdry_words.proofs.commands.explain_command.Goals as goal
 

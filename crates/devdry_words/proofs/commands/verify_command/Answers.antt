@@ -1,7 +1,7 @@
 use Rattle.std.proofs.Common.{◌∙◌, ap, codes}
 use Rattle.std.proofs.lemmas.Result.{IfOk-weaker}
 use Rattle.clap.specs.Simple.{App, new_shape, shape_of_fields}
-use Rattle.devdry_words.specs.Commands.{IsCommand}
+use Rattle.devdry_words.specs.Built.{IsCommand}
 use Rattle.devdry_words.proofs.Chains.{one_more}
 use Rattle.devdry_words.proofs.commands.verify_command.Goals as goal
 

@@ -1,5 +1,5 @@
 use Rattle.std.proofs.Common.{subst}
-use Rattle.devdry_words.specs.Answers.{IsUsageOf}
+use Rattle.devdry_words.specs.Named.{IsUsageOf}
 use Rattle.devdry_words.specs.Refusals.{invalid_value, no_such_format, not_ignorable}
 use Rattle.devdry_words.proofs.refusals.usage_of.Goals as goal
 

@@ -1,7 +1,7 @@
 -- The files of users and groups that a request names, as they come from the disk.
 use Rattle.std.specs.Prelude.{◌≡◌}
 use Rattle.engine_ends.specs.declared.line.Request.{Request}
-use Rattle.engine_ends.specs.declared.line.Request.TheVariants.{Run, Files, Compare}
+use Rattle.engine_ends.specs.declared.line.Request.TheVariants.{Run}
 use Rattle.devdry_files.specs.AccountFiles.{AreAccountsRead, IsFaultyAccounts}
 use Rattle.devdry_files.specs.Answers.{Answer}
 use Rattle.devdry_files.specs.Faults.{HasPath}
@@ -11,11 +11,9 @@ use Rattle.devdry_files.specs.declared.fault.ReadFault.{ReadFault}
 abbrev pub KnowsAccounts : (Answer → Type 0) → Request → Request → Type 0
 KnowsAccounts may (Run named) (Run line) = AreAccountsRead may named line
 KnowsAccounts may (Run named) _ = ⊥
-KnowsAccounts may (Files line) request = request ≡ Files line
-KnowsAccounts may (Compare old new) request = request ≡ Compare old new
+KnowsAccounts may named request = request ≡ named
 
 -- the fault is about a file of users or groups that the request names
 abbrev pub IsFaultOfAccounts : (Answer → Type 0) → Request → ReadFault → Type 0
 IsFaultOfAccounts may (Run named) fault = HasPath (IsFaultyAccounts may named) fault
-IsFaultOfAccounts may (Files line) fault = ⊥
-IsFaultOfAccounts may (Compare old new) fault = ⊥
+IsFaultOfAccounts may _ fault = ⊥

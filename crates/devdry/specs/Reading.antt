@@ -42,7 +42,3 @@ pub record FailsAt (IsFault : ReadFault → Type 0) (status : ℕ) (before now :
   pub reports : ReportsReadFault fault status before.err now.err
   pub unread : now.input ≡ before.input
   pub untouched : now.out ≡ before.out
-
--- the same for what a line asks for
-abbrev pub FailsToRead : (Answer → Type 0) → Line → ℕ → Streams → Streams → Type 0
-FailsToRead may line status before now = FailsAt (IsFaultOf may line) status before now

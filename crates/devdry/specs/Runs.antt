@@ -7,8 +7,7 @@ use Rattle.engine_ends.specs.declared.line.LineFault.{LineFault}
 use Rattle.engine_ends.specs.declared.line.Request.{Request}
 use Rattle.engine_ends.specs.declared.line.Request.TheVariants.{Run, Files, Compare}
 use Rattle.engine_ends.specs.declared.line.Verb.{Verb}
-use Rattle.engine_ends.specs.declared.line.Verb.TheVariants.{Update, Query, Verify, Events}
-use Rattle.engine_ends.specs.Sinks.{HandsOn, SinkState}
+use Rattle.engine_ends.specs.declared.line.Verb.TheVariants.{Events}
 use Rattle.engine_ends.specs.Streams.{Streams, outputs}
 use Rattle.engine_core.specs.Runs.{RunsOver}
 use Rattle.devdry_files.specs.Answers.{Answer}
@@ -16,9 +15,9 @@ use Rattle.devdry_words.specs.Commands.{devdry}
 use Rattle.devdry_words.specs.Answers.{AnswersWords}
 use Rattle.devdry_words.specs.Requests.{IsRequestOf}
 use Rattle.devdry.specs.Comparing.{ComparesLines}
-use Rattle.devdry.specs.PartialRuns.{FailsAtReport, ListsFiles, RunsSome}
+use Rattle.devdry.specs.PartialRuns.{ListsFiles, RunsAfter, RunsSome}
 use Rattle.devdry.specs.Knowing.{IsFaultOfAccounts, KnowsAccounts}
-use Rattle.devdry.specs.Reading.{AreReadFor, FailsAt, FailsToRead}
+use Rattle.devdry.specs.Reading.{AreReadFor, FailsAt, IsFaultOf}
 use Rattle.devdry.specs.Reporting.{ReportsLineFault}
 use Rattle.devdry.specs.Terminals.{shown_request}
 use Rattle.devdry.specs.declared.terminals.Terminals.{Terminals}
@@ -33,7 +32,7 @@ pub record RunsOverFiles (may : Answer → Type 0) (line : Line) (status : ℕ) 
 -- what a line that ends at what can't be read does
 abbrev pub RunsWanted : (Answer → Type 0) → Line → ℕ → Streams → Streams → Type 0
 RunsWanted may line status before now =
-    RunsOverFiles may line status before now ⊎ FailsToRead may line status before now
+    RunsOverFiles may line status before now ⊎ FailsAt (IsFaultOf may line) status before now
 
 -- what a line does, by whether it goes on after what can't be read
 abbrev pub RunsBy : Bool → (Answer → Type 0) → Line → ℕ → Streams → Streams → Type 0
@@ -52,10 +51,8 @@ DoesRequest may (Compare old new) status before now = ComparesLines may old new 
 
 -- the verb is that of `events`
 abbrev pub is_events : Verb → Bool
-is_events Update = false
-is_events Query = false
-is_events Verify = false
 is_events Events = true
+is_events _ = false
 
 -- whether a request answers event blocks
 abbrev pub takes_blocks : Request → Bool
@@ -67,27 +64,16 @@ takes_blocks (Compare old new) = true
 abbrev pub waiting : List ℕ
 waiting = codes "devdry: waiting for event blocks, each ended by an empty line; devdry-capture DEVICE prints them\n"
 
--- The error output has the line on waiting, and the request goes on from there.
-pub record DoesWaiting (may : Answer → Type 0) (request : Request) (status : ℕ) (before now : Streams) : Type 0 where
-  pub err : SinkState
-  pub hands_on : HandsOn before.err waiting err
-  pub does : DoesRequest may request status (record { input = before.input; out = before.out; err = err }) now
-
 -- what a request does, after the line on waiting or without it
 abbrev pub DoesAfter : Bool → (Answer → Type 0) → Request → ℕ → Streams → Streams → Type 0
-DoesAfter true may request status before now = DoesWaiting may request status before now ⊎ FailsAtReport waiting status before now
+DoesAfter true may request status before now = RunsAfter waiting 0 (DoesRequest may request) status before now
 DoesAfter false may request status before now = DoesRequest may request status before now
-
--- what a request does, given whether the input is a terminal
-abbrev pub RunsRequest : Bool → (Answer → Type 0) → Request → ℕ → Streams → Streams → Type 0
-RunsRequest from_terminal may request status before now =
-    DoesAfter (from_terminal && takes_blocks request) may request status before now
 
 -- The files of users and groups that a request names were read, and the request is run with what they list.
 pub record RunsOverAccounts (from_terminal : Bool) (may : Answer → Type 0) (named : Request) (status : ℕ) (before now : Streams) : Type 0 where
   pub request : Request
   pub knows : KnowsAccounts may named request
-  pub runs : RunsRequest from_terminal may request status before now
+  pub runs : DoesAfter (from_terminal && takes_blocks request) may request status before now
 
 -- what a request does, given whether the input is a terminal
 abbrev pub RunsKnowing : Bool → (Answer → Type 0) → Request → ℕ → Streams → Streams → Type 0

@@ -4,7 +4,7 @@ use Rattle.engine_ends.specs.declared.line.Format.{Format}
 use Rattle.engine_ends.specs.declared.line.Format.TheVariants.{Human, HumanInColor}
 use Rattle.engine_ends.specs.declared.line.Line.{Line}
 use Rattle.engine_ends.specs.declared.line.Request.{Request}
-use Rattle.engine_ends.specs.declared.line.Request.TheVariants.{Run, Files, Compare}
+use Rattle.engine_ends.specs.declared.line.Request.TheVariants.{Run}
 
 -- the format for people in colors, and any other as it is
 abbrev pub in_color : Format → Format
@@ -18,29 +18,9 @@ shown_format false format = format
 
 -- a line with the format that is shown
 abbrev pub shown_line : Bool → Line → Line
-shown_line colors line = record {
-  verb = line.verb;
-  root = line.root;
-  files = line.files;
-  index = line.index;
-  strict = line.strict;
-  sources = line.sources;
-  why = line.why;
-  questions = line.questions;
-  modalias = line.modalias;
-  summary = line.summary;
-  style = line.style;
-  lint = line.lint;
-  format = shown_format colors line.format;
-  all = line.all;
-  ignored = line.ignored;
-  profile = line.profile;
-  users = line.users;
-  groups = line.groups;
-}
+shown_line colors line = record line { format = shown_format colors line.format }
 
 -- a request with the format that is shown: `files` and `compare` have no messages
 abbrev pub shown_request : Bool → Request → Request
 shown_request colors (Run line) = Run (shown_line colors line)
-shown_request colors (Files line) = Files line
-shown_request colors (Compare old new) = Compare old new
+shown_request colors request = request

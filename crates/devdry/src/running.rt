@@ -1,7 +1,7 @@
 //! The way from words to a status.
-ghost use Rattle.std.specs.Prelude.{◌≡◌, IfErr, IfOk, map, string_bytes};
+ghost use Rattle.std.specs.Prelude.{◌≡◌, ◌&&◌, IfErr, IfOk, map, string_bytes};
 ghost use Rattle.devdry.specs.Reading.{AreReadFor, IsFaultOf};
-ghost use Rattle.devdry.specs.Runs.{DoesRequest, Runs, RunsLine, RunsRequest, RunsWanted, takes_blocks};
+ghost use Rattle.devdry.specs.Runs.{DoesAfter, DoesRequest, Runs, RunsLine, RunsWanted, takes_blocks};
 
 use crate::comparing::run_compare;
 use crate::knowing::run_knowing;
@@ -65,7 +65,7 @@ pub(crate) fn run_request<D: Disk, I: Source, W: Sink, E: Sink>(
     output: &mut W,
     error: &mut E,
 ) -> u8
-    ensures { RunsRequest from_terminal (D.may_answer disk.now) request.now result
+    ensures { DoesAfter (from_terminal && takes_blocks request.now) (D.may_answer disk.now) request.now result
         (record { input = I.shown input.old; out = W.shown output.old; err = E.shown error.old })
         (record { input = I.shown input.new; out = W.shown output.new; err = E.shown error.new }) }
 {

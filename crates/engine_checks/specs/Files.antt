@@ -16,11 +16,11 @@ use Rattle.rule_lints.specs.declared.placed_lint.PlacedLint.{PlacedLint}
 use Rattle.engine_ends.specs.declared.line.Line.{Line}
 use Rattle.engine_formats.specs.Diagnostics.{DiagnosticValue}
 use Rattle.engine_formats.specs.Paths.{path_of}
-use Rattle.engine_formats.specs.Placing.{line_numbered, placed}
+use Rattle.engine_formats.specs.Placing.{placed}
 use Rattle.engine_formats.specs.declared.remark.Remark.TheVariants as about
 use Rattle.engine_checks.specs.Codes.{has_comments}
 use Rattle.engine_checks.specs.Ignores.{Ignore, ignores_in}
-use Rattle.engine_checks.specs.Reported.{FileText, by_line, file_reported}
+use Rattle.engine_checks.specs.Reported.{FileText, by_line, diagnostic_in, file_reported}
 
 -- a file that a command line reads, as diagnostics show it
 abbrev pub file_text : Line → SourceFile → FileText
@@ -28,47 +28,17 @@ file_text line file = record { name = file.name; path = path_of line file; lines
 
 -- a finding of a rules file as a diagnostic
 abbrev pub rule_diagnostic : FileText → PlacedFinding → DiagnosticValue
-rule_diagnostic file found = record {
-  name = file.name;
-  path = file.path;
-  source = line_numbered file.lines found.line;
-  begins = found.begins;
-  line = found.line;
-  column = found.column;
-  end = found.end;
-  remark = about.Message found.kind;
-  word = found.word;
-}
+rule_diagnostic file found = diagnostic_in file found.begins found.line found.column found.end (about.Message found.kind) found.word
 
 -- a lint of a rules file as a diagnostic
 abbrev pub lint_diagnostic : FileText → PlacedLint → DiagnosticValue
-lint_diagnostic file found = record {
-  name = file.name;
-  path = file.path;
-  source = line_numbered file.lines found.line;
-  begins = found.begins;
-  line = found.line;
-  column = found.column;
-  end = found.end;
-  remark = about.Lint found.lint;
-  word = found.word;
-}
+lint_diagnostic file found = diagnostic_in file found.begins found.line found.column found.end (about.Lint found.lint) found.word
 
 -- a message about a database as a diagnostic
 abbrev pub database_diagnostic : FileText → Message → DiagnosticValue
 database_diagnostic file message =
     let place = placed file.lines message in
-    record {
-      name = file.name;
-      path = file.path;
-      source = place.source;
-      begins = message.line;
-      line = message.line;
-      column = place.column;
-      end = place.end;
-      remark = about.Message message.kind;
-      word = place.word;
-    }
+    diagnostic_in file message.line message.line place.column place.end (about.Message message.kind) place.word
 
 -- the texts of `--ignore`
 abbrev pub ignored_by : Line → List Text

@@ -35,9 +35,8 @@ asked_by next text = asked_or next (following (codes " ignore ") text) (followin
 
 -- the codes of a list, cut at its commas; what is not understood is one text
 abbrev pub texts_of : Scope → Text → List Text
-texts_of File list = slice_split (λ b. b == comma) list
-texts_of (Next next) list = slice_split (λ b. b == comma) list
 texts_of Unread text = text ∷ []
+texts_of scope list = slice_split (λ b. b == comma) list
 
 -- the code in a text: without the blanks before it and the whitespace after it
 abbrev pub code_in : Text → Text

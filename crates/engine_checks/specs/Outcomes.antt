@@ -1,12 +1,11 @@
 -- What `verify` and `update` say with other formats, with lints, and with messages that are ignored.
-use Rattle.std.specs.Prelude.{ℕ, ◌^◌, Bool, nat_le, if◌then◌else◌, List, [], length, flat_map, map}
+use Rattle.std.specs.Prelude.{ℕ, Bool, if◌then◌else◌, List, [], length, flat_map, map}
 use Rattle.std.specs.List.{count_by, list_any}
 use Rattle.text_bytes.specs.declared.source_file.SourceFile.{SourceFile}
 use Rattle.text_bytes.specs.declared.source_file.FileKind.TheVariants.{Hwdb, Rules}
 use Rattle.text_bytes.specs.declared.message.Message.{Message}
 use Rattle.text_tables.specs.Texts.{Text, same_text}
 use Rattle.hwdb_lookup.specs.declared.entry.Entry.{Entry}
-use Rattle.rule_types.specs.Rules.{tokens_in}
 use Rattle.rule_core.specs.Ends.{file_as_read}
 use Rattle.rule_core.specs.Rules.{set_of_as}
 use Rattle.trie_core.specs.Image.{image}
@@ -14,7 +13,7 @@ use Rattle.engine_ends.specs.Delivery.{RunOutcome}
 use Rattle.engine_ends.specs.declared.line.Line.{Line}
 use Rattle.engine_reports.specs.Checks.{summary_line, verify_status}
 use Rattle.engine_reports.specs.FilesRead.{files_read}
-use Rattle.engine_reports.specs.Outcomes.{database_outcome, too_many_rules, update_status}
+use Rattle.engine_reports.specs.Outcomes.{database_outcome, hold_few_tokens, too_many_rules, update_status}
 use Rattle.engine_formats.specs.Diagnostics.{DiagnosticValue}
 use Rattle.engine_formats.specs.Formats.{formatted}
 use Rattle.engine_checks.specs.Files.{database_reported, rules_reported}
@@ -38,7 +37,7 @@ checks_said line files reported = record {
 -- what `verify` says about rules files
 unfoldable pub rules_checks : Line → List SourceFile → RunOutcome
 rules_checks line files =
-    if nat_le (tokens_in (set_of_as line.profile files).rules) (2 ^ 24) then checks_said line files (flat_map (rules_reported line) files)
+    if hold_few_tokens (set_of_as line.profile files).rules then checks_said line files (flat_map (rules_reported line) files)
     else too_many_rules
 
 -- what `verify` says about the files passed in, whose ends of lines are read as the profile has them

@@ -18,9 +18,8 @@ use Rattle.engine_checks.specs.declared.ignores.Scope.TheVariants.{File, Next, U
 -- whether a comment is about what is reported for a line
 abbrev pub covers : Scope → ℕ → Bool
 covers File line = true
-covers (Next None) line = false
 covers (Next (Some next)) line = line == next
-covers Unread line = false
+covers _ line = false
 
 -- whether a code in a comment silences a diagnostic: it is the diagnostic's code, and the comment is about the line
 -- for which the diagnostic is reported
@@ -34,16 +33,12 @@ is_silenced ignores d = list_any (λ ignore. silences ignore d) ignores
 -- whether a remark is a message about style
 abbrev pub is_about_style : Remark → Bool
 is_about_style (Message kind) = is_style kind
-is_about_style (Lint lint) = false
-is_about_style IdleIgnore = false
-is_about_style UnknownCode = false
+is_about_style _ = false
 
 -- whether a remark is a lint
 abbrev pub is_lint : Remark → Bool
-is_lint (Message kind) = false
 is_lint (Lint lint) = true
-is_lint IdleIgnore = false
-is_lint UnknownCode = false
+is_lint _ = false
 
 -- whether a command line asks for a remark: with or without lints, with or without style, past the codes of `--ignore`
 abbrev pub is_asked : Bool → Bool → List Text → Remark → Bool
@@ -55,9 +50,8 @@ is_reported lint style ignored ignores d = is_asked lint style ignored d.remark 
 
 -- whether a code in a comment is unknown, or the comment is not understood
 abbrev pub is_unknown : Scope → Text → Bool
-is_unknown File code = not (is_code code)
-is_unknown (Next next) code = not (is_code code)
 is_unknown Unread code = true
+is_unknown scope code = not (is_code code)
 
 -- what is to be said about a code in a comment, by all that was found in the file: that there is no such code, or
 -- that it silences none of this
@@ -73,19 +67,23 @@ pub record FileText : Type 0 where
   pub path : Text
   pub lines : List NumberedLine
 
--- what is said about a code in a comment, as a diagnostic
-abbrev pub comment_diagnostic : FileText → Ignore → Remark → DiagnosticValue
-comment_diagnostic file ignore remark = record {
+-- a remark on a word of a file as a diagnostic, by the line for which it is reported and the word's place
+abbrev pub diagnostic_in : FileText → (begins line column end : ℕ) → Remark → (word : Text) → DiagnosticValue
+diagnostic_in file begins line column end remark word = record {
   name = file.name;
   path = file.path;
-  source = line_numbered file.lines ignore.line;
-  begins = ignore.line;
-  line = ignore.line;
-  column = ignore.column;
-  end = ignore.end;
+  source = line_numbered file.lines line;
+  begins = begins;
+  line = line;
+  column = column;
+  end = end;
   remark = remark;
-  word = ignore.code;
+  word = word;
 }
+
+-- what is said about a code in a comment, as a diagnostic
+abbrev pub comment_diagnostic : FileText → Ignore → Remark → DiagnosticValue
+comment_diagnostic file ignore remark = diagnostic_in file ignore.line ignore.line ignore.column ignore.end remark ignore.code
 
 -- what is to be said about the codes in comments of a file
 abbrev pub comment_diagnostics : FileText → List DiagnosticValue → List Ignore → List DiagnosticValue

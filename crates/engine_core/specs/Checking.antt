@@ -6,7 +6,7 @@ use Rattle.text_bytes.specs.declared.source_file.SourceFile.{SourceFile}
 use Rattle.text_bytes.specs.declared.source_file.FileKind.TheVariants.{Hwdb}
 use Rattle.engine_checks.specs.Outcomes.{checks_outcome, reported_update_outcome}
 use Rattle.engine_ends.specs.declared.line.Format.{Format}
-use Rattle.engine_ends.specs.declared.line.Format.TheVariants.{Plain, Gcc, Github, Gitlab, Json, Human, HumanInColor}
+use Rattle.engine_ends.specs.declared.line.Format.TheVariants.{Plain}
 use Rattle.engine_ends.specs.declared.line.Line.{Line}
 use Rattle.engine_ends.specs.Delivery.{RunOutcome}
 use Rattle.engine_reports.specs.FilesRead.{files_read}
@@ -15,12 +15,7 @@ use Rattle.engine_reports.specs.Outcomes.{database_outcome, update_outcome, veri
 -- whether messages are written in the plain format
 abbrev pub is_plain : Format → Bool
 is_plain Plain = true
-is_plain Gcc = false
-is_plain Github = false
-is_plain Gitlab = false
-is_plain Json = false
-is_plain Human = false
-is_plain HumanInColor = false
+is_plain _ = false
 
 -- whether rules are read as udev itself reads them
 abbrev pub is_udev : Profile → Bool

@@ -75,10 +75,8 @@ outcome_by line (Err said) input = said
 
 -- whether a verb is `query`
 abbrev pub is_query : Verb → Bool
-is_query Update = false
 is_query Query = true
-is_query Verify = false
-is_query Events = false
+is_query _ = false
 
 -- whether a line looks up the modaliases of its input, one a line: it is a `query` whose modalias is `-`
 abbrev pub reads_modaliases : Line → Bool

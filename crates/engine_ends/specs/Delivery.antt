@@ -22,10 +22,11 @@ out_of_memory = codes "devdry: out of memory\n"
 abbrev pub ReportsFailure : List ℕ → ℕ → ℕ → SinkState → SinkState → Type 0
 ReportsFailure line wanted status before now = ((status ≡ wanted) × HandsOn before line now) ⊎ ((status ≡ 3) × BreaksOff before line now)
 
--- Nothing failed: all of the outcome is written and flushed, and its status returned.
-pub record IsWhole (outcome : RunOutcome) (status : ℕ) (before now : Outputs) : Type 0 where
+-- Nothing failed: the messages are written and flushed, the output is written in the way that is asked for, and the
+-- outcome's status is returned.
+pub record IsWhole (Written : SinkState → List ℕ → SinkState → Type 0) (outcome : RunOutcome) (status : ℕ) (before now : Outputs) : Type 0 where
   pub messages : HandsOn before.err outcome.messages now.err
-  pub output : HandsOn before.out outcome.output now.out
+  pub output : Written before.out outcome.output now.out
   pub status_is : status ≡ outcome.status
 
 -- The error output failed at the messages: nothing was written to the output.
@@ -48,7 +49,7 @@ pub record IsOutOfMemory (status : ℕ) (before now : Outputs) : Type 0 where
 
 -- What was written, by the status: all of the outcome under 3, as far as the devices went at 3, and no part of it at 4.
 pub record Delivers (outcome : RunOutcome) (status : ℕ) (before now : Outputs) : Type 0 where
-  pub whole : status < 3 → IsWhole outcome status before now
+  pub whole : status < 3 → IsWhole HandsOn outcome status before now
   pub failed : status ≡ 3 → FailsAtMessages outcome before now ⊎ FailsAtOutput outcome status before now ⊎ IsOutOfMemory status before now
   pub refused : status ≡ 4 → IsOutOfMemory status before now
   pub statuses : status ≤ 4

@@ -23,9 +23,8 @@ kinds_read Events = Rules ∷ Hwdb ∷ []
 -- whether two kinds are the same
 abbrev pub same_kind : FileKind → FileKind → Bool
 same_kind Hwdb Hwdb = true
-same_kind Hwdb Rules = false
-same_kind Rules Hwdb = false
 same_kind Rules Rules = true
+same_kind _ _ = false
 
 -- whether the line names the files of the kind: it names files, and they are of that kind
 abbrev pub names_files_of : Line → FileKind → Bool

@@ -37,8 +37,12 @@ pub record HandsOn (before : SinkState) (text : List ℕ) (now : SinkState) : Ty
   pub flushed : now.flushed ≡ now.taken
   pub well : now.faults ≡ before.faults
 
--- The sink took a first part of a text, perhaps all of it, and then a call failed; nothing more was flushed.
+-- The sink took a first part of a text, perhaps all of it or nothing.
+abbrev pub HasBegun : SinkState → List ℕ → SinkState → Type 0
+HasBegun before text now = (n : ℕ) × (n ≤ length text) × (now.taken ≡ followed_by before.taken (take n text))
+
+-- The sink took a first part of a text, and then a call failed; nothing more was flushed.
 pub record BreaksOff (before : SinkState) (text : List ℕ) (now : SinkState) : Type 0 where
-  pub taken : (n : ℕ) × (n ≤ length text) × (now.taken ≡ followed_by before.taken (take n text))
+  pub taken : HasBegun before text now
   pub flushed : now.flushed ≡ before.flushed
   pub failed : Counts 1 before.faults now.faults

@@ -5,7 +5,8 @@ use Rattle.std.proofs.lemmas.Bool.{eqb-true}
 use Rattle.std.proofs.lemmas.List.Folds.{list_any-append}
 use Rattle.text_bytes.specs.Names.{carriage_return, colon, comma, newline, percent}
 use Rattle.engine_formats.specs.Diagnostics.{DiagnosticValue}
-use Rattle.engine_formats.specs.Github.{ends_line, ends_property, github_byte, github_place, github_property, github_read, github_text, property_at, property_byte}
+use Rattle.engine_formats.specs.Github.{github_byte, github_place, github_property, github_text, property_byte}
+use Rattle.engine_formats.specs.Readers.{ends_line, ends_property, github_read, property_at}
 use Rattle.engine_formats.proofs.OneLine.{up_to}
 
 -- a byte that is not `%` is itself

@@ -8,11 +8,11 @@ use Rattle.text_bytes.specs.Names.{carriage_return, colon, comma, newline, quest
 use Rattle.engine_ends.specs.Places.{place_of, word_part}
 use Rattle.engine_formats.specs.Advice.{advice_of}
 use Rattle.engine_formats.specs.Diagnostics.{DiagnosticValue}
-use Rattle.engine_formats.specs.Github.{ends_line, ends_property, github_line, github_place, github_property, github_text}
+use Rattle.engine_formats.specs.Github.{github_line, github_place, github_property, github_text}
 use Rattle.engine_formats.specs.Human.{advice_line, continues, human_lines, mark_line, shown_byte, source_line, source_lines, tilde, title_line, under, window, window_start}
 use Rattle.engine_formats.specs.Lines.{code_part, gcc_line, plain_line, spot_of}
 use Rattle.engine_formats.specs.Paints.{paint_of, paint_start, paint_stop}
-use Rattle.engine_formats.specs.Readers.{HasPlace}
+use Rattle.engine_formats.specs.Readers.{HasPlace, ends_line, ends_property}
 use Rattle.engine_formats.specs.Remarks.{code_of, remark_heading, severity_of, severity_word, text_of}
 use Rattle.engine_formats.specs.declared.paint.Paint.{Paint}
 use Rattle.engine_formats.specs.declared.paint.Paint.TheVariants.{Unpainted, Red, Yellow}

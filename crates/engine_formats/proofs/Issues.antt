@@ -4,7 +4,8 @@ use Rattle.json.specs.Token as token
 use Rattle.json.specs.Token.{Token}
 use Rattle.json.specs.Tree.{items_tokens, json_tokens}
 use Rattle.engine_formats.specs.Diagnostics.{DiagnosticValue}
-use Rattle.engine_formats.specs.Json.{array_of, gitlab_issue, issue_tokens, items_of}
+use Rattle.engine_formats.specs.Json.{array_of, gitlab_issue, items_of}
+use Rattle.engine_formats.specs.Tokens.{issue_tokens}
 
 items_listed : (ds : List DiagnosticValue) → flat_map issue_tokens ds ++ token.end_array ∷ [] ≡ items_tokens (items_of (map gitlab_issue ds))
 unfolding issue_tokens

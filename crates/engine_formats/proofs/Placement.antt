@@ -20,7 +20,8 @@ use Rattle.hwdb_core.specs.Messages.{about_bare, about_early, about_match, about
 use Rattle.hwdb_core.specs.Paragraphs.{cut, has_lines, is_empty_line, is_match, is_property, paragraphs}
 use Rattle.hwdb_core.specs.Properties.{pair_at, property_text}
 use Rattle.hwdb_core.specs.Sources.{cuts_of, messages_of}
-use Rattle.engine_formats.specs.Placing.{IsFoundIn, line_numbered, placed, reported_text}
+use Rattle.engine_formats.specs.Made.{IsFoundIn}
+use Rattle.engine_formats.specs.Placing.{line_numbered, placed, reported_text}
 use Rattle.engine_formats.proofs.Places.{word_at}
 
 -- the line to use if there is none

@@ -1,6 +1,5 @@
 -- Diagnostics as workflow commands of GitHub.
-use Rattle.std.specs.Prelude.{ℕ, ◌+◌, ◌*◌, Bool, not, ◌==◌, ◌||◌, if◌then◌else◌, List, [], ◌∷◌, ◌++◌, codes, decimal, drop, flat_map, length, take_while}
-use Rattle.text_bytes.specs.Escapes.{digit_value}
+use Rattle.std.specs.Prelude.{ℕ, ◌==◌, if◌then◌else◌, List, [], ◌∷◌, ◌++◌, codes, decimal, flat_map}
 use Rattle.text_bytes.specs.Names.{carriage_return, colon, comma, newline, percent}
 use Rattle.engine_ends.specs.Places.{word_part}
 use Rattle.engine_formats.specs.Diagnostics.{DiagnosticValue}
@@ -28,27 +27,6 @@ github_text said = flat_map github_byte said
 -- a command's property, byte by byte
 abbrev pub github_property : List ℕ → List ℕ
 github_property value = flat_map property_byte value
-
--- The text that is written so: a `%` and two digits are the byte of their number, and any other byte is itself.
-abbrev pub github_read : List ℕ → List ℕ
-github_read [] = []
-github_read (b ∷ []) = b ∷ []
-github_read (b ∷ c ∷ []) = b ∷ c ∷ []
-github_read (b ∷ high ∷ low ∷ rest) =
-    if b == percent then (16 * digit_value high + digit_value low) ∷ github_read rest
-    else b ∷ github_read (high ∷ low ∷ rest)
-
--- the two ends of a line
-abbrev pub ends_line : ℕ → Bool
-ends_line b = b == carriage_return || b == newline
-
--- what ends a property: a comma, a colon and the ends of a line
-abbrev pub ends_property : ℕ → Bool
-ends_property b = b == comma || b == colon || ends_line b
-
--- the property after a name at the start of a text, up to what ends it
-abbrev pub property_at : List ℕ → List ℕ → List ℕ
-property_at name text = take_while (λ b. not (ends_property b)) (drop (length name) text)
 
 -- the file of a command, by the path by which it was opened, and the place in it
 unfoldable pub github_place : DiagnosticValue → List ℕ

@@ -5,7 +5,6 @@ use Rattle.text_bytes.specs.Names.{colon, newline}
 use Rattle.engine_ends.specs.Places.{word_part}
 use Rattle.json.specs.Json.{Json, array, number, object, string, Items, item, no_items, Members, member, no_members}
 use Rattle.json.specs.Print.{print}
-use Rattle.json.specs.Token.{Token}
 use Rattle.json.specs.Tree.{json_tokens}
 use Rattle.engine_formats.specs.Diagnostics.{DiagnosticValue}
 use Rattle.engine_formats.specs.Remarks.{code_of, remark_heading, severity_of, severity_word, text_of}
@@ -76,10 +75,6 @@ gitlab_issue d = object_of (
     ∷ (codes "severity", string (gitlab_severity (severity_of d.remark)))
     ∷ (codes "location", gitlab_location d)
     ∷ [])
-
--- serves inner proofs only: the tokens of an issue
-unfoldable pub issue_tokens : DiagnosticValue → List Token
-issue_tokens d = json_tokens (gitlab_issue d)
 
 -- diagnostics as a report of code quality: an array of issues, on one line
 unfoldable pub gitlab_report : List DiagnosticValue → List ℕ

@@ -4,6 +4,7 @@ pub mod Diagnostics
 pub mod Lines
 pub mod Github
 pub mod Json
+pub mod Tokens
 pub mod Advice
 pub mod Paints
 pub mod Human

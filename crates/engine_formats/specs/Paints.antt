@@ -30,5 +30,4 @@ paint_start Yellow = escape_code ∷ codes "[1;33m"
 -- what a terminal takes as its end
 abbrev pub paint_stop : Paint → List ℕ
 paint_stop Unpainted = []
-paint_stop Red = escape_code ∷ codes "[0m"
-paint_stop Yellow = escape_code ∷ codes "[0m"
+paint_stop color = escape_code ∷ codes "[0m"

@@ -1,6 +1,5 @@
 -- Where messages about a database are in their file.
-use Rattle.std.specs.Prelude.{◌≡◌, ℕ, ◌+◌, ◌-◌, ◌<◌, Bool, true, false, if◌then◌else◌, List, [], drop, length, slice_index_or, take}
-use Rattle.std.specs.List.{Contains}
+use Rattle.std.specs.Prelude.{ℕ, ◌+◌, ◌-◌, Bool, true, false, if◌then◌else◌, List, [], length, slice_index_or}
 use Rattle.text_bytes.specs.Lines.{NumberedLine}
 use Rattle.text_bytes.specs.Messages.{capped}
 use Rattle.text_bytes.specs.Texts.{trimmed, unindented}
@@ -47,11 +46,3 @@ place_in source kind =
 -- where a message is in the lines of its file
 abbrev pub placed : List NumberedLine → Message → Place
 placed lines message = place_in (line_numbered lines message.line) message.kind
-
--- A place is among lines: it has the text of the line with this number, in which its word begins at its column and
--- ends before its end.
-pub record IsFoundIn (lines : List NumberedLine) (number : ℕ) (p : Place) : Type 0 where
-  pub line : Contains lines (record { number = number; text = p.source })
-  pub first : 0 < p.column
-  pub end : p.end ≡ p.column + length p.word
-  pub text : take (p.end - p.column) (drop (p.column - 1) p.source) ≡ p.word

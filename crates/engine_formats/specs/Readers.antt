@@ -1,5 +1,7 @@
 -- What programs read in the formats that are made for them.
-use Rattle.std.specs.Prelude.{◌^◌, ◌<◌}
+use Rattle.std.specs.Prelude.{ℕ, ◌+◌, ◌*◌, ◌^◌, ◌<◌, Bool, not, ◌==◌, ◌||◌, if◌then◌else◌, List, [], ◌∷◌, drop, length, take_while}
+use Rattle.text_bytes.specs.Escapes.{digit_value}
+use Rattle.text_bytes.specs.Names.{carriage_return, colon, comma, newline, percent}
 use Rattle.engine_formats.specs.Diagnostics.{DiagnosticValue}
 
 -- The numbers of a diagnostic are in the range of lines and columns.
@@ -8,3 +10,24 @@ pub record HasPlace (d : DiagnosticValue) : Type 0 where
   pub line : d.line < 2 ^ 32
   pub column : d.column < 2 ^ 32
   pub end : d.end < 2 ^ 32
+
+-- What GitHub reads in a command: a `%` and two digits are the byte of their number, and any other byte is itself.
+abbrev pub github_read : List ℕ → List ℕ
+github_read [] = []
+github_read (b ∷ []) = b ∷ []
+github_read (b ∷ c ∷ []) = b ∷ c ∷ []
+github_read (b ∷ high ∷ low ∷ rest) =
+    if b == percent then (16 * digit_value high + digit_value low) ∷ github_read rest
+    else b ∷ github_read (high ∷ low ∷ rest)
+
+-- the two ends of a line
+abbrev pub ends_line : ℕ → Bool
+ends_line b = b == carriage_return || b == newline
+
+-- what ends a property: a comma, a colon and the ends of a line
+abbrev pub ends_property : ℕ → Bool
+ends_property b = b == comma || b == colon || ends_line b
+
+-- the property after a name at the start of a text, up to what ends it
+abbrev pub property_at : List ℕ → List ℕ → List ℕ
+property_at name text = take_while (λ b. not (ends_property b)) (drop (length name) text)

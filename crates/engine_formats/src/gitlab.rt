@@ -3,7 +3,8 @@ ghost use Rattle.std.specs.Prelude.{◌≡◌, ◌++◌, map, flat_map, IfOk, On
 ghost use Rattle.engine_ends.specs.Places.{word_part};
 ghost use Rattle.json.specs.Tree.{json_tokens};
 ghost use Rattle.engine_formats.specs.Diagnostics.{shown};
-ghost use Rattle.engine_formats.specs.Json.{fingerprint, gitlab_location, gitlab_report, gitlab_severity, issue_tokens};
+ghost use Rattle.engine_formats.specs.Json.{fingerprint, gitlab_location, gitlab_report, gitlab_severity};
+ghost use Rattle.engine_formats.specs.Tokens.{issue_tokens};
 ghost use Rattle.engine_formats.specs.Remarks.{remark_heading};
 
 use crate::diagnostic::Diagnostic;
@@ -48,7 +49,7 @@ fn write_issues(
 }
 
 /// Writes the issue of a diagnostic.
-#[tactic(auto, unfolding(crate::specs::Json::issue_tokens))]
+#[tactic(auto, unfolding(crate::specs::Tokens::issue_tokens))]
 fn write_issue(
     alloc: Global,
     writer: &mut Writer,

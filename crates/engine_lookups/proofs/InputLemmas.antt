@@ -16,7 +16,7 @@ use Rattle.engine_ends.proofs.Reported.{followed_by-nil}
 use Rattle.engine_sessions.specs.Inputs.{ReadsWell, UsesUp, all_but_last, most_turns}
 use Rattle.engine_sessions.specs.Serves.{WritesOut}
 use Rattle.engine_sessions.specs.Turns.{Reads, joined, most_read}
-use Rattle.engine_sessions.proofs.Turns.{all_but_last-push, joined-push, later_none, led_by-nil, left_after, none_left_after, one_more, reads_more}
+use Rattle.engine_sessions.proofs.Turns.{all_but_last-push, joined-push, later_none, led_by-nil, left_after, none_left_after, one_more, reads_more, shown}
 use Rattle.engine_lookups.specs.Outcomes.{most_bytes}
 use Rattle.engine_lookups.specs.Runs.{HasAnswered, HasFlushed, HoldsFew, ended_lines, unended}
 use Rattle.engine_lookups.specs.Taking.{Answers, HeldLine, IsOpen, Leads, StopsBy, StopsIn, first_line}
@@ -96,7 +96,7 @@ turns_at_start answer held input output e = rw e (record {
 pub turns_open : (answer : Text → Text) (turns : ℕ) (held : HeldLine) (input now : SourceState) (output sink : SinkState) → AfterTurns answer turns held input now output sink → IsOpen held
 turns_open answer turns held input now output sink t = open_is answer first_line (joined t.read) held output sink t.answers
 
-pub turns_more : (answer : Text → Text) (turns : ℕ) (held next : HeldLine) (input now later : SourceState) (output sink sink_later : SinkState) → AfterTurns answer turns held input now output sink → Proceeds answer held next now later sink sink_later → AfterTurns answer (turns + 1) next input later output sink_later
+pub turns_more : (answer : Text → Text) (turns : ℕ) (held next : HeldLine) (input now later : SourceState) (output sink sink_later : SinkState) → AfterTurns answer turns held input now output sink → Proceeds answer held next (shown now sink) (shown later sink_later) → AfterTurns answer (turns + 1) next input later output sink_later
 turns_more answer turns held next input now later output sink sink_later t g =
     let text : joined (t.read ++ g.piece ∷ []) ≡ joined t.read ++ g.piece = joined-push t.read g.piece in
     let both : Answers answer first_line (joined (t.read ++ g.piece ∷ [])) next output sink_later = subst (λ all. Answers answer first_line all next output sink_later) (sym text) (answers-after answer first_line held next (joined t.read) g.piece output sink sink_later t.answers g.answers) in
@@ -112,7 +112,7 @@ turns_more answer turns held next input now later output sink sink_later t g =
       few = omega (arith, t.few, g.reads.most, few_ended answer held g.piece next sink sink_later (turns_open answer turns held input now output sink t) g.answers);
     }
 
-pub finished : (answer : Text → Text) (turns : ℕ) (held : HeldLine) (input now later : SourceState) (output sink sink_later : SinkState) → AfterTurns answer turns held input now output sink → Ends answer held now later sink sink_later → AnswersInput answer (Ok tt) input later output sink_later
+pub finished : (answer : Text → Text) (turns : ℕ) (held : HeldLine) (input now later : SourceState) (output sink sink_later : SinkState) → AfterTurns answer turns held input now output sink → Ends answer held (shown now sink) (shown later sink_later) → AnswersInput answer (Ok tt) (shown input output) (shown later sink_later)
 finished answer turns held input now later output sink sink_later t e =
     let none : e.piece ≡ [] = e.reads.ends.0 refl in
     let last : lines (joined (t.read ++ e.piece ∷ [])) ≡ t.answers.ended ++ lines held.bytes =
@@ -142,9 +142,9 @@ stops_flushed answer Write number others reported now s = s.breaks.flushed
 stops_flushed answer (TooLong counted) number others reported now s = ap (λ sink. sink.flushed) s.untouched
 stops_flushed answer Memory number others reported now s = ap (λ sink. sink.flushed) s
 
-after_read : (answer : Text → Text) (fault : LookupFault) (turns : ℕ) (held : HeldLine) (input now later : SourceState) (output sink sink_later : SinkState) (t : AfterTurns answer turns held input now output sink) (f : FailsAfterRead answer fault held now later sink sink_later)
+after_read : (answer : Text → Text) (fault : LookupFault) (turns : ℕ) (held : HeldLine) (input now later : SourceState) (output sink sink_later : SinkState) (t : AfterTurns answer turns held input now output sink) (f : FailsAfterRead answer fault held (shown now sink) (shown later sink_later))
     → (StopsInput answer fault (joined (t.read ++ f.piece ∷ [])) later.left output sink_later → EndsBy answer (Err fault) (joined (t.read ++ f.piece ∷ [])) later.left output sink_later)
-    → (later.faults ≡ input.faults → FaultsBy (Err fault) (length (t.read ++ f.piece ∷ [])) input later) → AnswersInput answer (Err fault) input later output sink_later
+    → (later.faults ≡ input.faults → FaultsBy (Err fault) (length (t.read ++ f.piece ∷ [])) input later) → AnswersInput answer (Err fault) (shown input output) (shown later sink_later)
 after_read answer fault turns held input now later output sink sink_later t f ends faults =
     let well : later.faults ≡ input.faults = f.reads.gives.well ∙ t.counts.well in
     let flushed : sink_later.flushed ≡ f.stops.reported.flushed = stops_flushed answer fault (held.number + length f.stops.ended) (f.stops.at [] (λ e. refl)).others f.stops.reported sink_later (f.stops.at [] (λ e. refl)).stops in
@@ -164,7 +164,7 @@ after_read answer fault turns held input now later output sink sink_later t f en
       });
     }
 
-pub failed : (answer : Text → Text) (fault : LookupFault) (turns : ℕ) (held : HeldLine) (input now later : SourceState) (output sink sink_later : SinkState) → AfterTurns answer turns held input now output sink → TurnFails answer fault held now later sink sink_later → AnswersInput answer (Err fault) input later output sink_later
+pub failed : (answer : Text → Text) (fault : LookupFault) (turns : ℕ) (held : HeldLine) (input now later : SourceState) (output sink sink_later : SinkState) → AfterTurns answer turns held input now output sink → TurnFails answer fault held (shown now sink) (shown later sink_later) → AnswersInput answer (Err fault) (shown input output) (shown later sink_later)
 failed answer Read turns held input now later output sink sink_later t f = record {
   read = t.read;
   pieces = f.0.pieces ∙ t.pieces;
@@ -180,7 +180,7 @@ failed answer (TooLong counted) turns held input now later output sink sink_late
 failed answer Memory turns held input now later output sink sink_later t f = after_read answer Memory turns held input now later output sink sink_later t f (λ s. s) (λ e. e)
 
 -- no turn is left
-pub used_up : (answer : Text → Text) (held : HeldLine) (input now : SourceState) (output sink : SinkState) → AfterTurns answer most_turns held input now output sink → AnswersInput answer (Err Read) input now output sink
+pub used_up : (answer : Text → Text) (held : HeldLine) (input now : SourceState) (output sink : SinkState) → AfterTurns answer most_turns held input now output sink → AnswersInput answer (Err Read) (shown input output) (shown now sink)
 used_up answer held input now output sink t = record {
   read = t.read;
   pieces = t.pieces;
@@ -193,12 +193,12 @@ used_up answer held input now output sink t = record {
 }
 
 -- a turn that stops after its read
-pub turn_fails : (answer : Text → Text) (fault : LookupFault) (old : HeldLine) (input input_now : SourceState) (output output_now : SinkState) (more : Bool) (piece : Text) → Reads more input piece input_now → StopsIn answer fault more old.number (old.bytes ++ piece) output output_now → TurnFails answer fault old input input_now output output_now
+pub turn_fails : (answer : Text → Text) (fault : LookupFault) (old : HeldLine) (input input_now : SourceState) (output output_now : SinkState) (more : Bool) (piece : Text) → Reads more input piece input_now → StopsIn answer fault more old.number (old.bytes ++ piece) output output_now → TurnFails answer fault old (shown input output) (shown input_now output_now)
 turn_fails answer Read old input input_now output output_now more piece r s = let there = s.at [] (λ e. refl) in absurd there.stops
 turn_fails answer Write old input input_now output output_now more piece r s = record { more = more; piece = piece; reads = r; stops = s }
 turn_fails answer (TooLong counted) old input input_now output output_now more piece r s = record { more = more; piece = piece; reads = r; stops = s }
 turn_fails answer Memory old input input_now output output_now more piece r s = record { more = more; piece = piece; reads = r; stops = s }
 
-pub end_fails : (answer : Text → Text) (fault : LookupFault) (old : HeldLine) (input input_now : SourceState) (output output_now : SinkState) → Reads false input [] input_now → StopsIn answer fault false old.number old.bytes output output_now → TurnFails answer fault old input input_now output output_now
+pub end_fails : (answer : Text → Text) (fault : LookupFault) (old : HeldLine) (input input_now : SourceState) (output output_now : SinkState) → Reads false input [] input_now → StopsIn answer fault false old.number old.bytes output output_now → TurnFails answer fault old (shown input output) (shown input_now output_now)
 end_fails answer fault old input input_now output output_now r s =
     turn_fails answer fault old input input_now output output_now false [] r (subst (λ text. StopsIn answer fault false old.number text output output_now) (sym (append-nil old.bytes)) s)

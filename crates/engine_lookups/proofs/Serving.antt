@@ -5,10 +5,10 @@ use Rattle.text_bytes.specs.Lines.{lines}
 use Rattle.text_tables.specs.Texts.{Text}
 use Rattle.engine_ends.specs.Reported.{followed_by}
 use Rattle.engine_ends.specs.Counts.{Counts}
-use Rattle.engine_ends.specs.Sinks.{BreaksOff, HandsOn, SinkState}
+use Rattle.engine_ends.specs.Sinks.{BreaksOff, HandsOn, HasBegun, SinkState}
 use Rattle.engine_ends.specs.declared.line.Line.{Line}
 use Rattle.engine_ends.specs.Streams.{Streams, outputs}
-use Rattle.engine_ends.specs.Delivery.{Delivers, ReportsFailure, ReportsFaults, RunOutcome, out_of_memory, write_failed}
+use Rattle.engine_ends.specs.Delivery.{Delivers, IsWhole, ReportsFailure, ReportsFaults, RunOutcome, out_of_memory, write_failed}
 use Rattle.engine_ends.proofs.Reported.{followed_by-nil}
 use Rattle.engine_reports.specs.Databases.{DatabaseValue}
 use Rattle.engine_reports.specs.Indexes.{refused_index}
@@ -16,9 +16,11 @@ use Rattle.engine_reports.specs.Outcomes.{too_many_entries, too_many_rules}
 use Rattle.engine_reports.specs.Reports.{IsRefused, IsSaid}
 use Rattle.engine_reports.specs.declared.refusal.Refusal.{Refusal}
 use Rattle.engine_reports.specs.declared.refusal.Refusal.TheVariants as Refused
-use Rattle.engine_sessions.specs.Serves.{HasBegun, IsCutShort, IsWhole, ReportsFailures, Serves, WritesOut, read_failed}
+use Rattle.engine_sessions.specs.Serves.{IsCutShort, ReportsFailures, Serves, WritesOut, read_failed}
+use Rattle.engine_sessions.specs.Inputs.{devices_of}
 use Rattle.engine_sessions.specs.Turns.{joined}
-use Rattle.engine_sessions.proofs.Serving.{at_memory, begun-first, begun-following, begun-none, begun-taken, cut_by, hands_after, memory_most, memory_status, messages_cut, none_is, not_four, not_under, refused_cut, reports_begun, rest_reported}
+use Rattle.engine_sessions.proofs.SendLemmas.{hands_after}
+use Rattle.engine_sessions.proofs.Serving.{at_memory, begun-first, begun-following, begun-none, begun-taken, cut_by, memory_most, memory_status, messages_cut, none_is, not_four, not_under, refused_cut, reports_begun, rest_reported}
 use Rattle.engine_lookups.specs.Outcomes.{after_answer, after_messages, answer_to, answered_from, lines_outcome, too_long_line}
 use Rattle.engine_lookups.specs.Databases.{LooksUpBy}
 use Rattle.engine_lookups.specs.Runs.{LooksUp}
@@ -27,7 +29,7 @@ use Rattle.engine_lookups.specs.Inputs.{AnswersInput, Concludes}
 use Rattle.engine_lookups.specs.declared.held.LookupFault.{LookupFault}
 use Rattle.engine_lookups.specs.declared.held.LookupFault.TheVariants.{Read, Write, TooLong, Memory}
 use Rattle.engine_lookups.proofs.LineLemmas.{cut_lines}
-use Rattle.engine_lookups.proofs.AnswerLemmas.{answered_all, answered_long, answered_short, stopped}
+use Rattle.engine_lookups.proofs.AnswerLemmas.{answered_all, answered_long, answered_short, stopped, writes_taken, writes_well}
 
 three : (line : Text) (status : ℕ) (reported now : SinkState) → ReportsFailure line 3 status reported now → status ≡ 3
 three line status reported now (inl p) = p.0
@@ -51,7 +53,7 @@ output_begun : (answer : Text → Text) (text : Text) (ended others : List Text)
     → HasBegun reported (answered_from answer (1 + length ended) others).output now → HasBegun before (answered_from answer 1 (lines text)).output now
 output_begun answer text ended others before reported now l e w b =
     subst (λ outcome. HasBegun before outcome.output now) (sym (first_lines answer text ended others l e))
-    (begun-following before reported now (flat_map answer ended) (answered_from answer (1 + length ended) others).output w.taken b)
+    (begun-following before reported now (flat_map answer ended) (answered_from answer (1 + length ended) others).output (writes_taken before reported (flat_map answer ended) w) b)
 
 -- it breaks off in the answer to the next line
 answer_begun : (answer : Text → Text) (number : ℕ) (ls others : List Text) (next : Text) (reported now : SinkState) → ls ≡ next ∷ others → answered_from answer number (next ∷ others) ≡ after_answer (answer next) (answered_from answer (number + 1) others) → HasBegun reported (answer next) now → HasBegun reported (answered_from answer number ls).output now
@@ -63,7 +65,7 @@ module _ (messages : Text) (answer : Text → Text) (status : ℕ) (before now :
   messages_begun : (text : Text) → HasBegun before.err (lines_outcome messages answer text).messages reported
   messages_begun text = begun-first before.err reported messages (answered_from answer 1 (lines text)).messages (begun-taken before.err reported messages says.taken)
 
-  looked_well : (t : AnswersInput answer (Ok tt) before.input now.input before.out now.out) → Concludes (Ok tt) status reported now.err → LooksUp messages answer status before now
+  looked_well : (t : AnswersInput answer (Ok tt) (devices_of before) (devices_of now)) → Concludes (Ok tt) status reported now.err → LooksUp messages answer status before now
   looked_well t c =
       let is : lines_outcome messages answer (joined t.read) ≡ record { output = flat_map answer (lines (joined t.read)); messages = messages; status = 0 } =
       ap (after_messages messages) (answered_all answer 1 (lines (joined t.read)) t.ends.leads)
@@ -72,13 +74,13 @@ module _ (messages : Text) (answer : Text → Text) (status : ℕ) (before now :
         serves = record {
           read = t.read;
           pieces = t.pieces;
-          whole = λ h. subst (λ o. IsWhole o status before now) (sym is) (record { output = t.ends.writes; messages = rw c.1 says; status_is = c.0 });
+          whole = λ h. subst (λ o. IsWhole WritesOut o status (outputs before) (outputs now)) (sym is) (record { output = t.ends.writes; messages = rw c.1 says; status_is = c.0 });
           all = λ h text e. let r = rest_reported text (joined t.read) now.input.left (sym e ∙ t.left) in
               ap (lines_outcome messages answer) (r.2 ∙ ap (λ rest. joined t.read ++ rest) (none_is now.input.left r.0 t.ends.none_left r.1) ∙ append-nil (joined t.read));
           cut = λ h. absurd (omega (arith, h, c.0));
           failures = record {
             failed = λ e. absurd (omega (arith, e, c.0));
-            well = λ h. (t.faults, t.ends.writes.well, ap (λ s. s.faults) c.1 ∙ says.well);
+            well = λ h. (t.faults, writes_well before.out now.out (flat_map answer (lines (joined t.read))) t.ends.writes, ap (λ s. s.faults) c.1 ∙ says.well);
           };
           statuses = omega (arith, c.0);
         };
@@ -87,7 +89,7 @@ module _ (messages : Text) (answer : Text → Text) (status : ℕ) (before now :
         fits = t.fits;
       }
 
-  looked_read : (t : AnswersInput answer (Err Read) before.input now.input before.out now.out) → Concludes (Err Read) status reported now.err → status ≡ 3 → LooksUp messages answer status before now
+  looked_read : (t : AnswersInput answer (Err Read) (devices_of before) (devices_of now)) → Concludes (Err Read) status reported now.err → status ≡ 3 → LooksUp messages answer status before now
   looked_read t c e =
       let a = t.ends.answers in
       record {
@@ -110,7 +112,7 @@ module _ (messages : Text) (answer : Text → Text) (status : ℕ) (before now :
         fits = t.fits;
       }
 
-  looked_write : (t : AnswersInput answer (Err Write) before.input now.input before.out now.out) → Concludes (Err Write) status reported now.err → status ≡ 3 → LooksUp messages answer status before now
+  looked_write : (t : AnswersInput answer (Err Write) (devices_of before) (devices_of now)) → Concludes (Err Write) status reported now.err → status ≡ 3 → LooksUp messages answer status before now
   looked_write t c e =
       let s = t.ends.stops in
       let there = s.at [] (λ f. refl) in
@@ -126,7 +128,7 @@ module _ (messages : Text) (answer : Text → Text) (status : ℕ) (before now :
               (answer_begun answer (1 + length s.ended) there.others stops.others stops.next s.reported now.out stops.lines_are (answered_short answer (1 + length s.ended) stops.next stops.others stops.short) stops.breaks.taken))
               (messages_begun (joined t.read)) (reports_begun write_failed 3 status reported now.err c) (not_four status e);
           failures = record {
-            failed = λ f. inr (inl (subst (λ n. Counts 1 n now.out.faults) s.writes.well stops.breaks.failed));
+            failed = λ f. inr (inl (subst (λ n. Counts 1 n now.out.faults) (writes_well before.out s.reported (flat_map answer s.ended) s.writes) stops.breaks.failed));
             well = λ h. absurd (h e);
           };
           statuses = omega (arith, e);
@@ -136,7 +138,7 @@ module _ (messages : Text) (answer : Text → Text) (status : ℕ) (before now :
         fits = t.fits;
       }
 
-  looked_memory : (t : AnswersInput answer (Err Memory) before.input now.input before.out now.out) → Concludes (Err Memory) status reported now.err → LooksUp messages answer status before now
+  looked_memory : (t : AnswersInput answer (Err Memory) (devices_of before) (devices_of now)) → Concludes (Err Memory) status reported now.err → LooksUp messages answer status before now
   looked_memory t c =
       let s = t.ends.stops in
       let there = s.at [] (λ f. refl) in
@@ -149,7 +151,7 @@ module _ (messages : Text) (answer : Text → Text) (status : ℕ) (before now :
           cut = λ h. cut_by (lines_outcome messages answer (joined t.read)) status before now reported out_of_memory (inr (inr (inr refl)))
               (output_begun answer (joined t.read) s.ended there.others before.out s.reported now.out s.leads (ap lines (sym (append-nil (joined t.read))) ∙ there.lines_are) s.writes (rw there.stops (begun-none s.reported _)))
               (messages_begun (joined t.read)) (reports_begun out_of_memory 4 status reported now.err c) (at_memory status reported now.err c);
-          failures = reported_failures c t.faults (ap (λ sink. sink.faults) there.stops ∙ s.writes.well);
+          failures = reported_failures c t.faults (ap (λ sink. sink.faults) there.stops ∙ writes_well before.out s.reported (flat_map answer s.ended) s.writes);
           statuses = memory_most status reported now.err c;
         };
         due = t.due;
@@ -165,7 +167,7 @@ module _ (messages : Text) (answer : Text → Text) (status : ℕ) (before now :
   long_outcome : (counted : ℕ) (text : Text) (ended : List Text) (sink : SinkState) → Leads answer ended → StopsAt answer (TooLong counted) 1 ended text sink now.out → lines_outcome messages answer text ≡ record { output = flat_map answer ended; messages = messages ++ too_long_line counted; status = 1 }
   long_outcome counted text ended sink l s = ap (after_messages messages) (long_text answer counted text ended sink now.out l s)
 
-  looked_long : (counted : ℕ) (t : AnswersInput answer (Err (TooLong counted)) before.input now.input before.out now.out) → Concludes (Err (TooLong counted)) status reported now.err → LooksUp messages answer status before now
+  looked_long : (counted : ℕ) (t : AnswersInput answer (Err (TooLong counted)) (devices_of before) (devices_of now)) → Concludes (Err (TooLong counted)) status reported now.err → LooksUp messages answer status before now
   looked_long counted t (inl p) =
       let s = t.ends.stops in
       let there = s.at [] (λ f. refl) in
@@ -177,14 +179,14 @@ module _ (messages : Text) (answer : Text → Text) (status : ℕ) (before now :
         serves = record {
           read = t.read;
           pieces = t.pieces;
-          whole = λ h. subst (λ o. IsWhole o status before now) (sym is)
+          whole = λ h. subst (λ o. IsWhole WritesOut o status (outputs before) (outputs now)) (sym is)
               (record { output = rw there.stops.untouched s.writes; messages = hands_after before.err reported now.err messages (too_long_line counted) says p.1; status_is = p.0 });
           all = λ h text e. let r = rest_reported text (joined t.read) now.input.left (sym e ∙ t.left) in
               ap (lines_outcome messages answer) r.2 ∙ of r.0 r.1 ∙ sym is;
           cut = λ h. absurd (omega (arith, h, p.0));
           failures = record {
             failed = λ e. absurd (omega (arith, e, p.0));
-            well = λ h. (t.faults, ap (λ sink. sink.faults) there.stops.untouched ∙ s.writes.well, p.1.well ∙ says.well);
+            well = λ h. (t.faults, ap (λ sink. sink.faults) there.stops.untouched ∙ writes_well before.out s.reported (flat_map answer s.ended) s.writes, p.1.well ∙ says.well);
           };
           statuses = omega (arith, p.0);
         };
@@ -205,7 +207,7 @@ module _ (messages : Text) (answer : Text → Text) (status : ℕ) (before now :
           all = not_under status (omega (arith, p.0));
           cut = λ h. subst (λ o. IsCutShort o status before now) (sym is)
               (cut_by (record { output = flat_map answer s.ended; messages = messages ++ too_long_line counted; status = 1 }) status before now now.err [] (inl refl)
-              (begun-taken before.out now.out (flat_map answer s.ended) (ap (λ sink. sink.taken) there.stops.untouched ∙ s.writes.taken))
+              (begun-taken before.out now.out (flat_map answer s.ended) (ap (λ sink. sink.taken) there.stops.untouched ∙ writes_taken before.out s.reported (flat_map answer s.ended) s.writes))
               (begun-following before.err reported now.err messages (too_long_line counted) says.taken p.1.taken) (begun-none now.err []) (not_four status p.0));
           failures = record {
             failed = λ g. inr (inr (inl (subst (λ n. Counts 1 n now.err.faults) says.well p.1.failed)));
@@ -218,7 +220,7 @@ module _ (messages : Text) (answer : Text → Text) (status : ℕ) (before now :
         fits = t.fits;
       }
 
-  pub looked_up : (end : Result (Unit {0}) LookupFault) → AnswersInput answer end before.input now.input before.out now.out → Concludes end status reported now.err → LooksUp messages answer status before now
+  pub looked_up : (end : Result (Unit {0}) LookupFault) → AnswersInput answer end (devices_of before) (devices_of now) → Concludes end status reported now.err → LooksUp messages answer status before now
   looked_up (Ok done) t c = looked_well t c
   looked_up (Err Read) t c = looked_read t c (three read_failed status reported now.err c)
   looked_up (Err Write) t c = looked_write t c (three write_failed status reported now.err c)

@@ -7,7 +7,7 @@ use Rattle.engine_ends.specs.Counts.{Counts}
 use Rattle.engine_ends.specs.Sources.{SourceFails, SourceState}
 use Rattle.engine_ends.specs.Sinks.{SinkState}
 use Rattle.engine_ends.specs.Delivery.{ReportsFailure, out_of_memory, write_failed}
-use Rattle.engine_sessions.specs.Inputs.{UsesUp, all_but_last}
+use Rattle.engine_sessions.specs.Inputs.{Devices, UsesUp, all_but_last}
 use Rattle.engine_sessions.specs.Serves.{WritesOut, read_failed}
 use Rattle.engine_sessions.specs.Turns.{Reads, joined}
 use Rattle.engine_lookups.specs.Outcomes.{too_long_line}
@@ -17,36 +17,34 @@ use Rattle.engine_lookups.specs.declared.held.LookupFault.{LookupFault}
 use Rattle.engine_lookups.specs.declared.held.LookupFault.TheVariants.{Read, Write, TooLong, Memory}
 
 -- A piece was read, and the lines that end in it are answered.
-pub record Proceeds (answer : Text → Text) (old new : HeldLine) (input input_now : SourceState) (output output_now : SinkState) : Type 0 where
+pub record Proceeds (answer : Text → Text) (old new : HeldLine) (before now : Devices) : Type 0 where
   pub piece : Text
-  pub reads : Reads true input piece input_now
-  pub answers : Answers answer old piece new output output_now
+  pub reads : Reads true before.input piece now.input
+  pub answers : Answers answer old piece new before.output now.output
 
 -- The input ends, and its last line is answered, if it has one that no newline ends.
-pub record Ends (answer : Text → Text) (old : HeldLine) (input input_now : SourceState) (output output_now : SinkState) : Type 0 where
+pub record Ends (answer : Text → Text) (old : HeldLine) (before now : Devices) : Type 0 where
   pub piece : Text
-  pub reads : Reads false input piece input_now
+  pub reads : Reads false before.input piece now.input
   pub leads : Leads answer (lines old.bytes)
-  pub writes : WritesOut output (flat_map answer (lines old.bytes)) output_now
+  pub writes : WritesOut before.output (flat_map answer (lines old.bytes)) now.output
 
 -- what a turn does, by whether the input goes on
-abbrev pub Turns : (Text → Text) → Bool → HeldLine → HeldLine → SourceState → SourceState → SinkState → SinkState → Type 0
-Turns answer true old new input input_now output output_now = Proceeds answer old new input input_now output output_now
-Turns answer false old new input input_now output output_now = Ends answer old input input_now output output_now
+abbrev pub Turns : (Text → Text) → Bool → (old new : HeldLine) → (before now : Devices) → Type 0
+Turns answer true old new before now = Proceeds answer old new before now
+Turns answer false old new before now = Ends answer old before now
 
 -- A piece was read, and then it stops.
-pub record FailsAfterRead (answer : Text → Text) (fault : LookupFault) (old : HeldLine) (input input_now : SourceState) (output output_now : SinkState) : Type 0 where
+pub record FailsAfterRead (answer : Text → Text) (fault : LookupFault) (old : HeldLine) (before now : Devices) : Type 0 where
   pub more : Bool
   pub piece : Text
-  pub reads : Reads more input piece input_now
-  pub stops : StopsIn answer fault more old.number (old.bytes ++ piece) output output_now
+  pub reads : Reads more before.input piece now.input
+  pub stops : StopsIn answer fault more old.number (old.bytes ++ piece) before.output now.output
 
--- what a turn does if it fails
-abbrev pub TurnFails : (Text → Text) → LookupFault → HeldLine → SourceState → SourceState → SinkState → SinkState → Type 0
-TurnFails answer Read old input input_now output output_now = SourceFails input input_now × (output_now ≡ output)
-TurnFails answer Write old input input_now output output_now = FailsAfterRead answer Write old input input_now output output_now
-TurnFails answer (TooLong counted) old input input_now output output_now = FailsAfterRead answer (TooLong counted) old input input_now output output_now
-TurnFails answer Memory old input input_now output output_now = FailsAfterRead answer Memory old input input_now output output_now
+-- what a turn does if it fails: its read failed, or it stops after that
+abbrev pub TurnFails : (Text → Text) → LookupFault → HeldLine → (before now : Devices) → Type 0
+TurnFails answer Read old before now = SourceFails before.input now.input × (now.output ≡ before.output)
+TurnFails answer fault old before now = FailsAfterRead answer fault old before now
 
 -- All of the text is answered, and no byte is left.
 pub record IsAnswered (answer : Text → Text) (text : Text) (left : Option Text) (before now : SinkState) : Type 0 where
@@ -66,31 +64,26 @@ pub record StopsInput (answer : Text → Text) (fault : LookupFault) (text : Tex
   pub last : (rest : Text) → left ≡ Some rest → more ≡ false → rest ≡ []
 
 -- how it ends, by the bytes read and those left
-abbrev pub EndsBy : (Text → Text) → Result (Unit {0}) LookupFault → Text → Option Text → SinkState → SinkState → Type 0
+abbrev pub EndsBy : (Text → Text) → Result (Unit {0}) LookupFault → (text : Text) → (left : Option Text) → (before now : SinkState) → Type 0
 EndsBy answer (Ok done) text left before now = IsAnswered answer text left before now
 EndsBy answer (Err Read) text left before now = IsAnsweredSoFar answer text before now
-EndsBy answer (Err Write) text left before now = StopsInput answer Write text left before now
-EndsBy answer (Err (TooLong counted)) text left before now = StopsInput answer (TooLong counted) text left before now
-EndsBy answer (Err Memory) text left before now = StopsInput answer Memory text left before now
+EndsBy answer (Err fault) text left before now = StopsInput answer fault text left before now
 
 -- whether a read failed, or all turns were used up
-abbrev pub FaultsBy : Result (Unit {0}) LookupFault → ℕ → SourceState → SourceState → Type 0
-FaultsBy (Ok done) turns before now = now.faults ≡ before.faults
+abbrev pub FaultsBy : Result (Unit {0}) LookupFault → ℕ → (before now : SourceState) → Type 0
 FaultsBy (Err Read) turns before now = Counts 1 before.faults now.faults ⊎ UsesUp turns before now
-FaultsBy (Err Write) turns before now = now.faults ≡ before.faults
-FaultsBy (Err (TooLong counted)) turns before now = now.faults ≡ before.faults
-FaultsBy (Err Memory) turns before now = now.faults ≡ before.faults
+FaultsBy _ turns before now = now.faults ≡ before.faults
 
 -- What is read of an input in pieces, which of its lines are answered, and how it ends.
-pub record AnswersInput (answer : Text → Text) (end : Result (Unit {0}) LookupFault) (input input_now : SourceState) (output output_now : SinkState) : Type 0 where
+pub record AnswersInput (answer : Text → Text) (end : Result (Unit {0}) LookupFault) (before now : Devices) : Type 0 where
   pub read : List Text
-  pub pieces : input_now.pieces ≡ followed_by input.pieces read
-  pub left : input.left ≡ led_by (joined read) input_now.left
-  pub faults : FaultsBy end (length read) input input_now
+  pub pieces : now.input.pieces ≡ followed_by before.input.pieces read
+  pub left : before.input.left ≡ led_by (joined read) now.input.left
+  pub faults : FaultsBy end (length read) before.input now.input
   pub fits : HoldsFew read
-  pub due : HasAnswered answer (all_but_last read) output output_now
-  pub due_at_fault : (input_now.faults ≡ input.faults → ⊥) → HasAnswered answer read output output_now
-  pub ends : EndsBy answer end (joined read) input_now.left output output_now
+  pub due : HasAnswered answer (all_but_last read) before.output now.output
+  pub due_at_fault : (now.input.faults ≡ before.input.faults → ⊥) → HasAnswered answer read before.output now.output
+  pub ends : EndsBy answer end (joined read) now.input.left before.output now.output
 
 -- how that is reported: by nothing, or by one line and its status
 abbrev pub Concludes : Result (Unit {0}) LookupFault → ℕ → SinkState → SinkState → Type 0

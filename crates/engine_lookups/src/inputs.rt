@@ -24,7 +24,7 @@ pub(crate) fn answer_input<L: Lookup, R: Source, W: Sink>(
     output: &mut W,
 ) -> Result<(), LookupFault>
     ensures { AnswersInput (answer_to sources (L.entries database.now)) result
-        (R.shown input.old) (R.shown input.new) (W.shown output.old) (W.shown output.new) }
+        (record { input = R.shown input.old; output = W.shown output.old }) (record { input = R.shown input.new; output = W.shown output.new }) }
 {
     let mut held = Held::new(alloc);
     for _made in 0..MAX_TURNS {

@@ -25,9 +25,11 @@ pub(crate) fn turn<L: Lookup, R: Source, W: Sink>(
     requires open { IsOpen held.old }
     requires few { held.old.number + 4096 < 2 ^ 64 }
     ensures ok { IfOk result (λ more. Turns (answer_to sources (L.entries database.now)) more held.old held.new
-        (R.shown input.old) (R.shown input.new) (W.shown output.old) (W.shown output.new)) }
+        (record { input = R.shown input.old; output = W.shown output.old })
+        (record { input = R.shown input.new; output = W.shown output.new })) }
     ensures err { IfErr result (λ fault. TurnFails (answer_to sources (L.entries database.now)) fault held.old
-        (R.shown input.old) (R.shown input.new) (W.shown output.old) (W.shown output.new)) }
+        (record { input = R.shown input.old; output = W.shown output.old })
+        (record { input = R.shown input.new; output = W.shown output.new })) }
 {
     let mut piece = [0u8; MAX_READ];
     match input.read(&mut piece) {

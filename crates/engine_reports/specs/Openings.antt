@@ -1,5 +1,5 @@
 -- What comes before the first answer to an event: the messages, and what events are answered by.
-use Rattle.std.specs.Prelude.{◌^◌, false, if◌then◌else◌, List, [], ◌++◌, Option, Some, None, Result, Ok, Err, nat_le}
+use Rattle.std.specs.Prelude.{false, if◌then◌else◌, List, [], ◌++◌, Option, Some, None, Result, Ok, Err}
 use Rattle.text_tables.specs.Texts.{Text}
 use Rattle.text_bytes.specs.declared.message.Message.{Message}
 use Rattle.text_bytes.specs.declared.profile.Profile.{Profile}
@@ -7,7 +7,7 @@ use Rattle.text_bytes.specs.declared.source_file.SourceFile.{SourceFile}
 use Rattle.text_bytes.specs.declared.source_file.FileKind.TheVariants.{Hwdb}
 use Rattle.hwdb_lookup.specs.declared.entry.Entry.{Entry}
 use Rattle.hwdb_core.specs.Sources.{are_few, entries_of, messages_of}
-use Rattle.rule_types.specs.Rules.{Rule, tokens_in}
+use Rattle.rule_types.specs.Rules.{Rule}
 use Rattle.rule_core.specs.Rules.{set_of_as}
 use Rattle.index_reading.specs.declared.fault.IndexFault.{IndexFault}
 use Rattle.index_reading.specs.Contents.{Contents}
@@ -17,7 +17,7 @@ use Rattle.engine_ends.specs.Delivery.{RunOutcome}
 use Rattle.engine_reports.specs.FilesRead.{files_read, rules_read}
 use Rattle.engine_reports.specs.Indexes.{entries_in, refused_index}
 use Rattle.engine_reports.specs.Messages.{message_lines}
-use Rattle.engine_reports.specs.Outcomes.{too_many_entries, too_many_rules}
+use Rattle.engine_reports.specs.Outcomes.{hold_few_tokens, too_many_entries, too_many_rules}
 
 -- the lines of the messages, and what events are answered by: the messages about the rules, the rules and the entries
 pub record OpeningValue : Type 0 where
@@ -34,7 +34,7 @@ opening_messages rules database = message_lines (reported false rules) ++ messag
 -- the rules hold no more than they may, and else what is said about that
 unfoldable pub opening_by : Profile → List SourceFile → List Message → List Entry → Result OpeningValue RunOutcome
 opening_by profile rules messages entries =
-    if nat_le (tokens_in (set_of_as profile rules).rules) (2 ^ 24) then Ok (record { messages = opening_messages (set_of_as profile rules).messages messages; about_rules = (set_of_as profile rules).messages; rules = (set_of_as profile rules).rules; entries = entries })
+    if hold_few_tokens (set_of_as profile rules).rules then Ok (record { messages = opening_messages (set_of_as profile rules).messages messages; about_rules = (set_of_as profile rules).messages; rules = (set_of_as profile rules).rules; entries = entries })
     else Err too_many_rules
 
 -- the same by rules files and files of a database, if these also hold no more than they may; if both hold more, that

@@ -6,7 +6,7 @@ use Rattle.text_bytes.specs.declared.message.Message.{Message}
 use Rattle.text_tables.specs.Texts.{Text}
 use Rattle.hwdb_lookup.specs.declared.entry.Entry.{Entry}
 use Rattle.hwdb_core.specs.Sources.{are_few, entries_of, messages_of}
-use Rattle.rule_types.specs.Rules.{tokens_in}
+use Rattle.rule_types.specs.Rules.{Rule, tokens_in}
 use Rattle.rule_core.specs.Rules.{set_of}
 use Rattle.index_reading.specs.declared.fault.IndexFault.{IndexFault}
 use Rattle.trie_core.specs.Image.{image}
@@ -47,6 +47,10 @@ too_many_entries = record { output = []; messages = codes "devdry: hwdb: too man
 abbrev pub usage_error : Text → Text → RunOutcome
 usage_error messages line = record { output = []; messages = messages ++ line; status = 2 }
 
+-- whether rules have no more tokens than they may
+abbrev pub hold_few_tokens : List Rule → Bool
+hold_few_tokens rules = nat_le (tokens_in rules) (2 ^ 24)
+
 -- what is said about rules with too many tokens
 abbrev pub too_many_rules : RunOutcome
 too_many_rules = record { output = []; messages = codes "devdry: rules: too many\n"; status = 1 }
@@ -64,7 +68,7 @@ query_over line files (Some (Err fault)) = refused_index fault
 -- what `verify` says about rules files
 unfoldable pub rules_outcome : Line → List SourceFile → RunOutcome
 rules_outcome line files =
-    if nat_le (tokens_in (set_of files).rules) (2 ^ 24) then said_of line.summary files (reported line.style (set_of files).messages)
+    if hold_few_tokens (set_of files).rules then said_of line.summary files (reported line.style (set_of files).messages)
     else too_many_rules
 
 -- what `verify` says about the files passed in

@@ -5,18 +5,19 @@ use Rattle.text_tables.specs.Texts.{Text}
 use Rattle.device_core.specs.Values.{EventValue}
 use Rattle.device_core.specs.declared.faults.BlockFault.{BlockFault}
 use Rattle.engine_ends.specs.Sinks.{BreaksOff, HandsOn, SinkState}
-use Rattle.engine_ends.specs.Streams.{Streams}
-use Rattle.engine_ends.specs.Delivery.{ReportsFailure, out_of_memory, write_failed}
+use Rattle.engine_ends.specs.Streams.{Streams, outputs}
+use Rattle.engine_ends.specs.Delivery.{IsWhole, ReportsFailure, out_of_memory, write_failed}
 use Rattle.engine_sessions.specs.Turns.{joined, say_something}
 use Rattle.engine_sessions.specs.BlockFaults.{block_line}
 use Rattle.engine_sessions.specs.Answers.{answers_of}
 use Rattle.engine_sessions.specs.Inputs.{AnswersInput, devices_of}
 use Rattle.engine_sessions.specs.Outcomes.{answered_until, input_outcome}
-use Rattle.engine_sessions.specs.Serves.{IsWhole, Serves, StopsBefore, Concludes, read_failed}
+use Rattle.engine_sessions.specs.Serves.{Serves, StopsBefore, Concludes, WritesOut, read_failed}
 use Rattle.engine_sessions.specs.Findings.{ConcludesFinding, FindsAll, found}
 use Rattle.engine_sessions.specs.declared.session.SessionFault.TheVariants.{Block, Memory, Ended}
 use Rattle.engine_sessions.specs.declared.turning.TurnFault.{TurnFault}
 use Rattle.engine_sessions.specs.declared.turning.TurnFault.TheVariants.{Read, Write, Session}
+use Rattle.engine_sessions.proofs.SendLemmas.{sends_well}
 use Rattle.engine_sessions.proofs.Serving.{answers_serve, none_is, outcome_well, rest_reported, sends_output}
 
 status_under : (messages output : Text) (count : ℕ) (fault : Option BlockFault) → (answered_until messages output count fault).status ≤ 1
@@ -78,14 +79,14 @@ module _ (messages : Text) (answer : EventValue → Text) (status : ℕ) (before
       record {
         read = t.read;
         pieces = t.pieces;
-        whole = λ h. subst (λ o. IsWhole o status before now) (sym is)
+        whole = λ h. subst (λ o. IsWhole WritesOut o status (outputs before) (outputs now)) (sym is)
             (record { output = sends_output before.out t.reported now.out t.sent t.sends t.ends.untouched; messages = rw c.1 says; status_is = c.0 ∙ after_turn (length (joined t.sent) == 0) 1 0 });
         all = λ h text e. let r = rest_reported text (joined t.read) now.input.left (sym e ∙ t.left) in
             ap (λ x. found (input_outcome messages answer x)) (r.2 ∙ ap (λ rest. joined t.read ++ rest) (none_is now.input.left r.0 t.ends.none_left r.1) ∙ append-nil (joined t.read));
         cut = λ h. absurd (omega (arith, h, few));
         failures = record {
           failed = λ e. absurd (omega (arith, e, few));
-          well = λ h. (t.counts.well, ap (λ s. s.faults) t.ends.untouched ∙ t.sends.well, ap (λ s. s.faults) c.1 ∙ says.well);
+          well = λ h. (t.counts.well, ap (λ s. s.faults) t.ends.untouched ∙ sends_well before.out t.reported t.sent t.sends, ap (λ s. s.faults) c.1 ∙ says.well);
         };
         statuses = omega (arith, few);
       }

@@ -12,8 +12,8 @@ use Rattle.engine_ends.specs.Streams.{Streams}
 use Rattle.engine_sessions.specs.Sessions.{Held, SessionTakes, opened}
 use Rattle.engine_sessions.specs.Turns.{Sends, TurnFailsBy, Turns, due, joined, say_something}
 use Rattle.engine_sessions.specs.Inputs.{devices_of, most_turns}
-use Rattle.engine_sessions.specs.Findings.{AnswersFinding, FindsAll, TurnsFinding}
-use Rattle.engine_sessions.specs.Holding.{IsGoing}
+use Rattle.engine_sessions.specs.Findings.{AnswersFinding, FindsAll}
+use Rattle.engine_sessions.specs.Holding.{IsGoing, TurnsFinding}
 use Rattle.engine_sessions.specs.declared.session.Step.{Step}
 use Rattle.engine_sessions.specs.declared.turning.TurnFault.{TurnFault}
 use Rattle.engine_sessions.specs.declared.turning.TurnFault.TheVariants.{Read}

@@ -10,21 +10,22 @@ use Rattle.device_core.specs.Values.{EventValue}
 use Rattle.device_core.specs.declared.faults.BlockFault.{BlockFault}
 use Rattle.engine_ends.specs.Reported.{followed_by, led_by, NoneLeft}
 use Rattle.engine_ends.specs.Counts.{Counts}
-use Rattle.engine_ends.specs.Sinks.{BreaksOff, HandsOn, SinkState}
+use Rattle.engine_ends.specs.Sinks.{BreaksOff, HandsOn, HasBegun, SinkState}
 use Rattle.engine_ends.specs.Streams.{Streams, outputs}
 use Rattle.engine_ends.proofs.Reported.{followed_by-append, followed_by-nil}
 use Rattle.engine_sessions.specs.Answers.{answers_to, answers_of, well, number_after}
-use Rattle.engine_sessions.specs.Turns.{Sends, flushed_after, joined}
+use Rattle.engine_sessions.specs.Turns.{Sends, joined}
 use Rattle.engine_sessions.specs.declared.session.SessionFault.TheVariants.{Block, Memory, Ended}
 use Rattle.engine_sessions.specs.declared.turning.TurnFault.{TurnFault}
 use Rattle.engine_sessions.specs.declared.turning.TurnFault.TheVariants.{Read, Write, Session}
 use Rattle.engine_sessions.proofs.AnswerLemmas.{answers_to-append}
 use Rattle.engine_sessions.proofs.LawLemmas.{until}
-use Rattle.engine_ends.specs.Delivery.{Delivers, ReportsFailure, RunOutcome, out_of_memory, write_failed}
+use Rattle.engine_sessions.proofs.SendLemmas.{hands_after, sends_taken, sends_well}
+use Rattle.engine_ends.specs.Delivery.{Delivers, IsWhole, ReportsFailure, RunOutcome, out_of_memory, write_failed}
 use Rattle.engine_sessions.specs.BlockFaults.{block_line}
 use Rattle.engine_sessions.specs.Inputs.{AnswersInput, devices_of}
 use Rattle.engine_sessions.specs.Outcomes.{answered, answered_until, input_outcome}
-use Rattle.engine_sessions.specs.Serves.{read_failed, WritesOut, HasBegun, IsWhole, IsStatusLine, IsCutShort, ReportsFailures, Serves, Concludes, StopsBefore, AnswersAll, Reports}
+use Rattle.engine_sessions.specs.Serves.{read_failed, WritesOut, IsStatusLine, IsCutShort, ReportsFailures, Serves, Concludes, StopsBefore, AnswersAll, Reports}
 
 pub not_four : (status : ℕ) {P : Type 0} → status ≡ 3 → status ≡ 4 → P
 not_four status e f = absurd (omega (arith, e, f))
@@ -104,8 +105,8 @@ pub reports_serve : (outcome : Text → RunOutcome) (said : RunOutcome) (status 
 reports_serve outcome said status before now same r = record {
   read = [];
   pieces = ap (λ s. s.pieces) r.unread ∙ sym (followed_by-nil before.input.pieces);
-  whole = λ h. let w = r.delivers.whole h in subst (λ o. IsWhole o status before now) (sym (same []))
-      (record { output = record { taken = w.output.taken; flushed = inl w.output.flushed; well = w.output.well }; messages = w.messages; status_is = w.status_is });
+  whole = λ h. let w = r.delivers.whole h in subst (λ o. IsWhole WritesOut o status (outputs before) (outputs now)) (sym (same []))
+      (record { output = inl w.output; messages = w.messages; status_is = w.status_is });
   all = λ h text e. same text ∙ sym (same []);
   cut = λ h. subst (λ o. IsCutShort o status before now) (sym (same [])) (report_cut said status before now r.delivers (three_or_four status h r.delivers.statuses));
   failures = record {
@@ -143,20 +144,9 @@ none_is (Some other) rest h e = let same : other ≡ rest = some_is other rest e
     some_is : (a b : Text) → Some a ≡ Some b → a ≡ b
     some_is a b e = cc
 
--- what is flushed after answers, by their text
-sent_flushed : (out reported : SinkState) (sent : List Text) → reported.flushed ≡ flushed_after out sent reported → (reported.flushed ≡ reported.taken) ⊎ ((joined sent ≡ []) × (reported.flushed ≡ out.flushed))
-sent_flushed out reported [] e = inr (refl, e)
-sent_flushed out reported (text ∷ sent) e = inl e
-
 pub sends_output : (out reported out_now : SinkState) (sent : List Text) → Sends out sent reported → out_now ≡ reported → WritesOut out (joined sent) out_now
-sends_output out reported out_now sent s e = rw e (record { taken = s.taken; flushed = sent_flushed out reported sent s.flushed; well = s.well })
-
-pub hands_after : (err reported err_now : SinkState) (first second : Text) → HandsOn err first reported → HandsOn reported second err_now → HandsOn err (first ++ second) err_now
-hands_after err reported err_now first second h k = record {
-  taken = k.taken ∙ ap (λ t. followed_by t second) h.taken ∙ followed_by-append err.taken first second;
-  flushed = k.flushed;
-  well = k.well ∙ h.well;
-}
+sends_output out reported out_now [] s e = inr (refl, e ∙ s)
+sends_output out reported out_now (text ∷ sent) s e = inl (subst (λ sink. HandsOn out (joined (text ∷ sent)) sink) (sym e) s)
 
 -- the output, whatever the fault
 output_is : (messages output : Text) (count : ℕ) (fault : Option BlockFault) → (answered_until messages output count fault).output ≡ output
@@ -166,7 +156,7 @@ output_is messages output count (Some fault) = refl
 -- the answers sent are the first of all
 sent_begun : (out reported out_now : SinkState) (sent : List Text) (unsent : List Text) (texts : List Text) → texts ≡ sent ++ unsent → Sends out sent reported → HasBegun reported (joined unsent) out_now → HasBegun out (joined texts) out_now
 sent_begun out reported out_now sent unsent texts e s b =
-    subst (λ text. HasBegun out text out_now) (sym (ap joined e ∙ flat_map-append (λ text. text) sent unsent)) (begun-following out reported out_now (joined sent) (joined unsent) s.taken b)
+    subst (λ text. HasBegun out text out_now) (sym (ap joined e ∙ flat_map-append (λ text. text) sent unsent)) (begun-following out reported out_now (joined sent) (joined unsent) (sends_taken out reported sent s) b)
 
 read_first : (answer : EventValue → Text) (text : Text) (sent : List Text) → answers_to answer (complete_runs text) ≡ well sent → (answers_of answer text).texts ≡ sent ++ (answers_to answer (not_empty (rest_of text ∷ []))).texts
 read_first answer text sent e = ap (λ a. a.texts) (answers_to-append answer (complete_runs text) (not_empty (rest_of text ∷ [])) sent e)
@@ -184,14 +174,14 @@ module _ (messages : Text) (answer : EventValue → Text) (status : ℕ) (before
       record {
         read = t.read;
         pieces = t.pieces;
-        whole = λ h. subst (λ o. IsWhole o status before now) (sym is)
+        whole = λ h. subst (λ o. IsWhole WritesOut o status (outputs before) (outputs now)) (sym is)
             (record { output = sends_output before.out t.reported now.out t.sent t.sends t.ends.untouched; messages = rw c.1 says; status_is = c.0 });
         all = λ h text e. let r = rest_reported text (joined t.read) now.input.left (sym e ∙ t.left) in
             ap (input_outcome messages answer) (r.2 ∙ ap (λ rest. joined t.read ++ rest) (none_is now.input.left r.0 t.ends.none_left r.1) ∙ append-nil (joined t.read));
         cut = λ h. absurd (omega (arith, h, c.0));
         failures = record {
           failed = λ e. absurd (omega (arith, e, c.0));
-          well = λ h. (t.counts.well, ap (λ s. s.faults) t.ends.untouched ∙ t.sends.well, ap (λ s. s.faults) c.1 ∙ says.well);
+          well = λ h. (t.counts.well, ap (λ s. s.faults) t.ends.untouched ∙ sends_well before.out t.reported t.sent t.sends, ap (λ s. s.faults) c.1 ∙ says.well);
         };
         statuses = omega (arith, c.0);
       }
@@ -219,10 +209,10 @@ module _ (messages : Text) (answer : EventValue → Text) (status : ℕ) (before
     whole = not_under status (omega (arith, e));
     all = not_under status (omega (arith, e));
     cut = λ h. cut_by (input_outcome messages answer (joined t.read)) status before now reported write_failed (inr (inr (inl refl)))
-        (output_begun (joined t.read) (sent_begun before.out t.reported now.out t.sent (t.ends.next ∷ t.ends.unsent) (answers_of answer (joined t.read)).texts t.ends.answers t.sends (begun-first t.reported now.out t.ends.next (joined t.ends.unsent) t.ends.breaks.taken)))
+        (output_begun (joined t.read) (sent_begun before.out t.reported now.out t.sent (t.ends.next ∷ t.ends.unsent) (answers_of answer (joined t.read)).texts t.ends.texts_are t.sends (begun-first t.reported now.out t.ends.next (joined t.ends.unsent) t.ends.breaks.taken)))
         (first_reported (joined t.read)) (reports_begun write_failed 3 status reported now.err c) (not_four status e);
     failures = record {
-      failed = λ f. inr (inl (subst (λ n. Counts 1 n now.out.faults) t.sends.well t.ends.breaks.failed));
+      failed = λ f. inr (inl (subst (λ n. Counts 1 n now.out.faults) (sends_well before.out t.reported t.sent t.sends) t.ends.breaks.failed));
       well = λ h. absurd (h e);
     };
     statuses = omega (arith, e);
@@ -235,9 +225,9 @@ module _ (messages : Text) (answer : EventValue → Text) (status : ℕ) (before
     whole = not_under status (memory_status status reported now.err c);
     all = not_under status (memory_status status reported now.err c);
     cut = λ h. cut_by (input_outcome messages answer (joined t.read)) status before now reported out_of_memory (inr (inr (inr refl)))
-        (output_begun (joined t.read) (sent_begun before.out t.reported now.out t.sent t.ends.unsent (answers_of answer (joined t.read)).texts t.ends.answers t.sends (rw t.ends.untouched (begun-none t.reported (joined t.ends.unsent)))))
+        (output_begun (joined t.read) (sent_begun before.out t.reported now.out t.sent t.ends.0.0 (answers_of answer (joined t.read)).texts t.ends.0.1 t.sends (rw t.ends.1 (begun-none t.reported (joined t.ends.0.0)))))
         (first_reported (joined t.read)) (reports_begun out_of_memory 4 status reported now.err c) (at_memory status reported now.err c);
-    failures = reported_failures c t.counts.well (ap (λ s. s.faults) t.ends.untouched ∙ t.sends.well);
+    failures = reported_failures c t.counts.well (ap (λ s. s.faults) t.ends.1 ∙ sends_well before.out t.reported t.sent t.sends);
     statuses = memory_most status reported now.err c;
   }
     where
@@ -251,14 +241,14 @@ module _ (messages : Text) (answer : EventValue → Text) (status : ℕ) (before
       record {
         read = t.read;
         pieces = t.pieces;
-        whole = λ h. subst (λ o. IsWhole o status before now) (sym is)
+        whole = λ h. subst (λ o. IsWhole WritesOut o status (outputs before) (outputs now)) (sym is)
             (record { output = sends_output before.out t.reported now.out t.sent t.sends t.ends.1; messages = hands_after before.err reported now.err messages (block_line number fault) says p.1; status_is = p.0 });
         all = λ h text e. let r = rest_reported text (joined t.read) now.input.left (sym e ∙ t.left) in
             ap (input_outcome messages answer) r.2 ∙ outcome_faulty messages answer (joined t.read ++ r.0) t.sent number fault (t.ends.0.stays r.0 r.1) t.ends.0.numbered ∙ sym is;
         cut = λ h. absurd (omega (arith, h, p.0));
         failures = record {
           failed = λ e. absurd (omega (arith, e, p.0));
-          well = λ h. (t.counts.well, ap (λ s. s.faults) t.ends.1 ∙ t.sends.well, p.1.well ∙ says.well);
+          well = λ h. (t.counts.well, ap (λ s. s.faults) t.ends.1 ∙ sends_well before.out t.reported t.sent t.sends, p.1.well ∙ says.well);
         };
         statuses = omega (arith, p.0);
       }
@@ -271,7 +261,7 @@ module _ (messages : Text) (answer : EventValue → Text) (status : ℕ) (before
         all = not_under status (omega (arith, p.0));
         cut = λ h. subst (λ o. IsCutShort o status before now) (sym is)
             (cut_by (record { output = joined t.sent; messages = messages ++ block_line number fault; status = 1 }) status before now now.err [] (inl refl)
-            (begun-taken before.out now.out (joined t.sent) (ap (λ s. s.taken) t.ends.1 ∙ t.sends.taken)) (begun-following before.err reported now.err messages (block_line number fault) says.taken p.1.taken) (begun-none now.err []) (not_four status p.0));
+            (begun-taken before.out now.out (joined t.sent) (ap (λ s. s.taken) t.ends.1 ∙ sends_taken before.out t.reported t.sent t.sends)) (begun-following before.err reported now.err messages (block_line number fault) says.taken p.1.taken) (begun-none now.err []) (not_four status p.0));
         failures = record {
           failed = λ g. inr (inr (inl (subst (λ n. Counts 1 n now.err.faults) says.well p.1.failed)));
           well = λ h. absurd (h p.0);

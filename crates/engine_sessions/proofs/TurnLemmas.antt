@@ -130,8 +130,7 @@ sent-fails answer more (Block number fault) old now next part piece before sink 
     })
 sent-fails answer more Memory old now next part piece before sink s f = record {
   sent = s.texts;
-  unsent = (due answer more now.pending piece).texts;
-  texts_are = ap (λ a. a.texts) (due_more answer more old now part piece before sink s);
+  first = ((due answer more now.pending piece).texts, ap (λ a. a.texts) (due_more answer more old now part piece before sink s));
   sends = s.sends;
 }
 sent-fails answer more Ended old now next part piece before sink s f = let both : true ≡ false = sym f.0 ∙ ap (λ h. h.ended) s.leaves in absurd cc
@@ -151,12 +150,14 @@ sent-breaks answer old now next part piece step before sink later s t b = at_ans
     at_answer None e b = absurd b
     at_answer (Some text) e b = record {
       sent = s.texts;
-      next = text;
-      unsent = (answers_to answer (known_blocks true (rest_of (now.pending ++ take step.used piece) ++ drop step.used piece))).texts;
-      texts_are = ap (λ a. a.texts) (due_more answer true old now part piece before sink s ∙ ap (with_texts s.texts) (after_it text e));
       reported = sink;
       sends = s.sends;
-      breaks = b;
+      stops = record {
+        next = text;
+        unsent = (answers_to answer (known_blocks true (rest_of (now.pending ++ take step.used piece) ++ drop step.used piece))).texts;
+        texts_are = ap (λ a. a.texts) (due_more answer true old now part piece before sink s ∙ ap (with_texts s.texts) (after_it text e));
+        breaks = b;
+      };
     }
 
 -- the end of an input
@@ -172,12 +173,14 @@ pub end_breaks : {A : Type 0} (answer : EventValue → Text) (old now : Held A) 
 end_breaks answer old now None before sink e b = absurd b
 end_breaks answer old now (Some text) before sink e b = record {
   sent = [];
-  next = text;
-  unsent = [];
-  texts_are = ap (λ a. a.texts) (ap (λ t. answers_to answer (runs t)) (append-nil old.pending) ∙ e.answers);
   reported = before;
   sends = sends-none before;
-  breaks = b;
+  stops = record {
+    next = text;
+    unsent = [];
+    texts_are = ap (λ a. a.texts) (ap (λ t. answers_to answer (runs t)) (append-nil old.pending) ∙ e.answers);
+    breaks = b;
+  };
 }
 
 pub end_fails : {A : Type 0} (answer : EventValue → Text) (fault : SessionFault) (old next : Held A) (sink : SinkState) → IsGoing old → CallFailsBy fault old (known_blocks false old.pending) next → SendsUntil (Session fault) (due answer false old.pending []) old.answered sink sink

@@ -294,7 +294,7 @@ failed answer Read first session next input now later output sink sink_later tur
 }
 failed answer Write first session next input now later output sink sink_later turns s f =
     let on = read_on answer first session input now later output sink turns f.more f.piece s f.reads in
-    let all = sent_first answer session s.read f.more f.piece s.sent f.sends.sent (f.sends.next ∷ f.sends.unsent) s.given f.sends.texts_are in
+    let all = sent_first answer session s.read f.more f.piece s.sent f.sends.sent (f.sends.stops.next ∷ f.sends.stops.unsent) s.given f.sends.stops.texts_are in
     record {
       read = s.read ++ f.piece ∷ [];
       pieces = on.pieces;
@@ -305,7 +305,7 @@ failed answer Write first session next input now later output sink sink_later tu
       reported = f.sends.reported;
       sends = sends-more output sink f.sends.reported s.sent f.sends.sent s.sends f.sends.sends;
       due = due_after answer s.read f.piece s.sent f.sends.sent s.given.answers;
-      ends = record { next = f.sends.next; unsent = f.sends.unsent ++ all.0; answers = all.1; breaks = f.sends.breaks };
+      ends = record { next = f.sends.stops.next; unsent = f.sends.stops.unsent ++ all.0; texts_are = all.1; breaks = f.sends.stops.breaks };
     }
 failed answer (Session (Block number fault)) first session next input now later output sink sink_later turns s f =
     let on = read_on answer first session input now later output sink turns f.more f.piece s f.reads in
@@ -324,7 +324,7 @@ failed answer (Session (Block number fault)) first session next input now later 
     }
 failed answer (Session Memory) first session next input now later output sink sink_later turns s f =
     let on = read_on answer first session input now later output sink turns f.more f.piece s f.reads in
-    let all = sent_first answer session s.read f.more f.piece s.sent f.sends.sent f.sends.unsent s.given f.sends.texts_are in
+    let all = sent_first answer session s.read f.more f.piece s.sent f.sends.sent f.sends.first.0 s.given f.sends.first.1 in
     record {
       read = s.read ++ f.piece ∷ [];
       pieces = on.pieces;
@@ -335,7 +335,7 @@ failed answer (Session Memory) first session next input now later output sink si
       reported = sink_later;
       sends = sends-more output sink sink_later s.sent f.sends.sent s.sends f.sends.sends;
       due = due_after answer s.read f.piece s.sent f.sends.sent s.given.answers;
-      ends = record { unsent = f.sends.unsent ++ all.0; answers = all.1; untouched = refl };
+      ends = ((f.sends.first.0 ++ all.0, all.1), refl);
     }
 failed answer (Session Ended) first session next input now later output sink sink_later turns s f = let both : true ≡ false = sym f.0 ∙ s.proceeds in absurd cc
 
@@ -367,5 +367,5 @@ unstarted answer input output = record {
   reported = output;
   sends = sends-none output;
   due = due_at_start answer;
-  ends = record { unsent = (answers_of answer []).texts; answers = refl; untouched = refl };
+  ends = (((answers_of answer []).texts, refl), refl);
 }

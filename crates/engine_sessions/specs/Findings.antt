@@ -3,18 +3,13 @@
 use Rattle.std.specs.Prelude.{◌≡◌, ℕ, ◌⊎◌, ◌==◌, Bool, if◌then◌else◌, List, Result, Ok, Err, IfOk, length}
 use Rattle.text_tables.specs.Texts.{Text}
 use Rattle.device_core.specs.Values.{EventValue}
-use Rattle.engine_ends.specs.Sinks.{SinkState, HandsOn}
+use Rattle.engine_ends.specs.Sinks.{SinkState}
 use Rattle.engine_ends.specs.Streams.{Streams}
 use Rattle.engine_ends.specs.Delivery.{RunOutcome}
-use Rattle.engine_sessions.specs.Turns.{Situation, Turns, say_something}
-use Rattle.engine_sessions.specs.Inputs.{AnswersInput, Devices, devices_of}
-use Rattle.engine_sessions.specs.Serves.{Concludes, StopsBefore}
+use Rattle.engine_sessions.specs.Turns.{say_something}
+use Rattle.engine_sessions.specs.Inputs.{AnswersInput, Devices}
+use Rattle.engine_sessions.specs.Serves.{AnswersAfter, Concludes, StopsBefore}
 use Rattle.engine_sessions.specs.declared.turning.TurnFault.{TurnFault}
-
--- A turn, and whether any of the answers that it sends has a byte.
-pub record TurnsFinding {A : Type 0} (answer : EventValue → Text) (more finds : Bool) (before now : Situation A) : Type 0 where
-  pub turn : Turns answer more before now
-  pub finds_is : finds ≡ say_something turn.sends.texts
 
 -- how it ended, whatever was found
 abbrev pub ended_by : Result Bool TurnFault → Result (Unit {0}) TurnFault
@@ -36,14 +31,6 @@ abbrev pub ConcludesFinding : Result (Unit {0}) TurnFault → List Text → ℕ 
 ConcludesFinding (Ok done) sent status err err_now = (status ≡ (if say_something sent then 1 else 0)) × (err_now ≡ err)
 ConcludesFinding (Err fault) sent status err err_now = Concludes (Err fault) status err err_now
 
--- The messages are written, then the input is answered, and then its end is reported.
-pub record FindsAfter (messages : Text) (answer : EventValue → Text) (status : ℕ) (before now : Streams) : Type 0 where
-  pub reported : SinkState
-  pub says : HandsOn before.err messages reported
-  pub end : Result (Unit {0}) TurnFault
-  pub answers : AnswersInput answer end (devices_of before) (devices_of now)
-  pub concludes : ConcludesFinding end answers.sent status reported now.err
-
 -- Messages, and the findings in an input after them, step by step.
 abbrev pub FindsAll : Text → (EventValue → Text) → ℕ → Streams → Streams → Type 0
-FindsAll messages answer status before now = StopsBefore messages status before now ⊎ FindsAfter messages answer status before now
+FindsAll messages answer status before now = StopsBefore messages status before now ⊎ AnswersAfter ConcludesFinding messages answer status before now

@@ -12,6 +12,7 @@ use Rattle.device_core.specs.declared.faults.BlockFaultKind.TheVariants.{TooLong
 use Rattle.engine_ends.specs.Sinks.{SinkState, BreaksOff}
 use Rattle.engine_sessions.specs.Answers.{answers_to, well, counted}
 use Rattle.engine_sessions.specs.Sessions.{Held}
+use Rattle.engine_sessions.specs.Turns.{Situation, Turns, say_something}
 use Rattle.engine_sessions.specs.declared.session.SessionFault.{SessionFault}
 use Rattle.engine_sessions.specs.declared.session.SessionFault.TheVariants.{Block, Memory, Ended}
 
@@ -61,3 +62,8 @@ pub record IsGoing {A : Type 0} (session : Held A) : Type 0 where
 abbrev pub BreaksOffAt : SinkState → Option Text → SinkState → Type 0
 BreaksOffAt before None now = ⊥
 BreaksOffAt before (Some text) now = BreaksOff before text now
+
+-- a turn, and whether any of the answers that it sends has a byte
+pub record TurnsFinding {A : Type 0} (answer : EventValue → Text) (more finds : Bool) (before now : Situation A) : Type 0 where
+  pub turn : Turns answer more before now
+  pub finds_is : finds ≡ say_something turn.sends.texts

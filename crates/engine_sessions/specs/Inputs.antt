@@ -1,5 +1,5 @@
 -- What is read from an input, which of its answers are sent, and how that ends.
-use Rattle.std.specs.Prelude.{◌≡◌, ℕ, ◌+◌, ◌-◌, ◌^◌, ◌<◌, ◌≤◌, ◌⊎◌, List, ◌∷◌, ◌++◌, Option, Some, Result, Ok, Err, length, take}
+use Rattle.std.specs.Prelude.{◌≡◌, ℕ, ◌+◌, ◌-◌, ◌^◌, ◌<◌, ◌≤◌, ◌⊎◌, List, ◌++◌, Option, Some, Result, Ok, Err, length, take}
 use Rattle.text_tables.specs.Texts.{Text}
 use Rattle.device_core.specs.Runs.{complete_runs, rest_of}
 use Rattle.device_core.specs.RunBlocks.{most_bytes}
@@ -8,10 +8,10 @@ use Rattle.device_core.specs.declared.faults.BlockFault.{BlockFault}
 use Rattle.engine_ends.specs.Reported.{followed_by, led_by, NoneLeft}
 use Rattle.engine_ends.specs.Counts.{Counts}
 use Rattle.engine_ends.specs.Sources.{SourceState}
-use Rattle.engine_ends.specs.Sinks.{SinkState, BreaksOff}
+use Rattle.engine_ends.specs.Sinks.{SinkState}
 use Rattle.engine_ends.specs.Streams.{Streams}
 use Rattle.engine_sessions.specs.Answers.{answers_to, answers_of, well, number_after}
-use Rattle.engine_sessions.specs.Turns.{Sends, joined}
+use Rattle.engine_sessions.specs.Turns.{AreFirstOf, BreaksOffAfter, Sends, joined}
 use Rattle.engine_sessions.specs.declared.session.SessionFault.TheVariants.{Block, Memory, Ended}
 use Rattle.engine_sessions.specs.declared.turning.TurnFault.{TurnFault}
 use Rattle.engine_sessions.specs.declared.turning.TurnFault.TheVariants.{Read, Write, Session}
@@ -35,7 +35,7 @@ all_but_last pieces = take (length pieces - 1) pieces
 
 -- The answers to the complete runs of all pieces read except the last are sent, in front of any others.
 abbrev pub HasSentDue : (EventValue → Text) → List Text → List Text → Type 0
-HasSentDue answer read sent = (following : List Text) × (sent ≡ (answers_to answer (complete_runs (joined (all_but_last read)))).texts ++ following)
+HasSentDue answer read sent = AreFirstOf (answers_to answer (complete_runs (joined (all_but_last read)))).texts sent
 
 -- Before each of these pieces was read, no more bytes of a block that was not complete were held than a block may have.
 abbrev pub HoldsFew : List Text → Type 0
@@ -54,19 +54,6 @@ pub record StopsAtBlock (answer : EventValue → Text) (so_far : Progress) (numb
   pub stays : (later : Text) → so_far.left ≡ Some later → answers_of answer (so_far.text ++ later) ≡ record { texts = so_far.sent; fault = Some fault }
   pub numbered : number ≡ number_after (length so_far.sent)
 
--- The sink broke off at the answer after those sent.
-pub record StopsInAnswer (answer : EventValue → Text) (so_far : Progress) (now : SinkState) : Type 0 where
-  pub next : Text
-  pub unsent : List Text
-  pub answers : (answers_of answer so_far.text).texts ≡ so_far.sent ++ next ∷ unsent
-  pub breaks : BreaksOff so_far.reported next now
-
--- The answers sent are the first of all, and nothing was written after them.
-pub record StopsBetween (answer : EventValue → Text) (so_far : Progress) (now : SinkState) : Type 0 where
-  pub unsent : List Text
-  pub answers : (answers_of answer so_far.text).texts ≡ so_far.sent ++ unsent
-  pub untouched : now ≡ so_far.reported
-
 -- All bytes of the input were read, no block of them is faulty, and all answers are sent.
 pub record IsAnswered (answer : EventValue → Text) (so_far : Progress) (now : SinkState) : Type 0 where
   pub answers : answers_of answer so_far.text ≡ well so_far.sent
@@ -78,9 +65,9 @@ pub record IsAnswered (answer : EventValue → Text) (so_far : Progress) (now : 
 abbrev pub EndsBy : (EventValue → Text) → Result (Unit {0}) TurnFault → (so_far : Progress) → (now : SinkState) → Type 0
 EndsBy answer (Ok done) so_far now = IsAnswered answer so_far now
 EndsBy answer (Err Read) so_far now = (answers_to answer (complete_runs so_far.text) ≡ well so_far.sent) × (now ≡ so_far.reported)
-EndsBy answer (Err Write) so_far now = StopsInAnswer answer so_far now
+EndsBy answer (Err Write) so_far now = BreaksOffAfter so_far.sent (answers_of answer so_far.text).texts so_far.reported now
 EndsBy answer (Err (Session (Block number fault))) so_far now = StopsAtBlock answer so_far number fault × (now ≡ so_far.reported)
-EndsBy answer (Err (Session Memory)) so_far now = StopsBetween answer so_far now
+EndsBy answer (Err (Session Memory)) so_far now = AreFirstOf so_far.sent (answers_of answer so_far.text).texts × (now ≡ so_far.reported)
 EndsBy answer (Err (Session Ended)) so_far now = ⊥
 
 -- So many reads were made from the input, and none failed.

@@ -1,16 +1,16 @@
 -- What a run reads, writes and returns, by its status and step by step.
-use Rattle.std.specs.Prelude.{◌≡◌, ℕ, ◌<◌, ◌≤◌, ◌⊎◌, List, [], Some, Result, Ok, Err, codes, length, take}
+use Rattle.std.specs.Prelude.{◌≡◌, ℕ, ◌<◌, ◌≤◌, ◌⊎◌, List, [], Some, Result, Ok, Err, codes, length}
 use Rattle.text_tables.specs.Texts.{Text}
 use Rattle.device_core.specs.Values.{EventValue}
 use Rattle.engine_ends.specs.Reported.{followed_by}
 use Rattle.engine_ends.specs.Counts.{Counts}
-use Rattle.engine_ends.specs.Sinks.{BreaksOff, HandsOn, SinkState}
+use Rattle.engine_ends.specs.Sinks.{BreaksOff, HandsOn, HasBegun, SinkState}
 use Rattle.engine_ends.specs.Streams.{Streams, outputs}
 use Rattle.engine_sessions.specs.Turns.{joined}
 use Rattle.engine_sessions.specs.declared.session.SessionFault.TheVariants.{Block, Memory, Ended}
 use Rattle.engine_sessions.specs.declared.turning.TurnFault.{TurnFault}
 use Rattle.engine_sessions.specs.declared.turning.TurnFault.TheVariants.{Read, Write, Session}
-use Rattle.engine_ends.specs.Delivery.{Delivers, ReportsFailure, ReportsFaults, RunOutcome, out_of_memory, write_failed}
+use Rattle.engine_ends.specs.Delivery.{Delivers, IsWhole, ReportsFailure, ReportsFaults, RunOutcome, out_of_memory, write_failed}
 use Rattle.engine_sessions.specs.BlockFaults.{block_line}
 use Rattle.engine_sessions.specs.Inputs.{AnswersInput, UsesUp, devices_of}
 
@@ -18,21 +18,9 @@ use Rattle.engine_sessions.specs.Inputs.{AnswersInput, UsesUp, devices_of}
 abbrev pub read_failed : Text
 read_failed = codes "devdry: read failed\n"
 
--- The sink took a whole text and flushed all that it took, or the text is empty and no more is flushed than before. No call failed.
-pub record WritesOut (before : SinkState) (text : Text) (now : SinkState) : Type 0 where
-  pub taken : now.taken ≡ followed_by before.taken text
-  pub flushed : (now.flushed ≡ now.taken) ⊎ ((text ≡ []) × (now.flushed ≡ before.flushed))
-  pub well : now.faults ≡ before.faults
-
--- The sink took a first part of a text, perhaps all of it or nothing.
-abbrev pub HasBegun : SinkState → Text → SinkState → Type 0
-HasBegun before text now = (n : ℕ) × (n ≤ length text) × (now.taken ≡ followed_by before.taken (take n text))
-
--- All of the outcome is written, and its status returned.
-pub record IsWhole (outcome : RunOutcome) (status : ℕ) (before now : Streams) : Type 0 where
-  pub output : WritesOut before.out outcome.output now.out
-  pub messages : HandsOn before.err outcome.messages now.err
-  pub status_is : status ≡ outcome.status
+-- The sink took and flushed a whole text, and no call failed; or the text is empty, and the sink is as it was.
+abbrev pub WritesOut : SinkState → Text → SinkState → Type 0
+WritesOut before text now = HandsOn before text now ⊎ ((text ≡ []) × (now ≡ before))
 
 -- nothing, or one of the lines on a failure
 abbrev pub IsStatusLine : Text → Type 0
@@ -59,7 +47,7 @@ pub record ReportsFailures (status turns : ℕ) (before now : Streams) : Type 0 
 pub record Serves (outcome : Text → RunOutcome) (status : ℕ) (before now : Streams) : Type 0 where
   pub read : List Text
   pub pieces : now.input.pieces ≡ followed_by before.input.pieces read
-  pub whole : status < 3 → IsWhole (outcome (joined read)) status before now
+  pub whole : status < 3 → IsWhole WritesOut (outcome (joined read)) status (outputs before) (outputs now)
   pub all : status < 3 → (text : Text) → before.input.left ≡ Some text → outcome text ≡ outcome (joined read)
   pub cut : 3 ≤ status → IsCutShort (outcome (joined read)) status before now
   pub failures : ReportsFailures status (length read) before now
@@ -74,13 +62,13 @@ Concludes (Err (Session (Block number fault))) status err err_now = ReportsFailu
 Concludes (Err (Session Memory)) status err err_now = ReportsFailure out_of_memory 4 status err err_now
 Concludes (Err (Session Ended)) status err err_now = ⊥
 
--- The messages are written, then the input is answered, and then its end is reported.
-pub record AnswersAfter (messages : Text) (answer : EventValue → Text) (status : ℕ) (before now : Streams) : Type 0 where
+-- The messages are written, then the input is answered, and then its end is reported, in the way that is asked for.
+pub record AnswersAfter (Concluded : Result (Unit {0}) TurnFault → List Text → ℕ → SinkState → SinkState → Type 0) (messages : Text) (answer : EventValue → Text) (status : ℕ) (before now : Streams) : Type 0 where
   pub reported : SinkState
   pub says : HandsOn before.err messages reported
   pub end : Result (Unit {0}) TurnFault
   pub answers : AnswersInput answer end (devices_of before) (devices_of now)
-  pub concludes : Concludes end status reported now.err
+  pub concludes : Concluded end answers.sent status reported now.err
 
 -- Nothing is read or answered: the error output failed at the messages, or memory runs out before them, which its
 -- line says.
@@ -92,7 +80,7 @@ pub record StopsBefore (messages : Text) (status : ℕ) (before now : Streams) :
 -- Messages, and the answers to an input after them, step by step.
 abbrev pub AnswersAll : Text → (EventValue → Text) → ℕ → Streams → Streams → Type 0
 AnswersAll messages answer status before now =
-    StopsBefore messages status before now ⊎ AnswersAfter messages answer status before now
+    StopsBefore messages status before now ⊎ AnswersAfter (λ end sent. Concludes end) messages answer status before now
 
 -- What is said about files is delivered, and no input is read.
 pub record Reports (outcome : RunOutcome) (status : ℕ) (before now : Streams) : Type 0 where

@@ -1,12 +1,12 @@
 -- What a turn reads and sends.
-use Rattle.std.specs.Prelude.{◌≡◌, ◌↔◌, ◌==◌, ℕ, ◌+◌, ◌≤◌, Bool, true, false, not, List, [], ◌∷◌, ◌++◌, Option, Some, length, flat_map, if◌then◌else◌}
+use Rattle.std.specs.Prelude.{◌≡◌, ◌↔◌, ◌==◌, ℕ, ◌+◌, ◌≤◌, Bool, true, false, not, List, [], ◌∷◌, ◌++◌, Some, length, flat_map, if◌then◌else◌}
 use Rattle.text_tables.specs.Texts.{Text}
 use Rattle.device_core.specs.Runs.{rest_of}
 use Rattle.device_core.specs.Values.{EventValue}
 use Rattle.device_core.specs.declared.faults.BlockFault.{BlockFault}
-use Rattle.engine_ends.specs.Reported.{followed_by, NoneLeft}
+use Rattle.engine_ends.specs.Reported.{NoneLeft}
 use Rattle.engine_ends.specs.Sources.{SourceState, Gives, SourceFails}
-use Rattle.engine_ends.specs.Sinks.{SinkState, BreaksOff}
+use Rattle.engine_ends.specs.Sinks.{SinkState, BreaksOff, HandsOn}
 use Rattle.engine_sessions.specs.Answers.{Answers, answers_to, well, counted, number_after}
 use Rattle.engine_sessions.specs.Known.{known_blocks}
 use Rattle.engine_sessions.specs.Sessions.{Held, closed}
@@ -28,33 +28,33 @@ joined texts = flat_map (λ text. text) texts
 abbrev pub say_something : List Text → Bool
 say_something texts = not (length (joined texts) == 0)
 
--- what a sink that took these answers has flushed: all that it took, or what it had flushed before if there is no
--- answer
-abbrev pub flushed_after : SinkState → List Text → SinkState → Option Text
-flushed_after before [] now = before.flushed
-flushed_after before (text ∷ texts) now = now.taken
+-- The sink took and flushed these answers, and no call failed; if there are none, it is as it was.
+abbrev pub Sends : SinkState → List Text → SinkState → Type 0
+Sends before [] now = now ≡ before
+Sends before (text ∷ texts) now = HandsOn before (joined (text ∷ texts)) now
 
--- The sink took these answers and flushed them, and no call failed.
-pub record Sends (before : SinkState) (texts : List Text) (now : SinkState) : Type 0 where
-  pub taken : now.taken ≡ followed_by before.taken (joined texts)
-  pub flushed : now.flushed ≡ flushed_after before texts now
-  pub well : now.faults ≡ before.faults
+-- These answers are the first of others.
+abbrev pub AreFirstOf : List Text → List Text → Type 0
+AreFirstOf sent texts = (unsent : List Text) × (texts ≡ sent ++ unsent)
 
--- The sink took and flushed the first of these answers, some number of them, and then broke off in the next one.
-pub record BreaksOffIn (before : SinkState) (texts : List Text) (now : SinkState) : Type 0 where
-  pub sent : List Text
+-- These answers are the first of others, and the sink broke off at the next one.
+pub record BreaksOffAfter (sent texts : List Text) (reported now : SinkState) : Type 0 where
   pub next : Text
   pub unsent : List Text
   pub texts_are : texts ≡ sent ++ next ∷ unsent
+  pub breaks : BreaksOff reported next now
+
+-- The sink took and flushed the first of these answers, some number of them, and then broke off at the next one.
+pub record BreaksOffIn (before : SinkState) (texts : List Text) (now : SinkState) : Type 0 where
+  pub sent : List Text
   pub reported : SinkState
   pub sends : Sends before sent reported
-  pub breaks : BreaksOff reported next now
+  pub stops : BreaksOffAfter sent texts reported now
 
 -- The sink took and flushed the first of these answers, some number of them, and none of the others.
 pub record SendsSome (before : SinkState) (texts : List Text) (now : SinkState) : Type 0 where
   pub sent : List Text
-  pub unsent : List Text
-  pub texts_are : texts ≡ sent ++ unsent
+  pub first : AreFirstOf sent texts
   pub sends : Sends before sent now
 
 -- The block after these answers has this number and this fault, and all of them were sent.

@@ -8,8 +8,7 @@ ghost use Rattle.device_core.specs.RunBlocks.{most_bytes};
 ghost use Rattle.engine_ends.specs.Sinks.{SinkState};
 ghost use Rattle.engine_sessions.specs.Sessions.{answer_of};
 ghost use Rattle.engine_sessions.specs.Turns.{due, HasEnded, say_something, Sends, SendsDue, SendsUntil, Turns, TurnFailsBy};
-ghost use Rattle.engine_sessions.specs.Findings.{TurnsFinding};
-ghost use Rattle.engine_sessions.specs.Holding.{IsGoing, BreaksOffAt};
+ghost use Rattle.engine_sessions.specs.Holding.{IsGoing, BreaksOffAt, TurnsFinding};
 
 use crate::answering::Answering;
 use crate::session::{Session, SessionFault};

@@ -1,4 +1,4 @@
-use Rattle.std.proofs.Common.{◌≡◌, ◌&&◌, true, inl, rules, subst, sym}
+use Rattle.std.proofs.Common.{◌≡◌, ◌&&◌, ℕ, true, inl, max, rules, subst, sym, arith}
 use Rattle.devdry.specs.Runs.{DoesAfter, takes_blocks}
 use Rattle.devdry.proofs.running.run_request.Goals as goal
 
@@ -10,4 +10,7 @@ returns-in-Ok g c =
     subst (λ b. DoesAfter b may request c.do_request.result
     (record { input = g.I.Source.shown c.args.input.now; out = g.W.Sink.shown c.args.output.now; err = g.E.Sink.shown c.args.error.now })
     (record { input = g.I.Source.shown c.do_request.new.input; out = g.W.Sink.shown c.do_request.new.output; err = g.E.Sink.shown c.do_request.new.error })) (sym is)
-    (inl (record { err = g.E.Sink.shown c.hand_on.new.sink; hands_on = c.in-Ok.ensures.whole; does = c.do_request.ensures }))
+    (inl (record { err = g.E.Sink.shown c.hand_on.new.sink; hands_on = c.in-Ok.ensures.whole; own = c.do_request.result; runs = c.do_request.ensures; status_is = least_of c.do_request.result }))
+  where
+    least_of : (own : ℕ) → own ≡ max own 0
+    least_of own = omega arith

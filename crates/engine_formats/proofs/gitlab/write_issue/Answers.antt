@@ -1,5 +1,5 @@
 use Rattle.std.proofs.Common.{append_assoc}
-use Rattle.engine_formats.specs.Json.{issue_tokens}
+use Rattle.engine_formats.specs.Tokens.{issue_tokens}
 use Rattle.engine_formats.proofs.gitlab.write_issue.Goals as goal
 
 pub returns-clause-tokens : goal.returns-clause-tokens

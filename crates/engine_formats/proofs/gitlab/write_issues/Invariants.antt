@@ -1,6 +1,6 @@
 use Rattle.std.proofs.Common.{◌≡◌, ◌++◌, take, map, flat_map}
 use Rattle.engine_formats.specs.Diagnostics.{shown}
-use Rattle.engine_formats.specs.Json.{issue_tokens}
+use Rattle.engine_formats.specs.Tokens.{issue_tokens}
 use Rattle.engine_formats.proofs.gitlab.write_issues.Given as goal
 
 abbrev pub invariant-loop-diagnostic : goal.invariant-loop-diagnostic

@@ -1,5 +1,6 @@
 use Rattle.std.proofs.Common.{arith, ◌≡◌, ℕ, ◌≤◌, true, false, subst}
 use Rattle.engine_sessions.specs.Inputs.{most_turns}
+use Rattle.engine_sessions.proofs.Turns.{shown}
 use Rattle.engine_lookups.specs.Inputs.{Turns}
 use Rattle.engine_lookups.specs.Outcomes.{answer_to}
 use Rattle.engine_lookups.proofs.InputLemmas.{AfterTurns, failed, finished, turns_at_start, turns_more, turns_open, used_up}
@@ -20,14 +21,14 @@ returns-in-Err g c = failed _ c.in-Err.fault _ _ _ _ _ _ _ _ c.loop-made.invaria
 pub returns-then-not-more : goal.returns-then-not-more
 returns-then-not-more g c =
     let answer = answer_to c.args.sources (g.L.Lookup.entries c.args.database.now) in
-    let ends = subst (λ m. Turns answer m c.loop-made.held c.turn.new.held (g.R.Source.shown c.loop-made.input) (g.R.Source.shown c.turn.new.input) (g.W.Sink.shown c.loop-made.output) (g.W.Sink.shown c.turn.new.output))
+    let ends = subst (λ m. Turns answer m c.loop-made.held c.turn.new.held (shown (g.R.Source.shown c.loop-made.input) (g.W.Sink.shown c.loop-made.output)) (shown (g.R.Source.shown c.turn.new.input) (g.W.Sink.shown c.turn.new.output)))
     c.if-not-more.true c.in-Ok.ensures.ok in
     finished answer _ _ _ _ _ _ _ _ c.loop-made.invariant ends
 
 pub loop-made-preserved : goal.loop-made-preserved
 loop-made-preserved g c =
     let answer = answer_to c.args.sources (g.L.Lookup.entries c.args.database.now) in
-    let advances = subst (λ m. Turns answer m c.loop-made.held c.turn.new.held (g.R.Source.shown c.loop-made.input) (g.R.Source.shown c.turn.new.input) (g.W.Sink.shown c.loop-made.output) (g.W.Sink.shown c.turn.new.output))
+    let advances = subst (λ m. Turns answer m c.loop-made.held c.turn.new.held (shown (g.R.Source.shown c.loop-made.input) (g.W.Sink.shown c.loop-made.output)) (shown (g.R.Source.shown c.turn.new.input) (g.W.Sink.shown c.turn.new.output)))
     c.if-not-more.false c.in-Ok.ensures.ok in
     turns_more answer _ _ _ _ _ _ _ _ _ c.loop-made.invariant advances
 

@@ -2,7 +2,7 @@ use Rattle.std.proofs.Common.{arith, ◌≡◌, ℕ, ◌≤◌, true, false, sub
 use Rattle.std.proofs.lemmas.Bool.{not-false, not-true}
 use Rattle.engine_sessions.specs.Sessions.{answer_of}
 use Rattle.engine_sessions.specs.Turns.{TurnFailsBy}
-use Rattle.engine_sessions.specs.Findings.{TurnsFinding}
+use Rattle.engine_sessions.specs.Holding.{TurnsFinding}
 use Rattle.engine_sessions.specs.Inputs.{most_turns}
 use Rattle.engine_sessions.proofs.TurnLemmas.{at}
 use Rattle.engine_sessions.proofs.FindingLemmas.{ServedFinding, finding_at_start, finding_failed, finding_finished, finding_more, finding_used_up}

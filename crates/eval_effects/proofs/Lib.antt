@@ -1,5 +1,6 @@
 pub mod Tables
 pub mod Firsts
+pub mod Fields
 pub mod Following
 pub mod Noted
 pub mod Tags

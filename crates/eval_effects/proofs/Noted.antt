@@ -24,7 +24,6 @@ use Rattle.eval_assignments.specs.Assigning.{assigned}
 use Rattle.eval_assignments.specs.Escapes.{escape_of}
 use Rattle.eval_assignments.specs.Finality.{final_target, finally, is_settled}
 use Rattle.eval_assignments.specs.Steps.{emptied, finally_too_long, is_ignored, set_step, step_by, text_rendered, text_set, text_step}
-use Rattle.eval_effects.specs.Effects.{note_left}
 use Rattle.eval_effects.specs.Laws.{ReportsIgnored, ReportsNone, ReportsSkipped, ReportsTooLong, is_skipped, rendered_of}
 
 none_after : (notes : List Note) → slice_get notes (length notes) ≡ None
@@ -36,10 +35,10 @@ one_after [] last = refl
 one_after (note ∷ notes) last = one_after notes last
 
 pub reports_none : ReportsNone
-reports_none s t same = ap (λ notes. option_map (λ (note : Note). note.kind) (slice_get notes (length s.notes))) same ∙ ap (option_map (λ (note : Note). note.kind)) (none_after s.notes)
+reports_none s t same = ap (λ notes. slice_get notes (length s.notes)) same ∙ none_after s.notes
 
 -- a note that follows those that there were
-reported : (kind : NoteKind) (word : Text) (r : Rule) (s t : Scene) → t.notes ≡ s.notes ++ note_about r kind word ∷ [] → note_left (length s.notes) t ≡ Some kind
+reported : (kind : NoteKind) (word : Text) (r : Rule) (s t : Scene) → t.notes ≡ s.notes ++ note_about r kind word ∷ [] → option_map (λ (note : Note). note.kind) (slice_get t.notes (length s.notes)) ≡ Some kind
 reported kind word r s t e =
     ap (λ notes. option_map (λ (note : Note). note.kind) (slice_get notes (length s.notes))) e
     ∙ ap (option_map (λ (note : Note). note.kind)) (one_after s.notes (note_about r kind word))

@@ -1,5 +1,5 @@
 -- What the assignments of a rule did, reported while they are made.
-use Rattle.std.specs.Prelude.{ℕ, if◌then◌else◌, List, [], ◌∷◌, ◌++◌, Option, Some, None, option_map, unwrap_or, codes, slice_get}
+use Rattle.std.specs.Prelude.{if◌then◌else◌, List, [], ◌∷◌, ◌++◌, Option, Some, None, unwrap_or, codes, slice_get}
 use Rattle.text_tables.specs.Texts.{Text}
 use Rattle.rule_types.specs.Rules.{Rule}
 use Rattle.rule_types.specs.declared.part.Assignment.{Assignment}
@@ -16,7 +16,7 @@ use Rattle.eval_assignments.specs.Steps.{set_step}
 use Rattle.eval_effects.specs.Changes.{Snapshot, changes, snapshot}
 use Rattle.eval_effects.specs.Named.{change_key, final_name, rule_place}
 use Rattle.eval_effects.specs.Shown.{joined, shown}
-use Rattle.eval_effects.specs.Since.{Since, since_of}
+use Rattle.eval_effects.specs.Since.{Since}
 
 -- a key, if there is one and it no longer changes
 abbrev pub settled_key : Finals → Option FinalKey → Option FinalKey
@@ -27,18 +27,10 @@ settled_key finals (Some key) = if is_final finals key then Some key else None
 abbrev pub final_text : FinalKey → Rule → Text
 final_text key r = final_name key ++ codes " is final since " ++ rule_place r
 
--- the kind of the note that an assignment left, if it left one: the note after those that there were
-abbrev pub note_left : ℕ → Scene → Option NoteKind
-note_left count s = option_map (λ note. note.kind) (slice_get s.notes count)
-
 -- what an assignment changed, if anything
 abbrev pub changed_text : Change → List Text → Text
 changed_text c [] = change_key c ++ codes " changes nothing"
 changed_text c (text ∷ more) = joined (text ∷ more)
-
--- the note after so many, if there is one
-abbrev pub note_after : ℕ → Scene → Option Note
-note_after count s = slice_get s.notes count
 
 -- what a note of an assignment is reported as
 abbrev pub said_of : Change → NoteKind → Text → List Text
@@ -58,14 +50,14 @@ said_left c None = []
 said_left c (Some note) = said_of c note.kind note.word
 
 -- an assignment that was made or left a note, by what was there before it and the scene after it: what changed, and
--- what was left out
+-- what was left out, by the first note after those that there were
 abbrev pub made_text : Change → Snapshot → Scene → Text
-made_text c was s = changed_text c (changes was s ++ said_left c (note_after was.notes s))
+made_text c was s = changed_text c (changes was s ++ said_left c (slice_get s.notes was.notes))
 
 -- an assignment, by its key if that was final, what was there before it, and the scene after it; a key that no
 -- earlier rule made final has been final since the rule itself
 abbrev pub effect_by : Since → Rule → Change → Option FinalKey → Snapshot → Scene → Text
-effect_by since r c (Some key) was s = final_text key (unwrap_or (since_of since key) r)
+effect_by since r c (Some key) was s = final_text key (unwrap_or (since key) r)
 effect_by since r c None was s = made_text c was s
 
 -- what an assignment of a rule does over a scene

@@ -1,5 +1,5 @@
--- Laws: what the note that an assignment leaves says about it.
-use Rattle.std.specs.Prelude.{◌≡◌, Bool, true, false, length, Option, Some, None}
+-- Laws: since which rule a key is final, and what the note that an assignment leaves says about it.
+use Rattle.std.specs.Prelude.{◌≡◌, Bool, true, false, List, length, slice_get, fold, Option, Some, None, option_map}
 use Rattle.text_bytes.specs.declared.profile.Profile.{Profile}
 use Rattle.text_bytes.specs.declared.profile.Profile.TheVariants.{Manual, Udev}
 use Rattle.text_tables.specs.Texts.{Text}
@@ -12,6 +12,7 @@ use Rattle.eval_rendering.specs.Bounds.{within}
 use Rattle.eval_rendering.specs.Rendering.{render}
 use Rattle.eval_rendering.specs.declared.rendered.Rendered.{Rendered}
 use Rattle.eval_rendering.specs.declared.rendered.Rendered.TheVariants as rendered
+use Rattle.eval_state.specs.declared.finals.Finals.{Finals}
 use Rattle.eval_state.specs.declared.note_kind.NoteKind.{NoteKind}
 use Rattle.eval_state.specs.declared.note_kind.NoteKind.TheVariants.{TextTooLong, NameIgnored, NoDeviceNumber}
 use Rattle.eval_state.specs.declared.scene.Scene.{Scene}
@@ -19,7 +20,12 @@ use Rattle.eval_assignments.specs.Bounds.{most_bytes_of}
 use Rattle.eval_assignments.specs.Escapes.{escape_of, mode_of}
 use Rattle.eval_assignments.specs.Finality.{final_target, is_settled}
 use Rattle.eval_assignments.specs.Steps.{emptied, is_ignored, lacks_number, set_step}
-use Rattle.eval_effects.specs.Effects.{note_left}
+use Rattle.eval_effects.specs.Since.{Since, no_since, since_after}
+
+-- for each key the rule since which it is final, after rules one after another, each with the keys that are final after
+-- it
+abbrev pub since_over : List (Rule × Finals) → Since
+since_over stages = fold (λ since stage. since_after since stage.0 stage.1) no_since stages
 
 -- whether an assignment of a text is skipped: by udev if the device has no number
 abbrev pub is_skipped : Profile → Target → Scene → Bool
@@ -31,13 +37,13 @@ abbrev pub rendered_of : Profile → Rule → AssignOperator → Target → Temp
 rendered_of Manual r o about template s = render template s.state (mode_of Manual about (escape_of r.sets))
 rendered_of Udev r o about template s = within (most_bytes_of about) (render template (emptied o about s).state (mode_of Udev about (escape_of r.sets)))
 
--- the note that an assignment of a text leaves
+-- the kind of the note that an assignment of a text leaves, if it leaves one: the note after those that there were
 abbrev pub note_of : Rule → AssignOperator → Target → Template → Scene → Option NoteKind
-note_of r o about template s = note_left (length s.notes) (set_step r s (record { operator = o; change = change.Text about template }))
+note_of r o about template s = option_map (λ note. note.kind) (slice_get (set_step r s (record { operator = o; change = change.Text about template })).notes (length s.notes))
 
 -- if there are no new notes, none was left
 abbrev pub ReportsNone : Type 0
-ReportsNone = (s t : Scene) → t.notes ≡ s.notes → note_left (length s.notes) t ≡ None
+ReportsNone = (s t : Scene) → t.notes ≡ s.notes → slice_get t.notes (length s.notes) ≡ None
 
 -- an assignment that is skipped is reported as that, unless its key is final
 abbrev pub ReportsSkipped : Type 0

@@ -1,10 +1,10 @@
 //! The assignments of a rule, each reported as it is made.
-ghost use Rattle.std.specs.Prelude.{◌≡◌, ◌++◌, ◌∷◌, [], codes, IfOk, OnOk, OnErr, fold, option_map};
+ghost use Rattle.std.specs.Prelude.{◌≡◌, ◌++◌, ◌∷◌, [], codes, IfOk, OnOk, OnErr, fold, option_map, slice_get};
 ghost use Rattle.eval_state.specs.Scenes.{blank};
 ghost use Rattle.eval_assignments.specs.Steps.{set_step};
 ghost use Rattle.eval_effects.specs.Changes.{changes};
 ghost use Rattle.eval_effects.specs.Named.{change_key};
-ghost use Rattle.eval_effects.specs.Effects.{changed_text, effect, effects, ending, ending_of, final_text, made_text, note_after, said_left, said_of, settled_key};
+ghost use Rattle.eval_effects.specs.Effects.{changed_text, effect, effects, ending, ending_of, final_text, made_text, said_left, said_of, settled_key};
 ghost use Rattle.eval_effects.specs.Shown.{shown};
 
 use crate::changes::push_item_changes;
@@ -43,7 +43,7 @@ fn final_text(alloc: Global, key: FinalKey, rule: &Rule) -> Result<Bytes, AllocE
 
 /// The note after so many, if there is one.
 fn note_after<'s>(count: usize, scene: &'s Scene<'_>) -> Option<&'s Note>
-    ensures { option_map (λ note. note.now) result ≡ note_after count scene.now }
+    ensures { option_map (λ note. note.now) result ≡ slice_get scene.now.notes count }
 {
     scene.notes.as_slice().get(count)
 }

@@ -6,12 +6,11 @@ ghost use Rattle.rule_types.specs.Rules.{Rule};
 ghost use Rattle.eval_state.specs.Finals.{is_final};
 ghost use Rattle.eval_state.specs.declared.finals.FinalKey.{FinalKey};
 ghost use Rattle.eval_state.specs.declared.finals.Finals.{Finals};
-ghost use Rattle.eval_effects.specs.Laws.{ReportsIgnored, ReportsNone, ReportsSkipped, ReportsTooLong};
-ghost use Rattle.eval_effects.specs.Since.{since_of, since_over};
+ghost use Rattle.eval_effects.specs.Laws.{ReportsIgnored, ReportsNone, ReportsSkipped, ReportsTooLong, since_over};
 
 /// A key has been final since the first rule after which it is final.
 pub fn final_since_the_first_rule()
-    ensures { (stages : List (Rule × Finals)) (key : FinalKey) → since_of (since_over stages) key ≡ option_map (λ stage. stage.0) (find (λ stage. is_final stage.1 key) stages) }
+    ensures { (stages : List (Rule × Finals)) (key : FinalKey) → since_over stages key ≡ option_map (λ stage. stage.0) (find (λ stage. is_final stage.1 key) stages) }
 {}
 
 /// The note that an assignment leaves says that its text was too long or its NAME ignored, and for udev that the

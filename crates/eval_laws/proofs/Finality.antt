@@ -22,13 +22,12 @@ use Rattle.eval_rendering.specs.Rendering.{render}
 use Rattle.eval_rendering.specs.declared.rendered.Mode.TheVariants.{Plain}
 use Rattle.eval_rendering.specs.declared.rendered.Rendered.{Rendered}
 use Rattle.eval_rendering.specs.declared.rendered.Rendered.TheVariants as rendered
-use Rattle.eval_state.specs.Finals.{is_final, made_final}
+use Rattle.eval_state.specs.Finals.{is_final}
 use Rattle.eval_state.specs.Runs.{runs_after}
 use Rattle.eval_state.specs.Scenes.{noted, noted_key}
 use Rattle.eval_state.specs.declared.note_kind.NoteKind.TheVariants.{NameIgnored, NoDeviceNumber}
 use Rattle.eval_state.specs.declared.finals.FinalKey.{FinalKey}
 use Rattle.eval_state.specs.declared.finals.FinalKey.TheVariants as key
-use Rattle.eval_state.specs.declared.finals.Finals.{Finals}
 use Rattle.eval_state.specs.declared.scene.Scene.{Scene}
 use Rattle.eval_assignments.specs.declared.escapes.Escape.{Escape}
 use Rattle.eval_assignments.specs.Assigning.{assigned, with_option}
@@ -39,26 +38,8 @@ use Rattle.eval_assignments.specs.Runs.{made_before, run_made, run_of}
 use Rattle.eval_assignments.specs.Steps.{emptied, finally_too_long, is_ignored, lacks_number, run_step, set_step, step_by, text_given, text_rendered, text_set, text_step}
 use Rattle.eval_laws.specs.AssignmentLaws.{Keeps, may_be_final}
 use Rattle.eval_laws.proofs.KeptParts.{At, Kept, value, event, Other, itself, same_finally, through}
+use Rattle.eval_laws.proofs.MadeFinal.{made_final_stays}
 use Rattle.eval_laws.proofs.Untouched.{assigned_finals, emptied_finals, made_finals, run_same, step_same}
-
--- a key that is made final leaves the others final
-made_final_stays : (k j : FinalKey) (f : Finals) → is_final f k ≡ true → is_final (made_final f j) k ≡ true
-made_final_stays key.Owner key.Owner f h = refl
-made_final_stays key.Owner j f h = h
-made_final_stays key.Group key.Group f h = refl
-made_final_stays key.Group j f h = h
-made_final_stays key.Mode key.Mode f h = refl
-made_final_stays key.Mode j f h = h
-made_final_stays key.Name key.Name f h = refl
-made_final_stays key.Name j f h = h
-made_final_stays key.Symlink key.Symlink f h = refl
-made_final_stays key.Symlink j f h = h
-made_final_stays key.Run key.Run f h = refl
-made_final_stays key.Run j f h = h
-made_final_stays key.Priority key.Priority f h = refl
-made_final_stays key.Priority j f h = h
-made_final_stays key.Watch key.Watch f h = refl
-made_final_stays key.Watch j f h = h
 
 -- a key is final in a scene
 abbrev Final : FinalKey → Scene → Type 0

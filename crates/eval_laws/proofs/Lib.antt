@@ -19,6 +19,7 @@ pub mod Runs
 pub mod Gone
 pub mod KeptParts
 pub mod Untouched
+pub mod MadeFinal
 pub mod Finality
 pub mod Keeping
 pub mod Unmatched

@@ -20,7 +20,7 @@ use Rattle.rule_types.specs.declared.rule_option.RuleOption.TheVariants as optio
 use Rattle.rule_types.specs.declared.types.RunType.{RunType}
 use Rattle.rule_types.specs.Rules.{Rule}
 use Rattle.device_core.specs.Values.{NumberValue}
-use Rattle.eval_state.specs.Finals.{is_final, made_final}
+use Rattle.eval_state.specs.Finals.{is_final}
 use Rattle.eval_state.specs.Runs.{RunValue, runs_after, same_run, with_run}
 use Rattle.eval_state.specs.Scenes.{noted, noted_key}
 use Rattle.eval_state.specs.declared.finals.FinalKey.{FinalKey}
@@ -47,21 +47,12 @@ use Rattle.eval_assignments.specs.declared.escapes.Escape.TheVariants as escape
 use Rattle.eval_laws.specs.AssignmentLaws.{Keeps, may_be_final}
 use Rattle.eval_laws.specs.Making.{is_made, is_taken_too_long, is_template_made, is_text_made}
 use Rattle.eval_laws.proofs.Finality.{Lasts, fold_keeps, lasts_on, step_event, step_keeps}
+use Rattle.eval_laws.proofs.MadeFinal.{made_is_final}
 use Rattle.eval_laws.proofs.Untouched.{assigned_finals, emptied_finals, made_finals}
-
-made_is_final : (k : FinalKey) (f : Finals) → is_final (made_final f k) k ≡ true
-made_is_final key.Owner f = refl
-made_is_final key.Group f = refl
-made_is_final key.Mode f = refl
-made_is_final key.Name f = refl
-made_is_final key.Symlink f = refl
-made_is_final key.Run f = refl
-made_is_final key.Priority f = refl
-made_is_final key.Watch f = refl
 
 -- a key that is settled is final
 settled_is : (o : Option FinalKey) (k : FinalKey) (s : Scene) → o ≡ Some k → is_final (settled o s).finals k ≡ true
-settled_is o k s e = ap (λ (j : Option FinalKey). is_final (settled j s).finals k) e ∙ made_is_final k s.finals
+settled_is o k s e = ap (λ (j : Option FinalKey). is_final (settled j s).finals k) e ∙ made_is_final s.finals k
 
 -- an assignment to a key that is not final is made
 open_step : (r : Rule) (s : Scene) (a : Assignment) → is_settled (final_key s.state.event.profile a.change) s.finals ≡ false

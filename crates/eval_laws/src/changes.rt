@@ -16,10 +16,11 @@ ghost use Rattle.rule_types.specs.declared.types.RunType.{RunType};
 ghost use Rattle.rule_types.specs.Rules.{Rule};
 ghost use Rattle.rule_types.specs.Topics.{mode_of};
 ghost use Rattle.device_core.specs.Values.{NumberValue};
-ghost use Rattle.eval_state.specs.Finals.{is_final};
+ghost use Rattle.eval_state.specs.Finals.{is_final, made_final};
 ghost use Rattle.eval_state.specs.Runs.{RunValue, runs_after, same_run};
 ghost use Rattle.eval_state.specs.declared.finals.FinalKey.{FinalKey};
 ghost use Rattle.eval_state.specs.declared.finals.FinalKey.TheVariants as key;
+ghost use Rattle.eval_state.specs.declared.finals.Finals.{Finals};
 ghost use Rattle.eval_state.specs.declared.scene.Scene.{Scene};
 ghost use Rattle.eval_rendering.specs.Bounds.{within};
 ghost use Rattle.eval_rendering.specs.Rendering.{render};
@@ -61,6 +62,12 @@ pub fn a_final_assignment_makes_its_key_final()
     ensures made { (r : Rule) (a : Assignment) (s : Scene) (k : FinalKey) → a.operator ≡ AssignFinal → final_key s.state.event.profile a.change ≡ Some k → is_final s.finals k ≡ false → is_final (set_step r s a).finals k ≡ is_made r a.change s }
     ensures later { (r : Rule) (a : Assignment) (s : Scene) (k : FinalKey) → a.operator ≡ AssignFinal → final_key s.state.event.profile a.change ≡ Some k → is_made r a.change s ≡ true → (other : Rule) (sets : List Assignment) → Keeps k (set_step r s a) (fold (set_step other) (set_step r s a) sets) }
     ensures others { (r : Rule) (a : Assignment) (s : Scene) → a.operator ≢ AssignFinal → (set_step r s a).finals ≡ s.finals }
+{}
+
+/// A key that is made final is final, and each other key is as it was.
+pub fn a_key_becomes_final_alone()
+    ensures made { (finals : Finals) (k : FinalKey) → is_final (made_final finals k) k ≡ true }
+    ensures others { (finals : Finals) (k other : FinalKey) → k ≢ other → is_final (made_final finals k) other ≡ is_final finals other }
 {}
 
 /// An assignment of OWNER, GROUP or MODE that is made leaves its text, and with the empty text none. With udev the

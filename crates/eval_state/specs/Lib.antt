@@ -5,6 +5,7 @@ pub mod Start
 pub mod Notes
 pub mod Runs
 pub mod Finals
+pub mod KeyTables
 pub mod Ran
 pub mod Scenes
 pub mod Sameness

@@ -2,6 +2,8 @@
 ghost use Rattle.std.specs.Prelude.{◌≡◌};
 ghost use Rattle.eval_state.specs.Finals.{is_final, made_final, no_finals};
 
+use std::marker::Model;
+
 /// A key that `:=` makes final, as udev(7) has it: no later rule of any file changes it.
 #[derive(Clone, Copy, Debug, PartialEq, Eq)]
 pub enum FinalKey {
@@ -26,14 +28,47 @@ pub enum FinalKey {
 /// Which keys no longer change.
 #[derive(Clone, Copy, Debug, PartialEq, Eq)]
 pub struct Finals {
-    pub owner: bool,
-    pub group: bool,
-    pub mode: bool,
-    pub name: bool,
-    pub symlink: bool,
-    pub run: bool,
-    pub priority: bool,
-    pub watch: bool,
+    owner: bool,
+    group: bool,
+    mode: bool,
+    name: bool,
+    symlink: bool,
+    run: bool,
+    priority: bool,
+    watch: bool,
+}
+
+impl Model for Finals {
+    ghost use Rattle.std.specs.Coded.{coded_bool};
+    ghost use Rattle.eval_state.specs.Finals as keys;
+    ghost use Rattle.eval_state.specs.KeyTables.{by_key_code, kept_for};
+    ghost use Rattle.eval_state.specs.declared.finals.FinalKey.TheVariants as key;
+
+    ghost Value = { keys.Finals };
+
+    ghost coded = { by_key_code coded_bool };
+
+    ghost view = { λ f. kept_for (record {
+      owner = f.owner;
+      group = f.group;
+      mode = f.mode;
+      name = f.name;
+      symlink = f.symlink;
+      run = f.run;
+      priority = f.priority;
+      watch = f.watch;
+    }) };
+
+    ghost inverse = { λ f. record {
+      owner = f key.Owner;
+      group = f key.Group;
+      mode = f key.Mode;
+      name = f key.Name;
+      symlink = f key.Symlink;
+      run = f key.Run;
+      priority = f key.Priority;
+      watch = f key.Watch;
+    } };
 }
 
 impl Finals {

@@ -65,13 +65,13 @@ too_long_noted r kind (Some done) s = s
 
 -- whether a rule goes on: with `==` if its act was done, with `!=` if it was not. An act whose text is too long was not
 -- done for the manual, and stops the rule for udev.
-abbrev pub proceeds : Profile → MatchOperator → (done : Option Bool) → Bool
-proceeds profile operator (Some done) = agrees operator done
-proceeds Manual operator None = agrees operator false
-proceeds Udev operator None = false
+abbrev pub proceeds : (done : Option Bool) → Profile → MatchOperator → Bool
+proceeds (Some done) profile operator = agrees operator done
+proceeds None Manual operator = agrees operator false
+proceeds None Udev operator = false
 
 -- the scene after an act of a rule, and whether the rule goes on; what was changed stays either way
 unfoldable pub act_step : List Entry → Rule → Act → Scene → Scene × Bool
 act_step entries r act s =
     let after = performed entries r act.kind s in
-    (too_long_noted r act.kind after.1 after.0, proceeds s.state.event.profile act.operator after.1)
+    (too_long_noted r act.kind after.1 after.0, proceeds after.1 s.state.event.profile act.operator)

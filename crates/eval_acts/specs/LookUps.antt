@@ -25,9 +25,13 @@ pub record Candidate : Type 0 where
 
 -- A device, by its properties DEVTYPE and MODALIAS. For udev the type is what the kernel calls it, and a device
 -- without a modalias may have one that is made up.
+abbrev pub candidate_with : Profile → DeviceValue → (devtype modalias : Option Text) → Candidate
+candidate_with Manual device devtype modalias = record { subsystem = device.subsystem; devtype = devtype; modalias = modalias }
+candidate_with Udev device devtype modalias = record { subsystem = device.subsystem; devtype = type_of device; modalias = option_or modalias (made_up device) }
+
+-- a device by these properties
 abbrev pub candidate : Profile → DeviceValue → List Pair → Candidate
-candidate Manual device env = record { subsystem = device.subsystem; devtype = value_of env (codes "DEVTYPE"); modalias = value_of env (codes "MODALIAS") }
-candidate Udev device env = record { subsystem = device.subsystem; devtype = type_of device; modalias = option_or (value_of env (codes "MODALIAS")) (made_up device) }
+candidate profile device env = candidate_with profile device (value_of env (codes "DEVTYPE")) (value_of env (codes "MODALIAS"))
 
 -- the devices of an event, nearest first: the event device with its current properties, then the parents with their own
 abbrev pub candidates : State → List Candidate

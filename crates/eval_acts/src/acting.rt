@@ -1,5 +1,5 @@
 //! An act of a rule, by what it does.
-ghost use Rattle.std.specs.Prelude.{◌≡◌, [], Option, IfOk, OnOk, OnErr, option_copied};
+ghost use Rattle.std.specs.Prelude.{◌≡◌, [], IfOk, OnOk, OnErr, option_copied};
 ghost use Rattle.rule_types.specs.declared.types.ImportType.TheVariants.{File};
 ghost use Rattle.eval_rendering.specs.Bounds.{most_command_bytes, most_path_bytes};
 ghost use Rattle.eval_state.specs.Scenes.{blank};
@@ -220,8 +220,8 @@ fn note_too_long(
 
 /// Whether a rule goes on: with `==` if its act was done, with `!=` if it was not. An act whose text is too long was not
 /// done for the manual, and stops the rule for udev.
-fn proceeds(profile: Profile, operator: MatchOperator, done: Option<bool>) -> bool
-    ensures { result ≡ proceeds profile operator done }
+fn proceeds(done: Option<bool>, profile: Profile, operator: MatchOperator) -> bool
+    ensures { result ≡ proceeds done profile operator }
 {
     match (done, profile) {
         (Some(done), _) => agrees(operator, done),
@@ -283,7 +283,7 @@ pub fn act_step<L: Lookup>(
 {
     let profile = scene.state.event.event().profile();
     match act_noted(alloc, rule, &act.kind, database, scene) {
-        Ok(done) => Ok(proceeds(profile, act.operator, done)),
+        Ok(done) => Ok(proceeds(done, profile, act.operator)),
         Err(refused) => {
             scene.clear(alloc);
             Err(refused)

@@ -1,8 +1,7 @@
 //! The devices whose modaliases `hwdb` looks up.
-ghost use Rattle.std.specs.Prelude.{◌≡◌, ◌≤◌, List, codes, length, map, option_map, IfOk};
+ghost use Rattle.std.specs.Prelude.{◌≡◌, ◌≤◌, length, map, option_map, IfOk};
 ghost use Rattle.std.specs.Option.{option_or};
-ghost use Rattle.text_tables.specs.Pairs.{Pair, value_of};
-ghost use Rattle.eval_acts.specs.LookUps.{candidate, candidates, count_before_usb, is_last, is_usb_device, is_wanted, modaliases_by, modaliases_in, modaliases_of, udev_modaliases_of};
+ghost use Rattle.eval_acts.specs.LookUps.{candidate, candidate_with, candidates, count_before_usb, is_last, is_usb_device, is_wanted, modaliases_by, modaliases_in, modaliases_of, udev_modaliases_of};
 ghost use Rattle.eval_acts.specs.UsbModalias.{made_up};
 
 use crate::hwdb::copy_of;
@@ -53,7 +52,7 @@ fn candidate_with<'a>(
     devtype: Option<&'a [u8]>,
     modalias: Option<&[u8]>,
 ) -> Result<Candidate<'a>, AllocError>
-    ensures { IfOk result (λ c. (env : List Pair) → option_map (λ t. t.now) devtype.entry ≡ value_of env (codes "DEVTYPE") → option_map (λ t. t.now) modalias.entry ≡ value_of env (codes "MODALIAS") → c ≡ candidate profile device.now env) }
+    ensures { IfOk result (λ c. c ≡ candidate_with profile device.now (option_map (λ t. t.now) devtype.entry) (option_map (λ t. t.now) modalias.entry)) }
 {
     match profile {
         Profile::Manual => Ok(Candidate {

@@ -1,5 +1,5 @@
 //! The options of the builtin `hwdb`.
-ghost use Rattle.std.specs.Prelude.{◌≡◌, IfOk, Some, None, option_map, map, is_some, if◌then◌else◌};
+ghost use Rattle.std.specs.Prelude.{◌≡◌, IfOk, Some, None, nat_lt, length, option_map, map, is_some, if◌then◌else◌};
 ghost use Rattle.std.specs.List.{list_any};
 ghost use Rattle.std.specs.Option.{option_and_then};
 ghost use Rattle.text_bytes.specs.Texts.{first};
@@ -101,7 +101,14 @@ fn operands<'a>(alloc: Global, words: &'a [Bytes]) -> Result<Vec<&'a [u8]>, Allo
     Ok(found)
 }
 
-/// The one of these words that is looked up, if there is one.
+/// Whether there are several of these words.
+fn are_several(words: &[&[u8]]) -> bool
+    ensures { result ≡ nat_lt 1 (length (map (λ t. t.now) words.now)) }
+{
+    words.len() > 1
+}
+
+/// The first of these words, if there is one.
 fn first_of(words: &[&[u8]]) -> Option<&[u8]>
     ensures { option_map (λ t. t.now) result ≡ first (map (λ t. t.now) words.now) }
 {
@@ -154,7 +161,7 @@ pub(crate) fn hwdb_of(alloc: Global, words: &[Bytes]) -> Result<Option<Hwdb>, Al
     ensures { IfOk result (λ hwdb. hwdb ≡ hwdb_of words.now) }
 {
     let others = operands(alloc, words)?;
-    if has_unknown(words) || others.len() > 1 {
+    if has_unknown(words) || are_several(&others) {
         return Ok(None);
     }
     let Some(filter) = pattern_of(alloc, last_value(FILTER, words))? else {

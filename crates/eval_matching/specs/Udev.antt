@@ -1,5 +1,5 @@
 -- How udev of systemd 257 compares, where this differs from the manual.
-use Rattle.std.specs.Prelude.{ℕ, ◌-◌, Bool, false, not, ◌||◌, if◌then◌else◌, List, length, map, take, slice_get, Option, Some, None, codes}
+use Rattle.std.specs.Prelude.{◌-◌, Bool, false, not, ◌||◌, if◌then◌else◌, List, length, map, take, slice_get, Option, Some, None, codes}
 use Rattle.std.specs.Char.{to_ascii_lowercase}
 use Rattle.std.specs.List.{prefix_len, suffix_len, list_any}
 use Rattle.text_bytes.specs.Names.{is_whitespace}

@@ -109,7 +109,7 @@ fn are_several(words: &[&[u8]]) -> bool
 }
 
 /// The first of these words, if there is one.
-fn first_of(words: &[&[u8]]) -> Option<&[u8]>
+fn first_of<'a>(words: &[&'a [u8]]) -> Option<&'a [u8]>
     ensures { option_map (λ t. t.now) result ≡ first (map (λ t. t.now) words.now) }
 {
     match words.split_first() {

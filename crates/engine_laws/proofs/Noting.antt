@@ -21,10 +21,12 @@ use Rattle.eval_state.specs.Scenes.{with_env}
 use Rattle.eval_state.specs.declared.note_kind.NoteKind.TheVariants.{NoAnswer, TextTooLong}
 use Rattle.eval_state.specs.declared.notes.Note.{Note}
 use Rattle.eval_state.specs.declared.scene.Scene.{Scene}
+use Rattle.eval_rendering.specs.Bounds.{most_command_bytes}
 use Rattle.eval_rendering.specs.declared.rendered.Rendered.{Rendered}
 use Rattle.eval_rendering.specs.declared.rendered.Rendered.TheVariants as rendered
-use Rattle.eval_acts.specs.ActTexts.{import_text, most_command_bytes, program_text}
-use Rattle.eval_acts.specs.Acts.{act_step, on_text, performed, program_imported}
+use Rattle.eval_acts.specs.ActTexts.{import_text, program_text}
+use Rattle.eval_acts.specs.Acts.{act_step, imported, on_text, performed}
+use Rattle.eval_acts.specs.Inner.{left}
 use Rattle.eval_acts.specs.Imports.{from_answer_or_noted, from_program}
 use Rattle.eval_acts.specs.Printed.{printed_properties}
 use Rattle.eval_acts.specs.Questions.{answered_by_block, answered_or_noted, result_of, with_result}
@@ -41,7 +43,7 @@ by_answer r command (Some answer) s = by (answer.status == 0)
     by false = sym (append-nil (filter is_no_answer s.notes))
 
 pub by_text : (r : Rule) (d : ActKind) (text : Rendered) (s : Scene)
-    → filter is_no_answer (on_text r d (answered_by_block r) text (with_result [] s)).0.notes ≡ filter is_no_answer s.notes ++ map (note_about r NoAnswer) (unanswered s.state.event text)
+    → filter is_no_answer (left r d (on_text (answered_by_block r) text (with_result [] s))).notes ≡ filter is_no_answer s.notes ++ map (note_about r NoAnswer) (unanswered s.state.event text)
 by_text r d (rendered.Text command) s = by_answer r command (value_of s.state.event.programs command) (with_result [] s)
 by_text r d rendered.TooLong s = filter-append is_no_answer s.notes (note_about r TextTooLong (word_of_key (key_of_act_kind d) (attribute_of_act_kind d)) ∷ [])
 
@@ -50,7 +52,7 @@ pub program_noted : (es : List Entry) (r : Rule) (act : Act) (template : Parts) 
     → filter is_no_answer (act_step es r act s).0.notes ≡ filter is_no_answer s.notes ++ map (note_about r NoAnswer) (act_asks act.kind s.state)
 unfolding act_step
 program_noted es r act template s is =
-    ap (λ (d : ActKind). filter is_no_answer (performed es r d s).0.notes) is
+    ap (λ (d : ActKind). filter is_no_answer (left r d (performed es r d s)).notes) is
     ∙ by_text r (act_kind.Program template) (program_text template s.state) s
     ∙ ap (λ (d : ActKind). filter is_no_answer s.notes ++ map (note_about r NoAnswer) (act_asks d s.state)) (sym is)
 
@@ -64,20 +66,20 @@ by_print r command (Some answer) s = by (answer.status == 0)
     by false = sym (append-nil (filter is_no_answer s.notes))
 
 by_command : (r : Rule) (d : ActKind) (text : Rendered) (s : Scene)
-    → filter is_no_answer (on_text r d (from_program r) text s).0.notes ≡ filter is_no_answer s.notes ++ map (note_about r NoAnswer) (unanswered s.state.event text)
+    → filter is_no_answer (left r d (on_text (from_program r) text s)).notes ≡ filter is_no_answer s.notes ++ map (note_about r NoAnswer) (unanswered s.state.event text)
 by_command r d (rendered.Text command) s = by_print r command (value_of s.state.event.programs command) s
 by_command r d rendered.TooLong s = filter-append is_no_answer s.notes (note_about r TextTooLong (word_of_key (key_of_act_kind d) (attribute_of_act_kind d)) ∷ [])
 
-by_profile : (p : Profile) (r : Rule) (d : ActKind) (template : Parts) (s : Scene) → p ≡ Udev
-    → filter is_no_answer (program_imported p r d (import.Program template) template s).0.notes ≡ filter is_no_answer s.notes ++ map (note_about r NoAnswer) (import_asks p (import.Program template) s.state)
-by_profile Manual r d template s udev = absurd (cc)
-by_profile Udev r d template s udev = by_command r d (import_text most_command_bytes template s.state) s
+by_profile : (p : Profile) (es : List Entry) (r : Rule) (d : ActKind) (template : Parts) (s : Scene) → p ≡ Udev
+    → filter is_no_answer (left r d (imported p es r (import.Program template) s)).notes ≡ filter is_no_answer s.notes ++ map (note_about r NoAnswer) (import_asks p (import.Program template) s.state)
+by_profile Manual es r d template s udev = absurd (cc)
+by_profile Udev es r d template s udev = by_command r d (import_text most_command_bytes template s.state) s
 
 -- of udev's IMPORT{program} it is the same
 pub import_noted : (es : List Entry) (r : Rule) (act : Act) (template : Parts) (s : Scene) → act.kind ≡ act_kind.Import (import.Program template) → s.state.event.profile ≡ Udev
     → filter is_no_answer (act_step es r act s).0.notes ≡ filter is_no_answer s.notes ++ map (note_about r NoAnswer) (act_asks act.kind s.state)
 unfolding act_step
 import_noted es r act template s is udev =
-    ap (λ (d : ActKind). filter is_no_answer (performed es r d s).0.notes) is
-    ∙ by_profile s.state.event.profile r (act_kind.Import (import.Program template)) template s udev
+    ap (λ (d : ActKind). filter is_no_answer (left r d (performed es r d s)).notes) is
+    ∙ by_profile s.state.event.profile es r (act_kind.Import (import.Program template)) template s udev
     ∙ ap (λ (d : ActKind). filter is_no_answer s.notes ++ map (note_about r NoAnswer) (act_asks d s.state)) (sym is)

@@ -17,9 +17,7 @@ use Rattle.builtin_usb.specs.UsbId.{usb_id}
 use Rattle.device_core.specs.Values.{DeviceValue, EventValue}
 use Rattle.rule_parts.specs.Builtins.{builtin_name}
 use Rattle.rule_parts.specs.declared.builtins.Builtin.TheVariants.{InputId, NetId, PathId, UsbId}
-use Rattle.rule_templates.specs.Template.{Parts as Template}
 use Rattle.rule_types.specs.Names.{import_name}
-use Rattle.rule_types.specs.WrittenParts.{type_of}
 use Rattle.rule_types.specs.Written.{attribute_of_target, key_of_target}
 use Rattle.rule_types.specs.WrittenParts.{attribute_of_act_kind, key_of_act_kind}
 use Rattle.rule_types.specs.declared.keys.Key.TheVariants as key
@@ -38,6 +36,7 @@ use Rattle.rule_types.specs.declared.part.Comparison.{Comparison}
 use Rattle.rule_types.specs.declared.part.ActKind.{ActKind}
 use Rattle.rule_types.specs.declared.part.Import.{Import}
 use Rattle.rule_types.specs.declared.part.Import.TheVariants as import
+use Rattle.rule_types.specs.declared.types.ImportType.TheVariants as import_of
 use Rattle.rule_types.specs.declared.part.PlainMatch.{PlainMatch}
 use Rattle.rule_types.specs.declared.part.UpMatch.{UpMatch}
 use Rattle.rule_types.specs.Rules.{Rule}
@@ -54,8 +53,8 @@ use Rattle.eval_state.specs.declared.finals.FinalKey.TheVariants as final
 use Rattle.eval_state.specs.declared.note_kind.NoteKind.{NoteKind}
 use Rattle.eval_state.specs.declared.note_kind.NoteKind.TheVariants.{AttributeNotRead, BadHwdbArguments, BuiltinNeeds, BuiltinNotRun, ImportNotRun, NameIgnored, SysctlNotRead, TestNotMade, TextTooLong}
 use Rattle.eval_state.specs.declared.scene.Scene.{Scene}
-use Rattle.eval_acts.specs.ActTexts.{most_path_bytes}
-use Rattle.eval_acts.specs.Acts.{imported, on_text, parent_imported, unrun, program_imported}
+use Rattle.eval_acts.specs.Acts.{imported, on_text}
+use Rattle.eval_acts.specs.Inner.{left}
 use Rattle.eval_acts.specs.BuiltinRuns.{looked_up, most_set, need_noted, need_word, outcome_set, outcome_taken, path_id_run, properties_size, usb_id_run, with_maker}
 use Rattle.eval_acts.specs.Imports.{builtin_run, from_parent, run_builtin}
 use Rattle.eval_acts.specs.Questions.{tested, tested_at, tested_by, tested_by_udev}
@@ -66,6 +65,7 @@ use Rattle.eval_matching.specs.Attributes.{is_not_read}
 use Rattle.eval_assignments.specs.Assigning.{assigned, with_option}
 use Rattle.eval_assignments.specs.Escapes.{escape_of}
 use Rattle.eval_assignments.specs.Finality.{final_key, final_target, finally, is_settled}
+use Rattle.eval_assignments.specs.Inner.{given_by}
 use Rattle.eval_assignments.specs.Properties.{property_added, property_changed, property_joined}
 use Rattle.eval_assignments.specs.Runs.{run_of}
 use Rattle.eval_assignments.specs.Steps.{is_ignored, set_step, step_by, text_given, text_set}
@@ -89,7 +89,7 @@ either s false x y h k = k
 
 -- ---- acts
 
-pub text_quiet : (r : Rule) (d : ActKind) (act : Text → Scene → Scene × Bool) → ((t : Text) (s : Scene) → Quiet s (act t s).0) → (text : Rendered) (s : Scene) → Quiet s (on_text r d act text s).0
+pub text_quiet : (r : Rule) (d : ActKind) (act : Text → Scene → Scene × Bool) → ((t : Text) (s : Scene) → Quiet s (act t s).0) → (text : Rendered) (s : Scene) → Quiet s (left r d (on_text act text s))
 text_quiet r d act h (rendered.Text t) s = h t s
 text_quiet r d act h rendered.TooLong s = note_quiet r TextTooLong (word_of_key (key_of_act_kind d) (attribute_of_act_kind d)) s refl
 
@@ -144,25 +144,17 @@ parent_quiet : (names : _) (d : Option DeviceValue) (s : Scene) → Quiet s (fro
 parent_quiet names None s = refl
 parent_quiet names (Some d) s = refl
 
-parents_quiet : (p : Profile) (r : Rule) (d : ActKind) (names : _) (text : Text) (s : Scene) → p ≡ Manual → Quiet s (parent_imported p r d names text s).0
-parents_quiet Manual r d names text s m = parent_quiet names (device_at s.state.event 1) s
-parents_quiet Udev r d names text s m = absurd (cc)
+built_quiet : (es : List Entry) (r : Rule) (d : ActKind) (text : Rendered) (s : Scene) → Quiet s (left r d (on_text (run_builtin es r) text s))
+built_quiet es r d text s = text_quiet r d (run_builtin es r) (λ c u. builtin_quiet es r c _ u) text s
 
-unrun_quiet : (p : Profile) (r : Rule) (d : ActKind) (i : Import) (most : ℕ) (template : Template) (s : Scene) → p ≡ Manual → Quiet s (unrun p r d i most template s).0
-unrun_quiet Manual r d i most template s m = note_quiet r ImportNotRun _ s refl
-unrun_quiet Udev r d i most template s m = absurd (cc)
-
-program_quiet : (p : Profile) (r : Rule) (d : ActKind) (i : Import) (template : Template) (s : Scene) → p ≡ Manual → Quiet s (program_imported p r d i template s).0
-program_quiet Manual r d i template s m = note_quiet r ImportNotRun _ s refl
-program_quiet Udev r d i template s m = absurd (cc)
-
-pub imported_quiet : (es : List Entry) (r : Rule) (d : ActKind) (i : Import) (s : Scene) → s.state.event.profile ≡ Manual → Quiet s (imported es r d i s).0
-imported_quiet es r d (import.Builtin t) s m = text_quiet r d (run_builtin es r) (λ c u. builtin_quiet es r c _ u) _ s
-imported_quiet es r d (import.Parent names text) s m = parents_quiet s.state.event.profile r d names text s m
-imported_quiet es r d (import.Program t) s m = program_quiet s.state.event.profile r d (import.Program t) t s m
-imported_quiet es r d (import.File t) s m = unrun_quiet s.state.event.profile r d (import.File t) most_path_bytes t s m
-imported_quiet es r d (import.Cmdline name) s m = note_quiet r ImportNotRun (import_name (type_of (import.Cmdline name))) s refl
-imported_quiet es r d (import.Db name) s m = note_quiet r ImportNotRun (import_name (type_of (import.Db name))) s refl
+pub imported_quiet : (p : Profile) (es : List Entry) (r : Rule) (d : ActKind) (i : Import) (s : Scene) → p ≡ Manual → Quiet s (left r d (imported p es r i s))
+imported_quiet Manual es r d (import.Builtin t) s m = built_quiet es r d _ s
+imported_quiet Manual es r d (import.Parent names text) s m = parent_quiet names (device_at s.state.event 1) s
+imported_quiet Manual es r d (import.Program t) s m = note_quiet r ImportNotRun (import_name import_of.Program) s refl
+imported_quiet Manual es r d (import.File t) s m = note_quiet r ImportNotRun (import_name import_of.File) s refl
+imported_quiet Manual es r d (import.Cmdline name) s m = note_quiet r ImportNotRun (import_name import_of.Cmdline) s refl
+imported_quiet Manual es r d (import.Db name) s m = note_quiet r ImportNotRun (import_name import_of.Db) s refl
+imported_quiet Udev es r d i s m = absurd (cc)
 
 -- ---- matches
 
@@ -226,18 +218,18 @@ changed_quiet : (r : Rule) (o : AssignOperator) (name t : Text) (s : Scene) → 
 changed_quiet r Add name t s = added_quiet r name t s
 changed_quiet r o name t s = refl
 
-assigned_quiet : (r : Rule) (e : _) (o : AssignOperator) (about : Target) (written t : Text) (s : Scene) → Quiet s (assigned Manual r e o about written t s)
+assigned_quiet : (r : Rule) (e : _) (o : AssignOperator) (about : Target) (written t : Text) (s : Scene) → Quiet s (assigned Manual about (given_by r e o about written) t s)
 assigned_quiet r e o (target.Env name) written t s = changed_quiet r o name t s
 assigned_quiet r e o about written t s = refl
 
-given_quiet : (r : Rule) (e : _) (o : AssignOperator) (about : Target) (written t : Text) (s : Scene) → Quiet s (text_given Manual r e o about written t s)
+given_quiet : (r : Rule) (e : _) (o : AssignOperator) (about : Target) (written t : Text) (s : Scene) → Quiet s (text_given Manual (given_by r e o about written) t s)
 given_quiet r e o about written t s = by (is_ignored Manual about s)
   where
-    by : (b : Bool) → Quiet s (cond b (noted r NameIgnored t s) (finally o (final_target about) (assigned Manual r e o about written t s)))
+    by : (b : Bool) → Quiet s (cond b (noted r NameIgnored t s) (finally o (final_target about) (assigned Manual about (given_by r e o about written) t s)))
     by true = note_quiet r NameIgnored t s refl
-    by false = finally_quiet o (final_target about) s (assigned Manual r e o about written t s) (assigned_quiet r e o about written t s)
+    by false = finally_quiet o (final_target about) s (assigned Manual about (given_by r e o about written) t s) (assigned_quiet r e o about written t s)
 
-set_text_quiet : (r : Rule) (e : _) (o : AssignOperator) (about : Target) (written : Text) (text : Rendered) (s : Scene) → Quiet s (text_set Manual r e o about written text s)
+set_text_quiet : (r : Rule) (e : _) (o : AssignOperator) (about : Target) (written : Text) (text : Rendered) (s : Scene) → Quiet s (text_set Manual (given_by r e o about written) text s)
 set_text_quiet r e o about written (rendered.Text t) s = given_quiet r e o about written t s
 set_text_quiet r e o about written rendered.TooLong s = note_quiet r TextTooLong (word_of_key (key_of_target about) (attribute_of_target about)) s refl
 

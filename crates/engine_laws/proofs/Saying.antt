@@ -24,6 +24,7 @@ use Rattle.eval_state.specs.declared.scene.Scene.{Scene}
 use Rattle.eval_state.specs.declared.state.State.{State}
 use Rattle.eval_acts.specs.ActTexts.{program_text, test_text}
 use Rattle.eval_acts.specs.Acts.{act_step, imported, on_text, performed}
+use Rattle.eval_acts.specs.Inner.{left}
 use Rattle.eval_acts.specs.Questions.{tested}
 use Rattle.eval_rules.specs.Idle.{is_idle_by}
 use Rattle.eval_rules.specs.Jumps.{is_passed, run, sought_after}
@@ -68,14 +69,14 @@ words_are : (r : Rule) (asked : List Text) → map word (map (note_about r NoAns
 words_are r [] = refl
 words_are r (command ∷ asked) = ap (λ words. word_of command ∷ words) (words_are r asked)
 
-act_kind_says : (es : List Entry) (r : Rule) (d : ActKind) (s : Scene) → s.state.event.profile ≡ Manual → Says s (act_asks d s.state) (performed es r d s).0
-act_kind_says es r (act_kind.Test mask t) s m = quiet_says s (on_text r (act_kind.Test mask t) (tested r mask) (test_text t s.state) s).0 (text_quiet r (act_kind.Test mask t) (tested r mask) (tested_quiet r mask) (test_text t s.state) s)
+act_kind_says : (es : List Entry) (r : Rule) (d : ActKind) (s : Scene) → s.state.event.profile ≡ Manual → Says s (act_asks d s.state) (left r d (performed es r d s))
+act_kind_says es r (act_kind.Test mask t) s m = quiet_says s (left r (act_kind.Test mask t) (on_text (tested r mask) (test_text t s.state) s)) (text_quiet r (act_kind.Test mask t) (tested r mask) (tested_quiet r mask) (test_text t s.state) s)
 act_kind_says es r (act_kind.Program t) s m =
     ap (map word) (by_text r (act_kind.Program t) (program_text t s.state) s)
     ∙ map-append word (filter is_no_answer s.notes) (map (note_about r NoAnswer) (act_asks (act_kind.Program t) s.state))
     ∙ ap (λ words. no_answers s ++ words) (words_are r (act_asks (act_kind.Program t) s.state))
 act_kind_says es r (act_kind.Import i) s m =
-    quiet_says s (imported es r (act_kind.Import i) i s).0 (imported_quiet es r (act_kind.Import i) i s m)
+    quiet_says s (left r (act_kind.Import i) (imported s.state.event.profile es r i s)) (imported_quiet s.state.event.profile es r (act_kind.Import i) i s m)
     ∙ ap (λ asked. no_answers s ++ map word_of asked) (sym (ap (λ p. import_asks p i s.state) m))
 
 act_says : (es : List Entry) (r : Rule) (act : Act) (s : Scene) → s.state.event.profile ≡ Manual → Says s (act_asks act.kind s.state) (act_step es r act s).0

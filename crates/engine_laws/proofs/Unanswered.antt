@@ -19,9 +19,10 @@ use Rattle.rule_types.specs.Rules.{Rule}
 use Rattle.eval_state.specs.Scenes.{start}
 use Rattle.eval_state.specs.declared.scene.Scene.{Scene}
 use Rattle.eval_state.specs.declared.state.State.{State}
+use Rattle.eval_rendering.specs.Bounds.{most_command_bytes}
 use Rattle.eval_rendering.specs.declared.rendered.Rendered.{Rendered}
 use Rattle.eval_rendering.specs.declared.rendered.Rendered.TheVariants as rendered
-use Rattle.eval_acts.specs.ActTexts.{import_text, most_command_bytes, program_text}
+use Rattle.eval_acts.specs.ActTexts.{import_text, program_text}
 use Rattle.eval_acts.specs.Acts.{act_step}
 use Rattle.eval_assignments.proofs.Staying.{Stays}
 use Rattle.eval_rules.specs.Idle.{act_kind_counts}

@@ -2,14 +2,15 @@
 ghost use Rattle.std.specs.Prelude.{◌≡◌, OnOk, is_some};
 ghost use Rattle.text_tables.specs.Pairs.{value_of};
 ghost use Rattle.rule_types.specs.declared.part.ActKind.TheVariants as act_kind;
+ghost use Rattle.eval_rendering.specs.Bounds.{most_command_bytes};
 ghost use Rattle.eval_rendering.specs.declared.rendered.Rendered.TheVariants as rendered;
-ghost use Rattle.eval_acts.specs.ActTexts.{import_text, most_command_bytes};
+ghost use Rattle.eval_acts.specs.ActTexts.{import_text};
 ghost use Rattle.engine_questions.specs.Questions.{act_asks, import_asks, unanswered, with_asked};
 
 use crate::commands::can_be_asked;
 use device_core::Event;
-use eval_acts::{MAX_COMMAND_BYTES, import_text, program_text};
-use eval_rendering::Rendered;
+use eval_acts::{import_text, program_text};
+use eval_rendering::{MAX_COMMAND_BYTES, Rendered};
 use eval_state::State;
 use rule_templates::Template;
 use rule_types::{ActKind, Import};

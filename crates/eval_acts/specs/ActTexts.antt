@@ -1,6 +1,6 @@
 -- The texts of acts, rendered: by the manual each may have as many bytes as any text, and for udev as many as it has
 -- room for.
-use Rattle.std.specs.Prelude.{ℕ, Bool, ◌||◌, nat_le, if◌then◌else◌, [], ◌∷◌, ◌++◌, length, codes}
+use Rattle.std.specs.Prelude.{ℕ, Bool, ◌||◌, nat_le, if◌then◌else◌, [], length}
 use Rattle.text_bytes.specs.Names.{slash}
 use Rattle.text_bytes.specs.Texts.{begins_with}
 use Rattle.text_bytes.specs.declared.profile.Profile.{Profile}
@@ -9,28 +9,16 @@ use Rattle.text_tables.specs.Texts.{Text}
 use Rattle.device_core.specs.Values.{DeviceValue}
 use Rattle.rule_templates.specs.Template.{Parts as Template}
 use Rattle.eval_state.specs.declared.state.State.{State}
-use Rattle.eval_rendering.specs.Bounds.{within}
+use Rattle.eval_rendering.specs.Bounds.{most_command_bytes, most_path_bytes, sysfs_path, within}
 use Rattle.eval_rendering.specs.Rendering.{render, rendered_as_udev}
 use Rattle.eval_rendering.specs.declared.rendered.Mode.TheVariants.{Plain}
 use Rattle.eval_rendering.specs.declared.rendered.Rendered.{Rendered}
 use Rattle.eval_rendering.specs.declared.rendered.Rendered.TheVariants as rendered
 
--- the most bytes that udev has room for in a path, and in the value of IMPORT{parent}
-abbrev pub most_path_bytes : ℕ
-most_path_bytes = 1023
-
--- the most bytes that it has room for in a command
-abbrev pub most_command_bytes : ℕ
-most_command_bytes = 16383
-
 -- a rendered text, of which udev takes at most so many bytes
 abbrev pub within_by : Profile → ℕ → Rendered → Rendered
 within_by Manual most text = text
 within_by Udev most text = within most text
-
--- a path in the folder of a device in sysfs
-abbrev pub sysfs_path : DeviceValue → Text → Text
-sysfs_path device path = codes "/sys" ++ device.path ++ slash ∷ path
 
 -- whether udev has room for a path with the folder of a device before it; an absolute one is looked at as it is
 abbrev pub has_room : DeviceValue → Text → Bool

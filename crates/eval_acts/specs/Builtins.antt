@@ -1,5 +1,5 @@
 -- What a builtin's command asks for.
-use Rattle.std.specs.Prelude.{if◌then◌else◌, List, [], ◌∷◌, Option, Some, None, codes}
+use Rattle.std.specs.Prelude.{if◌then◌else◌, List, [], ◌∷◌, drop, Option, Some, None, codes}
 use Rattle.text_bytes.specs.declared.profile.Profile.{Profile}
 use Rattle.text_bytes.specs.declared.profile.Profile.TheVariants.{Manual, Udev}
 use Rattle.text_tables.specs.Texts.{Text, same_text}
@@ -28,15 +28,11 @@ abbrev pub builtin_of : Option (List Text) → Builtin
 builtin_of None = asked.BadArguments
 builtin_of (Some words) = builtin_of_words words
 
--- what the words of `hwdb` ask for as udev has them, the first of which is its name
-abbrev pub hwdb_of_words : List Text → Builtin
-hwdb_of_words [] = hwdb_asked (udev_hwdb_of [])
-hwdb_of_words (name ∷ words) = hwdb_asked (udev_hwdb_of words)
-
--- what a command asks for, by the builtin of udev that it means; one that means none is kept as it is
+-- what a command asks for, by the builtin of udev that it means; the first word of `hwdb` is its name. A command that
+-- means none is kept as it is.
 abbrev pub builtin_meant : Option known.Builtin → Text → Builtin
 builtin_meant None text = asked.Other text
-builtin_meant (Some known_as.Hwdb) text = hwdb_of_words (udev_words text)
+builtin_meant (Some known_as.Hwdb) text = hwdb_asked (udev_hwdb_of (drop 1 (udev_words text)))
 builtin_meant (Some known_as.InputId) text = asked.InputId
 builtin_meant (Some known_as.NetId) text = asked.NetId
 builtin_meant (Some known_as.PathId) text = asked.PathId

@@ -9,8 +9,7 @@ use Rattle.text_core.specs.declared.item.Item.{Item}
 use Rattle.hwdb_lookup.specs.declared.entry.Entry.{Entry}
 use Rattle.device_core.specs.Values.{AnswerValue, DeviceValue}
 use Rattle.rule_types.specs.Names.{import_name}
-use Rattle.rule_types.specs.WrittenParts.{type_of}
-use Rattle.rule_types.specs.declared.part.Import.{Import}
+use Rattle.rule_types.specs.declared.types.ImportType.{ImportType}
 use Rattle.rule_types.specs.Rules.{Rule}
 use Rattle.eval_acts.specs.Builtins.{builtin}
 use Rattle.eval_acts.specs.BuiltinRuns.{input_id_run, net_id_run, path_id_run, usb_id_run}
@@ -72,5 +71,5 @@ abbrev pub from_program : Rule → Text → Scene → Scene × Bool
 from_program r command s = from_answer_or_noted r command (value_of s.state.event.programs command) s
 
 -- an IMPORT of a type that is never run
-abbrev pub not_run : Rule → Import → Scene → Scene × Bool
-not_run r import s = (noted r ImportNotRun (import_name (type_of import)) s, false)
+abbrev pub not_run : Rule → ImportType → Scene → Scene × Bool
+not_run r type s = (noted r ImportNotRun (import_name type) s, false)

@@ -11,3 +11,4 @@ pub mod ActTexts
 pub mod Printed
 pub mod UsbModalias
 pub mod UdevHwdb
+pub mod Inner

@@ -33,13 +33,11 @@ candidate_with Udev device devtype modalias = record { subsystem = device.subsys
 abbrev pub candidate : Profile → DeviceValue → List Pair → Candidate
 candidate profile device env = candidate_with profile device (value_of env (codes "DEVTYPE")) (value_of env (codes "MODALIAS"))
 
--- a parent, by its own properties
-abbrev pub parent : Profile → DeviceValue → Candidate
-parent profile device = candidate profile device device.env
-
--- the devices of an event, nearest first: the event device with its current properties, then the parents
+-- the devices of an event, nearest first: the event device with its current properties, then the parents with their own
 abbrev pub candidates : State → List Candidate
-candidates state = candidate state.event.profile state.event.device state.env ∷ map (parent state.event.profile) state.event.parents
+candidates state =
+    candidate state.event.profile state.event.device state.env
+    ∷ map (λ parent. candidate state.event.profile parent parent.env) state.event.parents
 
 -- whether a device has a subsystem: the one that is named, if any
 abbrev pub is_wanted : Option Text → Candidate → Bool

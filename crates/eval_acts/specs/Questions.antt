@@ -41,15 +41,11 @@ abbrev pub tested_by : Profile → Rule → Text → Scene → Scene × Bool
 tested_by Manual r path s = (s, is_some (value_of s.state.event.device.attrs path))
 tested_by Udev r path s = tested_by_udev (named path) r path s
 
--- TEST by whether it has a mask: it is not made with one, nor with an absolute path
-abbrev pub tested_unless : Rule → Bool → Text → Scene → Scene × Bool
-tested_unless r has_mask path s =
-    if has_mask || begins_with slash path then (noted r TestNotMade path s, false)
+-- TEST of a path: it is not made with a mask, nor with an absolute path
+abbrev pub tested : Rule → (mask : Option Text) → (path : Text) → Scene → Scene × Bool
+tested r mask path s =
+    if is_some mask || begins_with slash path then (noted r TestNotMade path s, false)
     else tested_by s.state.event.profile r path s
-
--- TEST of a path
-abbrev pub tested : Rule → Option Text → Text → Scene → Scene × Bool
-tested r mask path s = tested_unless r (is_some mask) path s
 
 -- the result that a program's text makes; udev replaces bytes in it as in an attribute in a text
 abbrev pub result_of : Profile → Text → Text

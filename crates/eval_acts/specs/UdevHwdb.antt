@@ -1,12 +1,12 @@
 -- The words after `hwdb` as udev takes them, one after another: options as getopt_long(3) reads them, and a modalias.
-use Rattle.std.specs.Prelude.{ℕ, true, not, ◌==◌, ◌||◌, nat_eq, List, [], ◌∷◌, drop, find, fold, Option, Some, None, is_some, option_map, codes, false, if◌then◌else◌}
+use Rattle.std.specs.Prelude.{ℕ, true, not, ◌==◌, ◌||◌, nat_eq, List, [], ◌∷◌, drop, find, fold, Option, Some, None, is_some, codes, false, if◌then◌else◌}
 use Rattle.std.specs.List.{starts_with}
-use Rattle.std.specs.Option.{option_or}
+use Rattle.std.specs.Option.{option_and_then, option_or}
 use Rattle.text_bytes.specs.Names.{equals, minus}
 use Rattle.text_bytes.specs.Texts.{begins_with, is_empty, split_once}
 use Rattle.text_tables.specs.Texts.{Text}
 use Rattle.eval_state.specs.Texts.{or_empty}
-use Rattle.eval_acts.specs.Hwdb.{filter_of}
+use Rattle.eval_acts.specs.Hwdb.{is_bad_filter, pattern_of}
 use Rattle.eval_acts.specs.declared.hwdb.Hwdb.{Hwdb}
 use Rattle.eval_acts.specs.declared.udev_hwdb.Given.{Given}
 use Rattle.eval_acts.specs.declared.udev_hwdb.HwdbOption.{HwdbOption}
@@ -49,18 +49,14 @@ with_option Device value g = record g { wanted = None; device = Some value }
 with_option Subsystem value g = record g { wanted = None; subsystem = Some value }
 with_option Prefix value g = record g { wanted = None; prefix = Some value }
 
--- an option waits for its value, which is the next word
-abbrev pub waiting : HwdbOption → Given → Given
-waiting known g = record g { wanted = Some known }
-
 -- a word that is not an option: the first one is the modalias, and others are skipped
 abbrev pub with_word : Text → Given → Given
 with_word word g = record g { modalias = option_or g.modalias (Some word) }
 
--- an option, if there is one by its name, and the value after its `=`, if there is a `=`
-abbrev pub named_given : Option HwdbOption → Option Text → Given → Given
+-- an option, if there is one by its name, and its value; without a value here it waits for the next word
+abbrev pub named_given : Option HwdbOption → (value : Option Text) → Given → Given
 named_given None value g = g
-named_given (Some known) None g = waiting known g
+named_given (Some known) None g = record g { wanted = Some known }
 named_given (Some known) (Some value) g = with_option known value g
 
 -- an option's name, perhaps with `=` and a value, cut at the first `=`
@@ -70,13 +66,12 @@ cut_given text (Some cut) g = named_given (option_named cut.0) (Some cut.1) g
 
 -- what follows `--` in a word: nothing, and no option comes after it; or an option's name
 abbrev pub long_given : Text → Given → Given
-long_given [] g = record g { is_ended = true }
-long_given (b ∷ text) g = cut_given (b ∷ text) (split_once equals (b ∷ text)) g
+long_given text g = if is_empty text then record g { is_ended = true } else cut_given text (split_once equals text) g
 
 -- an option, if there is one by its letter: the rest of the word is its value, or the next word if nothing is left; a letter that is not an option is skipped
 abbrev pub letter_given : Option HwdbOption → (rest : Text) → (skipped : Given) → Given → Given
 letter_given None rest skipped g = skipped
-letter_given (Some known) rest skipped g = if is_empty rest then waiting known g else with_option known rest g
+letter_given (Some known) rest skipped g = named_given (Some known) (if is_empty rest then None else Some rest) g
 
 -- the letters after `-` in a word
 abbrev pub letters_given : Text → Given → Given
@@ -104,8 +99,8 @@ took g word = word_given g.wanted word g
 -- what the words ask for; nothing if they name another device than the event's, which is not looked at, or if the filter is not a pattern
 abbrev pub asked_by : Given → Option Hwdb
 asked_by g =
-    if is_some g.device then None
-    else option_map (λ keys. record { subsystem = g.subsystem; prefix = or_empty g.prefix; filter = keys; modalias = g.modalias }) (filter_of g.filter)
+    if is_some g.device || is_bad_filter g.filter then None
+    else Some (record { subsystem = g.subsystem; prefix = or_empty g.prefix; filter = option_and_then pattern_of g.filter; modalias = g.modalias })
 
 -- what the words after `hwdb` ask for
 unfoldable pub udev_hwdb_of : List Text → Option Hwdb

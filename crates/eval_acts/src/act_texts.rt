@@ -5,18 +5,12 @@ ghost use Rattle.eval_rendering.specs.declared.rendered.Mode.TheVariants.{Plain}
 ghost use Rattle.eval_acts.specs.ActTexts.{has_room, import_text, names_text, path_by, program_text, test_text, with_room, within_by};
 
 use device_core::Device;
-use eval_rendering::{Mode, Rendered, render, render_text};
+use eval_rendering::{MAX_COMMAND_BYTES, MAX_PATH_BYTES, Mode, Rendered, render, render_text};
 use eval_state::State;
 use rule_templates::Template;
 use std::alloc::{AllocError, Global};
 use std::mem::replace;
 use text_bytes::{Bytes, Profile, begins_with};
-
-/// The most bytes that udev has room for in a path, and in the value of IMPORT{parent}.
-pub const MAX_PATH_BYTES: usize = 1023;
-
-/// The most bytes that udev has room for in a command.
-pub const MAX_COMMAND_BYTES: usize = 16383;
 
 /// A rendered text, of which udev takes at most so many bytes.
 fn within_by(profile: Profile, most: usize, text: Rendered) -> Rendered

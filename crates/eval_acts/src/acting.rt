@@ -1,58 +1,42 @@
 //! An act of a rule, by what it does.
-ghost use Rattle.std.specs.Prelude.{◌≡◌, [], IfOk, OnErr, option_copied};
+ghost use Rattle.std.specs.Prelude.{◌≡◌, [], IfOk, OnOk, OnErr, option_copied};
+ghost use Rattle.rule_types.specs.declared.types.ImportType.TheVariants.{File};
+ghost use Rattle.eval_rendering.specs.Bounds.{most_command_bytes, most_path_bytes};
 ghost use Rattle.eval_state.specs.Scenes.{blank};
-ghost use Rattle.eval_acts.specs.ActTexts.{import_text, most_command_bytes, names_text, program_text, test_text};
-ghost use Rattle.eval_acts.specs.Acts.{act_step, from_parent_by, imported, on_text, parent_imported, performed, program_imported, too_long, unrun};
+ghost use Rattle.eval_acts.specs.ActTexts.{import_text, names_text, program_text, test_text};
+ghost use Rattle.eval_acts.specs.Acts.{act_step, from_parent_by, imported, on_text, performed, proceeds, too_long_noted};
 ghost use Rattle.eval_acts.specs.Imports.{from_program, not_run, run_builtin};
 ghost use Rattle.eval_acts.specs.Questions.{answered_by_block, tested, with_result};
 
-use crate::act_texts::{
-    MAX_COMMAND_BYTES, MAX_PATH_BYTES, import_text, names_text, program_text, test_text,
-};
-use crate::came::Came;
+use crate::act_texts::{import_text, names_text, program_text, test_text};
 use crate::imports::{import_named, import_parent, import_printed, not_run, run_builtin};
 use crate::questions::{ask, clear_result, look_for};
-use eval_rendering::Rendered;
+use eval_matching::agrees;
+use eval_rendering::{MAX_COMMAND_BYTES, MAX_PATH_BYTES, Rendered};
 use eval_state::Scene;
 use hwdb_lookup::Lookup;
 use rule_templates::Template;
-use rule_types::{Act, ActKind, Import, Rule};
+use rule_types::{Act, ActKind, Import, ImportType, MatchOperator, Rule};
 use std::alloc::{AllocError, Global};
 use text_bytes::{Bytes, Profile};
-use text_core::Choice;
-
-/// Notes that the text of an act is too long, so that it is not done.
-fn too_long(
-    alloc: Global,
-    rule: &Rule,
-    act_kind: &ActKind,
-    scene: &mut Scene<'_>,
-) -> Result<Came, AllocError>
-    ensures scene { IfOk result (λ came. (scene.new, came) ≡ too_long rule.now act_kind.now scene.old) }
-    ensures refused { OnErr result (scene.new.state.event ≡ scene.old.state.event) }
-{
-    scene.note_too_long(alloc, rule, act_kind.key(), act_kind.attribute())?;
-    Ok(Came::too_long(scene.state.event.event().profile()))
-}
 
 /// TEST.
 fn test(
     alloc: Global,
     rule: &Rule,
-    act_kind: &ActKind,
     mask: Option<&Bytes>,
     template: &Template,
     scene: &mut Scene<'_>,
-) -> Result<Came, AllocError>
-    ensures scene { IfOk result (λ came. (scene.new, came) ≡ on_text rule.now act_kind.now (tested rule.now (option_copied mask.entry)) (test_text template.now scene.old.state) scene.old) }
+) -> Result<Option<bool>, AllocError>
+    ensures scene { IfOk result (λ done. (scene.new, done) ≡ on_text (tested rule.now (option_copied mask.entry)) (test_text template.now scene.old.state) scene.old) }
     ensures refused { OnErr result (scene.new.state.event ≡ scene.old.state.event) }
 {
     match test_text(alloc, template, &scene.state)? {
         Rendered::Text(path) => {
-            let done = look_for(alloc, rule, mask.is_some(), path.as_slice(), scene)?;
-            Ok(Came::Tried(done))
+            let done = look_for(alloc, rule, mask, path.as_slice(), scene)?;
+            Ok(Some(done))
         }
-        Rendered::TooLong => too_long(alloc, rule, act_kind, scene),
+        Rendered::TooLong => Ok(None),
     }
 }
 
@@ -60,18 +44,17 @@ fn test(
 fn program(
     alloc: Global,
     rule: &Rule,
-    act_kind: &ActKind,
     template: &Template,
     scene: &mut Scene<'_>,
-) -> Result<Came, AllocError>
-    ensures scene { IfOk result (λ came. (scene.new, came) ≡ on_text rule.now act_kind.now (answered_by_block rule.now) (program_text template.now scene.old.state) (with_result [] scene.old)) }
+) -> Result<Option<bool>, AllocError>
+    ensures scene { IfOk result (λ done. (scene.new, done) ≡ on_text (answered_by_block rule.now) (program_text template.now scene.old.state) (with_result [] scene.old)) }
     ensures refused { OnErr result (scene.new.state.event ≡ scene.old.state.event) }
 {
     let text = program_text(alloc, template, &mut scene.state)?;
     clear_result(alloc, scene);
     match text {
-        Rendered::Text(command) => Ok(Came::Tried(ask(alloc, rule, command.as_slice(), scene)?)),
-        Rendered::TooLong => too_long(alloc, rule, act_kind, scene),
+        Rendered::Text(command) => Ok(Some(ask(alloc, rule, command.as_slice(), scene)?)),
+        Rendered::TooLong => Ok(None),
     }
 }
 
@@ -79,185 +62,188 @@ fn program(
 fn builtin<L: Lookup>(
     alloc: Global,
     rule: &Rule,
-    act_kind: &ActKind,
     template: &Template,
     database: &L,
     scene: &mut Scene<'_>,
-) -> Result<Came, AllocError>
-    ensures scene { IfOk result (λ came. (scene.new, came) ≡ on_text rule.now act_kind.now (run_builtin (L.entries database.now) rule.now) (import_text most_command_bytes template.now scene.old.state) scene.old) }
+) -> Result<Option<bool>, AllocError>
+    ensures scene { IfOk result (λ done. (scene.new, done) ≡ on_text (run_builtin (L.entries database.now) rule.now) (import_text most_command_bytes template.now scene.old.state) scene.old) }
     ensures refused { OnErr result (scene.new.state.event ≡ scene.old.state.event) }
 {
     match import_text(alloc, MAX_COMMAND_BYTES, template, &scene.state)? {
         Rendered::Text(command) => {
             let done = run_builtin(alloc, rule, command.as_slice(), database, scene)?;
-            Ok(Came::Tried(done))
+            Ok(Some(done))
         }
-        Rendered::TooLong => too_long(alloc, rule, act_kind, scene),
+        Rendered::TooLong => Ok(None),
     }
 }
 
 /// IMPORT{parent} for udev.
 fn parent_named(
     alloc: Global,
-    rule: &Rule,
-    act_kind: &ActKind,
     text: &[u8],
     scene: &mut Scene<'_>,
-) -> Result<Came, AllocError>
-    ensures scene { IfOk result (λ came. (scene.new, came) ≡ on_text rule.now act_kind.now from_parent_by (names_text text.now scene.old.state) scene.old) }
+) -> Result<Option<bool>, AllocError>
+    ensures scene { IfOk result (λ done. (scene.new, done) ≡ on_text from_parent_by (names_text text.now scene.old.state) scene.old) }
     ensures refused { OnErr result (scene.new.state.event ≡ scene.old.state.event) }
 {
     match names_text(alloc, text, &scene.state)? {
-        Rendered::Text(names) => Ok(Came::Tried(import_named(alloc, names.as_slice(), scene)?)),
-        Rendered::TooLong => too_long(alloc, rule, act_kind, scene),
+        Rendered::Text(names) => Ok(Some(import_named(alloc, names.as_slice(), scene)?)),
+        Rendered::TooLong => Ok(None),
     }
 }
 
-/// IMPORT{parent}, by its value read as the manual has it and as it is written.
-fn parent(
-    alloc: Global,
-    rule: &Rule,
-    act_kind: &ActKind,
-    names: &Choice,
-    text: &[u8],
-    scene: &mut Scene<'_>,
-) -> Result<Came, AllocError>
-    ensures scene { IfOk result (λ came. (scene.new, came) ≡ parent_imported scene.old.state.event.profile rule.now act_kind.now names.now text.now scene.old) }
-    ensures refused { OnErr result (scene.new.state.event ≡ scene.old.state.event) }
-{
-    match scene.state.event.event().profile() {
-        Profile::Manual => Ok(Came::Tried(import_parent(alloc, names, scene)?)),
-        Profile::Udev => parent_named(alloc, rule, act_kind, text, scene),
-    }
-}
-
-/// IMPORT{program} of udev's.
+/// IMPORT{program} for udev.
 fn program_answered(
     alloc: Global,
     rule: &Rule,
-    act_kind: &ActKind,
     template: &Template,
     scene: &mut Scene<'_>,
-) -> Result<Came, AllocError>
-    ensures scene { IfOk result (λ came. (scene.new, came) ≡ on_text rule.now act_kind.now (from_program rule.now) (import_text most_command_bytes template.now scene.old.state) scene.old) }
+) -> Result<Option<bool>, AllocError>
+    ensures scene { IfOk result (λ done. (scene.new, done) ≡ on_text (from_program rule.now) (import_text most_command_bytes template.now scene.old.state) scene.old) }
     ensures refused { OnErr result (scene.new.state.event ≡ scene.old.state.event) }
 {
     match import_text(alloc, MAX_COMMAND_BYTES, template, &scene.state)? {
         Rendered::Text(command) => {
             let done = import_printed(alloc, rule, command.as_slice(), scene)?;
-            Ok(Came::Tried(done))
+            Ok(Some(done))
         }
-        Rendered::TooLong => too_long(alloc, rule, act_kind, scene),
+        Rendered::TooLong => Ok(None),
     }
 }
 
-/// IMPORT{program}, which by the manual is never run.
-fn import_program(
+/// IMPORT{file} for udev, which renders its path. It is never run.
+fn file_named(
     alloc: Global,
     rule: &Rule,
-    act_kind: &ActKind,
-    from: &Import,
     template: &Template,
     scene: &mut Scene<'_>,
-) -> Result<Came, AllocError>
-    ensures scene { IfOk result (λ came. (scene.new, came) ≡ program_imported scene.old.state.event.profile rule.now act_kind.now from.now template.now scene.old) }
+) -> Result<Option<bool>, AllocError>
+    ensures scene { IfOk result (λ done. (scene.new, done) ≡ on_text (λ path. not_run rule.now File) (import_text most_path_bytes template.now scene.old.state) scene.old) }
     ensures refused { OnErr result (scene.new.state.event ≡ scene.old.state.event) }
 {
-    match scene.state.event.event().profile() {
-        Profile::Manual => Ok(Came::Tried(not_run(alloc, rule, from, scene)?)),
-        Profile::Udev => program_answered(alloc, rule, act_kind, template, scene),
+    match import_text(alloc, MAX_PATH_BYTES, template, &scene.state)? {
+        Rendered::Text(_) => Ok(Some(not_run(alloc, rule, ImportType::File, scene)?)),
+        Rendered::TooLong => Ok(None),
     }
 }
 
-/// An IMPORT that is never run, by its value, for udev.
-fn unrun_value(
+/// IMPORT by the manual, by where it takes properties from.
+fn import_manual<L: Lookup>(
     alloc: Global,
     rule: &Rule,
-    act_kind: &ActKind,
-    from: &Import,
-    text: Rendered,
-    scene: &mut Scene<'_>,
-) -> Result<Came, AllocError>
-    ensures scene { IfOk result (λ came. (scene.new, came) ≡ on_text rule.now act_kind.now (λ t. not_run rule.now from.now) text scene.old) }
-    ensures refused { OnErr result (scene.new.state.event ≡ scene.old.state.event) }
-{
-    match text {
-        Rendered::Text(_) => Ok(Came::Tried(not_run(alloc, rule, from, scene)?)),
-        Rendered::TooLong => too_long(alloc, rule, act_kind, scene),
-    }
-}
-
-/// An IMPORT that is never run; udev nevertheless renders its value, which may have so many bytes.
-fn unrun(
-    alloc: Global,
-    rule: &Rule,
-    act_kind: &ActKind,
-    from: &Import,
-    most: usize,
-    template: &Template,
-    scene: &mut Scene<'_>,
-) -> Result<Came, AllocError>
-    ensures scene { IfOk result (λ came. (scene.new, came) ≡ unrun scene.old.state.event.profile rule.now act_kind.now from.now most template.now scene.old) }
-    ensures refused { OnErr result (scene.new.state.event ≡ scene.old.state.event) }
-{
-    match scene.state.event.event().profile() {
-        Profile::Manual => Ok(Came::Tried(not_run(alloc, rule, from, scene)?)),
-        Profile::Udev => {
-            let text = import_text(alloc, most, template, &scene.state)?;
-            unrun_value(alloc, rule, act_kind, from, text, scene)
-        }
-    }
-}
-
-/// IMPORT, by where it takes properties from.
-fn import<L: Lookup>(
-    alloc: Global,
-    rule: &Rule,
-    act_kind: &ActKind,
     from: &Import,
     database: &L,
     scene: &mut Scene<'_>,
-) -> Result<Came, AllocError>
-    ensures scene { IfOk result (λ came. (scene.new, came) ≡ imported (L.entries database.now) rule.now act_kind.now from.now scene.old) }
+) -> Result<Option<bool>, AllocError>
+    ensures scene { IfOk result (λ done. (scene.new, done) ≡ imported Profile.Manual (L.entries database.now) rule.now from.now scene.old) }
     ensures refused { OnErr result (scene.new.state.event ≡ scene.old.state.event) }
 {
     match from {
-        Import::Builtin(template) => builtin(alloc, rule, act_kind, template, database, scene),
-        Import::Parent(names, text) => {
-            parent(alloc, rule, act_kind, names, text.as_slice(), scene)
-        }
-        Import::Program(template) => import_program(alloc, rule, act_kind, from, template, scene),
-        Import::File(template) => {
-            unrun(alloc, rule, act_kind, from, MAX_PATH_BYTES, template, scene)
-        }
-        Import::Cmdline(_) => Ok(Came::Tried(not_run(alloc, rule, from, scene)?)),
-        Import::Db(_) => Ok(Came::Tried(not_run(alloc, rule, from, scene)?)),
+        Import::Builtin(template) => builtin(alloc, rule, template, database, scene),
+        Import::Parent(names, _) => Ok(Some(import_parent(alloc, names, scene)?)),
+        other => Ok(Some(not_run(alloc, rule, other.import_type(), scene)?)),
     }
 }
 
-/// Does what an act asks for, and returns what became of it.
+/// IMPORT for udev, by where it takes properties from.
+fn import_udev<L: Lookup>(
+    alloc: Global,
+    rule: &Rule,
+    from: &Import,
+    database: &L,
+    scene: &mut Scene<'_>,
+) -> Result<Option<bool>, AllocError>
+    ensures scene { IfOk result (λ done. (scene.new, done) ≡ imported Profile.Udev (L.entries database.now) rule.now from.now scene.old) }
+    ensures refused { OnErr result (scene.new.state.event ≡ scene.old.state.event) }
+{
+    match from {
+        Import::Builtin(template) => builtin(alloc, rule, template, database, scene),
+        Import::Parent(_, text) => parent_named(alloc, text.as_slice(), scene),
+        Import::Program(template) => program_answered(alloc, rule, template, scene),
+        Import::File(template) => file_named(alloc, rule, template, scene),
+        other => Ok(Some(not_run(alloc, rule, other.import_type(), scene)?)),
+    }
+}
+
+/// IMPORT.
+fn import<L: Lookup>(
+    alloc: Global,
+    rule: &Rule,
+    from: &Import,
+    database: &L,
+    scene: &mut Scene<'_>,
+) -> Result<Option<bool>, AllocError>
+    ensures scene { IfOk result (λ done. (scene.new, done) ≡ imported scene.old.state.event.profile (L.entries database.now) rule.now from.now scene.old) }
+    ensures refused { OnErr result (scene.new.state.event ≡ scene.old.state.event) }
+{
+    match scene.state.event.event().profile() {
+        Profile::Manual => import_manual(alloc, rule, from, database, scene),
+        Profile::Udev => import_udev(alloc, rule, from, database, scene),
+    }
+}
+
+/// Does what an act asks for, and returns whether it was done; `None` if its text is too long.
 fn perform<L: Lookup>(
     alloc: Global,
     rule: &Rule,
     act_kind: &ActKind,
     database: &L,
     scene: &mut Scene<'_>,
-) -> Result<Came, AllocError>
-    ensures scene { IfOk result (λ came. (scene.new, came) ≡ performed (L.entries database.now) rule.now act_kind.now scene.old) }
+) -> Result<Option<bool>, AllocError>
+    ensures scene { IfOk result (λ done. (scene.new, done) ≡ performed (L.entries database.now) rule.now act_kind.now scene.old) }
     ensures refused { OnErr result (scene.new.state.event ≡ scene.old.state.event) }
 {
     match act_kind {
-        ActKind::Test(mask, template) => test(
-            alloc,
-            rule,
-            act_kind,
-            mask.as_ref(),
-            template,
-            scene,
-        ),
-        ActKind::Program(template) => program(alloc, rule, act_kind, template, scene),
-        ActKind::Import(from) => import(alloc, rule, act_kind, from, database, scene),
+        ActKind::Test(mask, template) => test(alloc, rule, mask.as_ref(), template, scene),
+        ActKind::Program(template) => program(alloc, rule, template, scene),
+        ActKind::Import(from) => import(alloc, rule, from, database, scene),
     }
+}
+
+/// Leaves a note on the text of an act, if it is too long.
+fn note_too_long(
+    alloc: Global,
+    rule: &Rule,
+    act_kind: &ActKind,
+    done: Option<bool>,
+    scene: &mut Scene<'_>,
+) -> Result<(), AllocError>
+    ensures scene { OnOk result (scene.new ≡ too_long_noted rule.now act_kind.now done scene.old) }
+    ensures refused { OnErr result (scene.new.state.event ≡ scene.old.state.event) }
+{
+    match done {
+        Some(_) => Ok(()),
+        None => scene.note_too_long(alloc, rule, act_kind.key(), act_kind.attribute()),
+    }
+}
+
+/// Whether a rule goes on: with `==` if its act was done, with `!=` if it was not. An act whose text is too long was not
+/// done for the manual, and stops the rule for udev.
+fn proceeds(done: Option<bool>, profile: Profile, operator: MatchOperator) -> bool
+    ensures { result ≡ proceeds done profile operator }
+{
+    match (done, profile) {
+        (Some(done), _) => agrees(operator, done),
+        (None, Profile::Manual) => agrees(operator, false),
+        (None, Profile::Udev) => false,
+    }
+}
+
+/// Does what an act asks for, and returns whether it was done; if its text is too long, leaves a note and returns `None`.
+fn act_noted<L: Lookup>(
+    alloc: Global,
+    rule: &Rule,
+    act_kind: &ActKind,
+    database: &L,
+    scene: &mut Scene<'_>,
+) -> Result<Option<bool>, AllocError>
+    ensures scene { IfOk result (λ done. (scene.new ≡ too_long_noted rule.now act_kind.now done (performed (L.entries database.now) rule.now act_kind.now scene.old).0) × (done ≡ (performed (L.entries database.now) rule.now act_kind.now scene.old).1)) }
+    ensures refused { OnErr result (scene.new.state.event ≡ scene.old.state.event) }
+{
+    let done = perform(alloc, rule, act_kind, database, scene)?;
+    note_too_long(alloc, rule, act_kind, done, scene)?;
+    Ok(done)
 }
 
 /// Does what an act of a rule asks for, as udev(7) has it, and returns whether the rule goes on: with `==` if the act was
@@ -295,8 +281,9 @@ pub fn act_step<L: Lookup>(
     ensures scene { IfOk result (λ on. (scene.new, on) ≡ act_step (L.entries database.now) rule.now act.now scene.old) }
     ensures refused { OnErr result (scene.new ≡ blank scene.old.state.event) }
 {
-    match perform(alloc, rule, &act.kind, database, scene) {
-        Ok(came) => Ok(came.proceeds(act.operator)),
+    let profile = scene.state.event.event().profile();
+    match act_noted(alloc, rule, &act.kind, database, scene) {
+        Ok(done) => Ok(proceeds(done, profile, act.operator)),
         Err(refused) => {
             scene.clear(alloc);
             Err(refused)

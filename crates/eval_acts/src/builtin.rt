@@ -1,7 +1,7 @@
 //! What a builtin's command asks for.
-ghost use Rattle.std.specs.Prelude.{◌≡◌, IfOk};
+ghost use Rattle.std.specs.Prelude.{◌≡◌, IfOk, drop};
 ghost use Rattle.rule_parts.specs.Builtins as udev;
-ghost use Rattle.eval_acts.specs.Builtins.{builtin, builtin_meant, builtin_of, builtin_of_words, hwdb_asked, hwdb_of_words};
+ghost use Rattle.eval_acts.specs.Builtins.{builtin, builtin_meant, builtin_of, builtin_of_words, hwdb_asked};
 ghost use Rattle.eval_acts.specs.Hwdb.{hwdb_of};
 ghost use Rattle.eval_acts.specs.UdevHwdb.{udev_hwdb_of};
 ghost use Rattle.eval_acts.specs.Words.{command_words, udev_words};
@@ -68,7 +68,7 @@ fn read_as_manual(alloc: Global, command: &[u8]) -> Result<Builtin, AllocError>
 
 /// What a command of `hwdb` asks for as udev has it, whose first word is the name.
 fn read_hwdb(alloc: Global, command: &[u8]) -> Result<Builtin, AllocError>
-    ensures { IfOk result (λ b. b ≡ hwdb_of_words (udev_words command.now)) }
+    ensures { IfOk result (λ b. b ≡ hwdb_asked (udev_hwdb_of (drop 1 (udev_words command.now)))) }
 {
     let words = udev_words(alloc, command)?;
     match words.split_first() {

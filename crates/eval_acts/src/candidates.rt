@@ -1,7 +1,7 @@
 //! The devices whose modaliases `hwdb` looks up.
 ghost use Rattle.std.specs.Prelude.{◌≡◌, ◌≤◌, length, map, option_map, IfOk};
 ghost use Rattle.std.specs.Option.{option_or};
-ghost use Rattle.eval_acts.specs.LookUps.{candidate, candidate_with, candidates, count_before_usb, is_last, is_usb_device, is_wanted, modaliases_by, modaliases_in, modaliases_of, parent, udev_modaliases_of};
+ghost use Rattle.eval_acts.specs.LookUps.{candidate, candidate_with, candidates, count_before_usb, is_last, is_usb_device, is_wanted, modaliases_by, modaliases_in, modaliases_of, udev_modaliases_of};
 ghost use Rattle.eval_acts.specs.UsbModalias.{made_up};
 
 use crate::hwdb::copy_of;
@@ -84,7 +84,7 @@ fn parent<'a>(
     profile: Profile,
     device: &'a Device<'_>,
 ) -> Result<Candidate<'a>, AllocError>
-    ensures { IfOk result (λ c. c ≡ parent profile device.now) }
+    ensures { IfOk result (λ c. c ≡ candidate profile device.now device.now.env) }
 {
     let env = device.env();
     candidate_with(

@@ -1,8 +1,10 @@
 //! The options of the builtin `hwdb`.
-ghost use Rattle.std.specs.Prelude.{◌≡◌, IfOk, None, option_map, map, is_some};
+ghost use Rattle.std.specs.Prelude.{◌≡◌, IfOk, Some, None, nat_lt, length, option_map, map, is_some, if◌then◌else◌};
 ghost use Rattle.std.specs.List.{list_any};
+ghost use Rattle.std.specs.Option.{option_and_then};
+ghost use Rattle.text_bytes.specs.Texts.{first};
 ghost use Rattle.eval_state.specs.Texts.{or_empty};
-ghost use Rattle.eval_acts.specs.Hwdb.{at_most_one, filter_of, hwdb_of, is_known, is_option, is_unknown, last_value, operands, value_in};
+ghost use Rattle.eval_acts.specs.Hwdb.{hwdb_of, is_bad_filter, is_known, is_option, is_unknown, last_value, operands, pattern_of, value_in};
 
 use std::alloc::{AllocError, Global};
 use text_bytes::{Bytes, begins_with, split_once};
@@ -99,15 +101,31 @@ fn operands<'a>(alloc: Global, words: &'a [Bytes]) -> Result<Vec<&'a [u8]>, Allo
     Ok(found)
 }
 
-/// The one modalias of the words, if there is any; `None` if there are several.
-fn modalias(alloc: Global, words: &[Bytes]) -> Result<Option<Option<Bytes>>, AllocError>
-    ensures { IfOk result (λ found. found ≡ at_most_one (operands words.now)) }
+/// Whether there are several of these words.
+fn are_several(words: &[&[u8]]) -> bool
+    ensures { result ≡ nat_lt 1 (length (map (λ t. t.now) words.now)) }
 {
-    let found = operands(alloc, words)?;
-    match found.as_slice() {
-        [] => Ok(Some(None)),
-        [only] => Ok(Some(Some(Bytes::copy_of(alloc, only)?))),
-        _ => Ok(None),
+    words.len() > 1
+}
+
+/// The first of these words, if there is one.
+fn first_of<'a>(words: &[&'a [u8]]) -> Option<&'a [u8]>
+    ensures { option_map (λ t. t.now) result ≡ first (map (λ t. t.now) words.now) }
+{
+    match words.split_first() {
+        Some((word, _)) => Some(*word),
+        None => None,
+    }
+}
+
+/// The pattern that a text is; `None` if it is not a pattern.
+fn read_pattern(alloc: Global, text: &[u8]) -> Result<Option<Pattern>, AllocError>
+    ensures { IfOk result (λ found. found ≡ pattern_of text.now) }
+{
+    match Pattern::read(alloc, text) {
+        Ok(pattern) => Ok(Some(pattern)),
+        Err(GlobFault::Memory) => Err(AllocError),
+        Err(_) => Ok(None),
     }
 }
 
@@ -116,15 +134,14 @@ pub(crate) fn pattern_of(
     alloc: Global,
     text: Option<&[u8]>,
 ) -> Result<Option<Option<Pattern>>, AllocError>
-    ensures { IfOk result (λ found. found ≡ filter_of (option_map (λ t. t.now) text.entry)) }
+    ensures { IfOk result (λ found. found ≡ (if is_bad_filter (option_map (λ t. t.now) text.entry) then None else Some (option_and_then pattern_of (option_map (λ t. t.now) text.entry)))) }
 {
     let Some(text) = text else {
         return Ok(Some(None));
     };
-    match Pattern::read(alloc, text) {
-        Ok(pattern) => Ok(Some(Some(pattern))),
-        Err(GlobFault::Memory) => Err(AllocError),
-        Err(_) => Ok(None),
+    match read_pattern(alloc, text)? {
+        Some(pattern) => Ok(Some(Some(pattern))),
+        None => Ok(None),
     }
 }
 
@@ -143,12 +160,10 @@ pub(crate) fn copy_of(alloc: Global, text: Option<&[u8]>) -> Result<Option<Bytes
 pub(crate) fn hwdb_of(alloc: Global, words: &[Bytes]) -> Result<Option<Hwdb>, AllocError>
     ensures { IfOk result (λ hwdb. hwdb ≡ hwdb_of words.now) }
 {
-    if has_unknown(words) {
+    let others = operands(alloc, words)?;
+    if has_unknown(words) || are_several(&others) {
         return Ok(None);
     }
-    let Some(modalias) = modalias(alloc, words)? else {
-        return Ok(None);
-    };
     let Some(filter) = pattern_of(alloc, last_value(FILTER, words))? else {
         return Ok(None);
     };
@@ -157,6 +172,6 @@ pub(crate) fn hwdb_of(alloc: Global, words: &[Bytes]) -> Result<Option<Hwdb>, Al
         subsystem: copy_of(alloc, last_value(SUBSYSTEM, words))?,
         prefix: Bytes::copy_of(alloc, prefix)?,
         filter,
-        modalias,
+        modalias: copy_of(alloc, first_of(&others))?,
     }))
 }

@@ -15,7 +15,7 @@ use crate::printed::set_printed;
 use device_core::ProgramAnswer;
 use eval_state::{NoteKind, Scene, set_property};
 use hwdb_lookup::Lookup;
-use rule_types::{Import, Rule};
+use rule_types::{ImportType, Rule};
 use std::alloc::{AllocError, Global};
 use text_bytes::Profile;
 use text_core::{Choice, Pattern, Reading};
@@ -207,17 +207,12 @@ pub(crate) fn import_printed(
 pub(crate) fn not_run(
     alloc: Global,
     rule: &Rule,
-    import: &Import,
+    import_type: ImportType,
     scene: &mut Scene<'_>,
 ) -> Result<bool, AllocError>
-    ensures scene { IfOk result (λ done. (scene.new, done) ≡ not_run rule.now import.now scene.old) }
+    ensures scene { IfOk result (λ done. (scene.new, done) ≡ not_run rule.now import_type scene.old) }
     ensures refused { OnErr result (scene.new.state.event ≡ scene.old.state.event) }
 {
-    scene.note(
-        alloc,
-        rule,
-        NoteKind::ImportNotRun,
-        import.import_type().name(),
-    )?;
+    scene.note(alloc, rule, NoteKind::ImportNotRun, import_type.name())?;
     Ok(false)
 }

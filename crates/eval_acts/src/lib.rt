@@ -8,7 +8,6 @@ mod act_texts;
 mod acting;
 mod builtin;
 mod builtin_runs;
-mod came;
 mod candidates;
 mod hwdb;
 mod imports;
@@ -20,9 +19,7 @@ mod udev_hwdb;
 mod usb_modalias;
 mod words;
 
-pub use act_texts::{
-    MAX_COMMAND_BYTES, MAX_PATH_BYTES, import_text, names_text, program_text, test_text,
-};
+pub use act_texts::{import_text, names_text, program_text, test_text};
 pub use acting::act_step;
 pub use builtin::Builtin;
 pub use hwdb::Hwdb;

@@ -1,6 +1,6 @@
 //! TEST and PROGRAM: what the event answers.
 ghost use Rattle.std.specs.Prelude.{◌≡◌, [], IfOk, OnErr, option_copied};
-ghost use Rattle.eval_acts.specs.Questions.{answered, answered_by_block, is_found, result_of, tested_at, tested_by, tested_by_udev, tested_unless, with_result};
+ghost use Rattle.eval_acts.specs.Questions.{answered, answered_by_block, is_found, result_of, tested, tested_at, tested_by, tested_by_udev, with_result};
 ghost use Rattle.eval_state.specs.Named.{named};
 
 use device_core::{Device, ProgramAnswer};
@@ -80,14 +80,14 @@ fn look_by(
 pub(crate) fn look_for(
     alloc: Global,
     rule: &Rule,
-    has_mask: bool,
+    mask: Option<&Bytes>,
     path: &[u8],
     scene: &mut Scene<'_>,
 ) -> Result<bool, AllocError>
-    ensures scene { IfOk result (λ done. (scene.new, done) ≡ tested_unless rule.now has_mask path.now scene.old) }
+    ensures scene { IfOk result (λ done. (scene.new, done) ≡ tested rule.now (option_copied mask.entry) path.now scene.old) }
     ensures refused { OnErr result (scene.new.state.event ≡ scene.old.state.event) }
 {
-    if has_mask || begins_with(b'/', path) {
+    if mask.is_some() || begins_with(b'/', path) {
         scene.note(alloc, rule, NoteKind::TestNotMade, path)?;
         return Ok(false);
     }

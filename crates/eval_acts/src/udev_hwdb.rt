@@ -3,10 +3,11 @@
 //! An option is `--NAME=VALUE`, or `--NAME` with the value in the next word, where NAME may be the beginning of a
 //! name; or a letter after `-`, with the value in the rest of the word or in the next one. Unknown options are
 //! skipped, and so is each word after the modalias.
-ghost use Rattle.std.specs.Prelude.{◌≡◌, Some, option_map, IfOk, OnOk};
+ghost use Rattle.std.specs.Prelude.{◌≡◌, Some, None, option_map, IfOk, OnOk, if◌then◌else◌};
+ghost use Rattle.std.specs.Option.{option_and_then};
 ghost use Rattle.text_bytes.specs.Names.{equals};
 ghost use Rattle.text_bytes.specs.Texts.{split_once};
-ghost use Rattle.eval_acts.specs.Hwdb.{filter_of};
+ghost use Rattle.eval_acts.specs.Hwdb.{is_bad_filter, pattern_of};
 ghost use Rattle.eval_acts.specs.UdevHwdb.{asked_by, cut_given, letter_given, letters_given, long_given, named_given, nothing_given, option_given, option_letter, option_lettered, option_name, option_named, took, udev_hwdb_of, with_option, with_word};
 
 use crate::hwdb::{Hwdb, pattern_of};
@@ -242,7 +243,7 @@ impl Given {
 
     /// The pattern of the filter, if there is one; `None` if it is not a pattern.
     fn pattern(&self, alloc: Global) -> Result<Option<Option<Pattern>>, AllocError>
-        ensures { IfOk result (λ found. found ≡ filter_of self.now.filter) }
+        ensures { IfOk result (λ found. found ≡ (if is_bad_filter self.now.filter then None else Some (option_and_then pattern_of self.now.filter))) }
     {
         pattern_of(alloc, self.filter.as_ref().map(Bytes::as_slice))
     }

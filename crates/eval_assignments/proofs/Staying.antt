@@ -18,7 +18,7 @@ use Rattle.rule_types.specs.declared.part.Assignment.{Assignment}
 use Rattle.rule_types.specs.declared.part.Change.{Change}
 use Rattle.rule_types.specs.declared.part.Change.TheVariants as change
 use Rattle.rule_types.specs.Rules.{Rule}
-use Rattle.eval_rendering.specs.Bounds.{within}
+use Rattle.eval_rendering.specs.Bounds.{most_command_bytes, most_path_bytes, sysfs_path, within}
 use Rattle.eval_rendering.specs.Rendering.{render}
 use Rattle.eval_rendering.specs.declared.rendered.Mode.TheVariants.{Plain}
 use Rattle.eval_rendering.specs.declared.rendered.Rendered.{Rendered}
@@ -33,10 +33,10 @@ use Rattle.eval_state.specs.declared.finals.FinalKey.TheVariants as final
 use Rattle.eval_state.specs.declared.note_kind.NoteKind.TheVariants.{NameIgnored, NoDeviceNumber, TagIgnored, TextTooLong}
 use Rattle.eval_state.specs.declared.scene.Scene.{Scene}
 use Rattle.eval_assignments.specs.Assigning.{assigned, group_set, link_text, owner_set, with_option}
-use Rattle.eval_assignments.specs.Attributes.{attribute_path, attribute_put, attribute_set, attribute_set_at, attribute_set_by, found_above, own_attribute_set}
-use Rattle.eval_assignments.specs.Bounds.{most_command_bytes, most_name_bytes}
+use Rattle.eval_assignments.specs.Attributes.{attribute_put, attribute_set, attribute_set_at, attribute_set_by, found_above, own_attribute_set}
 use Rattle.eval_assignments.specs.Escapes.{escape_of}
 use Rattle.eval_assignments.specs.Finality.{final_key, final_target, finally, is_settled}
+use Rattle.eval_assignments.specs.Inner.{given_by}
 use Rattle.eval_assignments.specs.Links.{first_refused, link_noted, links_changed, words}
 use Rattle.eval_assignments.specs.Modes.{mode_read, mode_set}
 use Rattle.eval_assignments.specs.Parameters.{parameter_put}
@@ -127,7 +127,7 @@ attribute_put_stays r name None t s = refl
 attribute_put_stays r name (Some found) t s = refl
 
 own_stays : (r : Rule) (name t : Text) (s : Scene) → Stays s (own_attribute_set r name t s)
-own_stays r name t s = by (nat_lt most_name_bytes (length (attribute_path s.state.event name)))
+own_stays r name t s = by (nat_lt most_path_bytes (length (sysfs_path s.state.event.device name)))
   where
     by : (v : Bool) → Stays s (cond v (noted_key r TextTooLong key.Attr (Some name) s) (attribute_put r name (starred s.state.event.device name) t s))
     by true = refl
@@ -151,7 +151,7 @@ parameter_stays r written (rendered.Text name) t s = refl
 
 -- ---- each key
 
-assigned_stays : (profile : Profile) (r : Rule) (e : _) (o : AssignOperator) (about : Target) (written t : Text) (s : Scene) → Stays s (assigned profile r e o about written t s)
+assigned_stays : (profile : Profile) (r : Rule) (e : _) (o : AssignOperator) (about : Target) (written t : Text) (s : Scene) → Stays s (assigned profile about (given_by r e o about written) t s)
 assigned_stays Manual r e o (target.Env name) written t s = changed_stays r o name t s
 assigned_stays Manual r e o about written t s = refl
 assigned_stays Udev r e o target.Owner written t s = owner_stays r t s
@@ -165,19 +165,19 @@ assigned_stays Udev r e o target.Symlink written t s = links_stay r o (link_text
 assigned_stays Udev r e o (target.Attr name) written t s = attribute_stays r name t s
 assigned_stays Udev r e o (target.Sysctl name) written t s = parameter_stays r name _ t s
 
-given_stays : (profile : Profile) (r : Rule) (e : _) (o : AssignOperator) (about : Target) (written t : Text) (s : Scene) → Stays s (text_given profile r e o about written t s)
+given_stays : (profile : Profile) (r : Rule) (e : _) (o : AssignOperator) (about : Target) (written t : Text) (s : Scene) → Stays s (text_given profile (given_by r e o about written) t s)
 given_stays profile r e o about written t s = by (is_ignored profile about s)
   where
-    by : (b : Bool) → Stays s (cond b (noted r NameIgnored t s) (finally o (final_target about) (assigned profile r e o about written t s)))
+    by : (b : Bool) → Stays s (cond b (noted r NameIgnored t s) (finally o (final_target about) (assigned profile about (given_by r e o about written) t s)))
     by true = refl
-    by false = finally_stays o (final_target about) s (assigned profile r e o about written t s) (assigned_stays profile r e o about written t s)
+    by false = finally_stays o (final_target about) s (assigned profile about (given_by r e o about written) t s) (assigned_stays profile r e o about written t s)
 
 too_long_stays : (profile : Profile) (o : AssignOperator) (about : Target) (s t : Scene) → Stays s t → Stays s (finally_too_long profile o about t)
 too_long_stays Manual o about s t h = h
 too_long_stays Udev o about s t h = finally_stays o (final_target about) s t h
 
 set_text_stays : (profile : Profile) (r : Rule) (e : _) (o : AssignOperator) (about : Target) (written : Text) (text : Rendered) (s : Scene)
-    → Stays s (text_set profile r e o about written text s)
+    → Stays s (text_set profile (given_by r e o about written) text s)
 set_text_stays profile r e o about written (rendered.Text t) s = given_stays profile r e o about written t s
 set_text_stays profile r e o about written rendered.TooLong s =
     too_long_stays profile o about s (noted r TextTooLong (word_of_key (key_of_target about) (attribute_of_target about)) s) refl
@@ -187,15 +187,15 @@ emptied_stays Assign target.Symlink s = refl
 emptied_stays AssignFinal target.Symlink s = refl
 emptied_stays o about s = refl
 
-rendered_stays : (profile : Profile) (r : Rule) (o : AssignOperator) (about : Target) (template : Template) (s : Scene) → Stays s (text_rendered profile r o about template s)
+rendered_stays : (profile : Profile) (r : Rule) (o : AssignOperator) (about : Target) (template : Template) (s : Scene) → Stays s (text_rendered profile (given_by r (escape_of r.sets) o about template.written) template s)
 rendered_stays Manual r o about template s = set_text_stays Manual r (escape_of r.sets) o about template.written _ s
 rendered_stays Udev r o about template s = set_text_stays Udev r (escape_of r.sets) o about template.written _ s
 
-text_stays : (profile : Profile) (r : Rule) (o : AssignOperator) (about : Target) (template : Template) (s : Scene) → Stays s (text_step profile r o about template s)
+text_stays : (profile : Profile) (r : Rule) (o : AssignOperator) (about : Target) (template : Template) (s : Scene) → Stays s (text_step profile (given_by r (escape_of r.sets) o about template.written) template s)
 text_stays Manual r o about template s = rendered_stays Manual r o about template s
 text_stays Udev r o about template s = by (lacks_number about s.state.event.device.number)
   where
-    by : (b : Bool) → Stays s (cond b (noted_key r NoDeviceNumber (key_of_target about) (attribute_of_target about) s) (text_rendered Udev r o about template (emptied o about s)))
+    by : (b : Bool) → Stays s (cond b (noted_key r NoDeviceNumber (key_of_target about) (attribute_of_target about) s) (text_rendered Udev (given_by r (escape_of r.sets) o about template.written) template (emptied o about s)))
     by true = refl
     by false = rendered_stays Udev r o about template (emptied o about s) ∙ emptied_stays o about s
 

@@ -1,23 +1,18 @@
 -- The attribute that an assignment writes for udev, by its name.
-use Rattle.std.specs.Prelude.{ℕ, zero, suc, ◌-◌, nat_lt, if◌then◌else◌, ◌∷◌, ◌++◌, length, take, codes, Option, Some, None, option_map}
+use Rattle.std.specs.Prelude.{ℕ, zero, suc, ◌-◌, nat_lt, if◌then◌else◌, ◌++◌, length, take, Option, Some, None, option_map}
 use Rattle.std.specs.Option.{option_and_then}
-use Rattle.text_bytes.specs.Names.{slash}
 use Rattle.text_tables.specs.Texts.{Text}
 use Rattle.text_tables.specs.Pairs.{with_value}
 use Rattle.rule_types.specs.declared.keys.Key.TheVariants as key
 use Rattle.rule_types.specs.Rules.{Rule}
 use Rattle.device_core.specs.Values.{EventValue}
+use Rattle.eval_rendering.specs.Bounds.{most_path_bytes, sysfs_path}
 use Rattle.eval_state.specs.Chains.{device_at}
 use Rattle.eval_state.specs.Files.{starred}
 use Rattle.eval_state.specs.Named.{NamedValue, named, named_place}
 use Rattle.eval_state.specs.Scenes.{noted, noted_key}
 use Rattle.eval_state.specs.declared.note_kind.NoteKind.TheVariants.{AttributeNotFound, TextTooLong}
 use Rattle.eval_state.specs.declared.scene.Scene.{Scene}
-use Rattle.eval_assignments.specs.Bounds.{most_name_bytes}
-
--- the path of an attribute of the event device
-abbrev pub attribute_path : EventValue → Text → Text
-attribute_path event name = codes "/sys" ++ event.device.path ++ slash ∷ name
 
 -- a value is assigned to an attribute that was found by its name; one that was not found leaves a note
 abbrev pub attribute_put : Rule → Text → Option Text → Text → Scene → Scene
@@ -27,7 +22,7 @@ attribute_put r name (Some found) t s = record s { attrs = with_value s.attrs fo
 -- a value is assigned to an attribute of the event device, unless its path is too long
 abbrev pub own_attribute_set : Rule → Text → Text → Scene → Scene
 own_attribute_set r name t s =
-    if nat_lt most_name_bytes (length (attribute_path s.state.event name)) then noted_key r TextTooLong key.Attr (Some name) s
+    if nat_lt most_path_bytes (length (sysfs_path s.state.event.device name)) then noted_key r TextTooLong key.Attr (Some name) s
     else attribute_put r name (starred s.state.event.device name) t s
 
 -- an attribute of a named device, with all that is before it in a name

@@ -2,7 +2,7 @@
 use Rattle.std.specs.Prelude.{ℕ, ◌==◌, if◌then◌else◌, map, fold, List}
 use Rattle.text_bytes.specs.Names.{space, underscore}
 use Rattle.text_bytes.specs.declared.profile.Profile.{Profile}
-use Rattle.text_bytes.specs.declared.profile.Profile.TheVariants.{Manual, Udev}
+use Rattle.text_bytes.specs.declared.profile.Profile.TheVariants.{Manual}
 use Rattle.text_tables.specs.Texts.{Text}
 use Rattle.rule_types.specs.declared.roles.Target.{Target}
 use Rattle.rule_types.specs.declared.roles.Target.TheVariants as target
@@ -25,21 +25,13 @@ escape_after e c = e
 unfoldable pub escape_of : List Assignment → Escape
 escape_of sets = fold (λ e a. escape_after e a.change) Usual sets
 
--- what a name is rendered for: the manual makes it safe as a link, udev has bytes of its own for it
-abbrev pub mode_of_name : Profile → Mode
-mode_of_name Manual = Link
-mode_of_name Udev = Plain
-
--- what a text is rendered for if bytes are replaced: the names of links and devices are made safe
-abbrev pub mode_in : Profile → Target → Mode
-mode_in profile target.Name = mode_of_name profile
-mode_in profile target.Symlink = Link
-mode_in profile t = Plain
-
--- what a text is rendered for: nothing is made safe if the rule keeps the bytes
+-- what a text is rendered for: names of links are made safe unless the rule keeps the bytes, and by the manual a name of
+-- a device is, too
 abbrev pub mode_of : Profile → Target → Escape → Mode
-mode_of profile t Keep = Plain
-mode_of profile t e = mode_in profile t
+mode_of profile about Keep = Plain
+mode_of profile target.Symlink e = Link
+mode_of Manual target.Name e = Link
+mode_of profile about e = Plain
 
 -- a byte, with `_` for a space
 abbrev pub underscored_byte : ℕ → ℕ

@@ -10,5 +10,7 @@ pub mod Parameters
 pub mod Tags
 pub mod Attributes
 pub mod Runs
+pub mod Givens
+pub mod Inner
 pub mod Assigning
 pub mod Steps

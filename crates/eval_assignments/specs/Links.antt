@@ -1,7 +1,6 @@
 -- The links in a text, and which of them udev keeps: each as the plain path below `/dev`.
-use Rattle.std.specs.Prelude.{ℕ, Bool, not, ◌==◌, ◌||◌, ◌&&◌, nat_lt, if◌then◌else◌, List, [], ◌∷◌, length, filter, flat_map, codes, Option, Some, None, is_none}
+use Rattle.std.specs.Prelude.{ℕ, Bool, not, ◌==◌, ◌||◌, ◌&&◌, nat_lt, if◌then◌else◌, List, [], ◌∷◌, length, filter, find, flat_map, codes, Option, Some, None, is_none}
 use Rattle.std.specs.List.{list_any, join_with_byte, slice_split}
-use Rattle.std.specs.Option.{option_or}
 use Rattle.text_bytes.specs.Names.{carriage_return, newline, slash, space, tab}
 use Rattle.text_bytes.specs.Texts.{begins_with, is_empty}
 use Rattle.text_tables.specs.Texts.{Text, same_text}
@@ -63,14 +62,9 @@ listed (Some text) = text ∷ []
 abbrev pub plain_links : List Text → List Text
 plain_links paths = flat_map (λ path. listed (plain_link path)) paths
 
--- a word, if it is not a link
-abbrev pub unless_link : Text → Option Text
-unless_link path = if is_none (plain_link path) then Some path else None
-
 -- the first of these words that is not a link
 abbrev pub first_refused : List Text → Option Text
-first_refused [] = None
-first_refused (path ∷ others) = option_or (unless_link path) (first_refused others)
+first_refused paths = find (λ path. is_none (plain_link path)) paths
 
 -- a note about a refused link, if there is one
 abbrev pub link_noted : Rule → Option Text → Scene → Scene

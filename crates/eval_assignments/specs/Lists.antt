@@ -1,5 +1,5 @@
 -- Lists that assignments change: the tags and the links.
-use Rattle.std.specs.Prelude.{not, ◌==◌, List, [], ◌∷◌, filter, fold}
+use Rattle.std.specs.Prelude.{not, ◌==◌, if◌then◌else◌, List, [], ◌∷◌, filter, fold}
 use Rattle.std.specs.List.{slice_split}
 use Rattle.text_bytes.specs.Names.{space}
 use Rattle.text_bytes.specs.Texts.{is_empty}
@@ -20,8 +20,7 @@ changed Remove given texts = without_texts texts given
 
 -- a text as one tag; an empty text is no tag
 abbrev pub one_tag : Text → List Text
-one_tag [] = []
-one_tag (b ∷ t) = (b ∷ t) ∷ []
+one_tag t = if is_empty t then [] else t ∷ []
 
 -- the texts that have a byte
 abbrev pub not_empty : List Text → List Text

@@ -1,6 +1,7 @@
 -- Modes of files as udev reports them.
-use Rattle.std.specs.Prelude.{ℕ, ◌+◌, ◌/◌, ◌%◌, [], ◌∷◌, Option, Some, None}
+use Rattle.std.specs.Prelude.{ℕ, ◌+◌, ◌/◌, ◌%◌, if◌then◌else◌, [], ◌∷◌, Option, Some, None}
 use Rattle.text_bytes.specs.Names.{digit_zero}
+use Rattle.text_bytes.specs.Texts.{is_empty}
 use Rattle.text_tables.specs.Texts.{Text}
 use Rattle.rule_types.specs.declared.keys.Key.TheVariants as key
 use Rattle.rule_types.specs.Rules.{Rule}
@@ -20,5 +21,4 @@ mode_read r t (Some mode) s = record s { mode = Some (four_digits mode) }
 
 -- a mode is set as udev takes it: so does an empty text
 abbrev pub mode_set : Rule → Text → Scene → Scene
-mode_set r [] s = noted_key r NoValue key.Mode None s
-mode_set r (b ∷ t) s = mode_read r (b ∷ t) (mode_of (b ∷ t)) s
+mode_set r t s = if is_empty t then noted_key r NoValue key.Mode None s else mode_read r t (mode_of t) s

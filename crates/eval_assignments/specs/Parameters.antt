@@ -7,14 +7,13 @@ use Rattle.text_tables.specs.Pairs.{with_value}
 use Rattle.text_tables.specs.Texts.{Text}
 use Rattle.rule_types.specs.declared.keys.Key.TheVariants as key
 use Rattle.rule_types.specs.Rules.{Rule}
-use Rattle.eval_rendering.specs.Bounds.{within}
+use Rattle.eval_rendering.specs.Bounds.{most_path_bytes, within}
 use Rattle.eval_rendering.specs.Rendering.{rendered_as_udev}
 use Rattle.eval_rendering.specs.declared.rendered.Rendered.{Rendered}
 use Rattle.eval_rendering.specs.declared.rendered.Rendered.TheVariants as rendered
 use Rattle.eval_state.specs.Scenes.{noted_key}
 use Rattle.eval_state.specs.declared.note_kind.NoteKind.TheVariants.{TextTooLong}
 use Rattle.eval_state.specs.declared.scene.Scene.{Scene}
-use Rattle.eval_assignments.specs.Bounds.{most_name_bytes}
 use Rattle.eval_assignments.specs.Links.{components}
 
 -- whether a byte separates the components of a parameter's name
@@ -41,4 +40,4 @@ parameter_put r written (rendered.Text name) t s = record s { sysctls = with_val
 
 -- a value is assigned to a parameter, by its name as it is written
 abbrev pub parameter_set : Rule → Text → Text → Scene → Scene
-parameter_set r written t s = parameter_put r written (within most_name_bytes (rendered_as_udev written s.state)) t s
+parameter_set r written t s = parameter_put r written (within most_path_bytes (rendered_as_udev written s.state)) t s

@@ -1,6 +1,7 @@
 -- Properties, as ENV changes them.
-use Rattle.std.specs.Prelude.{ℕ, ◌==◌, nat_lt, if◌then◌else◌, [], ◌∷◌, ◌++◌, length, map, Option, Some, None}
+use Rattle.std.specs.Prelude.{ℕ, ◌==◌, if◌then◌else◌, [], ◌∷◌, ◌++◌, map, Option, Some, None}
 use Rattle.text_bytes.specs.Names.{slash, space, underscore}
+use Rattle.text_bytes.specs.Texts.{is_empty}
 use Rattle.text_tables.specs.Texts.{Text}
 use Rattle.text_tables.specs.Pairs.{value_of, with_value}
 use Rattle.rule_types.specs.declared.keys.Key.TheVariants as key
@@ -8,14 +9,13 @@ use Rattle.rule_types.specs.declared.roles.AssignOperator.{AssignOperator}
 use Rattle.rule_types.specs.declared.roles.AssignOperator.TheVariants.{Add}
 use Rattle.rule_types.specs.Rules.{Rule}
 use Rattle.eval_state.specs.Texts.{or_empty}
-use Rattle.eval_rendering.specs.Bounds.{bounded}
+use Rattle.eval_rendering.specs.Bounds.{bounded, short}
 use Rattle.text_links.specs.Safe.{link_marks, safe}
 use Rattle.eval_state.specs.Notes.{word_of_key}
 use Rattle.eval_state.specs.Properties.{property_set}
 use Rattle.eval_state.specs.Scenes.{noted, with_env}
 use Rattle.eval_state.specs.declared.note_kind.NoteKind.TheVariants.{TextTooLong}
 use Rattle.eval_state.specs.declared.scene.Scene.{Scene}
-use Rattle.eval_assignments.specs.Bounds.{most_value_bytes}
 use Rattle.eval_assignments.specs.Escapes.{with_underscores}
 use Rattle.eval_assignments.specs.declared.escapes.Escape.{Escape}
 use Rattle.eval_assignments.specs.declared.escapes.Escape.TheVariants.{Replace}
@@ -32,8 +32,7 @@ property_joined r name (Some value) s = with_env (with_value s.state.env name va
 
 -- a text is appended to the value of a property; an empty text changes nothing
 abbrev pub property_added : Rule → Text → Text → Scene → Scene
-property_added r name [] s = s
-property_added r name (b ∷ t) s = property_joined r name (appended (or_empty (value_of s.state.env name)) (b ∷ t)) s
+property_added r name t s = if is_empty t then s else property_joined r name (appended (or_empty (value_of s.state.env name)) t) s
 
 -- a property as an operator changes it
 abbrev pub property_changed : Rule → AssignOperator → Text → Text → Scene → Scene
@@ -50,14 +49,10 @@ abbrev pub env_text : Escape → Text → Text
 env_text Replace t = map unslashed_byte (with_underscores (safe link_marks t))
 env_text e t = t
 
--- a text that is not too long for a value
-abbrev pub short_value : Text → Option Text
-short_value t = if nat_lt most_value_bytes (length t) then None else Some t
-
 -- a text after a value, with a space between them, as udev puts it together; without a value it is the text
 abbrev pub extended : Option Text → Text → Option Text
-extended None t = short_value t
-extended (Some value) t = short_value (value ++ space ∷ t)
+extended None t = short t
+extended (Some value) t = short (value ++ space ∷ t)
 
 -- a property takes a value that udev put together, unless that is too long
 abbrev pub property_put : Rule → Text → Option Text → Scene → Scene
@@ -66,8 +61,7 @@ property_put r name (Some value) s = with_env (property_set name value s.state.e
 
 -- a text is appended to the value of a property for udev; a text that is written empty changes nothing
 abbrev pub property_extended : Rule → Text → Text → Text → Scene → Scene
-property_extended r name [] t s = s
-property_extended r name (b ∷ written) t s = property_put r name (extended (value_of s.state.env name) t) s
+property_extended r name written t s = if is_empty written then s else property_put r name (extended (value_of s.state.env name) t) s
 
 -- a property as an operator changes it for udev, with a text as it is written and once it is rendered
 abbrev pub udev_property_changed : Rule → Escape → AssignOperator → Text → Text → Text → Scene → Scene

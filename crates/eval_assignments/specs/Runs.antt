@@ -8,7 +8,7 @@ use Rattle.rule_types.specs.declared.keys.Key.TheVariants as key
 use Rattle.rule_types.specs.declared.roles.AssignOperator.{AssignOperator}
 use Rattle.rule_types.specs.declared.roles.AssignOperator.TheVariants.{Add}
 use Rattle.rule_types.specs.declared.types.RunType.{RunType}
-use Rattle.eval_rendering.specs.Bounds.{within}
+use Rattle.eval_rendering.specs.Bounds.{most_command_bytes, within}
 use Rattle.eval_rendering.specs.Rendering.{render}
 use Rattle.eval_rendering.specs.declared.rendered.Mode.TheVariants.{Plain}
 use Rattle.eval_rendering.specs.declared.rendered.Rendered.{Rendered}
@@ -19,7 +19,6 @@ use Rattle.eval_state.specs.declared.finals.FinalKey.TheVariants as final
 use Rattle.eval_state.specs.declared.made_runs.MadeRun.{MadeRun}
 use Rattle.eval_state.specs.declared.note_kind.NoteKind.TheVariants.{NoValue, TextTooLong}
 use Rattle.eval_state.specs.declared.scene.Scene.{Scene}
-use Rattle.eval_assignments.specs.Bounds.{most_command_bytes}
 use Rattle.eval_assignments.specs.Finality.{finally}
 use Rattle.eval_assignments.specs.Links.{words}
 

@@ -19,7 +19,6 @@ use Rattle.eval_rendering.specs.Bounds.{within}
 use Rattle.eval_rendering.specs.Rendering.{render}
 use Rattle.eval_rendering.specs.declared.rendered.Rendered.{Rendered}
 use Rattle.eval_rendering.specs.declared.rendered.Rendered.TheVariants as rendered
-use Rattle.eval_state.specs.Notes.{word_of_key}
 use Rattle.eval_state.specs.Scenes.{noted, noted_key}
 use Rattle.eval_state.specs.declared.note_kind.NoteKind.TheVariants.{NameIgnored, NoDeviceNumber, TextTooLong}
 use Rattle.eval_state.specs.declared.scene.Scene.{Scene}
@@ -27,9 +26,9 @@ use Rattle.eval_assignments.specs.Assigning.{assigned, with_option}
 use Rattle.eval_assignments.specs.Bounds.{most_bytes_of}
 use Rattle.eval_assignments.specs.Escapes.{escape_of, mode_of}
 use Rattle.eval_assignments.specs.Finality.{final_key, final_option, final_target, finally, is_settled}
+use Rattle.eval_assignments.specs.Givens.{Given}
 use Rattle.eval_assignments.specs.Names.{has_name}
 use Rattle.eval_assignments.specs.Runs.{run_kept, run_rendered}
-use Rattle.eval_assignments.specs.declared.escapes.Escape.{Escape}
 
 -- whether an assignment is ignored: NAME if the event device has no name to assign
 abbrev pub is_ignored : Profile → Target → Scene → Bool
@@ -37,9 +36,10 @@ is_ignored profile target.Name s = not (has_name profile s.state.event.device)
 is_ignored profile t s = false
 
 -- an assignment of a text that is not too long; one that is ignored leaves a note, and makes nothing final
-abbrev pub text_given : Profile → Rule → Escape → AssignOperator → Target → Text → Text → Scene → Scene
-text_given profile r e o about written t s =
-    if is_ignored profile about s then noted r NameIgnored t s else finally o (final_target about) (assigned profile r e o about written t s)
+abbrev pub text_given : Profile → Given → Text → Scene → Scene
+text_given profile g t s =
+    if is_ignored profile g.target s then noted g.rule NameIgnored t s
+    else finally g.operator (final_target g.target) (assigned profile g.target g t s)
 
 -- what follows an assignment of a text that is too long: for the manual nothing is made final, for udev its key
 -- nevertheless is
@@ -48,10 +48,10 @@ finally_too_long Manual o about s = s
 finally_too_long Udev o about s = finally o (final_target about) s
 
 -- an assignment of a text once it is rendered; one that is too long leaves a note
-abbrev pub text_set : Profile → Rule → Escape → AssignOperator → Target → Text → Rendered → Scene → Scene
-text_set profile r e o about written (rendered.Text t) s = text_given profile r e o about written t s
-text_set profile r e o about written rendered.TooLong s =
-    finally_too_long profile o about (noted r TextTooLong (word_of_key (key_of_target about) (attribute_of_target about)) s)
+abbrev pub text_set : Profile → Given → Rendered → Scene → Scene
+text_set profile g (rendered.Text t) s = text_given profile g t s
+text_set profile g rendered.TooLong s =
+    finally_too_long profile g.operator g.target (noted_key g.rule TextTooLong (key_of_target g.target) (attribute_of_target g.target) s)
 
 -- whether udev does nothing with a text if the device has no number: one for its node or for links to that
 abbrev pub is_of_node : Target → Bool
@@ -78,18 +78,16 @@ emptied AssignFinal target.Symlink s = without_links s
 emptied o about s = s
 
 -- a text is rendered and assigned
-abbrev pub text_rendered : Profile → Rule → AssignOperator → Target → Template → Scene → Scene
-text_rendered Manual r o about template s =
-    text_set Manual r (escape_of r.sets) o about template.written (render template s.state (mode_of Manual about (escape_of r.sets))) s
-text_rendered Udev r o about template s =
-    text_set Udev r (escape_of r.sets) o about template.written (within (most_bytes_of about) (render template s.state (mode_of Udev about (escape_of r.sets)))) s
+abbrev pub text_rendered : Profile → Given → Template → Scene → Scene
+text_rendered Manual g template s = text_set Manual g (render template s.state (mode_of Manual g.target g.escape)) s
+text_rendered Udev g template s = text_set Udev g (within (most_bytes_of g.target) (render template s.state (mode_of Udev g.target g.escape))) s
 
 -- an assignment of a text: udev skips some if the device has no number, and leaves a note
-abbrev pub text_step : Profile → Rule → AssignOperator → Target → Template → Scene → Scene
-text_step Manual r o about template s = text_rendered Manual r o about template s
-text_step Udev r o about template s =
-    if lacks_number about s.state.event.device.number then noted_key r NoDeviceNumber (key_of_target about) (attribute_of_target about) s
-    else text_rendered Udev r o about template (emptied o about s)
+abbrev pub text_step : Profile → Given → Template → Scene → Scene
+text_step Manual g template s = text_rendered Manual g template s
+text_step Udev g template s =
+    if lacks_number g.target s.state.event.device.number then noted_key g.rule NoDeviceNumber (key_of_target g.target) (attribute_of_target g.target) s
+    else text_rendered Udev g template (emptied g.operator g.target s)
 
 -- a RUN is added: as it is written, for udev rendered
 abbrev pub run_step : Profile → Rule → AssignOperator → Option RunType → Template → Scene → Scene
@@ -99,7 +97,8 @@ run_step Udev r o braces template s = run_rendered r o braces template s
 -- an assignment, by what it changes: an option, a text once it is rendered, or what is to be run
 abbrev pub step_by : Profile → Rule → AssignOperator → Change → Scene → Scene
 step_by profile r o (change.Option known) s = finally o (final_option profile known) (with_option known s)
-step_by profile r o (change.Text about template) s = text_step profile r o about template s
+step_by profile r o (change.Text about template) s =
+    text_step profile (record { rule = r; escape = escape_of r.sets; operator = o; target = about; written = template.written }) template s
 step_by profile r o (change.Run braces template) s = run_step profile r o braces template s
 
 -- an assignment of a rule; one to a final key changes nothing

@@ -1,8 +1,9 @@
 -- Tags, as TAG changes them.
-use Rattle.std.specs.Prelude.{ℕ, Bool, ◌==◌, ◌||◌, ◌&&◌, nat_le, if◌then◌else◌, List, [], ◌∷◌, length, None}
+use Rattle.std.specs.Prelude.{ℕ, Bool, ◌==◌, ◌||◌, ◌&&◌, nat_le, if◌then◌else◌, List, [], length, None}
 use Rattle.std.specs.Char.{is_ascii_alphanumeric}
 use Rattle.std.specs.List.{list_all}
 use Rattle.text_bytes.specs.Names.{minus, underscore}
+use Rattle.text_bytes.specs.Texts.{is_empty}
 use Rattle.text_tables.specs.Texts.{Text, with_text, without_text}
 use Rattle.rule_types.specs.declared.keys.Key.TheVariants as key
 use Rattle.rule_types.specs.declared.roles.AssignOperator.{AssignOperator}
@@ -35,8 +36,7 @@ with_tag t s = record s { gone = without_text s.gone t; state = record s.state {
 
 -- a text is added as a tag; one that is not a tag leaves a note
 abbrev pub tag_added : Rule → Text → Scene → Scene
-tag_added r [] s = noted_key r NoValue key.Tag None s
-tag_added r (b ∷ t) s = if is_tag (b ∷ t) then with_tag (b ∷ t) s else noted r TagIgnored (b ∷ t) s
+tag_added r t s = if is_empty t then noted_key r NoValue key.Tag None s else if is_tag t then with_tag t s else noted r TagIgnored t s
 
 -- a scene without tags
 abbrev pub without_tags : Scene → Scene

@@ -1,10 +1,11 @@
 //! What each key makes of the text that is assigned to it.
-ghost use Rattle.std.specs.Prelude.{◌≡◌, ℕ, List, [], ◌∷◌, ◌++◌, OnOk, OnErr, IfOk};
+ghost use Rattle.std.specs.Prelude.{◌≡◌, [], ◌∷◌, ◌++◌, OnOk, OnErr, IfOk};
 ghost use Rattle.text_tables.specs.Pairs.{with_value};
 ghost use Rattle.eval_assignments.specs.Assigning.{assigned, group_set, labels_before, link_text, or_written, owner_set, unless_empty};
 
 use crate::attributes::set_attribute;
 use crate::escapes::{Escape, with_underscores};
+use crate::givens::Given;
 use crate::links::change_udev_links;
 use crate::lists::{change_links, change_tags};
 use crate::modes::set_mode;
@@ -80,17 +81,15 @@ fn set_udev_label(
 /// Assigns a text as the manual has it, by what it is assigned to.
 fn assign_manual(
     alloc: Global,
-    rule: &Rule,
-    escape: Escape,
-    operator: AssignOperator,
-    target: &Target,
+    given: &Given<'_>,
     text: Bytes,
     scene: &mut Scene<'_>,
 ) -> Result<(), AllocError>
-    ensures scene { OnOk result ((written : List ℕ) → scene.new ≡ assigned Profile.Manual rule.now escape operator target.now written text scene.old) }
+    ensures scene { OnOk result (scene.new ≡ assigned Profile.Manual given.now.target given.now text scene.old) }
     ensures refused { OnErr result (scene.new.state.event ≡ scene.old.state.event) }
 {
-    match target {
+    let operator = given.operator;
+    match given.target {
         Target::Owner => scene.owner = unless_empty(text),
         Target::Group => scene.group = unless_empty(text),
         Target::Mode => scene.mode = unless_empty(text),
@@ -99,20 +98,15 @@ fn assign_manual(
             set_label(alloc, operator, name.as_slice(), text, &mut scene.labels)?;
         }
         Target::Env(name) => {
-            change_property(
-                alloc,
-                rule,
-                operator,
-                name.as_slice(),
-                text.as_slice(),
-                scene,
-            )?;
+            let (name, text) = (name.as_slice(), text.as_slice());
+            change_property(alloc, given.rule, operator, name, text, scene)?;
         }
         Target::Name => {
-            scene.state.name = unless_empty(name_text(alloc, Profile::Manual, escape, text)?);
+            let name = name_text(alloc, Profile::Manual, given.escape, text)?;
+            scene.state.name = unless_empty(name);
         }
         Target::Symlink => {
-            let names = link_text(alloc, escape, text)?;
+            let names = link_text(alloc, given.escape, text)?;
             change_links(alloc, operator, names.as_slice(), &mut scene.state.links)?;
         }
         Target::Attr(name) => scene.attrs.put(alloc, name.as_slice(), text)?,
@@ -170,18 +164,15 @@ fn or_written(alloc: Global, written: &[u8], text: Bytes) -> Result<Bytes, Alloc
 /// Assigns a text as udev does (systemd 257), by what it is assigned to.
 fn assign_udev(
     alloc: Global,
-    rule: &Rule,
-    escape: Escape,
-    operator: AssignOperator,
-    target: &Target,
-    written: &[u8],
+    given: &Given<'_>,
     text: Bytes,
     scene: &mut Scene<'_>,
 ) -> Result<(), AllocError>
-    ensures scene { OnOk result (scene.new ≡ assigned Profile.Udev rule.now escape operator target.now written.now text scene.old) }
+    ensures scene { OnOk result (scene.new ≡ assigned Profile.Udev given.now.target given.now text scene.old) }
     ensures refused { OnErr result (scene.new.state.event ≡ scene.old.state.event) }
 {
-    match target {
+    let (rule, operator, escape, written) = (given.rule, given.operator, given.escape, given.written);
+    match given.target {
         Target::Owner => set_owner(alloc, rule, text, scene),
         Target::Group => set_group(alloc, rule, text, scene),
         Target::Mode => set_mode(alloc, rule, text.as_slice(), scene),
@@ -207,25 +198,19 @@ fn assign_udev(
     }
 }
 
-/// Assigns a text by a profile: as it is written and once it is rendered.
+/// Assigns a text by a profile, once it is rendered.
 pub(crate) fn assign(
     alloc: Global,
     profile: Profile,
-    rule: &Rule,
-    escape: Escape,
-    operator: AssignOperator,
-    target: &Target,
-    written: &[u8],
+    given: &Given<'_>,
     text: Bytes,
     scene: &mut Scene<'_>,
 ) -> Result<(), AllocError>
-    ensures scene { OnOk result (scene.new ≡ assigned profile rule.now escape operator target.now written.now text scene.old) }
+    ensures scene { OnOk result (scene.new ≡ assigned profile given.now.target given.now text scene.old) }
     ensures refused { OnErr result (scene.new.state.event ≡ scene.old.state.event) }
 {
     match profile {
-        Profile::Manual => assign_manual(alloc, rule, escape, operator, target, text, scene),
-        Profile::Udev => {
-            assign_udev(alloc, rule, escape, operator, target, written, text, scene)
-        }
+        Profile::Manual => assign_manual(alloc, given, text, scene),
+        Profile::Udev => assign_udev(alloc, given, text, scene),
     }
 }

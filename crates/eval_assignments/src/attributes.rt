@@ -3,9 +3,9 @@ ghost use Rattle.std.specs.Prelude.{◌≡◌, ◌++◌, ◌∷◌, nat_lt, code
 ghost use Rattle.text_bytes.specs.Names.{slash};
 ghost use Rattle.eval_state.specs.Named.{named_place};
 ghost use Rattle.eval_assignments.specs.Attributes.{attribute_put, attribute_set, attribute_set_at, found_above, own_attribute_set};
-ghost use Rattle.eval_assignments.specs.Bounds.{most_name_bytes};
+ghost use Rattle.eval_rendering.specs.Bounds.{most_path_bytes};
 
-use crate::bounds::MAX_NAME_BYTES;
+use eval_rendering::MAX_PATH_BYTES;
 use eval_state::{Chain, Named, NoteKind, Scene, starred};
 use rule_types::{Key, Rule};
 use std::alloc::{AllocError, Global};
@@ -31,9 +31,9 @@ fn put_attribute(
 
 /// Whether the path of an attribute of a device has more bytes than udev has room for.
 fn is_path_long(path: &[u8], name: &[u8]) -> bool
-    ensures { result ≡ nat_lt most_name_bytes (length (codes "/sys" ++ path.now ++ slash ∷ name.now)) }
+    ensures { result ≡ nat_lt most_path_bytes (length (codes "/sys" ++ path.now ++ slash ∷ name.now)) }
 {
-    let most = MAX_NAME_BYTES - b"/sys/".len();
+    let most = MAX_PATH_BYTES - b"/sys/".len();
     path.len() > most || name.len() > most - path.len()
 }
 

@@ -1,6 +1,6 @@
 //! What becomes of bytes of links and names that do not belong there, as OPTIONS of a rule has it.
 ghost use Rattle.std.specs.Prelude.{◌≡◌, IfOk};
-ghost use Rattle.eval_assignments.specs.Escapes.{escape_after, escape_of, mode_in, mode_of, mode_of_name, underscored_byte, with_underscores};
+ghost use Rattle.eval_assignments.specs.Escapes.{escape_after, escape_of, mode_of, underscored_byte, with_underscores};
 
 use eval_rendering::Mode;
 use rule_types::{Assignment, Change, RuleOption, Target};
@@ -41,34 +41,21 @@ pub(crate) fn escape_of(sets: &[Assignment]) -> Escape
     escape
 }
 
-/// What a text is rendered for: links and names are made safe unless the rule keeps their bytes.
+/// What a text is rendered for: links and names are made safe unless the rule keeps their bytes; udev has a replacement
+/// of its own for bytes of a name.
 pub(crate) fn mode_of(profile: Profile, target: &Target, escape: Escape) -> Mode
     ensures { result ≡ mode_of profile target.now escape }
 {
     match escape {
         Escape::Keep => Mode::Plain,
-        _ => mode_in(profile, target),
-    }
-}
-
-/// What a text is rendered for if bytes are replaced.
-fn mode_in(profile: Profile, target: &Target) -> Mode
-    ensures { result ≡ mode_in profile target.now }
-{
-    match target {
-        Target::Name => mode_of_name(profile),
-        Target::Symlink => Mode::Link,
-        _ => Mode::Plain,
-    }
-}
-
-/// What a name is rendered for: udev has its own replacement for bytes of a name.
-fn mode_of_name(profile: Profile) -> Mode
-    ensures { result ≡ mode_of_name profile }
-{
-    match profile {
-        Profile::Manual => Mode::Link,
-        Profile::Udev => Mode::Plain,
+        _ => match target {
+            Target::Symlink => Mode::Link,
+            Target::Name => match profile {
+                Profile::Manual => Mode::Link,
+                Profile::Udev => Mode::Plain,
+            },
+            _ => Mode::Plain,
+        },
     }
 }
 

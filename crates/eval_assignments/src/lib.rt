@@ -12,6 +12,7 @@ mod attributes;
 mod bounds;
 mod escapes;
 mod finals;
+mod givens;
 mod laws;
 mod links;
 mod lists;

@@ -5,9 +5,8 @@ ghost use Rattle.text_bytes.specs.Names.{dot};
 ghost use Rattle.text_bytes.specs.Texts.{begins_with, skip_while};
 ghost use Rattle.eval_assignments.specs.Parameters.{exchanged, is_separator, parameter_name, parameter_put, parameter_set, with_slashes};
 
-use crate::bounds::MAX_NAME_BYTES;
 use crate::links::{components, joined};
-use eval_rendering::{Rendered, render_text};
+use eval_rendering::{MAX_PATH_BYTES, Rendered, render_text};
 use eval_state::{NoteKind, Scene};
 use rule_types::{Key, Rule};
 use std::alloc::{AllocError, Global};
@@ -108,6 +107,6 @@ pub(crate) fn set_parameter(
     ensures scene { OnOk result (scene.new ≡ parameter_set rule.now written.now value scene.old) }
     ensures refused { OnErr result (scene.new.state.event ≡ scene.old.state.event) }
 {
-    let name = render_text(alloc, written, &scene.state)?.within(MAX_NAME_BYTES);
+    let name = render_text(alloc, written, &scene.state)?.within(MAX_PATH_BYTES);
     put_parameter(alloc, rule, written, name, value, scene)
 }

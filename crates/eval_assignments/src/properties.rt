@@ -1,18 +1,15 @@
 //! Properties, as ENV changes them.
 ghost use Rattle.std.specs.Prelude.{◌≡◌, ◌∷◌, ◌++◌, OnOk, OnErr, IfOk, option_map};
 ghost use Rattle.text_bytes.specs.Names.{space};
-ghost use Rattle.eval_assignments.specs.Properties.{appended, env_text, extended, property_added, property_changed, property_extended, property_joined, property_put, short_value, udev_property_changed, unslashed_byte};
+ghost use Rattle.eval_rendering.specs.Bounds.{short};
+ghost use Rattle.eval_assignments.specs.Properties.{appended, env_text, extended, property_added, property_changed, property_extended, property_joined, property_put, udev_property_changed, unslashed_byte};
 
-use crate::bounds::MAX_VALUE_BYTES;
 use crate::escapes::{Escape, with_underscores};
-use eval_rendering::link_safe;
+use eval_rendering::{MAX_BYTES, MAX_VALUE_BYTES, link_safe};
 use eval_state::{Scene, set_property};
 use rule_types::{AssignOperator, Key, Rule};
 use std::alloc::{AllocError, Global};
 use text_bytes::Bytes;
-
-/// The most bytes of a value that is put together.
-const MAX_BYTES: usize = 16384;
 
 /// A text after a value, with a space between them; `None` if that is too long. The text alone if the value is
 /// empty.
@@ -110,7 +107,7 @@ fn env_text(alloc: Global, escape: Escape, text: &[u8]) -> Result<Bytes, AllocEr
 
 /// A text, unless it is too long for a value of udev.
 fn short_value(text: Bytes) -> Option<Bytes>
-    ensures { result ≡ short_value text }
+    ensures { result ≡ short text }
 {
     if text.as_slice().len() > MAX_VALUE_BYTES {
         None

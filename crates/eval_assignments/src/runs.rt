@@ -6,10 +6,9 @@ ghost use Rattle.eval_state.specs.declared.scene.Scene.{Scene};
 ghost use Rattle.eval_assignments.specs.Runs.{command_made, made_before, run_kept, run_made, run_rendered};
 ghost use Rattle.eval_assignments.specs.Links.{words};
 
-use crate::bounds::MAX_COMMAND_BYTES;
 use crate::finals::finish;
 use crate::links::words;
-use eval_rendering::{Mode, Rendered, render};
+use eval_rendering::{MAX_COMMAND_BYTES, Mode, Rendered, render};
 use eval_state::{FinalKey, MadeRun, NoteKind, Run, Scene};
 use rule_templates::Template;
 use rule_types::{AssignOperator, Key, Rule, RunType};

@@ -8,6 +8,7 @@ use crate::assigning::assign;
 use crate::bounds::most_bytes_of;
 use crate::escapes::{Escape, escape_of, mode_of};
 use crate::finals::{final_key, final_option, final_target, finish, is_settled};
+use crate::givens::Given;
 use crate::names::has_name;
 use crate::options::set_option;
 use crate::runs::{keep_run, render_run};
@@ -33,24 +34,18 @@ fn is_ignored(profile: Profile, target: &Target, scene: &Scene<'_>) -> bool
 fn set_given(
     alloc: Global,
     profile: Profile,
-    rule: &Rule,
-    escape: Escape,
-    operator: AssignOperator,
-    target: &Target,
-    written: &[u8],
+    given: &Given<'_>,
     text: Bytes,
     scene: &mut Scene<'_>,
 ) -> Result<(), AllocError>
-    ensures scene { OnOk result (scene.new ≡ text_given profile rule.now escape operator target.now written.now text scene.old) }
+    ensures scene { OnOk result (scene.new ≡ text_given profile given.now text scene.old) }
     ensures refused { OnErr result (scene.new.state.event ≡ scene.old.state.event) }
 {
-    if is_ignored(profile, target, scene) {
-        return scene.note(alloc, rule, NoteKind::NameIgnored, text.as_slice());
+    if is_ignored(profile, given.target, scene) {
+        return scene.note(alloc, given.rule, NoteKind::NameIgnored, text.as_slice());
     }
-    assign(
-        alloc, profile, rule, escape, operator, target, written, text, scene,
-    )?;
-    finish(operator, final_target(target), scene);
+    assign(alloc, profile, given, text, scene)?;
+    finish(given.operator, final_target(given.target), scene);
     Ok(())
 }
 
@@ -73,26 +68,19 @@ fn finish_too_long(
 fn set_text(
     alloc: Global,
     profile: Profile,
-    rule: &Rule,
-    escape: Escape,
-    operator: AssignOperator,
-    target: &Target,
-    written: &[u8],
+    given: &Given<'_>,
     rendered: Rendered,
     scene: &mut Scene<'_>,
 ) -> Result<(), AllocError>
-    ensures scene { OnOk result (scene.new ≡ text_set profile rule.now escape operator target.now written.now rendered scene.old) }
+    ensures scene { OnOk result (scene.new ≡ text_set profile given.now rendered scene.old) }
     ensures refused { OnErr result (scene.new.state.event ≡ scene.old.state.event) }
 {
+    let target = given.target;
     match rendered {
-        Rendered::Text(text) => {
-            set_given(
-                alloc, profile, rule, escape, operator, target, written, text, scene,
-            )
-        }
+        Rendered::Text(text) => set_given(alloc, profile, given, text, scene),
         Rendered::TooLong => {
-            scene.note_too_long(alloc, rule, target.key(), target.attribute())?;
-            finish_too_long(profile, operator, target, scene);
+            scene.note_too_long(alloc, given.rule, target.key(), target.attribute())?;
+            finish_too_long(profile, given.operator, target, scene);
             Ok(())
         }
     }
@@ -142,112 +130,69 @@ fn empty(operator: AssignOperator, target: &Target, scene: &mut Scene<'_>)
 /// Renders a text and assigns it, as the manual has it.
 fn render_manual(
     alloc: Global,
-    rule: &Rule,
-    escape: Escape,
-    operator: AssignOperator,
-    target: &Target,
+    given: &Given<'_>,
     template: &Template,
     scene: &mut Scene<'_>,
 ) -> Result<(), AllocError>
-    requires { escape ≡ escape_of rule.now.sets }
-    ensures scene { OnOk result (scene.new ≡ text_rendered Profile.Manual rule.now operator target.now template.now scene.old) }
+    ensures scene { OnOk result (scene.new ≡ text_rendered Profile.Manual given.now template.now scene.old) }
     ensures refused { OnErr result (scene.new.state.event ≡ scene.old.state.event) }
 {
     let profile = Profile::Manual;
-    let rendered = render(
-        alloc,
-        template,
-        &scene.state,
-        mode_of(profile, target, escape),
-    )?;
-    set_text(
-        alloc,
-        profile,
-        rule,
-        escape,
-        operator,
-        target,
-        template.written(),
-        rendered,
-        scene,
-    )
+    let mode = mode_of(profile, given.target, given.escape);
+    let rendered = render(alloc, template, &scene.state, mode)?;
+    set_text(alloc, profile, given, rendered, scene)
 }
 
 /// Renders a text and assigns it, as udev does: it has at most as many bytes as udev has room for.
 fn render_udev(
     alloc: Global,
-    rule: &Rule,
-    escape: Escape,
-    operator: AssignOperator,
-    target: &Target,
+    given: &Given<'_>,
     template: &Template,
     scene: &mut Scene<'_>,
 ) -> Result<(), AllocError>
-    requires { escape ≡ escape_of rule.now.sets }
-    ensures scene { OnOk result (scene.new ≡ text_rendered Profile.Udev rule.now operator target.now template.now scene.old) }
+    ensures scene { OnOk result (scene.new ≡ text_rendered Profile.Udev given.now template.now scene.old) }
     ensures refused { OnErr result (scene.new.state.event ≡ scene.old.state.event) }
 {
     let profile = Profile::Udev;
-    let rendered = render(
-        alloc,
-        template,
-        &scene.state,
-        mode_of(profile, target, escape),
-    )?;
-    let short = rendered.within(most_bytes_of(target));
-    set_text(
-        alloc,
-        profile,
-        rule,
-        escape,
-        operator,
-        target,
-        template.written(),
-        short,
-        scene,
-    )
+    let mode = mode_of(profile, given.target, given.escape);
+    let rendered = render(alloc, template, &scene.state, mode)?;
+    let short = rendered.within(most_bytes_of(given.target));
+    set_text(alloc, profile, given, short, scene)
 }
 
 /// An assignment of a text, as udev makes it.
 fn step_udev(
     alloc: Global,
-    rule: &Rule,
-    escape: Escape,
-    operator: AssignOperator,
-    target: &Target,
+    given: &Given<'_>,
     template: &Template,
     scene: &mut Scene<'_>,
 ) -> Result<(), AllocError>
-    requires { escape ≡ escape_of rule.now.sets }
-    ensures scene { OnOk result (scene.new ≡ text_step Profile.Udev rule.now operator target.now template.now scene.old) }
+    ensures scene { OnOk result (scene.new ≡ text_step Profile.Udev given.now template.now scene.old) }
     ensures refused { OnErr result (scene.new.state.event ≡ scene.old.state.event) }
 {
+    let target = given.target;
     if lacks_number(target, scene.state.event.device().number()) {
         let (key, attribute) = (target.key(), target.attribute());
-        return scene.note_key(alloc, rule, NoteKind::NoDeviceNumber, key, attribute);
+        return scene.note_key(alloc, given.rule, NoteKind::NoDeviceNumber, key, attribute);
     }
-    empty(operator, target, scene);
-    render_udev(alloc, rule, escape, operator, target, template, scene)
+    empty(given.operator, target, scene);
+    render_udev(alloc, given, template, scene)
 }
 
 /// An assignment of a text.
 fn step_text(
     alloc: Global,
     profile: Profile,
-    rule: &Rule,
-    escape: Escape,
-    operator: AssignOperator,
-    target: &Target,
+    given: &Given<'_>,
     template: &Template,
     scene: &mut Scene<'_>,
 ) -> Result<(), AllocError>
-    requires { escape ≡ escape_of rule.now.sets }
-    ensures scene { OnOk result (scene.new ≡ text_step profile rule.now operator target.now template.now scene.old) }
+    ensures scene { OnOk result (scene.new ≡ text_step profile given.now template.now scene.old) }
     ensures refused { OnErr result (scene.new.state.event ≡ scene.old.state.event) }
 {
     match profile {
-        Profile::Manual => render_manual(alloc, rule, escape, operator, target, template, scene),
-        Profile::Udev => step_udev(alloc, rule, escape, operator, target, template, scene),
+        Profile::Manual => render_manual(alloc, given, template, scene),
+        Profile::Udev => step_udev(alloc, given, template, scene),
     }
 }
 
@@ -291,9 +236,14 @@ fn step_by<'a>(
             Ok(())
         }
         Change::Text(target, template) => {
-            step_text(
-                alloc, profile, rule, escape, operator, target, template, scene,
-            )
+            let given = Given {
+                rule,
+                escape,
+                operator,
+                target,
+                written: template.written(),
+            };
+            step_text(alloc, profile, &given, template, scene)
         }
         Change::Run(braces, template) => {
             step_run(alloc, profile, rule, operator, *braces, template, scene)

@@ -5,7 +5,7 @@
 ghost use Rattle.std.specs.Prelude.{◌≡◌, ◌∷◌, ◌++◌, [], IfOk, OnOk, List, codes};
 ghost use Rattle.text_tables.specs.Pairs.{Pair, value_of};
 ghost use Rattle.rule_types.specs.declared.part.Import.TheVariants as import;
-ghost use Rattle.eval_acts.specs.ActTexts.{import_text, most_command_bytes, names_text, program_text, test_text};
+ghost use Rattle.eval_acts.specs.ActTexts.{import_text, names_text, program_text, test_text};
 ghost use Rattle.eval_acts.specs.Acts.{act_step};
 ghost use Rattle.text_bytes.specs.Names.{space};
 ghost use Rattle.eval_effects.specs.Shown.{shown};
@@ -13,16 +13,15 @@ ghost use Rattle.eval_courses.specs.Acts.{act_kind_report, act_report, answer_re
 ghost use Rattle.eval_courses.specs.Inner.{done_report, report_after};
 ghost use Rattle.eval_courses.specs.Keys.{act_key};
 ghost use Rattle.eval_courses.specs.Looks.{met};
+ghost use Rattle.eval_rendering.specs.Bounds.{most_command_bytes};
 
 use crate::answers::{answer_to, answered_start, command_asked, unanswered};
 use crate::keys::push_act_key;
 use crate::plain::push_met;
 use crate::properties::{copied, newly_set, push_set};
-use eval_acts::{
-    MAX_COMMAND_BYTES, MAX_PATH_BYTES, act_step, import_text, names_text, program_text, test_text,
-};
+use eval_acts::{act_step, import_text, names_text, program_text, test_text};
 use eval_effects::push_shown;
-use eval_rendering::Rendered;
+use eval_rendering::{MAX_COMMAND_BYTES, MAX_PATH_BYTES, Rendered};
 use eval_state::{Chain, Named, Scene, State};
 use hwdb_lookup::Lookup;
 use rule_templates::Template;

@@ -23,6 +23,7 @@ use Rattle.eval_state.specs.declared.scene.Scene.{Scene}
 use Rattle.eval_assignments.specs.Assigning.{assigned}
 use Rattle.eval_assignments.specs.Escapes.{escape_of}
 use Rattle.eval_assignments.specs.Finality.{final_target, finally, is_settled}
+use Rattle.eval_assignments.specs.Inner.{given_by}
 use Rattle.eval_assignments.specs.Steps.{emptied, finally_too_long, is_ignored, set_step, step_by, text_rendered, text_set, text_step}
 use Rattle.eval_effects.specs.Laws.{ReportsIgnored, ReportsNone, ReportsSkipped, ReportsTooLong, is_skipped, rendered_of}
 
@@ -70,13 +71,13 @@ module _ (r : Rule) (o : AssignOperator) (about : Target) (template : Template) 
 
   -- an assignment of a text that is not skipped
   step_over : (profile : Profile) (s : Scene) → is_skipped profile about s ≡ false
-      → text_step profile r o about template s ≡ text_set profile r (escape_of r.sets) o about template.written (rendered_of profile r o about template s) (before profile s)
+      → text_step profile (given_by r (escape_of r.sets) o about template.written) template s ≡ text_set profile (given_by r (escape_of r.sets) o about template.written) (rendered_of profile r o about template s) (before profile s)
   unfolding before
   step_over Manual s free = refl
   step_over Udev s free =
-      ap (λ b. cond b (noted_key r NoDeviceNumber (key_of_target about) (attribute_of_target about) s) (text_rendered Udev r o about template (emptied o about s))) free
+      ap (λ b. cond b (noted_key r NoDeviceNumber (key_of_target about) (attribute_of_target about) s) (text_rendered Udev (given_by r (escape_of r.sets) o about template.written) template (emptied o about s))) free
 
-  too_long_notes : (profile : Profile) (s t : Scene) → t ≡ text_set profile r (escape_of r.sets) o about template.written rendered.TooLong (before profile s)
+  too_long_notes : (profile : Profile) (s t : Scene) → t ≡ text_set profile (given_by r (escape_of r.sets) o about template.written) rendered.TooLong (before profile s)
       → t.notes ≡ s.notes ++ note_about r TextTooLong (word_of_key (key_of_target about) (attribute_of_target about)) ∷ []
   too_long_notes profile s t e =
       ap (λ (u : Scene). u.notes) e
@@ -84,13 +85,13 @@ module _ (r : Rule) (o : AssignOperator) (about : Target) (template : Template) 
       ∙ ap (λ notes. notes ++ note_about r TextTooLong (word_of_key (key_of_target about) (attribute_of_target about)) ∷ []) (same_before profile s)
 
   skipped : (profile : Profile) (s : Scene) → is_skipped profile about s ≡ true
-      → text_step profile r o about template s ≡ noted_key r NoDeviceNumber (key_of_target about) (attribute_of_target about) s
+      → text_step profile (given_by r (escape_of r.sets) o about template.written) template s ≡ noted_key r NoDeviceNumber (key_of_target about) (attribute_of_target about) s
   skipped Manual s over = cc
   skipped Udev s over =
-      ap (λ b. cond b (noted_key r NoDeviceNumber (key_of_target about) (attribute_of_target about) s) (text_rendered Udev r o about template (emptied o about s))) over
+      ap (λ b. cond b (noted_key r NoDeviceNumber (key_of_target about) (attribute_of_target about) s) (text_rendered Udev (given_by r (escape_of r.sets) o about template.written) template (emptied o about s))) over
 
   step_free : (s : Scene) → is_settled (final_target about) s.finals ≡ false
-      → set_step r s (record { operator = o; change = change.Text about template }) ≡ text_step s.state.event.profile r o about template s
+      → set_step r s (record { operator = o; change = change.Text about template }) ≡ text_step s.state.event.profile (given_by r (escape_of r.sets) o about template.written) template s
   unfolding set_step
   step_free s free = ap (λ b. cond b s (step_by s.state.event.profile r o (change.Text about template) s)) free
 
@@ -114,7 +115,7 @@ reports_too_long r o about template s free over long =
     reported TextTooLong (word_of_key (key_of_target about) (attribute_of_target about)) r s (set_step r s (record { operator = o; change = change.Text about template }))
     (too_long_notes r o about template s.state.event.profile s (set_step r s (record { operator = o; change = change.Text about template }))
     (step_free r o about template s free ∙ step_over r o about template s.state.event.profile s over
-    ∙ ap (λ (given : Rendered). text_set s.state.event.profile r (escape_of r.sets) o about template.written given (before r o about template s.state.event.profile s)) long))
+    ∙ ap (λ (given : Rendered). text_set s.state.event.profile (given_by r (escape_of r.sets) o about template.written) given (before r o about template s.state.event.profile s)) long))
 
 pub reports_ignored : ReportsIgnored
 reports_ignored r o about template s t free over made ignored =
@@ -123,7 +124,7 @@ reports_ignored r o about template s t free over made ignored =
     reported NameIgnored t r s (set_step r s (record { operator = o; change = change.Text about template }))
     (ap (λ (u : Scene). u.notes)
     (step_free r o about template s free ∙ step_over r o about template profile s over
-    ∙ ap (λ (given : Rendered). text_set profile r (escape_of r.sets) o about template.written given u) made
-    ∙ ap (λ b. cond b (noted r NameIgnored t u) (finally o (final_target about) (assigned profile r (escape_of r.sets) o about template.written t u)))
+    ∙ ap (λ (given : Rendered). text_set profile (given_by r (escape_of r.sets) o about template.written) given u) made
+    ∙ ap (λ b. cond b (noted r NameIgnored t u) (finally o (final_target about) (assigned profile about (given_by r (escape_of r.sets) o about template.written) t u)))
     (ignored_same r o about template profile s ∙ ignored))
     ∙ ap (λ notes. notes ++ note_about r NameIgnored t ∷ []) (same_before r o about template profile s))

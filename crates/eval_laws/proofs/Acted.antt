@@ -13,19 +13,21 @@ use Rattle.text_core.specs.Choices.{choice_fits}
 use Rattle.text_core.specs.Fnmatch.{fnmatch_items}
 use Rattle.text_core.specs.declared.item.Item.{Item}
 use Rattle.text_core.specs.declared.reading.Reading.TheVariants.{Exact}
-use Rattle.rule_templates.specs.Template.{Parts as Template}
 use Rattle.hwdb_lookup.specs.declared.entry.Entry.{Entry}
 use Rattle.rule_types.specs.Names.{import_name}
-use Rattle.rule_types.specs.WrittenParts.{attribute_of_act_kind, key_of_act_kind, type_of}
+use Rattle.rule_types.specs.WrittenParts.{attribute_of_act_kind, key_of_act_kind}
 use Rattle.rule_types.specs.declared.part.Act.{Act}
 use Rattle.rule_types.specs.declared.part.ActKind.{ActKind}
 use Rattle.rule_types.specs.declared.part.ActKind.TheVariants as act_kind
 use Rattle.rule_types.specs.declared.part.Import.{Import}
 use Rattle.rule_types.specs.declared.part.Import.TheVariants as import
+use Rattle.rule_types.specs.declared.types.ImportType.{ImportType}
+use Rattle.rule_types.specs.declared.types.ImportType.TheVariants as import_of
 use Rattle.rule_types.specs.Rules.{Rule}
 use Rattle.device_core.specs.Values.{AnswerValue, DeviceValue, EventValue}
 use Rattle.eval_laws.specs.DeviceWeights.{device_weight, devices_weight, event_weight, pair_weight, pairs_weight}
 use Rattle.eval_state.specs.Chains.{device_at}
+use Rattle.eval_rendering.specs.Bounds.{most_command_bytes, most_path_bytes}
 use Rattle.eval_rendering.specs.declared.rendered.Rendered.{Rendered}
 use Rattle.eval_rendering.specs.declared.rendered.Rendered.TheVariants as rendered
 use Rattle.eval_state.specs.Notes.{word_of_key}
@@ -51,8 +53,9 @@ use Rattle.eval_acts.specs.declared.builtin.Builtin.{Builtin}
 use Rattle.eval_acts.specs.declared.builtin.Builtin.TheVariants as asked_for
 use Rattle.eval_state.specs.Named.{NamedValue, named, named_place}
 use Rattle.eval_state.specs.Properties.{properties_set, property_set}
-use Rattle.eval_acts.specs.ActTexts.{import_text, most_command_bytes, most_path_bytes, names_text, program_text, test_text}
-use Rattle.eval_acts.specs.Acts.{act_step, from_parent_by, imported, on_text, parent_imported, performed, program_imported, unrun}
+use Rattle.eval_acts.specs.ActTexts.{import_text, names_text, program_text, test_text}
+use Rattle.eval_acts.specs.Acts.{act_step, from_parent_by, imported, on_text, performed}
+use Rattle.eval_acts.specs.Inner.{left}
 use Rattle.eval_acts.specs.Imports.{builtin_run, from_answer_or_noted, from_parent, from_program, names_fitting, not_run, run_builtin, with_found}
 use Rattle.eval_acts.specs.Printed.{printed_properties}
 use Rattle.eval_acts.specs.Questions.{answered_by_block, answered_or_noted, result_of, tested, tested_at, tested_by, tested_by_udev, with_result}
@@ -157,7 +160,7 @@ module _ (event : EventValue) where
     notes kind text = more event (n + (length r.file + 56)) (n + most) _ (omega (arith, room)) (noted_within event n r kind text s h)
 
     on_text_within : (d : ActKind) (act : Text → Scene → Scene × Bool) (given : Rendered) → ((text : Text) → Within event (n + most) (act text s).0)
-        → Within event (n + most) (on_text r d act given s).0
+        → Within event (n + most) (left r d (on_text act given s))
     on_text_within d act (rendered.Text text) each = each text
     on_text_within d act rendered.TooLong each = notes TextTooLong (word_of_key (key_of_act_kind d) (attribute_of_act_kind d))
 
@@ -259,14 +262,8 @@ module _ (event : EventValue) where
     builtin_within Manual entries command light = manual_within entries command (command_words command) (omega (arith, light))
     builtin_within Udev entries command light = meant_within entries command (builtin Udev command) light
 
-    not_run_within : (from : Import) → Within event (n + most) (not_run r from s).0
-    not_run_within from = notes ImportNotRun (import_name (type_of from))
-
-    parent_by_within : (profile : Profile) (d : ActKind) (names : List (List Item)) (text : Text) → pairs_weight (env_of (device_at s.state.event 1)) ≤ most
-        → Within event (n + most) (parent_imported profile r d names text s).0
-    parent_by_within Manual d names text light = parent_within names (device_at s.state.event 1) light
-    parent_by_within Udev d names text light =
-        on_text_within d from_parent_by (names_text text s.state) (λ found. parent_within (fnmatch_items Exact found 0 ∷ []) (device_at s.state.event 1) light)
+    not_run_within : (type : ImportType) → Within event (n + most) (not_run r type s).0
+    not_run_within type = notes ImportNotRun (import_name type)
 
     printed_within : (command : Text) (answer : Option AnswerValue) → answered_weight answer ≤ most → Within event (n + most) (from_answer_or_noted r command answer s).0
     printed_within command None light = notes NoAnswer command
@@ -276,37 +273,48 @@ module _ (event : EventValue) where
         by true = let a = printed_light answer.text in more_env Udev (printed_properties answer.text) (omega (arith, a, light))
         by false = stays
 
-    program_within : (profile : Profile) (d : ActKind) (from : Import) (template : Template) → event_weight event ≤ most → Within event (n + most) (program_imported profile r d from template s).0
-    program_within Manual d from template short = not_run_within from
-    program_within Udev d from template short =
-        on_text_within d (from_program r) (import_text most_command_bytes template s.state)
-        (λ command. let a = answers_light event command in
+    program_within : (command : Text) → event_weight event ≤ most → Within event (n + most) (from_program r command s).0
+    program_within command short =
+        let a = answers_light event command in
         let b = ap (λ e. answered_weight (value_of e.programs command)) h.same in
-        printed_within command (value_of s.state.event.programs command) (omega (arith, a, b, short)))
+        printed_within command (value_of s.state.event.programs command) (omega (arith, a, b, short))
 
-    unrun_within : (profile : Profile) (d : ActKind) (from : Import) (bytes : ℕ) (template : Template) → Within event (n + most) (unrun profile r d from bytes template s).0
-    unrun_within Manual d from bytes template = not_run_within from
-    unrun_within Udev d from bytes template = on_text_within d (λ text. not_run r from) (import_text bytes template s.state) (λ text. not_run_within from)
-
-    import_within : (entries : List Entry) (from : Import) → entries_weight entries + (builtin_allowance event.profile + (length r.file + 56)) ≤ most → event_weight event ≤ most → Within event (n + most) (imported entries r (act_kind.Import from) from s).0
-    import_within entries (import.Builtin template) light short =
-        on_text_within (act_kind.Import (import.Builtin template)) (run_builtin entries r) (import_text most_command_bytes template s.state)
-        (λ command. builtin_within s.state.event.profile entries command (let same = ap (λ e. builtin_allowance e.profile) h.same in omega (arith, same, light)))
-    import_within entries (import.Parent names text) light short =
+    second_within : (names : List (List Item)) → event_weight event ≤ most → Within event (n + most) (from_parent names (device_at s.state.event 1) s).0
+    second_within names short =
         let a = parent_light event in
         let b = ap (λ e. pairs_weight (env_of (device_at e 1))) h.same in
-        parent_by_within s.state.event.profile (act_kind.Import (import.Parent names text)) names text (omega (arith, a, b, short))
-    import_within entries (import.Program template) light short = program_within s.state.event.profile (act_kind.Import (import.Program template)) (import.Program template) template short
-    import_within entries (import.File template) light short = unrun_within s.state.event.profile (act_kind.Import (import.File template)) (import.File template) most_path_bytes template
-    import_within entries (import.Cmdline name) light short = not_run_within (import.Cmdline name)
-    import_within entries (import.Db name) light short = not_run_within (import.Db name)
+        parent_within names (device_at s.state.event 1) (omega (arith, a, b, short))
+
+    built_within : (d : ActKind) (entries : List Entry) (given : Rendered) → entries_weight entries + (builtin_allowance event.profile + (length r.file + 56)) ≤ most
+        → Within event (n + most) (left r d (on_text (run_builtin entries r) given s))
+    built_within d entries given light =
+        on_text_within d (run_builtin entries r) given
+        (λ command. builtin_within s.state.event.profile entries command (let same = ap (λ e. builtin_allowance e.profile) h.same in omega (arith, same, light)))
+
+    import_within : (profile : Profile) (d : ActKind) (entries : List Entry) (from : Import) → entries_weight entries + (builtin_allowance event.profile + (length r.file + 56)) ≤ most → event_weight event ≤ most
+        → Within event (n + most) (left r d (imported profile entries r from s))
+    import_within Manual d entries (import.Builtin template) light short = built_within d entries _ light
+    import_within Udev d entries (import.Builtin template) light short = built_within d entries _ light
+    import_within Manual d entries (import.Parent names text) light short = second_within names short
+    import_within Udev d entries (import.Parent names text) light short =
+        on_text_within d from_parent_by (names_text text s.state) (λ found. second_within (fnmatch_items Exact found 0 ∷ []) short)
+    import_within Manual d entries (import.Program template) light short = not_run_within import_of.Program
+    import_within Udev d entries (import.Program template) light short =
+        on_text_within d (from_program r) (import_text most_command_bytes template s.state) (λ command. program_within command short)
+    import_within Manual d entries (import.File template) light short = not_run_within import_of.File
+    import_within Udev d entries (import.File template) light short =
+        on_text_within d (λ path. not_run r import_of.File) (import_text most_path_bytes template s.state) (λ path. not_run_within import_of.File)
+    import_within Manual d entries (import.Cmdline name) light short = not_run_within import_of.Cmdline
+    import_within Udev d entries (import.Cmdline name) light short = not_run_within import_of.Cmdline
+    import_within Manual d entries (import.Db name) light short = not_run_within import_of.Db
+    import_within Udev d entries (import.Db name) light short = not_run_within import_of.Db
 
   emptied : (n : ℕ) (s : Scene) → Within event n s → Within event n (with_result [] s)
   unfolding scene_weight
   emptied n s h = record { same = h.same; light = h.light }
 
   module _ (len : ℕ) (short : event_weight event ≤ len) (entries : List Entry) where
-    act_kind_within : (n : ℕ) (r : Rule) (s : Scene) → Within event n s → (d : ActKind) → Within event (n + act_kind_allowance event.profile len entries r d) (performed entries r d s).0
+    act_kind_within : (n : ℕ) (r : Rule) (s : Scene) → Within event n s → (d : ActKind) → Within event (n + act_kind_allowance event.profile len entries r d) (left r d (performed entries r d s))
     act_kind_within n r s h (act_kind.Test mask template) =
         let most : ℕ = act_kind_allowance event.profile len entries r (act_kind.Test mask template) in
         on_text_within n r s h most (omega arith) (act_kind.Test mask template) (tested r mask) (test_text template s.state) (tested_within n r s h most (omega arith) mask)
@@ -315,7 +323,7 @@ module _ (event : EventValue) where
         on_text_within n r (with_result [] s) (emptied n s h) most (omega arith) (act_kind.Program template) (answered_by_block r) (program_text template s.state)
         (asked_within n r (with_result [] s) (emptied n s h) most (omega arith))
     act_kind_within n r s h (act_kind.Import from) =
-        import_within n r s h (act_kind_allowance event.profile len entries r (act_kind.Import from)) (omega arith) entries from (omega arith) (omega (arith, short))
+        import_within n r s h (act_kind_allowance event.profile len entries r (act_kind.Import from)) (omega arith) s.state.event.profile (act_kind.Import from) entries from (omega arith) (omega (arith, short))
 
     -- an act
     pub act_within : (r : Rule) (act : Act) (n : ℕ) (s : Scene) → Within event n s → Within event (n + act_kind_allowance event.profile len entries r act.kind) (act_step entries r act s).0

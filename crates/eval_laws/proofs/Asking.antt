@@ -15,7 +15,8 @@ use Rattle.text_bytes.specs.declared.profile.Profile.{Profile}
 use Rattle.text_bytes.specs.declared.profile.Profile.TheVariants.{Manual, Udev}
 use Rattle.eval_acts.specs.ActTexts.{program_text}
 use Rattle.eval_acts.specs.Acts as acts
-use Rattle.eval_acts.specs.Acts.{act_step, came_too_long, proceeding, proceeds, on_text}
+use Rattle.eval_acts.specs.Acts.{act_step, proceeds, on_text}
+use Rattle.eval_acts.specs.Inner.{left}
 use Rattle.eval_acts.specs.Questions.{answered_by_block, answered_or_noted, result_of, with_result}
 use Rattle.rule_types.specs.declared.roles.MatchOperator.TheVariants.{Equal}
 use Rattle.eval_laws.specs.Answered.{IsAnswered, program}
@@ -25,13 +26,17 @@ abbrev answer_with : ℕ → Text → Option AnswerValue
 answer_with n t = Some (record { status = n; text = t })
 
 module _ (r : Rule) (template : Template) (s : Scene) where
+  -- the scene after PROGRAM and whether the rule goes on, by whether it was done
+  abbrev after : Scene × Option Bool → Scene × Bool
+  after went = (left r (act_kind.Program template) went, proceeds went.1 s.state.event.profile Equal)
+
   -- the result of PROGRAM, by how its command is rendered
   came : Rendered → Scene × Bool
-  came given = proceeding (program template) (on_text r (act_kind.Program template) (answered_by_block r) given (with_result [] s))
+  came given = after (on_text (answered_by_block r) given (with_result [] s))
 
   -- the result of an answer, or of none
   went_by : Scene × Bool → Scene × Bool
-  went_by went = proceeding (program template) (acts.tried went)
+  went_by went = after (acts.tried went)
 
   -- The act stops the rule and leaves no result.
   record Fails (went : Scene × Bool) : Type 0 where
@@ -53,7 +58,7 @@ module _ (r : Rule) (template : Template) (s : Scene) where
   by_answer command e None there = inr (record { stops = refl; empty = refl })
   by_answer command e (Some answer) there = by_status command answer e there (answer.status == 0) refl
 
-  too_long_stops : (profile : Profile) → proceeds Equal (came_too_long profile) ≡ false
+  too_long_stops : (profile : Profile) → proceeds None profile Equal ≡ false
   too_long_stops Manual = refl
   too_long_stops Udev = refl
 
@@ -66,8 +71,8 @@ module _ (r : Rule) (template : Template) (s : Scene) where
     pub answered : (text : Text) → IsAnswered template s text → act_step entries r (program template) s ≡ (with_result (result_of s.state.event.profile text) s, true)
     unfolding act_step
     answered text h =
-        ap (λ given. proceeding (program template) (on_text r (act_kind.Program template) (answered_by_block r) given (with_result [] s))) h.rendered
-        ∙ ap (λ answer. proceeding (program template) (acts.tried (answered_or_noted r h.command answer (with_result [] s)))) h.answered
+        ap (λ given. after (on_text (answered_by_block r) given (with_result [] s))) h.rendered
+        ∙ ap (λ answer. after (acts.tried (answered_or_noted r h.command answer (with_result [] s)))) h.answered
 
     is_answered : ((text : Text) × IsAnswered template s text) ⊎ Fails (act_step entries r (program template) s)
     unfolding act_step came

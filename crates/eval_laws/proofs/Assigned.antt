@@ -24,7 +24,7 @@ use Rattle.eval_state.specs.declared.note_kind.NoteKind.{NoteKind}
 use Rattle.eval_state.specs.Named.{NamedValue, named, named_place}
 use Rattle.eval_state.specs.declared.note_kind.NoteKind.TheVariants.{AttributeNotFound, LinkIgnored, ModeIgnored, NoValue, TagIgnored, TextTooLong}
 use Rattle.eval_state.specs.Scenes.{noted, noted_key, with_env}
-use Rattle.eval_rendering.specs.Bounds.{within}
+use Rattle.eval_rendering.specs.Bounds.{most_path_bytes, most_value_bytes, sysfs_path, within}
 use Rattle.eval_rendering.specs.Rendering.{rendered_as_udev}
 use Rattle.eval_rendering.specs.declared.rendered.Mode.TheVariants.{Plain}
 use Rattle.eval_rendering.specs.declared.rendered.Rendered.{Rendered}
@@ -34,8 +34,8 @@ use Rattle.eval_state.specs.declared.scene.Scene.{Scene}
 use Rattle.eval_assignments.specs.Assigning.{assigned, group_set, labels_before, link_text, or_written, owner_set, unless_empty}
 use Rattle.eval_state.specs.Chains.{device_at}
 use Rattle.eval_state.specs.Files.{starred}
-use Rattle.eval_assignments.specs.Attributes.{attribute_path, attribute_put, attribute_set, attribute_set_at, attribute_set_by, found_above, own_attribute_set}
-use Rattle.eval_assignments.specs.Bounds.{most_name_bytes, most_value_bytes}
+use Rattle.eval_assignments.specs.Attributes.{attribute_put, attribute_set, attribute_set_at, attribute_set_by, found_above, own_attribute_set}
+use Rattle.eval_assignments.specs.Inner.{given_by}
 use Rattle.eval_assignments.specs.Links.{first_refused, link_noted, links_changed, plain_links, words}
 use Rattle.eval_assignments.specs.Lists.{changed, link_names, one_tag}
 use Rattle.eval_assignments.specs.Modes.{mode_read, mode_set}
@@ -274,7 +274,7 @@ module _ (event : EventValue) (n : ℕ) (r : Rule) (s : Scene) (h : Within event
         (omega (arith, a, b, short, within_name, fits))
 
     own_within : Within event (n + most) (own_attribute_set r name t s)
-    own_within = by (nat_lt most_name_bytes (length (attribute_path s.state.event name)))
+    own_within = by (nat_lt most_path_bytes (length (sysfs_path s.state.event.device name)))
       where
         by : (b : Bool) → Within event (n + most) (if b then noted_key r TextTooLong key.Attr (Some name) s else attribute_put r name (starred s.state.event.device name) t s)
         by true = notes event n r s h most (omega arith) TextTooLong (word_of_key key.Attr (Some name))
@@ -299,8 +299,8 @@ module _ (event : EventValue) (n : ℕ) (r : Rule) (s : Scene) (h : Within event
 
     named_within : Within event (n + part_allowance r (Some name)) (parameter_set r name t s)
     named_within =
-        parameter_within event n r s h (part_allowance r (Some name)) (omega arith) name (within most_name_bytes (rendered_as_udev name s.state)) t
-        (within_short most_name_bytes (rendered_as_udev name s.state) (rendered_short (record { written = name; pieces = left_of name }) s.state Plain))
+        parameter_within event n r s h (part_allowance r (Some name)) (omega arith) name (within most_path_bytes (rendered_as_udev name s.state)) t
+        (within_short most_path_bytes (rendered_as_udev name s.state) (rendered_short (record { written = name; pieces = left_of name }) s.state Plain))
         (omega (arith, short))
 
   none_added : (k : ℕ) (t : Scene) → Within event (n + k) t → Within event (n + (k + 0)) t
@@ -308,7 +308,7 @@ module _ (event : EventValue) (n : ℕ) (r : Rule) (s : Scene) (h : Within event
 
   -- a text of a key
   pub assigned_within : (profile : Profile) (e : Escape) (o : AssignOperator) (about : Target) (written t : Text) → length t ≤ 16384
-      → Within event (n + (part_allowance r (attribute_of_target about) + text_allowance profile len about written)) (assigned profile r e o about written t s)
+      → Within event (n + (part_allowance r (attribute_of_target about) + text_allowance profile len about written)) (assigned profile about (given_by r e o about written) t s)
   unfolding scene_weight
   assigned_within Manual e o target.Owner written t short = let a = h.light in let b = given_light t in record { same = h.same; light = omega (arith, a, b, short) }
   assigned_within Manual e o target.Group written t short = let a = h.light in let b = given_light t in record { same = h.same; light = omega (arith, a, b, short) }

@@ -16,8 +16,8 @@ use Rattle.eval_state.specs.Chains.{device_at}
 use Rattle.eval_state.specs.Named.{NamedValue, named, named_place}
 use Rattle.eval_state.specs.Texts.{or_empty}
 use Rattle.eval_state.specs.declared.state.State.{State}
-use Rattle.eval_rendering.specs.Bounds.{bounded}
-use Rattle.eval_rendering.specs.Pieces.{attribute, attribute_as, attribute_named, attribute_of, has_long, is_long, most_attribute_bytes, named_attribute, piece_text}
+use Rattle.eval_rendering.specs.Bounds.{bounded, most_value_bytes}
+use Rattle.eval_rendering.specs.Pieces.{attribute, attribute_as, attribute_named, attribute_of, has_long, is_long, named_attribute, piece_text}
 use Rattle.eval_rendering.specs.Rendering.{as_rendered, render, text_in}
 use Rattle.text_links.specs.Safe.{attribute_marks, safe}
 use Rattle.eval_rendering.specs.declared.rendered.Mode.{Mode}
@@ -41,8 +41,8 @@ pub long_is_too_long : (template : Template) (state : State) (mode : Mode) (befo
 unfolding render
 long_is_too_long template state mode before following name udev whole none long =
     let other = as_rendered mode (bounded (flat_map (text_in mode state) template.pieces)) in
-    let found : attribute_as Udev name state ≡ or_empty (attribute name state) = ap (λ (o : Option Text). unwrap_or (option_map (take most_attribute_bytes) o) (or_empty (attribute name state))) none in
-    let here : is_long state (piece.Attr name) ≡ true = ap (λ (t : Text). nat_lt most_attribute_bytes (length t)) found ∙ lt-ltb 511 (length (or_empty (attribute name state))) long in
+    let found : attribute_as Udev name state ≡ or_empty (attribute name state) = ap (λ (o : Option Text). unwrap_or (option_map (take most_value_bytes) o) (or_empty (attribute name state))) none in
+    let here : is_long state (piece.Attr name) ≡ true = ap (λ (t : Text). nat_lt most_value_bytes (length t)) found ∙ lt-ltb 511 (length (or_empty (attribute name state))) long in
     ap (λ (p : Profile). cond (has_long p state template.pieces) rendered.TooLong other) udev
     ∙ ap (λ (ps : List Piece). cond (list_any (is_long state) ps) rendered.TooLong other) whole
     ∙ ap (λ (b : Bool). cond b rendered.TooLong other) (any_among (is_long state) before following (piece.Attr name) here)
@@ -58,4 +58,4 @@ named_is_cut state name is place device udev reads some there at =
     ∙ ap (λ (o : Option ℕ). option_map (attribute_of is.attribute) (option_and_then (device_at state.event) o)) there
     ∙ ap (option_map (attribute_of is.attribute)) at in
     ap (λ (p : Profile). safe attribute_marks (trimmed (attribute_as p name state))) udev
-    ∙ ap (λ (o : Option Text). safe attribute_marks (trimmed (unwrap_or (option_map (take most_attribute_bytes) o) own))) found
+    ∙ ap (λ (o : Option Text). safe attribute_marks (trimmed (unwrap_or (option_map (take most_value_bytes) o) own))) found

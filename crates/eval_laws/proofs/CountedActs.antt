@@ -11,16 +11,18 @@ use Rattle.text_core.specs.declared.item.Item.{Item}
 use Rattle.text_core.specs.declared.reading.Reading.TheVariants.{Exact}
 use Rattle.hwdb_lookup.specs.declared.entry.Entry.{Entry}
 use Rattle.rule_types.specs.Names.{import_name}
-use Rattle.rule_templates.specs.Template.{Parts as Template}
-use Rattle.rule_types.specs.WrittenParts.{attribute_of_act_kind, key_of_act_kind, type_of}
+use Rattle.rule_types.specs.WrittenParts.{attribute_of_act_kind, key_of_act_kind}
 use Rattle.rule_types.specs.declared.part.Act.{Act}
 use Rattle.rule_types.specs.declared.part.ActKind.{ActKind}
 use Rattle.rule_types.specs.declared.part.ActKind.TheVariants as act_kind
 use Rattle.rule_types.specs.declared.part.Import.{Import}
 use Rattle.rule_types.specs.declared.part.Import.TheVariants as import
+use Rattle.rule_types.specs.declared.types.ImportType.{ImportType}
+use Rattle.rule_types.specs.declared.types.ImportType.TheVariants as import_of
 use Rattle.rule_types.specs.Rules.{Rule}
 use Rattle.device_core.specs.Values.{AnswerValue, DeviceValue}
 use Rattle.eval_state.specs.Chains.{device_at}
+use Rattle.eval_rendering.specs.Bounds.{most_command_bytes, most_path_bytes}
 use Rattle.eval_rendering.specs.declared.rendered.Rendered.{Rendered}
 use Rattle.eval_rendering.specs.declared.rendered.Rendered.TheVariants as rendered
 use Rattle.eval_state.specs.Named.{NamedValue, named, named_place}
@@ -43,9 +45,9 @@ use Rattle.eval_acts.specs.BuiltinRuns.{looked_up, most_set, need_noted, need_wo
 use Rattle.eval_acts.specs.Builtins.{builtin}
 use Rattle.eval_acts.specs.declared.builtin.Builtin.{Builtin}
 use Rattle.eval_acts.specs.declared.builtin.Builtin.TheVariants as asked_for
-use Rattle.eval_acts.specs.ActTexts as act_texts
 use Rattle.eval_acts.specs.ActTexts.{import_text, names_text, program_text, test_text}
-use Rattle.eval_acts.specs.Acts.{act_step, from_parent_by, imported, on_text, parent_imported, performed, program_imported, unrun}
+use Rattle.eval_acts.specs.Acts.{act_step, from_parent_by, imported, on_text, performed}
+use Rattle.eval_acts.specs.Inner.{left}
 use Rattle.eval_acts.specs.Imports.{builtin_run, from_answer_or_noted, from_parent, from_program, not_run, run_builtin}
 use Rattle.eval_acts.specs.Printed.{printed_properties}
 use Rattle.eval_acts.specs.Questions.{answered_by_block, answered_or_noted, result_of, tested, tested_at, tested_by, tested_by_udev, with_result}
@@ -84,7 +86,7 @@ module _ (w : Note → ℕ) (v : RunValue → ℕ) (c : Rule → ℕ) (light : (
     notes : (kind : NoteKind) (text : Text) → counted (noted r kind text s) ≤ counted s + c r
     notes kind text = noted_more w v c light r s kind text
 
-    on_text_counts : (d : ActKind) (act : Text → Scene → Scene × Bool) (given : Rendered) → ((text : Text) → counted (act text s).0 ≤ counted s + c r) → counted (on_text r d act given s).0 ≤ counted s + c r
+    on_text_counts : (d : ActKind) (act : Text → Scene → Scene × Bool) (given : Rendered) → ((text : Text) → counted (act text s).0 ≤ counted s + c r) → counted (left r d (on_text act given s)) ≤ counted s + c r
     on_text_counts d act (rendered.Text text) each = each text
     on_text_counts d act rendered.TooLong each = notes TextTooLong (word_of_key (key_of_act_kind d) (attribute_of_act_kind d))
 
@@ -130,12 +132,8 @@ module _ (w : Note → ℕ) (v : RunValue → ℕ) (c : Rule → ℕ) (light : (
     parent_counts names None = omega arith
     parent_counts names (Some parent) = omega arith
 
-    not_run_counts : (from : Import) → counted (not_run r from s).0 ≤ counted s + c r
-    not_run_counts from = notes ImportNotRun (import_name (type_of from))
-
-    parent_by_counts : (profile : Profile) (d : ActKind) (names : List (List Item)) (text : Text) → counted (parent_imported profile r d names text s).0 ≤ counted s + c r
-    parent_by_counts Manual d names text = parent_counts names (device_at s.state.event 1)
-    parent_by_counts Udev d names text = on_text_counts d from_parent_by (names_text text s.state) (λ found. parent_counts (fnmatch_items Exact found 0 ∷ []) (device_at s.state.event 1))
+    not_run_counts : (type : ImportType) → counted (not_run r type s).0 ≤ counted s + c r
+    not_run_counts type = notes ImportNotRun (import_name type)
 
     printed_counts : (command : Text) (answer : Option AnswerValue) → counted (from_answer_or_noted r command answer s).0 ≤ counted s + c r
     printed_counts command None = notes NoAnswer command
@@ -145,30 +143,31 @@ module _ (w : Note → ℕ) (v : RunValue → ℕ) (c : Rule → ℕ) (light : (
         by true = omega arith
         by false = omega arith
 
-    program_counts : (profile : Profile) (d : ActKind) (from : Import) (template : Template) → counted (program_imported profile r d from template s).0 ≤ counted s + c r
-    program_counts Manual d from template = not_run_counts from
-    program_counts Udev d from template =
-        on_text_counts d (from_program r) (import_text act_texts.most_command_bytes template s.state) (λ command. printed_counts command (value_of s.state.event.programs command))
+    built_counts : (d : ActKind) (entries : List Entry) (given : Rendered) → counted (left r d (on_text (run_builtin entries r) given s)) ≤ counted s + c r
+    built_counts d entries given = on_text_counts d (run_builtin entries r) given (λ command. builtin_counts entries command (builtin s.state.event.profile command))
 
-    unrun_counts : (profile : Profile) (d : ActKind) (from : Import) (bytes : ℕ) (template : Template) → counted (unrun profile r d from bytes template s).0 ≤ counted s + c r
-    unrun_counts Manual d from bytes template = not_run_counts from
-    unrun_counts Udev d from bytes template = on_text_counts d (λ text. not_run r from) (import_text bytes template s.state) (λ text. not_run_counts from)
+    import_counts : (profile : Profile) (d : ActKind) (entries : List Entry) (from : Import) → counted (left r d (imported profile entries r from s)) ≤ counted s + c r
+    import_counts Manual d entries (import.Builtin template) = built_counts d entries _
+    import_counts Udev d entries (import.Builtin template) = built_counts d entries _
+    import_counts Manual d entries (import.Parent names text) = parent_counts names (device_at s.state.event 1)
+    import_counts Udev d entries (import.Parent names text) =
+        on_text_counts d from_parent_by (names_text text s.state) (λ found. parent_counts (fnmatch_items Exact found 0 ∷ []) (device_at s.state.event 1))
+    import_counts Manual d entries (import.Program template) = not_run_counts import_of.Program
+    import_counts Udev d entries (import.Program template) =
+        on_text_counts d (from_program r) (import_text most_command_bytes template s.state) (λ command. printed_counts command (value_of s.state.event.programs command))
+    import_counts Manual d entries (import.File template) = not_run_counts import_of.File
+    import_counts Udev d entries (import.File template) = on_text_counts d (λ path. not_run r import_of.File) (import_text most_path_bytes template s.state) (λ text. not_run_counts import_of.File)
+    import_counts Manual d entries (import.Cmdline name) = not_run_counts import_of.Cmdline
+    import_counts Udev d entries (import.Cmdline name) = not_run_counts import_of.Cmdline
+    import_counts Manual d entries (import.Db name) = not_run_counts import_of.Db
+    import_counts Udev d entries (import.Db name) = not_run_counts import_of.Db
 
-    import_counts : (entries : List Entry) (d : ActKind) (from : Import) → counted (imported entries r d from s).0 ≤ counted s + c r
-    import_counts entries d (import.Builtin template) =
-        on_text_counts d (run_builtin entries r) (import_text act_texts.most_command_bytes template s.state) (λ command. builtin_counts entries command (builtin s.state.event.profile command))
-    import_counts entries d (import.Parent names text) = parent_by_counts s.state.event.profile d names text
-    import_counts entries d (import.Program template) = program_counts s.state.event.profile d (import.Program template) template
-    import_counts entries d (import.File template) = unrun_counts s.state.event.profile d (import.File template) act_texts.most_path_bytes template
-    import_counts entries d (import.Cmdline name) = not_run_counts (import.Cmdline name)
-    import_counts entries d (import.Db name) = not_run_counts (import.Db name)
-
-  act_kind_counts : (entries : List Entry) (r : Rule) (s : Scene) (d : ActKind) → counted (performed entries r d s).0 ≤ counted s + c r
+  act_kind_counts : (entries : List Entry) (r : Rule) (s : Scene) (d : ActKind) → counted (left r d (performed entries r d s)) ≤ counted s + c r
   act_kind_counts entries r s (act_kind.Test mask template) = on_text_counts r s (act_kind.Test mask template) (tested r mask) (test_text template s.state) (tested_counts r s mask)
   act_kind_counts entries r s (act_kind.Program template) =
       on_text_counts r (with_result [] s) (act_kind.Program template) (answered_by_block r) (program_text template s.state)
       (λ command. answered_counts r (with_result [] s) command (value_of s.state.event.programs command))
-  act_kind_counts entries r s (act_kind.Import from) = import_counts r s entries (act_kind.Import from) from
+  act_kind_counts entries r s (act_kind.Import from) = import_counts r s s.state.event.profile (act_kind.Import from) entries from
 
   -- an act of a rule
   pub act_counts : (entries : List Entry) (r : Rule) (act : Act) (s : Scene) → counted (act_step entries r act s).0 ≤ counted s + c r

@@ -24,7 +24,7 @@ use Rattle.rule_types.specs.declared.part.Change.{Change}
 use Rattle.rule_types.specs.declared.part.Change.TheVariants as change
 use Rattle.rule_types.specs.Rules.{Rule}
 use Rattle.eval_state.specs.Texts.{or_empty}
-use Rattle.eval_rendering.specs.Bounds.{within}
+use Rattle.eval_rendering.specs.Bounds.{most_command_bytes, most_path_bytes, sysfs_path, within}
 use Rattle.eval_rendering.specs.Rendering.{render, rendered_as_udev}
 use Rattle.eval_rendering.specs.declared.rendered.Mode.TheVariants.{Plain}
 use Rattle.eval_rendering.specs.declared.rendered.Rendered.{Rendered}
@@ -41,11 +41,12 @@ use Rattle.eval_state.specs.declared.note_kind.NoteKind.TheVariants.{AttributeNo
 use Rattle.eval_state.specs.declared.scene.Scene.{Scene}
 use Rattle.eval_assignments.specs.Assigning.{assigned, group_set, link_text, owner_set, with_option}
 use Rattle.eval_state.specs.Files.{starred}
-use Rattle.eval_assignments.specs.Attributes.{attribute_path, attribute_put, attribute_set_at, attribute_set_by, found_above, own_attribute_set}
-use Rattle.eval_assignments.specs.Bounds.{most_bytes_of, most_command_bytes, most_name_bytes}
+use Rattle.eval_assignments.specs.Attributes.{attribute_put, attribute_set_at, attribute_set_by, found_above, own_attribute_set}
+use Rattle.eval_assignments.specs.Bounds.{most_bytes_of}
 use Rattle.eval_assignments.specs.Escapes.{escape_of}
 use Rattle.eval_assignments.specs.Escapes as escapes
 use Rattle.eval_assignments.specs.Finality.{final_key, final_option, final_target, finally, is_settled, settled}
+use Rattle.eval_assignments.specs.Inner.{given_by}
 use Rattle.eval_assignments.specs.Links.{first_refused, link_noted, links_changed, plain_links, words}
 use Rattle.eval_assignments.specs.Lists.{changed}
 use Rattle.eval_assignments.specs.Modes.{mode_read, mode_set}
@@ -162,7 +163,7 @@ module _ (w : Note → ℕ) (v : RunValue → ℕ) (c : Rule → ℕ) (light : (
     found_counts name (Some found) t = omega arith
 
     own_counts : (name t : Text) → counted (own_attribute_set r name t s) ≤ counted s + c r
-    own_counts name t = by (nat_lt most_name_bytes (length (attribute_path s.state.event name)))
+    own_counts name t = by (nat_lt most_path_bytes (length (sysfs_path s.state.event.device name)))
       where
         by : (b : Bool) → counted (if b then noted_key r TextTooLong key.Attr (Some name) s else attribute_put r name (starred s.state.event.device name) t s) ≤ counted s + c r
         by true = noted_more w v c light r s TextTooLong (word_of_key key.Attr (Some name))
@@ -203,7 +204,7 @@ module _ (w : Note → ℕ) (v : RunValue → ℕ) (c : Rule → ℕ) (light : (
     links_counts : (o : AssignOperator) (t : Text) → counted (links_changed r o t s) ≤ counted s + c r
     links_counts o t = link_counts r (record s { state = record s.state { links = changed o (plain_links (words t)) s.state.links } }) (first_refused (words t))
 
-    assigned_counts : (profile : Profile) (e : Escape) (o : AssignOperator) (about : Target) (written t : Text) → counted (assigned profile r e o about written t s) ≤ counted s + c r
+    assigned_counts : (profile : Profile) (e : Escape) (o : AssignOperator) (about : Target) (written t : Text) → counted (assigned profile about (given_by r e o about written) t s) ≤ counted s + c r
     assigned_counts Manual e o target.Owner written t = omega arith
     assigned_counts Manual e o target.Group written t = omega arith
     assigned_counts Manual e o target.Mode written t = omega arith
@@ -223,19 +224,19 @@ module _ (w : Note → ℕ) (v : RunValue → ℕ) (c : Rule → ℕ) (light : (
     assigned_counts Udev e o target.Name written t = omega arith
     assigned_counts Udev e o target.Symlink written t = links_counts o (link_text e t)
     assigned_counts Udev e o (target.Attr name) written t = by_counts r s (named name) name t
-    assigned_counts Udev e o (target.Sysctl name) written t = parameter_counts r s name (within most_name_bytes (rendered_as_udev name s.state)) t
+    assigned_counts Udev e o (target.Sysctl name) written t = parameter_counts r s name (within most_path_bytes (rendered_as_udev name s.state)) t
 
-    given_counts : (profile : Profile) (e : Escape) (o : AssignOperator) (about : Target) (written t : Text) → counted (text_given profile r e o about written t s) ≤ counted s + c r
+    given_counts : (profile : Profile) (e : Escape) (o : AssignOperator) (about : Target) (written t : Text) → counted (text_given profile (given_by r e o about written) t s) ≤ counted s + c r
     given_counts profile e o about written t = by (is_ignored profile about s)
       where
-        by : (b : Bool) → counted (if b then noted r NameIgnored t s else finally o (final_target about) (assigned profile r e o about written t s)) ≤ counted s + c r
+        by : (b : Bool) → counted (if b then noted r NameIgnored t s else finally o (final_target about) (assigned profile about (given_by r e o about written) t s)) ≤ counted s + c r
         by true = noted_more w v c light r s NameIgnored t
         by false =
-            let a = finally_counts o (final_target about) (assigned profile r e o about written t s) in
+            let a = finally_counts o (final_target about) (assigned profile about (given_by r e o about written) t s) in
             let b = assigned_counts profile e o about written t in
             omega (arith, a, b)
 
-    text_counts : (profile : Profile) (e : Escape) (o : AssignOperator) (about : Target) (written : Text) (given : Rendered) → counted (text_set profile r e o about written given s) ≤ counted s + c r
+    text_counts : (profile : Profile) (e : Escape) (o : AssignOperator) (about : Target) (written : Text) (given : Rendered) → counted (text_set profile (given_by r e o about written) given s) ≤ counted s + c r
     text_counts profile e o about written (rendered.Text t) = given_counts profile e o about written t
     text_counts profile e o about written rendered.TooLong =
         let word : Text = word_of_key (key_of_target about) (attribute_of_target about) in
@@ -244,17 +245,17 @@ module _ (w : Note → ℕ) (v : RunValue → ℕ) (c : Rule → ℕ) (light : (
         omega (arith, a, b)
 
   module _ (r : Rule) (s : Scene) where
-    rendered_counts : (profile : Profile) (o : AssignOperator) (about : Target) (template : Template) → counted (text_rendered profile r o about template s) ≤ counted s + c r
+    rendered_counts : (profile : Profile) (o : AssignOperator) (about : Target) (template : Template) → counted (text_rendered profile (given_by r (escape_of r.sets) o about template.written) template s) ≤ counted s + c r
     rendered_counts Manual o about template = text_counts r s Manual (escape_of r.sets) o about template.written (render template s.state (escapes.mode_of Manual about (escape_of r.sets)))
     rendered_counts Udev o about template =
         text_counts r s Udev (escape_of r.sets) o about template.written (within (most_bytes_of about) (render template s.state (escapes.mode_of Udev about (escape_of r.sets))))
 
   module _ (r : Rule) (s : Scene) where
-    step_counts : (profile : Profile) (o : AssignOperator) (about : Target) (template : Template) → counted (text_step profile r o about template s) ≤ counted s + c r
+    step_counts : (profile : Profile) (o : AssignOperator) (about : Target) (template : Template) → counted (text_step profile (given_by r (escape_of r.sets) o about template.written) template s) ≤ counted s + c r
     step_counts Manual o about template = rendered_counts r s Manual o about template
     step_counts Udev o about template = by (lacks_number about s.state.event.device.number)
       where
-        by : (b : Bool) → counted (if b then noted_key r NoDeviceNumber (key_of_target about) (attribute_of_target about) s else text_rendered Udev r o about template (emptied o about s)) ≤ counted s + c r
+        by : (b : Bool) → counted (if b then noted_key r NoDeviceNumber (key_of_target about) (attribute_of_target about) s else text_rendered Udev (given_by r (escape_of r.sets) o about template.written) template (emptied o about s)) ≤ counted s + c r
         by true = noted_more w v c light r s NoDeviceNumber (word_of_key (key_of_target about) (attribute_of_target about))
         by false =
             let a = rendered_counts r (emptied o about s) Udev o about template in

@@ -17,7 +17,7 @@ use Rattle.rule_types.specs.declared.part.Change.{Change}
 use Rattle.rule_types.specs.declared.part.Change.TheVariants as change
 use Rattle.rule_types.specs.Rules.{Rule}
 use Rattle.device_core.specs.Values.{EventValue}
-use Rattle.eval_rendering.specs.Bounds.{within}
+use Rattle.eval_rendering.specs.Bounds.{most_command_bytes, within}
 use Rattle.eval_rendering.specs.Rendering.{render}
 use Rattle.eval_rendering.specs.declared.rendered.Mode.TheVariants.{Plain}
 use Rattle.eval_rendering.specs.declared.rendered.Rendered.{Rendered}
@@ -31,9 +31,9 @@ use Rattle.eval_state.specs.declared.finals.FinalKey.TheVariants as key
 use Rattle.eval_state.specs.declared.scene.Scene.{Scene}
 use Rattle.eval_assignments.specs.declared.escapes.Escape.{Escape}
 use Rattle.eval_assignments.specs.Assigning.{assigned, with_option}
-use Rattle.eval_assignments.specs.Bounds.{most_command_bytes}
 use Rattle.eval_assignments.specs.Escapes.{escape_of}
 use Rattle.eval_assignments.specs.Finality.{final_key, final_option, final_target, finally, is_settled}
+use Rattle.eval_assignments.specs.Inner.{given_by}
 use Rattle.eval_assignments.specs.Runs.{made_before, run_made, run_of}
 use Rattle.eval_assignments.specs.Steps.{emptied, finally_too_long, is_ignored, lacks_number, run_step, set_step, step_by, text_given, text_rendered, text_set, text_step}
 use Rattle.eval_laws.specs.AssignmentLaws.{Keeps, may_be_final}
@@ -63,32 +63,32 @@ option_finals option.DbPersist s = refl
 option_finals known s = refl
 
 module _ (k : FinalKey) (r : Rule) where
-  given_stays : (profile : Profile) (e : Escape) (o : AssignOperator) (about : Target) (written t : Text) (s : Scene) → Final k s → Final k (text_given profile r e o about written t s)
+  given_stays : (profile : Profile) (e : Escape) (o : AssignOperator) (about : Target) (written t : Text) (s : Scene) → Final k s → Final k (text_given profile (given_by r e o about written) t s)
   given_stays profile e o about written t s h = by (is_ignored profile about s)
     where
-      by : (b : Bool) → Final k (cond b (noted r NameIgnored t s) (finally o (final_target about) (assigned profile r e o about written t s)))
+      by : (b : Bool) → Final k (cond b (noted r NameIgnored t s) (finally o (final_target about) (assigned profile about (given_by r e o about written) t s)))
       by true = h
       by false =
-          stays_finally k o (final_target about) (assigned profile r e o about written t s)
-          (same_final k s (assigned profile r e o about written t s) (assigned_finals profile r e o about written t s) h)
+          stays_finally k o (final_target about) (assigned profile about (given_by r e o about written) t s)
+          (same_final k s (assigned profile about (given_by r e o about written) t s) (assigned_finals profile r e o about written t s) h)
 
   late_stays : (profile : Profile) (o : AssignOperator) (about : Target) (t : Scene) → Final k t → Final k (finally_too_long profile o about t)
   late_stays Manual o about t h = h
   late_stays Udev o about t h = stays_finally k o (final_target about) t h
 
-  text_stays : (profile : Profile) (e : Escape) (o : AssignOperator) (about : Target) (written : Text) (text : Rendered) (s : Scene) → Final k s → Final k (text_set profile r e o about written text s)
+  text_stays : (profile : Profile) (e : Escape) (o : AssignOperator) (about : Target) (written : Text) (text : Rendered) (s : Scene) → Final k s → Final k (text_set profile (given_by r e o about written) text s)
   text_stays profile e o about written (rendered.Text t) s h = given_stays profile e o about written t s h
   text_stays profile e o about written rendered.TooLong s h = late_stays profile o about _ h
 
-  rendered_stays : (profile : Profile) (o : AssignOperator) (about : Target) (template : Template) (s : Scene) → Final k s → Final k (text_rendered profile r o about template s)
+  rendered_stays : (profile : Profile) (o : AssignOperator) (about : Target) (template : Template) (s : Scene) → Final k s → Final k (text_rendered profile (given_by r (escape_of r.sets) o about template.written) template s)
   rendered_stays Manual o about template s h = text_stays Manual (escape_of r.sets) o about template.written _ s h
   rendered_stays Udev o about template s h = text_stays Udev (escape_of r.sets) o about template.written _ s h
 
-  step_stays : (profile : Profile) (o : AssignOperator) (about : Target) (template : Template) (s : Scene) → Final k s → Final k (text_step profile r o about template s)
+  step_stays : (profile : Profile) (o : AssignOperator) (about : Target) (template : Template) (s : Scene) → Final k s → Final k (text_step profile (given_by r (escape_of r.sets) o about template.written) template s)
   step_stays Manual o about template s h = rendered_stays Manual o about template s h
   step_stays Udev o about template s h = by (lacks_number about s.state.event.device.number)
     where
-      by : (b : Bool) → Final k (cond b (noted_key r NoDeviceNumber (key_of_target about) (attribute_of_target about) s) (text_rendered Udev r o about template (emptied o about s)))
+      by : (b : Bool) → Final k (cond b (noted_key r NoDeviceNumber (key_of_target about) (attribute_of_target about) s) (text_rendered Udev (given_by r (escape_of r.sets) o about template.written) template (emptied o about s)))
       by true = h
       by false = rendered_stays Udev o about template (emptied o about s) (same_final k s (emptied o about s) (emptied_finals o about s) h)
 

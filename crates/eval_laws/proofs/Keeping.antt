@@ -10,7 +10,6 @@ use Rattle.text_tables.specs.Pairs.{Pair, value_of}
 use Rattle.text_core.specs.Fnmatch.{fnmatch_items}
 use Rattle.text_core.specs.declared.item.Item.{Item}
 use Rattle.text_core.specs.declared.reading.Reading.TheVariants.{Exact}
-use Rattle.rule_templates.specs.Template.{Parts as Template}
 use Rattle.hwdb_lookup.specs.declared.entry.Entry.{Entry}
 use Rattle.device_core.specs.Values.{AnswerValue, DeviceValue}
 use Rattle.rule_types.specs.declared.roles.PlainKey.{PlainKey}
@@ -23,12 +22,14 @@ use Rattle.rule_types.specs.declared.part.Import.{Import}
 use Rattle.rule_types.specs.declared.part.Import.TheVariants as import
 use Rattle.rule_types.specs.declared.part.PlainMatch.{PlainMatch}
 use Rattle.rule_types.specs.declared.part.UpMatch.{UpMatch}
+use Rattle.rule_types.specs.declared.types.ImportType.TheVariants.{File}
 use Rattle.rule_types.specs.Rules.{Rule}
 use Rattle.eval_state.specs.Chains.{device_at}
 use Rattle.eval_state.specs.Named.{NamedValue, named, named_place}
 use Rattle.eval_state.specs.Properties.{properties_set}
 use Rattle.eval_state.specs.Scenes.{noted, with_env}
 use Rattle.eval_state.specs.declared.note_kind.NoteKind.TheVariants.{AttributeNotRead, BuiltinNeeds, TestNotMade, TextTooLong}
+use Rattle.eval_rendering.specs.Bounds.{most_command_bytes, most_path_bytes}
 use Rattle.eval_rendering.specs.declared.rendered.Rendered.{Rendered}
 use Rattle.eval_rendering.specs.declared.rendered.Rendered.TheVariants as rendered
 use Rattle.rule_parts.specs.Builtins.{builtin_name}
@@ -45,8 +46,8 @@ use Rattle.eval_state.specs.declared.finals.FinalKey.{FinalKey}
 use Rattle.eval_state.specs.declared.finals.FinalKey.TheVariants as key
 use Rattle.eval_state.specs.declared.scene.Scene.{Scene}
 use Rattle.eval_matching.specs.Attributes.{is_not_read}
-use Rattle.eval_acts.specs.ActTexts.{import_text, most_command_bytes, names_text, program_text}
-use Rattle.eval_acts.specs.Acts.{act_step, from_parent_by, imported, on_text, parent_imported, performed, program_imported, unrun}
+use Rattle.eval_acts.specs.ActTexts.{import_text, names_text, program_text}
+use Rattle.eval_acts.specs.Acts.{act_step, from_parent_by, imported, on_text, performed, too_long_noted}
 use Rattle.eval_acts.specs.BuiltinRuns.{looked_up, most_set, need_noted, need_word, outcome_set, outcome_taken, path_id_run, properties_size, usb_id_run, with_maker}
 use Rattle.eval_acts.specs.Imports.{builtin_run, from_answer_or_noted, from_parent, from_program, not_run, run_builtin}
 use Rattle.eval_acts.specs.Printed.{printed_properties}
@@ -90,9 +91,9 @@ chosen : (s t u : Scene) (a b c : Bool) → Same s t → Same s u → Same s (co
 chosen s t u a b true h k = h
 chosen s t u a b false h k = k
 
-on_text_same : (r : Rule) (d : ActKind) (act : Text → Scene → Scene × Bool) → ((t : Text) (s : Scene) → Same s (act t s).0) → (text : Rendered) (s : Scene) → Same s (on_text r d act text s).0
-on_text_same r d act h (rendered.Text t) s = h t s
-on_text_same r d act h rendered.TooLong s = refl
+on_text_same : (act : Text → Scene → Scene × Bool) → ((t : Text) (s : Scene) → Same s (act t s).0) → (text : Rendered) (s : Scene) → Same s (on_text act text s).0
+on_text_same act h (rendered.Text t) s = h t s
+on_text_same act h rendered.TooLong s = refl
 
 test_at_same : (place : Option ℕ) (r : Rule) (name t : Text) (s : Scene) → Same s (tested_at place r name t s).0
 test_at_same None r name t s = refl
@@ -157,41 +158,44 @@ parent_same : (names : List (List Item)) (d : Option DeviceValue) (s : Scene) �
 parent_same names None s = refl
 parent_same names (Some d) s = refl
 
-parent_by_same : (profile : Profile) (r : Rule) (d : ActKind) (names : List (List Item)) (text : Text) (s : Scene) → Same s (parent_imported profile r d names text s).0
-parent_by_same Manual r d names text s = parent_same names (device_at s.state.event 1) s
-parent_by_same Udev r d names text s = on_text_same r d from_parent_by (λ found u. parent_same (fnmatch_items Exact found 0 ∷ []) (device_at u.state.event 1) u) (names_text text s.state) s
-
 printed_same : (r : Rule) (t : Text) (a : Option AnswerValue) (s : Scene) → Same s (from_answer_or_noted r t a s).0
 printed_same r t None s = refl
 printed_same r t (Some a) s = chosen s (with_env (properties_set s.state.env (printed_properties a.text)) s) s true false _ refl refl
 
-program_by_same : (profile : Profile) (r : Rule) (d : ActKind) (i : Import) (template : Template) (s : Scene) → Same s (program_imported profile r d i template s).0
-program_by_same Manual r d i template s = refl
-program_by_same Udev r d i template s = on_text_same r d (from_program r) (λ c u. printed_same r c (value_of u.state.event.programs c) u) (import_text most_command_bytes template s.state) s
+built_same : (es : List Entry) (r : Rule) (text : Rendered) (s : Scene) → Same s (on_text (run_builtin es r) text s).0
+built_same es r text s = on_text_same (run_builtin es r) (λ c u. builtin_same es r c _ u) text s
 
-unrun_same : (profile : Profile) (r : Rule) (d : ActKind) (i : Import) (bytes : ℕ) (template : Template) (s : Scene) → Same s (unrun profile r d i bytes template s).0
-unrun_same Manual r d i bytes template s = refl
-unrun_same Udev r d i bytes template s = on_text_same r d (λ text. not_run r i) (λ text u. refl) (import_text bytes template s.state) s
-
-imported_same : (es : List Entry) (r : Rule) (d : ActKind) (i : Import) (s : Scene) → Same s (imported es r d i s).0
-imported_same es r d (import.Builtin t) s = on_text_same r d (run_builtin es r) (λ c u. builtin_same es r c _ u) _ s
-imported_same es r d (import.Parent names text) s = parent_by_same s.state.event.profile r d names text s
-imported_same es r d (import.Program t) s = program_by_same s.state.event.profile r d (import.Program t) t s
-imported_same es r d (import.File t) s = unrun_same s.state.event.profile r d (import.File t) _ t s
-imported_same es r d (import.Cmdline name) s = refl
-imported_same es r d (import.Db name) s = refl
+imported_same : (profile : Profile) (es : List Entry) (r : Rule) (i : Import) (s : Scene) → Same s (imported profile es r i s).0
+imported_same Manual es r (import.Builtin t) s = built_same es r _ s
+imported_same Udev es r (import.Builtin t) s = built_same es r _ s
+imported_same Manual es r (import.Parent names text) s = parent_same names (device_at s.state.event 1) s
+imported_same Udev es r (import.Parent names text) s =
+    on_text_same from_parent_by (λ found u. parent_same (fnmatch_items Exact found 0 ∷ []) (device_at u.state.event 1) u) (names_text text s.state) s
+imported_same Manual es r (import.Program t) s = refl
+imported_same Udev es r (import.Program t) s =
+    on_text_same (from_program r) (λ c u. printed_same r c (value_of u.state.event.programs c) u) (import_text most_command_bytes t s.state) s
+imported_same Manual es r (import.File t) s = refl
+imported_same Udev es r (import.File t) s = on_text_same (λ path. not_run r File) (λ text u. refl) (import_text most_path_bytes t s.state) s
+imported_same Manual es r (import.Cmdline name) s = refl
+imported_same Udev es r (import.Cmdline name) s = refl
+imported_same Manual es r (import.Db name) s = refl
+imported_same Udev es r (import.Db name) s = refl
 
 performed_same : (es : List Entry) (r : Rule) (d : ActKind) (s : Scene) → Same s (performed es r d s).0
-performed_same es r (act_kind.Test mask t) s = on_text_same r (act_kind.Test mask t) (tested r mask) (tested_same r mask) _ s
+performed_same es r (act_kind.Test mask t) s = on_text_same (tested r mask) (tested_same r mask) _ s
 performed_same es r (act_kind.Program t) s =
     let text : Rendered = program_text t s.state in
-    through s (with_result [] s) (on_text r (act_kind.Program t) (answered_by_block r) text (with_result [] s)).0 refl
-    (on_text_same r (act_kind.Program t) (answered_by_block r) (λ c u. answered_same r c (value_of u.state.event.programs c) u) text (with_result [] s))
-performed_same es r (act_kind.Import i) s = imported_same es r (act_kind.Import i) i s
+    through s (with_result [] s) (on_text (answered_by_block r) text (with_result [] s)).0 refl
+    (on_text_same (answered_by_block r) (λ c u. answered_same r c (value_of u.state.event.programs c) u) text (with_result [] s))
+performed_same es r (act_kind.Import i) s = imported_same s.state.event.profile es r i s
+
+late_same : (r : Rule) (d : ActKind) (done : Option Bool) (s t : Scene) → Same s t → Same s (too_long_noted r d done t)
+late_same r d None s t h = through s t (too_long_noted r d None t) h refl
+late_same r d (Some done) s t h = h
 
 act_same : (es : List Entry) (r : Rule) (act : Act) (s : Scene) → Same s (act_step es r act s).0
 unfolding act_step
-act_same es r act s = performed_same es r act.kind s
+act_same es r act s = late_same r act.kind (performed es r act.kind s).1 s (performed es r act.kind s).0 (performed_same es r act.kind s)
 
 -- ---- matches
 

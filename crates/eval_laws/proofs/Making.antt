@@ -28,16 +28,17 @@ use Rattle.eval_state.specs.declared.finals.FinalKey.TheVariants as key
 use Rattle.eval_state.specs.declared.finals.Finals.{Finals}
 use Rattle.eval_state.specs.declared.note_kind.NoteKind.TheVariants.{NameIgnored, NoDeviceNumber}
 use Rattle.eval_state.specs.declared.scene.Scene.{Scene}
-use Rattle.eval_rendering.specs.Bounds.{within}
+use Rattle.eval_rendering.specs.Bounds.{most_command_bytes, most_value_bytes, within}
 use Rattle.eval_rendering.specs.Rendering.{render}
 use Rattle.eval_rendering.specs.declared.rendered.Mode.{Mode}
 use Rattle.eval_rendering.specs.declared.rendered.Mode.TheVariants.{Plain}
 use Rattle.eval_rendering.specs.declared.rendered.Rendered.{Rendered}
 use Rattle.eval_rendering.specs.declared.rendered.Rendered.TheVariants as rendered
 use Rattle.eval_assignments.specs.Assigning.{assigned, group_set, owner_set, unless_empty, with_option}
-use Rattle.eval_assignments.specs.Bounds.{most_bytes_of, most_command_bytes, most_value_bytes}
+use Rattle.eval_assignments.specs.Bounds.{most_bytes_of}
 use Rattle.eval_assignments.specs.Escapes.{escape_of, mode_of}
 use Rattle.eval_assignments.specs.Finality.{final_key, final_option, final_target, finally, is_settled, settled}
+use Rattle.eval_assignments.specs.Inner.{given_by}
 use Rattle.eval_assignments.specs.Links.{words}
 use Rattle.eval_assignments.specs.Modes.{four_digits, mode_read, mode_set}
 use Rattle.eval_assignments.specs.Runs.{command_made, made_before, run_made, run_of}
@@ -62,25 +63,25 @@ open_step r s a h = ap (λ b. cond b s (step_by s.state.event.profile r a.operat
 
 module _ (r : Rule) (k : FinalKey) (s : Scene) (open_key : is_final s.finals k ≡ false) where
   given_final : (profile : Profile) (e : Escape) (about : Target) (written t : Text) → final_target about ≡ Some k
-      → is_final (text_given profile r e AssignFinal about written t s).finals k ≡ not (is_ignored profile about s)
+      → is_final (text_given profile (given_by r e AssignFinal about written) t s).finals k ≡ not (is_ignored profile about s)
   given_final profile e about written t h = by (is_ignored profile about s)
     where
-      by : (b : Bool) → is_final (if b then noted r NameIgnored t s else settled (final_target about) (assigned profile r e AssignFinal about written t s)).finals k ≡ not b
+      by : (b : Bool) → is_final (if b then noted r NameIgnored t s else settled (final_target about) (assigned profile about (given_by r e AssignFinal about written) t s)).finals k ≡ not b
       by true = open_key
-      by false = settled_is (final_target about) k (assigned profile r e AssignFinal about written t s) h
+      by false = settled_is (final_target about) k (assigned profile about (given_by r e AssignFinal about written) t s) h
 
   late_final : (profile : Profile) (about : Target) (t : Scene) → t.finals ≡ s.finals → final_target about ≡ Some k → is_final (finally_too_long profile AssignFinal about t).finals k ≡ is_taken_too_long profile
   late_final Manual about t same h = ap (λ (f : Finals). is_final f k) same ∙ open_key
   late_final Udev about t same h = settled_is (final_target about) k t h
 
   text_final : (profile : Profile) (e : Escape) (about : Target) (written : Text) (text : Rendered) → final_target about ≡ Some k
-      → is_final (text_set profile r e AssignFinal about written text s).finals k ≡ is_text_made profile about text s
+      → is_final (text_set profile (given_by r e AssignFinal about written) text s).finals k ≡ is_text_made profile about text s
   text_final profile e about written (rendered.Text t) h = given_final profile e about written t h
   text_final profile e about written rendered.TooLong h = late_final profile about _ refl h
 
 module _ (r : Rule) (k : FinalKey) (s : Scene) (open_key : is_final s.finals k ≡ false) where
   template_final : (profile : Profile) (about : Target) (template : Template) → final_target about ≡ Some k
-      → is_final (text_step profile r AssignFinal about template s).finals k ≡ is_template_made profile r about template s
+      → is_final (text_step profile (given_by r (escape_of r.sets) AssignFinal about template.written) template s).finals k ≡ is_template_made profile r about template s
   template_final Manual about template h = text_final r k s open_key Manual (escape_of r.sets) about template.written (render template s.state (mode_of Manual about (escape_of r.sets))) h
   template_final Udev about template h = by (lacks_number about s.state.event.device.number)
     where
@@ -93,7 +94,7 @@ module _ (r : Rule) (k : FinalKey) (s : Scene) (open_key : is_final s.finals k �
       still_open : is_final t.finals k ≡ false
       still_open = ap (λ (f : Finals). is_final f k) (emptied_finals AssignFinal about s) ∙ open_key
 
-      by : (b : Bool) → is_final (cond b (noted_key r NoDeviceNumber (key_of_target about) (attribute_of_target about) s) (text_rendered Udev r AssignFinal about template t)).finals k
+      by : (b : Bool) → is_final (cond b (noted_key r NoDeviceNumber (key_of_target about) (attribute_of_target about) s) (text_rendered Udev (given_by r (escape_of r.sets) AssignFinal about template.written) template t)).finals k
           ≡ (not b && is_text_made Udev about text t)
       by true = open_key
       by false = text_final r k t still_open Udev (escape_of r.sets) about template.written text h
@@ -166,26 +167,26 @@ module _ (o : AssignOperator) (other : o ≡ AssignFinal → ⊥) where
       by AssignFinal h = absurd (h refl)
       by p h = refl
 
-  given_finals : (profile : Profile) (r : Rule) (e : Escape) (about : Target) (written t : Text) (s : Scene) → (text_given profile r e o about written t s).finals ≡ s.finals
+  given_finals : (profile : Profile) (r : Rule) (e : Escape) (about : Target) (written t : Text) (s : Scene) → (text_given profile (given_by r e o about written) t s).finals ≡ s.finals
   given_finals profile r e about written t s = by (is_ignored profile about s)
     where
-      by : (b : Bool) → (if b then noted r NameIgnored t s else finally o (final_target about) (assigned profile r e o about written t s)).finals ≡ s.finals
+      by : (b : Bool) → (if b then noted r NameIgnored t s else finally o (final_target about) (assigned profile about (given_by r e o about written) t s)).finals ≡ s.finals
       by true = refl
-      by false = ap (λ (u : Scene). u.finals) (finally_same (final_target about) (assigned profile r e o about written t s)) ∙ assigned_finals profile r e o about written t s
+      by false = ap (λ (u : Scene). u.finals) (finally_same (final_target about) (assigned profile about (given_by r e o about written) t s)) ∙ assigned_finals profile r e o about written t s
 
   late_finals : (profile : Profile) (about : Target) (s : Scene) → (finally_too_long profile o about s).finals ≡ s.finals
   late_finals Manual about s = refl
   late_finals Udev about s = ap (λ (u : Scene). u.finals) (finally_same (final_target about) s)
 
-  text_finals : (profile : Profile) (r : Rule) (e : Escape) (about : Target) (written : Text) (text : Rendered) (s : Scene) → (text_set profile r e o about written text s).finals ≡ s.finals
+  text_finals : (profile : Profile) (r : Rule) (e : Escape) (about : Target) (written : Text) (text : Rendered) (s : Scene) → (text_set profile (given_by r e o about written) text s).finals ≡ s.finals
   text_finals profile r e about written (rendered.Text t) s = given_finals profile r e about written t s
   text_finals profile r e about written rendered.TooLong s = late_finals profile about _
 
-  template_finals : (profile : Profile) (r : Rule) (about : Target) (template : Template) (s : Scene) → (text_step profile r o about template s).finals ≡ s.finals
+  template_finals : (profile : Profile) (r : Rule) (about : Target) (template : Template) (s : Scene) → (text_step profile (given_by r (escape_of r.sets) o about template.written) template s).finals ≡ s.finals
   template_finals Manual r about template s = text_finals Manual r (escape_of r.sets) about template.written _ s
   template_finals Udev r about template s = by (lacks_number about s.state.event.device.number)
     where
-      by : (b : Bool) → (cond b (noted_key r NoDeviceNumber (key_of_target about) (attribute_of_target about) s) (text_rendered Udev r o about template (emptied o about s))).finals ≡ s.finals
+      by : (b : Bool) → (cond b (noted_key r NoDeviceNumber (key_of_target about) (attribute_of_target about) s) (text_rendered Udev (given_by r (escape_of r.sets) o about template.written) template (emptied o about s))).finals ≡ s.finals
       by true = refl
       by false = text_finals Udev r (escape_of r.sets) about template.written _ (emptied o about s) ∙ emptied_finals o about s
 
@@ -259,11 +260,11 @@ finally_made o k s = refl
 module _ (r : Rule) (o : AssignOperator) (template : Template) (s : Scene) (t : Text) where
   -- a text that is rendered as it is, by the manual
   set_text : s.state.event.profile ≡ Manual → (about : Target) → is_settled (final_target about) s.finals ≡ false → mode_of Manual about (escape_of r.sets) ≡ Plain → render template s.state Plain ≡ rendered.Text t
-      → set_step r s (record { operator = o; change = change.Text about template }) ≡ text_given Manual r (escape_of r.sets) o about template.written t s
+      → set_step r s (record { operator = o; change = change.Text about template }) ≡ text_given Manual (given_by r (escape_of r.sets) o about template.written) t s
   set_text manual about open_key plain text =
       open_step r s (record { operator = o; change = change.Text about template }) open_key
-      ∙ ap (λ (p : Profile). text_step p r o about template s) manual
-      ∙ ap (λ (x : Rendered). text_set Manual r (escape_of r.sets) o about template.written x s) (ap (λ (m : Mode). render template s.state m) plain ∙ text)
+      ∙ ap (λ (p : Profile). text_step p (given_by r (escape_of r.sets) o about template.written) template s) manual
+      ∙ ap (λ (x : Rendered). text_set Manual (given_by r (escape_of r.sets) o about template.written) x s) (ap (λ (m : Mode). render template s.state m) plain ∙ text)
 
   pub owner_in_place : s.state.event.profile ≡ Manual → is_final s.finals key.Owner ≡ false → render template s.state Plain ≡ rendered.Text t
       → (set_step r s (record { operator = o; change = change.Text target.Owner template })).owner ≡ (if is_empty t then None else Some t)
@@ -283,13 +284,13 @@ module _ (r : Rule) (o : AssignOperator) (template : Template) (s : Scene) (t : 
   -- the same by udev, of a device with a number
   udev_text : s.state.event.profile ≡ Udev → (number : NumberValue) → s.state.event.device.number ≡ Some number → (about : Target) → (emptied o about s ≡ s)
       → is_settled (final_target about) s.finals ≡ false → mode_of Udev about (escape_of r.sets) ≡ Plain → within (most_bytes_of about) (render template s.state Plain) ≡ rendered.Text t
-      → set_step r s (record { operator = o; change = change.Text about template }) ≡ text_given Udev r (escape_of r.sets) o about template.written t s
+      → set_step r s (record { operator = o; change = change.Text about template }) ≡ text_given Udev (given_by r (escape_of r.sets) o about template.written) t s
   udev_text udev number numbered about stays open_key plain text =
       open_step r s (record { operator = o; change = change.Text about template }) open_key
-      ∙ ap (λ (p : Profile). text_step p r o about template s) udev
-      ∙ ap (λ (n : Option NumberValue). cond (lacks_number about n) (noted_key r NoDeviceNumber (key_of_target about) (attribute_of_target about) s) (text_rendered Udev r o about template (emptied o about s))) numbered
-      ∙ ap (λ (u : Scene). text_rendered Udev r o about template u) stays
-      ∙ ap (λ (x : Rendered). text_set Udev r (escape_of r.sets) o about template.written x s) (ap (λ (m : Mode). within (most_bytes_of about) (render template s.state m)) plain ∙ text)
+      ∙ ap (λ (p : Profile). text_step p (given_by r (escape_of r.sets) o about template.written) template s) udev
+      ∙ ap (λ (n : Option NumberValue). cond (lacks_number about n) (noted_key r NoDeviceNumber (key_of_target about) (attribute_of_target about) s) (text_rendered Udev (given_by r (escape_of r.sets) o about template.written) template (emptied o about s))) numbered
+      ∙ ap (λ (u : Scene). text_rendered Udev (given_by r (escape_of r.sets) o about template.written) template u) stays
+      ∙ ap (λ (x : Rendered). text_set Udev (given_by r (escape_of r.sets) o about template.written) x s) (ap (λ (m : Mode). within (most_bytes_of about) (render template s.state m)) plain ∙ text)
 
   owner_by : (u : Text) → (owner_set r u s).owner ≡ (if is_empty u then s.owner else Some u)
   owner_by [] = refl

@@ -1,19 +1,20 @@
 -- The last value that words give an option.
 use Rattle.std.proofs.Common.{◌≡◌, ◌↔◌, ℕ, suc, ◌+◌, ◌<◌, ◌==◌, Bool, true, false, not, ◌||◌, cond, List, [], ◌∷◌, ◌++◌, drop, take, get_or, length, nat_lt, position, option_map, Option, Some, None, Ok, Err, Result, is_some, unwrap_or, if◌then◌else◌, refl, sym, ap, ◌∙◌, true≢false, arith, length-append}
 use Rattle.std.specs.List.{list_any, position_or_len, prefix_len}
-use Rattle.std.specs.Option.{option_or}
+use Rattle.std.specs.Option.{option_and_then, option_or}
+use Rattle.std.specs.Result.{result_ok}
 use Rattle.std.specs.Cmp.Lexicographic.{bytes_decides}
 use Rattle.std.proofs.lemmas.Bool.{eqb-true, lt-ltb}
 use Rattle.std.proofs.lemmas.List.{drop_more, drop_at, take_at, take-append-drop, append_assoc}
 use Rattle.std.proofs.lemmas.List.Quantifiers.{position-Some}
 use Rattle.text_bytes.specs.Names.{equals}
-use Rattle.text_bytes.specs.Texts.{split_once}
+use Rattle.text_bytes.specs.Texts.{first, split_once}
 use Rattle.text_tables.specs.Texts.{Text, same_text}
 use Rattle.text_core.specs.Spell.{spell}
 use Rattle.text_core.specs.declared.glob_fault.GlobFault.{GlobFault}
 use Rattle.text_core.specs.declared.item.Item.{Item}
 use Rattle.eval_state.specs.Texts.{or_empty}
-use Rattle.eval_acts.specs.Hwdb.{as_pattern, at_most_one, filter_of, filter_option, hwdb_of, is_unknown, last_value, operands, prefix_option, subsystem_option, value_beside, value_in, with_parts}
+use Rattle.eval_acts.specs.Hwdb.{filter_option, hwdb_of, is_bad, last_value, operands, pattern_of, prefix_option, subsystem_option, value_beside, value_in}
 use Rattle.eval_acts.specs.declared.hwdb.Hwdb.{Hwdb}
 use Rattle.eval_laws.specs.LookUps.{HasNoValue, IsLastValue, option_word}
 
@@ -44,7 +45,7 @@ module _ (name : Text) (plain : list_any (λ b. b == equals) name ≡ false) whe
           ∙ ap (λ rest. name ++ equals ∷ rest) (some_same (drop (n + 1) word) value e)
       named n at false is e = absurd (none_some value e)
 
-      by : (o : Option ℕ) → position (λ b. b == equals) word ≡ o → value_beside name (option_map {U = Text × Text} (λ n. (take n word, drop (n + 1) word)) o) ≡ Some value → word ≡ option_word name value
+      by : (o : Option ℕ) → position (λ b. b == equals) word ≡ o → option_and_then (value_beside name) (option_map {U = Text × Text} (λ n. (take n word, drop (n + 1) word)) o) ≡ Some value → word ≡ option_word name value
       by None at e = absurd (none_some value e)
       by (Some n) at e = named n at (same_text (take n word) name) refl e
 
@@ -76,7 +77,7 @@ module _ (name : Text) (plain : list_any (λ b. b == equals) name ≡ false) whe
 
   word_gives : (value : Text) → value_in name (option_word name value) ≡ Some value
   word_gives value =
-      ap (value_beside name) (word_cut value)
+      ap (option_and_then (value_beside name)) (word_cut value)
       ∙ ap (λ (b : Bool). if b then Some value else None) ((bytes_decides name name).1 refl)
 
   -- ---- several words
@@ -123,26 +124,30 @@ module _ (name : Text) (plain : list_any (λ b. b == equals) name ≡ false) whe
 
 -- ---- the options
 
+-- the options that words give
+abbrev given : List Text → Hwdb
+given words = record {
+  subsystem = last_value subsystem_option words;
+  prefix = or_empty (last_value prefix_option words);
+  filter = option_and_then pattern_of (last_value filter_option words);
+  modalias = first (operands words);
+}
+
 -- What good words give.
 record AreOptions (words : List Text) (hwdb : Hwdb) : Type 0 where
   subsystem : hwdb.subsystem ≡ last_value subsystem_option words
   prefix : hwdb.prefix ≡ or_empty (last_value prefix_option words)
-  filter : filter_of (last_value filter_option words) ≡ Some hwdb.filter
+  filter : hwdb.filter ≡ option_and_then pattern_of (last_value filter_option words)
 
 options : (words : List Text) (hwdb : Hwdb) → hwdb_of words ≡ Some hwdb → AreOptions words hwdb
 unfolding hwdb_of
-options words hwdb e = by (list_any is_unknown words) e
+options words hwdb e = by (is_bad words) e
   where
-    parts : (modalias : Option (Option Text)) (keys : Option (Option (List Item))) → filter_of (last_value filter_option words) ≡ keys → with_parts words modalias keys ≡ Some hwdb → AreOptions words hwdb
-    parts None keys is e = absurd (none_some hwdb e)
-    parts (Some modalias) None is e = absurd (none_some hwdb e)
-    parts (Some modalias) (Some keys) is e =
-        let same : _ ≡ hwdb = some_same _ hwdb e in
-        record { subsystem = sym (ap (λ h. h.subsystem) same); prefix = sym (ap (λ h. h.prefix) same); filter = is ∙ ap (λ h. Some h.filter) same }
-
-    by : (b : Bool) → (if b then None else with_parts words (at_most_one (operands words)) (filter_of (last_value filter_option words))) ≡ Some hwdb → AreOptions words hwdb
+    by : (b : Bool) → (if b then None else Some (given words)) ≡ Some hwdb → AreOptions words hwdb
     by true e = absurd (none_some hwdb e)
-    by false e = parts (at_most_one (operands words)) (filter_of (last_value filter_option words)) refl e
+    by false e =
+        let same : given words ≡ hwdb = some_same (given words) hwdb e in
+        record { subsystem = sym (ap (λ h. h.subsystem) same); prefix = sym (ap (λ h. h.prefix) same); filter = sym (ap (λ h. h.filter) same) }
 
 pub subsystem_is_last : (words : List Text) (hwdb : Hwdb) (value : Text) → hwdb_of words ≡ Some hwdb → (hwdb.subsystem ≡ Some value) ↔ IsLastValue subsystem_option words value
 subsystem_is_last words hwdb value e =
@@ -157,19 +162,16 @@ no_prefix_is_empty words hwdb e none = (options words hwdb e).prefix ∙ ap or_e
 
 pub filter_is_last : (words : List Text) (hwdb : Hwdb) (pattern : List Item) → hwdb_of words ≡ Some hwdb
     → (hwdb.filter ≡ Some pattern) ↔ ((value : Text) × IsLastValue filter_option words value × (spell value ≡ Ok pattern))
-filter_is_last words hwdb pattern e = (λ is. forth is (last_value filter_option words) refl (options words hwdb e).filter, back)
+filter_is_last words hwdb pattern e = (λ is. forth (last_value filter_option words) refl (sym (options words hwdb e).filter ∙ is), back)
   where
-    spelled : (value : Text) (read : Result (List Item) GlobFault) → spell value ≡ read → as_pattern read ≡ Some (Some pattern) → spell value ≡ Ok pattern
-    spelled value (Ok items) is e = is ∙ ap Ok (some_same items pattern (some_same (Some items) (Some pattern) e))
-    spelled value (Err fault) is e = absurd (none_some (Some pattern) e)
+    spelled : (value : Text) (read : Result (List Item) GlobFault) → spell value ≡ read → result_ok read ≡ Some pattern → spell value ≡ Ok pattern
+    spelled value (Ok items) is e = is ∙ ap Ok (some_same items pattern e)
+    spelled value (Err fault) is e = absurd (none_some pattern e)
 
-    forth : hwdb.filter ≡ Some pattern → (o : Option Text) → last_value filter_option words ≡ o → filter_of (last_value filter_option words) ≡ Some hwdb.filter
+    forth : (o : Option Text) → last_value filter_option words ≡ o → option_and_then pattern_of (last_value filter_option words) ≡ Some pattern
         → (value : Text) × IsLastValue filter_option words value × (spell value ≡ Ok pattern)
-    forth is None at are = absurd (none_some pattern (some_same None (Some pattern) (ap filter_of (sym at) ∙ are ∙ ap Some is)))
-    forth is (Some value) at are =
-        (value, found_last filter_option refl words value at, spelled value (spell value) refl (ap filter_of (sym at) ∙ are ∙ ap Some is))
+    forth None at are = absurd (none_some pattern (ap (option_and_then pattern_of) (sym at) ∙ are))
+    forth (Some value) at are = (value, found_last filter_option refl words value at, spelled value (spell value) refl (ap (option_and_then pattern_of) (sym at) ∙ are))
 
     back : ((value : Text) × IsLastValue filter_option words value × (spell value ≡ Ok pattern)) → hwdb.filter ≡ Some pattern
-    back h =
-        some_same hwdb.filter (Some pattern)
-        (sym (options words hwdb e).filter ∙ ap filter_of (last_found filter_option refl words h.0 h.1) ∙ ap as_pattern h.2)
+    back h = (options words hwdb e).filter ∙ ap (option_and_then pattern_of) (last_found filter_option refl words h.0 h.1) ∙ ap result_ok h.2

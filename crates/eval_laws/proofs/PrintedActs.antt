@@ -14,17 +14,19 @@ use Rattle.rule_types.specs.declared.part.Import.TheVariants as import
 use Rattle.rule_types.specs.declared.roles.MatchOperator.{MatchOperator}
 use Rattle.rule_types.specs.declared.roles.MatchOperator.TheVariants.{Equal}
 use Rattle.rule_types.specs.Rules.{Rule}
+use Rattle.eval_rendering.specs.Bounds.{most_command_bytes}
 use Rattle.eval_rendering.specs.declared.rendered.Rendered.{Rendered}
 use Rattle.eval_rendering.specs.declared.rendered.Rendered.TheVariants as outcome
 use Rattle.eval_state.specs.Properties.{properties_set}
 use Rattle.eval_state.specs.Scenes.{with_env}
 use Rattle.eval_state.specs.declared.scene.Scene.{Scene}
-use Rattle.eval_acts.specs.ActTexts.{import_text, most_command_bytes}
+use Rattle.eval_matching.specs.Holding.{agrees}
+use Rattle.eval_acts.specs.ActTexts.{import_text}
 use Rattle.eval_acts.specs.Acts as acts
-use Rattle.eval_acts.specs.Acts.{act_step, came_too_long, proceeding, proceeds, on_text, program_imported}
+use Rattle.eval_acts.specs.Acts.{act_step, imported, proceeds, on_text}
+use Rattle.eval_acts.specs.Inner.{left}
 use Rattle.eval_acts.specs.Imports.{from_answer_or_noted, from_program}
 use Rattle.eval_acts.specs.Printed.{printed_properties}
-use Rattle.eval_acts.specs.declared.came.Came.TheVariants.{Tried}
 use Rattle.eval_laws.specs.PrintedLines.{IsPrinted, program_import}
 
 -- an answer with a status and a text
@@ -39,26 +41,30 @@ module _ (r : Rule) (operator : MatchOperator) (template : Template) (s : Scene)
   abbrev taken : Text → Scene
   taken text = with_env (properties_set s.state.env (printed_properties text)) s
 
+  -- the scene after the import and whether the rule goes on, by whether it was done
+  abbrev after : Scene × Option Bool → Scene × Bool
+  after went = (left r here went, proceeds went.1 s.state.event.profile operator)
+
   -- the result of the import with udev, by how its command is rendered
   came : Rendered → Scene × Bool
-  came given = proceeding (program_import operator template) (on_text r here (from_program r) given s)
+  came given = after (on_text (from_program r) given s)
 
   -- the result of an answer, or of none
   went_by : Scene × Bool → Scene × Bool
-  went_by went = proceeding (program_import operator template) (acts.tried went)
+  went_by went = after (acts.tried went)
 
   step_is : (entries : List Entry) → s.state.event.profile ≡ Udev → act_step entries r (program_import operator template) s ≡ came (import_text most_command_bytes template s.state)
   unfolding act_step came
-  step_is entries e = ap (λ p. proceeding (program_import operator template) (program_imported p r here (import.Program template) template s)) e
+  step_is entries e = ap (λ p. after (imported p entries r (import.Program template) s)) e
 
-  came_answered : (text : Text) → IsPrinted template s text → came (import_text most_command_bytes template s.state) ≡ (taken text, proceeds operator (Tried true))
+  came_answered : (text : Text) → IsPrinted template s text → came (import_text most_command_bytes template s.state) ≡ (taken text, agrees operator true)
   unfolding came
   came_answered text h =
-      ap (λ given. proceeding (program_import operator template) (on_text r here (from_program r) given s)) h.rendered
-      ∙ ap (λ answer. proceeding (program_import operator template) (acts.tried (from_answer_or_noted r h.command answer s))) h.answered
+      ap (λ given. after (on_text (from_program r) given s)) h.rendered
+      ∙ ap (λ answer. after (acts.tried (from_answer_or_noted r h.command answer s))) h.answered
 
   pub answered : (entries : List Entry) (text : Text) → s.state.event.profile ≡ Udev → IsPrinted template s text
-      → act_step entries r (program_import operator template) s ≡ (taken text, proceeds operator (Tried true))
+      → act_step entries r (program_import operator template) s ≡ (taken text, agrees operator true)
   answered entries text e h = step_is entries e ∙ came_answered text h
 
 -- with `==`
@@ -87,7 +93,7 @@ module _ (r : Rule) (template : Template) (s : Scene) where
       → ((text : Text) × IsPrinted template s text) ⊎ Fails (came r Equal template s given)
   unfolding came went_by
   by_command p (outcome.Text command) e = by_answer command e (value_of s.state.event.programs command) refl
-  by_command p outcome.TooLong e = inr (record { stops = ap (λ profile. proceeds Equal (came_too_long profile)) p; same = refl })
+  by_command p outcome.TooLong e = inr (record { stops = ap (λ profile. proceeds None profile Equal) p; same = refl })
 
   module _ (entries : List Entry) (p : s.state.event.profile ≡ Udev) where
     is_printed : ((text : Text) × IsPrinted template s text) ⊎ Fails (came r Equal template s (import_text most_command_bytes template s.state))

@@ -24,7 +24,7 @@ use Rattle.rule_types.specs.declared.part.Change.{Change}
 use Rattle.rule_types.specs.declared.part.Change.TheVariants as change
 use Rattle.rule_types.specs.Rules.{Rule}
 use Rattle.device_core.specs.Values.{EventValue}
-use Rattle.eval_rendering.specs.Bounds.{within}
+use Rattle.eval_rendering.specs.Bounds.{most_command_bytes, within}
 use Rattle.eval_rendering.specs.Rendering.{render}
 use Rattle.eval_rendering.specs.declared.rendered.Mode.TheVariants.{Plain}
 use Rattle.eval_rendering.specs.declared.rendered.Rendered.{Rendered}
@@ -38,9 +38,10 @@ use Rattle.eval_state.specs.declared.finals.FinalKey.TheVariants as final
 use Rattle.eval_state.specs.declared.note_kind.NoteKind.TheVariants.{NameIgnored, NoDeviceNumber, NoValue, TextTooLong}
 use Rattle.eval_state.specs.declared.scene.Scene.{Scene}
 use Rattle.eval_assignments.specs.Assigning.{assigned, with_option}
-use Rattle.eval_assignments.specs.Bounds.{most_bytes_of, most_command_bytes}
+use Rattle.eval_assignments.specs.Bounds.{most_bytes_of}
 use Rattle.eval_assignments.specs.Escapes.{escape_of, mode_of}
 use Rattle.eval_assignments.specs.Finality.{final_key, final_option, final_target, finally, is_settled, settled}
+use Rattle.eval_assignments.specs.Inner.{given_by}
 use Rattle.eval_assignments.specs.Links.{words}
 use Rattle.eval_assignments.specs.Runs.{command_made, made_before, run_made, run_of}
 use Rattle.eval_assignments.specs.Steps.{emptied, finally_too_long, is_ignored, lacks_number, run_step, set_step, step_by, text_given, text_rendered, text_set, text_step}
@@ -102,23 +103,23 @@ module _ (event : EventValue) (len : ℕ) (fits : event_weight event ≤ len) wh
 
   module _ (n : ℕ) (r : Rule) (s : Scene) (h : Within event n s) where
     given_within : (profile : Profile) (e : Escape) (o : AssignOperator) (about : Target) (written t : Text) → length t ≤ 16384
-        → Within event (n + (part_allowance r (attribute_of_target about) + text_allowance profile len about written)) (text_given profile r e o about written t s)
+        → Within event (n + (part_allowance r (attribute_of_target about) + text_allowance profile len about written)) (text_given profile (given_by r e o about written) t s)
     given_within profile e o about written t short = by (is_ignored profile about s)
       where
         most : ℕ
         most = part_allowance r (attribute_of_target about) + text_allowance profile len about written
 
-        by : (b : Bool) → Within event (n + most) (if b then noted r NameIgnored t s else finally o (final_target about) (assigned profile r e o about written t s))
+        by : (b : Bool) → Within event (n + most) (if b then noted r NameIgnored t s else finally o (final_target about) (assigned profile about (given_by r e o about written) t s))
         by true = note_within event n most r s h (omega arith) NameIgnored t
         by false =
-            finally_within (n + most) o (final_target about) (assigned profile r e o about written t s) (assigned_within event n r s h len fits profile e o about written t short)
+            finally_within (n + most) o (final_target about) (assigned profile about (given_by r e o about written) t s) (assigned_within event n r s h len fits profile e o about written t short)
 
     late_within : (m : ℕ) (profile : Profile) (o : AssignOperator) (about : Target) (u : Scene) → Within event m u → Within event m (finally_too_long profile o about u)
     late_within m Manual o about u inside = inside
     late_within m Udev o about u inside = finally_within m o (final_target about) u inside
 
     text_within : (profile : Profile) (e : Escape) (o : AssignOperator) (about : Target) (written : Text) (given : Rendered) → IsShort given
-        → Within event (n + (part_allowance r (attribute_of_target about) + text_allowance profile len about written)) (text_set profile r e o about written given s)
+        → Within event (n + (part_allowance r (attribute_of_target about) + text_allowance profile len about written)) (text_set profile (given_by r e o about written) given s)
     text_within profile e o about written (rendered.Text t) short = given_within profile e o about written t short
     text_within profile e o about written rendered.TooLong short =
         let most : ℕ = part_allowance r (attribute_of_target about) + text_allowance profile len about written in
@@ -156,7 +157,7 @@ module _ (event : EventValue) (len : ℕ) (fits : event_weight event ≤ len) wh
     emptied_within o about = h
 
     rendered_within : (profile : Profile) (o : AssignOperator) (about : Target) (template : Template)
-        → Within event (n + (part_allowance r (attribute_of_target about) + text_allowance profile len about template.written)) (text_rendered profile r o about template s)
+        → Within event (n + (part_allowance r (attribute_of_target about) + text_allowance profile len about template.written)) (text_rendered profile (given_by r (escape_of r.sets) o about template.written) template s)
     rendered_within Manual o about template =
         let mode = mode_of Manual about (escape_of r.sets) in
         text_within n r s h Manual (escape_of r.sets) o about template.written (render template s.state mode) (rendered_short template s.state mode)
@@ -167,14 +168,14 @@ module _ (event : EventValue) (len : ℕ) (fits : event_weight event ≤ len) wh
 
   module _ (n : ℕ) (r : Rule) (s : Scene) (h : Within event n s) where
     step_within : (profile : Profile) (o : AssignOperator) (about : Target) (template : Template)
-        → Within event (n + (part_allowance r (attribute_of_target about) + text_allowance profile len about template.written)) (text_step profile r o about template s)
+        → Within event (n + (part_allowance r (attribute_of_target about) + text_allowance profile len about template.written)) (text_step profile (given_by r (escape_of r.sets) o about template.written) template s)
     step_within Manual o about template = rendered_within n r s h Manual o about template
     step_within Udev o about template = by (lacks_number about s.state.event.device.number)
       where
         most : ℕ
         most = part_allowance r (attribute_of_target about) + text_allowance Udev len about template.written
 
-        by : (b : Bool) → Within event (n + most) (if b then noted_key r NoDeviceNumber (key_of_target about) (attribute_of_target about) s else text_rendered Udev r o about template (emptied o about s))
+        by : (b : Bool) → Within event (n + most) (if b then noted_key r NoDeviceNumber (key_of_target about) (attribute_of_target about) s else text_rendered Udev (given_by r (escape_of r.sets) o about template.written) template (emptied o about s))
         by true = note_within event n most r s h (omega arith) NoDeviceNumber (word_of_key (key_of_target about) (attribute_of_target about))
         by false = rendered_within n r (emptied o about s) (emptied_within n r s h o about) Udev o about template
 

@@ -17,14 +17,14 @@ use Rattle.device_core.specs.Values.{NumberValue}
 use Rattle.eval_state.specs.Scenes.{noted, noted_key}
 use Rattle.eval_state.specs.declared.note_kind.NoteKind.TheVariants.{NoDeviceNumber, TagIgnored}
 use Rattle.eval_state.specs.declared.scene.Scene.{Scene}
-use Rattle.eval_rendering.specs.Bounds.{within}
+use Rattle.eval_rendering.specs.Bounds.{most_path_bytes, within}
 use Rattle.eval_rendering.specs.Rendering.{render}
 use Rattle.eval_rendering.specs.declared.rendered.Mode.{Mode}
 use Rattle.eval_rendering.specs.declared.rendered.Mode.TheVariants.{Plain}
 use Rattle.eval_rendering.specs.declared.rendered.Rendered.{Rendered}
 use Rattle.eval_rendering.specs.declared.rendered.Rendered.TheVariants as rendered
-use Rattle.eval_assignments.specs.Bounds.{most_name_bytes}
 use Rattle.eval_assignments.specs.Escapes.{escape_of, mode_of}
+use Rattle.eval_assignments.specs.Inner.{given_by}
 use Rattle.eval_assignments.specs.Lists.{without_texts}
 use Rattle.eval_assignments.specs.Steps.{emptied, lacks_number, set_step, step_by, text_rendered, text_set}
 use Rattle.eval_assignments.specs.Tags.{current_tags, is_tag, tag_added, tag_changed, with_tag, without_tags}
@@ -47,8 +47,8 @@ needs_no_number : (number : Option NumberValue) → lacks_number target.Tag numb
 needs_no_number None = refl
 needs_no_number (Some number) = refl
 
-module _ (r : Rule) (template : Template) (s : Scene) (t : Text) (udev : s.state.event.profile ≡ Udev) (text : within most_name_bytes (render template s.state Plain) ≡ rendered.Text t) where
-  tag_set : (o : AssignOperator) → text_set Udev r (escape_of r.sets) o target.Tag template.written (rendered.Text t) s ≡ tag_changed r o t s
+module _ (r : Rule) (template : Template) (s : Scene) (t : Text) (udev : s.state.event.profile ≡ Udev) (text : within most_path_bytes (render template s.state Plain) ≡ rendered.Text t) where
+  tag_set : (o : AssignOperator) → text_set Udev (given_by r (escape_of r.sets) o target.Tag template.written) (rendered.Text t) s ≡ tag_changed r o t s
   tag_set Assign = refl
   tag_set Add = refl
   tag_set Remove = refl
@@ -59,11 +59,11 @@ module _ (r : Rule) (template : Template) (s : Scene) (t : Text) (udev : s.state
   unfolding set_step
   tag_step o =
       ap (λ (p : Profile). step_by p r o (change.Text target.Tag template) s) udev
-      ∙ ap (λ (b : Bool). cond b (noted_key r NoDeviceNumber (key_of_target target.Tag) (attribute_of_target target.Tag) s) (text_rendered Udev r o target.Tag template (emptied o target.Tag s)))
+      ∙ ap (λ (b : Bool). cond b (noted_key r NoDeviceNumber (key_of_target target.Tag) (attribute_of_target target.Tag) s) (text_rendered Udev (given_by r (escape_of r.sets) o target.Tag template.written) template (emptied o target.Tag s)))
       (needs_no_number s.state.event.device.number)
-      ∙ ap (λ (u : Scene). text_rendered Udev r o target.Tag template u) (none_emptied o s)
-      ∙ ap (λ (x : Rendered). text_set Udev r (escape_of r.sets) o target.Tag template.written x s)
-      (ap (λ (m : Mode). within most_name_bytes (render template s.state m)) (plain_tag (escape_of r.sets)) ∙ text)
+      ∙ ap (λ (u : Scene). text_rendered Udev (given_by r (escape_of r.sets) o target.Tag template.written) template u) (none_emptied o s)
+      ∙ ap (λ (x : Rendered). text_set Udev (given_by r (escape_of r.sets) o target.Tag template.written) x s)
+      (ap (λ (m : Mode). within most_path_bytes (render template s.state m)) (plain_tag (escape_of r.sets)) ∙ text)
       ∙ tag_set o
 
   pub still_met : (set_step r s (record { operator = Remove; change = change.Text target.Tag template })).state.tags ≡ s.state.tags

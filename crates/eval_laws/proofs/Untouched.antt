@@ -14,7 +14,7 @@ use Rattle.rule_types.specs.declared.roles.Target.{Target}
 use Rattle.rule_types.specs.declared.roles.Target.TheVariants as target
 use Rattle.rule_types.specs.declared.types.RunType.{RunType}
 use Rattle.rule_types.specs.Rules.{Rule}
-use Rattle.eval_rendering.specs.Bounds.{within}
+use Rattle.eval_rendering.specs.Bounds.{most_command_bytes, most_path_bytes, sysfs_path, within}
 use Rattle.eval_rendering.specs.Rendering.{render, rendered_as_udev}
 use Rattle.eval_rendering.specs.declared.rendered.Mode.TheVariants.{Plain}
 use Rattle.eval_rendering.specs.declared.rendered.Rendered.{Rendered}
@@ -28,10 +28,10 @@ use Rattle.eval_state.specs.declared.scene.Scene.{Scene}
 use Rattle.eval_assignments.specs.declared.escapes.Escape.{Escape}
 use Rattle.eval_assignments.specs.Assigning.{assigned, group_set, link_text, owner_set}
 use Rattle.eval_state.specs.Files.{starred}
-use Rattle.eval_assignments.specs.Attributes.{attribute_path, attribute_put, attribute_set_at, attribute_set_by, found_above, own_attribute_set}
-use Rattle.eval_assignments.specs.Bounds.{most_command_bytes, most_name_bytes}
+use Rattle.eval_assignments.specs.Attributes.{attribute_put, attribute_set_at, attribute_set_by, found_above, own_attribute_set}
 use Rattle.eval_assignments.specs.Escapes.{escape_of}
 use Rattle.eval_assignments.specs.Finality.{final_target, finally}
+use Rattle.eval_assignments.specs.Inner.{given_by}
 use Rattle.eval_assignments.specs.Links.{first_refused, link_noted, links_changed, plain_links, words}
 use Rattle.eval_assignments.specs.Lists.{changed}
 use Rattle.eval_assignments.specs.Modes.{mode_read, mode_set}
@@ -117,7 +117,7 @@ module _ (k : Kept) (r : Rule) where
   found_same name (Some found) t s = (same_tables k s _ _ _, refl)
 
   own_same : (name t : Text) (s : Scene) → Same k s (own_attribute_set r name t s)
-  own_same name t s = by (nat_lt most_name_bytes (length (attribute_path s.state.event name)))
+  own_same name t s = by (nat_lt most_path_bytes (length (sysfs_path s.state.event.device name)))
     where
       by : (b : Bool) → Same k s (cond b (noted_key r TextTooLong rule_key.Attr (Some name) s) (attribute_put r name (starred s.state.event.device name) t s))
       by true = (same_notes k s _, refl)
@@ -136,7 +136,7 @@ module _ (k : Kept) (r : Rule) where
   parameter_same name rendered.TooLong t s = (same_notes k s _, refl)
   parameter_same name (rendered.Text text) t s = (same_tables k s _ _ _, refl)
 
-  pub assigned_same : (profile : Profile) (e : Escape) (o : AssignOperator) (about : Target) (written t : Text) (s : Scene) → Other k (final_target about) → Same k s (assigned profile r e o about written t s)
+  pub assigned_same : (profile : Profile) (e : Escape) (o : AssignOperator) (about : Target) (written t : Text) (s : Scene) → Other k (final_target about) → Same k s (assigned profile about (given_by r e o about written) t s)
   assigned_same Manual e o target.Owner written t s other = (same_owner k s _ other, refl)
   assigned_same Manual e o target.Group written t s other = (same_group k s _ other, refl)
   assigned_same Manual e o target.Mode written t s other = (same_mode k s _ other, refl)
@@ -156,25 +156,25 @@ module _ (k : Kept) (r : Rule) where
   assigned_same Udev e o target.Name written t s other = (same_name k s _ other, refl)
   assigned_same Udev e o target.Symlink written t s other = links_same o (link_text e t) s other
   assigned_same Udev e o (target.Attr name) written t s other = attribute_same (named name) name t s
-  assigned_same Udev e o (target.Sysctl name) written t s other = parameter_same name (within most_name_bytes (rendered_as_udev name s.state)) t s
+  assigned_same Udev e o (target.Sysctl name) written t s other = parameter_same name (within most_path_bytes (rendered_as_udev name s.state)) t s
 
-  given_same : (profile : Profile) (e : Escape) (o : AssignOperator) (about : Target) (written t : Text) (s : Scene) → Other k (final_target about) → At k s (text_given profile r e o about written t s)
+  given_same : (profile : Profile) (e : Escape) (o : AssignOperator) (about : Target) (written t : Text) (s : Scene) → Other k (final_target about) → At k s (text_given profile (given_by r e o about written) t s)
   given_same profile e o about written t s other = by (is_ignored profile about s)
     where
-      by : (b : Bool) → At k s (cond b (noted r NameIgnored t s) (finally o (final_target about) (assigned profile r e o about written t s)))
+      by : (b : Bool) → At k s (cond b (noted r NameIgnored t s) (finally o (final_target about) (assigned profile about (given_by r e o about written) t s)))
       by true = same_notes k s _
-      by false = same_finally k s (assigned profile r e o about written t s) o (final_target about) (assigned_same profile e o about written t s other).0
+      by false = same_finally k s (assigned profile about (given_by r e o about written) t s) o (final_target about) (assigned_same profile e o about written t s other).0
 
   late_same : (profile : Profile) (o : AssignOperator) (about : Target) (s t : Scene) → At k s t → At k s (finally_too_long profile o about t)
   late_same Manual o about s t h = h
   late_same Udev o about s t h = same_finally k s t o (final_target about) h
 
   text_same : (profile : Profile) (e : Escape) (o : AssignOperator) (about : Target) (written : Text) (text : Rendered) (s : Scene) → Other k (final_target about)
-      → At k s (text_set profile r e o about written text s)
+      → At k s (text_set profile (given_by r e o about written) text s)
   text_same profile e o about written (rendered.Text t) s other = given_same profile e o about written t s other
   text_same profile e o about written rendered.TooLong s other = late_same profile o about s _ (same_notes k s _)
 
-  rendered_same : (profile : Profile) (o : AssignOperator) (about : Target) (template : Template) (s : Scene) → Other k (final_target about) → At k s (text_rendered profile r o about template s)
+  rendered_same : (profile : Profile) (o : AssignOperator) (about : Target) (template : Template) (s : Scene) → Other k (final_target about) → At k s (text_rendered profile (given_by r (escape_of r.sets) o about template.written) template s)
   rendered_same Manual o about template s other = text_same Manual (escape_of r.sets) o about template.written _ s other
   rendered_same Udev o about template s other = text_same Udev (escape_of r.sets) o about template.written _ s other
 
@@ -183,11 +183,11 @@ module _ (k : Kept) (r : Rule) where
   emptied_same AssignFinal target.Symlink s other = same_links k s [] other
   emptied_same o about s other = itself k s
 
-  pub step_same : (profile : Profile) (o : AssignOperator) (about : Target) (template : Template) (s : Scene) → Other k (final_target about) → At k s (text_step profile r o about template s)
+  pub step_same : (profile : Profile) (o : AssignOperator) (about : Target) (template : Template) (s : Scene) → Other k (final_target about) → At k s (text_step profile (given_by r (escape_of r.sets) o about template.written) template s)
   step_same Manual o about template s other = rendered_same Manual o about template s other
   step_same Udev o about template s other = by (lacks_number about s.state.event.device.number)
     where
-      by : (b : Bool) → At k s (cond b (noted_key r NoDeviceNumber (key_of_target about) (attribute_of_target about) s) (text_rendered Udev r o about template (emptied o about s)))
+      by : (b : Bool) → At k s (cond b (noted_key r NoDeviceNumber (key_of_target about) (attribute_of_target about) s) (text_rendered Udev (given_by r (escape_of r.sets) o about template.written) template (emptied o about s)))
       by true = same_notes k s _
       by false = through k s (emptied o about s) _ (emptied_same o about s other) (rendered_same Udev o about template (emptied o about s) other)
 
@@ -221,7 +221,7 @@ watched (target.Env name) h = cc
 watched (target.Attr name) h = cc
 watched (target.Sysctl name) h = cc
 
-pub assigned_finals : (profile : Profile) (r : Rule) (e : Escape) (o : AssignOperator) (about : Target) (written t : Text) (s : Scene) → (assigned profile r e o about written t s).finals ≡ s.finals
+pub assigned_finals : (profile : Profile) (r : Rule) (e : Escape) (o : AssignOperator) (about : Target) (written t : Text) (s : Scene) → (assigned profile about (given_by r e o about written) t s).finals ≡ s.finals
 assigned_finals profile r e o about written t s = (assigned_same (value key.Watch) r profile e o about written t s (watched about)).1
 
 pub emptied_finals : (o : AssignOperator) (about : Target) (s : Scene) → (emptied o about s).finals ≡ s.finals

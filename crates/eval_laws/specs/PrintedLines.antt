@@ -11,8 +11,9 @@ use Rattle.rule_types.specs.declared.part.Act.{Act}
 use Rattle.rule_types.specs.declared.part.ActKind.TheVariants as act_kind
 use Rattle.rule_types.specs.declared.part.Import.TheVariants as import
 use Rattle.eval_state.specs.declared.scene.Scene.{Scene}
-use Rattle.eval_acts.specs.ActTexts.{import_text, most_command_bytes}
+use Rattle.eval_acts.specs.ActTexts.{import_text}
 use Rattle.eval_acts.specs.Words.{is_quote}
+use Rattle.eval_rendering.specs.Bounds.{most_command_bytes}
 use Rattle.eval_rendering.specs.declared.rendered.Rendered.TheVariants as outcome
 
 -- Between blanks there is a text that neither begins nor ends with one, and is not empty.

@@ -18,11 +18,10 @@ ghost use Rattle.eval_state.specs.Runs.{RunValue, runs_after, same_run};
 ghost use Rattle.eval_state.specs.declared.finals.FinalKey.{FinalKey};
 ghost use Rattle.eval_state.specs.declared.scene.Scene.{Scene};
 ghost use Rattle.eval_laws.specs.AssignmentLaws.{Keeps, may_be_final};
-ghost use Rattle.eval_rendering.specs.Bounds.{within};
+ghost use Rattle.eval_rendering.specs.Bounds.{most_path_bytes, within};
 ghost use Rattle.eval_rendering.specs.Rendering.{render};
 ghost use Rattle.eval_rendering.specs.declared.rendered.Mode.TheVariants.{Plain};
 ghost use Rattle.eval_rendering.specs.declared.rendered.Rendered.TheVariants as rendered;
-ghost use Rattle.eval_assignments.specs.Bounds.{most_name_bytes};
 ghost use Rattle.eval_assignments.specs.Lists.{changed};
 ghost use Rattle.eval_assignments.specs.Tags.{current_tags, is_tag};
 ghost use Rattle.eval_assignments.specs.Steps.{set_step};
@@ -51,7 +50,7 @@ pub fn runs_that_are_there_stay_alone()
 /// With udev a tag that `-=` removes is not in the answer, but matches of tags still find it. `+=` leaves a tag
 /// that is in the answer and found, whether it was removed before or not, and so does `=`.
 pub fn a_tag_that_is_taken_away_is_met_and_not_reported()
-    ensures met { (r : Rule) (template : templates.Parts) (s : Scene) (t : Text) → s.state.event.profile ≡ Udev → within most_name_bytes (render template s.state Plain) ≡ rendered.Text t → (set_step r s (record { operator = Remove; change = change.Text target.Tag template })).state.tags ≡ s.state.tags }
-    ensures not_reported { (r : Rule) (template : templates.Parts) (s : Scene) (t : Text) → s.state.event.profile ≡ Udev → within most_name_bytes (render template s.state Plain) ≡ rendered.Text t → is_among (current_tags (set_step r s (record { operator = Remove; change = change.Text target.Tag template }))) t ≡ false }
-    ensures reported { (r : Rule) (o : AssignOperator) (template : templates.Parts) (s : Scene) (t : Text) → s.state.event.profile ≡ Udev → within most_name_bytes (render template s.state Plain) ≡ rendered.Text t → o ≢ Remove → is_empty t ≡ false → is_tag t ≡ true → is_among (current_tags (set_step r s (record { operator = o; change = change.Text target.Tag template }))) t ≡ true }
+    ensures met { (r : Rule) (template : templates.Parts) (s : Scene) (t : Text) → s.state.event.profile ≡ Udev → within most_path_bytes (render template s.state Plain) ≡ rendered.Text t → (set_step r s (record { operator = Remove; change = change.Text target.Tag template })).state.tags ≡ s.state.tags }
+    ensures not_reported { (r : Rule) (template : templates.Parts) (s : Scene) (t : Text) → s.state.event.profile ≡ Udev → within most_path_bytes (render template s.state Plain) ≡ rendered.Text t → is_among (current_tags (set_step r s (record { operator = Remove; change = change.Text target.Tag template }))) t ≡ false }
+    ensures reported { (r : Rule) (o : AssignOperator) (template : templates.Parts) (s : Scene) (t : Text) → s.state.event.profile ≡ Udev → within most_path_bytes (render template s.state Plain) ≡ rendered.Text t → o ≢ Remove → is_empty t ≡ false → is_tag t ≡ true → is_among (current_tags (set_step r s (record { operator = o; change = change.Text target.Tag template }))) t ≡ true }
 {}

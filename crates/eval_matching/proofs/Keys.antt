@@ -8,7 +8,8 @@ use Rattle.text_tables.specs.Texts.{Text}
 use Rattle.text_tables.specs.Pairs.{Pair, value_of}
 use Rattle.rule_templates.specs.Substituted.{has_sign}
 use Rattle.eval_state.specs.declared.state.State.{State}
-use Rattle.eval_rendering.specs.Names.{name_text, short}
+use Rattle.eval_rendering.specs.Bounds.{short}
+use Rattle.eval_rendering.specs.Names.{name_text}
 use Rattle.eval_matching.specs.Attributes.{udev_value}
 
 long_enough : (name : Text) → 511 < length name → nat_lt 511 (length name) ≡ true

@@ -13,7 +13,8 @@ use Rattle.eval_state.specs.Chains.{device_at}
 use Rattle.eval_state.specs.Named.{NamedValue, named, named_place}
 use Rattle.eval_state.specs.Texts.{or_empty}
 use Rattle.eval_state.specs.declared.state.State.{State}
-use Rattle.eval_rendering.specs.Names.{name_text, short}
+use Rattle.eval_rendering.specs.Bounds.{short}
+use Rattle.eval_rendering.specs.Names.{name_text}
 use Rattle.eval_matching.specs.Holding.{Subject, attribute, udev_attribute, udev_unread}
 use Rattle.eval_matching.specs.Udev.{capped}
 

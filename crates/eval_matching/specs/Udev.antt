@@ -1,5 +1,5 @@
 -- How udev of systemd 257 compares, where this differs from the manual.
-use Rattle.std.specs.Prelude.{ℕ, ◌-◌, Bool, false, not, ◌||◌, if◌then◌else◌, List, length, map, take, slice_get, Option, Some, None, codes}
+use Rattle.std.specs.Prelude.{◌-◌, Bool, false, not, ◌||◌, if◌then◌else◌, List, length, map, take, slice_get, Option, Some, None, codes}
 use Rattle.std.specs.Char.{to_ascii_lowercase}
 use Rattle.std.specs.List.{prefix_len, suffix_len, list_any}
 use Rattle.text_bytes.specs.Names.{is_whitespace}
@@ -8,6 +8,7 @@ use Rattle.text_tables.specs.Texts.{Text, same_text}
 use Rattle.text_core.specs.Choices.{choice_fits, is_bar}
 use Rattle.rule_templates.specs.Integers.{is_separator}
 use Rattle.rule_types.specs.declared.part.Comparison.{Comparison}
+use Rattle.eval_rendering.specs.Bounds.{most_value_bytes}
 
 -- whether there is an element, and it passes
 abbrev pub passes : {A : Type 0} → (A → Bool) → Option A → Bool
@@ -43,13 +44,9 @@ first_part value = let following = skip_while is_bar value in take (prefix_len (
 abbrev pub trims : Text → Bool
 trims value = last_is (λ b. not (is_whitespace b)) (first_part value)
 
--- the most bytes of an attribute that are compared if it is compared without its end
-abbrev pub most_compared : ℕ
-most_compared = 511
-
--- the first bytes of an attribute, as many as are compared
+-- the first bytes of an attribute, as many as are compared if it is compared without its end
 abbrev pub capped : Text → Text
-capped text = take most_compared text
+capped text = take most_value_bytes text
 
 -- a text without the spaces, tabs and ends of lines at its end
 abbrev pub without_end : Text → Text

@@ -12,7 +12,8 @@ ghost use Rattle.eval_matching.specs.Borrowed.{borrowed_subject};
 ghost use Rattle.eval_matching.specs.Subjects.{plain_subject, up_subject};
 ghost use Rattle.eval_matching.specs.Udev.{capped};
 ghost use Rattle.eval_state.specs.Chains.{device_at};
-ghost use Rattle.eval_rendering.specs.Names.{name_text, short};
+ghost use Rattle.eval_rendering.specs.Bounds.{short};
+ghost use Rattle.eval_rendering.specs.Names.{name_text};
 
 use crate::holding::attribute_holds;
 use crate::udev;

@@ -9,12 +9,10 @@ ghost use Rattle.eval_matching.specs.Holding.{holds, udev_attribute, udev_member
 ghost use Rattle.eval_matching.specs.Udev.{as_spelled, capped, compared_with, first_part, means_each, members_fit, subsystem_fits, trims, without_end};
 
 use crate::holding::{agrees, some_fits, some_given_fits};
+use eval_rendering::MAX_VALUE_BYTES;
 use rule_templates::is_separator;
 use rule_types::Comparison;
 use text_bytes::is_whitespace;
-
-/// The most bytes of an attribute that are compared if it is compared without its end.
-const MAX_COMPARED: usize = 511;
 
 /// Whether a value is one of the three words each of which udev takes for all three.
 fn means_each(value: &[u8]) -> bool
@@ -158,11 +156,11 @@ fn without_end(text: &[u8]) -> &[u8]
     text.split_at(text.len() - end_len(text)).0
 }
 
-/// The first bytes of an attribute, as many as are compared.
+/// The first bytes of an attribute, as many as are compared if it is compared without its end.
 pub(crate) fn capped(text: &[u8]) -> &[u8]
     ensures { result.now ≡ capped text.now }
 {
-    text.split_at(MAX_COMPARED.min(text.len())).0
+    text.split_at(MAX_VALUE_BYTES.min(text.len())).0
 }
 
 /// An attribute as it is compared with a value.

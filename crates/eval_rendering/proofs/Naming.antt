@@ -11,9 +11,9 @@ use Rattle.rule_templates.specs.declared.piece.Piece.TheVariants as piece
 use Rattle.rule_templates.proofs.Bare.{no_attribute}
 use Rattle.rule_templates.proofs.Left.{left_all, left_first, left_stops}
 use Rattle.eval_state.specs.declared.state.State.{State}
-use Rattle.eval_rendering.specs.Bounds.{bounded, most_bytes}
+use Rattle.eval_rendering.specs.Bounds.{bounded, most_bytes, short}
 use Rattle.eval_rendering.specs.Lengthened.{lengthened}
-use Rattle.eval_rendering.specs.Names.{name_piece, name_text, short}
+use Rattle.eval_rendering.specs.Names.{name_piece, name_text}
 use Rattle.eval_rendering.specs.Pieces.{has_long}
 use Rattle.eval_rendering.specs.Rendering.{as_rendered, render, rendered_as_udev, text_in}
 use Rattle.eval_rendering.specs.declared.rendered.Mode.TheVariants.{Plain}

@@ -1,19 +1,11 @@
 -- The name of an attribute that a match asks for, as udev renders it while it compares.
-use Rattle.std.specs.Prelude.{ℕ, nat_lt, if◌then◌else◌, [], length, flat_map, Option, Some, None}
+use Rattle.std.specs.Prelude.{[], flat_map}
 use Rattle.text_tables.specs.Texts.{Text}
 use Rattle.rule_templates.specs.Reading.{left_of}
 use Rattle.rule_templates.specs.declared.piece.Piece.{Piece}
 use Rattle.rule_templates.specs.declared.piece.Piece.TheVariants as piece
 use Rattle.eval_state.specs.declared.state.State.{State}
 use Rattle.eval_rendering.specs.Pieces.{piece_text}
-
--- the most bytes of such a name
-abbrev pub most_name_bytes : ℕ
-most_name_bytes = 511
-
--- a name, unless it is too long
-abbrev pub short : Text → Option Text
-short text = if nat_lt most_name_bytes (length text) then None else Some text
 
 -- what is in a name in place of each piece; no attribute can be asked for there, as the brace after it would end the name
 abbrev pub name_piece : State → Piece → Text

@@ -18,6 +18,7 @@ use Rattle.eval_state.specs.Chains.{device_at, kernel_of}
 use Rattle.eval_state.specs.Named.{NamedValue, named, named_place}
 use Rattle.eval_state.specs.Start.{node_path}
 use Rattle.eval_state.specs.declared.state.State.{State}
+use Rattle.eval_rendering.specs.Bounds.{most_value_bytes}
 use Rattle.eval_rendering.specs.Words.{from_word, spaced, word_at}
 
 -- a text, or another one if there is none
@@ -32,10 +33,6 @@ selected_device state = option_and_then (device_at state.event) state.selected
 -- an attribute, of the event device or else of the selected one
 abbrev pub attribute : Text → State → Option Text
 attribute name state = or_else (value_of state.event.device.attrs name) (option_and_then (λ device. value_of device.attrs name) (selected_device state))
-
--- the most bytes of an attribute that udev puts in
-abbrev pub most_attribute_bytes : ℕ
-most_attribute_bytes = 511
 
 -- an attribute of a device, empty if the device has none of this name
 abbrev pub attribute_of : Text → DeviceValue → Text
@@ -54,7 +51,7 @@ named_attribute name event = option_and_then (attribute_named event) (named name
 -- its attribute off
 abbrev pub attribute_as : Profile → Text → State → Text
 attribute_as Manual name state = or_empty (attribute name state)
-attribute_as Udev name state = unwrap_or (option_map (take most_attribute_bytes) (named_attribute name state.event)) (or_empty (attribute name state))
+attribute_as Udev name state = unwrap_or (option_map (take most_value_bytes) (named_attribute name state.event)) (or_empty (attribute name state))
 
 -- the number that the kernel's name ends in; for udev a name of digits alone has none
 abbrev pub number_as : Profile → Text → Text
@@ -94,7 +91,7 @@ piece_text state piece.Devnode = or_empty (option_map node_path state.event.devi
 
 -- whether a piece is an attribute of more bytes than udev puts in
 abbrev pub is_long : State → Piece → Bool
-is_long state (piece.Attr name) = nat_lt most_attribute_bytes (length (attribute_as Udev name state))
+is_long state (piece.Attr name) = nat_lt most_value_bytes (length (attribute_as Udev name state))
 is_long state other = false
 
 -- whether a text with these pieces is too long whatever its own length is: for udev if an attribute is

@@ -4,15 +4,14 @@ ghost use Rattle.std.specs.List.{list_any};
 ghost use Rattle.std.specs.Option.{option_and_then};
 ghost use Rattle.text_tables.specs.Pairs.{value_of};
 ghost use Rattle.eval_state.specs.Texts.{or_empty};
-ghost use Rattle.eval_rendering.specs.Pieces.{attribute, attribute_as, attribute_named, attribute_of, has_long, is_long, most_attribute_bytes, named_attribute, selected_device};
+ghost use Rattle.eval_rendering.specs.Bounds.{most_value_bytes};
+ghost use Rattle.eval_rendering.specs.Pieces.{attribute, attribute_as, attribute_named, attribute_of, has_long, is_long, named_attribute, selected_device};
 
+use crate::bounds::MAX_VALUE_BYTES;
 use device_core::Device;
 use eval_state::{Named, State};
 use rule_templates::{Piece, Template};
 use text_bytes::Profile;
-
-/// The most bytes of an attribute that udev puts in.
-const MAX_ATTRIBUTE_BYTES: usize = 511;
 
 /// The device that is selected.
 pub(crate) fn selected_device<'a>(state: &State<'a>) -> Option<&'a Device<'a>>
@@ -74,9 +73,9 @@ fn named_attribute<'a>(state: &State<'a>, name: &[u8]) -> Option<&'a [u8]>
 /// As much of an attribute as udev puts in.
 #[tactic(auto, using(std::proofs::lemmas::List::take_min))]
 fn cut_off(value: &[u8]) -> &[u8]
-    ensures { result.now ≡ take most_attribute_bytes value.now }
+    ensures { result.now ≡ take most_value_bytes value.now }
 {
-    value.split_at(MAX_ATTRIBUTE_BYTES.min(value.len())).0
+    value.split_at(MAX_VALUE_BYTES.min(value.len())).0
 }
 
 /// The attribute that udev puts in, as the device has it: that of a device of the chain if the name also names one,
@@ -105,7 +104,7 @@ fn is_long(state: &State<'_>, piece: &Piece) -> bool
     ensures { result ≡ is_long state.now piece.now }
 {
     match piece {
-        Piece::Attr(name) => udev_attribute(state, name.as_slice()).len() > MAX_ATTRIBUTE_BYTES,
+        Piece::Attr(name) => udev_attribute(state, name.as_slice()).len() > MAX_VALUE_BYTES,
         _ => false,
     }
 }

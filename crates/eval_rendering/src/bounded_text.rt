@@ -4,11 +4,9 @@ ghost use Rattle.text_bytes.specs.Names.{space};
 ghost use Rattle.eval_rendering.specs.Bounds.{joined};
 ghost use Rattle.eval_rendering.specs.Words.{spaced};
 
+use crate::bounds::MAX_BYTES;
 use std::alloc::{AllocError, Global};
 use std::marker::Model;
-
-/// The most bytes of a rendered text.
-pub(crate) const MAX_BYTES: usize = 16384;
 
 /// A text so far, or that it is too long.
 #[derive(Drop)]

@@ -5,6 +5,7 @@
 
 mod attributes;
 mod bounded_text;
+mod bounds;
 mod laws;
 mod names;
 mod pieces;
@@ -14,6 +15,7 @@ mod short_name;
 mod spaced_words;
 mod words;
 
+pub use bounds::{MAX_BYTES, MAX_COMMAND_BYTES, MAX_PATH_BYTES, MAX_VALUE_BYTES};
 pub use laws::a_name_is_rendered_as_a_text;
 pub use names::rendered_name;
 pub use rendered::{Mode, Rendered};

@@ -8,7 +8,8 @@ ghost use Rattle.eval_state.specs.Chains.{kernel_of};
 ghost use Rattle.eval_state.specs.Start.{node_path};
 ghost use Rattle.eval_state.specs.Texts.{or_empty};
 ghost use Rattle.eval_rendering.specs.Lengthened.{lengthened};
-ghost use Rattle.eval_rendering.specs.Names.{name_piece, name_text, short};
+ghost use Rattle.eval_rendering.specs.Bounds.{short};
+ghost use Rattle.eval_rendering.specs.Names.{name_piece, name_text};
 ghost use Rattle.eval_rendering.specs.Pieces.{selected_device};
 
 use crate::pieces::{major, minor, name, parent_node};

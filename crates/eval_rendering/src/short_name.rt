@@ -4,11 +4,12 @@ ghost use Rattle.text_bytes.specs.Names.{space};
 ghost use Rattle.eval_rendering.specs.Lengthened.{lengthened};
 ghost use Rattle.eval_rendering.specs.Words.{spaced};
 
+use crate::bounds::MAX_VALUE_BYTES;
 use arrayvec::ArrayVec;
 use std::marker::Model;
 
 /// The most bytes of a name.
-const MAX_NAME_BYTES: usize = 511;
+const MAX_NAME_BYTES: usize = MAX_VALUE_BYTES;
 
 /// A name that is rendered, or that it is too long: it would have over 511 bytes.
 #[derive(Drop)]

@@ -4,7 +4,7 @@ ghost use Rattle.text_links.specs.Underscores.{underscored};
 ghost use Rattle.eval_rendering.specs.Bounds.{bounded};
 ghost use Rattle.eval_rendering.specs.Words.{spaced};
 
-use crate::bounded_text::MAX_BYTES;
+use crate::bounds::MAX_BYTES;
 use std::alloc::{AllocError, Global};
 use text_links::Word;
 

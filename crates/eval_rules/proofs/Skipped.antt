@@ -38,12 +38,15 @@ use Rattle.eval_state.specs.declared.finals.FinalKey.TheVariants.{Name}
 use Rattle.eval_state.specs.declared.note_kind.NoteKind.TheVariants.{AttributeNotRead, NameIgnored, NoDeviceNumber, TestNotMade, TextTooLong}
 use Rattle.eval_state.specs.declared.scene.Scene.{Scene}
 use Rattle.eval_acts.specs.Acts.{act_step, on_text, performed}
+use Rattle.eval_acts.specs.Inner.{left}
 use Rattle.eval_acts.specs.Questions.{tested, tested_at, tested_by, tested_by_udev}
 use Rattle.eval_acts.specs.Reaching.{match_reached}
 use Rattle.eval_assignments.specs.Assigning.{assigned}
 use Rattle.eval_assignments.specs.Bounds.{most_bytes_of}
 use Rattle.eval_assignments.specs.Escapes.{escape_of, mode_of}
 use Rattle.eval_assignments.specs.Finality.{final_key, final_target, finally, is_settled}
+use Rattle.eval_assignments.specs.Givens.{Given}
+use Rattle.eval_assignments.specs.Inner.{given_by}
 use Rattle.eval_assignments.specs.Names.{is_interface}
 use Rattle.eval_assignments.specs.Steps.{emptied, lacks_number, set_step, step_by, text_rendered, text_set, text_step}
 use Rattle.eval_assignments.specs.declared.escapes.Escape.{Escape}
@@ -120,11 +123,11 @@ by_still Udev r path s = named_still (named path) r path s
 tested_still : (r : Rule) (mask : Option Text) (t : Text) (s : Scene) → Still s (tested r mask t s).0
 tested_still r mask t s = either s (is_some mask || begins_with slash t) (noted r TestNotMade t s, false) (tested_by s.state.event.profile r t s) refl (by_still s.state.event.profile r t s)
 
-shown_still : (r : Rule) (d : ActKind) (act : Text → Scene → Scene × Bool) → ((t : Text) (s : Scene) → Still s (act t s).0) → (text : Rendered) (s : Scene) → Still s (on_text r d act text s).0
+shown_still : (r : Rule) (d : ActKind) (act : Text → Scene → Scene × Bool) → ((t : Text) (s : Scene) → Still s (act t s).0) → (text : Rendered) (s : Scene) → Still s (left r d (on_text act text s))
 shown_still r d act h (rendered.Text t) s = h t s
 shown_still r d act h rendered.TooLong s = refl
 
-performed_still : (es : List Entry) (r : Rule) (d : ActKind) (s : Scene) → act_kind_counts d ≡ false → Still s (performed es r d s).0
+performed_still : (es : List Entry) (r : Rule) (d : ActKind) (s : Scene) → act_kind_counts d ≡ false → Still s (left r d (performed es r d s))
 performed_still es r (act_kind.Test mask t) s h = shown_still r (act_kind.Test mask t) (tested r mask) (tested_still r mask) _ s
 performed_still es r (act_kind.Program t) s h = cc h
 performed_still es r (act_kind.Import i) s h = cc h
@@ -156,10 +159,10 @@ final_still AssignFinal (Some k) s t h = h
 final_still o k s t h = h
 
 -- a key of the node, of a device without a number
-lacking : (r : Rule) (o : AssignOperator) (about : Target) (template : _) (s : Scene) → lacks_number about s.state.event.device.number ≡ true → Still s (text_step Udev r o about template s)
-lacking r o about template s h = by (lacks_number about s.state.event.device.number) h
+lacking : (g : Given) (template : _) (s : Scene) → lacks_number g.target s.state.event.device.number ≡ true → Still s (text_step Udev g template s)
+lacking g template s h = by (lacks_number g.target s.state.event.device.number) h
   where
-    by : (b : Bool) → b ≡ true → Still s (cond b (noted_key r NoDeviceNumber (key_of_target about) (attribute_of_target about) s) (text_rendered Udev r o about template (emptied o about s)))
+    by : (b : Bool) → b ≡ true → Still s (cond b (noted_key g.rule NoDeviceNumber (key_of_target g.target) (attribute_of_target g.target) s) (text_rendered Udev g template (emptied g.operator g.target s)))
     by true h = refl
     by false h = cc h
 
@@ -168,10 +171,10 @@ no_number None h = refl
 no_number (Some n) h = cc h
 
 -- a name of no interface
-name_set : (r : Rule) (e : Escape) (o : AssignOperator) (written : Text) (text : Rendered) (s : Scene) → is_interface s.state.event.device ≡ false → Still s (text_set Udev r e o target.Name written text s)
+name_set : (r : Rule) (e : Escape) (o : AssignOperator) (written : Text) (text : Rendered) (s : Scene) → is_interface s.state.event.device ≡ false → Still s (text_set Udev (given_by r e o target.Name written) text s)
 name_set r e o written (rendered.Text t) s h = by (is_interface s.state.event.device) h
   where
-    by : (b : Bool) → b ≡ false → Still s (cond (not b) (noted r NameIgnored t s) (finally o (final_target target.Name) (assigned Udev r e o target.Name written t s)))
+    by : (b : Bool) → b ≡ false → Still s (cond (not b) (noted r NameIgnored t s) (finally o (final_target target.Name) (assigned Udev target.Name (given_by r e o target.Name written) t s)))
     by false h = refl
     by true h = cc h
 name_set r e o written rendered.TooLong s h = final_still o (Some Name) s (noted r TextTooLong (word_of_key (key_of_target target.Name) (attribute_of_target target.Name)) s) refl
@@ -181,25 +184,25 @@ none_emptied Assign s = refl
 none_emptied AssignFinal s = refl
 none_emptied o s = refl
 
-name_still : (r : Rule) (o : AssignOperator) (template : _) (s : Scene) → is_interface s.state.event.device ≡ false → Still s (text_step Udev r o target.Name template s)
-name_still r o template s h = by (lacks_number target.Name s.state.event.device.number)
+name_still : (r : Rule) (e : Escape) (o : AssignOperator) (written : Text) (template : _) (s : Scene) → is_interface s.state.event.device ≡ false → Still s (text_step Udev (given_by r e o target.Name written) template s)
+name_still r e o written template s h = by (lacks_number target.Name s.state.event.device.number)
   where
-    by : (b : Bool) → Still s (cond b (noted_key r NoDeviceNumber (key_of_target target.Name) (attribute_of_target target.Name) s) (text_rendered Udev r o target.Name template (emptied o target.Name s)))
+    by : (b : Bool) → Still s (cond b (noted_key r NoDeviceNumber (key_of_target target.Name) (attribute_of_target target.Name) s) (text_rendered Udev (given_by r e o target.Name written) template (emptied o target.Name s)))
     by true = refl
     by false =
-        ap (λ t. stilled s (text_rendered Udev r o target.Name template t)) (none_emptied o s)
-        ∙ name_set r (escape_of r.sets) o template.written (within (most_bytes_of target.Name) (render template s.state (mode_of Udev target.Name (escape_of r.sets)))) s h
+        ap (λ t. stilled s (text_rendered Udev (given_by r e o target.Name written) template t)) (none_emptied o s)
+        ∙ name_set r e o written (within (most_bytes_of target.Name) (render template s.state (mode_of Udev target.Name e))) s h
 
-text_still : (r : Rule) (o : AssignOperator) (about : Target) (template : _) (s : Scene) → applies about s.state.event.device ≡ false → Still s (text_step Udev r o about template s)
-text_still r o target.Owner template s h = lacking r o target.Owner template s (ap (lacks_number target.Owner) (no_number s.state.event.device.number h))
-text_still r o target.Group template s h = lacking r o target.Group template s (ap (lacks_number target.Group) (no_number s.state.event.device.number h))
-text_still r o target.Mode template s h = lacking r o target.Mode template s (ap (lacks_number target.Mode) (no_number s.state.event.device.number h))
-text_still r o target.Symlink template s h = lacking r o target.Symlink template s (ap (lacks_number target.Symlink) (no_number s.state.event.device.number h))
-text_still r o target.Name template s h = name_still r o template s h
-text_still r o about template s h = cc h
+text_still : (r : Rule) (e : Escape) (o : AssignOperator) (about : Target) (written : Text) (template : _) (s : Scene) → applies about s.state.event.device ≡ false → Still s (text_step Udev (given_by r e o about written) template s)
+text_still r e o target.Owner written template s h = lacking (given_by r e o target.Owner written) template s (ap (lacks_number target.Owner) (no_number s.state.event.device.number h))
+text_still r e o target.Group written template s h = lacking (given_by r e o target.Group written) template s (ap (lacks_number target.Group) (no_number s.state.event.device.number h))
+text_still r e o target.Mode written template s h = lacking (given_by r e o target.Mode written) template s (ap (lacks_number target.Mode) (no_number s.state.event.device.number h))
+text_still r e o target.Symlink written template s h = lacking (given_by r e o target.Symlink written) template s (ap (lacks_number target.Symlink) (no_number s.state.event.device.number h))
+text_still r e o target.Name written template s h = name_still r e o written template s h
+text_still r e o about written template s h = cc h
 
 change_still : (r : Rule) (o : AssignOperator) (c : Change) (s : Scene) → change_applies c s.state.event.device ≡ false → Still s (step_by Udev r o c s)
-change_still r o (change.Text about template) s h = text_still r o about template s h
+change_still r o (change.Text about template) s h = text_still r (escape_of r.sets) o about template.written template s h
 change_still r o (change.Option known) s h = cc h
 change_still r o (change.Run braces template) s h = cc h
 

@@ -22,6 +22,7 @@ use Rattle.rule_types.specs.declared.part.Import.{Import}
 use Rattle.rule_types.specs.declared.part.Import.TheVariants as import
 use Rattle.rule_types.specs.declared.part.PlainMatch.{PlainMatch}
 use Rattle.rule_types.specs.declared.part.UpMatch.{UpMatch}
+use Rattle.rule_types.specs.declared.types.ImportType.TheVariants.{File}
 use Rattle.rule_types.specs.Rules.{Rule}
 use Rattle.eval_rendering.specs.declared.rendered.Rendered.{Rendered}
 use Rattle.eval_rendering.specs.declared.rendered.Rendered.TheVariants as rendered
@@ -41,8 +42,7 @@ use Rattle.eval_state.specs.Properties.{properties_set}
 use Rattle.eval_state.specs.Scenes.{noted, with_env}
 use Rattle.eval_state.specs.declared.note_kind.NoteKind.TheVariants.{AttributeNotRead, BuiltinNeeds, TestNotMade, TextTooLong}
 use Rattle.eval_state.specs.declared.scene.Scene.{Scene}
-use Rattle.eval_acts.specs.Acts.{act_step, from_parent_by, imported, on_text, parent_imported, performed, program_imported, unrun}
-use Rattle.eval_acts.specs.ActTexts.{most_path_bytes}
+use Rattle.eval_acts.specs.Acts.{act_step, from_parent_by, imported, on_text, performed, too_long_noted}
 use Rattle.eval_acts.specs.BuiltinRuns.{looked_up, most_set, need_noted, need_word, outcome_set, outcome_taken, path_id_run, properties_size, usb_id_run, with_maker}
 use Rattle.eval_acts.specs.Imports.{builtin_run, from_answer_or_noted, from_parent, from_program, not_run, run_builtin}
 use Rattle.eval_acts.specs.Printed.{printed_properties}
@@ -59,9 +59,9 @@ either s false x y h k = k
 
 -- ---- what acts
 
-text_stays : (r : Rule) (d : ActKind) (act : Text → Scene → Scene × Bool) → ((t : Text) (s : Scene) → Stays s (act t s).0) → (text : Rendered) (s : Scene) → Stays s (on_text r d act text s).0
-text_stays r d act h (rendered.Text t) s = h t s
-text_stays r d act h rendered.TooLong s = refl
+text_stays : (act : Text → Scene → Scene × Bool) → ((t : Text) (s : Scene) → Stays s (act t s).0) → (text : Rendered) (s : Scene) → Stays s (on_text act text s).0
+text_stays act h (rendered.Text t) s = h t s
+text_stays act h rendered.TooLong s = refl
 
 at_stays : (place : Option ℕ) (r : Rule) (name path : Text) (s : Scene) → Stays s (tested_at place r name path s).0
 at_stays None r name path s = refl
@@ -117,39 +117,40 @@ parent_stays : (names : _) (d : Option DeviceValue) (s : Scene) → Stays s (fro
 parent_stays names None s = refl
 parent_stays names (Some d) s = refl
 
-parents_stay : (p : Profile) (r : Rule) (d : ActKind) (names : _) (text : Text) (s : Scene) → Stays s (parent_imported p r d names text s).0
-parents_stay Manual r d names text s = parent_stays names _ s
-parents_stay Udev r d names text s = text_stays r d from_parent_by (λ t u. parent_stays (fnmatch_items Exact t 0 ∷ []) (device_at u.state.event 1) u) _ s
-
 printed_stays : (r : Rule) (t : Text) (a : Option AnswerValue) (s : Scene) → Stays s (from_answer_or_noted r t a s).0
 printed_stays r t None s = refl
 printed_stays r t (Some a) s = either s (a.status == 0) (with_env (properties_set s.state.env (printed_properties a.text)) s, true) (s, false) refl refl
 
-programs_stay : (p : Profile) (r : Rule) (d : ActKind) (i : Import) (template : _) (s : Scene) → Stays s (program_imported p r d i template s).0
-programs_stay Manual r d i template s = refl
-programs_stay Udev r d i template s = text_stays r d (from_program r) (λ c u. printed_stays r c (value_of u.state.event.programs c) u) _ s
+built_stays : (es : List Entry) (r : Rule) (text : Rendered) (s : Scene) → Stays s (on_text (run_builtin es r) text s).0
+built_stays es r text s = text_stays (run_builtin es r) (λ c u. builtin_stays es r c _ u) text s
 
-unrun_stays : (p : Profile) (r : Rule) (d : ActKind) (i : Import) (most : ℕ) (template : _) (s : Scene) → Stays s (unrun p r d i most template s).0
-unrun_stays Manual r d i most template s = refl
-unrun_stays Udev r d i most template s = text_stays r d (λ text. not_run r i) (λ t u. refl) _ s
-
-imported_stays : (es : List Entry) (r : Rule) (d : ActKind) (i : Import) (s : Scene) → Stays s (imported es r d i s).0
-imported_stays es r d (import.Builtin t) s = text_stays r d (run_builtin es r) (λ c u. builtin_stays es r c _ u) _ s
-imported_stays es r d (import.Parent names text) s = parents_stay s.state.event.profile r d names text s
-imported_stays es r d (import.Program t) s = programs_stay s.state.event.profile r d (import.Program t) t s
-imported_stays es r d (import.File t) s = unrun_stays s.state.event.profile r d (import.File t) most_path_bytes t s
-imported_stays es r d (import.Cmdline name) s = refl
-imported_stays es r d (import.Db name) s = refl
+imported_stays : (p : Profile) (es : List Entry) (r : Rule) (i : Import) (s : Scene) → Stays s (imported p es r i s).0
+imported_stays Manual es r (import.Builtin t) s = built_stays es r _ s
+imported_stays Udev es r (import.Builtin t) s = built_stays es r _ s
+imported_stays Manual es r (import.Parent names text) s = parent_stays names _ s
+imported_stays Udev es r (import.Parent names text) s = text_stays from_parent_by (λ t u. parent_stays (fnmatch_items Exact t 0 ∷ []) (device_at u.state.event 1) u) _ s
+imported_stays Manual es r (import.Program t) s = refl
+imported_stays Udev es r (import.Program t) s = text_stays (from_program r) (λ c u. printed_stays r c (value_of u.state.event.programs c) u) _ s
+imported_stays Manual es r (import.File t) s = refl
+imported_stays Udev es r (import.File t) s = text_stays (λ path. not_run r File) (λ t u. refl) _ s
+imported_stays Manual es r (import.Cmdline name) s = refl
+imported_stays Udev es r (import.Cmdline name) s = refl
+imported_stays Manual es r (import.Db name) s = refl
+imported_stays Udev es r (import.Db name) s = refl
 
 performed_stays : (es : List Entry) (r : Rule) (d : ActKind) (s : Scene) → Stays s (performed es r d s).0
-performed_stays es r (act_kind.Test mask t) s = text_stays r (act_kind.Test mask t) (tested r mask) (tested_stays r mask) _ s
-performed_stays es r (act_kind.Program t) s = text_stays r (act_kind.Program t) (answered_by_block r) (λ c u. answered_stays r c (value_of u.state.event.programs c) u) _ (with_result [] s)
-performed_stays es r (act_kind.Import i) s = imported_stays es r (act_kind.Import i) i s
+performed_stays es r (act_kind.Test mask t) s = text_stays (tested r mask) (tested_stays r mask) _ s
+performed_stays es r (act_kind.Program t) s = text_stays (answered_by_block r) (λ c u. answered_stays r c (value_of u.state.event.programs c) u) _ (with_result [] s)
+performed_stays es r (act_kind.Import i) s = imported_stays s.state.event.profile es r i s
+
+late_stays : (r : Rule) (d : ActKind) (done : Option Bool) (s t : Scene) → Stays s t → Stays s (too_long_noted r d done t)
+late_stays r d None s t h = h
+late_stays r d (Some done) s t h = h
 
 -- an act
 pub act_stays : (es : List Entry) (r : Rule) (act : Act) (s : Scene) → Stays s (act_step es r act s).0
 unfolding act_step
-act_stays es r act s = performed_stays es r act.kind s
+act_stays es r act s = late_stays r act.kind (performed es r act.kind s).1 s (performed es r act.kind s).0 (performed_stays es r act.kind s)
 
 -- ---- matches
 

@@ -1,6 +1,7 @@
 use Rattle.std.proofs.Common.{◌≡◌, [], length}
 use Rattle.eval_rendering.specs.Lengthened.{lengthened}
-use Rattle.eval_rendering.specs.Names.{name_text, short}
+use Rattle.eval_rendering.specs.Bounds.{short}
+use Rattle.eval_rendering.specs.Names.{name_text}
 use Rattle.eval_rendering.proofs.names.rendered_name.Given as goal
 
 abbrev pub invariant-loop-byte : goal.invariant-loop-byte

@@ -171,7 +171,12 @@ fn assign_udev(
     ensures scene { OnOk result (scene.new ≡ assigned Profile.Udev given.now.target given.now text scene.old) }
     ensures refused { OnErr result (scene.new.state.event ≡ scene.old.state.event) }
 {
-    let (rule, operator, escape, written) = (given.rule, given.operator, given.escape, given.written);
+    let (rule, operator, escape, written) = (
+        given.rule,
+        given.operator,
+        given.escape,
+        given.written,
+    );
     match given.target {
         Target::Owner => set_owner(alloc, rule, text, scene),
         Target::Group => set_group(alloc, rule, text, scene),

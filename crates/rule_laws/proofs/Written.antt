@@ -1,5 +1,5 @@
 -- By the manual the assignments of each key are in written order.
-use Rattle.std.proofs.Common.{◌≡◌, ◌↔◌, ℕ, ◌==◌, Bool, true, false, cond, List, [], ◌∷◌, filter, filter_map, refl, ap, sym, ◌∙◌}
+use Rattle.std.proofs.Common.{◌≡◌, ℕ, ◌==◌, Bool, true, false, cond, List, [], ◌∷◌, filter, filter_map, refl, ap, sym, ◌∙◌}
 use Rattle.std.proofs.lemmas.Bool.{eq-eqb, false≢true}
 use Rattle.text_bytes.specs.declared.profile.Profile.TheVariants.{Manual}
 use Rattle.rule_types.specs.WrittenParts.{key_of_change}
@@ -11,7 +11,7 @@ use Rattle.rule_types.specs.declared.part.Change.TheVariants as change
 use Rattle.rule_types.specs.declared.part.Part.{Part}
 use Rattle.rule_types.specs.declared.roles.Target.TheVariants as target
 use Rattle.rule_core.specs.Drafts.{assignment_in, draft}
-use Rattle.rule_core.specs.Turns.{assignment_turns, of_turn, turn_of_assignment, turn_of_change}
+use Rattle.rule_core.specs.Turns.{assignment_turns, turn_of_assignment, turn_of_change}
 use Rattle.rule_core.proofs.Bounds.{assignment_below}
 use Rattle.rule_core.proofs.Sorting.{are_in_order}
 use Rattle.rule_laws.specs.Turns.{EachKeyAsWritten}

@@ -30,10 +30,10 @@ struct Counts {
 }
 
 impl Counts {
-    fn with_outcome(self, outcome: &Outcome) -> Counts {
+    fn with_outcome(self, outcome: &Outcome<'_>) -> Counts {
         Counts {
             events: self.events.wrapping_add(1),
-            properties: self.properties.wrapping_add(outcome.env.len()),
+            properties: self.properties.wrapping_add(outcome.env.as_slice().len()),
             links: self.links.wrapping_add(outcome.links.as_slice().len()),
             notes: self.notes.wrapping_add(outcome.notes.as_slice().len()),
         }
@@ -48,7 +48,11 @@ enum Rules {
 }
 
 impl Rules {
-    fn evaluate(&self, alloc: Global, event: &Event<'_>) -> Result<Outcome, AllocError> {
+    fn evaluate<'a>(
+        &'a self,
+        alloc: Global,
+        event: &'a Event<'_>,
+    ) -> Result<Outcome<'a>, AllocError> {
         let lookup = PlainDb::new(Vec::new(alloc));
         let outcome = match self {
             Rules::Plain(rules) => evaluate_plain(alloc, rules, event, &lookup),
@@ -103,11 +107,11 @@ fn rules_by(alloc: Global, way: &[u8], rules: RuleSet) -> Result<Rules, AllocErr
 }
 
 /// The counts with one event, as often as it is evaluated.
-fn with_event(
+fn with_event<'a>(
     alloc: Global,
-    rules: &Rules,
+    rules: &'a Rules,
     times: u64,
-    event: &Event<'_>,
+    event: &'a Event<'_>,
     before: Counts,
 ) -> Result<Counts, AllocError> {
     let mut counts = before;

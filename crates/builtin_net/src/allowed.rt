@@ -8,7 +8,7 @@ ghost use Rattle.builtin_net.specs.Allowed.{attribute_name, interface, is_allowe
 use crate::words::MAX_NUMBER;
 use builtin_devices::{Base, number_in};
 use device_core::{Device, Event};
-use text_tables::{OwnedPairs, Pairs};
+use text_tables::{CowPairs, Pairs};
 
 /// An attribute that names are made from.
 #[derive(Clone, Copy)]
@@ -130,25 +130,12 @@ fn is_allowed(env: &Pairs<'_>, attribute: Attribute) -> bool
     permits(env.get(attribute.permission()), env.get(PERMISSION_OF_ALL))
 }
 
-/// Returns the current value of a property.
-fn property<'e>(env: &'e OwnedPairs, name: &[u8]) -> Option<&'e [u8]>
-    ensures { option_map (λ t. t.now) result ≡ value_of env.now name.now }
-{
-    match env.get(name) {
-        Some(value) => Some(value.as_slice()),
-        None => None,
-    }
-}
-
 /// Whether, by current properties, names may use an attribute.
 #[tactic(auto, unfolding(crate::specs::Allowed::is_allowed))]
-fn is_allowed_now(env: &OwnedPairs, attribute: Attribute) -> bool
+fn is_allowed_now(env: &CowPairs<'_>, attribute: Attribute) -> bool
     ensures { result ≡ is_allowed env.now attribute }
 {
-    permits(
-        property(env, attribute.permission()),
-        property(env, PERMISSION_OF_ALL),
-    )
+    permits(env.get(attribute.permission()), env.get(PERMISSION_OF_ALL))
 }
 
 /// An attribute of a device, unless names may not use it.
@@ -186,7 +173,7 @@ pub(crate) fn lacks(device: &Device<'_>, attribute: Attribute) -> bool
 #[tactic(auto, unfolding(crate::specs::Allowed::read))]
 pub(crate) fn read_own<'a>(
     event: &Event<'a>,
-    env: &OwnedPairs,
+    env: &CowPairs<'_>,
     attribute: Attribute,
 ) -> Option<&'a [u8]>
     ensures { option_map (λ t. t.now) result ≡ read (interface event.now env.now) attribute }
@@ -200,7 +187,7 @@ pub(crate) fn read_own<'a>(
 
 /// The number that an attribute of the event device gives.
 #[tactic(auto, unfolding(crate::specs::Allowed::number))]
-pub(crate) fn own_number(event: &Event<'_>, env: &OwnedPairs, attribute: Attribute) -> Option<u64>
+pub(crate) fn own_number(event: &Event<'_>, env: &CowPairs<'_>, attribute: Attribute) -> Option<u64>
     ensures { result ≡ number (interface event.now env.now) attribute }
 {
     match read_own(event, env, attribute) {
@@ -211,7 +198,7 @@ pub(crate) fn own_number(event: &Event<'_>, env: &OwnedPairs, attribute: Attribu
 
 /// Whether the event device lacks an attribute that names may use.
 #[tactic(auto, unfolding(crate::specs::Allowed::lacks))]
-pub(crate) fn lacks_own(event: &Event<'_>, env: &OwnedPairs, attribute: Attribute) -> bool
+pub(crate) fn lacks_own(event: &Event<'_>, env: &CowPairs<'_>, attribute: Attribute) -> bool
     ensures { result ≡ lacks (interface event.now env.now) attribute }
 {
     is_allowed_now(env, attribute) && event.device().attrs().get(attribute.name()).is_none()

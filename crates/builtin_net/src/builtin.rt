@@ -11,7 +11,7 @@ use builtin_devices::{BuiltinOutcome, Devices};
 use device_core::Event;
 use std::alloc::{AllocError, Global};
 use text_bytes::Bytes;
-use text_tables::OwnedPairs;
+use text_tables::CowPairs;
 
 /// The outcome of net_id, with a query.
 #[derive(Drop)]
@@ -25,7 +25,7 @@ pub struct NetNames {
 
 /// What the hardware database is asked.
 #[tactic(auto, unfolding(crate::specs::NetId::lookup))]
-fn lookup(alloc: Global, event: &Event<'_>, env: &OwnedPairs) -> Result<Option<Bytes>, AllocError>
+fn lookup(alloc: Global, event: &Event<'_>, env: &CowPairs<'_>) -> Result<Option<Bytes>, AllocError>
     ensures { IfOk result (λ text. text ≡ lookup event.now env.now) }
 {
     let Some(prefix) = naming(event, env) else {
@@ -44,7 +44,7 @@ fn lookup(alloc: Global, event: &Event<'_>, env: &OwnedPairs) -> Result<Option<B
 fn properties(
     alloc: Global,
     devices: &Devices<'_>,
-    env: &OwnedPairs,
+    env: &CowPairs<'_>,
 ) -> Result<Vec<(Bytes, Bytes)>, AllocError>
     ensures { IfOk result (λ given. given.items ≡ properties devices.now (interface devices.now env.now)) }
 {
@@ -59,7 +59,7 @@ fn properties(
 fn outcome(
     alloc: Global,
     devices: &Devices<'_>,
-    env: &OwnedPairs,
+    env: &CowPairs<'_>,
 ) -> Result<BuiltinOutcome, AllocError>
     ensures { IfOk result (λ outcome. outcome ≡ net_id devices.now env.now) }
 {
@@ -76,7 +76,7 @@ fn outcome(
 ///
 /// It fails if IFINDEX is not a number above 0, or `iflink` is not a number. It sets nothing for an interface that
 /// is stacked on another, or for hardware other than Ethernet, InfiniBand and SLIP.
-pub fn net_id(alloc: Global, event: &Event<'_>, env: &OwnedPairs) -> Result<NetNames, AllocError>
+pub fn net_id(alloc: Global, event: &Event<'_>, env: &CowPairs<'_>) -> Result<NetNames, AllocError>
     ensures outcome { IfOk result (λ names. names.outcome ≡ net_id event.now env.now) }
     ensures lookup { IfOk result (λ names. names.lookup ≡ lookup event.now env.now) }
 {

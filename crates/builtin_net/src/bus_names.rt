@@ -14,7 +14,7 @@ use device_core::Device;
 use std::alloc::{AllocError, Global};
 use text_bytes::Bytes;
 use text_links::kernel_name;
-use text_tables::OwnedPairs;
+use text_tables::CowPairs;
 
 /// The interface of USB above the event device.
 fn usb_interface<'d, 'a>(
@@ -60,7 +60,7 @@ pub(crate) fn give_by_usb(
     names: &mut Vec<(Bytes, Bytes)>,
     devices: &Devices<'_>,
     prefix: Prefix,
-    env: &OwnedPairs,
+    env: &CowPairs<'_>,
 ) -> Result<(), AllocError>
     ensures { OnOk result (names.new.items ≡ names.old.items ++ by_usb devices.now prefix (interface devices.now env.now)) }
 {
@@ -117,7 +117,7 @@ pub(crate) fn give_by_bcma(
     names: &mut Vec<(Bytes, Bytes)>,
     devices: &Devices<'_>,
     prefix: Prefix,
-    env: &OwnedPairs,
+    env: &CowPairs<'_>,
 ) -> Result<(), AllocError>
     ensures { OnOk result (names.new.items ≡ names.old.items ++ by_bcma devices.now prefix (interface devices.now env.now)) }
 {
@@ -155,7 +155,7 @@ pub(crate) fn give_by_buses(
     names: &mut Vec<(Bytes, Bytes)>,
     devices: &Devices<'_>,
     prefix: &[u8],
-    env: &OwnedPairs,
+    env: &CowPairs<'_>,
 ) -> Result<(), AllocError>
     ensures { OnOk result (names.new.items ≡ names.old.items ++ by_buses devices.now prefix.now (interface devices.now env.now)) }
 {

@@ -13,7 +13,7 @@ use device_core::{Device, Event};
 use std::alloc::{AllocError, Global};
 use text_bytes::{begins_with, decimal_below, following, split_once};
 use text_links::kernel_name;
-use text_tables::OwnedPairs;
+use text_tables::CowPairs;
 
 /// The device right above the event device.
 pub(crate) fn parent<'d, 'a>(
@@ -270,7 +270,7 @@ fn number_of_name(kernel: &[u8]) -> Option<u64>
 fn netdevsim_text(
     alloc: Global,
     event: &Event<'_>,
-    env: &OwnedPairs,
+    env: &CowPairs<'_>,
     device: &Device<'_>,
 ) -> Result<Option<Vec<u8>>, AllocError>
     ensures { IfOk result (λ text. option_map (λ t. t.items) text ≡ netdevsim_text (interface event.now env.now) device.now) }
@@ -346,7 +346,7 @@ pub(crate) fn by_xen(alloc: Global, devices: &Devices<'_>) -> Result<Option<Vec<
 pub(crate) fn by_netdevsim(
     alloc: Global,
     devices: &Devices<'_>,
-    env: &OwnedPairs,
+    env: &CowPairs<'_>,
 ) -> Result<Option<Vec<u8>>, AllocError>
     ensures { IfOk result (λ text. option_map (λ t. t.items) text ≡ by_netdevsim devices.now (interface devices.now env.now)) }
 {

@@ -15,14 +15,14 @@ use builtin_devices::Devices;
 use device_core::Device;
 use std::alloc::{AllocError, Global};
 use text_bytes::Bytes;
-use text_tables::OwnedPairs;
+use text_tables::CowPairs;
 
 /// What follows the place or the slot of a function.
 fn tail(
     alloc: Global,
     devices: &Devices<'_>,
     prefix: Prefix,
-    env: &OwnedPairs,
+    env: &CowPairs<'_>,
     pci: &Device<'_>,
     suffix: &[u8],
     f: Function,
@@ -120,7 +120,7 @@ pub(crate) fn give_by_function<'a>(
     names: &mut Vec<(Bytes, Bytes)>,
     devices: &Devices<'a>,
     prefix: Prefix,
-    env: &OwnedPairs,
+    env: &CowPairs<'_>,
     pci: &Device<'a>,
     suffix: &[u8],
 ) -> Result<(), AllocError>

@@ -8,7 +8,7 @@ use crate::prefixes::{Prefix, prefix_of};
 use crate::words::positive;
 use builtin_devices::{Base, is_below_zero, is_number, number_in, type_of};
 use device_core::Event;
-use text_tables::OwnedPairs;
+use text_tables::CowPairs;
 
 /// A number of 31 bits.
 fn index_in(text: &[u8]) -> Option<u64>
@@ -37,7 +37,7 @@ fn is_link(text: &[u8]) -> bool
 
 /// Whether the event device has an index, and gives that of the interface that it is stacked on.
 #[tactic(auto, unfolding(crate::specs::Identity::is_identified))]
-pub(crate) fn is_identified(event: &Event<'_>, env: &OwnedPairs) -> bool
+pub(crate) fn is_identified(event: &Event<'_>, env: &CowPairs<'_>) -> bool
     ensures { result ≡ is_identified event.now (interface event.now env.now) }
 {
     if index(event).is_none() {
@@ -50,7 +50,7 @@ pub(crate) fn is_identified(event: &Event<'_>, env: &OwnedPairs) -> bool
 }
 
 /// The index of the interface that the event device is stacked on.
-fn link(event: &Event<'_>, env: &OwnedPairs) -> Option<u64>
+fn link(event: &Event<'_>, env: &CowPairs<'_>) -> Option<u64>
     ensures { result ≡ link (interface event.now env.now) }
 {
     index_in(read_own(event, env, Attribute::Iflink)?)
@@ -58,7 +58,7 @@ fn link(event: &Event<'_>, env: &OwnedPairs) -> Option<u64>
 
 /// Whether the event device is not stacked on another interface.
 #[tactic(auto, unfolding(crate::specs::Identity::is_alone))]
-pub(crate) fn is_alone(event: &Event<'_>, env: &OwnedPairs) -> bool
+pub(crate) fn is_alone(event: &Event<'_>, env: &CowPairs<'_>) -> bool
     ensures { result ≡ is_alone event.now (interface event.now env.now) }
 {
     match index(event) {
@@ -69,7 +69,7 @@ pub(crate) fn is_alone(event: &Event<'_>, env: &OwnedPairs) -> bool
 
 /// How names of the event device begin, if it has some.
 #[tactic(auto, unfolding(crate::specs::Identity::naming))]
-pub(crate) fn naming(event: &Event<'_>, env: &OwnedPairs) -> Option<Prefix>
+pub(crate) fn naming(event: &Event<'_>, env: &CowPairs<'_>) -> Option<Prefix>
     ensures { result ≡ naming event.now (interface event.now env.now) }
 {
     if !is_alone(event, env) {

@@ -15,7 +15,7 @@ use builtin_devices::{Devices, add_property, is_number};
 use device_core::Event;
 use std::alloc::{AllocError, Global};
 use text_bytes::Bytes;
-use text_tables::OwnedPairs;
+use text_tables::CowPairs;
 
 /// The digits of an address that stays.
 #[tactic(auto, unfolding(crate::specs::Names::lasting_address))]
@@ -23,7 +23,7 @@ pub(crate) fn lasting_address(
     alloc: Global,
     prefix: Prefix,
     event: &Event<'_>,
-    env: &OwnedPairs,
+    env: &CowPairs<'_>,
 ) -> Result<Option<Vec<u8>>, AllocError>
     ensures { IfOk result (λ digits. option_map (λ d. d.items) digits ≡ lasting_address prefix (interface event.now env.now)) }
 {
@@ -41,7 +41,7 @@ fn by_address(
     alloc: Global,
     prefix: Prefix,
     event: &Event<'_>,
-    env: &OwnedPairs,
+    env: &CowPairs<'_>,
 ) -> Result<Option<Vec<u8>>, AllocError>
     ensures { IfOk result (λ text. option_map (λ t. t.items) text ≡ by_address prefix (interface event.now env.now)) }
 {
@@ -72,7 +72,7 @@ pub(crate) fn name_properties(
     alloc: Global,
     devices: &Devices<'_>,
     prefix: Prefix,
-    env: &OwnedPairs,
+    env: &CowPairs<'_>,
 ) -> Result<Vec<(Bytes, Bytes)>, AllocError>
     ensures { IfOk result (λ given. given.items ≡ name_properties devices.now prefix (interface devices.now env.now)) }
 {

@@ -23,7 +23,7 @@ use crate::virtual_functions::NamedFunction;
 use builtin_devices::{Devices, is_number, is_of};
 use device_core::{Device, Event};
 use std::alloc::{AllocError, Global};
-use text_tables::{OwnedPairs, OwnedTexts};
+use text_tables::{CowPairs, OwnedTexts};
 
 /// Adds a word to what is needed, under a condition.
 fn need(alloc: Global, needs: &mut OwnedTexts, holds: bool, word: &[u8]) -> Result<(), AllocError>
@@ -41,7 +41,7 @@ fn need_own(
     alloc: Global,
     needs: &mut OwnedTexts,
     event: &Event<'_>,
-    env: &OwnedPairs,
+    env: &CowPairs<'_>,
 ) -> Result<(), AllocError>
     ensures { OnOk result (needs.new ≡ with_texts needs.old (own_needs event.now (interface event.now env.now))) }
 {
@@ -60,7 +60,7 @@ fn need_address(
     needs: &mut OwnedTexts,
     prefix: Prefix,
     event: &Event<'_>,
-    env: &OwnedPairs,
+    env: &CowPairs<'_>,
 ) -> Result<(), AllocError>
     ensures { OnOk result (needs.new ≡ with_texts needs.old (address_needs prefix (interface event.now env.now))) }
 {
@@ -99,7 +99,7 @@ fn need_port(
     needs: &mut OwnedTexts,
     prefix: Prefix,
     event: &Event<'_>,
-    env: &OwnedPairs,
+    env: &CowPairs<'_>,
     by_id: bool,
 ) -> Result<(), AllocError>
     ensures { OnOk result (needs.new ≡ with_texts needs.old (port_needs prefix (interface event.now env.now) by_id)) }
@@ -205,7 +205,7 @@ fn need_function<'a>(
     needs: &mut OwnedTexts,
     devices: &Devices<'a>,
     prefix: Prefix,
-    env: &OwnedPairs,
+    env: &CowPairs<'_>,
     pci: &Device<'a>,
 ) -> Result<(), AllocError>
     ensures { OnOk result (needs.new ≡ with_texts needs.old (function_needs devices.now prefix (interface devices.now env.now) pci.now)) }
@@ -229,7 +229,7 @@ fn need_pci(
     needs: &mut OwnedTexts,
     devices: &Devices<'_>,
     prefix: Prefix,
-    env: &OwnedPairs,
+    env: &CowPairs<'_>,
 ) -> Result<(), AllocError>
     ensures { OnOk result (needs.new ≡ with_texts needs.old (of_own devices.now prefix (interface devices.now env.now) (own_function devices.now))) }
 {
@@ -253,7 +253,7 @@ fn need_above<'a>(
     needs: &mut OwnedTexts,
     devices: &Devices<'a>,
     prefix: Prefix,
-    env: &OwnedPairs,
+    env: &CowPairs<'_>,
     pci: Option<&Device<'a>>,
     suffix: Option<Vec<u8>>,
 ) -> Result<(), AllocError>
@@ -274,7 +274,7 @@ fn need_names(
     needs: &mut OwnedTexts,
     devices: &Devices<'_>,
     prefix: Prefix,
-    env: &OwnedPairs,
+    env: &CowPairs<'_>,
 ) -> Result<(), AllocError>
     ensures { OnOk result (needs.new ≡ with_texts needs.old (names_needs devices.now (interface devices.now env.now) (Some prefix))) }
 {
@@ -308,7 +308,7 @@ fn need_names(
 pub(crate) fn needs(
     alloc: Global,
     devices: &Devices<'_>,
-    env: &OwnedPairs,
+    env: &CowPairs<'_>,
 ) -> Result<OwnedTexts, AllocError>
     ensures { IfOk result (λ words. words ≡ needs devices.now (interface devices.now env.now)) }
 {

@@ -16,7 +16,7 @@ use builtin_devices::Devices;
 use device_core::{Device, Event};
 use std::alloc::{AllocError, Global};
 use text_bytes::Bytes;
-use text_tables::OwnedPairs;
+use text_tables::CowPairs;
 
 /// The name by the number on board.
 #[tactic(auto, unfolding(crate::specs::Names::board_text))]
@@ -24,7 +24,7 @@ fn board_text(
     alloc: Global,
     prefix: Prefix,
     event: &Event<'_>,
-    env: &OwnedPairs,
+    env: &CowPairs<'_>,
     pci: &Device<'_>,
     suffix: &[u8],
 ) -> Result<Option<Vec<u8>>, AllocError>
@@ -89,7 +89,7 @@ fn give_board(
     names: &mut Vec<(Bytes, Bytes)>,
     prefix: Prefix,
     event: &Event<'_>,
-    env: &OwnedPairs,
+    env: &CowPairs<'_>,
     pci: &Device<'_>,
     suffix: &[u8],
 ) -> Result<(), AllocError>
@@ -106,7 +106,7 @@ pub(crate) fn give_by_pci(
     names: &mut Vec<(Bytes, Bytes)>,
     devices: &Devices<'_>,
     prefix: Prefix,
-    env: &OwnedPairs,
+    env: &CowPairs<'_>,
 ) -> Result<(), AllocError>
     ensures { OnOk result (names.new.items ≡ names.old.items ++ by_pci devices.now prefix (interface devices.now env.now)) }
 {

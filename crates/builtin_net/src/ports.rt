@@ -9,7 +9,7 @@ use crate::words::{after_digits, is_printable, joined, leading_number, push_numb
 use device_core::Event;
 use std::alloc::{AllocError, Global};
 use text_bytes::following;
-use text_tables::OwnedPairs;
+use text_tables::CowPairs;
 
 /// The number of the virtual function after that of a physical one.
 #[tactic(auto, unfolding(crate::specs::Port::virtual_of))]
@@ -58,7 +58,7 @@ fn numbered_port(alloc: Global, number: u64) -> Result<Vec<u8>, AllocError>
 
 /// The number of a port.
 #[tactic(auto, unfolding(crate::specs::Port::port_number))]
-fn port_number(prefix: Prefix, event: &Event<'_>, env: &OwnedPairs, by_id: bool) -> Option<u64>
+fn port_number(prefix: Prefix, event: &Event<'_>, env: &CowPairs<'_>, by_id: bool) -> Option<u64>
     ensures { result ≡ port_number prefix (interface event.now env.now) by_id }
 {
     let number = own_number(event, env, Attribute::DevPort)?;
@@ -85,7 +85,7 @@ pub(crate) fn port_text(
     alloc: Global,
     prefix: Prefix,
     event: &Event<'_>,
-    env: &OwnedPairs,
+    env: &CowPairs<'_>,
     by_id: bool,
 ) -> Result<Option<Vec<u8>>, AllocError>
     ensures { IfOk result (λ text. option_map (λ t. t.items) text ≡ port_text prefix (interface event.now env.now) by_id) }

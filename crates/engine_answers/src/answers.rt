@@ -22,7 +22,7 @@ const USUAL_LEN: usize = 1024;
 pub fn answer_lines(
     alloc: Global,
     event: &Event<'_>,
-    outcome: &Outcome,
+    outcome: &Outcome<'_>,
 ) -> Result<Vec<u8>, AllocError>
     ensures { IfOk result (λ lines. lines.items ≡ answer_lines event.now outcome.now) }
 {
@@ -41,7 +41,7 @@ pub fn answer_lines(
 }
 
 /// The answer to an event: the lines of `answer_lines`, and an empty line after them.
-pub fn answer(alloc: Global, event: &Event<'_>, outcome: &Outcome) -> Result<Bytes, AllocError>
+pub fn answer(alloc: Global, event: &Event<'_>, outcome: &Outcome<'_>) -> Result<Bytes, AllocError>
     ensures { IfOk result (λ text. text ≡ answer event.now outcome.now) }
 {
     let mut lines = answer_lines(alloc, event, outcome)?;
@@ -51,7 +51,7 @@ pub fn answer(alloc: Global, event: &Event<'_>, outcome: &Outcome) -> Result<Byt
 
 /// Adds the lines on the device's node.
 #[tactic(auto, unfolding(crate::specs::Answers::node_lines))]
-fn push_node(alloc: Global, lines: &mut Vec<u8>, outcome: &Outcome) -> Result<(), AllocError>
+fn push_node(alloc: Global, lines: &mut Vec<u8>, outcome: &Outcome<'_>) -> Result<(), AllocError>
     ensures { OnOk result (lines.new.items ≡ lines.old.items ++ node_lines outcome.now) }
 {
     push_given(alloc, lines, b"name", &outcome.name)?;

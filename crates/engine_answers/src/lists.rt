@@ -5,7 +5,7 @@ ghost use Rattle.engine_answers.specs.Lines.{env_lines, note_lines, pair_lines, 
 use crate::lines::{push_note, push_pair, push_shown, push_text};
 use eval_state::{Label, Notes};
 use std::alloc::{AllocError, Global};
-use text_tables::{OwnedPairs, OwnedTexts};
+use text_tables::{CowPairs, OwnedTexts, SortedPairs};
 
 /// Adds a line for each text.
 pub(crate) fn push_texts(
@@ -27,12 +27,12 @@ pub(crate) fn push_pairs(
     alloc: Global,
     lines: &mut Vec<u8>,
     word: &[u8],
-    pairs: &OwnedPairs,
+    pairs: &CowPairs<'_>,
 ) -> Result<(), AllocError>
     ensures { OnOk result (lines.new.items ≡ lines.old.items ++ pair_lines word.now pairs.now) }
 {
     for (name, value) in pairs.as_map().iter() {
-        push_pair(alloc, lines, word, name, value.as_slice())?;
+        push_pair(alloc, lines, word, name.as_slice(), value.as_slice())?;
     }
     Ok(())
 }
@@ -55,12 +55,12 @@ pub(crate) fn push_labels(
 pub(crate) fn push_env(
     alloc: Global,
     lines: &mut Vec<u8>,
-    pairs: &OwnedPairs,
+    pairs: &SortedPairs<'_>,
 ) -> Result<(), AllocError>
     ensures { OnOk result (lines.new.items ≡ lines.old.items ++ env_lines pairs.now) }
 {
-    for (name, value) in pairs.as_map().iter() {
-        push_shown(alloc, lines, name, value.as_slice())?;
+    for (name, value) in pairs.as_slice() {
+        push_shown(alloc, lines, name.as_slice(), value.as_slice())?;
     }
     Ok(())
 }

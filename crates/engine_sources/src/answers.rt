@@ -20,7 +20,7 @@ fn push_node(
     alloc: Global,
     lines: &mut Vec<u8>,
     sources: &Sources<'_>,
-    outcome: &Outcome,
+    outcome: &Outcome<'_>,
 ) -> Result<(), AllocError>
     ensures { OnOk result (lines.new.items ≡ lines.old.items ++ sourced_node source_part (source_in sources.now None) outcome.now) }
 {

@@ -8,7 +8,7 @@ use eval_sources::{SourcedCommand, Sources};
 use eval_state::Label;
 use std::alloc::{AllocError, Global};
 use text_bytes::Profile;
-use text_tables::{OwnedPairs, OwnedTexts};
+use text_tables::{CowPairs, OwnedTexts, SortedPairs};
 
 /// Adds a line for each text.
 pub(crate) fn push_members(
@@ -32,12 +32,19 @@ pub(crate) fn push_values(
     lines: &mut Vec<u8>,
     sources: &Sources<'_>,
     word: &[u8],
-    pairs: &OwnedPairs,
+    pairs: &CowPairs<'_>,
 ) -> Result<(), AllocError>
     ensures { OnOk result (lines.new.items ≡ lines.old.items ++ value_lines source_part (source_in sources.now None) word.now pairs.now) }
 {
     for (name, value) in pairs.as_map().iter() {
-        push_value(alloc, lines, sources, word, name, value.as_slice())?;
+        push_value(
+            alloc,
+            lines,
+            sources,
+            word,
+            name.as_slice(),
+            value.as_slice(),
+        )?;
     }
     Ok(())
 }
@@ -63,12 +70,12 @@ pub(crate) fn push_env(
     alloc: Global,
     lines: &mut Vec<u8>,
     sources: &Sources<'_>,
-    pairs: &OwnedPairs,
+    pairs: &SortedPairs<'_>,
 ) -> Result<(), AllocError>
     ensures { OnOk result (lines.new.items ≡ lines.old.items ++ env_value_lines source_part (source_in sources.now None) pairs.now) }
 {
-    for (name, value) in pairs.as_map().iter() {
-        push_shown(alloc, lines, sources, name, value.as_slice())?;
+    for (name, value) in pairs.as_slice() {
+        push_shown(alloc, lines, sources, name.as_slice(), value.as_slice())?;
     }
     Ok(())
 }

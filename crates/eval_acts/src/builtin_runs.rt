@@ -18,7 +18,7 @@ use rule_parts::Builtin;
 use rule_types::Rule;
 use std::alloc::{AllocError, Global};
 use text_bytes::Bytes;
-use text_tables::OwnedPairs;
+use text_tables::CowPairs;
 
 /// The most that a builtin may set: its names and values, each counted with one byte more.
 const MAX_SET: usize = 65536;
@@ -80,7 +80,7 @@ fn may_be_set(properties: &[(Bytes, Bytes)]) -> bool
 fn set_properties(
     alloc: Global,
     properties: &[(Bytes, Bytes)],
-    env: &mut OwnedPairs,
+    env: &mut CowPairs<'_>,
 ) -> Result<(), AllocError>
     ensures { OnOk result (env.new ≡ properties_set env.old properties.now) }
 {
@@ -193,7 +193,7 @@ fn set_names(
     alloc: Global,
     properties: &[(Bytes, Bytes)],
     found: &[(&[u8], &[u8])],
-    env: &mut OwnedPairs,
+    env: &mut CowPairs<'_>,
 ) -> Result<(), AllocError>
     ensures { OnOk result (env.new ≡ properties_set env.old (with_maker (shown found.now) properties.now)) }
 {

@@ -72,8 +72,8 @@ fn candidate_with<'a>(
 fn event_device<'a>(alloc: Global, state: &'a State<'_>) -> Result<Candidate<'a>, AllocError>
     ensures { IfOk result (λ c. c ≡ candidate state.now.event.profile state.now.event.device state.now.env) }
 {
-    let devtype = state.env.get(b"DEVTYPE").map(Bytes::as_slice);
-    let modalias = state.env.get(b"MODALIAS").map(Bytes::as_slice);
+    let devtype = state.env.get(b"DEVTYPE");
+    let modalias = state.env.get(b"MODALIAS");
     let event = state.event.event();
     candidate_with(alloc, event.profile(), event.device(), devtype, modalias)
 }

@@ -19,10 +19,14 @@ use rule_types::{ImportType, Rule};
 use std::alloc::{AllocError, Global};
 use text_bytes::Profile;
 use text_core::{Choice, Pattern, Reading};
-use text_tables::{OwnedPairs, Pairs};
+use text_tables::{CowPairs, Pairs};
 
 /// Sets each of these properties.
-fn set_each(alloc: Global, env: &mut OwnedPairs, found: &[(&[u8], &[u8])]) -> Result<(), AllocError>
+fn set_each(
+    alloc: Global,
+    env: &mut CowPairs<'_>,
+    found: &[(&[u8], &[u8])],
+) -> Result<(), AllocError>
     ensures { OnOk result (env.new ≡ with_values env.old (shown found.now)) }
 {
     for (name, value) in found {
@@ -34,7 +38,7 @@ fn set_each(alloc: Global, env: &mut OwnedPairs, found: &[(&[u8], &[u8])]) -> Re
 /// Sets each of these properties as udev does: an empty value removes its property.
 pub(crate) fn set_as_udev(
     alloc: Global,
-    env: &mut OwnedPairs,
+    env: &mut CowPairs<'_>,
     found: &[(&[u8], &[u8])],
 ) -> Result<(), AllocError>
     ensures { OnOk result (env.new ≡ properties_set env.old (shown found.now)) }
@@ -49,7 +53,7 @@ pub(crate) fn set_as_udev(
 fn set_found(
     alloc: Global,
     profile: Profile,
-    env: &mut OwnedPairs,
+    env: &mut CowPairs<'_>,
     found: &[(&[u8], &[u8])],
 ) -> Result<(), AllocError>
     ensures { OnOk result (env.new ≡ with_found profile env.old (shown found.now)) }
@@ -111,7 +115,7 @@ fn any_fits(patterns: &[Pattern], name: &[u8]) -> bool
 /// Sets those of a device's properties whose names fit one of these patterns.
 fn set_fitting(
     alloc: Global,
-    env: &mut OwnedPairs,
+    env: &mut CowPairs<'_>,
     names: &[Pattern],
     properties: &Pairs<'_>,
 ) -> Result<(), AllocError>

@@ -9,7 +9,7 @@ use crate::words::is_quote;
 use eval_state::set_property;
 use std::alloc::{AllocError, Global};
 use text_bytes::{begins_with, ends_in, is_blank, split_once, unindented};
-use text_tables::OwnedPairs;
+use text_tables::CowPairs;
 
 /// Whether a byte ends a line.
 fn ends_line(byte: u8) -> bool
@@ -94,7 +94,7 @@ fn lines(alloc: Global, text: &[u8]) -> Result<Vec<&[u8]>, AllocError>
 }
 
 /// Sets the property that a line gives, if it gives one.
-fn set_line(alloc: Global, line: &[u8], env: &mut OwnedPairs) -> Result<(), AllocError>
+fn set_line(alloc: Global, line: &[u8], env: &mut CowPairs<'_>) -> Result<(), AllocError>
     ensures { OnOk result (env.new ≡ properties_set env.old (filter_map line_property (line.now ∷ []))) }
 {
     match line_property(line) {
@@ -108,7 +108,7 @@ fn set_line(alloc: Global, line: &[u8], env: &mut OwnedPairs) -> Result<(), Allo
 pub(crate) fn set_printed(
     alloc: Global,
     text: &[u8],
-    env: &mut OwnedPairs,
+    env: &mut CowPairs<'_>,
 ) -> Result<(), AllocError>
     ensures { OnOk result (env.new ≡ properties_set env.old (printed_properties text.now)) }
 {

@@ -127,11 +127,11 @@ fn spaced(alloc: Global, value: &[u8], text: &[u8]) -> Result<Bytes, AllocError>
 }
 
 /// A text after a value as udev puts it together; `None` if that is too long. Without a value it is the text.
-fn extended(alloc: Global, value: Option<&Bytes>, text: Bytes) -> Result<Option<Bytes>, AllocError>
+fn extended(alloc: Global, value: Option<&[u8]>, text: Bytes) -> Result<Option<Bytes>, AllocError>
     ensures { IfOk result (λ whole. whole ≡ extended (option_map (λ v. v.now) value.entry) text) }
 {
     match value {
-        Some(value) => Ok(short_value(spaced(alloc, value.as_slice(), text.as_slice())?)),
+        Some(value) => Ok(short_value(spaced(alloc, value, text.as_slice())?)),
         None => Ok(short_value(text)),
     }
 }

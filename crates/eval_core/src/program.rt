@@ -62,7 +62,7 @@ fn evaluate<'a, L: Lookup>(
     layout: Layout<'a>,
     event: &'a Event<'_>,
     lookup: &L,
-) -> Result<Outcome, AllocError>
+) -> Result<Outcome<'a>, AllocError>
     requires { IsLaidOut layout.rules.now layout.passes.now layout.names.now layout.courses.now }
     ensures { IfOk result (λ answer. answer ≡ outcome layout.entry.rules.now (L.entries lookup.now) event.now) }
 {
@@ -78,12 +78,12 @@ fn evaluate<'a, L: Lookup>(
 
 impl Program {
     /// The outcome of an event by the rules, as `evaluate_plain` has it.
-    pub fn evaluate<L: Lookup>(
-        &self,
+    pub fn evaluate<'a, L: Lookup>(
+        &'a self,
         alloc: Global,
-        event: &Event<'_>,
+        event: &'a Event<'_>,
         lookup: &L,
-    ) -> Result<Outcome, AllocError>
+    ) -> Result<Outcome<'a>, AllocError>
         ensures { IfOk result (λ answer. answer ≡ outcome self.now (L.entries lookup.now) event.now) }
     {
         let layout = Layout {

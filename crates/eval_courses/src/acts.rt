@@ -28,7 +28,7 @@ use rule_templates::Template;
 use rule_types::{Act, ActKind, Import, Rule};
 use std::alloc::{AllocError, Global};
 use text_bytes::{Bytes, Profile, begins_with};
-use text_tables::OwnedPairs;
+use text_tables::CowPairs;
 
 /// What is known of the report on an act before it is done.
 #[derive(Drop)]
@@ -36,7 +36,7 @@ pub(crate) enum ReportBefore {
     /// All of the report.
     Whole(Bytes),
     /// The start of the report, and the properties before the act: after that start come those that the act sets.
-    Taking(Bytes, OwnedPairs),
+    Taking(Bytes, CowPairs<'static>),
 }
 
 /// Whether a TEST asks for a file of a device that is not in the chain.
@@ -280,7 +280,7 @@ fn push_after(
     alloc: Global,
     text: &mut Vec<u8>,
     before: &ReportBefore,
-    env: &OwnedPairs,
+    env: &CowPairs<'_>,
 ) -> Result<(), AllocError>
     ensures { OnOk result (text.new.items ≡ text.old.items ++ report_after before.now env.now) }
 {
@@ -299,7 +299,7 @@ fn act_met(
     act: &Act,
     proceeds: bool,
     before: &ReportBefore,
-    env: &OwnedPairs,
+    env: &CowPairs<'_>,
 ) -> Result<Bytes, AllocError>
     ensures { IfOk result (λ text. text ≡ act_key act.now ++ met proceeds ++ report_after before.now env.now) }
 {

@@ -6,25 +6,28 @@ ghost use Rattle.eval_courses.specs.Acts.{newly_set, property_report, set_report
 use eval_effects::{push_joined, push_shown};
 use std::alloc::{AllocError, Global};
 use text_bytes::Bytes;
-use text_tables::OwnedPairs;
+use text_tables::CowPairs;
 
 /// A copy of properties.
-pub(crate) fn copied(alloc: Global, properties: &OwnedPairs) -> Result<OwnedPairs, AllocError>
+pub(crate) fn copied(
+    alloc: Global,
+    properties: &CowPairs<'_>,
+) -> Result<CowPairs<'static>, AllocError>
     ensures { IfOk result (λ copy. copy ≡ properties.now) }
 {
-    let mut copy = OwnedPairs::new(alloc);
+    let mut copy = CowPairs::new(alloc);
     for (name, value) in properties.as_map().iter() {
-        copy.set(alloc, name, value.as_slice())?;
+        copy.set(alloc, name.as_slice(), value.as_slice())?;
     }
     Ok(copy)
 }
 
 /// Whether a property is among others with its value.
-fn is_present(properties: &OwnedPairs, name: &[u8], value: &[u8]) -> bool
+fn is_present(properties: &CowPairs<'_>, name: &[u8], value: &[u8]) -> bool
     ensures { result ≡ is_present (name.now, value.now) properties.now }
 {
     match properties.get(name) {
-        Some(kept) => kept.as_slice() == value,
+        Some(kept) => kept == value,
         None => false,
     }
 }
@@ -44,15 +47,15 @@ fn property_report(alloc: Global, name: &[u8], value: &[u8]) -> Result<Bytes, Al
 /// The properties that are there now and were not there with the same value before.
 pub(crate) fn newly_set(
     alloc: Global,
-    before: &OwnedPairs,
-    now: &OwnedPairs,
+    before: &CowPairs<'_>,
+    now: &CowPairs<'_>,
 ) -> Result<Vec<Bytes>, AllocError>
     ensures { IfOk result (λ texts. texts.items ≡ map property_report (newly_set before.now now.now)) }
 {
     let mut texts = Vec::new(alloc);
     for (name, value) in now.as_map().iter() {
-        if !is_present(before, name, value.as_slice()) {
-            texts.push(property_report(alloc, name, value.as_slice())?)?;
+        if !is_present(before, name.as_slice(), value.as_slice()) {
+            texts.push(property_report(alloc, name.as_slice(), value.as_slice())?)?;
         }
     }
     Ok(texts)

@@ -11,7 +11,7 @@ use itoa::Buffer;
 use std::alloc::{AllocError, Global};
 use std::marker::Model;
 use text_bytes::{Bytes, Profile};
-use text_tables::{OwnedPairs, OwnedTexts};
+use text_tables::{CowPairs, OwnedTexts};
 
 /// Something in a scene. Its name is the first word of its line, followed by what it is about if several items have
 /// that word.
@@ -149,7 +149,7 @@ fn push_pairs(
     alloc: Global,
     items: &mut Vec<Item>,
     word: &[u8],
-    pairs: &OwnedPairs,
+    pairs: &CowPairs<'_>,
 ) -> Result<(), AllocError>
     ensures { OnOk result (items.new.items ≡ items.old.items ++ pair_items word.now pairs.now) }
 {
@@ -157,7 +157,7 @@ fn push_pairs(
         push_item(
             alloc,
             items,
-            item_name(alloc, word, name)?,
+            item_name(alloc, word, name.as_slice())?,
             value.as_slice(),
         )?;
     }

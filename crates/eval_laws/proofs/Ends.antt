@@ -3,6 +3,7 @@ use Rattle.std.proofs.Common.{◌≡◌, ◌+◌, ◌≤◌, List, [], ◌∷◌
 use Rattle.std.proofs.lemmas.List.Sums.{sum_by-cons, sum_by-append}
 use Rattle.std.specs.List.{sum_by}
 use Rattle.text_tables.specs.Pairs.{Pair}
+use Rattle.text_tables.specs.Sorted.{by_name, put}
 use Rattle.text_tables.specs.Texts.{Text}
 use Rattle.rule_types.specs.Names.{run_name}
 use Rattle.rule_types.specs.declared.keys.Key.TheVariants as key
@@ -19,7 +20,7 @@ use Rattle.eval_state.specs.Texts.{filled}
 use Rattle.eval_state.specs.declared.note_kind.NoteKind.TheVariants.{TextTooLong}
 use Rattle.eval_state.specs.declared.made_runs.MadeRun.{MadeRun}
 use Rattle.eval_state.specs.declared.scene.Scene.{Scene}
-use Rattle.eval_rules.specs.Outcomes.{by_name, command, commands, late_note, late_notes, made_command, outcome_of, put, run_text}
+use Rattle.eval_rules.specs.Outcomes.{command, commands, late_note, late_notes, made_command, outcome_of, run_text}
 use Rattle.eval_rules.specs.Steps.{with_selected}
 use Rattle.eval_laws.specs.Weights.{command_weight, note_weight, outcome_weight}
 use Rattle.eval_laws.specs.Inner.{made_weight, run_weight, scene_weight}

@@ -3,6 +3,7 @@
 //! Each function here is empty: its contract is the law.
 ghost use Rattle.std.specs.Prelude.{◌≡◌, ◌∷◌, ◌++◌, true, false, List, Option, Some};
 ghost use Rattle.std.specs.List.{list_any};
+ghost use Rattle.text_tables.specs.Sorted.{NamesRise};
 ghost use Rattle.text_tables.specs.Texts.{Text};
 ghost use Rattle.hwdb_lookup.specs.declared.entry.Entry.{Entry};
 ghost use Rattle.rule_types.specs.declared.part.UpMatch.{UpMatch};
@@ -15,7 +16,7 @@ ghost use Rattle.eval_state.specs.declared.finals.FinalKey.{FinalKey};
 ghost use Rattle.eval_state.specs.declared.scene.Scene.{Scene};
 ghost use Rattle.eval_laws.specs.AssignmentLaws.{Keeps, may_be_final};
 ghost use Rattle.eval_rules.specs.Jumps.{run, run_all};
-ghost use Rattle.eval_rules.specs.Laws.{IsMetByOneDevice, NamesRise, SameButNotes, SameOutcomeButNotes, plain_hold};
+ghost use Rattle.eval_rules.specs.Laws.{IsMetByOneDevice, SameButNotes, SameOutcomeButNotes, plain_hold};
 ghost use Rattle.eval_rules.specs.Outcomes.{outcome, outcome_of};
 ghost use Rattle.eval_rules.specs.Steps.{apply};
 

@@ -6,6 +6,7 @@ ghost use Rattle.std.specs.Prelude.{◌≡◌, ◌∷◌, ◌++◌, [], true, fa
 ghost use Rattle.text_bytes.specs.declared.profile.Profile.TheVariants.{Manual};
 ghost use Rattle.text_tables.specs.Texts.{Text, AreOnce};
 ghost use Rattle.text_tables.specs.Pairs.{Pair, names, value_of};
+ghost use Rattle.text_tables.specs.Sorted.{by_name};
 ghost use Rattle.hwdb_lookup.specs.declared.entry.Entry.{Entry};
 ghost use Rattle.rule_types.specs.Rules.{Rule};
 ghost use Rattle.eval_state.specs.Runs.{RunValue, run_kind};
@@ -16,7 +17,7 @@ ghost use Rattle.eval_rendering.specs.declared.rendered.Rendered.TheVariants as 
 ghost use Rattle.eval_assignments.specs.Steps.{set_step};
 ghost use Rattle.eval_rules.specs.Jumps.{run_all};
 ghost use Rattle.eval_rules.specs.Idle.{is_idle};
-ghost use Rattle.eval_rules.specs.Outcomes.{by_name, commands, made_command, outcome_of};
+ghost use Rattle.eval_rules.specs.Outcomes.{commands, made_command, outcome_of};
 ghost use Rattle.eval_rules.specs.Steps.{apply};
 
 /// A rule of assignments alone makes them, one after another, and its end is reached. udev does so if it does not

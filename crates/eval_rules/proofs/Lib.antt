@@ -1,5 +1,4 @@
 pub mod Running
-pub mod ByName
 pub mod Rendering
 pub mod Walks
 pub mod Staying

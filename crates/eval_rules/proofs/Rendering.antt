@@ -3,13 +3,14 @@ use Rattle.std.proofs.Common.{◌≡◌, ℕ, ◌+◌, ◌<◌, List, [], ◌++�
 use Rattle.std.specs.List.{flat_map}
 use Rattle.std.proofs.lemmas.List.{drop_more}
 use Rattle.text_tables.specs.Pairs.{Pair}
+use Rattle.text_tables.specs.Sorted.{by_name}
 use Rattle.eval_state.specs.declared.state.State.{State}
 use Rattle.eval_rendering.specs.declared.rendered.Rendered.{Rendered}
 use Rattle.eval_state.specs.Runs.{RunValue}
 use Rattle.eval_state.specs.declared.notes.Note.{Note}
 use Rattle.eval_state.specs.declared.scene.Scene.{Scene}
 use Rattle.eval_rules.specs.Steps.{with_selected}
-use Rattle.eval_rules.specs.Outcomes.{by_name, commands, late_notes, made_command, outcome_of, run_text}
+use Rattle.eval_rules.specs.Outcomes.{commands, late_notes, made_command, outcome_of, run_text}
 use Rattle.eval_rules.specs.Inner.{made_from, unselected, with_notes}
 use Rattle.eval_rules.specs.declared.outcome.Command.{Command}
 

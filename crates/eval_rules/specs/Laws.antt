@@ -1,9 +1,6 @@
 -- What holds for rules, whatever they are.
 use Rattle.std.specs.Prelude.{◌≡◌, ℕ, Bool, List}
 use Rattle.std.specs.List.{list_all}
-use Rattle.std.specs.List.Sorted.{IsStrictlySortedBy}
-use Rattle.text_bytes.specs.Insertion.{text_order}
-use Rattle.text_tables.specs.Pairs.{Pair, names}
 use Rattle.rule_types.specs.declared.part.UpMatch.{UpMatch}
 use Rattle.rule_types.specs.Rules.{Rule}
 use Rattle.eval_state.specs.declared.state.State.{State}
@@ -29,7 +26,3 @@ SameOutcomeButNotes o p = (record p { notes = o.notes }) ≡ o
 pub record IsMetByOneDevice (parts : List UpMatch) (state : State) : Type 0 where
   pub place : ℕ
   pub first : IsFirstToMeet parts state place
-
--- each name of properties comes before all later ones, so that no name is there twice
-abbrev pub NamesRise : List Pair → Type 0
-NamesRise pairs = IsStrictlySortedBy text_order (names pairs)

@@ -1,7 +1,6 @@
 -- The outcome of an event.
-use Rattle.std.specs.Prelude.{List, [], ◌∷◌, ◌++◌, map, option_map, flat_map, fold}
-use Rattle.text_bytes.specs.Insertion.{put_by}
-use Rattle.text_tables.specs.Pairs.{Pair}
+use Rattle.std.specs.Prelude.{List, [], ◌∷◌, ◌++◌, map, option_map, flat_map}
+use Rattle.text_tables.specs.Sorted.{by_name}
 use Rattle.hwdb_lookup.specs.declared.entry.Entry.{Entry}
 use Rattle.rule_types.specs.Names.{run_name}
 use Rattle.rule_types.specs.declared.keys.Key.TheVariants as key
@@ -51,14 +50,6 @@ late_notes state runs = flat_map (λ kept. late_note kept (run_text state kept))
 -- a RUN as a command for udev: it was rendered at its rule
 abbrev pub made_command : MadeRun → Command
 made_command made = record { kind = run_kind made.run.braces; text = made.text }
-
--- a property in its place among others that are sorted by name, byte by byte
-abbrev pub put : List Pair → Pair → List Pair
-put pairs pair = put_by (λ p. p.0) (λ earlier later. later) pairs pair
-
--- properties, sorted by name
-abbrev pub by_name : List Pair → List Pair
-by_name pairs = fold put [] pairs
 
 -- the outcome of a scene when no rule is left: without a name that is empty and the tags that were removed, and with
 -- the commands that were made at their rules after those that are rendered now

@@ -9,7 +9,6 @@ ghost use Rattle.eval_rules.specs.Inner.{made_from, unselected, with_notes};
 
 use crate::outcome::{Command, Commands, Outcome};
 use crate::rules::run;
-use crate::sorting::by_name;
 use device_core::Event;
 use eval_rendering::{Mode, Rendered, render};
 use eval_state::{MadeRun, Run, Runs, Scene, State};
@@ -19,7 +18,7 @@ use rule_types::Key;
 use std::alloc::{AllocError, Global};
 use std::mem;
 use text_bytes::Bytes;
-use text_tables::{OwnedPairs, OwnedTexts};
+use text_tables::{CowPairs, OwnedTexts, SortedPairs};
 
 /// Renders a RUN with the device that its rule had selected, which is selected from then on.
 pub fn run_text(
@@ -113,13 +112,17 @@ fn all_commands(
 }
 
 /// What is to be run, rendered, and the properties, sorted, once no rule is left.
-fn rendered(alloc: Global, scene: &mut Scene<'_>) -> Result<(Commands, OwnedPairs), AllocError>
+fn rendered<'a>(
+    alloc: Global,
+    scene: &mut Scene<'a>,
+) -> Result<(Commands, SortedPairs<'a>), AllocError>
     ensures { IfOk result (λ done. made_from scene.new done.1 done.0 ≡ outcome_of scene.old) }
 {
     let runs = mem::replace(&mut scene.runs, Runs::new(alloc));
     let commands = all_commands(alloc, runs.as_slice(), scene)?;
-    let env = mem::replace(&mut scene.state.env, OwnedPairs::new(alloc));
-    Ok((commands, by_name(env)?))
+    let env = mem::replace(&mut scene.state.env, CowPairs::new(alloc));
+    let sorted = SortedPairs::new(alloc, env)?;
+    Ok((commands, sorted))
 }
 
 /// Tags without those that were removed.
@@ -149,8 +152,8 @@ fn filled(text: Option<Bytes>) -> Option<Bytes>
 }
 
 /// The outcome that is made of a scene, of commands and of properties.
-fn outcome_with(scene: Scene<'_>, commands: Commands, env: OwnedPairs) -> Outcome
-    ensures { result ≡ made_from scene.entry env commands }
+fn outcome_with<'a>(scene: Scene<'a>, commands: Commands, env: SortedPairs<'a>) -> Outcome<'a>
+    ensures { result ≡ made_from scene.entry env.entry commands }
 {
     let Scene {
         state,
@@ -199,7 +202,7 @@ fn outcome_with(scene: Scene<'_>, commands: Commands, env: OwnedPairs) -> Outcom
 }
 
 /// The outcome of a scene when no rule is left: what is to be run is rendered, and properties are sorted.
-pub fn finish(alloc: Global, mut scene: Scene<'_>) -> Result<Outcome, AllocError>
+pub fn finish(alloc: Global, mut scene: Scene<'_>) -> Result<Outcome<'_>, AllocError>
     ensures { IfOk result (λ outcome. outcome ≡ outcome_of scene.entry) }
 {
     match rendered(alloc, &mut scene) {
@@ -217,7 +220,7 @@ fn evaluate<'a, L: Lookup>(
     rules: &'a RuleSet,
     event: &'a Event<'_>,
     lookup: &L,
-) -> Result<Outcome, AllocError>
+) -> Result<Outcome<'a>, AllocError>
     ensures { IfOk result (λ answer. answer ≡ outcome rules.now.rules (L.entries lookup.now) event.now) }
 {
     let mut scene = Scene::new(alloc, event)?;
@@ -234,12 +237,12 @@ fn evaluate<'a, L: Lookup>(
 /// before it left, with its jumps, the database asked if a rule imports from it; then each RUN rendered with what
 /// is known at the end. Programs, builtins other than `hwdb` and files are not run or read, and leave notes unless
 /// the event's block has their answer. For udev, the event is evaluated as udev of systemd 257 does it.
-pub fn evaluate_plain<L: Lookup>(
+pub fn evaluate_plain<'a, L: Lookup>(
     alloc: Global,
-    rules: &RuleSet,
-    event: &Event<'_>,
+    rules: &'a RuleSet,
+    event: &'a Event<'_>,
     lookup: &L,
-) -> Result<Outcome, AllocError>
+) -> Result<Outcome<'a>, AllocError>
     ensures { IfOk result (λ answer. answer ≡ outcome rules.now.rules (L.entries lookup.now) event.now) }
 {
     evaluate(alloc, rules, event, lookup)

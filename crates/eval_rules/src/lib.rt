@@ -14,7 +14,6 @@ mod idle;
 mod laws;
 mod outcome;
 mod rules;
-mod sorting;
 mod steps;
 
 pub use evaluating::{evaluate_plain, finish, made_command, run_text};

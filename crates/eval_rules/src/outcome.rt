@@ -6,7 +6,7 @@ use rule_types::RunType;
 use std::alloc::{AllocError, Global};
 use std::marker::Model;
 use text_bytes::Bytes;
-use text_tables::{OwnedPairs, OwnedTexts};
+use text_tables::{CowPairs, OwnedTexts, SortedPairs};
 
 /// A command that udev would run when all rules are done.
 #[derive(Debug, Drop)]
@@ -77,7 +77,7 @@ impl Commands {
 /// The outcome of an event when all rules have run over it: what udev(7) would do with its device, and what a dry
 /// run did not do.
 #[derive(Drop)]
-pub struct Outcome {
+pub struct Outcome<'a> {
     /// The name of a network device, if a rule assigned one.
     pub name: Option<Bytes>,
     /// The owner of the device's node, as it was assigned.
@@ -100,11 +100,11 @@ pub struct Outcome {
     /// The tags.
     pub tags: OwnedTexts,
     /// The properties, sorted by name, byte by byte.
-    pub env: OwnedPairs,
+    pub env: SortedPairs<'a>,
     /// The attributes that would be written, in the order in which they were named first.
-    pub attrs: OwnedPairs,
+    pub attrs: CowPairs<'a>,
     /// The kernel parameters that would be written, in the order in which they were named first.
-    pub sysctls: OwnedPairs,
+    pub sysctls: CowPairs<'a>,
     /// The commands that would be run.
     pub runs: Commands,
     /// What a dry run did not do, in the order of evaluation; the notes about commands come last.

@@ -21,7 +21,7 @@ use std::alloc::{AllocError, Global};
 #[derive(Drop)]
 pub struct Sourced<'a> {
     /// The outcome.
-    pub outcome: Outcome,
+    pub outcome: Outcome<'a>,
     /// The rule that each item of it comes from.
     pub sources: Sources<'a>,
     /// Its commands, each with the rule that added it.

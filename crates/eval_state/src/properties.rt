@@ -3,14 +3,14 @@ ghost use Rattle.std.specs.Prelude.{◌≡◌, OnOk};
 ghost use Rattle.eval_state.specs.Properties.{property_set};
 
 use std::alloc::{AllocError, Global};
-use text_tables::OwnedPairs;
+use text_tables::CowPairs;
 
 /// Sets a property; the empty text removes it.
 pub fn set_property(
     alloc: Global,
     name: &[u8],
     text: &[u8],
-    env: &mut OwnedPairs,
+    env: &mut CowPairs<'_>,
 ) -> Result<(), AllocError>
     ensures { OnOk result (env.new ≡ property_set name.now text.now env.old) }
 {

@@ -16,7 +16,7 @@ use device_core::Event;
 use rule_types::{Key, Rule};
 use std::alloc::{AllocError, Global};
 use text_bytes::Bytes;
-use text_tables::{OwnedPairs, OwnedTexts};
+use text_tables::{CowPairs, OwnedTexts};
 
 /// The outcome of an event so far.
 #[derive(Drop)]
@@ -40,9 +40,9 @@ pub struct Scene<'a> {
     /// Labels of security modules: by the manual one for each, for udev as many as were set.
     pub labels: Labels,
     /// Attributes to be written.
-    pub attrs: OwnedPairs,
+    pub attrs: CowPairs<'a>,
     /// Kernel parameters to be written.
-    pub sysctls: OwnedPairs,
+    pub sysctls: CowPairs<'a>,
     /// What is to be run, as it was written.
     pub runs: Runs<'a>,
     /// For udev alone: what is to be run, rendered at its rule.
@@ -70,8 +70,8 @@ impl<'a> Scene<'a> {
             persist: false,
             gone: OwnedTexts::new(alloc),
             labels: Labels::new(alloc),
-            attrs: OwnedPairs::new(alloc),
-            sysctls: OwnedPairs::new(alloc),
+            attrs: CowPairs::new(alloc),
+            sysctls: CowPairs::new(alloc),
             runs: Runs::new(alloc),
             made: MadeRuns::new(alloc),
             notes: Notes::new(alloc),

@@ -9,12 +9,12 @@ use crate::state::State;
 use device_core::Event;
 use std::alloc::{AllocError, Global};
 use text_bytes::Bytes;
-use text_tables::{OwnedPairs, OwnedTexts};
+use text_tables::{CowPairs, OwnedTexts};
 
 /// Sets a property if it has a value.
 fn set_given(
     alloc: Global,
-    env: &mut OwnedPairs,
+    env: &mut CowPairs<'_>,
     name: &[u8],
     value: Option<&[u8]>,
 ) -> Result<(), AllocError>
@@ -36,7 +36,7 @@ pub fn node_path(alloc: Global, node: &[u8]) -> Result<Bytes, AllocError>
 }
 
 /// Sets the path of the node, if there is one.
-fn set_node(alloc: Global, env: &mut OwnedPairs, node: Option<&[u8]>) -> Result<(), AllocError>
+fn set_node(alloc: Global, env: &mut CowPairs<'_>, node: Option<&[u8]>) -> Result<(), AllocError>
     ensures { OnOk result (env.new ≡ with_values env.old (pair_if (codes "DEVNAME") (option_map (λ n. node_path n.now) node.entry))) }
 {
     match node {
@@ -46,7 +46,7 @@ fn set_node(alloc: Global, env: &mut OwnedPairs, node: Option<&[u8]>) -> Result<
 }
 
 /// Sets what the event itself says about its device.
-fn set_reported(alloc: Global, env: &mut OwnedPairs, event: &Event<'_>) -> Result<(), AllocError>
+fn set_reported(alloc: Global, env: &mut CowPairs<'_>, event: &Event<'_>) -> Result<(), AllocError>
     ensures { OnOk result (env.new ≡ with_values env.old (reported_by event.now)) }
 {
     let device = event.device();
@@ -70,21 +70,25 @@ fn set_reported(alloc: Global, env: &mut OwnedPairs, event: &Event<'_>) -> Resul
 
 /// Sets the properties that an event begins with.
 #[tactic(auto, unfolding(crate::specs::Start::start_env))]
-fn set_env(alloc: Global, env: &mut OwnedPairs, event: &Event<'_>) -> Result<(), AllocError>
+fn set_env<'a>(
+    alloc: Global,
+    env: &mut CowPairs<'a>,
+    event: &'a Event<'_>,
+) -> Result<(), AllocError>
     requires { env.old ≡ [] }
     ensures { OnOk result (env.new ≡ start_env event.now) }
 {
-    env.set_all(alloc, event.device().env())?;
+    env.lend_all(event.device().env())?;
     set_reported(alloc, env, event)
 }
 
 /// Sets the properties that an event begins with, the links and the tags.
-fn set_tables(
+fn set_tables<'a>(
     alloc: Global,
-    env: &mut OwnedPairs,
+    env: &mut CowPairs<'a>,
     links: &mut OwnedTexts,
     tags: &mut OwnedTexts,
-    event: &Event<'_>,
+    event: &'a Event<'_>,
 ) -> Result<(), AllocError>
     requires none { env.old ≡ [] }
     ensures env { OnOk result (env.new ≡ start_env event.now) }
@@ -104,7 +108,7 @@ impl<'a> State<'a> {
         ensures { IfOk result (λ state. state ≡ start_state event.now) }
     {
         let chain = Chain::new(alloc, event)?;
-        let mut env = OwnedPairs::new(alloc);
+        let mut env = CowPairs::new(alloc);
         let mut links = OwnedTexts::new(alloc);
         let mut tags = OwnedTexts::new(alloc);
         set_tables(alloc, &mut env, &mut links, &mut tags, event)?;

@@ -7,7 +7,7 @@ ghost use Rattle.eval_state.specs.Texts.{or_empty};
 use crate::chain::Chain;
 use std::alloc::Global;
 use text_bytes::Bytes;
-use text_tables::{OwnedPairs, OwnedTexts};
+use text_tables::{CowPairs, OwnedTexts};
 
 /// What is known about an event while rules run.
 #[derive(Drop)]
@@ -22,7 +22,7 @@ pub struct State<'a> {
     /// The name that was assigned; for udev it may be empty.
     pub name: Option<Bytes>,
     /// The properties as they are now.
-    pub env: OwnedPairs,
+    pub env: CowPairs<'a>,
     /// The links as they are now.
     pub links: OwnedTexts,
     /// The tags as they are now.
@@ -34,10 +34,7 @@ impl<'a> State<'a> {
     pub fn property(&self, name: &[u8]) -> &[u8]
         ensures { result.now ≡ or_empty (value_of self.now.env name.now) }
     {
-        match self.env.get(name) {
-            Some(value) => value.as_slice(),
-            None => b"",
-        }
+        self.env.get(name).unwrap_or(b"")
     }
 
     /// Forgets all but the event itself.

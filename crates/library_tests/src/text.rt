@@ -1,10 +1,11 @@
 //! What texts, patterns and tables show only to a caller.
 use indexmap::{IndexMap, IndexSet};
 use std::alloc::{AllocError, Global};
+use std::borrow::CowSlice;
 use std::test::Fail;
 use text_bytes::{Bytes, capped};
 use text_core::{Choice, GlobFault, Item, PackedPattern, Pattern};
-use text_tables::{OwnedPairs, OwnedTexts, Pairs, Table, Texts};
+use text_tables::{CowPairs, OwnedTexts, Pairs, Table, Texts};
 
 /// Whether a pattern has this fault.
 fn pattern_has_fault(alloc: Global, pattern: &[u8], fault: GlobFault) -> bool {
@@ -195,20 +196,23 @@ fn a_set_of_owned_texts_is_given_and_taken(rt: HostRuntime) -> Result<(), Fail> 
 }
 
 #[test]
-fn a_map_of_owned_names_is_given_and_taken(rt: HostRuntime) -> Result<(), Fail> {
+fn a_map_of_borrowed_and_owned_texts_is_given_and_taken(rt: HostRuntime) -> Result<(), Fail> {
     let alloc = rt.alloc();
     let mut map = IndexMap::new(alloc);
     for (name, value) in [(b"b".as_slice(), b"1".as_slice()), (b"a", b"2")] {
-        map.insert(Vec::from_slice(alloc, name)?, Bytes::copy_of(alloc, value)?)?;
+        map.insert(
+            CowSlice::Borrowed(name),
+            CowSlice::Owned(Vec::from_slice(alloc, value)?),
+        )?;
     }
-    let mut pairs = OwnedPairs::from_map(map);
+    let mut pairs = CowPairs::from_map(map);
     pairs.set(alloc, b"b", b"3")?;
     assert!(rt; pairs.as_map().get_index_of(b"a".as_slice()) == Some(1));
     let map = pairs.into_map();
     assert!(rt; map.len() == 2);
     assert!(rt; map.get_index_of(b"b".as_slice()) == Some(0));
-    assert!(rt; is_value(map.get(b"b".as_slice()).map(Bytes::as_slice), b"3"));
-    assert!(rt; is_value(map.get(b"a".as_slice()).map(Bytes::as_slice), b"2"));
+    assert!(rt; is_value(map.get(b"b".as_slice()).map(CowSlice::as_slice), b"3"));
+    assert!(rt; is_value(map.get(b"a".as_slice()).map(CowSlice::as_slice), b"2"));
     Ok(())
 }
 
@@ -217,7 +221,7 @@ fn owned_tables_lend_what_they_hold(rt: HostRuntime) -> Result<(), Fail> {
     let mut texts = OwnedTexts::new(rt.alloc());
     texts.add(rt.alloc(), b"a")?;
     assert!(rt; texts.as_slice().len() == 1);
-    let mut pairs = OwnedPairs::new(rt.alloc());
+    let mut pairs = CowPairs::new(rt.alloc());
     pairs.set(rt.alloc(), b"a", b"0")?;
     assert!(rt; pairs.as_map().get_index_of(b"a".as_slice()) == Some(0));
     Ok(())

@@ -1,5 +1,5 @@
 -- What the library's sets and maps hold, seen as lists of texts and of names with values.
-use Rattle.std.proofs.Common.{◌≡◌, ℕ, Bool, true, false, List, [], ◌∷◌, ◌++◌, ◌||◌, not, Option, Some, None, option_map, is_some, map, cond, refl, ap, sym, ◌∙◌, nat_eq, option_copied, Bor}
+use Rattle.std.proofs.Common.{◌≡◌, MatchOption, IsSomeAnd, ℕ, Bool, true, false, List, [], ◌∷◌, ◌++◌, ◌||◌, not, Option, Some, None, option_map, is_some, map, cond, refl, ap, sym, ◌∙◌, nat_eq, option_copied, Bor}
 use Rattle.std.proofs.lemmas.List.{map-append}
 use Rattle.std.specs.Cmp.Lexicographic.{pointwise}
 use Rattle.std.specs.List.{list_any, IsDistinct, AllByRecursion}
@@ -77,6 +77,14 @@ module _ {K V W : Type 0} (text : K → List ℕ) (value : V → W) where
   pub borrowed : (es : List (K × V)) (name : List ℕ) (o : Option (Bor V)) → option_copied o ≡ lookup (is_text text name) es → option_map (λ v. value v.now) o ≡ value_of (map seen es) name
   borrowed es name None h = ap (option_map value) h ∙ found es name
   borrowed es name (Some v) h = ap (option_map value) h ∙ found es name
+
+  -- and what a function makes of what is borrowed of it
+  pub made_of : {P : Bor V → Bor W → Type 0} (es : List (K × V)) (name : List ℕ) (o : Option (Bor V)) (r : Option (Bor W)) → ((x : Bor V) (y : Bor W) → P x y → y.now ≡ value x.now)
+      → option_copied o ≡ lookup (is_text text name) es → MatchOption o (r ≡ None) (λ x. IsSomeAnd r (P x)) → option_map (λ y. y.now) r ≡ value_of (map seen es) name
+  made_of es name None None means h m = borrowed es name None h
+  made_of es name None (Some y) means h m = cc
+  made_of es name (Some x) None means h m = absurd m
+  made_of es name (Some x) (Some y) means h m = ap Some (means x y m) ∙ borrowed es name (Some x) h
 
   -- a name is found exactly if the list has it
   pub has : (es : List (K × V)) (name : List ℕ) → is_some (lookup (is_text text name) es) ≡ named (map seen es) name

@@ -1,3 +1,4 @@
+pub mod ByName
 pub mod Found
 pub mod Held
 pub mod Partway

@@ -2,7 +2,7 @@ use Rattle.std.proofs.Common.{None}
 use Rattle.eval_state.specs.Scenes.{start}
 use Rattle.eval_rules.specs.Jumps.{run}
 use Rattle.eval_rules.specs.Outcomes.{outcome_of}
-use Rattle.eval_rules.proofs.ByName.{by_name_rises}
+use Rattle.text_tables.proofs.ByName.{by_name_rises}
 use Rattle.eval_laws.proofs.events.properties_are_sorted.Goals as goal
 
 pub returns : goal.returns

@@ -1,4 +1,4 @@
-use Rattle.eval_rules.proofs.ByName.{by_name_values}
+use Rattle.text_tables.proofs.ByName.{by_name_values}
 use Rattle.eval_laws.proofs.turns.sorted_properties_have_their_values.Goals as goal
 
 pub returns : goal.returns

@@ -1,15 +1,15 @@
--- Properties in the order of their names: what is put in its place, and that no other list is sorted and has the same values.
-use Rattle.std.proofs.Common.{◌≡◌, suc, ◌+◌, Bool, true, false, cond, ◌||◌, List, [], ◌∷◌, ◌++◌, get_or, map, fold, Option, Some, None, refl, ap, sym, subst, ◌∙◌, arith, append_assoc, true≢false}
+-- Names with values in the order of the names: what is put in its place, and that no other list is sorted and has the same values.
+use Rattle.std.proofs.Common.{◌≡◌, suc, ◌+◌, Bool, true, false, cond, ◌||◌, List, [], ◌∷◌, ◌++◌, get_or, map, fold, Option, Some, None, option_map, refl, ap, sym, subst, ◌∙◌, arith, append_assoc, true≢false}
 use Rattle.std.specs.List.{AllByRecursion, IsDistinct}
 use Rattle.std.specs.List.Sorted.{IsPermutation, IsSorted, IsStrictlySortedBy}
-use Rattle.std.specs.Map.{IsKeyTest, keys_of, lookup}
+use Rattle.std.specs.Map.{IsKeyTest, keys_of}
 use Rattle.std.specs.Ordering.{is_lt, match_ordering, ordering_reverse}
 use Rattle.std.specs.declared.cmp.Ordering.{Ordering}
 use Rattle.std.specs.declared.cmp.Ordering.TheVariants.{Less, Equal, Greater}
 use Rattle.std.specs.Cmp.Lexicographic.{bytes_decides, on_texts_equal}
 use Rattle.std.proofs.lemmas.Cmp.{nat_list_cmp_total}
 use Rattle.std.proofs.lemmas.List.{append-nil}
-use Rattle.std.proofs.lemmas.List.Sorted.{IsPermutation-map, IsPermutation-sym}
+use Rattle.std.proofs.lemmas.List.Sorted.{IsPermutation-map}
 use Rattle.std.proofs.lemmas.Option.{same_Some}
 use Rattle.std.proofs.lemmas.Map.Keys.{IsDistinct-IsPermutation}
 use Rattle.std.proofs.lemmas.Map.Lookups.{exact_bytes}
@@ -18,9 +18,8 @@ use Rattle.text_bytes.specs.Insertion.{text_order}
 use Rattle.text_tables.specs.Texts.{Text, same_text, AreOnce}
 use Rattle.text_tables.specs.Pairs.{Pair, named, names, value_of, with_value, with_values}
 use Rattle.text_tables.proofs.Found.{set_after, value_set}
-use Rattle.text_tables.proofs.Held.{once}
-use Rattle.eval_rules.specs.Laws.{NamesRise}
-use Rattle.eval_rules.specs.Outcomes.{by_name, put}
+use Rattle.text_tables.proofs.Held.{found, is_text, names_once, same, seen}
+use Rattle.text_tables.specs.Sorted.{NamesRise, by_name, put}
 
 -- ---- texts
 
@@ -266,37 +265,37 @@ by_name_values pairs name once =
     all_values pairs [] [] name (λ n. refl)
     ∙ ap (λ ps. value_of ps name) (set_in_order (λ (p : Pair). p.0) (λ (p : Pair). p.1) pairs once ∙ same_pairs pairs)
 
--- ---- entries of a map, seen as properties
+-- ---- entries of a map, seen as names with values
 
-module _ {K : Type 0} (text : K → Text) where
-  abbrev pub entry_seen : K × Text → Pair
-  entry_seen e = (text e.0, e.1)
-
-  abbrev same_key : K → K → Bool
-  same_key j k = same_text (text j) (text k)
-
-  looked_up : (es : List (K × Text)) (name : Text) → value_of (map entry_seen es) name ≡ lookup (λ k. same_text name (text k)) es
-  looked_up [] name = refl
-  looked_up (e ∷ es) name = ap (λ o. cond (same_text name (text e.0)) (Some e.1) o) (looked_up es name)
-
-  names_seen : (es : List (K × Text)) → names (map entry_seen es) ≡ map text (keys_of es)
+module _ {K V : Type 0} (text : K → Text) (value : V → Text) where
+  names_seen : (es : List (K × V)) → names (map (seen text value) es) ≡ map (λ e. text e.0) es
   names_seen [] = refl
   names_seen (e ∷ es) = ap (λ ns. text e.0 ∷ ns) (names_seen es)
 
-  one_key : (name : Text) → IsKeyTest same_key (λ k. same_text name (text k))
+  one_key : (name : Text) → IsKeyTest (same text) (is_text text name)
   one_key name j k h = ap (λ n. same_text n (text k)) (is_same name (text j) h)
 
-  -- entries that a sort by their keys leaves
-  pub sorted_is : (es fs : List (K × Text)) → IsPermutation es fs → IsDistinct same_key (keys_of fs) → IsSorted (λ j k. text_order (text j) (text k)) (keys_of fs)
-      → map entry_seen fs ≡ by_name (map entry_seen es)
+  rows_apart : (e : K × V) (es : List (K × V)) → AllByRecursion (λ k. same text e.0 k ≡ false) (keys_of es) → AllByRecursion (λ f. same text e.0 f.0 ≡ false) es
+  rows_apart e [] h = tt
+  rows_apart e (f ∷ es) h = (h.0, rows_apart e es h.1)
+
+  rows_distinct : (es : List (K × V)) → IsDistinct (same text) (keys_of es) → IsDistinct (λ e f. same text e.0 f.0) es
+  unfolding IsDistinct
+  rows_distinct [] d = tt
+  rows_distinct (e ∷ es) d = (rows_apart e es d.0, rows_distinct es d.1)
+
+  -- entries of a map that were put in the order of their keys
+  pub sorted_is : (es fs : List (K × V)) → IsPermutation es fs → IsDistinct (same text) (keys_of es) → IsSorted (λ e f. text_order (text e.0) (text f.0)) fs
+      → map (seen text value) fs ≡ by_name (map (seen text value) es)
   sorted_is es fs moved distinct sorted =
-      let before : IsDistinct same_key (keys_of es) =
-      IsDistinct-IsPermutation same_key (λ j k. flips (text j) (text k)) (keys_of fs) (keys_of es) (IsPermutation-sym (keys_of es) (keys_of fs) (IsPermutation-map (λ (e : K × Text). e.0) es fs moved)) distinct in
-      let all_once : AreOnce (names (map entry_seen es)) = subst (IsDistinct same_text) (sym (names_seen es)) (once text (keys_of es) before) in
-      one_list (map entry_seen fs) (by_name (map entry_seen es)) (subst (IsStrictlySortedBy text_order) (sym (names_seen fs)) (strict text (keys_of fs) sorted distinct)) (all_rise (map entry_seen es) [] rises_none)
+      let after : IsDistinct (same text) (keys_of fs) =
+      IsDistinct-IsPermutation (same text) (λ j k. flips (text j) (text k)) (keys_of es) (keys_of fs) (IsPermutation-map (λ (e : K × V). e.0) es fs moved) distinct in
+      one_list (map (seen text value) fs) (by_name (map (seen text value) es))
+      (subst (IsStrictlySortedBy text_order) (sym (names_seen fs)) (strict (λ (e : K × V). text e.0) fs sorted (rows_distinct fs after)))
+      (all_rise (map (seen text value) es) [] rises_none)
       (λ n.
-      looked_up fs n ∙ lookup_permutation (on_texts_equal text) es fs moved distinct (λ k. same_text n (text k)) (one_key n) ∙ sym (looked_up es n)
-      ∙ sym (by_name_values (map entry_seen es) n all_once))
+      sym (found text value fs n) ∙ ap (option_map value) (lookup_permutation (on_texts_equal text) es fs moved after (is_text text n) (one_key n)) ∙ found text value es n
+      ∙ sym (by_name_values (map (seen text value) es) n (names_once text value es distinct)))
 
 -- the names of sorted properties rise
 pub by_name_rises : (pairs : List Pair) → NamesRise (by_name pairs)

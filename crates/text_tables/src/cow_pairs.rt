@@ -1,50 +1,55 @@
-//! Owned names with owned values: properties that rules set and remove.
+//! Names with values that are borrowed until they are set: properties that rules set and remove.
+//!
+//! Most properties of a device stay as they are, so that a copy of each would cost more than all that rules do with it.
 ghost use Rattle.std.specs.Prelude.{◌≡◌, [], length, option_map, map, OnOk, OnErr};
+ghost use Rattle.std.specs.Cow.{cow_slice_items};
 ghost use Rattle.text_tables.specs.Texts.{AreOnce};
 ghost use Rattle.text_tables.specs.Pairs.{names, value_of, with_value, with_values, without_name, SetsFirst};
 
 use crate::pairs::Pairs;
 use indexmap::IndexMap;
 use std::alloc::{AllocError, Global};
+use std::borrow::CowSlice;
 use std::marker::Model;
 use text_bytes::Bytes;
 
-/// Names and values of its own, in the order in which the names came, each name once.
+/// Names with their values, borrowed or owned, in the order in which the names came, each name once.
 #[derive(Drop)]
-pub struct OwnedPairs {
-    held: IndexMap<Vec<u8>, Bytes>,
+pub struct CowPairs<'a> {
+    held: IndexMap<CowSlice<'a, u8>, CowSlice<'a, u8>>,
 }
 
-impl Model for OwnedPairs {
+impl<'a> Model for CowPairs<'a> {
     ghost use Rattle.std.specs.Prelude.{List, ℕ, map};
+    ghost use Rattle.std.specs.Cow.{cow_slice_items};
 
     ghost Value = { List (List ℕ × List ℕ) };
 
-    ghost view = { λ p. map (λ e. (e.0.items, e.1)) p.held.entries };
+    ghost view = { λ p. map (λ e. (cow_slice_items e.0, cow_slice_items e.1)) p.held.entries };
 }
 
-impl OwnedPairs {
+impl<'a> CowPairs<'a> {
     /// No names.
-    pub fn new(alloc: Global) -> OwnedPairs
+    pub fn new(alloc: Global) -> CowPairs<'a>
         ensures { result ≡ [] }
     {
-        OwnedPairs {
+        CowPairs {
             held: IndexMap::new(alloc),
         }
     }
 
     /// The names and values of a map, without a copy.
-    pub fn from_map(held: IndexMap<Vec<u8>, Bytes>) -> OwnedPairs
-        ensures { result ≡ map (λ e. (e.0.items, e.1)) held.entries }
+    pub fn from_map(held: IndexMap<CowSlice<'a, u8>, CowSlice<'a, u8>>) -> CowPairs<'a>
+        ensures { result ≡ map (λ e. (cow_slice_items e.0, cow_slice_items e.1)) held.entry.entries }
     {
-        OwnedPairs { held }
+        CowPairs { held }
     }
 
     /// Returns the map.
-    pub fn into_map(self) -> IndexMap<Vec<u8>, Bytes>
-        ensures { map (λ e. (e.0.items, e.1)) result.entries ≡ self }
+    pub fn into_map(self) -> IndexMap<CowSlice<'a, u8>, CowSlice<'a, u8>>
+        ensures { map (λ e. (cow_slice_items e.0, cow_slice_items e.1)) result.entries ≡ self.entry }
     {
-        let OwnedPairs { held } = self;
+        let CowPairs { held } = self;
         held
     }
 
@@ -57,17 +62,17 @@ impl OwnedPairs {
     }
 
     /// Returns the map, whose order is that of the names.
-    pub fn as_map(&self) -> &IndexMap<Vec<u8>, Bytes>
-        ensures { map (λ e. (e.0.items, e.1)) result.now.entries ≡ self.now }
+    pub fn as_map(&self) -> &IndexMap<CowSlice<'a, u8>, CowSlice<'a, u8>>
+        ensures { map (λ e. (cow_slice_items e.0, cow_slice_items e.1)) result.now.entries ≡ self.now }
     {
         &self.held
     }
 
     /// Returns the value of a name.
-    pub fn get(&self, name: &[u8]) -> Option<&Bytes>
+    pub fn get(&self, name: &[u8]) -> Option<&[u8]>
         ensures { option_map (λ v. v.now) result ≡ value_of self.now name.now }
     {
-        self.held.get(name)
+        self.held.get(name).map(CowSlice::as_slice)
     }
 
     /// Gives a name a copy of a value: a name that is there takes it in its place, another one is
@@ -86,7 +91,18 @@ impl OwnedPairs {
         ensures refused { OnErr result (self.new ≡ self.old) }
     {
         let name = Vec::from_slice(alloc, name)?;
-        self.held.insert(name, value)?;
+        self.held
+            .insert(CowSlice::Owned(name), CowSlice::Owned(value.into_vec()))?;
+        Ok(())
+    }
+
+    /// Gives a name a value as `set` does, both borrowed.
+    fn lend(&mut self, name: &'a [u8], value: &'a [u8]) -> Result<(), AllocError>
+        ensures pairs { OnOk result (self.new ≡ with_value self.old name.now value.now) }
+        ensures refused { OnErr result (self.new ≡ self.old) }
+    {
+        self.held
+            .insert(CowSlice::Borrowed(name), CowSlice::Borrowed(value))?;
         Ok(())
     }
 
@@ -97,15 +113,15 @@ impl OwnedPairs {
         self.held.reserve(more)
     }
 
-    /// Sets each of these names, in their order. If memory runs out, the first so many are set,
+    /// Sets each of these names, in their order, without a copy. If memory runs out, the first so many are set,
     /// perhaps none, and the others are not.
-    pub fn set_all(&mut self, alloc: Global, pairs: &Pairs<'_>) -> Result<(), AllocError>
+    pub fn lend_all(&mut self, pairs: &Pairs<'a>) -> Result<(), AllocError>
         ensures pairs { OnOk result (self.new ≡ with_values self.old pairs.now) }
         ensures refused { OnErr result (SetsFirst self.old pairs.now self.new) }
     {
         self.reserve(pairs.len())?;
         for (name, value) in pairs.as_map().iter() {
-            self.set(alloc, name, value)?;
+            self.lend(name, value)?;
         }
         Ok(())
     }

@@ -1,9 +1,0 @@
-use Rattle.std.proofs.Common.{ap, sym, ◌∙◌}
-use Rattle.std.specs.Map.{lookup}
-use Rattle.text_tables.proofs.Held.{is_text, removed_name}
-use Rattle.text_tables.proofs.owned_pairs.OwnedPairs.remove.Goals as goal
-
-pub returns : goal.returns
-returns c =
-    rw (c.shift_remove.ensures.entries, ← c.self.view_is)
-    (removed_name (λ k. k.items) (λ v. v) c.self.inside.held.entries c.args.name.now (ap (lookup (is_text (λ k. k.items) c.args.name.now)) (sym c.shift_remove.ensures.entries) ∙ c.shift_remove.ensures.updates.1))

@@ -19,9 +19,6 @@ import tempfile
 
 RT = os.environ.get("RT", "rt")
 
-# How many mutants are tried in one check. Of `engine_core` twelve at once take more than 11 GB.
-MAX_TOGETHER = 6
-
 # The first line of a function, of an impl (of a type, or of a trait for one), and of a type.
 FUNCTION = re.compile(r"( *)(?:pub(?:\([a-z]+\))? )?(?:const )?(?:unsafe )?fn (\w+)")
 IMPL = re.compile(r"impl(?:<.*?>)? (?:(.+) for )?(\w+).* \{")
@@ -173,13 +170,13 @@ class Crate:
             (self.folder / path).write_text("".join(pieces), encoding="utf-8")
 
     def try_bodies(self, mutants):
-        """Tries mutants that change bodies, in each check some of different functions, and returns those that were not
-        refused that way."""
+        """Tries mutants that change bodies, as many in each check as are of different functions, and returns those that were
+        not refused that way."""
         left = []
         while mutants:
             chosen, bodies = [], {}
             for mutant in mutants:
-                if len(chosen) < MAX_TOGETHER and bodies.keys().isdisjoint(mutant.bodies):
+                if bodies.keys().isdisjoint(mutant.bodies):
                     chosen.append(mutant)
                     bodies.update(mutant.bodies)
             left += self.try_together(chosen)

@@ -46,7 +46,8 @@ all: build/devdry
 # again.
 build/devdry: $(FILES) crates.txt $(KIT) | build
 	@cd crates/devdry && $(RT) all test --jobs $(JOBS) 2>&1 | tee $(CURDIR)/build/proofs.log | \
-	    awk -v all=$(words $(CRATES)) '/^== [a-z_]+$$/ && $$2 != "summary" { print ++done " of " all ": " $$2; fflush() }'
+	    { count=0; while read -r sign crate rest; do case "$$sign.$$rest.$$crate" in ==..summary) ;; \
+	        ==..*) count=$$((count + 1)); echo "$$count of $(words $(CRATES)): $$crate" ;; esac; done; }
 	@if grep -q '^rt: mend these first' build/proofs.log; then cat build/proofs.log; \
 	    echo 'make: the sources were not passed: if nothing is named above, memory ran out (that step takes up to 13 GB)'; exit 1; fi
 	@cd crates/devdry && $(RT) run -- --version || { cat $(CURDIR)/build/proofs.log; exit 1; }

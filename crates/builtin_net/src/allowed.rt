@@ -2,7 +2,6 @@
 ghost use Rattle.std.specs.Prelude.{◌≡◌, map, option_map};
 ghost use Rattle.std.specs.Char.{to_ascii_lowercase};
 ghost use Rattle.text_tables.specs.Texts.{same_text};
-ghost use Rattle.text_tables.specs.Pairs.{value_of};
 ghost use Rattle.builtin_net.specs.Allowed.{attribute_name, interface, is_allowed, is_yes, lacks, number, permission, permits, read};
 
 use crate::words::MAX_NUMBER;

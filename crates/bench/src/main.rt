@@ -33,7 +33,7 @@ impl Counts {
     fn with_outcome(self, outcome: &Outcome<'_>) -> Counts {
         Counts {
             events: self.events.wrapping_add(1),
-            properties: self.properties.wrapping_add(outcome.env.as_slice().len()),
+            properties: self.properties.wrapping_add(outcome.env.len()),
             links: self.links.wrapping_add(outcome.links.as_slice().len()),
             notes: self.notes.wrapping_add(outcome.notes.as_slice().len()),
         }

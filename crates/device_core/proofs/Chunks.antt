@@ -107,15 +107,6 @@ line_size piece i n h value within =
     let size : n ≤ length (drop i piece) = rw (left_is piece i) at within in
     (rw (left_is piece i) at value, grind (arith, common_steps, size))
 
--- a chunk of the piece, written after what is held
-pub chunk_held : (piece room now : List ℕ) (i len n : ℕ) → i + n ≤ length piece
-    → take (len + length (take (i + n - i) (drop i piece))) now ≡ take len room ++ take (i + n - i) (drop i piece) → take (len + n) now ≡ take len room ++ take n (drop i piece)
-chunk_held piece room now i len n inside h =
-    let same : i + n - i ≡ n = omega arith in
-    let size : length (take n (drop i piece)) ≡ n = grind (arith, common_steps) in
-    let short : take (len + length (take n (drop i piece))) now ≡ take len room ++ take n (drop i piece) = rw same at h in
-    rw size at short
-
 first_line_is_some : (text : List ℕ) → 0 < length text → 0 < length (first_line text)
 first_line_is_some [] h = absurd (omega arith)
 first_line_is_some (byte ∷ text) h = elim (byte == 10) as (λ ends. 0 < length (cond ends (byte ∷ []) (byte ∷ first_line text))) [ true ↦ omega arith | false ↦ omega arith ]

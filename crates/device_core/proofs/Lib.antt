@@ -11,3 +11,4 @@ pub mod Few
 pub mod LineLemmas
 pub mod Paths
 pub mod Rows
+pub mod NoNul

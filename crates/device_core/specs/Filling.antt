@@ -1,5 +1,5 @@
 -- Serves inner proofs only: what filling a room with a piece's bytes leaves.
-use Rattle.std.specs.Prelude.{◌≡◌, ℕ, ◌==◌, ◌+◌, ◌<◌, Bool, List, [], ◌∷◌, ◌++◌, length, take, if◌then◌else◌}
+use Rattle.std.specs.Prelude.{◌≡◌, ℕ, ◌==◌, ◌+◌, ◌-◌, ◌<◌, Bool, List, [], ◌∷◌, ◌++◌, drop, length, take, if◌then◌else◌}
 use Rattle.text_bytes.specs.Names.{newline}
 use Rattle.device_core.specs.Runs.{complete_runs, rest_of}
 use Rattle.device_core.specs.Holding.{IsPending}
@@ -11,6 +11,10 @@ use Rattle.device_core.specs.declared.filling.Stop.TheVariants.{Used, Whole, Ful
 abbrev pub first_line : List ℕ → List ℕ
 first_line [] = []
 first_line (byte ∷ text) = if byte == newline then byte ∷ [] else byte ∷ first_line text
+
+-- the bytes of a piece from a place up to another
+abbrev pub taken : List ℕ → ℕ → ℕ → List ℕ
+taken piece start end = take (end - start) (drop start piece)
 
 -- The whole piece was put after what was held before, and no run is complete.
 pub record UsesAll (before piece : List ℕ) (used : ℕ) (begins : Bool) (held : List ℕ) : Type 0 where
@@ -26,20 +30,26 @@ pub record Completes (before piece : List ℕ) (used : ℕ) (held : List ℕ) : 
   pub rest : rest_of (before ++ take used piece) ≡ []
   pub moves : 0 < used
 
--- The room is full, and the run goes on with the next byte of the piece.
-pub record Overflows (before piece : List ℕ) (used : ℕ) (held room : List ℕ) : Type 0 where
+-- A room of this size is full, and the run goes on with the next byte of the piece.
+pub record Overflows (before piece : List ℕ) (used : ℕ) (held : List ℕ) (room : ℕ) : Type 0 where
   pub within : used < length piece
-  pub full : held ≡ room
+  pub full : length held ≡ room
   pub byte : ℕ
   pub none : complete_runs (before ++ take (used + 1) piece) ≡ []
   pub rest : rest_of (before ++ take (used + 1) piece) ≡ held ++ byte ∷ []
 
+-- how many bytes of a piece were used, if those to be held end at a place: the newline after a complete run is, too
+abbrev pub used_by : Stop → ℕ → ℕ
+used_by Used end = end
+used_by Whole end = end + 1
+used_by Full end = end
+
 -- the outcome of filling, by why it stopped
-abbrev pub FillsBy : Stop → List ℕ → List ℕ → ℕ → Bool → List ℕ → List ℕ → Type 0
+abbrev pub FillsBy : Stop → List ℕ → List ℕ → ℕ → Bool → List ℕ → ℕ → Type 0
 FillsBy Used before piece used begins held room = UsesAll before piece used begins held
 FillsBy Whole before piece used begins held room = Completes before piece used held
 FillsBy Full before piece used begins held room = Overflows before piece used held room
 
 -- the outcome of filling a room with a piece's bytes
 abbrev pub Fills : List ℕ → List ℕ → Filled → List ℕ → Type 0
-Fills before piece filled room = FillsBy filled.stop before piece filled.used filled.at_start (take filled.len room) room
+Fills before piece filled room = FillsBy filled.stop before piece filled.used filled.at_start (take filled.len room) (length room)

@@ -1,6 +1,7 @@
 -- Serves inner proofs only: what the private parts of the reader do with the lines so far. The clause of `read_block`
 -- names none of this; it only carries the proof from one function to the next.
-use Rattle.std.specs.Prelude.{◌≡◌, ℕ, ◌+◌, Bool, not, ◌||◌, List, [], ◌∷◌, ◌++◌, length, nat_le, Option, Some, None, option_map, Result, Ok, Err, if◌then◌else◌, is_some}
+use Rattle.std.specs.Prelude.{◌≡◌, ℕ, ◌+◌, Bool, false, not, ◌||◌, List, [], ◌∷◌, ◌++◌, length, nat_le, Option, Some, None, option_map, Result, Ok, Err, if◌then◌else◌, is_some}
+use Rattle.std.specs.List.{AllByRecursion}
 use Rattle.std.specs.Option.{option_to_list}
 use Rattle.text_bytes.specs.Texts.{is_empty}
 use Rattle.text_bytes.specs.declared.profile.Profile.TheVariants.{Manual}
@@ -140,6 +141,10 @@ row_step s (Field field) rest answered = if_ok (λ d. record s { last = Some d; 
 row_step s Constant rest answered = if_ok (λ ps. record s { constants = ps; asked = None }) (pair_step s.constants rest)
 row_step s Command rest answered = if_ok (λ c. record s { asked = Some c }) (command_step s.programs rest answered)
 row_step s Answer rest answered = if_ok (λ ps. record s { programs = ps; asked = None }) (answer_step s.programs s.asked rest)
+
+-- none of these lines has a NUL byte
+abbrev pub HaveNoNul : List Text → Type 0
+HaveNoNul lines = AllByRecursion (λ line. has_nul line ≡ false) lines
 
 -- a line by its kind, unless it is not of a known kind
 abbrev pub known_row : Option Row → Result Row BlockFaultKind

@@ -1,10 +1,11 @@
 //! The bytes of a piece, put after those of a run that is not complete.
 //!
-//! A line at a time is copied: the search for its newline is `memchr`'s.
-ghost use Rattle.std.specs.Prelude.{◌≡◌, ℕ, ◌+◌, ◌≤◌, ◌<◌, [], ◌++◌, length, take};
+//! A piece is gone over line by line, and what is to be held of it is copied at once. The search for a newline is
+//! `memchr`'s.
+ghost use Rattle.std.specs.Prelude.{◌≡◌, ℕ, ◌+◌, ◌-◌, ◌^◌, ◌≤◌, ◌<◌, [], ◌++◌, length, take};
 ghost use Rattle.device_core.specs.Runs.{complete_runs};
 ghost use Rattle.device_core.specs.Holding.{IsPending};
-ghost use Rattle.device_core.specs.Filling.{first_line, Fills};
+ghost use Rattle.device_core.specs.Filling.{first_line, taken, used_by, Fills, FillsBy};
 
 use text_bytes::find;
 
@@ -31,6 +32,74 @@ pub(crate) struct Filled {
     pub(crate) stop: Stop,
 }
 
+/// How far going over a piece came: what is to be held of it, which is not copied yet, and why it stopped.
+#[derive(Clone, Copy)]
+struct Scanned {
+    /// Where the bytes to be held begin.
+    start: usize,
+    /// Where they end.
+    end: usize,
+    /// Whether a line begins after them.
+    at_start: bool,
+    stop: Stop,
+}
+
+/// How many bytes of a piece were used, if those to be held end at this place: the newline of the empty line after a
+/// complete run is used, too.
+fn used_by(stop: Stop, end: usize) -> usize
+    requires { end < 2 ^ 63 }
+    ensures { result ≡ used_by stop end }
+{
+    match stop {
+        Stop::Whole => end + 1,
+        Stop::Used | Stop::Full => end,
+    }
+}
+
+/// Goes over a piece up to the end of the run that begins with the pending bytes, if these fit a room of this size.
+fn scan(pending: &[u8], room: usize, begins: bool, piece: &[u8]) -> Scanned
+    requires within { length pending.now ≤ room }
+    requires pending { IsPending pending.now begins }
+    ensures held { result.start ≤ result.end × result.end ≤ length piece.now }
+    ensures len { length pending.now + (result.end - result.start) ≤ room }
+    ensures used { used_by result.stop result.end ≤ length piece.now }
+    ensures before { (n : ℕ) → n < used_by result.stop result.end → complete_runs (pending.now ++ take n piece.now) ≡ [] }
+    ensures scans { FillsBy result.stop pending.now piece.now (used_by result.stop result.end) result.at_start (pending.now ++ taken piece.now result.start result.end) room }
+{
+    let mut start = 0;
+    let mut end = 0;
+    let mut at_start = begins;
+    let mut stop = Stop::Used;
+    while end < piece.len() {
+        let len = pending.len() + (end - start);
+        let empty_line = at_start & (piece[end] == b'\n');
+        if empty_line {
+            if len != 0 {
+                stop = Stop::Whole;
+                break;
+            }
+            end += 1;
+            start = end;
+        } else {
+            let line = line_length(&piece[end..]);
+            let free = room - len;
+            if free < line {
+                end += free;
+                stop = Stop::Full;
+                break;
+            }
+            end += line;
+            at_start = piece[end - 1] == b'\n';
+        }
+    }
+    Scanned {
+        start,
+        end,
+        at_start,
+        stop,
+    }
+}
+
 /// Puts the bytes of a piece after the first `held` of the room, up to the end of a run.
 pub(crate) fn fill(room: &mut [u8], held: usize, begins: bool, piece: &[u8]) -> Filled
     requires within { held ≤ length room.old }
@@ -41,44 +110,15 @@ pub(crate) fn fill(room: &mut [u8], held: usize, begins: bool, piece: &[u8]) -> 
     ensures before { (n : ℕ) → n < result.used → complete_runs (take held room.old ++ take n piece.now) ≡ [] }
     ensures fills { Fills (take held room.old) piece.now result room.new }
 {
-    let mut used = 0;
-    let mut len = held;
-    let mut at_start = begins;
-    while used < piece.len() {
-        let empty_line = at_start & (piece[used] == b'\n');
-        if empty_line {
-            used += 1;
-            if len != 0 {
-                return Filled {
-                    used,
-                    len,
-                    at_start,
-                    stop: Stop::Whole,
-                };
-            }
-        } else {
-            let line = line_length(&piece[used..]);
-            let free = room.len() - len;
-            if free < line {
-                put_at(room, len, &piece[used..used + free]);
-                return Filled {
-                    used: used + free,
-                    len: room.len(),
-                    at_start: false,
-                    stop: Stop::Full,
-                };
-            }
-            put_at(room, len, &piece[used..used + line]);
-            len += line;
-            used += line;
-            at_start = piece[used - 1] == b'\n';
-        }
-    }
+    let size = room.len();
+    let scanned = scan(&room[..held], size, begins, piece);
+    let more = &piece[scanned.start..scanned.end];
+    put_at(room, held, more);
     Filled {
-        used,
-        len,
-        at_start,
-        stop: Stop::Used,
+        used: used_by(scanned.stop, scanned.end),
+        len: held + more.len(),
+        at_start: scanned.at_start,
+        stop: scanned.stop,
     }
 }
 

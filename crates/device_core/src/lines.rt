@@ -1,5 +1,5 @@
 //! One line by itself: its letter, and what follows it.
-ghost use Rattle.std.specs.Prelude.{◌≡◌, ◌∷◌, [], ◌<◌, length, option_map, nat_eq};
+ghost use Rattle.std.specs.Prelude.{◌≡◌, ◌∷◌, [], ◌<◌, false, length, option_map, nat_eq};
 ghost use Rattle.std.specs.List.{starts_with};
 ghost use Rattle.device_core.specs.Lines.{form, kind_of, row_of};
 ghost use Rattle.device_core.specs.Faults.{has_nul};
@@ -92,18 +92,23 @@ fn row_of(line: &[u8]) -> Option<(LineKind, &[u8])>
 
 /// Whether a line has a NUL byte.
 #[tactic(auto, unfolding(crate::specs::Faults::has_nul))]
-fn has_nul(line: &[u8]) -> bool
+pub(crate) fn has_nul(line: &[u8]) -> bool
     ensures { result ≡ has_nul line.now }
 {
     find(b'\0', line).is_some()
 }
 
-/// A line by its kind, and its rest, unless it has a NUL byte or is of no kind.
+/// A line by its kind, and its rest, unless it has a NUL byte or is of no kind. `may_have_nul` is false if it is known
+/// that the line has none.
 #[tactic(auto, unfolding(crate::specs::Steps::plain_row))]
-pub(crate) fn plain_row(line: &[u8]) -> Result<(LineKind, &[u8]), BlockFaultKind>
+pub(crate) fn plain_row(
+    line: &[u8],
+    may_have_nul: bool,
+) -> Result<(LineKind, &[u8]), BlockFaultKind>
+    requires { may_have_nul ≡ false → has_nul line.now ≡ false }
     ensures { Gives (λ r. (r.0, r.1.now)) result (plain_row line.now) }
 {
-    if has_nul(line) {
+    if may_have_nul && has_nul(line) {
         return Err(BlockFaultKind::Nul);
     }
     match row_of(line) {

@@ -1,18 +1,18 @@
 //! A whole block: its lines one after another, and the event at the end.
-ghost use Rattle.std.specs.Prelude.{◌≡◌, ◌≢◌, ◌∷◌, ◌++◌, ◌+◌, ◌<◌, ◌≤◌, length, Ok, Err, IfOk, IfErr, nat_eq};
+ghost use Rattle.std.specs.Prelude.{◌≡◌, ◌≢◌, ◌∷◌, ◌++◌, ◌+◌, ◌<◌, ◌≤◌, false, length, Ok, Err, IfOk, IfErr, nat_eq};
 ghost use Rattle.std.specs.Option.{option_to_list};
 ghost use Rattle.text_bytes.specs.Lines.{lines};
 ghost use Rattle.device_core.specs.Values.{most_devices};
 ghost use Rattle.device_core.specs.Lines.{begins_answer};
 ghost use Rattle.device_core.specs.RunBlocks.{line_of_excess, most_bytes};
-ghost use Rattle.device_core.specs.Faults.{block_gives};
-ghost use Rattle.device_core.specs.Steps.{Gives, GivesAt, sofar, nothing_read, first_step, line_step, steps, some_devices, finished_event, read_lines};
+ghost use Rattle.device_core.specs.Faults.{block_gives, has_nul};
+ghost use Rattle.device_core.specs.Steps.{Gives, GivesAt, HaveNoNul, sofar, nothing_read, first_step, line_step, steps, some_devices, finished_event, read_lines};
 
 use crate::devices::Device;
 use crate::draft::{Draft, add_row, close_last, new_draft};
 use crate::events::Event;
 use crate::faults::{BlockFault, BlockFaultKind};
-use crate::lines::{LineKind, plain_row};
+use crate::lines::{LineKind, has_nul, plain_row};
 use std::alloc::Global;
 use text_bytes::{Profile, first_line};
 
@@ -29,10 +29,11 @@ fn begins_answer(below: &[u8]) -> bool
 
 /// The action of the first line.
 #[tactic(auto, unfolding(crate::specs::Steps::first_step))]
-fn action_in(line: &[u8]) -> Result<&[u8], BlockFaultKind>
+fn action_in(line: &[u8], may_have_nul: bool) -> Result<&[u8], BlockFaultKind>
+    requires { may_have_nul ≡ false → has_nul line.now ≡ false }
     ensures { Gives (λ t. t.now) result (first_step line.now) }
 {
-    let (kind, rest) = plain_row(line)?;
+    let (kind, rest) = plain_row(line, may_have_nul)?;
     match kind {
         LineKind::Action => {
             if rest.is_empty() {
@@ -52,16 +53,23 @@ fn add_line<'a>(
     draft: &mut Draft<'a>,
     line: &'a [u8],
     below: &[u8],
+    may_have_nul: bool,
 ) -> Result<(), BlockFaultKind>
+    requires { may_have_nul ≡ false → has_nul line.now ≡ false }
     ensures { Gives (λ _. sofar draft.new) result (line_step (sofar draft.old) line.now (begins_answer (lines below.now))) }
 {
-    let (kind, rest) = plain_row(line)?;
+    let (kind, rest) = plain_row(line, may_have_nul)?;
     add_row(alloc, draft, kind, rest, begins_answer(below))
 }
 
 /// The lines after the first, and how many lines there are in all.
-fn read_rest<'a>(alloc: Global, text: &'a [u8]) -> Result<(Draft<'a>, usize), BlockFault>
-    requires { length text.now ≤ most_bytes }
+fn read_rest<'a>(
+    alloc: Global,
+    text: &'a [u8],
+    may_have_nul: bool,
+) -> Result<(Draft<'a>, usize), BlockFault>
+    requires short { length text.now ≤ most_bytes }
+    requires plain { may_have_nul ≡ false → HaveNoNul (lines text.now) }
     ensures value { GivesAt (λ p. (sofar p.0, p.1)) result (steps nothing_read 1 (lines text.now)) }
     ensures few { IfOk result (λ p. length p.0.closed.items < most_devices) }
 {
@@ -70,7 +78,7 @@ fn read_rest<'a>(alloc: Global, text: &'a [u8]) -> Result<(Draft<'a>, usize), Bl
     let mut above = 1usize;
     while !rest.is_empty() {
         let (line, below) = first_line(rest);
-        match add_line(alloc, &mut draft, line, below) {
+        match add_line(alloc, &mut draft, line, below, may_have_nul) {
             Ok(()) => {}
             Err(kind) => {
                 drop(draft);
@@ -156,12 +164,13 @@ fn read_lines<'a>(alloc: Global, block: &'a [u8]) -> Result<Event<'a>, BlockFaul
             kind: BlockFaultKind::NoAction,
         });
     }
+    let may_have_nul = has_nul(block);
     let (first, rest) = first_line(block);
-    let action = match action_in(first) {
+    let action = match action_in(first, may_have_nul) {
         Ok(action) => action,
         Err(kind) => return Err(BlockFault { line: 1, kind }),
     };
-    let (draft, count) = read_rest(alloc, rest)?;
+    let (draft, count) = read_rest(alloc, rest, may_have_nul)?;
     finish(action, draft, count)
 }
 

@@ -1,42 +1,14 @@
 //! One line of each kind.
-ghost use Rattle.std.specs.Prelude.{◌≡◌, ◌++◌, codes, not, OnOk, option_map};
-ghost use Rattle.std.specs.List.{list_all};
-ghost use Rattle.text_bytes.specs.Escapes.{escape_text, is_escaped};
+ghost use Rattle.std.specs.Prelude.{◌≡◌, ◌++◌, codes, OnOk, option_map};
+ghost use Rattle.engine_answers.specs.Inner.{pair_words};
 ghost use Rattle.engine_answers.specs.Lines.{event_line, given_line, is_hidden, note_line, pair_line, persist_line, priority_line, run_line, shown_line, text_line, watch_line};
 
-use engine_ends::{push_place, push_word};
+use engine_ends::{is_plain, push_escaped, push_place, push_word};
 use eval_state::Note;
 use itoa::Buffer;
 use rule_types::RunType;
 use std::alloc::{AllocError, Global};
-use text_bytes::{Bytes, escape, escaped_byte};
-
-/// Whether a byte stands for itself.
-fn is_plain_byte(byte: u8) -> bool
-    ensures { result ≡ not (is_escaped byte) }
-{
-    escaped_byte(byte).is_none()
-}
-
-/// Whether all bytes of a text stand for themselves.
-fn is_plain(text: &[u8]) -> bool
-    ensures { result ≡ list_all (λ b. not (is_escaped b)) text.now }
-{
-    text.iter()
-        .fold(true, |plain, byte| plain & is_plain_byte(*byte))
-}
-
-/// Puts a text after others, escaped. Mostly nothing has to be, and then it is copied as it is.
-#[tactic(auto, using(crate::proofs::Plain::plain_is_same))]
-fn push_escaped(alloc: Global, lines: &mut Vec<u8>, text: &[u8]) -> Result<(), AllocError>
-    ensures { OnOk result (lines.new.items ≡ lines.old.items ++ escape_text text.now) }
-{
-    if is_plain(text) {
-        lines.extend_from_slice(text)
-    } else {
-        lines.extend_from_slice(&escape(alloc, text)?)
-    }
-}
+use text_bytes::Bytes;
 
 /// Adds a line with a text.
 #[tactic(auto, unfolding(crate::specs::Lines::text_line))]
@@ -70,9 +42,20 @@ pub(crate) fn push_given(
     }
 }
 
-/// Adds a line with a name and its value.
+/// Adds a word, a name and its value, as they are.
+fn push_words(lines: &mut Vec<u8>, word: &[u8], name: &[u8], value: &[u8]) -> Result<(), AllocError>
+    ensures { OnOk result (lines.new.items ≡ lines.old.items ++ pair_words word.now name.now value.now) }
+{
+    lines.extend_from_slice(word)?;
+    lines.push(b' ')?;
+    lines.extend_from_slice(name)?;
+    lines.push(b'=')?;
+    lines.extend_from_slice(value)
+}
+
+/// Adds a line with a name and its value, which are escaped one after another.
 #[tactic(auto, unfolding(crate::specs::Lines::pair_line))]
-pub fn push_pair(
+fn push_escaped_pair(
     alloc: Global,
     lines: &mut Vec<u8>,
     word: &[u8],
@@ -88,6 +71,26 @@ pub fn push_pair(
     push_escaped(alloc, lines, value)?;
     lines.push(b'\n')?;
     Ok(())
+}
+
+/// Adds a line with a name and its value. Mostly nothing has to be escaped, and then the line is as it was put together.
+pub fn push_pair(
+    alloc: Global,
+    lines: &mut Vec<u8>,
+    word: &[u8],
+    name: &[u8],
+    value: &[u8],
+) -> Result<(), AllocError>
+    ensures { OnOk result (lines.new.items ≡ lines.old.items ++ pair_line word.now (name.now, value.now)) }
+{
+    let before = lines.len();
+    push_words(lines, word, name, value)?;
+    if is_plain(&lines[before..]) {
+        lines.push(b'\n')?;
+        return Ok(());
+    }
+    lines.truncate(before);
+    push_escaped_pair(alloc, lines, word, name, value)
 }
 
 /// Adds the line of a property, unless its name begins with a dot.

@@ -59,8 +59,9 @@ pub(crate) fn push_env(
 ) -> Result<(), AllocError>
     ensures { OnOk result (lines.new.items ≡ lines.old.items ++ env_lines pairs.now) }
 {
-    for (name, value) in pairs.as_slice() {
-        push_shown(alloc, lines, name.as_slice(), value.as_slice())?;
+    for place in 0..pairs.len() {
+        let (name, value) = pairs.pair_at(place);
+        push_shown(alloc, lines, name, value)?;
     }
     Ok(())
 }

@@ -74,8 +74,9 @@ pub(crate) fn push_env(
 ) -> Result<(), AllocError>
     ensures { OnOk result (lines.new.items ≡ lines.old.items ++ env_value_lines source_part (source_in sources.now None) pairs.now) }
 {
-    for (name, value) in pairs.as_slice() {
-        push_shown(alloc, lines, sources, name.as_slice(), value.as_slice())?;
+    for place in 0..pairs.len() {
+        let (name, value) = pairs.pair_at(place);
+        push_shown(alloc, lines, sources, name, value)?;
     }
     Ok(())
 }

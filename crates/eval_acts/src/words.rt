@@ -54,15 +54,15 @@ fn separates(profile: Profile, byte: u8) -> bool
 }
 
 impl Cutter {
-    /// A command of which nothing was read.
-    fn new(alloc: Global) -> Cutter
-        ensures { result ≡ unread_command }
+    /// A command of which nothing was read, with room for a word of so many bytes.
+    fn new(alloc: Global, room: usize) -> Result<Cutter, AllocError>
+        ensures { IfOk result (λ cutter. cutter ≡ unread_command) }
     {
-        Cutter {
+        Ok(Cutter {
             place: Place::Between,
-            word: Vec::new(alloc),
+            word: Vec::with_capacity(alloc, room)?,
             words: Vec::new(alloc),
-        }
+        })
     }
 
     /// Adds a byte to the word.
@@ -157,7 +157,7 @@ impl Cutter {
 pub(crate) fn command_words(alloc: Global, text: &[u8]) -> Result<Option<Vec<Bytes>>, AllocError>
     ensures { IfOk result (λ found. option_map (λ words. words.items) found ≡ command_words text.now) }
 {
-    let mut cutter = Cutter::new(alloc);
+    let mut cutter = Cutter::new(alloc, text.len())?;
     for byte in text {
         cutter.take(alloc, Profile::Manual, *byte)?;
     }
@@ -170,7 +170,7 @@ pub(crate) fn command_words(alloc: Global, text: &[u8]) -> Result<Option<Vec<Byt
 pub(crate) fn udev_words(alloc: Global, text: &[u8]) -> Result<Vec<Bytes>, AllocError>
     ensures { IfOk result (λ words. words.items ≡ udev_words text.now) }
 {
-    let mut cutter = Cutter::new(alloc);
+    let mut cutter = Cutter::new(alloc, text.len())?;
     for byte in text {
         cutter.take(alloc, Profile::Udev, *byte)?;
     }

@@ -35,4 +35,4 @@ pub use program::{Program, compile};
 pub use rule_core::RuleSet;
 pub use rule_types::{Rule, RunType};
 pub use sketches::{exact_sketch, sketch};
-pub use text_tables::{CowPair, CowPairs, OwnedTexts, SortedPairs};
+pub use text_tables::{CowPairs, OwnedTexts, SortedPairs};

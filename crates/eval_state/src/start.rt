@@ -12,16 +12,15 @@ use text_bytes::Bytes;
 use text_tables::{CowPairs, OwnedTexts};
 
 /// Sets a property if it has a value.
-fn set_given(
-    alloc: Global,
-    env: &mut CowPairs<'_>,
-    name: &[u8],
-    value: Option<&[u8]>,
+fn set_given<'a>(
+    env: &mut CowPairs<'a>,
+    name: &'a [u8],
+    value: Option<&'a [u8]>,
 ) -> Result<(), AllocError>
     ensures { OnOk result (env.new ≡ with_values env.old (pair_if name.now (option_map (λ v. v.now) value.entry))) }
 {
     match value {
-        Some(value) => env.set(alloc, name, value),
+        Some(value) => env.lend(name, value),
         None => Ok(()),
     }
 }
@@ -46,26 +45,20 @@ fn set_node(alloc: Global, env: &mut CowPairs<'_>, node: Option<&[u8]>) -> Resul
 }
 
 /// Sets what the event itself says about its device.
-fn set_reported(alloc: Global, env: &mut CowPairs<'_>, event: &Event<'_>) -> Result<(), AllocError>
+fn set_reported<'a>(
+    alloc: Global,
+    env: &mut CowPairs<'a>,
+    event: &'a Event<'_>,
+) -> Result<(), AllocError>
     ensures { OnOk result (env.new ≡ with_values env.old (reported_by event.now)) }
 {
     let device = event.device();
-    env.set(alloc, b"ACTION", event.action())?;
-    env.set(alloc, b"DEVPATH", device.path())?;
-    set_given(alloc, env, b"SUBSYSTEM", device.subsystem())?;
+    env.lend(b"ACTION", event.action())?;
+    env.lend(b"DEVPATH", device.path())?;
+    set_given(env, b"SUBSYSTEM", device.subsystem())?;
     set_node(alloc, env, device.node())?;
-    set_given(
-        alloc,
-        env,
-        b"MAJOR",
-        device.number().map(|number| number.major()),
-    )?;
-    set_given(
-        alloc,
-        env,
-        b"MINOR",
-        device.number().map(|number| number.minor()),
-    )
+    set_given(env, b"MAJOR", device.number().map(|number| number.major()))?;
+    set_given(env, b"MINOR", device.number().map(|number| number.minor()))
 }
 
 /// Sets the properties that an event begins with.

@@ -1,4 +1,6 @@
 pub mod ByName
 pub mod Found
+pub mod Heads
 pub mod Held
 pub mod Partway
+pub mod Places

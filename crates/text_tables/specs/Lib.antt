@@ -1,3 +1,4 @@
+pub mod Heads
 pub mod Pairs
 pub mod Sorted
 pub mod Texts

@@ -3,6 +3,7 @@
 //! Most properties of a device stay as they are, so that a copy of each would cost more than all that rules do with it.
 ghost use Rattle.std.specs.Prelude.{◌≡◌, [], length, option_map, map, OnOk, OnErr};
 ghost use Rattle.std.specs.Cow.{cow_slice_items};
+ghost use Rattle.text_tables.specs.Heads.{pair_at};
 ghost use Rattle.text_tables.specs.Texts.{AreOnce};
 ghost use Rattle.text_tables.specs.Pairs.{names, value_of, with_value, with_values, without_name, SetsFirst};
 
@@ -75,6 +76,16 @@ impl<'a> CowPairs<'a> {
         self.held.get(name).map(CowSlice::as_slice)
     }
 
+    /// The name at a place with its value, both empty if there are fewer names.
+    pub(crate) fn pair_at(&self, place: usize) -> (&[u8], &[u8])
+        ensures { (result.0.now, result.1.now) ≡ pair_at self.now place }
+    {
+        match self.held.get_index(place) {
+            Some((name, value)) => (name.as_slice(), value.as_slice()),
+            None => (b"", b""),
+        }
+    }
+
     /// Gives a name a copy of a value: a name that is there takes it in its place, another one is
     /// added at the end. If memory runs out, the names and values stay as they are.
     pub fn set(&mut self, alloc: Global, name: &[u8], value: &[u8]) -> Result<(), AllocError>
@@ -97,7 +108,7 @@ impl<'a> CowPairs<'a> {
     }
 
     /// Gives a name a value as `set` does, both borrowed.
-    fn lend(&mut self, name: &'a [u8], value: &'a [u8]) -> Result<(), AllocError>
+    pub fn lend(&mut self, name: &'a [u8], value: &'a [u8]) -> Result<(), AllocError>
         ensures pairs { OnOk result (self.new ≡ with_value self.old name.now value.now) }
         ensures refused { OnErr result (self.new ≡ self.old) }
     {

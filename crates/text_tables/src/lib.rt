@@ -9,6 +9,7 @@
 #![tactic(auto)]
 
 mod cow_pairs;
+mod headed_names;
 mod laws;
 mod owned_texts;
 mod pairs;
@@ -24,6 +25,6 @@ pub use laws::{
 };
 pub use owned_texts::OwnedTexts;
 pub use pairs::Pairs;
-pub use sorted_pairs::{CowPair, SortedPairs};
+pub use sorted_pairs::SortedPairs;
 pub use table::Table;
 pub use texts::Texts;

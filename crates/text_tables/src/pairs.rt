@@ -7,6 +7,9 @@ use indexmap::IndexMap;
 use std::alloc::{AllocError, Global};
 use std::marker::Model;
 
+/// For how many names there is room once there is one, so that a table does not grow step by step.
+const USUAL_LEN: usize = 28;
+
 /// Borrowed names with their values, in the order in which the names came, each name once.
 #[derive(Drop)]
 pub struct Pairs<'a> {
@@ -68,6 +71,17 @@ impl<'a> Pairs<'a> {
         self.held.get(name).copied()
     }
 
+    /// Makes room for as many names as a device mostly has, if there is none yet.
+    fn make_room(&mut self) -> Result<(), AllocError>
+        ensures { self.new ≡ self.old }
+    {
+        if self.held.is_empty() {
+            self.held.reserve(USUAL_LEN)
+        } else {
+            Ok(())
+        }
+    }
+
     /// Adds a name with its value, and returns whether the name is new; a name that is there takes
     /// the value in its place. If memory runs out, the names and values stay as they are.
     pub fn add(&mut self, name: &'a [u8], value: &'a [u8]) -> Result<bool, AllocError>
@@ -75,6 +89,7 @@ impl<'a> Pairs<'a> {
         ensures pairs { OnOk result (self.new ≡ with_value self.old name.now value.now) }
         ensures refused { OnErr result (self.new ≡ self.old) }
     {
+        self.make_room()?;
         let before = self.held.insert(name, value)?;
         Ok(before.is_none())
     }

@@ -1,4 +1,4 @@
-use Rattle.std.proofs.Common.{arith, ◌≡◌, ◌+◌, ◌∙◌, ap, length, take}
+use Rattle.std.proofs.Common.{arith, ◌≡◌, ◌+◌, ◌∙◌, length, take}
 use Rattle.std.proofs.lemmas.Grind.{common_steps}
 use Rattle.device_core.specs.RunBlocks.{newline_count, most_bytes}
 use Rattle.device_core.proofs.Excess.{begins_too_long}
@@ -8,7 +8,7 @@ pub returns-in-Full-clause-err : goal.returns-in-Full-clause-err
 returns-in-Full-clause-err c =
     let f = rw c.in-Full.is at c.fill-filled.ensures.fills in
     let pending : c.args.self.now.pending ≡ take c.self.inside.len c.deref_mut.result.now = grind (arith, common_steps) in
-    let size : length (take c.fill-filled.result.len c.fill-filled.new.room) ≡ most_bytes = ap length f.full ∙ grind (arith, common_steps) in
+    let size : length (take c.fill-filled.result.len c.fill-filled.new.room) ≡ most_bytes = f.full ∙ grind (arith, common_steps) in
     let counted : c.line_after-line.result ≡ newline_count (take c.fill-filled.result.len c.fill-filled.new.room) + 1 = grind (arith, common_steps) in (
       λ later. rw pending (begins_too_long (take c.self.inside.len c.deref_mut.result.now) c.args.piece.now later (take c.fill-filled.result.len c.fill-filled.new.room) c.fill-filled.result.used f.byte c.line_after-line.result f.none f.rest size counted),
       grind (arith, common_steps),

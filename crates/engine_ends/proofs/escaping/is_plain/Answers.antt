@@ -1,7 +1,7 @@
 use Rattle.std.proofs.Common.{◌≡◌, subst, refl, rules}
 use Rattle.std.proofs.lemmas.Fn.{fold_over, slice_gives, fronts}
-use Rattle.engine_answers.proofs.Plain.{are_plain, one_more}
-use Rattle.engine_answers.proofs.lines.is_plain.Goals as goal
+use Rattle.engine_ends.proofs.Plain.{are_plain, one_more}
+use Rattle.engine_ends.proofs.escaping.is_plain.Goals as goal
 
 pub returns : goal.returns
 returns c = subst (λ l. c.fold.result ≡ are_plain l) c.iter.ensures.rest

@@ -43,6 +43,7 @@ pub(crate) fn push_given(
 }
 
 /// Adds a word, a name and its value, as they are.
+#[inline(always)]
 fn push_words(lines: &mut Vec<u8>, word: &[u8], name: &[u8], value: &[u8]) -> Result<(), AllocError>
     ensures { OnOk result (lines.new.items ≡ lines.old.items ++ pair_words word.now name.now value.now) }
 {
@@ -74,6 +75,7 @@ fn push_escaped_pair(
 }
 
 /// Adds a line with a name and its value. Mostly nothing has to be escaped, and then the line is as it was put together.
+#[inline(always)]
 pub fn push_pair(
     alloc: Global,
     lines: &mut Vec<u8>,

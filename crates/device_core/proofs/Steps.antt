@@ -1,5 +1,5 @@
 -- A room, filled a line at a time.
-use Rattle.std.proofs.Common.{◌≡◌, ◌≢◌, ℕ, ◌+◌, ◌-◌, ◌<◌, ◌≤◌, ◌==◌, ◌&&◌, Bool, true, false, List, [], ◌∷◌, ◌++◌, length, take, drop, get_or, refl, append_assoc, ap, sym, ◌∙◌, arith, add-zero, drop-drop}
+use Rattle.std.proofs.Common.{◌≡◌, ◌≢◌, ℕ, ◌+◌, ◌-◌, ◌<◌, ◌≤◌, ◌==◌, ◌&&◌, Bool, true, false, List, [], ◌∷◌, ◌++◌, length, take, drop, get_or, append_assoc, ap, sym, ◌∙◌, arith, add-zero, drop-drop}
 use Rattle.std.proofs.lemmas.List.{append-nil, get_or-drop, take_more}
 use Rattle.std.proofs.Math.Seq.{take-add}
 use Rattle.std.proofs.lemmas.Grind.{common_steps}
@@ -103,7 +103,3 @@ nothing_held (b ∷ before) piece start end h = absurd (omega (arith, h))
 -- what a text holds of a run that is not complete
 pub held_is_pending : (text held : List ℕ) (begins : Bool) → rest_of text ≡ held → begins ≡ begins_after true held → IsPending held begins
 held_is_pending text held begins e b = let p = rest_of-alone text in record { none = rw e at p.0; rest = rw e at p.1; begins = b }
-
--- nothing is pending
-pub none_is_pending : IsPending [] true
-none_is_pending = record { none = refl; rest = refl; begins = refl }

@@ -3,7 +3,6 @@
 //! The names and values stay where they are: their places are sorted, and of a name mostly its first bytes are looked
 //! at.
 ghost use Rattle.std.specs.Prelude.{◌≡◌, ◌<◌, [], length, get_or, map, IfOk};
-ghost use Rattle.std.specs.Cow.{cow_slice_items};
 ghost use Rattle.text_bytes.specs.Insertion.{text_order};
 ghost use Rattle.text_tables.specs.Heads.{named_places, pair_at};
 ghost use Rattle.text_tables.specs.Pairs.{names};
@@ -12,9 +11,7 @@ ghost use Rattle.text_tables.specs.Texts.{AreOnce};
 
 use crate::cow_pairs::CowPairs;
 use crate::headed_names::HeadedName;
-use indexmap::IndexMap;
 use std::alloc::{AllocError, Global};
-use std::borrow::CowSlice;
 use std::cmp::Ordering;
 use std::marker::Model;
 

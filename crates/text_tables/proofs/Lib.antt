@@ -1,4 +1,5 @@
 pub mod ByName
+pub mod Flags
 pub mod Found
 pub mod Heads
 pub mod Held

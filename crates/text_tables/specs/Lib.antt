@@ -1,4 +1,5 @@
 pub mod Heads
+pub mod NameFlags
 pub mod Pairs
 pub mod Sorted
 pub mod Texts

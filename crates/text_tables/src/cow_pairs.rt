@@ -4,9 +4,11 @@
 ghost use Rattle.std.specs.Prelude.{◌≡◌, [], length, option_map, map, OnOk, OnErr};
 ghost use Rattle.std.specs.Cow.{cow_slice_items};
 ghost use Rattle.text_tables.specs.Heads.{pair_at};
+ghost use Rattle.text_tables.specs.NameFlags.{none_set, with_names};
 ghost use Rattle.text_tables.specs.Texts.{AreOnce};
 ghost use Rattle.text_tables.specs.Pairs.{names, value_of, with_value, with_values, without_name, SetsFirst};
 
+use crate::name_flags::NameFlags;
 use crate::pairs::Pairs;
 use indexmap::IndexMap;
 use std::alloc::{AllocError, Global};
@@ -18,15 +20,31 @@ use text_bytes::Bytes;
 #[derive(Drop)]
 pub struct CowPairs<'a> {
     held: IndexMap<CowSlice<'a, u8>, CowSlice<'a, u8>>,
+    /// The flag of each name that is held is set.
+    flags: NameFlags,
 }
 
 impl<'a> Model for CowPairs<'a> {
     ghost use Rattle.std.specs.Prelude.{List, ℕ, map};
     ghost use Rattle.std.specs.Cow.{cow_slice_items};
+    ghost use Rattle.text_tables.specs.NameFlags.{IsFlagged};
 
     ghost Value = { List (List ℕ × List ℕ) };
 
     ghost view = { λ p. map (λ e. (cow_slice_items e.0, cow_slice_items e.1)) p.held.entries };
+
+    ghost invariant = { λ p. IsFlagged p.flags (map (λ e. (cow_slice_items e.0, cow_slice_items e.1)) p.held.entries) };
+}
+
+/// Flags of which those of the names of a map are set.
+fn flags_of(held: &IndexMap<CowSlice<'_, u8>, CowSlice<'_, u8>>) -> NameFlags
+    ensures { result ≡ with_names none_set (names (map (λ e. (cow_slice_items e.0, cow_slice_items e.1)) held.now.entries)) }
+{
+    let mut flags = NameFlags::none();
+    for name in held.keys() {
+        flags.mark(name.as_slice());
+    }
+    flags
 }
 
 impl<'a> CowPairs<'a> {
@@ -36,6 +54,7 @@ impl<'a> CowPairs<'a> {
     {
         CowPairs {
             held: IndexMap::new(alloc),
+            flags: NameFlags::none(),
         }
     }
 
@@ -43,14 +62,15 @@ impl<'a> CowPairs<'a> {
     pub fn from_map(held: IndexMap<CowSlice<'a, u8>, CowSlice<'a, u8>>) -> CowPairs<'a>
         ensures { result ≡ map (λ e. (cow_slice_items e.0, cow_slice_items e.1)) held.entry.entries }
     {
-        CowPairs { held }
+        let flags = flags_of(&held);
+        CowPairs { held, flags }
     }
 
     /// Returns the map.
     pub fn into_map(self) -> IndexMap<CowSlice<'a, u8>, CowSlice<'a, u8>>
         ensures { map (λ e. (cow_slice_items e.0, cow_slice_items e.1)) result.entries ≡ self.entry }
     {
-        let CowPairs { held } = self;
+        let CowPairs { held, .. } = self;
         held
     }
 
@@ -73,6 +93,9 @@ impl<'a> CowPairs<'a> {
     pub fn get(&self, name: &[u8]) -> Option<&[u8]>
         ensures { option_map (λ v. v.now) result ≡ value_of self.now name.now }
     {
+        if self.flags.lacks(name) {
+            return None;
+        }
         self.held.get(name).map(CowSlice::as_slice)
     }
 
@@ -102,6 +125,7 @@ impl<'a> CowPairs<'a> {
         ensures refused { OnErr result (self.new ≡ self.old) }
     {
         let name = Vec::from_slice(alloc, name)?;
+        self.flags.mark(name.as_slice());
         self.held
             .insert(CowSlice::Owned(name), CowSlice::Owned(value.into_vec()))?;
         Ok(())
@@ -112,6 +136,7 @@ impl<'a> CowPairs<'a> {
         ensures pairs { OnOk result (self.new ≡ with_value self.old name.now value.now) }
         ensures refused { OnErr result (self.new ≡ self.old) }
     {
+        self.flags.mark(name);
         self.held
             .insert(CowSlice::Borrowed(name), CowSlice::Borrowed(value))?;
         Ok(())
@@ -149,5 +174,6 @@ impl<'a> CowPairs<'a> {
         ensures { self.new ≡ [] }
     {
         self.held.clear();
+        self.flags = NameFlags::none();
     }
 }

@@ -11,6 +11,7 @@
 mod cow_pairs;
 mod headed_names;
 mod laws;
+mod name_flags;
 mod owned_texts;
 mod pairs;
 mod sorted_pairs;

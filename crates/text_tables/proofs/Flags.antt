@@ -13,12 +13,12 @@ use Rattle.text_tables.specs.Pairs.{Pair, names, value_of, with_value, without_n
 use Rattle.text_tables.specs.NameFlags.{IsFlagged, is_lacking, is_unset, none_set, number_of, with_flag, with_name, with_names}
 use Rattle.text_tables.proofs.Found.{value_removed, value_set}
 
-number_below : (name : Text) → number_of name < 256
+number_below : (name : Text) → number_of name < 128
 unfolding number_of
-number_below name = mod_below (length name % 256 * 53 + get_or name (length name - 1) 0 + get_or name (length name / 2) 0 * 13) 256 (omega arith)
+number_below name = mod_below (length name % 128 * 43 + get_or name (length name - 1) 0 + get_or name (length name / 2) 0 * 91 + get_or name (length name / 4) 0 * 77) 128 (omega arith)
 
 -- the flag that was set is set
-set_is_set : (words : List ℕ) (number : ℕ) → length words ≡ 4 → number < 256 → is_unset (with_flag words number) number ≡ false
+set_is_set : (words : List ℕ) (number : ℕ) → length words ≡ 2 → number < 128 → is_unset (with_flag words number) number ≡ false
 unfolding with_flag is_unset
 set_is_set words number whole within =
     let word : number / 64 < length words = omega (arith, whole, within) in
@@ -27,7 +27,7 @@ set_is_set words number whole within =
     ∙ ap (λ b. nat_eq b 0) (bit_at_set_same w64 (get_or words (number / 64) 0) (number % 64) bit)
 
 -- a flag that is not set now was not set before
-unset_before : (words : List ℕ) (number other : ℕ) → length words ≡ 4 → number < 256 → is_unset (with_flag words number) other ≡ true → is_unset words other ≡ true
+unset_before : (words : List ℕ) (number other : ℕ) → length words ≡ 2 → number < 128 → is_unset (with_flag words number) other ≡ true → is_unset words other ≡ true
 unfolding with_flag is_unset
 unset_before words number other whole within h = ⊎_elim here there (cases_eq (other / 64) (number / 64))
   where
@@ -56,11 +56,11 @@ unset_before words number other whole within h = ⊎_elim here there (cases_eq (
             ap (λ n. nat_eq (bit_at (get_or words n 0) (other % 64)) 0) same
             ∙ ap (λ b. nat_eq b 0) (sym (bit_at_set_other w64 (get_or words (number / 64) 0) (number % 64) (omega arith) (other % 64) apart)) ∙ now
 
-whole_with : (words : List ℕ) (number : ℕ) → length words ≡ 4 → length (with_flag words number) ≡ 4
+whole_with : (words : List ℕ) (number : ℕ) → length words ≡ 2 → length (with_flag words number) ≡ 2
 unfolding with_flag
 whole_with words number whole = length-set words (number / 64) _ ∙ whole
 
-lacking_before : (words : List ℕ) (name other : Text) → length words ≡ 4 → is_lacking (with_name words name) other ≡ true → is_lacking words other ≡ true
+lacking_before : (words : List ℕ) (name other : Text) → length words ≡ 2 → is_lacking (with_name words name) other ≡ true → is_lacking words other ≡ true
 lacking_before words name other whole h = unset_before words (number_of name) (number_of other) whole (number_below name) h
 
 -- ---- what a table holds
@@ -101,13 +101,13 @@ removed_flagged words pairs name f = record {
     by true h = refl
     by false h = h
 
-lacking_start : (held : List Text) (words : List ℕ) (other : Text) → length words ≡ 4 → is_lacking (with_names words held) other ≡ true → is_lacking words other ≡ true
+lacking_start : (held : List Text) (words : List ℕ) (other : Text) → length words ≡ 2 → is_lacking (with_names words held) other ≡ true → is_lacking words other ≡ true
 lacking_start [] words other whole h = h
 lacking_start (name ∷ held) words other whole h =
     lacking_before words name other whole (lacking_start held (with_name words name) other (whole_with words (number_of name) whole) h)
 
 -- all names that are held are marked
-all_flagged_over : (words : List ℕ) (pairs : List Pair) → length words ≡ 4 → IsFlagged (with_names words (names pairs)) pairs
+all_flagged_over : (words : List ℕ) (pairs : List Pair) → length words ≡ 2 → IsFlagged (with_names words (names pairs)) pairs
 all_flagged_over words [] whole = record { whole = whole; flagged = λ name h. refl }
 all_flagged_over words (p ∷ ps) whole = by (all_flagged_over (with_name words p.0) ps (whole_with words (number_of p.0) whole))
   where

@@ -5,13 +5,13 @@ use Rattle.std.specs.Int.RustNames.{bit_or}
 use Rattle.text_tables.specs.Texts.{Text}
 use Rattle.text_tables.specs.Pairs.{Pair, value_of}
 
--- the number of a name, of its length, its last byte and the one in its middle
+-- the number of a name, of its length, its last byte, the one in its middle and the one after a fourth
 unfoldable pub number_of : Text → ℕ
-number_of name = (length name % 256 * 53 + get_or name (length name - 1) 0 + get_or name (length name / 2) 0 * 13) % 256
+number_of name = (length name % 128 * 43 + get_or name (length name - 1) 0 + get_or name (length name / 2) 0 * 91 + get_or name (length name / 4) 0 * 77) % 128
 
 -- no flag is set; a word has 64 flags
 abbrev pub none_set : List ℕ
-none_set = replicate 4 0
+none_set = replicate 2 0
 
 -- flags with that of one more number
 unfoldable pub with_flag : List ℕ → ℕ → List ℕ
@@ -35,5 +35,5 @@ is_lacking words name = is_unset words (number_of name)
 
 -- a name whose flag is not set has no value
 pub record IsFlagged (words : List ℕ) (pairs : List Pair) : Type 0 where
-  pub whole : length words ≡ 4
+  pub whole : length words ≡ 2
   pub flagged : (name : Text) → is_lacking words name ≡ true → value_of pairs name ≡ None

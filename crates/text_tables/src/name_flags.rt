@@ -1,6 +1,6 @@
 //! Flags of names, by which most names that a table does not hold are told at once.
 //!
-//! Rules ask for many properties that no device has. Each name has a number, of its length and two of its bytes, and
+//! Rules ask for many properties that no device has. Each name has a number, of its length and three of its bytes, and
 //! each number has a flag. Two names may have the same number, so a flag that is set says nothing; but if it is not set,
 //! no name with this number was marked.
 ghost use Rattle.std.specs.Prelude.{◌≡◌, ◌<◌};
@@ -8,17 +8,17 @@ ghost use Rattle.text_tables.specs.NameFlags.{is_lacking, none_set, number_of, w
 
 use std::marker::Model;
 
-/// How many numbers there are.
-const NUMBERS: usize = 256;
+/// How many numbers there are. With twice as many a table would be too large to be moved without a call.
+const NUMBERS: usize = 128;
 
 /// How many flags a word has.
 const WORD_LEN: usize = 64;
 
-/// The number of a name.
+/// The number of a name. The factors spread the names that rules use.
 #[tactic(auto, unfolding(crate::specs::NameFlags::number_of))]
 fn number_of(name: &[u8]) -> usize
     ensures value { result ≡ number_of name.now }
-    ensures within { result < 256 }
+    ensures within { result < 128 }
 {
     let len = name.len();
     if len == 0 {
@@ -26,7 +26,8 @@ fn number_of(name: &[u8]) -> usize
     }
     let last = name[len - 1] as usize;
     let middle = name[len / 2] as usize;
-    (len % NUMBERS * 53 + last + middle * 13) % NUMBERS
+    let early = name[len / 4] as usize;
+    (len % NUMBERS * 43 + last + middle * 91 + early * 77) % NUMBERS
 }
 
 /// A flag for each number, set or not.

@@ -1,5 +1,5 @@
 -- Names whose heads differ are in the order of their heads.
-use Rattle.std.proofs.Common.{◌≡◌, ℕ, zero, suc, ◌+◌, ◌*◌, ◌^◌, ◌<◌, ◌≤◌, true, false, ◌==◌, nat_lt, cond, [], ◌∷◌, get_or, refl, ap, sym, subst, ◌∙◌, arith}
+use Rattle.std.proofs.Common.{◌≡◌, ℕ, zero, suc, ◌+◌, ◌-◌, ◌*◌, ◌%◌, ◌^◌, ◌<◌, ◌≤◌, true, false, ◌==◌, nat_lt, cond, [], ◌∷◌, length, get_or, refl, ap, sym, subst, ◌∙◌, arith}
 use Rattle.std.proofs.Math.Logic.{⊎_elim}
 use Rattle.std.proofs.Math.Nat.{mul-le-mul_left, pow-suc}
 use Rattle.std.proofs.lemmas.Bool.{cases_order}
@@ -7,7 +7,7 @@ use Rattle.std.proofs.lemmas.Cmp.{nat_list_cmp_total}
 use Rattle.std.specs.Ordering.{nat_cmp, ordering_reverse, ordering_then}
 use Rattle.std.specs.declared.cmp.Ordering.TheVariants.{Less, Equal, Greater}
 use Rattle.text_bytes.specs.Insertion.{text_order}
-use Rattle.text_tables.specs.Heads.{IsHead, head_of}
+use Rattle.text_tables.specs.Heads.{IsHead, four_at, head_of}
 use Rattle.text_tables.specs.Texts.{Text}
 
 abbrev AreBytes : Text → Type 0
@@ -31,6 +31,42 @@ tied a b h =
 -- bytes after a byte are bytes
 following : (b : ℕ) (text : Text) → AreBytes (b ∷ text) → AreBytes text
 following b text h k = h (suc k)
+
+-- a head of a name of eight bytes or more is read as two numbers of four bytes
+pub head_of_long : (text : Text) → 8 ≤ length text → four_at text 0 * 4294967296 + four_at text 4 ≡ head_of 8 text
+unfolding four_at
+head_of_long [] long = absurd (omega arith)
+head_of_long (a ∷ []) long = absurd (omega arith)
+head_of_long (a ∷ b ∷ []) long = absurd (omega arith)
+head_of_long (a ∷ b ∷ c ∷ []) long = absurd (omega arith)
+head_of_long (a ∷ b ∷ c ∷ d ∷ []) long = absurd (omega arith)
+head_of_long (a ∷ b ∷ c ∷ d ∷ e ∷ []) long = absurd (omega arith)
+head_of_long (a ∷ b ∷ c ∷ d ∷ e ∷ f ∷ []) long = absurd (omega arith)
+head_of_long (a ∷ b ∷ c ∷ d ∷ e ∷ f ∷ g ∷ []) long = absurd (omega arith)
+head_of_long (a ∷ b ∷ c ∷ d ∷ e ∷ f ∷ g ∷ h ∷ text) long = omega arith
+
+-- of a shorter name the last four bytes are moved to their place, and those that are among the first four fall off
+pub head_of_short : (text : Text) → AreBytes text → 4 ≤ length text → length text < 8
+    → four_at text 0 * 4294967296 + four_at text (length text - 4) * 2 ^ (8 * (8 - length text)) % 18446744073709551616 % 4294967296 ≡ head_of 8 text
+unfolding four_at
+head_of_short [] bytes some short = absurd (omega arith)
+head_of_short (a ∷ []) bytes some short = absurd (omega arith)
+head_of_short (a ∷ b ∷ []) bytes some short = absurd (omega arith)
+head_of_short (a ∷ b ∷ c ∷ []) bytes some short = absurd (omega arith)
+head_of_short (a ∷ b ∷ c ∷ d ∷ []) bytes some short = omega arith
+head_of_short (a ∷ b ∷ c ∷ d ∷ e ∷ []) bytes some short =
+    let fifth : e < 256 = bytes 4 in
+    omega arith
+head_of_short (a ∷ b ∷ c ∷ d ∷ e ∷ f ∷ []) bytes some short =
+    let fifth : e < 256 = bytes 4 in
+    let sixth : f < 256 = bytes 5 in
+    omega arith
+head_of_short (a ∷ b ∷ c ∷ d ∷ e ∷ f ∷ g ∷ []) bytes some short =
+    let fifth : e < 256 = bytes 4 in
+    let sixth : f < 256 = bytes 5 in
+    let seventh : g < 256 = bytes 6 in
+    omega arith
+head_of_short (a ∷ b ∷ c ∷ d ∷ e ∷ f ∷ g ∷ h ∷ text) bytes some short = absurd (omega arith)
 
 -- a head of so many bytes is below that power
 below : (n : ℕ) (text : Text) → AreBytes text → head_of n text < 256 ^ n

@@ -9,6 +9,10 @@ head_of zero text = 0
 head_of (suc n) [] = 0
 head_of (suc n) (byte ∷ text) = byte * 256 ^ n + head_of n text
 
+-- the four bytes of a text from a place on, as a number whose highest byte is the first
+unfoldable pub four_at : Text → ℕ → ℕ
+four_at text place = get_or text place 0 * 256 ^ 3 + get_or text (place + 1) 0 * 256 ^ 2 + get_or text (place + 2) 0 * 256 + get_or text (place + 3) 0
+
 -- a number is the first eight bytes of a text
 pub record IsHead (head : ℕ) (text : Text) : Type 0 where
   pub is : head ≡ head_of 8 text

@@ -1,23 +1,54 @@
 //! Names with their first bytes as a number, so that most names are compared by one comparison.
-ghost use Rattle.std.specs.Prelude.{◌≡◌};
+ghost use Rattle.std.specs.Prelude.{◌≡◌, ◌+◌, ◌^◌, ◌<◌, ◌≤◌, get_or, length};
 ghost use Rattle.text_bytes.specs.Insertion.{text_order};
-ghost use Rattle.text_tables.specs.Heads.{head_of};
+ghost use Rattle.text_tables.specs.Heads.{four_at, head_of};
 
 use std::cmp::Ordering;
 use std::marker::Model;
 
-/// How many of a name's first bytes are a number.
-const HEAD_LEN: usize = 8;
+/// How many numbers of four bytes there are.
+const FOUR_BYTES: u64 = 1 << 32;
+
+/// The byte at a place, zero after the end.
+fn byte_at(name: &[u8], place: usize) -> u64
+    ensures { result ≡ get_or name.now place 0 }
+{
+    match name.get(place) {
+        Some(byte) => *byte as u64,
+        None => 0,
+    }
+}
+
+/// The four bytes from a place on, as a number whose highest byte is the first.
+#[tactic(auto, unfolding(crate::specs::Heads::four_at))]
+fn four_at(name: &[u8], place: usize) -> u64
+    requires { place + 4 ≤ length name.now }
+    ensures value { result ≡ four_at name.now place }
+    ensures within { result < 2 ^ 32 }
+{
+    let four = [
+        name[place],
+        name[place + 1],
+        name[place + 2],
+        name[place + 3],
+    ];
+    u32::from_be_bytes(four) as u64
+}
 
 /// The first bytes of a name as a number whose highest byte is the first; a name that is shorter counts as if zeros
 /// followed it.
 fn head_of(name: &[u8]) -> u64
     ensures { result ≡ head_of 8 name.now }
 {
-    let mut first = [0_u8; HEAD_LEN];
-    let len = name.len().min(HEAD_LEN);
-    first[..len].copy_from_slice(&name[..len]);
-    u64::from_be_bytes(first)
+    let len = name.len();
+    if len >= 8 {
+        four_at(name, 0) * FOUR_BYTES + four_at(name, 4)
+    } else if len >= 4 {
+        let last = four_at(name, len - 4) << (8 * (8 - len));
+        four_at(name, 0) * FOUR_BYTES + last % FOUR_BYTES
+    } else {
+        (byte_at(name, 0) << 56) + (byte_at(name, 1) << 48) + (byte_at(name, 2) << 40)
+    }
 }
 
 /// A name with its head, and its place among others.

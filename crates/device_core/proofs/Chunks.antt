@@ -1,11 +1,10 @@
--- Bytes of one line, put after a run.
-use Rattle.std.proofs.Common.{◌≡◌, ℕ, zero, suc, ◌+◌, ◌-◌, ◌<◌, ◌≤◌, ◌==◌, ◌&&◌, not, Bool, true, false, cond, ltb, List, [], ◌∷◌, ◌++◌, Option, Some, None, MatchOption, length, take, drop, get_or, refl, append_assoc, ap, sym, ◌∙◌, arith}
-use Rattle.std.specs.List.{position, position_or_len}
+-- Bytes of a run's lines, put after a run.
+use Rattle.std.proofs.Common.{◌≡◌, ℕ, zero, suc, ◌+◌, ◌-◌, ◌<◌, ◌≤◌, ◌==◌, ◌&&◌, Bool, true, false, cond, List, [], ◌∷◌, ◌++◌, length, take, drop, get_or, refl, append_assoc, ap, sym, ◌∙◌, arith}
 use Rattle.std.proofs.lemmas.List.{append-nil, take_more, take_all, get_or-drop}
 use Rattle.std.proofs.Math.Seq.{take-add}
 use Rattle.std.proofs.lemmas.Grind.{common_steps}
 use Rattle.device_core.specs.Runs.{complete_runs, rest_of}
-use Rattle.device_core.specs.Filling.{first_line}
+use Rattle.device_core.specs.Filling.{ends_run, first_run}
 use Rattle.device_core.specs.Holding.{begins_after}
 use Rattle.device_core.proofs.Law.{byte_stays, begins_after-push, complete_runs-append}
 
@@ -23,47 +22,17 @@ chunk_stays text held (byte ∷ chunk) start e b h =
     let r = chunk_stays (text ++ byte ∷ []) (held ++ byte ∷ []) chunk (byte == 10) p.1 (sym (begins_after-push true held byte)) h.1 in
     (ap complete_runs (sym (append_assoc text (byte ∷ []) chunk)) ∙ r.0 ∙ p.0, ap rest_of (sym (append_assoc text (byte ∷ []) chunk)) ∙ r.1 ∙ append_assoc held (byte ∷ []) chunk)
 
-after_byte : (ends : Bool) (byte : ℕ) (text : List ℕ) (n : ℕ) → suc n ≤ length (cond ends (byte ∷ []) (byte ∷ first_line text))
-    → (n ≤ length (first_line text) → Proceeds false (take n text)) → Proceeds ends (take n text)
-after_byte true byte text zero l h = tt
-after_byte true byte text (suc n) l h = absurd (omega arith)
-after_byte false byte text n l h = h (omega arith)
+after_byte : (start ends : Bool) (byte : ℕ) (text : List ℕ) (n : ℕ) → suc n ≤ length (cond ends (byte ∷ []) (byte ∷ first_run text))
+    → (ends ≡ false → n ≤ length (first_run text) → Proceeds start (take n text)) → Proceeds start (take n text)
+after_byte start true byte text zero l h = tt
+after_byte start true byte text (suc n) l h = absurd (omega arith)
+after_byte start false byte text n l h = h refl (omega arith)
 
--- the bytes of a line go on, unless it is empty
-pub line_proceeds : (start : Bool) (text : List ℕ) (n : ℕ) → n ≤ length (first_line text) → (start && (get_or text 0 0 == 10)) ≡ false → Proceeds start (take n text)
-line_proceeds start text zero l e = tt
-line_proceeds start [] (suc n) l e = absurd (omega arith)
-line_proceeds start (byte ∷ text) (suc n) l e = (e, after_byte (byte == 10) byte text n l (λ m. line_proceeds false text n m refl))
-
--- how many bytes come before the first newline, or in all
-abbrev pub newline_at : List ℕ → ℕ
-newline_at text = position_or_len (λ b. b == 10) text
-
-abbrev LineEnds : List ℕ → List ℕ → ℕ → Type 0
-LineEnds text line at = (at < length text → at + 1 ≡ length line) × (length text ≤ at → length text ≡ length line)
-
-line_ends_step : (ends : Bool) (byte : ℕ) (text : List ℕ) → LineEnds text (first_line text) (newline_at text)
-    → LineEnds (byte ∷ text) (cond ends (byte ∷ []) (byte ∷ first_line text)) (cond (not ends) (1 + newline_at text) 0)
-line_ends_step true byte text h = (λ l. refl, λ l. absurd (omega arith))
-line_ends_step false byte text h = (λ l. let e : newline_at text + 1 ≡ length (first_line text) = h.0 (omega arith) in omega arith, λ l. let e : length text ≡ length (first_line text) = h.1 (omega arith) in omega arith)
-
-line_ends : (text : List ℕ) → LineEnds text (first_line text) (newline_at text)
-line_ends [] = (λ l. absurd (omega arith), λ l. refl)
-line_ends (byte ∷ text) = line_ends_step (byte == 10) byte text (line_ends text)
-
-line_found_by : (text : List ℕ) (found : Bool) (r : Option ℕ) → ltb (newline_at text) (length text) ≡ found → r ≡ cond found (Some (newline_at text)) None
-    → MatchOption r (length text ≡ length (first_line text)) (λ at. at + 1 ≡ length (first_line text))
-line_found_by text true r e is =
-    let l : newline_at text < length text = grind (arith, common_steps, e) in
-    rw is ((line_ends text).0 l)
-line_found_by text false r e is =
-    let l : length text ≤ newline_at text = grind (arith, common_steps, e) in
-    rw is ((line_ends text).1 l)
-
--- how long the first line is, by a search for a newline
-pub line_found : (text : List ℕ) (r : Option ℕ) → r ≡ position (λ b. b == 10) text
-    → MatchOption r (length text ≡ length (first_line text)) (λ at. at + 1 ≡ length (first_line text))
-line_found text r is = line_found_by text (ltb (newline_at text) (length text)) r refl is
+-- the bytes of a run go on, unless it begins with an empty line
+pub run_proceeds : (start : Bool) (text : List ℕ) (n : ℕ) → n ≤ length (first_run text) → (start && (get_or text 0 0 == 10)) ≡ false → Proceeds start (take n text)
+run_proceeds start text zero l e = tt
+run_proceeds start [] (suc n) l e = absurd (omega arith)
+run_proceeds start (byte ∷ text) (suc n) l e = (e, after_byte (byte == 10) (ends_run byte text) byte text n l (λ goes m. run_proceeds (byte == 10) text n m goes))
 
 no_more : (xs ys : List (List ℕ)) → xs ++ ys ≡ [] → xs ≡ []
 no_more [] ys e = refl
@@ -100,17 +69,17 @@ begins_after-chunk held piece i n some l =
 left_is : (piece : List ℕ) (i : ℕ) → take (length piece - i) (drop i piece) ≡ drop i piece
 left_is piece i = let size : length (drop i piece) ≤ length piece - i = grind (arith, common_steps) in take_all (length piece - i) (drop i piece) size
 
--- the line that begins at a place of the piece
-pub line_size : (piece : List ℕ) (i n : ℕ) → i < length piece → n ≡ length (first_line (take (length piece - i) (drop i piece))) → n ≤ length (take (length piece - i) (drop i piece))
-    → (n ≡ length (first_line (drop i piece))) × (i + n ≤ length piece)
-line_size piece i n h value within =
+-- the run that begins at a place of the piece
+pub run_size : (piece : List ℕ) (i n : ℕ) → i < length piece → n ≡ length (first_run (take (length piece - i) (drop i piece))) → n ≤ length (take (length piece - i) (drop i piece))
+    → (n ≡ length (first_run (drop i piece))) × (i + n ≤ length piece)
+run_size piece i n h value within =
     let size : n ≤ length (drop i piece) = rw (left_is piece i) at within in
     (rw (left_is piece i) at value, grind (arith, common_steps, size))
 
-first_line_is_some : (text : List ℕ) → 0 < length text → 0 < length (first_line text)
-first_line_is_some [] h = absurd (omega arith)
-first_line_is_some (byte ∷ text) h = elim (byte == 10) as (λ ends. 0 < length (cond ends (byte ∷ []) (byte ∷ first_line text))) [ true ↦ omega arith | false ↦ omega arith ]
+first_run_is_some : (text : List ℕ) → 0 < length text → 0 < length (first_run text)
+first_run_is_some [] h = absurd (omega arith)
+first_run_is_some (byte ∷ text) h = elim (ends_run byte text) as (λ ends. 0 < length (cond ends (byte ∷ []) (byte ∷ first_run text))) [ true ↦ omega arith | false ↦ omega arith ]
 
--- a line has a byte
-pub first_line_some : (piece : List ℕ) (i : ℕ) → i < length piece → 0 < length (first_line (drop i piece))
-first_line_some piece i h = first_line_is_some (drop i piece) (grind (arith, common_steps))
+-- a run has a byte
+pub first_run_some : (piece : List ℕ) (i : ℕ) → i < length piece → 0 < length (first_run (drop i piece))
+first_run_some piece i h = first_run_is_some (drop i piece) (grind (arith, common_steps))

@@ -3,6 +3,7 @@ pub mod Excess
 pub mod Chunks
 pub mod BlockLemmas
 pub mod Steps
+pub mod RunEnds
 pub mod Judged
 pub mod Reading
 pub mod Added

@@ -1,13 +1,13 @@
--- A room, filled a line at a time.
+-- A room, filled a run at a time.
 use Rattle.std.proofs.Common.{◌≡◌, ◌≢◌, ℕ, ◌+◌, ◌-◌, ◌<◌, ◌≤◌, ◌==◌, ◌&&◌, Bool, true, false, List, [], ◌∷◌, ◌++◌, length, take, drop, get_or, append_assoc, ap, sym, ◌∙◌, arith, add-zero, drop-drop}
 use Rattle.std.proofs.lemmas.List.{append-nil, get_or-drop, take_more}
 use Rattle.std.proofs.Math.Seq.{take-add}
 use Rattle.std.proofs.lemmas.Grind.{common_steps}
 use Rattle.device_core.specs.Runs.{complete_runs, rest_of}
-use Rattle.device_core.specs.Filling.{first_line, taken, Completes, Overflows}
+use Rattle.device_core.specs.Filling.{first_run, taken, Completes, Overflows}
 use Rattle.device_core.specs.Holding.{begins_after, IsPending}
 use Rattle.device_core.proofs.Law.{rest_of-alone, piece_ends, not_empty-one}
-use Rattle.device_core.proofs.Chunks.{Proceeds, chunk_stays, line_proceeds, take_chunk, begins_after-chunk}
+use Rattle.device_core.proofs.Chunks.{Proceeds, chunk_stays, run_proceeds, take_chunk, begins_after-chunk}
 
 -- after i bytes of the piece, these bytes are to be held
 pub record Filling (before piece : List ℕ) (i : ℕ) (held : List ℕ) (start : Bool) : Type 0 where
@@ -28,21 +28,21 @@ ends {before} {piece} {i} {held} {start} f h some e =
     let p = piece_ends before piece i held start h f.rest f.begins e f.none in
     record { has_byte = omega (arith, some); run = p.0 ∙ not_empty-one held some; rest = p.1; moves = omega arith }
 
--- the bytes of a line that is not empty
-proceeds : (start : Bool) (piece : List ℕ) (i n : ℕ) → (start && (get_or piece i 0 == 10)) ≡ false → n ≤ length (first_line (drop i piece)) → Proceeds start (take n (drop i piece))
+-- the bytes of a run that does not begin with an empty line
+proceeds : (start : Bool) (piece : List ℕ) (i n : ℕ) → (start && (get_or piece i 0 == 10)) ≡ false → n ≤ length (first_run (drop i piece)) → Proceeds start (take n (drop i piece))
 proceeds start piece i n e l =
     let first : get_or (drop i piece) 0 0 ≡ get_or piece i 0 = get_or-drop i piece 0 0 ∙ ap (λ k. get_or piece k 0) (add-zero i) in
-    line_proceeds start (drop i piece) n l (ap (λ b. start && (b == 10)) first ∙ e)
+    run_proceeds start (drop i piece) n l (ap (λ b. start && (b == 10)) first ∙ e)
 
-pub stays : {before piece : List ℕ} {i : ℕ} {held : List ℕ} {start : Bool} (n : ℕ) → Filling before piece i held start → (start && (get_or piece i 0 == 10)) ≡ false → n ≤ length (first_line (drop i piece))
+pub stays : {before piece : List ℕ} {i : ℕ} {held : List ℕ} {start : Bool} (n : ℕ) → Filling before piece i held start → (start && (get_or piece i 0 == 10)) ≡ false → n ≤ length (first_run (drop i piece))
     → (complete_runs (before ++ take (i + n) piece) ≡ []) × (rest_of (before ++ take (i + n) piece) ≡ held ++ take n (drop i piece))
 stays {before} {piece} {i} {held} {start} n f e l =
     let p = chunk_stays (before ++ take i piece) held (take n (drop i piece)) start f.rest f.begins (proceeds start piece i n e l) in
     (ap complete_runs (take_chunk before piece i n) ∙ p.0 ∙ f.none, ap rest_of (take_chunk before piece i n) ∙ p.1)
 
--- a line, or what the piece has of it, goes on after the run
+-- a run, or what the piece has of it, goes on after what is held
 pub puts : {before piece : List ℕ} {i : ℕ} {held : List ℕ} {start : Bool} (n : ℕ) (now : List ℕ) → Filling before piece i held start → (start && (get_or piece i 0 == 10)) ≡ false
-    → 0 < n → n ≤ length (first_line (drop i piece)) → i + n ≤ length piece → now ≡ held ++ take n (drop i piece)
+    → 0 < n → n ≤ length (first_run (drop i piece)) → i + n ≤ length piece → now ≡ held ++ take n (drop i piece)
     → Filling before piece (i + n) now (get_or piece (i + n - 1) 0 == 10)
 puts {before} {piece} {i} {held} {start} n now f e some l inside is =
     let p = stays n f e l in
@@ -55,7 +55,7 @@ puts {before} {piece} {i} {held} {start} n now f e some l inside is =
 
 -- the run is longer than the room
 pub overflows : {before piece : List ℕ} {i : ℕ} {held : List ℕ} {start : Bool} (n room : ℕ) (now : List ℕ) → Filling before piece i held start → (start && (get_or piece i 0 == 10)) ≡ false
-    → n + 1 ≤ length (first_line (drop i piece)) → i + n < length piece → now ≡ held ++ take n (drop i piece) → length now ≡ room
+    → n + 1 ≤ length (first_run (drop i piece)) → i + n < length piece → now ≡ held ++ take n (drop i piece) → length now ≡ room
     → Overflows before piece (i + n) now room
 overflows {before} {piece} {i} {held} {start} n room now f e l inside is full =
     let q = stays (n + 1) f e l in

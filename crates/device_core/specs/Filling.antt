@@ -1,5 +1,5 @@
 -- Serves inner proofs only: what filling a room with a piece's bytes leaves.
-use Rattle.std.specs.Prelude.{◌≡◌, ℕ, ◌==◌, ◌+◌, ◌-◌, ◌<◌, Bool, List, [], ◌∷◌, ◌++◌, drop, length, take, if◌then◌else◌}
+use Rattle.std.specs.Prelude.{◌≡◌, ℕ, ◌==◌, ◌+◌, ◌-◌, ◌<◌, ◌&&◌, ◌||◌, Bool, false, List, [], ◌∷◌, ◌++◌, drop, get_or, length, take, if◌then◌else◌}
 use Rattle.text_bytes.specs.Names.{newline}
 use Rattle.device_core.specs.Runs.{complete_runs, rest_of}
 use Rattle.device_core.specs.Holding.{IsPending}
@@ -7,10 +7,19 @@ use Rattle.device_core.specs.declared.filling.Filled.{Filled}
 use Rattle.device_core.specs.declared.filling.Stop.{Stop}
 use Rattle.device_core.specs.declared.filling.Stop.TheVariants.{Used, Whole, Full}
 
--- the first line of a text, with its newline if it has one
-abbrev pub first_line : List ℕ → List ℕ
-first_line [] = []
-first_line (byte ∷ text) = if byte == newline then byte ∷ [] else byte ∷ first_line text
+-- whether a byte and the first of the bytes after it are two newlines, so that the line between them is empty
+abbrev pub ends_run : ℕ → List ℕ → Bool
+ends_run byte text = byte == newline && get_or text 0 0 == newline
+
+-- a text up to the first newline that another follows, with the first of the two
+abbrev pub first_run : List ℕ → List ℕ
+first_run [] = []
+first_run (byte ∷ text) = if ends_run byte text then byte ∷ [] else byte ∷ first_run text
+
+-- whether a newline is followed by another
+abbrev pub has_empty_line : List ℕ → Bool
+has_empty_line [] = false
+has_empty_line (byte ∷ text) = ends_run byte text || has_empty_line text
 
 -- the bytes of a piece from a place up to another
 abbrev pub taken : List ℕ → ℕ → ℕ → List ℕ

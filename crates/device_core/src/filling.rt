@@ -1,13 +1,12 @@
 //! The bytes of a piece, put after those of a run that is not complete.
 //!
-//! A piece is gone over line by line, and what is to be held of it is copied at once. The search for a newline is
-//! `memchr`'s.
+//! What is to be held of a piece is copied at once, after its end was looked for.
 ghost use Rattle.std.specs.Prelude.{◌≡◌, ℕ, ◌+◌, ◌-◌, ◌^◌, ◌≤◌, ◌<◌, [], ◌++◌, length, take};
 ghost use Rattle.device_core.specs.Runs.{complete_runs};
 ghost use Rattle.device_core.specs.Holding.{IsPending};
-ghost use Rattle.device_core.specs.Filling.{first_line, taken, used_by, Fills, FillsBy};
+ghost use Rattle.device_core.specs.Filling.{taken, used_by, Fills, FillsBy};
 
-use text_bytes::find;
+use crate::run_ends::run_length;
 
 /// Why filling stopped.
 #[derive(Clone, Copy)]
@@ -81,14 +80,14 @@ fn scan(pending: &[u8], room: usize, begins: bool, piece: &[u8]) -> Scanned
             end += 1;
             start = end;
         } else {
-            let line = line_length(&piece[end..]);
+            let run = run_length(&piece[end..]);
             let free = room - len;
-            if free < line {
+            if free < run {
                 end += free;
                 stop = Stop::Full;
                 break;
             }
-            end += line;
+            end += run;
             at_start = piece[end - 1] == b'\n';
         }
     }
@@ -119,17 +118,6 @@ pub(crate) fn fill(room: &mut [u8], held: usize, begins: bool, piece: &[u8]) -> 
         len: held + more.len(),
         at_start: scanned.at_start,
         stop: scanned.stop,
-    }
-}
-
-/// How long the first line is, including its newline if it has one.
-fn line_length(text: &[u8]) -> usize
-    ensures value { result ≡ length (first_line text.now) }
-    ensures within { result ≤ length text.now }
-{
-    match find(b'\n', text) {
-        Some(at) => at + 1,
-        None => text.len(),
     }
 }
 

@@ -13,6 +13,7 @@ mod lines;
 mod parts;
 mod programs;
 mod read;
+mod run_ends;
 mod splitter;
 
 pub use devices::{Device, DeviceNumber};

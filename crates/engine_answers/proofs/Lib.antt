@@ -1,2 +1,3 @@
 mod Plain
 pub mod Listed
+mod AsIs

@@ -1,8 +1,26 @@
--- Serves inner proofs only: a line before it is known whether something in it has to be escaped.
-use Rattle.std.specs.Prelude.{◌∷◌, ◌++◌}
-use Rattle.text_bytes.specs.Names.{space, equals}
+-- Serves inner proofs only: lines before it is known whether something in them has to be escaped.
+use Rattle.std.specs.Prelude.{ℕ, [], ◌∷◌, ◌++◌, List, codes, cond, count_by, flat_map, not}
+use Rattle.text_bytes.specs.Names.{space, equals, newline}
 use Rattle.text_tables.specs.Texts.{Text}
+use Rattle.text_tables.specs.Pairs.{Pair}
+use Rattle.engine_answers.specs.Lines.{is_hidden}
 
 -- a word, a name and its value, as they are
 abbrev pub pair_words : Text → Text → Text → Text
 pair_words word name value = word ++ space ∷ (name ++ equals ∷ value)
+
+-- the line of a property, as it is
+abbrev pub env_as_is : Pair → Text
+env_as_is pair = pair_words (codes "env") pair.0 pair.1 ++ newline ∷ []
+
+-- the line of a property that is not for rules alone, as it is
+abbrev pub shown_as_is : Pair → Text
+shown_as_is pair = cond (is_hidden pair.0) [] (env_as_is pair)
+
+-- the lines of properties, as they are
+abbrev pub lines_as_is : List Pair → Text
+lines_as_is pairs = flat_map shown_as_is pairs
+
+-- how many lines these are
+abbrev pub shown_count : List Pair → ℕ
+shown_count pairs = count_by (λ pair. not (is_hidden pair.0)) pairs

@@ -1,6 +1,6 @@
 //! One line of each kind.
-ghost use Rattle.std.specs.Prelude.{◌≡◌, ◌++◌, codes, OnOk, option_map};
-ghost use Rattle.engine_answers.specs.Inner.{pair_words};
+ghost use Rattle.std.specs.Prelude.{◌≡◌, ◌++◌, codes, not, IfOk, OnOk, option_map};
+ghost use Rattle.engine_answers.specs.Inner.{pair_words, shown_as_is};
 ghost use Rattle.engine_answers.specs.Lines.{event_line, given_line, is_hidden, note_line, pair_line, persist_line, priority_line, run_line, shown_line, text_line, watch_line};
 
 use engine_ends::{is_plain, push_escaped, push_place, push_word};
@@ -93,6 +93,23 @@ pub fn push_pair(
     }
     lines.truncate(before);
     push_escaped_pair(alloc, lines, word, name, value)
+}
+
+/// Adds the line of a property as it is, whatever has to be escaped, unless its name begins with a dot; says whether it
+/// was added.
+pub(crate) fn push_as_is(lines: &mut Vec<u8>, name: &[u8], value: &[u8]) -> Result<bool, AllocError>
+    ensures lines { OnOk result (lines.new.items ≡ lines.old.items ++ shown_as_is (name.now, value.now)) }
+    ensures shown { IfOk result (λ shown. shown ≡ not (is_hidden name.now)) }
+{
+    if is_hidden(name) {
+        return Ok(false);
+    }
+    lines.extend_from_slice(b"env ")?;
+    lines.extend_from_slice(name)?;
+    lines.push(b'=')?;
+    lines.extend_from_slice(value)?;
+    lines.push(b'\n')?;
+    Ok(true)
 }
 
 /// Adds the line of a property, unless its name begins with a dot.

@@ -1,8 +1,10 @@
 //! A line for each member of a list.
-ghost use Rattle.std.specs.Prelude.{◌≡◌, ◌++◌, codes, OnOk};
+ghost use Rattle.std.specs.Prelude.{◌≡◌, ◌++◌, codes, IfOk, OnOk};
+ghost use Rattle.engine_answers.specs.Inner.{lines_as_is, shown_count};
 ghost use Rattle.engine_answers.specs.Lines.{env_lines, note_lines, pair_lines, text_lines};
 
-use crate::lines::{push_note, push_pair, push_shown, push_text};
+use crate::lines::{push_as_is, push_note, push_pair, push_shown, push_text};
+use engine_ends::escaped_count;
 use eval_state::{Label, Notes};
 use std::alloc::{AllocError, Global};
 use text_tables::{CowPairs, OwnedTexts, SortedPairs};
@@ -51,8 +53,21 @@ pub(crate) fn push_labels(
     Ok(())
 }
 
-/// Adds the lines of properties.
-pub(crate) fn push_env(
+/// Adds the lines of properties as they are, whatever has to be escaped, and says how many lines these are.
+fn push_env_as_is(lines: &mut Vec<u8>, pairs: &SortedPairs<'_>) -> Result<usize, AllocError>
+    ensures lines { OnOk result (lines.new.items ≡ lines.old.items ++ lines_as_is pairs.now) }
+    ensures count { IfOk result (λ count. count ≡ shown_count pairs.now) }
+{
+    let mut count = 0;
+    for place in 0..pairs.len() {
+        let (name, value) = pairs.pair_at(place);
+        count += usize::from(push_as_is(lines, name, value)?);
+    }
+    Ok(count)
+}
+
+/// Adds the lines of properties, each escaped where it has to be.
+fn push_env_escaped(
     alloc: Global,
     lines: &mut Vec<u8>,
     pairs: &SortedPairs<'_>,
@@ -64,6 +79,24 @@ pub(crate) fn push_env(
         push_shown(alloc, lines, name, value)?;
     }
     Ok(())
+}
+
+/// Adds the lines of properties. Mostly nothing in them has to be escaped: if their newlines are all that would have to
+/// be, they are as they were put together.
+pub(crate) fn push_env(
+    alloc: Global,
+    lines: &mut Vec<u8>,
+    pairs: &SortedPairs<'_>,
+) -> Result<(), AllocError>
+    ensures { OnOk result (lines.new.items ≡ lines.old.items ++ env_lines pairs.now) }
+{
+    let before = lines.len();
+    let count = push_env_as_is(lines, pairs)?;
+    if escaped_count(&lines[before..]) == count {
+        return Ok(());
+    }
+    lines.truncate(before);
+    push_env_escaped(alloc, lines, pairs)
 }
 
 /// Adds the lines of notes.

@@ -1,10 +1,13 @@
 //! Texts that are appended escaped.
 ghost use Rattle.std.specs.List.{list_all};
-ghost use Rattle.std.specs.Prelude.{◌≡◌, ◌++◌, not, OnOk, OnErr};
+ghost use Rattle.std.specs.Prelude.{◌≡◌, ◌≤◌, ◌++◌, count_by, length, not, OnOk, OnErr};
 ghost use Rattle.text_bytes.specs.Escapes.{escape_text, is_escaped};
 
 use std::alloc::{AllocError, Global};
 use text_bytes::{escape, escaped_byte};
+
+/// How many bytes are counted together: so few that a byte holds their number.
+const CHUNK: usize = 128;
 
 /// Whether a byte stands for itself.
 fn is_plain_byte(byte: u8) -> bool
@@ -19,6 +22,32 @@ pub fn is_plain(text: &[u8]) -> bool
 {
     text.iter()
         .fold(true, |plain, byte| plain & is_plain_byte(*byte))
+}
+
+/// How many bytes of a short text do not stand for themselves.
+fn count_in_chunk(chunk: &[u8]) -> u8
+    requires { length chunk.now ≤ 128 }
+    ensures { result ≡ count_by is_escaped chunk.now }
+{
+    let mut count = 0u8;
+    for byte in chunk {
+        count += u8::from(!is_plain_byte(*byte));
+    }
+    count
+}
+
+/// How many bytes of a text do not stand for themselves.
+pub fn escaped_count(text: &[u8]) -> usize
+    ensures { result ≡ count_by is_escaped text.now }
+{
+    let mut count = 0;
+    let mut rest = text;
+    while rest.len() > CHUNK {
+        let (chunk, later) = rest.split_at(CHUNK);
+        count += usize::from(count_in_chunk(chunk));
+        rest = later;
+    }
+    count + usize::from(count_in_chunk(rest))
 }
 
 /// Appends a text to others, escaped as `escape` does it. Mostly nothing has to be, and then it is copied as it is.

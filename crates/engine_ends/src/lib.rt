@@ -21,7 +21,7 @@ pub use delivery::{
     deliver, deliver_in_pieces, report_failure, report_in_pieces, report_out_of_memory, report_word,
 };
 pub use device::{DeviceFault, Sink, Source};
-pub use escaping::{is_plain, push_escaped};
+pub use escaping::{escaped_count, is_plain, push_escaped};
 pub use folders::folder_path;
 pub use kinds::same_kind;
 pub use line::{AccountFile, Format, Line, LineFault, Request, Verb};

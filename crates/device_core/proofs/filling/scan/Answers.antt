@@ -2,7 +2,7 @@ use Rattle.std.proofs.Common.{arith, ◌≡◌, ◌++◌, ◌+◌, ◌-◌, ◌<
 use Rattle.std.proofs.lemmas.List.{length-append}
 use Rattle.device_core.specs.Filling.{taken}
 use Rattle.device_core.proofs.Steps.{Filling, skips, puts, ends, stays, overflows, held_is_pending, none_used, nothing_held, taken_more, taken_size}
-use Rattle.device_core.proofs.Chunks.{none_before, line_size, first_line_some}
+use Rattle.device_core.proofs.Chunks.{none_before, run_size, first_run_some}
 use Rattle.device_core.proofs.filling.scan.Goals as goal
 
 pub loop-end-init : goal.loop-end-init
@@ -37,26 +37,26 @@ loop-end-preserved-then-empty_line c =
       goes = i.goes;
     }
 
-pub returns-then-free-line-clause-before : goal.returns-then-free-line-clause-before
-returns-then-free-line-clause-before c n l =
+pub returns-then-free-run-clause-before : goal.returns-then-free-run-clause-before
+returns-then-free-run-clause-before c n l =
     let i = c.loop-end.invariant in
     let piece : List ℕ = c.args.piece.now in
     let free : ℕ = c.args.room - (length c.args.pending.now + (c.loop-end.end - c.loop-end.start)) in
-    let line = line_size piece c.loop-end.end c.line_length-line.result c.loop-end-test.true c.line_length-line.ensures.value c.line_length-line.ensures.within in
-    let shorter : free < c.line_length-line.result = c.if-free-line.true in
-    let below = stays free i.filled c.if-empty_line.false (omega (arith, line.0, shorter)) in
+    let run = run_size piece c.loop-end.end c.run_length-run.result c.loop-end-test.true c.run_length-run.ensures.value c.run_length-run.ensures.within in
+    let shorter : free < c.run_length-run.result = c.if-free-run.true in
+    let below = stays free i.filled c.if-empty_line.false (omega (arith, run.0, shorter)) in
     none_before c.args.pending.now piece (c.loop-end.end + free) n (omega arith) below.0
 
-pub returns-then-free-line-clause-scans : goal.returns-then-free-line-clause-scans
-returns-then-free-line-clause-scans c =
+pub returns-then-free-run-clause-scans : goal.returns-then-free-run-clause-scans
+returns-then-free-run-clause-scans c =
     let i = c.loop-end.invariant in
     let piece : List ℕ = c.args.piece.now in
     let free : ℕ = c.args.room - (length c.args.pending.now + (c.loop-end.end - c.loop-end.start)) in
-    let line = line_size piece c.loop-end.end c.line_length-line.result c.loop-end-test.true c.line_length-line.ensures.value c.line_length-line.ensures.within in
-    let shorter : free < c.line_length-line.result = c.if-free-line.true in
-    let inside : c.loop-end.end + free < length piece = omega (arith, line.1, shorter) in
+    let run = run_size piece c.loop-end.end c.run_length-run.result c.loop-end-test.true c.run_length-run.ensures.value c.run_length-run.ensures.within in
+    let shorter : free < c.run_length-run.result = c.if-free-run.true in
+    let inside : c.loop-end.end + free < length piece = omega (arith, run.1, shorter) in
     let size = taken_size piece c.loop-end.start (c.loop-end.end + free) (omega (arith, i.after)) (omega (arith, inside)) in
-    overflows free c.args.room (c.args.pending.now ++ taken piece c.loop-end.start (c.loop-end.end + free)) i.filled c.if-empty_line.false (omega (arith, line.0, shorter)) inside
+    overflows free c.args.room (c.args.pending.now ++ taken piece c.loop-end.start (c.loop-end.end + free)) i.filled c.if-empty_line.false (omega (arith, run.0, shorter)) inside
     (ap (λ l. c.args.pending.now ++ l) (taken_more piece c.loop-end.start c.loop-end.end free i.after) ∙ sym (append_assoc c.args.pending.now _ _))
     (length-append c.args.pending.now _ ∙ omega (arith, size, i.after, i.fits))
 
@@ -64,14 +64,14 @@ pub loop-end-preserved : goal.loop-end-preserved
 loop-end-preserved c =
     let i = c.loop-end.invariant in
     let piece : List ℕ = c.args.piece.now in
-    let n : ℕ = c.line_length-line.result in
-    let line = line_size piece c.loop-end.end n c.loop-end-test.true c.line_length-line.ensures.value c.line_length-line.ensures.within in
-    let some : 0 < n = rw line.0 (first_line_some piece c.loop-end.end c.loop-end-test.true) in
+    let n : ℕ = c.run_length-run.result in
+    let run = run_size piece c.loop-end.end n c.loop-end-test.true c.run_length-run.ensures.value c.run_length-run.ensures.within in
+    let some : 0 < n = rw run.0 (first_run_some piece c.loop-end.end c.loop-end-test.true) in
     record {
-      filled = puts n (c.args.pending.now ++ taken piece c.loop-end.start (c.loop-end.end + n)) i.filled c.if-empty_line.false some (omega (arith, line.0)) line.1
+      filled = puts n (c.args.pending.now ++ taken piece c.loop-end.start (c.loop-end.end + n)) i.filled c.if-empty_line.false some (omega (arith, run.0)) run.1
           (ap (λ l. c.args.pending.now ++ l) (taken_more piece c.loop-end.start c.loop-end.end n i.after) ∙ sym (append_assoc c.args.pending.now _ _));
       after = omega (arith, i.after);
-      fits = omega (arith, i.fits, i.after, c.if-free-line.false);
+      fits = omega (arith, i.fits, i.after, c.if-free-run.false);
       goes = i.goes;
     }
 

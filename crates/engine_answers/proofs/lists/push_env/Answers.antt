@@ -1,7 +1,11 @@
-use Rattle.std.proofs.Common.{[], arith}
-use Rattle.engine_answers.specs.Lines.{shown_line}
-use Rattle.engine_answers.proofs.Listed.{one_line_on}
+use Rattle.std.proofs.Common.{◌≡◌, ◌++◌, ap, sym, ◌∙◌}
+use Rattle.engine_answers.specs.Inner.{lines_as_is}
+use Rattle.engine_answers.proofs.AsIs.{as_they_are, escapes}
+use Rattle.engine_answers.proofs.Plain.{added_is}
 use Rattle.engine_answers.proofs.lists.push_env.Goals as goal
 
-pub loop-place-preserved : goal.loop-place-preserved
-loop-place-preserved c = one_line_on shown_line c.args.pairs.now c.loop-place.place _ ([], []) c.loop-place.lines.items _ _ (omega (arith, c.loop-place-test.true, c.len-place-end.ensures)) c.pair_at.ensures c.in_ok-push_shown.ensures c.loop-place.invariant
+pub returns-then-escaped_count-count : goal.returns-then-escaped_count-count
+returns-then-escaped_count-count c =
+    let added = added_is c.args.lines.now.items (lines_as_is c.args.pairs.now) c.deref.result.now c.len-before.result (c.len-before.ensures ∙ c.args.lines.now.ok.0) (c.deref.ensures.value ∙ c.in_ok-count.ensures.lines) in
+    let counted : escapes (lines_as_is c.args.pairs.now) ≡ c.in_ok-count.count = ap escapes (sym added) ∙ sym c.escaped_count.ensures ∙ c.if-escaped_count-count.true in
+    c.in_ok-count.ensures.lines ∙ ap (λ l. c.args.lines.now.items ++ l) (as_they_are c.args.pairs.now (counted ∙ c.in_ok-count.ensures.count))

@@ -2,3 +2,4 @@ pub mod Places
 pub mod Digits
 pub mod Addressing
 pub mod FirstDevices
+pub mod Gathered

@@ -5,3 +5,4 @@ pub mod Numbers
 pub mod Addresses
 pub mod AddressSteps
 pub mod Upward
+pub mod Folders

@@ -4,7 +4,7 @@ ghost use Rattle.std.specs.List.{find};
 ghost use Rattle.builtin_devices.specs.Devices.{above, attribute, device_before, device_by, has_type, is_at, is_of, is_text, parents_of, type_of};
 ghost use Rattle.builtin_devices.specs.Upward.{device_at};
 
-use crate::files::described_devices;
+use crate::folders::described_devices;
 use crate::upward::{add_device, add_devices};
 use device_core::{Device, Event};
 use indexmap::IndexMap;

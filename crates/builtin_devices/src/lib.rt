@@ -7,6 +7,7 @@
 mod addresses;
 mod devices;
 mod files;
+mod folders;
 mod numbers;
 mod outcomes;
 mod upward;

@@ -1,0 +1,10 @@
+use Rattle.std.proofs.Common.{◌≡◌, Some, filter_map, map, true}
+use Rattle.text_tables.specs.Texts.{Text, is_among}
+use Rattle.builtin_devices.specs.Files.{file_below}
+use Rattle.builtin_devices.specs.Folders.{described_paths, file_of, files_in, with_files}
+use Rattle.builtin_devices.proofs.folders.described_folders.Given as goal
+
+abbrev pub invariant-loop-path : goal.invariant-loop-path
+invariant-loop-path l =
+    (folder : Text) → is_among (described_paths l.event.constants) folder ≡ true
+    → with_files folder (map file_of l.path-iterator) (files_in l.folders folder) ≡ Some (filter_map (file_below folder) l.event.constants)

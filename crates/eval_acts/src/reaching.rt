@@ -28,6 +28,7 @@ fn attribute_reached(
 /// does not read, the note `sysctl not read` with the parameter's name; for an attribute that udev would read and a
 /// dry run does not, the note `attribute not read` with its name, for udev only; for any other, nothing. If memory
 /// runs out, the scene stays as it is.
+#[inline(always)]
 pub fn match_reached(
     alloc: Global,
     rule: &Rule,

@@ -240,6 +240,7 @@ pub fn attribute_at<'a>(state: &State<'a>, place: usize, name: &[u8]) -> Attribu
 
 /// Whether a comparison holds for what a match of ATTR or ATTRS looks at.
 #[tactic(auto, unfolding(crate::specs::Holding::holds))]
+#[inline(never)]
 pub(crate) fn borrowed_holds(wanted: &Comparison, attribute: &Attribute<'_>) -> bool
     ensures { result ≡ holds (borrowed_subject attribute.now) wanted.now }
 {

@@ -2,6 +2,8 @@
 ghost use Rattle.std.specs.Prelude.{◌≡◌, map, option_map, false};
 ghost use Rattle.std.specs.List.{list_any};
 ghost use Rattle.text_core.specs.Choices.{choice_fits};
+ghost use Rattle.text_core.specs.Fits.{fits};
+ghost use Rattle.eval_matching.specs.Beginnings.{is_other_byte};
 ghost use Rattle.eval_matching.specs.Holding.{agrees, as_compared, attribute, constant, ends_in_whitespace, holds, is_whitespace_item, members, one, unread};
 ghost use Rattle.eval_matching.specs.Udev.{last_is};
 
@@ -60,12 +62,42 @@ fn as_compared<'a>(choice: &Choice, text: &'a [u8]) -> &'a [u8]
     }
 }
 
+/// Whether an item is a byte with which a text does not begin.
+fn is_other_byte(item: &Item, text: &[u8]) -> bool
+    ensures { result ≡ is_other_byte item.now text.now }
+{
+    match item {
+        Item::Byte(byte) => text.first() != Some(byte),
+        _ => false,
+    }
+}
+
+/// Whether a pattern fits a text. Most patterns begin with a byte, and most texts do not begin with it.
+#[inline(always)]
+fn pattern_fits(pattern: &Pattern, text: &[u8]) -> bool
+    ensures { result ≡ fits pattern.now text.now }
+{
+    match pattern.items().first() {
+        Some(item) if is_other_byte(item, text) => false,
+        _ => pattern.fits(text),
+    }
+}
+
+/// Whether one of the patterns of a choice fits a text.
+#[inline(always)]
+fn choice_fits(choice: &Choice, text: &[u8]) -> bool
+    ensures { result ≡ choice_fits choice.now text.now }
+{
+    choice.parts().iter().any(|part| pattern_fits(part, text))
+}
+
 /// Whether a comparison holds for a text.
+#[inline(always)]
 #[tactic(auto, unfolding(crate::specs::Holding::holds))]
 pub(crate) fn text_holds(wanted: &Comparison, text: &[u8]) -> bool
     ensures { result ≡ holds (one text.now) wanted.now }
 {
-    agrees(wanted.operator, wanted.choice.fits(text))
+    agrees(wanted.operator, choice_fits(&wanted.choice, text))
 }
 
 /// Whether a comparison holds for an attribute, which may be absent.

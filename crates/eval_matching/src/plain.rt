@@ -29,6 +29,7 @@ pub fn is_known_constant(name: &[u8]) -> bool
 }
 
 /// Whether a comparison holds for the constant of a name.
+#[inline(never)]
 #[tactic(auto, unfolding(crate::specs::Holding::holds))]
 fn named_constant_holds(wanted: &Comparison, name: &[u8], state: &State<'_>) -> bool
     ensures { result ≡ holds (named_constant name.now state.now) wanted.now }
@@ -52,6 +53,7 @@ fn subsystem_match_holds(wanted: &Comparison, state: &State<'_>) -> bool
 }
 
 /// Whether a comparison holds for links or tags as rules left them.
+#[inline(never)]
 pub(crate) fn kept_hold(wanted: &Comparison, state: &State<'_>, texts: &[Vec<u8>]) -> bool
     ensures { result ≡ holds (members_by state.now.event.profile (map (λ t. t.items) texts.now)) wanted.now }
 {
@@ -71,6 +73,7 @@ pub(crate) fn kept_hold(wanted: &Comparison, state: &State<'_>, texts: &[Vec<u8>
 /// without the spaces, tabs, line feeds and carriage returns at its end, unless the first of the texts between bars
 /// that is not empty ends in whitespace, or all are empty; `subsystem`, `bus` and `class`, each alone in a value of
 /// SUBSYSTEM, fit each of the three; `?*` fits SYMLINK and TAG even if there are none.
+#[inline(always)]
 pub fn plain_holds(part: &PlainMatch, state: &State<'_>) -> bool
     ensures { result ≡ holds (plain_subject part.now.key state.now) part.now.wanted }
 {

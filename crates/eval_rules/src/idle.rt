@@ -98,6 +98,7 @@ fn something_counts(rule: &Rule, event: &Event<'_>) -> bool
 /// for a device with a number, NAME for a network interface, and none of them on `remove`; `static_node` and an
 /// option that udev does not know count for no event. By the manual no rule is skipped.
 #[tactic(auto, unfolding(crate::specs::Idle::is_idle_by))]
+#[inline(always)]
 pub fn is_idle(rule: &Rule, event: &Event<'_>) -> bool
     ensures { result ≡ is_idle rule.now event.now }
 {

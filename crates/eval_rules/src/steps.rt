@@ -22,6 +22,7 @@ use std::alloc::{AllocError, Global};
 ///
 /// If memory runs out, the scene stays as it is.
 #[tactic(auto, unfolding(crate::specs::Steps::plain_step))]
+#[inline(always)]
 pub fn plain_step(
     alloc: Global,
     rule: &Rule,
@@ -38,6 +39,7 @@ pub fn plain_step(
 }
 
 /// Whether the matches of the event hold, up to the first that does not.
+#[inline(always)]
 fn match_event(
     alloc: Global,
     rule: &Rule,
@@ -70,6 +72,7 @@ pub fn search(parts: &[UpMatch], scene: &mut Scene<'_>) -> bool
 }
 
 /// Acts part by part, up to the first that stops the rule.
+#[inline(never)]
 fn act_all<L: Lookup>(
     alloc: Global,
     rule: &Rule,
@@ -105,6 +108,7 @@ fn match_results(parts: &[Comparison], scene: &Scene<'_>) -> bool
 
 /// Goes through a rule up to its assignments, and returns whether it goes on to them: the matches of the event, the
 /// search for one device, what acts, the matches of the result.
+#[inline(always)]
 fn try_rule<L: Lookup>(
     alloc: Global,
     rule: &Rule,
@@ -128,6 +132,7 @@ fn try_rule<L: Lookup>(
 
 /// Goes through a rule's five steps, up to the first that stops it, and returns whether its end was reached.
 #[tactic(auto, unfolding(crate::specs::Steps::steps))]
+#[inline(always)]
 fn take_steps<'a, L: Lookup>(
     alloc: Global,
     rule: &'a Rule,
@@ -146,6 +151,7 @@ fn take_steps<'a, L: Lookup>(
 
 /// Skips a rule in which nothing counts for the event: it leaves its notes; the device that was selected before is
 /// selected again, and the keys that were final before are the final ones.
+#[inline(never)]
 fn pass_over<'a, L: Lookup>(
     alloc: Global,
     rule: &'a Rule,
@@ -167,6 +173,7 @@ fn pass_over<'a, L: Lookup>(
 
 /// Evaluates a rule, or skips it, and returns whether its end was reached.
 #[tactic(auto, unfolding(crate::specs::Steps::apply))]
+#[inline(always)]
 fn evaluate<'a, L: Lookup>(
     alloc: Global,
     rule: &'a Rule,
@@ -189,6 +196,7 @@ fn evaluate<'a, L: Lookup>(
 /// nothing else, and its end is not reached.
 ///
 /// If memory runs out, nothing is left of the scene but its event.
+#[inline(never)]
 pub fn apply<'a, L: Lookup>(
     alloc: Global,
     rule: &'a Rule,

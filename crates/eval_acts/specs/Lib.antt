@@ -11,4 +11,5 @@ pub mod ActTexts
 pub mod Printed
 pub mod UsbModalias
 pub mod UdevHwdb
+pub mod Unquoted
 pub mod Inner

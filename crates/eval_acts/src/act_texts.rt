@@ -1,13 +1,14 @@
 //! The texts of acts, rendered.
-ghost use Rattle.std.specs.Prelude.{◌≡◌, [], IfOk};
+ghost use Rattle.std.specs.Prelude.{◌≡◌, [], IfOk, option_map};
 ghost use Rattle.eval_rendering.specs.Rendering.{render};
 ghost use Rattle.eval_rendering.specs.declared.rendered.Mode.TheVariants.{Plain};
 ghost use Rattle.eval_acts.specs.ActTexts.{has_room, import_text, names_text, path_by, program_text, test_text, with_room, within_by};
+ghost use Rattle.eval_acts.specs.Inner.{only_text, plain_command, text_of};
 
 use device_core::Device;
 use eval_rendering::{MAX_COMMAND_BYTES, MAX_PATH_BYTES, Mode, Rendered, render, render_text};
 use eval_state::State;
-use rule_templates::Template;
+use rule_templates::{Piece, Template};
 use std::alloc::{AllocError, Global};
 use std::mem::replace;
 use text_bytes::{Bytes, Profile, begins_with};
@@ -102,6 +103,40 @@ pub fn program_text(
             let text = render_without_result(alloc, template, state)?;
             Ok(text.within(MAX_COMMAND_BYTES))
         }
+    }
+}
+
+/// The text of a piece that is not a substitution.
+fn text_of(piece: &Piece) -> Option<&[u8]>
+    ensures { option_map (λ t. t.now) result ≡ text_of piece.now }
+{
+    match piece {
+        Piece::Plain(text) => Some(text.as_slice()),
+        _ => None,
+    }
+}
+
+/// The text of the only piece, if it is not a substitution.
+fn only_text(pieces: &[Piece]) -> Option<&[u8]>
+    ensures { option_map (λ t. t.now) result ≡ only_text pieces.now }
+{
+    let (piece, others) = pieces.split_first()?;
+    if others.is_empty() {
+        text_of(piece)
+    } else {
+        None
+    }
+}
+
+/// The text of a command without substitutions, as it stands in its rule, if each profile has room for it.
+pub(crate) fn plain_command(template: &Template) -> Option<&[u8]>
+    ensures { option_map (λ t. t.now) result ≡ plain_command template.now.pieces }
+{
+    let text = only_text(template.pieces())?;
+    if text.len() > MAX_COMMAND_BYTES {
+        None
+    } else {
+        Some(text)
     }
 }
 

@@ -8,7 +8,7 @@ ghost use Rattle.eval_acts.specs.Acts.{act_step, from_parent_by, imported, on_te
 ghost use Rattle.eval_acts.specs.Imports.{from_program, not_run, run_builtin};
 ghost use Rattle.eval_acts.specs.Questions.{answered_by_block, tested, with_result};
 
-use crate::act_texts::{import_text, names_text, program_text, test_text};
+use crate::act_texts::{import_text, names_text, plain_command, program_text, test_text};
 use crate::imports::{import_named, import_parent, import_printed, not_run, run_builtin};
 use crate::questions::{ask, clear_result, look_for};
 use eval_matching::agrees;
@@ -69,6 +69,10 @@ fn builtin<L: Lookup>(
     ensures scene { IfOk result (λ done. (scene.new, done) ≡ on_text (run_builtin (L.entries database.now) rule.now) (import_text most_command_bytes template.now scene.old.state) scene.old) }
     ensures refused { OnErr result (scene.new.state.event ≡ scene.old.state.event) }
 {
+    if let Some(command) = plain_command(template) {
+        let done = run_builtin(alloc, rule, command, database, scene)?;
+        return Ok(Some(done));
+    }
     match import_text(alloc, MAX_COMMAND_BYTES, template, &scene.state)? {
         Rendered::Text(command) => {
             let done = run_builtin(alloc, rule, command.as_slice(), database, scene)?;

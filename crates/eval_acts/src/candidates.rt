@@ -1,17 +1,18 @@
-//! The devices whose modaliases `hwdb` looks up.
-ghost use Rattle.std.specs.Prelude.{◌≡◌, ◌≤◌, length, map, option_map, IfOk};
+//! The devices whose modaliases `hwdb` looks up as udev does.
+ghost use Rattle.std.specs.Prelude.{◌≡◌, ◌≤◌, None, length, map, option_map, IfOk};
 ghost use Rattle.std.specs.Option.{option_or};
-ghost use Rattle.eval_acts.specs.LookUps.{candidate, candidate_with, candidates, count_before_usb, is_last, is_usb_device, is_wanted, modaliases_by, modaliases_in, modaliases_of, udev_modaliases_of};
+ghost use Rattle.text_bytes.specs.declared.profile.Profile.TheVariants.{Udev};
+ghost use Rattle.eval_acts.specs.Inner.{candidates_as, wanted_in};
+ghost use Rattle.eval_acts.specs.LookUps.{candidate_with, count_before_usb, is_last, is_usb_device, is_wanted, modaliases_in, udev_modaliases_of};
 ghost use Rattle.eval_acts.specs.UsbModalias.{made_up};
 
-use crate::hwdb::copy_of;
 use crate::usb_modalias::made_up;
 use builtin_devices::{is_text, type_of};
 use device_core::Device;
 use eval_state::State;
 use std::alloc::{AllocError, Global};
 use std::marker::Model;
-use text_bytes::{Bytes, Profile};
+use text_bytes::Bytes;
 
 /// What is looked at in a device.
 #[derive(Drop)]
@@ -44,83 +45,54 @@ fn own_or_made_up(
     }
 }
 
-/// A device, by its properties DEVTYPE and MODALIAS.
-fn candidate_with<'a>(
+/// A device as udev sees it, by its property MODALIAS.
+fn seen_by_udev<'a>(
     alloc: Global,
-    profile: Profile,
     device: &'a Device<'_>,
-    devtype: Option<&'a [u8]>,
     modalias: Option<&[u8]>,
 ) -> Result<Candidate<'a>, AllocError>
-    ensures { IfOk result (λ c. c ≡ candidate_with profile device.now (option_map (λ t. t.now) devtype.entry) (option_map (λ t. t.now) modalias.entry)) }
+    ensures { IfOk result (λ c. c ≡ candidate_with Udev device.now None (option_map (λ t. t.now) modalias.entry)) }
 {
-    match profile {
-        Profile::Manual => Ok(Candidate {
-            subsystem: device.subsystem(),
-            devtype,
-            modalias: copy_of(alloc, modalias)?,
-        }),
-        Profile::Udev => Ok(Candidate {
-            subsystem: device.subsystem(),
-            devtype: type_of(device),
-            modalias: own_or_made_up(alloc, device, modalias)?,
-        }),
-    }
+    Ok(Candidate {
+        subsystem: device.subsystem(),
+        devtype: type_of(device),
+        modalias: own_or_made_up(alloc, device, modalias)?,
+    })
 }
 
-/// The event device, by its properties as they are now.
-fn event_device<'a>(alloc: Global, state: &'a State<'_>) -> Result<Candidate<'a>, AllocError>
-    ensures { IfOk result (λ c. c ≡ candidate state.now.event.profile state.now.event.device state.now.env) }
-{
-    let devtype = state.env.get(b"DEVTYPE");
-    let modalias = state.env.get(b"MODALIAS");
-    let event = state.event.event();
-    candidate_with(alloc, event.profile(), event.device(), devtype, modalias)
-}
-
-/// A parent, by its own properties.
-fn parent<'a>(
-    alloc: Global,
-    profile: Profile,
-    device: &'a Device<'_>,
-) -> Result<Candidate<'a>, AllocError>
-    ensures { IfOk result (λ c. c ≡ candidate profile device.now device.now.env) }
-{
-    let env = device.env();
-    candidate_with(
-        alloc,
-        profile,
-        device,
-        env.get(b"DEVTYPE"),
-        env.get(b"MODALIAS"),
-    )
-}
-
-/// The devices of an event, nearest first.
+/// The devices of an event as udev sees them, nearest first.
 pub(crate) fn candidates<'a>(
     alloc: Global,
     state: &'a State<'_>,
 ) -> Result<Vec<Candidate<'a>>, AllocError>
-    ensures { IfOk result (λ devices. devices.items ≡ candidates state.now) }
+    ensures { IfOk result (λ devices. devices.items ≡ candidates_as Udev state.now) }
 {
     let mut devices = Vec::new(alloc);
-    devices.push(event_device(alloc, state)?)?;
     let event = state.event.event();
+    devices.push(seen_by_udev(alloc, event.device(), state.env.get(b"MODALIAS"))?)?;
     for device in event.parents() {
-        devices.push(parent(alloc, event.profile(), device)?)?;
+        devices.push(seen_by_udev(alloc, device, device.env().get(b"MODALIAS"))?)?;
     }
     Ok(devices)
 }
 
+/// Whether a subsystem is wanted: the one that is named, if any.
+pub(crate) fn is_wanted(named: Option<&[u8]>, subsystem: Option<&[u8]>) -> bool
+    ensures { result ≡ wanted_in (option_map (λ t. t.now) named.entry) (option_map (λ t. t.now) subsystem.entry) }
+{
+    match named {
+        Some(name) => is_text(name, subsystem),
+        None => subsystem.is_some(),
+    }
+}
+
 impl<'a> Candidate<'a> {
     /// Whether it has a subsystem: the one that is named, if any.
+    #[tactic(auto, using(crate::proofs::Seeing::wanted_by))]
     fn is_wanted(&self, subsystem: Option<&[u8]>) -> bool
         ensures { result ≡ is_wanted (option_map (λ t. t.now) subsystem.entry) self.now }
     {
-        match subsystem {
-            Some(name) => is_text(name, self.subsystem),
-            None => self.subsystem.is_some(),
-        }
+        is_wanted(subsystem, self.subsystem)
     }
 
     /// Whether it is a USB device, and not an interface of one.
@@ -157,29 +129,6 @@ fn modaliases_in<'a>(
     Ok(found)
 }
 
-/// The modaliases of devices, nearest first, each of which has a subsystem: the one that is named, if any. Such a
-/// USB device is the last one, with or without a modalias.
-fn modaliases_of<'a>(
-    alloc: Global,
-    subsystem: Option<&[u8]>,
-    devices: &'a [Candidate<'_>],
-) -> Result<Vec<&'a [u8]>, AllocError>
-    ensures { IfOk result (λ found. map (λ m. m.now) found.items ≡ modaliases_of (option_map (λ t. t.now) subsystem.entry) devices.now) }
-{
-    let mut found = Vec::new(alloc);
-    for device in devices {
-        if device.is_wanted(subsystem) {
-            if let Some(modalias) = &device.modalias {
-                found.push(modalias.as_slice())?;
-            }
-            if device.is_usb_device() {
-                break;
-            }
-        }
-    }
-    Ok(found)
-}
-
 /// How many devices come before the first USB device that is wanted.
 fn count_before_usb(subsystem: Option<&[u8]>, devices: &[Candidate<'_>]) -> usize
     ensures value { result ≡ count_before_usb (option_map (λ t. t.now) subsystem.entry) devices.now }
@@ -196,7 +145,7 @@ fn count_before_usb(subsystem: Option<&[u8]>, devices: &[Candidate<'_>]) -> usiz
 }
 
 /// The modaliases at which udev looks: those before the first device of USB, and from that device on the first one.
-fn udev_modaliases_of<'a>(
+pub(crate) fn udev_modaliases_of<'a>(
     alloc: Global,
     subsystem: Option<&[u8]>,
     devices: &'a [Candidate<'_>],
@@ -210,19 +159,4 @@ fn udev_modaliases_of<'a>(
         found.push(*first)?;
     }
     Ok(found)
-}
-
-/// The modaliases of devices that are looked up.
-pub(crate) fn modaliases_by<'a>(
-    alloc: Global,
-    profile: Profile,
-    subsystem: Option<&[u8]>,
-    devices: &'a [Candidate<'_>],
-) -> Result<Vec<&'a [u8]>, AllocError>
-    ensures { IfOk result (λ found. map (λ m. m.now) found.items ≡ modaliases_by profile (option_map (λ t. t.now) subsystem.entry) devices.now) }
-{
-    match profile {
-        Profile::Manual => modaliases_of(alloc, subsystem, devices),
-        Profile::Udev => udev_modaliases_of(alloc, subsystem, devices),
-    }
 }

@@ -24,10 +24,10 @@ pub struct Hwdb {
 }
 
 /// The name of the option for a subsystem.
-const SUBSYSTEM: &[u8] = b"--subsystem";
+pub(crate) const SUBSYSTEM: &[u8] = b"--subsystem";
 
 /// The name of the option for a prefix.
-const PREFIX: &[u8] = b"--lookup-prefix";
+pub(crate) const PREFIX: &[u8] = b"--lookup-prefix";
 
 /// The name of the option for the keys that count.
 const FILTER: &[u8] = b"--filter";

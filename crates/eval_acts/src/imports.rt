@@ -10,8 +10,9 @@ ghost use Rattle.eval_acts.specs.Imports.{from_answer, from_parent, from_program
 
 use crate::builtin::Builtin;
 use crate::builtin_runs::{run_input_id, run_net_id, run_path_id, run_usb_id};
-use crate::lookups::look_up;
+use crate::lookups::{look_up, look_up_request};
 use crate::printed::set_printed;
+use crate::request::{other_name, request_of};
 use device_core::ProgramAnswer;
 use eval_state::{NoteKind, Scene, set_property};
 use hwdb_lookup::Lookup;
@@ -85,7 +86,16 @@ pub(crate) fn run_builtin<L: Lookup>(
     ensures scene { IfOk result (λ done. (scene.new, done) ≡ run_builtin (L.entries database.now) rule.now command.now scene.old) }
     ensures refused { OnErr result (scene.new.state.event ≡ scene.old.state.event) }
 {
-    match Builtin::read(alloc, scene.state.event.event().profile(), command)? {
+    let profile = scene.state.event.event().profile();
+    if let Some(name) = other_name(profile, command) {
+        scene.note(alloc, rule, NoteKind::BuiltinNotRun, name)?;
+        return Ok(false);
+    }
+    if let Some(request) = request_of(profile, command) {
+        let found = look_up_request(alloc, &request, &scene.state, database)?;
+        return take(alloc, &found, scene);
+    }
+    match Builtin::read(alloc, profile, command)? {
         Builtin::Hwdb(hwdb) => {
             let found = look_up(alloc, &hwdb, &scene.state, database)?;
             take(alloc, &found, scene)

@@ -15,7 +15,10 @@ mod lookups;
 mod printed;
 mod questions;
 mod reaching;
+mod request;
+mod seen;
 mod udev_hwdb;
+mod unquoted;
 mod usb_modalias;
 mod words;
 

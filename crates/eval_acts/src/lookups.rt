@@ -1,74 +1,164 @@
 //! What `hwdb` finds in a hardware database.
-ghost use Rattle.std.specs.Prelude.{◌≡◌, ◌++◌, [], map, filter, IfOk};
-ghost use Rattle.hwdb_lookup.specs.Query.{shown};
-ghost use Rattle.eval_acts.specs.LookUps.{counted_properties, counts, found, modaliases};
+ghost use Rattle.std.specs.Prelude.{◌≡◌, ◌++◌, map, option_map, filter, IfOk};
+ghost use Rattle.hwdb_lookup.specs.Query.{query, shown};
+ghost use Rattle.text_core.specs.Fits.{fits};
+ghost use Rattle.eval_acts.specs.Inner.{answer_of, candidates_as};
+ghost use Rattle.eval_acts.specs.LookUps.{candidates, counted_properties, counts, found, modaliases_by, modaliases_of, udev_modaliases_of};
 
-use crate::candidates::{Candidate, candidates, modaliases_by};
+use crate::candidates::{candidates, udev_modaliases_of};
 use crate::hwdb::Hwdb;
+use crate::request::Request;
+use crate::seen::modaliases_of;
 use eval_state::State;
 use hwdb_lookup::Lookup;
 use std::alloc::{AllocError, Global};
-use text_bytes::{Bytes, Profile};
-
-/// The modaliases to look up: the given one, or else those of the devices.
-fn modaliases<'a>(
-    alloc: Global,
-    profile: Profile,
-    hwdb: &'a Hwdb,
-    devices: &'a [Candidate<'_>],
-) -> Result<Vec<&'a [u8]>, AllocError>
-    ensures { IfOk result (λ found. map (λ m. m.now) found.items ≡ modaliases profile hwdb.now hwdb.now.modalias devices.now) }
-{
-    match &hwdb.modalias {
-        Some(modalias) => {
-            let mut only = Vec::new(alloc);
-            only.push(modalias.as_slice())?;
-            Ok(only)
-        }
-        None => {
-            let subsystem = hwdb.subsystem.as_ref().map(Bytes::as_slice);
-            modaliases_by(alloc, profile, subsystem, devices)
-        }
-    }
-}
+use text_bytes::Profile;
+use text_core::Pattern;
 
 /// A modalias after a prefix.
 fn prefixed(alloc: Global, prefix: &[u8], modalias: &[u8]) -> Result<Vec<u8>, AllocError>
     ensures { IfOk result (λ text. text.items ≡ prefix.now ++ modalias.now) }
 {
-    let mut text = Vec::from_slice(alloc, prefix)?;
+    let mut text = Vec::with_capacity(alloc, prefix.len() + modalias.len())?;
+    text.extend_from_slice(prefix)?;
     text.extend_from_slice(modalias)?;
     Ok(text)
 }
 
-/// Whether a key counts.
-fn counts(hwdb: &Hwdb, key: &[u8]) -> bool
-    ensures { result ≡ counts hwdb.now.filter key.now }
+/// The properties of a modalias after a prefix.
+fn properties<'l, L: Lookup>(
+    alloc: Global,
+    prefix: &[u8],
+    modalias: &[u8],
+    database: &'l L,
+) -> Result<Vec<(&'l [u8], &'l [u8])>, AllocError>
+    ensures { IfOk result (λ found. shown found.items ≡ query (L.entries database.now) (prefix.now ++ modalias.now)) }
 {
-    match &hwdb.filter {
-        Some(pattern) => pattern.fits(key),
-        None => true,
+    if prefix.is_empty() {
+        return database.query(alloc, modalias);
+    }
+    let text = prefixed(alloc, prefix, modalias)?;
+    database.query(alloc, &text)
+}
+
+/// Those of these properties whose keys fit a pattern.
+fn fitting<'l>(
+    alloc: Global,
+    pattern: &Pattern,
+    found: &[(&'l [u8], &'l [u8])],
+) -> Result<Vec<(&'l [u8], &'l [u8])>, AllocError>
+    ensures { IfOk result (λ kept. shown kept.items ≡ filter (λ property. fits pattern.now property.0) (shown found.now)) }
+{
+    let mut kept = Vec::new(alloc);
+    for (key, value) in found {
+        if pattern.fits(key) {
+            kept.push((*key, *value))?;
+        }
+    }
+    Ok(kept)
+}
+
+/// Those of these properties that count: those whose keys fit the filter, if there is one.
+fn counted<'l>(
+    alloc: Global,
+    pattern: Option<&Pattern>,
+    found: Vec<(&'l [u8], &'l [u8])>,
+) -> Result<Vec<(&'l [u8], &'l [u8])>, AllocError>
+    ensures { IfOk result (λ kept. shown kept.items ≡ filter (λ property. counts (option_map (λ p. p.now) pattern.entry) property.0) (shown found.entry.items)) }
+{
+    match pattern {
+        Some(pattern) => fitting(alloc, pattern, &found),
+        None => Ok(found),
     }
 }
 
 /// The properties of a modalias that count.
 fn counted_properties<'l, L: Lookup>(
     alloc: Global,
-    hwdb: &Hwdb,
+    request: &Request<'_>,
     modalias: &[u8],
     database: &'l L,
 ) -> Result<Vec<(&'l [u8], &'l [u8])>, AllocError>
-    ensures { IfOk result (λ kept. shown kept.items ≡ counted_properties (L.entries database.now) hwdb.now (hwdb.now.prefix ++ modalias.now)) }
+    ensures { IfOk result (λ kept. shown kept.items ≡ counted_properties (L.entries database.now) request.now (request.now.prefix ++ modalias.now)) }
 {
-    let text = prefixed(alloc, hwdb.prefix.as_slice(), modalias)?;
-    let found = database.query(alloc, &text)?;
-    let mut kept = Vec::new(alloc);
-    for (key, value) in &found {
-        if counts(hwdb, key) {
-            kept.push((*key, *value))?;
+    let found = properties(alloc, request.prefix, modalias, database)?;
+    counted(alloc, request.filter, found)
+}
+
+/// The answer to the first of these modaliases that has one.
+fn first_answer<'l, L: Lookup>(
+    alloc: Global,
+    request: &Request<'_>,
+    modaliases: &[&[u8]],
+    database: &'l L,
+) -> Result<Vec<(&'l [u8], &'l [u8])>, AllocError>
+    ensures { IfOk result (λ properties. shown properties.items ≡ answer_of (L.entries database.now) request.now (map (λ m. m.now) modaliases.now)) }
+{
+    for modalias in modaliases {
+        let properties = counted_properties(alloc, request, modalias, database)?;
+        if !properties.as_slice().is_empty() {
+            return Ok(properties);
         }
     }
-    Ok(kept)
+    Ok(Vec::new(alloc))
+}
+
+/// What is found for the devices of an event by the manual.
+fn found_by_manual<'l, L: Lookup>(
+    alloc: Global,
+    request: &Request<'_>,
+    state: &State<'_>,
+    database: &'l L,
+) -> Result<Vec<(&'l [u8], &'l [u8])>, AllocError>
+    ensures { IfOk result (λ properties. shown properties.items ≡ answer_of (L.entries database.now) request.now (modaliases_of request.now.subsystem (candidates_as Profile.Manual state.now))) }
+{
+    let modaliases = modaliases_of(alloc, request.subsystem, state)?;
+    first_answer(alloc, request, &modaliases, database)
+}
+
+/// What is found for the devices of an event as udev looks at them.
+fn found_by_udev<'l, L: Lookup>(
+    alloc: Global,
+    request: &Request<'_>,
+    state: &State<'_>,
+    database: &'l L,
+) -> Result<Vec<(&'l [u8], &'l [u8])>, AllocError>
+    ensures { IfOk result (λ properties. shown properties.items ≡ answer_of (L.entries database.now) request.now (udev_modaliases_of request.now.subsystem (candidates_as Profile.Udev state.now))) }
+{
+    let devices = candidates(alloc, state)?;
+    let modaliases = udev_modaliases_of(alloc, request.subsystem, &devices)?;
+    first_answer(alloc, request, &modaliases, database)
+}
+
+/// What is found for the devices of an event.
+fn found_for_devices<'l, L: Lookup>(
+    alloc: Global,
+    request: &Request<'_>,
+    state: &State<'_>,
+    database: &'l L,
+) -> Result<Vec<(&'l [u8], &'l [u8])>, AllocError>
+    ensures { IfOk result (λ properties. shown properties.items ≡ answer_of (L.entries database.now) request.now (modaliases_by state.now.event.profile request.now.subsystem (candidates state.now))) }
+{
+    match state.event.event().profile() {
+        Profile::Manual => found_by_manual(alloc, request, state, database),
+        Profile::Udev => found_by_udev(alloc, request, state, database),
+    }
+}
+
+/// What is found for an event by a request.
+#[tactic(auto, unfolding(crate::specs::LookUps::found))]
+pub(crate) fn look_up_request<'l, L: Lookup>(
+    alloc: Global,
+    request: &Request<'_>,
+    state: &State<'_>,
+    database: &'l L,
+) -> Result<Vec<(&'l [u8], &'l [u8])>, AllocError>
+    ensures { IfOk result (λ properties. shown properties.items ≡ found (L.entries database.now) request.now state.now) }
+{
+    match request.modalias {
+        Some(modalias) => first_answer(alloc, request, &[modalias], database),
+        None => found_for_devices(alloc, request, state, database),
+    }
 }
 
 /// What `hwdb` finds in a database for an event, as udev(7) has it: the answer to the first of these
@@ -81,7 +171,6 @@ fn counted_properties<'l, L: Lookup>(
 /// In an event of udev's (systemd 257) DEVTYPE is what the kernel said, and a USB device without MODALIAS has
 /// `usb:vVVVVpPPPP:NAME`, made of its attributes idVendor, idProduct and product, if the first two are numbers in
 /// base 16 up to FFFF. If it does not have these either, the next device with a modalias is the last one looked at.
-#[tactic(auto, unfolding(crate::specs::LookUps::found))]
 pub fn look_up<'l, L: Lookup>(
     alloc: Global,
     hwdb: &Hwdb,
@@ -90,14 +179,5 @@ pub fn look_up<'l, L: Lookup>(
 ) -> Result<Vec<(&'l [u8], &'l [u8])>, AllocError>
     ensures { IfOk result (λ properties. shown properties.items ≡ found (L.entries database.now) hwdb.now state.now) }
 {
-    let devices = candidates(alloc, state)?;
-    let profile = state.event.event().profile();
-    let modaliases = modaliases(alloc, profile, hwdb, &devices)?;
-    for modalias in &modaliases {
-        let properties = counted_properties(alloc, hwdb, modalias, database)?;
-        if !properties.as_slice().is_empty() {
-            return Ok(properties);
-        }
-    }
-    Ok(Vec::new(alloc))
+    look_up_request(alloc, &Request::of(hwdb), state, database)
 }

@@ -4,15 +4,19 @@ use Rattle.std.specs.List.{list_all}
 use Rattle.std.specs.Option.{option_and_then, option_or}
 use Rattle.std.proofs.lemmas.List.{get_or-map}
 use Rattle.std.proofs.lemmas.List.Folds.{list_all_at}
-use Rattle.std.proofs.lemmas.Option.{same_Some, slice_get-get_or, slice_get_within}
+use Rattle.std.specs.Cmp.Lexicographic.{bytes_decides}
+use Rattle.std.proofs.lemmas.List.Quantifiers.{position-Some}
+use Rattle.std.proofs.lemmas.Option.{same_Some, slice_get-get_or, slice_get-map, slice_get_within}
 use Rattle.text_bytes.specs.Texts.{is_empty, trimmed}
 use Rattle.text_bytes.specs.declared.profile.Profile.{Profile}
 use Rattle.text_bytes.specs.declared.profile.Profile.TheVariants.{Manual, Udev}
-use Rattle.text_tables.specs.Texts.{Text}
+use Rattle.text_tables.specs.Texts.{Text, same_text}
 use Rattle.text_tables.specs.Pairs.{value_of}
 use Rattle.hwdb_lookup.specs.declared.entry.Entry.{Entry}
 use Rattle.rule_types.specs.declared.roles.MatchOperator.{MatchOperator}
 use Rattle.rule_types.specs.declared.roles.MatchOperator.TheVariants.{Equal, NotEqual}
+use Rattle.rule_types.specs.declared.roles.PlainKey.{PlainKey}
+use Rattle.rule_types.specs.declared.roles.PlainKey.TheVariants as plain
 use Rattle.rule_types.specs.declared.roles.UpKey.{UpKey}
 use Rattle.rule_types.specs.declared.roles.UpKey.TheVariants as up
 use Rattle.rule_types.specs.declared.part.Act.{Act}
@@ -36,8 +40,9 @@ use Rattle.eval_acts.specs.Reaching.{match_reached}
 use Rattle.eval_assignments.specs.Steps.{set_step}
 use Rattle.eval_rules.specs.Idle.{is_idle_by}
 use Rattle.eval_rules.specs.Steps.{Went, apply, if_proceeding, only_noted, plain_step, result_step, search, set_all, steps, walk, with_selected}
+use Rattle.eval_core.specs.Actions.{action_place, actions, by_action_in, has_no_more, held_for, with_action}
 use Rattle.eval_core.specs.Checks.{check_of, choice_check, is_other, is_ruled_out, seen}
-use Rattle.eval_core.specs.Courses.{as_predicted, course_after, course_by, course_in, course_of, guard_in, guarded, has_no_more, mark_by, mark_in, mark_of, part_mark, predicted, predicted_by, search_in, searched, unequal_check}
+use Rattle.eval_core.specs.Courses.{as_predicted, checked_course, course_after, course_by, course_in, course_of, course_with, guard_in, guarded, mark_by, mark_in, mark_of, part_mark, predicted, predicted_by, search_in, searched, told, told_by, unequal_check}
 use Rattle.eval_core.specs.Marks.{driver, is_lacking, mark, marks, subsystem}
 use Rattle.eval_core.specs.declared.checks.Check.{Check}
 use Rattle.eval_core.specs.declared.courses.Course.{Course}
@@ -45,7 +50,7 @@ use Rattle.eval_core.specs.declared.courses.Course.TheVariants.{Open, Search}
 use Rattle.eval_core.specs.declared.courses.Fate.{Fate}
 use Rattle.eval_core.specs.declared.courses.Fate.TheVariants.{Unknown, Failed, Reached, NotFound}
 use Rattle.eval_core.proofs.Marking.{marked, marks_attribute, marks_driver, marks_subsystem, other_value}
-use Rattle.eval_core.proofs.Ruling.{attribute_missed, missed, nothing_known, ruled_out, text_missed}
+use Rattle.eval_core.proofs.Ruling.{attribute_missed, missed, nothing_known, ruled_out, stops, text_missed}
 
 -- ---- rules that are matches of the event alone
 
@@ -177,6 +182,19 @@ module _ (state : State) (manual : state.event.profile ≡ Manual) where
       (none_found (λ place. list_all (holds_at state place) parts) (length (chain state.event))).1
       (λ place within. list_all_at (holds_at state place) parts i part within_parts (ap (holds_at state place) is ∙ nowhere place within))
 
+-- ---- what is known of the action
+
+-- what is held for a known action is whether the match holds for it
+held_at : (wanted : Comparison) (action : Text) (place : ℕ) → action_place action ≡ Some place → (b : Bool) → slice_get (held_for wanted) place ≡ Some b → holds (one action) wanted ≡ b
+held_at wanted action place e b at =
+    let found = position-Some (same_text action) actions place [] e in
+    let known : Text = get_or actions place [] in
+    let same : action ≡ known = (bytes_decides action known).0 found.1 in
+    let held : slice_get (held_for wanted) place ≡ Some (holds (one known) wanted) =
+    slice_get-map (λ action. holds (one action) wanted) actions place
+    ∙ ap (option_map (λ action. holds (one action) wanted)) (slice_get-get_or actions place [] found.0) in
+    ap (λ text. holds (one text) wanted) same ∙ same_Some (holds (one known) wanted) b (sym held ∙ at)
+
 -- ---- a rule by its course
 
 module _ (es : List Entry) (names : List Text) (r : Rule) (s : Scene) (manual : s.state.event.profile ≡ Manual) where
@@ -185,7 +203,7 @@ module _ (es : List Entry) (names : List Text) (r : Rule) (s : Scene) (manual : 
   Comes fate = as_predicted fate s (steps es r s) ≡ steps es r s
 
   abbrev Known : Course → Type 0
-  Known course = Comes (predicted (seen names s.state.event) (marks s.state.event) course)
+  Known course = Comes (predicted (action_place s.state.event.action) (seen names s.state.event) (marks s.state.event) course)
 
   at_guard : (part : PlainMatch) → r.up ≡ [] → IsDone r → r.plain ≡ part ∷ [] → Known (guarded (unequal_check part.wanted.operator (choice_check names part.key part.wanted.choice)))
   at_guard part ups is plain = by part.wanted.operator refl (choice_check names part.key part.wanted.choice) refl
@@ -241,8 +259,8 @@ module _ (es : List Entry) (names : List Text) (r : Rule) (s : Scene) (manual : 
       by [] ups = either ups (has_no_more r) refl
       by (part ∷ parts) ups = at_search part parts ups r.plain refl
 
-  at_course : Known (course_of names r)
-  at_course = by (check_of names r) refl
+  at_checked : Known (checked_course names r)
+  at_checked = by (check_of names r) refl
     where
       fails : (check : Check) → check_of names r ≡ Some check → (b : Bool) → is_ruled_out (seen names s.state.event) (Some check) ≡ b → Comes (cond b Failed Unknown)
       fails check e true out = sym (ruled_out es names r s manual (ap (is_ruled_out (seen names s.state.event)) e ∙ out))
@@ -252,6 +270,48 @@ module _ (es : List Entry) (names : List Text) (r : Rule) (s : Scene) (manual : 
       by None e = at_after
       by (Some check) e = fails check e (is_ruled_out (seen names s.state.event) (Some check)) refl
 
+  -- a rule whose first match is one of the action
+  at_action : (part : PlainMatch) (parts : List PlainMatch) → r.plain ≡ part ∷ parts → part.key ≡ plain.Action
+      → Comes (told_by (action_place s.state.event.action) (record { held = held_for part.wanted; is_guard = is_empty parts && is_empty r.up && has_no_more r }))
+  at_action part parts plain key = by (action_place s.state.event.action) refl
+    where
+      alone : Bool
+      alone = is_empty parts && is_empty r.up && has_no_more r
+
+      leaves : match_reached r part.key s ≡ s
+      leaves = ap (λ k. match_reached r k s) key
+
+      met : holds (plain_subject part.key s.state) part.wanted ≡ holds (one s.state.event.action) part.wanted
+      met = ap (λ k. holds (plain_subject k s.state) part.wanted) key
+
+      reached : holds (one s.state.event.action) part.wanted ≡ true → (guard : Bool) → alone ≡ guard → Comes (cond guard Reached Unknown)
+      reached is false e = refl
+      reached is true e =
+          let last = both (is_empty parts && is_empty r.up) (has_no_more r) e in
+          let first = both (is_empty parts) (is_empty r.up) last.0 in
+          let only : r.plain ≡ part ∷ [] = plain ∙ ap (λ (ps : List PlainMatch). part ∷ ps) (none_left parts first.0) in
+          sym (ended es r s (none_left r.up first.1) (done r last.1) (one_walked es r s part only leaves (met ∙ is)))
+
+      so : (held : Option Bool) → ((b : Bool) → held ≡ Some b → holds (one s.state.event.action) part.wanted ≡ b) → Comes (told held alone)
+      so None is = refl
+      so (Some true) is = reached (is true refl) alone refl
+      so (Some false) is = sym (stops es r s part parts plain leaves (met ∙ is false refl))
+
+      by : (place : Option ℕ) → action_place s.state.event.action ≡ place → Comes (told_by place (record { held = held_for part.wanted; is_guard = alone }))
+      by None e = refl
+      by (Some place) e = so (slice_get (held_for part.wanted) place) (held_at part.wanted s.state.event.action place e)
+
+  at_course : Known (course_of names r)
+  at_course = by r.plain refl
+    where
+      by : (parts : List PlainMatch) → r.plain ≡ parts → Known (course_with names r (by_action_in r parts))
+      by [] e = at_checked
+      by (part ∷ parts) e = with_key part.key refl
+        where
+          with_key : (key : PlainKey) → part.key ≡ key → Known (course_with names r (with_action key part.wanted (is_empty parts && is_empty r.up && has_no_more r)))
+          with_key plain.Action k = at_action part parts e k
+          with_key other k = at_checked
+
 -- by the manual a rule goes through its steps
 passes_through : (es : List Entry) (r : Rule) (s : Scene) → s.state.event.profile ≡ Manual → apply es r s ≡ steps es r s
 unfolding apply is_idle_by
@@ -259,30 +319,32 @@ passes_through es r s manual = ap (λ by. cond (is_idle_by by r s.state.event) (
 
 -- what is known of a rule by its course comes so
 pub comes_so : (es : List Entry) (names : List Text) (event : EventValue) (r : Rule) (s : Scene) → s.state.event ≡ event
-    → as_predicted (predicted_by event.profile (seen names event) (marks event) (course_of names r)) s (apply es r s) ≡ apply es r s
+    → as_predicted (predicted_by event.profile (action_place event.action) (seen names event) (marks event) (course_of names r)) s (apply es r s) ≡ apply es r s
 comes_so es names event r s same = by event.profile refl
   where
-    by : (profile : Profile) → event.profile ≡ profile → as_predicted (predicted_by profile (seen names event) (marks event) (course_of names r)) s (apply es r s) ≡ apply es r s
+    by : (profile : Profile) → event.profile ≡ profile → as_predicted (predicted_by profile (action_place event.action) (seen names event) (marks event) (course_of names r)) s (apply es r s) ≡ apply es r s
     by Udev e = refl
     by Manual e =
         let manual : s.state.event.profile ≡ Manual = ap (λ (v : EventValue). v.profile) same ∙ e in
         let through : apply es r s ≡ steps es r s = passes_through es r s manual in
-        ap (as_predicted (predicted (seen names event) (marks event) (course_of names r)) s) through
-        ∙ ap (λ v. as_predicted (predicted (seen names v) (marks v) (course_of names r)) s (steps es r s)) (sym same)
+        ap (as_predicted (predicted (action_place event.action) (seen names event) (marks event) (course_of names r)) s) through
+        ∙ ap (λ (v : EventValue). as_predicted (predicted (action_place v.action) (seen names v) (marks v) (course_of names r)) s (steps es r s)) (sym same)
         ∙ at_course es names r s manual
         ∙ sym through
 
 -- what is foretold of the rule at a place comes so
-pub predicted_so : (es : List Entry) (names : List Text) (event : EventValue) (rules : List Rule) (courses : List Course) (reported : List (Option ℕ)) (found : List Bool) (profile : Profile) (place : ℕ) (r : Rule) (d : Course) (s : Scene) (fate : Fate)
-    → place < length rules → s.state.event ≡ event → courses ≡ map (course_of names) rules → reported ≡ seen names event → found ≡ marks event → profile ≡ event.profile → fate ≡ predicted_by profile reported found (get_or courses place d)
+pub predicted_so : (es : List Entry) (names : List Text) (event : EventValue) (rules : List Rule) (courses : List Course) (reported : List (Option ℕ)) (found : List Bool) (profile : Profile) (action : Option ℕ) (place : ℕ) (r : Rule) (d : Course) (s : Scene) (fate : Fate)
+    → place < length rules → s.state.event ≡ event → courses ≡ map (course_of names) rules → reported ≡ seen names event → found ≡ marks event → profile ≡ event.profile → action ≡ action_place event.action
+    → fate ≡ predicted_by profile action reported found (get_or courses place d)
     → as_predicted fate s (apply es (get_or rules place r) s) ≡ apply es (get_or rules place r) s
-predicted_so es names event rules courses reported found profile place r d s fate within same known is are by to =
+predicted_so es names event rules courses reported found profile action place r d s fate within same known is are by acts to =
     let rule : Rule = get_or rules place r in
     let course : get_or courses place d ≡ course_of names rule = ap (λ cs. get_or cs place d) known ∙ get_or-map (course_of names) rules place r d within in
     ap (λ f. as_predicted f s (apply es rule s))
     (to
-    ∙ ap (λ p. predicted_by p reported found (get_or courses place d)) by
-    ∙ ap (λ t. predicted_by event.profile t found (get_or courses place d)) is
-    ∙ ap (λ k. predicted_by event.profile (seen names event) k (get_or courses place d)) are
-    ∙ ap (predicted_by event.profile (seen names event) (marks event)) course)
+    ∙ ap (λ p. predicted_by p action reported found (get_or courses place d)) by
+    ∙ ap (λ a. predicted_by event.profile a reported found (get_or courses place d)) acts
+    ∙ ap (λ t. predicted_by event.profile (action_place event.action) t found (get_or courses place d)) is
+    ∙ ap (λ k. predicted_by event.profile (action_place event.action) (seen names event) k (get_or courses place d)) are
+    ∙ ap (predicted_by event.profile (action_place event.action) (seen names event) (marks event)) course)
     ∙ comes_so es names event rule s same

@@ -167,7 +167,7 @@ module _ (names : List Text) (r : Rule) (s : Scene) (manual : s.state.event.prof
 -- ---- a rule
 
 -- a rule whose first match leaves nothing and does not hold
-stops : (es : List Entry) (r : Rule) (s : Scene) (part : PlainMatch) (parts : List PlainMatch) → r.plain ≡ part ∷ parts → match_reached r part.key s ≡ s → holds (plain_subject part.key s.state) part.wanted ≡ false
+pub stops : (es : List Entry) (r : Rule) (s : Scene) (part : PlainMatch) (parts : List PlainMatch) → r.plain ≡ part ∷ parts → match_reached r part.key s ≡ s → holds (plain_subject part.key s.state) part.wanted ≡ false
     → steps es r s ≡ (s, false)
 unfolding steps walk plain_step
 stops es r s part parts plain leaves fails =

@@ -16,11 +16,13 @@ use Rattle.rule_types.specs.Rules.{Rule}
 use Rattle.eval_core.specs.Sketches.{exact_sketch, sketch}
 use Rattle.eval_state.specs.declared.scene.Scene.{Scene}
 use Rattle.eval_rules.specs.Steps.{Went, with_selected}
+use Rattle.eval_core.specs.Actions.{by_action, has_no_more}
 use Rattle.eval_core.specs.Checks.{check_of, choice_check, is_ruled_out}
 use Rattle.eval_core.specs.Marks.{driver, is_lacking, mark, subsystem}
+use Rattle.eval_core.specs.declared.actions.ByAction.{ByAction}
 use Rattle.eval_core.specs.declared.checks.Check.{Check}
 use Rattle.eval_core.specs.declared.courses.Course.{Course}
-use Rattle.eval_core.specs.declared.courses.Course.TheVariants.{Open, Bare, First, Guard, Search}
+use Rattle.eval_core.specs.declared.courses.Course.TheVariants.{Open, Bare, Action, First, Guard, Search}
 use Rattle.eval_core.specs.declared.courses.Fate.{Fate}
 use Rattle.eval_core.specs.declared.courses.Fate.TheVariants.{Unknown, Failed, Reached, NotFound}
 
@@ -81,10 +83,6 @@ abbrev pub search_in : List PlainMatch → List UpMatch → UpMatch → Course
 search_in [] parts part = searched (option_or (last_mark parts) (part_mark part))
 search_in (other ∷ plain) parts part = Open
 
--- whether a rule has nothing after its matches of the event and of a device
-abbrev pub has_no_more : Rule → Bool
-has_no_more r = is_empty r.acts && is_empty r.results && is_empty r.sets
-
 -- the course of a rule with these matches of one device
 abbrev pub course_in : List Text → Rule → List UpMatch → Course
 course_in names r [] = if has_no_more r then guard_in names r.plain else Open
@@ -99,23 +97,44 @@ abbrev pub course_by : List Text → Rule → Option Check → Course
 course_by names r None = course_after names r
 course_by names r (Some check) = First check
 
+-- the course of a rule whose first match is not one of the action
+abbrev pub checked_course : List Text → Rule → Course
+checked_course names r = course_by names r (check_of names r)
+
+-- the course of a rule, by what is known of it if its first match is one of the action
+abbrev pub course_with : List Text → Rule → Option ByAction → Course
+course_with names r None = checked_course names r
+course_with names r (Some by) = Action by
+
 -- the course of a rule
 abbrev pub course_of : List Text → Rule → Course
-course_of names r = course_by names r (check_of names r)
+course_of names r = course_with names r (by_action r)
+
+-- the outcome of a rule whose first match is one of the action, if it is known whether that holds
+abbrev pub told : Option Bool → Bool → Fate
+told None guard = Unknown
+told (Some true) guard = if guard then Reached else Unknown
+told (Some false) guard = Failed
+
+-- the same by the action's place among those that are known
+abbrev pub told_by : Option ℕ → ByAction → Fate
+told_by None by = Unknown
+told_by (Some place) by = told (slice_get by.held place) by.is_guard
 
 -- the outcome of a rule by what is seen: it fails, or its end is reached, with nothing changed; or its search finds
 -- no device
-abbrev pub predicted : List (Option ℕ) → List Bool → Course → Fate
-predicted seen marks Open = Unknown
-predicted seen marks Bare = Reached
-predicted seen marks (First check) = if is_ruled_out seen (Some check) then Failed else Unknown
-predicted seen marks (Guard check) = if is_ruled_out seen (Some check) then Reached else Unknown
-predicted seen marks (Search mark) = if is_lacking (slice_get marks mark) then NotFound else Unknown
+abbrev pub predicted : Option ℕ → List (Option ℕ) → List Bool → Course → Fate
+predicted action seen marks Open = Unknown
+predicted action seen marks Bare = Reached
+predicted action seen marks (Action by) = told_by action by
+predicted action seen marks (First check) = if is_ruled_out seen (Some check) then Failed else Unknown
+predicted action seen marks (Guard check) = if is_ruled_out seen (Some check) then Reached else Unknown
+predicted action seen marks (Search mark) = if is_lacking (slice_get marks mark) then NotFound else Unknown
 
 -- the outcome of a rule of an event, by the profile by which it is evaluated: for udev nothing is foretold
-abbrev pub predicted_by : Profile → List (Option ℕ) → List Bool → Course → Fate
-predicted_by profile.Manual seen marks course = predicted seen marks course
-predicted_by profile.Udev seen marks course = Unknown
+abbrev pub predicted_by : Profile → Option ℕ → List (Option ℕ) → List Bool → Course → Fate
+predicted_by profile.Manual action seen marks course = predicted action seen marks course
+predicted_by profile.Udev action seen marks course = Unknown
 
 -- what becomes of a scene by a rule whose outcome is known, as far as it is known
 abbrev pub as_predicted : Fate → Scene → Went → Went

@@ -1,3 +1,4 @@
+pub mod Actions
 pub mod Sketches
 pub mod Courses
 pub mod Checks

@@ -1,12 +1,13 @@
 //! The course of a rule: what is known about it before it is looked at.
 //!
 //! For many rules what is seen of an event decides how they end, and that they change nothing, or only forget which
-//! device was selected: those that are only a label or a jump, those that jump if the event has something other
-//! than one text, and those that search for a device with something that no device of the chain has. For an event
-//! by udev's profile nothing is foretold: there each rule is looked at.
+//! device was selected: those that are only a label or a jump, those that first ask for an action, those that jump if
+//! the event has something other than one text, and those that search for a device with something that no device of
+//! the chain has. For an event by udev's profile nothing is foretold: there each rule is looked at.
 ghost use Rattle.std.specs.Prelude.{◌≡◌, map, IfOk};
-ghost use Rattle.eval_core.specs.Courses.{course_after, course_of, guard_in, guarded, has_no_more, last_mark, part_mark, predicted, predicted_by, search_in, searched, thing_of, unequal_check};
+ghost use Rattle.eval_core.specs.Courses.{checked_course, course_after, course_of, guard_in, guarded, last_mark, part_mark, predicted, predicted_by, search_in, searched, thing_of, told, told_by, unequal_check};
 
+use crate::actions::{ByAction, by_action, has_no_more};
 use crate::checks::{Check, check_of, choice_check};
 use crate::marks::{DRIVER, MarkSet, SUBSYSTEM, mark};
 use crate::seen::is_ruled_out;
@@ -22,6 +23,8 @@ pub(crate) enum Course {
     Open,
     /// It has no parts: its end is reached.
     Bare,
+    /// It begins with a match of the action.
+    Action(ByAction),
     /// It begins with a match of the event by `==`: if the check fails, it changes nothing.
     First(Check),
     /// It is one match of the event by `!=`: if the check fails, its end is reached.
@@ -134,13 +137,6 @@ fn search_in(plain: &[PlainMatch], parts: &[UpMatch], part: &UpMatch) -> Course
     }
 }
 
-/// Whether a rule has nothing after its matches of the event and of a device.
-fn has_no_more(rule: &Rule) -> bool
-    ensures { result ≡ has_no_more rule.now }
-{
-    rule.acts().is_empty() && rule.results().is_empty() && rule.sets().is_empty()
-}
-
 /// The course of a rule whose first match has no check.
 fn course_after(names: &[Bytes], rule: &Rule) -> Course
     ensures { result ≡ course_after names.now rule.now }
@@ -157,13 +153,23 @@ fn course_after(names: &[Bytes], rule: &Rule) -> Course
     }
 }
 
-/// The course of a rule.
-fn course_of(names: &[Bytes], rule: &Rule) -> Course
-    ensures { result ≡ course_of names.now rule.now }
+/// The course of a rule whose first match is not one of the action.
+fn checked_course(names: &[Bytes], rule: &Rule) -> Course
+    ensures { result ≡ checked_course names.now rule.now }
 {
     match check_of(names, rule) {
         Some(check) => Course::First(check),
         None => course_after(names, rule),
+    }
+}
+
+/// The course of a rule.
+fn course_of(names: &[Bytes], rule: &Rule) -> Course
+    ensures { result ≡ course_of names.now rule.now }
+{
+    match by_action(rule) {
+        Some(by) => Course::Action(by),
+        None => checked_course(names, rule),
     }
 }
 
@@ -181,13 +187,40 @@ pub(crate) fn courses(
         .collect(alloc)
 }
 
+/// The outcome of a rule whose first match is one of the action, if it is known whether that holds.
+fn told(held: Option<bool>, is_guard: bool) -> Fate
+    ensures { result ≡ told held is_guard }
+{
+    match (held, is_guard) {
+        (Some(false), _) => Fate::Failed,
+        (Some(true), true) => Fate::Reached,
+        _ => Fate::Unknown,
+    }
+}
+
+/// The outcome of a rule whose first match is one of the action, by the action's place among those that are known.
+fn told_by(action: Option<usize>, by: &ByAction) -> Fate
+    ensures { result ≡ told_by action by.now }
+{
+    match action {
+        None => Fate::Unknown,
+        Some(place) => told(by.held.get(place).copied(), by.is_guard),
+    }
+}
+
 /// The outcome of a rule with a course, as far as it follows from what is seen.
-fn predicted(seen: &[Option<u64>], marks: &MarkSet, course: Course) -> Fate
-    ensures { result ≡ predicted seen.now marks.now course }
+fn predicted(
+    action: Option<usize>,
+    seen: &[Option<u64>],
+    marks: &MarkSet,
+    course: Course,
+) -> Fate
+    ensures { result ≡ predicted action seen.now marks.now course }
 {
     match course {
         Course::Open => Fate::Unknown,
         Course::Bare => Fate::Reached,
+        Course::Action(by) => told_by(action, &by),
         Course::First(check) => {
             if is_ruled_out(seen, check) {
                 Fate::Failed
@@ -215,14 +248,15 @@ fn predicted(seen: &[Option<u64>], marks: &MarkSet, course: Course) -> Fate
 /// The outcome of a rule with a course, by the profile by which it is evaluated: for udev nothing is known.
 pub(crate) fn predicted_by(
     profile: Profile,
+    action: Option<usize>,
     seen: &[Option<u64>],
     marks: &MarkSet,
     course: Course,
 ) -> Fate
-    ensures { result ≡ predicted_by profile seen.now marks.now course }
+    ensures { result ≡ predicted_by profile action seen.now marks.now course }
 {
     match profile {
-        Profile::Manual => predicted(seen, marks, course),
+        Profile::Manual => predicted(action, seen, marks, course),
         Profile::Udev => Fate::Unknown,
     }
 }

@@ -2,7 +2,8 @@
 //!
 //! `compile` keeps the rules as they are and puts lists beside them: for each rule, how many rules its jump skips, and
 //! its *course*, which is what can be known of it in advance. A rule may be a label or a jump alone; it may begin with
-//! a match of the event that has a *check*; it may be one `!=` match with a check; it may search the chain for a device
+//! a match of the action, of which it is known in advance for which actions it holds; it may begin with another match
+//! of the event that has a *check*; it may be one `!=` match with a check; it may search the chain for a device
 //! with a *mark*; or nothing is known. A check compares a 64-bit number made of one text of the event (a *sketch*), or
 //! its first byte. A mark is one of 2,048 numbers made of a thing and its value, such as an attribute. For each event
 //! the checks and marks are looked up once. If they decide the outcome of a rule, it is not evaluated; every other rule
@@ -16,6 +17,7 @@
 //! Functions that allocate return `AllocError` when memory runs out.
 #![tactic(auto)]
 
+mod actions;
 mod checks;
 mod courses;
 mod heads;

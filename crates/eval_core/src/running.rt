@@ -6,6 +6,7 @@ ghost use Rattle.eval_rules.specs.Steps.{apply};
 ghost use Rattle.eval_core.specs.Courses.{as_predicted};
 ghost use Rattle.eval_core.specs.Layout.{IsLaidOut};
 
+use crate::actions::action_place;
 use crate::courses::{Course, Fate, predicted_by};
 use crate::marks::marks;
 use crate::seen::seen;
@@ -77,9 +78,10 @@ pub(crate) fn run<'a, L: Lookup>(
     let seen = seen(alloc, layout.names, &scene.state.event)?;
     let found = marks(scene.state.event.event());
     let profile = scene.state.event.event().profile();
+    let action = action_place(scene.state.event.event().action());
     let mut place = 0;
     while place < layout.rules.len() {
-        let fate = predicted_by(profile, &seen, &found, layout.courses[place]);
+        let fate = predicted_by(profile, action, &seen, &found, layout.courses[place]);
         let reached = step(alloc, &layout.rules[place], fate, lookup, scene)?;
         place = following(layout.rules, layout.passes, place, reached);
     }

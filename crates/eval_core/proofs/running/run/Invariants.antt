@@ -1,5 +1,6 @@
 use Rattle.std.proofs.Common.{◌≡◌, ◌-◌, None, drop, length}
 use Rattle.eval_rules.specs.Jumps.{run}
+use Rattle.eval_core.specs.Actions.{action_place}
 use Rattle.eval_core.specs.Checks.{seen}
 use Rattle.eval_core.specs.Marks.{marks}
 use Rattle.eval_core.proofs.running.run.Given as goal
@@ -10,6 +11,7 @@ invariant-loop-place g l = record {
   event : l.scene.state.event ≡ l.fn.scene.state.event;
   seen : l.seen.items ≡ seen l.layout.names.now l.fn.scene.state.event;
   found : l.found ≡ marks l.fn.scene.state.event;
+  action : l.action ≡ action_place l.fn.scene.state.event.action;
   profile : l.profile ≡ l.fn.scene.state.event.profile;
 }
 

@@ -1,4 +1,4 @@
-use Rattle.std.proofs.Common.{◌∙◌, ap, filter_map, map, sym, Some}
+use Rattle.std.proofs.Common.{false, length, slice_index_or, ◌∙◌, ap, filter_map, map, sym, Some}
 use Rattle.builtin_devices.specs.Files.{file_below}
 use Rattle.builtin_devices.specs.Folders.{file_of, files_in, with_files}
 use Rattle.builtin_devices.proofs.Gathered.{one_file}
@@ -12,7 +12,7 @@ loop-path-init c = λ folder among.
 
 pub loop-path-preserved : goal.loop-path-preserved
 loop-path-preserved c = λ folder among.
-    ap (with_files folder (map file_of c.next.new.self)) (c.in_ok-add_file.ensures folder (c.in_ok-lengths.ensures folder among))
+    ap (with_files folder (map file_of c.next.new.self)) (c.in_ok-add_file.ensures folder (ap (λ lengths. slice_index_or lengths (length folder) false) c.deref.ensures.value ∙ c.in_ok-lengths.ensures folder among))
     ∙ one_file folder (c.in-Some.path.now.now, c.in-Some.text.now.now) (map file_of c.next.new.self) (files_in c.loop-path.folders folder)
     ∙ ap (λ files. with_files folder (map file_of files) (files_in c.loop-path.folders folder)) (sym c.in-Some.ensures.steps)
     ∙ c.loop-path.invariant folder among

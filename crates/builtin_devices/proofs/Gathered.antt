@@ -280,3 +280,17 @@ pub all_described : (event : EventValue) (files : Text → Option (List Pair))
     → filter_map (device_in files) event.constants ≡ described_devices event
 unfolding described_devices
 all_described event files there = each_described event files event.constants there
+
+no_devices : (files : List Pair) → filter_map (device_in (λ folder. None)) files ≡ []
+no_devices [] = refl
+no_devices (first ∷ files) = by (described_path first.0) refl (no_devices files)
+  where
+    by : (o : Option Text) → described_path first.0 ≡ o → filter_map (device_in (λ folder. None)) files ≡ [] → filter_map (device_in (λ folder. None)) (first ∷ files) ≡ []
+    by None e rest = rw e rest
+    by (Some folder) e rest = rw e rest
+
+-- where no length is marked, the block describes no device
+pub none_described : (event : EventValue) (lengths : List Bool) → length lengths ≡ 0 → ((folder : Text) → is_among (described_paths event.constants) folder ≡ true → get_or lengths (length folder) false ≡ true)
+    → [] ≡ described_devices event
+none_described event [] empty marked = sym (no_devices event.constants) ∙ all_described event (λ folder. None) (λ folder among. absurd (true≢false (sym (marked folder among))))
+none_described event (mark ∷ lengths) empty marked = absurd (omega (arith, empty))

@@ -100,15 +100,19 @@ fn add_file<'a>(
     Ok(())
 }
 
-/// The folders of the devices that a block describes, with the files below each in the order of the block. A path
-/// is looked for among them only where it is as long as one of theirs: a file may be below very many folders.
-fn described_folders<'a>(alloc: Global, event: &Event<'a>) -> Result<Folders<'a>, AllocError>
-    ensures { IfOk result (λ folders. (folder : Text) → is_among (described_paths event.now.constants) folder ≡ true → files_in folders folder ≡ Some (files_below event.now folder)) }
+/// The folders of the devices that a block describes, with the files below each in the order of the block, where
+/// the lengths of their paths are marked. A path is looked for among them only at such a length: a file may be below
+/// very many folders.
+fn described_folders<'a>(
+    alloc: Global,
+    event: &Event<'a>,
+    lengths: &[bool],
+) -> Result<Folders<'a>, AllocError>
+    ensures { IfOk result (λ folders. (folder : Text) → is_among (described_paths event.now.constants) folder ≡ true → slice_index_or lengths.now (length folder) false ≡ true → files_in folders folder ≡ Some (files_below event.now folder)) }
 {
-    let lengths = described_lengths(alloc, event)?;
     let mut folders = empty_folders(alloc, event)?;
     for (path, text) in event.constants().as_map().iter() {
-        add_file(&lengths, path, text, &mut folders)?;
+        add_file(lengths, path, text, &mut folders)?;
     }
     Ok(folders)
 }
@@ -161,13 +165,16 @@ fn devices_in<'a>(
 }
 
 /// The devices that a block describes by paths, in its order.
-#[tactic(auto, using(crate::proofs::Gathered::all_described))]
 pub(crate) fn described_devices<'a>(
     alloc: Global,
     event: &Event<'a>,
 ) -> Result<Vec<Device<'a>>, AllocError>
     ensures { IfOk result (λ devices. devices.items ≡ described_devices event.now) }
 {
-    let folders = described_folders(alloc, event)?;
+    let lengths = described_lengths(alloc, event)?;
+    if lengths.is_empty() {
+        return Ok(Vec::new(alloc));
+    }
+    let folders = described_folders(alloc, event, &lengths)?;
     devices_in(alloc, event, &folders)
 }

@@ -1,5 +1,7 @@
 -- Files that are put together by the folders of devices: each comes to the folders that it is below.
-use Rattle.std.proofs.Common.{◌≡◌, ◌⊎◌, inl, inr, ℕ, ◌+◌, ◌-◌, ◌<◌, ◌≤◌, ◌&&◌, ◌||◌, nat_eq, nat_lt, Bool, true, false, cond, List, [], ◌∷◌, ◌++◌, filter_map, length, map, take, drop, Option, Some, None, option_map, Bor, Vec, refl, sym, ap, subst, ◌∙◌, true≢false, arith, append_assoc, append-nil, length-take-le, le_of_lt, drop_of_length-le, ltb-false, ltb-true, lt-ltb, le-ltb}
+use Rattle.std.proofs.Common.{◌≡◌, ◌⊎◌, inl, inr, ℕ, ◌+◌, ◌-◌, ◌<◌, ◌≤◌, ◌&&◌, ◌||◌, nat_eq, nat_lt, Bool, true, false, cond, List, [], ◌∷◌, ◌++◌, filter_map, get_or, length, map, min, take, drop, Option, Some, None, option_map, Bor, Vec, refl, sym, ap, subst, ◌∙◌, true≢false, arith, append_assoc, append-nil, length-take-le, le_of_lt, drop_of_length-le, ltb-false, ltb-true, lt-ltb, le-ltb}
+use Rattle.std.proofs.Math.Nat.{le-min}
+use Rattle.std.proofs.lemmas.List.{get_or_past}
 use Rattle.std.specs.Cmp.Lexicographic.{bytes_decides}
 use Rattle.std.specs.List.{ends_with, starts_with}
 use Rattle.std.specs.Map.{lookup, set_value}
@@ -112,6 +114,29 @@ folder_put es new items next file k v folder items_are its new_is empty h =
     (λ e old. own ∙ ap (λ (b : Bool). cond b (Some (map file_of v.items)) (held es folder)) e ∙ old)
     (subst (λ ts. (held es folder ≡ Some []) ⊎ (is_among ts folder ≡ true)) them h)
 
+-- ---- places
+
+marked_within : (marks : List Bool) (i : ℕ) → get_or marks i false ≡ true → i < length marks
+marked_within marks i h = by (nat_lt i (length marks)) refl
+  where
+    by : (b : Bool) → nat_lt i (length marks) ≡ b → i < length marks
+    by true e = ltb-true i (length marks) e
+    by false e = absurd (true≢false (sym h ∙ get_or_past marks i false (ltb-false i (length marks) e)))
+
+-- a marked place after those of a path up to the last mark is after all of the path
+pub all_looked_at : (marks : List Bool) (path : Text) (i last place : ℕ) → last ≡ min (length path) (length marks) → last ≤ i → get_or marks place false ≡ true → i ≤ place → length path ≤ place
+all_looked_at marks path i last place is l marked high = by (nat_lt place (length path)) refl
+  where
+    by : (b : Bool) → nat_lt place (length path) ≡ b → length path ≤ place
+    by false e = ltb-false place (length path) e
+    by true e =
+        let before = ltb-true place (length path) e in
+        let within = marked_within marks place marked in
+        let one : place + 1 ≤ length path = omega (arith, before) in
+        let two : place + 1 ≤ length marks = omega (arith, within) in
+        let low : place + 1 ≤ min (length path) (length marks) = le-min one two in
+        absurd (omega (arith, low, is, l, high))
+
 -- ---- one file
 
 module _ (folder path text : Text) where
@@ -194,16 +219,15 @@ module _ (folder path text : Text) where
   none_follows : (n : ℕ) → length path ≤ n → begins_with slash (drop n path) ≡ false
   none_follows n h = ap (begins_with slash) (drop_of_length-le path h)
 
-  -- all places are looked at
-  pub ended : (start old : Option (List Pair)) (i : ℕ) → length path ≤ i → old ≡ after start i → old ≡ with_files folder (file ∷ []) start
+  -- all places are looked at at which the folder may end
+  pub ended : (start old : Option (List Pair)) (i : ℕ) → (i ≤ length folder → length path ≤ length folder) → old ≡ after start i → old ≡ with_files folder (file ∷ []) start
   ended start old i l h = by (nat_lt (length folder) i) refl
     where
       by : (b : Bool) → nat_lt (length folder) i ≡ b → old ≡ with_files folder (file ∷ []) start
       by true e = h ∙ ap (λ (b : Bool). cond b (with_files folder (file ∷ []) start) start) e
       by false e =
-          let high = ltb-false (length folder) i e in
           h ∙ ap (λ (b : Bool). cond b (with_files folder (file ∷ []) start) start) e
-          ∙ sym (same_files start (no_cut (length folder) (none_follows (length folder) (omega (arith, high, l))) refl))
+          ∙ sym (same_files start (no_cut (length folder) (none_follows (length folder) (l (ltb-false (length folder) i e))) refl))
 
 -- ---- all files
 
@@ -256,3 +280,17 @@ pub all_described : (event : EventValue) (files : Text → Option (List Pair))
     → filter_map (device_in files) event.constants ≡ described_devices event
 unfolding described_devices
 all_described event files there = each_described event files event.constants there
+
+no_devices : (files : List Pair) → filter_map (device_in (λ folder. None)) files ≡ []
+no_devices [] = refl
+no_devices (first ∷ files) = by (described_path first.0) refl (no_devices files)
+  where
+    by : (o : Option Text) → described_path first.0 ≡ o → filter_map (device_in (λ folder. None)) files ≡ [] → filter_map (device_in (λ folder. None)) (first ∷ files) ≡ []
+    by None e rest = rw e rest
+    by (Some folder) e rest = rw e rest
+
+-- where no length is marked, the block describes no device
+pub none_described : (event : EventValue) (lengths : List Bool) → length lengths ≡ 0 → ((folder : Text) → is_among (described_paths event.constants) folder ≡ true → get_or lengths (length folder) false ≡ true)
+    → [] ≡ described_devices event
+none_described event [] empty marked = sym (no_devices event.constants) ∙ all_described event (λ folder. None) (λ folder among. absurd (true≢false (sym (marked folder among))))
+none_described event (mark ∷ lengths) empty marked = absurd (omega (arith, empty))

@@ -1,16 +1,15 @@
 //! The devices that a block describes by their paths, each with the files in its folder.
-ghost use Rattle.std.specs.Prelude.{◌≡◌, ◌∷◌, ◌++◌, ◌≤◌, ◌+◌, [], Some, true, IfOk, OnOk, filter_map, length, map, option_map, nat_eq, take, drop, if◌then◌else◌};
+ghost use Rattle.std.specs.Prelude.{◌≡◌, ◌∷◌, ◌++◌, ◌≤◌, ◌+◌, [], Some, true, IfOk, OnOk, filter_map, length, map, option_map, nat_eq, take, drop, false, ℕ, ◌||◌, slice_index_or, if◌then◌else◌};
 ghost use Rattle.std.specs.List.{ends_with};
 ghost use Rattle.text_bytes.specs.Names.{slash};
 ghost use Rattle.text_bytes.specs.Texts.{begins_with};
 ghost use Rattle.text_tables.specs.Texts.{Text, is_among, same_text};
 ghost use Rattle.text_tables.specs.Pairs.{with_values};
-ghost use Rattle.indexmap.specs.IndexSet.{contains};
 ghost use Rattle.builtin_devices.specs.Files.{described_devices, files_below, subsystem_file};
 ghost use Rattle.builtin_devices.specs.Folders.{described_path, described_paths, device_in, files_in, with_file, with_files};
 
 use device_core::{Device, Event, Pairs};
-use indexmap::{IndexMap, IndexSet};
+use indexmap::IndexMap;
 use std::alloc::{AllocError, Global};
 use text_bytes::begins_with;
 
@@ -30,14 +29,26 @@ fn described_path(path: &[u8]) -> Option<&[u8]>
     Some(path.split_at(path.len() - SUBSYSTEM_FILE.len()).0)
 }
 
-/// How long the paths are of the devices that a block describes.
-fn described_lengths(alloc: Global, event: &Event<'_>) -> Result<IndexSet<usize>, AllocError>
-    ensures { IfOk result (λ lengths. (folder : Text) → is_among (described_paths event.now.constants) folder ≡ true → contains nat_eq lengths (length folder) ≡ true) }
+/// Marks the length of a path.
+fn mark_length(path: &[u8], lengths: &mut Vec<bool>) -> Result<(), AllocError>
+    ensures { OnOk result ((place : ℕ) → slice_index_or lengths.new.items place false ≡ (nat_eq place (length path.now) || slice_index_or lengths.old.items place false)) }
 {
-    let mut lengths = IndexSet::new(alloc);
+    let place = path.len();
+    if lengths.len() <= place {
+        lengths.resize(place + 1, false)?;
+    }
+    lengths[place] = true;
+    Ok(())
+}
+
+/// Marks for the lengths of the paths of the devices that a block describes.
+fn described_lengths(alloc: Global, event: &Event<'_>) -> Result<Vec<bool>, AllocError>
+    ensures { IfOk result (λ lengths. (folder : Text) → is_among (described_paths event.now.constants) folder ≡ true → slice_index_or lengths.items (length folder) false ≡ true) }
+{
+    let mut lengths = Vec::new(alloc);
     for (path, _) in event.constants().as_map().iter() {
         if let Some(folder) = described_path(path) {
-            lengths.insert(folder.len())?;
+            mark_length(folder, &mut lengths)?;
         }
     }
     Ok(lengths)
@@ -71,33 +82,37 @@ fn add_to_folder<'a>(
     Ok(())
 }
 
-/// Adds a file to each folder that it is below, among those whose paths have one of some lengths.
+/// Adds a file to each folder that it is below, among those whose paths are of marked lengths.
 fn add_file<'a>(
-    lengths: &IndexSet<usize>,
+    lengths: &[bool],
     path: &'a [u8],
     text: &'a [u8],
     folders: &mut Folders<'a>,
 ) -> Result<(), AllocError>
-    ensures { OnOk result ((folder : Text) → contains nat_eq lengths.now (length folder) ≡ true → files_in folders.new folder ≡ with_files folder ((path.now, text.now) ∷ []) (files_in folders.old folder)) }
+    ensures { OnOk result ((folder : Text) → slice_index_or lengths.now (length folder) false ≡ true → files_in folders.new folder ≡ with_files folder ((path.now, text.now) ∷ []) (files_in folders.old folder)) }
 {
-    for place in 0..path.len() {
+    for place in 0..path.len().min(lengths.len()) {
         let (folder, following) = path.split_at(place);
-        if begins_with(b'/', following) && lengths.contains(&place) {
+        if lengths[place] && begins_with(b'/', following) {
             add_to_folder(folder, following.split_at(1).1, text, folders)?;
         }
     }
     Ok(())
 }
 
-/// The folders of the devices that a block describes, with the files below each in the order of the block. A path
-/// is looked for among them only where it is as long as one of theirs: a file may be below very many folders.
-fn described_folders<'a>(alloc: Global, event: &Event<'a>) -> Result<Folders<'a>, AllocError>
-    ensures { IfOk result (λ folders. (folder : Text) → is_among (described_paths event.now.constants) folder ≡ true → files_in folders folder ≡ Some (files_below event.now folder)) }
+/// The folders of the devices that a block describes, with the files below each in the order of the block, where
+/// the lengths of their paths are marked. A path is looked for among them only at such a length: a file may be below
+/// very many folders.
+fn described_folders<'a>(
+    alloc: Global,
+    event: &Event<'a>,
+    lengths: &[bool],
+) -> Result<Folders<'a>, AllocError>
+    ensures { IfOk result (λ folders. (folder : Text) → is_among (described_paths event.now.constants) folder ≡ true → slice_index_or lengths.now (length folder) false ≡ true → files_in folders folder ≡ Some (files_below event.now folder)) }
 {
-    let lengths = described_lengths(alloc, event)?;
     let mut folders = empty_folders(alloc, event)?;
     for (path, text) in event.constants().as_map().iter() {
-        add_file(&lengths, path, text, &mut folders)?;
+        add_file(lengths, path, text, &mut folders)?;
     }
     Ok(folders)
 }
@@ -150,13 +165,16 @@ fn devices_in<'a>(
 }
 
 /// The devices that a block describes by paths, in its order.
-#[tactic(auto, using(crate::proofs::Gathered::all_described))]
 pub(crate) fn described_devices<'a>(
     alloc: Global,
     event: &Event<'a>,
 ) -> Result<Vec<Device<'a>>, AllocError>
     ensures { IfOk result (λ devices. devices.items ≡ described_devices event.now) }
 {
-    let folders = described_folders(alloc, event)?;
+    let lengths = described_lengths(alloc, event)?;
+    if lengths.is_empty() {
+        return Ok(Vec::new(alloc));
+    }
+    let folders = described_folders(alloc, event, &lengths)?;
     devices_in(alloc, event, &folders)
 }

@@ -1,5 +1,4 @@
-use Rattle.std.proofs.Common.{◌≡◌, ◌⊎◌, length, map, nat_eq, true}
-use Rattle.indexmap.specs.IndexSet.{contains}
+use Rattle.std.proofs.Common.{◌≡◌, ◌⊎◌, length, map, slice_index_or, false, true}
 use Rattle.text_tables.specs.Texts.{Text, is_among}
 use Rattle.builtin_devices.specs.Folders.{described_paths, file_of}
 use Rattle.builtin_devices.proofs.folders.described_lengths.Given as goal
@@ -7,4 +6,4 @@ use Rattle.builtin_devices.proofs.folders.described_lengths.Given as goal
 abbrev pub invariant-loop-path : goal.invariant-loop-path
 invariant-loop-path l =
     (folder : Text) → is_among (described_paths l.event.constants) folder ≡ true
-    → (contains nat_eq l.lengths (length folder) ≡ true) ⊎ (is_among (described_paths (map file_of l.path-iterator)) folder ≡ true)
+    → (slice_index_or l.lengths.items (length folder) false ≡ true) ⊎ (is_among (described_paths (map file_of l.path-iterator)) folder ≡ true)

@@ -1,4 +1,4 @@
--- Serves inner proofs only: the words of a command without quotes, which stand between its spaces, and what they ask for.
+-- Serves proofs alone: the words of a command without quotes, which stand between its spaces, and what they ask for.
 use Rattle.std.specs.Prelude.{ℕ, Bool, false, not, ◌==◌, if◌then◌else◌, List, [], ◌∷◌, ◌++◌, Option, Some, None, is_some, codes}
 use Rattle.std.specs.List.{list_any}
 use Rattle.std.specs.Option.{option_and_then}

@@ -62,26 +62,16 @@ impl<'a> Request<'a> {
     fn with_value(self, name: &[u8], value: &'a [u8]) -> Option<Request<'a>>
         ensures { result ≡ with_value name.now value.now self.entry }
     {
-        let Request {
-            subsystem,
-            prefix,
-            filter,
-            modalias,
-        } = self;
         if name == SUBSYSTEM {
             return Some(Request {
                 subsystem: Some(value),
-                prefix,
-                filter,
-                modalias,
+                ..self
             });
         }
         if name == PREFIX {
             return Some(Request {
-                subsystem,
                 prefix: value,
-                filter,
-                modalias,
+                ..self
             });
         }
         None
@@ -101,19 +91,11 @@ impl<'a> Request<'a> {
     fn with_modalias(self, word: &'a [u8]) -> Option<Request<'a>>
         ensures { result ≡ with_modalias word.now self.entry }
     {
-        let Request {
-            subsystem,
-            prefix,
-            filter,
-            modalias,
-        } = self;
-        match modalias {
+        match self.modalias {
             Some(_) => None,
             None => Some(Request {
-                subsystem,
-                prefix,
-                filter,
                 modalias: Some(word),
+                ..self
             }),
         }
     }

@@ -8,7 +8,7 @@ ghost use Rattle.eval_acts.specs.Inner.{candidates_as, parents_seen, seen};
 ghost use Rattle.eval_acts.specs.LookUps.{candidate, is_usb_device, modaliases_of};
 
 use crate::candidates::is_wanted;
-use builtin_devices::{is_of, is_text};
+use builtin_devices::is_text;
 use device_core::Device;
 use eval_state::State;
 use std::alloc::{AllocError, Global};

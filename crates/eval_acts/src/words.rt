@@ -66,6 +66,7 @@ impl Cutter {
     }
 
     /// Adds a byte to the word.
+    #[inline(always)]
     fn add(&mut self, byte: u8) -> Result<(), AllocError>
         ensures { OnOk result (self.new ≡ added byte self.old) }
     {
@@ -75,6 +76,7 @@ impl Cutter {
     }
 
     /// Takes a byte of a word outside of quotes that is not a space.
+    #[inline(always)]
     fn begin(&mut self, byte: u8) -> Result<(), AllocError>
         ensures { OnOk result (self.new ≡ begun byte self.old) }
     {
@@ -95,6 +97,7 @@ impl Cutter {
     }
 
     /// Takes the next byte.
+    #[inline(always)]
     fn take(&mut self, alloc: Global, profile: Profile, byte: u8) -> Result<(), AllocError>
         ensures { OnOk result (self.new ≡ took profile self.old byte) }
     {
@@ -112,6 +115,7 @@ impl Cutter {
     }
 
     /// Takes the next byte after a quote.
+    #[inline(always)]
     fn take_quoted(&mut self, quote: u8, byte: u8) -> Result<(), AllocError>
         ensures { OnOk result (self.new ≡ quoted quote byte self.old) }
     {

@@ -4,6 +4,7 @@ use Rattle.rule_types.specs.Rules.{Rule}
 use Rattle.device_core.specs.Values.{EventValue}
 use Rattle.eval_state.specs.declared.scene.Scene.{Scene}
 use Rattle.eval_rules.specs.Steps.{Went, apply}
+use Rattle.eval_core.specs.Actions.{action_place}
 use Rattle.eval_core.specs.Marks.{marks}
 use Rattle.eval_core.proofs.Coursing.{predicted_so}
 use Rattle.eval_core.proofs.Skipping.{run_after, run_end}
@@ -16,15 +17,17 @@ loop-place-init g c = record {
   event = refl;
   seen = c.in_ok-seen.ensures;
   found = c.marks-found.ensures ∙ ap marks c.event.ensures;
+  action = c.action_place-action.ensures ∙ ap action_place (c.action.ensures ∙ ap (λ (v : EventValue). v.action) c.event-3.ensures);
   profile = c.profile-profile.ensures ∙ ap (λ (v : EventValue). v.profile) c.event-2.ensures;
 }
 
 pub step-requires : goal.step-requires
 step-requires g c =
     predicted_so (g.L.Lookup.entries c.args.lookup.now) c.args.layout.names.now c.args.scene.now.state.event c.args.layout.rules.now c.args.layout.courses.now
-    c.deref.result.now c.marks-found.result c.profile-profile.result c.loop-place.place c.index-layout-place.result _ c.loop-place.scene c.predicted_by-fate.result
+    c.deref.result.now c.marks-found.result c.profile-profile.result c.action_place-action.result c.loop-place.place c.index-layout-place.result _ c.loop-place.scene c.predicted_by-fate.result
     c.loop-place-test.true c.loop-place.invariant.event c.requires.known (c.deref.ensures.value ∙ c.in_ok-seen.ensures)
-    (c.marks-found.ensures ∙ ap marks c.event.ensures) (c.profile-profile.ensures ∙ ap (λ (v : EventValue). v.profile) c.event-2.ensures) c.predicted_by-fate.ensures
+    (c.marks-found.ensures ∙ ap marks c.event.ensures) (c.profile-profile.ensures ∙ ap (λ (v : EventValue). v.profile) c.event-2.ensures)
+    (c.action_place-action.ensures ∙ ap action_place (c.action.ensures ∙ ap (λ (v : EventValue). v.action) c.event-3.ensures)) c.predicted_by-fate.ensures
 
 pub loop-place-preserved : goal.loop-place-preserved
 loop-place-preserved g c =
@@ -46,6 +49,7 @@ loop-place-preserved g c =
       event = same;
       seen = c.in_ok-seen.ensures;
       found = c.marks-found.ensures ∙ ap marks c.event.ensures;
+      action = c.action_place-action.ensures ∙ ap action_place (c.action.ensures ∙ ap (λ (v : EventValue). v.action) c.event-3.ensures);
       profile = c.profile-profile.ensures ∙ ap (λ (v : EventValue). v.profile) c.event-2.ensures;
     }
 

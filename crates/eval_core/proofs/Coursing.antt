@@ -40,7 +40,7 @@ use Rattle.eval_acts.specs.Reaching.{match_reached}
 use Rattle.eval_assignments.specs.Steps.{set_step}
 use Rattle.eval_rules.specs.Idle.{is_idle_by}
 use Rattle.eval_rules.specs.Steps.{Went, apply, if_proceeding, only_noted, plain_step, result_step, search, set_all, steps, walk, with_selected}
-use Rattle.eval_core.specs.Actions.{action_place, actions, by_action_in, has_no_more, held_for, with_action}
+use Rattle.eval_core.specs.Actions.{action_place, actions, by_action_in, has_no_more, held_for, is_guard, with_action}
 use Rattle.eval_core.specs.Checks.{check_of, choice_check, is_other, is_ruled_out, seen}
 use Rattle.eval_core.specs.Courses.{as_predicted, checked_course, course_after, course_by, course_in, course_of, course_with, guard_in, guarded, mark_by, mark_in, mark_of, part_mark, predicted, predicted_by, search_in, searched, told, told_by, unequal_check}
 use Rattle.eval_core.specs.Marks.{driver, is_lacking, mark, marks, subsystem}
@@ -272,11 +272,11 @@ module _ (es : List Entry) (names : List Text) (r : Rule) (s : Scene) (manual : 
 
   -- a rule whose first match is one of the action
   at_action : (part : PlainMatch) (parts : List PlainMatch) → r.plain ≡ part ∷ parts → part.key ≡ plain.Action
-      → Comes (told_by (action_place s.state.event.action) (record { held = held_for part.wanted; is_guard = is_empty parts && is_empty r.up && has_no_more r }))
+      → Comes (told_by (action_place s.state.event.action) (record { held = held_for part.wanted; is_guard = is_guard r parts }))
   at_action part parts plain key = by (action_place s.state.event.action) refl
     where
       alone : Bool
-      alone = is_empty parts && is_empty r.up && has_no_more r
+      alone = is_guard r parts
 
       leaves : match_reached r part.key s ≡ s
       leaves = ap (λ k. match_reached r k s) key
@@ -308,7 +308,7 @@ module _ (es : List Entry) (names : List Text) (r : Rule) (s : Scene) (manual : 
       by [] e = at_checked
       by (part ∷ parts) e = with_key part.key refl
         where
-          with_key : (key : PlainKey) → part.key ≡ key → Known (course_with names r (with_action key part.wanted (is_empty parts && is_empty r.up && has_no_more r)))
+          with_key : (key : PlainKey) → part.key ≡ key → Known (course_with names r (with_action key part.wanted (is_guard r parts)))
           with_key plain.Action k = at_action part parts e k
           with_key other k = at_checked
 

@@ -31,10 +31,14 @@ with_action key wanted guard = None
 abbrev pub has_no_more : Rule → Bool
 has_no_more r = is_empty r.acts && is_empty r.results && is_empty r.sets
 
+-- whether a rule has nothing but its first match of the event, after which it has these
+abbrev pub is_guard : Rule → List PlainMatch → Bool
+is_guard r parts = is_empty parts && is_empty r.up && has_no_more r
+
 -- what is known of a rule with these matches of the event
 abbrev pub by_action_in : Rule → List PlainMatch → Option ByAction
 by_action_in r [] = None
-by_action_in r (part ∷ parts) = with_action part.key part.wanted (is_empty parts && is_empty r.up && has_no_more r)
+by_action_in r (part ∷ parts) = with_action part.key part.wanted (is_guard r parts)
 
 -- what is known of a rule, if its first match is one of the action
 abbrev pub by_action : Rule → Option ByAction

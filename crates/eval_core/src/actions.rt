@@ -5,21 +5,14 @@
 ghost use Rattle.std.specs.Prelude.{◌≡◌, position};
 ghost use Rattle.text_tables.specs.Texts.{same_text};
 ghost use Rattle.eval_matching.specs.Holding.{holds, one};
-ghost use Rattle.eval_core.specs.Actions.{action_place, actions, by_action, has_no_more, held_for, with_action};
+ghost use Rattle.eval_core.specs.Actions.{action_place, actions, by_action, has_no_more, held_for, is_guard, with_action};
 
 use eval_matching::agrees;
 use rule_types::{Comparison, PlainKey, PlainMatch, Rule};
 
 /// The actions that the kernel reports.
 const ACTIONS: [&[u8]; 8] = [
-    b"add",
-    b"bind",
-    b"change",
-    b"move",
-    b"offline",
-    b"online",
-    b"remove",
-    b"unbind",
+    b"add", b"bind", b"change", b"move", b"offline", b"online", b"remove", b"unbind",
 ];
 
 /// What is known of a rule whose first match is one of the action.
@@ -31,11 +24,18 @@ pub(crate) struct ByAction {
     pub is_guard: bool,
 }
 
+/// The place of a name among others, if it is there.
+fn place_among(names: &[&[u8]], name: &[u8]) -> Option<usize>
+    ensures { result ≡ position (λ known. same_text name.now known.now) names.now }
+{
+    names.iter().position(|known| name == *known)
+}
+
 /// The place of an action among those that are known, if it is one of them.
 pub(crate) fn action_place(action: &[u8]) -> Option<usize>
     ensures { result ≡ action_place action.now }
 {
-    ACTIONS.iter().position(|known| action == *known)
+    place_among(&ACTIONS, action)
 }
 
 /// Whether a match of the action holds for one action.
@@ -76,18 +76,26 @@ fn with_action(part: &PlainMatch, is_guard: bool) -> Option<ByAction>
     }
 }
 
-/// What is known of a rule, if its first match is one of the action.
-pub(crate) fn by_action(rule: &Rule) -> Option<ByAction>
-    ensures { result ≡ by_action rule.now }
-{
-    let (part, others) = rule.plain().split_first()?;
-    let is_guard = others.is_empty() && rule.up().is_empty() && has_no_more(rule);
-    with_action(part, is_guard)
-}
-
 /// Whether a rule has nothing after its matches of the event and of a device.
 pub(crate) fn has_no_more(rule: &Rule) -> bool
     ensures { result ≡ has_no_more rule.now }
 {
     rule.acts().is_empty() && rule.results().is_empty() && rule.sets().is_empty()
+}
+
+/// Whether a rule has nothing but its first match of the event, after which it has these.
+fn is_guard(rule: &Rule, others: &[PlainMatch]) -> bool
+    ensures { result ≡ is_guard rule.now others.now }
+{
+    others.is_empty() && rule.up().is_empty() && has_no_more(rule)
+}
+
+/// What is known of a rule, if its first match is one of the action.
+pub(crate) fn by_action(rule: &Rule) -> Option<ByAction>
+    ensures { result ≡ by_action rule.now }
+{
+    match rule.plain().split_first() {
+        Some((part, others)) => with_action(part, is_guard(rule, others)),
+        None => None,
+    }
 }

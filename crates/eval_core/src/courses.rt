@@ -209,12 +209,7 @@ fn told_by(action: Option<usize>, by: &ByAction) -> Fate
 }
 
 /// The outcome of a rule with a course, as far as it follows from what is seen.
-fn predicted(
-    action: Option<usize>,
-    seen: &[Option<u64>],
-    marks: &MarkSet,
-    course: Course,
-) -> Fate
+fn predicted(action: Option<usize>, seen: &[Option<u64>], marks: &MarkSet, course: Course) -> Fate
     ensures { result ≡ predicted action seen.now marks.now course }
 {
     match course {

@@ -24,6 +24,7 @@ device $lun/block/sdc block - DEVNAME=sdc
 controller=/devices/virtual/nvme-fabrics/ctl/nvme5
 device $controller nvme -
 device $controller/nvme5n1 block - DEVNAME=nvme5n1
+device $controller/ng5n1 nvme-generic - DEVNAME=ng5n1
 dock=$pci/0000:00:0d.0/domain0/0-0/0-1
 device $dock thunderbolt - DEVTYPE=thunderbolt_device
 device $dock/0-1.1 thunderbolt - DEVTYPE=thunderbolt_service
@@ -74,11 +75,12 @@ printed=(
     "$vmbus device_id 600"
     "$crypto "{type,ap_functions}" 600"
     "$controller/nvme5n1 nsid 600"
+    "$controller/ng5n1 nsid 600"
     "$keyboard "{idVendor,idProduct,bcdDevice,manufacturer,product,serial,speed,bDeviceProtocol}" 600"
     "$keyboard/1-1:1.0 bInterface"{Number,Class,SubClass}" 600"
     "$keys "{capabilities/ev,capabilities/abs,capabilities/rel,capabilities/key,properties,id/bustype}" 600"
     "$card/net/eth0 "{iflink,type,addr_assign_type,address,dev_port,dev_id,phys_port_name}" 600"
-    "$card "{acpi_index,index,label,ari_enabled,function_id,modalias}" 600"
+    "$card "{acpi_index,index,label,ari_enabled,function_id,modalias,firmware_node/sun}" 600"
     "$dock unique_id 444"
     "$dock/0-1.1 key 444"
     "$dmi modalias 444"

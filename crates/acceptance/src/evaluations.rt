@@ -96,7 +96,7 @@ fn agree(
 ) -> Result<(), Fail> {
     let database = database_of(alloc, database)?;
     let same = match read_rules(alloc, &files_of(alloc, rules)?) {
-        Ok(rules) => both_answer_block(alloc, rules, &database, block, wanted),
+        Ok(read) => both_answer_block(alloc, read.into_rules(), &database, block, wanted),
         Err(_fault) => Ok(false),
     };
     drop(database);

@@ -92,9 +92,9 @@ fn files_of(alloc: Global, text: &[u8]) -> Result<Vec<SourceFile>, AllocError> {
 /// The rules of a text, as they are read.
 fn rules_of(alloc: Global, text: &[u8]) -> Result<RuleSet, RulesFault> {
     let files = files_of(alloc, text)?;
-    let rules = read_rules(alloc, &files);
+    let read = read_rules(alloc, &files);
     drop(files);
-    rules
+    Ok(read?.into_rules())
 }
 
 /// Rules as they are read, or their program.

@@ -8,8 +8,8 @@ ghost use Rattle.engine_formats.specs.declared.remark.Remark.TheVariants as abou
 use crate::codes::remark_with;
 use crate::{comments, database, lints, rules, style, udev};
 use engine_formats::Remark;
+use file_messages::MessageKind;
 use rule_types::Lint;
-use text_bytes::MessageKind;
 
 /// The section on a kind of message.
 fn section_on_kind(kind: MessageKind) -> &'static str

@@ -3,11 +3,12 @@ use Rattle.std.proofs.Common.{◌≡◌, ℕ, suc, ◌+◌, ◌^◌, ◌<◌, �
 use Rattle.std.specs.List.{flat_map}
 use Rattle.std.proofs.lemmas.List.Elements.{All-append, All-cons, All-head, All-map, All-nil, All-tail}
 use Rattle.text_bytes.specs.Lines.{NumberedLine, lines, numbered_lines}
-use Rattle.text_bytes.specs.Messages.{message, word_of}
+use Rattle.text_bytes.specs.Texts.{word_of}
+use Rattle.file_messages.specs.Messages.{message}
 use Rattle.text_bytes.specs.Names.{equals}
-use Rattle.text_bytes.specs.declared.message.Message.{Message}
-use Rattle.text_bytes.specs.declared.message.MessageKind.{MessageKind}
-use Rattle.text_bytes.specs.declared.message.MessageKind.TheVariants.{MatchWithoutProperty, UnindentedLine, PatternNotSupported, NoEquals, EmptyKey}
+use Rattle.file_messages.specs.declared.message.Message.{Message}
+use Rattle.file_messages.specs.declared.message.MessageKind.{MessageKind}
+use Rattle.file_messages.specs.declared.message.MessageKind.TheVariants.{MatchWithoutProperty, UnindentedLine, PatternNotSupported, NoEquals, EmptyKey}
 use Rattle.text_bytes.specs.declared.source_file.SourceFile.{SourceFile}
 use Rattle.text_bytes.specs.declared.source_file.FileKind.TheVariants.{Hwdb}
 use Rattle.text_tables.specs.Texts.{Text}

@@ -3,7 +3,7 @@ use Rattle.std.proofs.Common.{◌≡◌, ℕ, suc, ◌+◌, ◌≤◌, Bool, tru
 use Rattle.std.specs.List.{prefix_len, slice_get}
 use Rattle.std.proofs.lemmas.Bool.{lt-ltb, le-ltb, leb-true, leb-false}
 use Rattle.text_bytes.specs.Lines.{NumberedLine, lines, numbered_from, numbered_lines}
-use Rattle.text_bytes.specs.Messages.{capped}
+use Rattle.text_bytes.specs.Numbers.{capped}
 use Rattle.text_bytes.specs.Texts.{skip_while}
 use Rattle.text_bytes.specs.declared.source_file.FileKind.{FileKind}
 use Rattle.engine_checks.specs.Ignores.{Ignore, ignores_among, ignores_of_line, next_after}

@@ -2,7 +2,7 @@
 use Rattle.std.specs.Prelude.{ℕ, ◌+◌, ◌-◌, not, ◌==◌, nat_lt, List, [], ◌∷◌, ◌++◌, length, map, filter, find, flat_map, codes, Option, Some, None, option_to_list}
 use Rattle.std.specs.List.{slice_split}
 use Rattle.text_bytes.specs.Lines.{NumberedLine, numbered_lines}
-use Rattle.text_bytes.specs.Messages.{capped}
+use Rattle.text_bytes.specs.Numbers.{capped}
 use Rattle.text_bytes.specs.Names.{comma}
 use Rattle.text_bytes.specs.Texts.{following, trimmed, unindented}
 use Rattle.text_bytes.specs.declared.profile.Profile.{Profile}

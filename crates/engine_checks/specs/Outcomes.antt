@@ -3,7 +3,7 @@ use Rattle.std.specs.Prelude.{ℕ, Bool, if◌then◌else◌, List, [], length, 
 use Rattle.std.specs.List.{count_by, list_any}
 use Rattle.text_bytes.specs.declared.source_file.SourceFile.{SourceFile}
 use Rattle.text_bytes.specs.declared.source_file.FileKind.TheVariants.{Hwdb, Rules}
-use Rattle.text_bytes.specs.declared.message.Message.{Message}
+use Rattle.file_messages.specs.declared.message.Message.{Message}
 use Rattle.text_tables.specs.Texts.{Text, same_text}
 use Rattle.hwdb_lookup.specs.declared.entry.Entry.{Entry}
 use Rattle.rule_core.specs.Ends.{file_as_read}

@@ -8,10 +8,11 @@ use crate::found::database_diagnostics;
 use crate::reads::FileRead;
 use crate::reported::{Asked, file_reported};
 use engine_formats::Diagnostic;
+use file_messages::Message;
 use hwdb_core::read_sources;
 use std::alloc::{AllocError, Global};
 use std::slice::from_ref;
-use text_bytes::{Message, SourceFile};
+use text_bytes::SourceFile;
 
 /// The messages about a file, which is one of files that hold no more than a database may. So the file holds no
 /// more either, and the error means that memory ran out.

@@ -5,9 +5,10 @@ ghost use Rattle.engine_checks.specs.Files.{database_diagnostic, rule_diagnostic
 
 use crate::file_text::FileText;
 use engine_formats::{Diagnostic, Remark, placed_message};
+use file_messages::Message;
 use rule_places::PlacedFinding;
 use std::alloc::{AllocError, Global};
-use text_bytes::{Bytes, Message};
+use text_bytes::Bytes;
 
 /// A finding of a rules file as a diagnostic.
 fn rule_diagnostic<'r>(file: &'r FileText<'_>, finding: PlacedFinding) -> Diagnostic<'r>

@@ -161,8 +161,8 @@ fn both_tables<L: Lookup + Drop, M: Lookup + Drop>(
         rules: new_rules,
     } = new;
     messages.append(&mut more)?;
-    let old_tables = Tables::new(alloc, old_rules, old_lookup)?;
-    let new_tables = Tables::new(alloc, new_rules, new_lookup)?;
+    let old_tables = Tables::new(alloc, old_rules.into_rules(), old_lookup)?;
+    let new_tables = Tables::new(alloc, new_rules.into_rules(), new_lookup)?;
     Ok((messages, Compared::new(old_tables, new_tables)))
 }
 

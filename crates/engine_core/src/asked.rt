@@ -5,7 +5,7 @@ use device_core::Event;
 use engine_questions::question_answer;
 use engine_sessions::Answering;
 use hwdb_lookup::Lookup;
-use rule_core::RuleSet;
+use rule_types::RuleSet;
 use std::alloc::{AllocError, Global};
 use std::marker::Model;
 use text_bytes::Bytes;
@@ -23,13 +23,13 @@ impl<L: Lookup> Model for AskedTables<L> {
 
     ghost Value = { TablesValue };
 
-    ghost view = { λ t. record { rules = t.rules.rules; entries = L.entries t.lookup } };
+    ghost view = { λ t. record { rules = t.rules; entries = L.entries t.lookup } };
 }
 
 impl<L: Lookup + Drop> AskedTables<L> {
     /// The rules and the database that say what is asked.
     pub fn new(rules: RuleSet, lookup: L) -> AskedTables<L>
-        ensures { result ≡ record { rules = rules.rules; entries = L.entries lookup } }
+        ensures { result ≡ record { rules = rules; entries = L.entries lookup } }
     {
         AskedTables { rules, lookup }
     }

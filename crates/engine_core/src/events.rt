@@ -86,7 +86,12 @@ fn answer_asked<L: Lookup + Drop, R: Source, W: Sink, E: Sink>(
         (record { input = R.shown input.old; out = W.shown output.old; err = E.shown error.old })
         (record { input = R.shown input.new; out = W.shown output.new; err = E.shown error.new }) }
 {
-    match first_unknown(alloc, &line.why, read.rules.messages(), read.rules.rules()) {
+    match first_unknown(
+        alloc,
+        &line.why,
+        read.rules.messages(),
+        read.rules.rules().rules(),
+    ) {
         Ok(None) => answer_by_rules(alloc, line, read, lookup, input, output, error),
         Ok(Some(unknown)) => {
             deliver_usage_error(&read.messages, unknown.as_slice(), output, error)
@@ -133,7 +138,7 @@ fn ask_by_rules<L: Lookup + Drop, R: Source, W: Sink, E: Sink>(
         (record { input = R.shown input.new; out = W.shown output.new; err = E.shown error.new }) }
 {
     let RulesRead { messages, rules } = read;
-    let tables = AskedTables::new(rules, lookup);
+    let tables = AskedTables::new(rules.into_rules(), lookup);
     answer_after_messages(
         alloc,
         line.profile,
@@ -167,7 +172,7 @@ fn report_by_rules<L: Lookup + Drop, R: Source, W: Sink, E: Sink>(
         let tables = ReportedTables::new(line.sources, &line.why, rules, lookup);
         return answer_after_messages(alloc, profile, &messages, &tables, input, output, error);
     }
-    match Tables::new(alloc, rules, lookup) {
+    match Tables::new(alloc, rules.into_rules(), lookup) {
         Ok(tables) => answer_after_messages(
             alloc, profile, &messages, &tables, input, output, error,
         ),

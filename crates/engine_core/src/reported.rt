@@ -10,7 +10,8 @@ use engine_sessions::Answering;
 use engine_sources::sourced_lines;
 use eval_rules::evaluate_plain;
 use hwdb_lookup::Lookup;
-use rule_core::RuleSet;
+use rule_core::ReadRules;
+use rule_types::RuleSet;
 use std::alloc::{AllocError, Global};
 use std::marker::Model;
 use text_bytes::Bytes;
@@ -21,7 +22,7 @@ use text_bytes::Bytes;
 pub struct ReportedTables<'b, 'a, L: Lookup> {
     sources: bool,
     why: &'b [&'a str],
-    rules: RuleSet,
+    rules: ReadRules,
     lookup: L,
 }
 
@@ -46,7 +47,7 @@ impl<'b, 'a, L: Lookup + Drop> ReportedTables<'b, 'a, L> {
     pub fn new(
         sources: bool,
         why: &'b [&'a str],
-        rules: RuleSet,
+        rules: ReadRules,
         lookup: L,
     ) -> ReportedTables<'b, 'a, L>
         ensures { result ≡ record {
@@ -74,7 +75,7 @@ fn lines_reported<L: Lookup>(
     lookup: &L,
     event: &Event<'_>,
 ) -> Result<Vec<u8>, AllocError>
-    ensures { IfOk result (λ lines. lines.items ≡ lines_reported sources rules.now.rules (L.entries lookup.now) event.now) }
+    ensures { IfOk result (λ lines. lines.items ≡ lines_reported sources rules.now (L.entries lookup.now) event.now) }
 {
     if sources {
         return sourced_lines(alloc, rules, event, lookup);
@@ -90,7 +91,7 @@ fn reported_by<L: Lookup>(
     alloc: Global,
     sources: bool,
     why: &[&str],
-    rules: &RuleSet,
+    rules: &ReadRules,
     lookup: &L,
     event: &Event<'_>,
 ) -> Result<Bytes, AllocError>
@@ -102,7 +103,7 @@ fn reported_by<L: Lookup>(
       entries = L.entries lookup.now;
     }) event.now) }
 {
-    let mut lines = lines_reported(alloc, sources, rules, lookup, event)?;
+    let mut lines = lines_reported(alloc, sources, rules.rules(), lookup, event)?;
     push_why_lines(alloc, &mut lines, why, rules, event, lookup)?;
     lines.push(b'\n')?;
     Ok(Bytes::new(lines))

@@ -8,7 +8,7 @@ use engine_answers::answer;
 use engine_sessions::Answering;
 use eval_core::{Program, compile};
 use hwdb_lookup::Lookup;
-use rule_core::RuleSet;
+use rule_types::RuleSet;
 use std::alloc::{AllocError, Global};
 use std::marker::Model;
 use text_bytes::Bytes;
@@ -33,7 +33,7 @@ impl<L: Lookup + Drop> Tables<L> {
     ///
     /// There is an error only if memory runs out; what was passed in is then dropped.
     pub fn new(alloc: Global, rules: RuleSet, lookup: L) -> Result<Tables<L>, AllocError>
-        ensures { IfOk result (λ tables. tables ≡ record { rules = rules.rules; entries = L.entries lookup }) }
+        ensures { IfOk result (λ tables. tables ≡ record { rules = rules; entries = L.entries lookup }) }
     {
         Ok(Tables {
             program: compile(alloc, rules)?,

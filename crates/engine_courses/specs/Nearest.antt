@@ -3,7 +3,7 @@ use Rattle.std.specs.Prelude.{ℕ, Bool, not, ◌==◌, ◌||◌, ◌&&◌, nat_
 use Rattle.std.specs.Int.{abs_diff}
 use Rattle.std.specs.List.{list_any}
 use Rattle.text_bytes.specs.Texts.{following}
-use Rattle.text_bytes.specs.Messages.{capped}
+use Rattle.text_bytes.specs.Numbers.{capped}
 use Rattle.text_bytes.specs.Names.{colon}
 use Rattle.text_bytes.specs.Numbers.{decimal, is_decimal}
 use Rattle.text_tables.specs.Texts.{Text}

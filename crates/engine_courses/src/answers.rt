@@ -7,11 +7,11 @@ use crate::lines::push_unread;
 use crate::reporting::report_event;
 use crate::unread::is_unread;
 use device_core::Event;
+use file_messages::Message;
 use hwdb_lookup::Lookup;
-use rule_core::RuleSet;
+use rule_core::ReadRules;
 use rule_types::Rule;
 use std::alloc::{AllocError, Global};
-use text_bytes::Message;
 
 /// Adds the lines on the messages about lines that are asked for and were not read.
 #[tactic(auto, unfolding(crate::specs::Asked::unread))]
@@ -44,12 +44,12 @@ pub fn push_why_lines<L: Lookup>(
     alloc: Global,
     lines: &mut Vec<u8>,
     why: &[&str],
-    rules: &RuleSet,
+    rules: &ReadRules,
     event: &Event<'_>,
     lookup: &L,
 ) -> Result<(), AllocError>
     ensures { OnOk result (lines.new.items ≡ lines.old.items ++ why_lines (map (λ t. t.now) why.now) rules.now.messages rules.now.rules (L.entries lookup.now) event.now) }
 {
-    push_unread_lines(alloc, lines, why, rules.messages(), rules.rules())?;
-    report_event(alloc, lines, why, rules.rules(), event, lookup)
+    push_unread_lines(alloc, lines, why, rules.messages(), rules.rules().rules())?;
+    report_event(alloc, lines, why, rules.rules().rules(), event, lookup)
 }

@@ -1,7 +1,7 @@
 //! Laws of what is asked for, each the contract of a function with an empty body.
 ghost use Rattle.std.specs.Prelude.{◌≡◌, ◌||◌, true, is_none, if◌then◌else◌, List, [], ◌∷◌};
 ghost use Rattle.std.specs.List.{list_all, list_any};
-ghost use Rattle.text_bytes.specs.declared.message.Message as messages;
+ghost use Rattle.file_messages.specs.declared.message.Message as messages;
 ghost use Rattle.text_tables.specs.Texts.{Text};
 ghost use Rattle.hwdb_lookup.specs.declared.entry.Entry as entries;
 ghost use Rattle.rule_types.specs.Rules as rules;

@@ -5,9 +5,10 @@ ghost use Rattle.engine_courses.specs.WhyLines.{passed_texts, rule_lines, unread
 use engine_ends::{push_place, push_word};
 use engine_reports::heading;
 use eval_effects::push_rule;
+use file_messages::Message;
 use rule_types::Rule;
 use std::alloc::{AllocError, Global};
-use text_bytes::{Bytes, Message};
+use text_bytes::Bytes;
 
 /// Adds a line of `--why`.
 #[tactic(auto, unfolding(crate::specs::WhyLines::why_line))]

@@ -2,10 +2,10 @@
 ghost use Rattle.std.specs.Prelude.{◌≡◌, ◌++◌, IfOk, OnOk, map};
 ghost use Rattle.engine_courses.specs.Asked.{places_of};
 
+use file_messages::Message;
 use rule_types::Rule;
 use std::alloc::{AllocError, Global};
 use std::marker::Model;
-use text_bytes::Message;
 
 /// A line of a file.
 #[derive(Drop)]

@@ -5,10 +5,11 @@ ghost use Rattle.engine_courses.specs.Asked.{is_known, missing, place_text, unkn
 use crate::asked::is_known;
 use crate::nearest::nearest;
 use crate::places::{Place, places_of};
+use file_messages::Message;
 use itoa::Buffer;
 use rule_types::Rule;
 use std::alloc::{AllocError, Global};
-use text_bytes::{Bytes, Message, escape};
+use text_bytes::{Bytes, escape};
 
 /// Appends a place, `FILE:LINE`, with the file's name escaped.
 fn push_place_alone(alloc: Global, line: &mut Vec<u8>, place: &Place<'_>) -> Result<(), AllocError>

@@ -4,8 +4,8 @@ ghost use Rattle.text_tables.specs.Texts.{same_text};
 ghost use Rattle.engine_courses.specs.Asked.{has_rule, is_asked};
 
 use crate::asked::is_asked;
+use file_messages::Message;
 use rule_types::Rule;
-use text_bytes::Message;
 
 /// Whether a rule is on a line of a file.
 fn is_at(rule: &Rule, file: &[u8], line: u32) -> bool

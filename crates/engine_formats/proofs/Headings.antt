@@ -3,8 +3,8 @@ use Rattle.std.proofs.Common.{◌≡◌, ◌==◌, false, cond, ◌∷◌, ◌++
 use Rattle.std.specs.List.{list_any}
 use Rattle.text_bytes.specs.Names.{colon, newline, space}
 use Rattle.text_bytes.specs.Texts.{split_once}
-use Rattle.text_bytes.specs.declared.message.MessageKind.{MessageKind}
-use Rattle.text_bytes.specs.declared.message.MessageKind.TheVariants.{PropertyWithoutMatch, MatchWithoutProperty, UnindentedLine, NoEquals, EmptyKey, PatternNotSupported, BadSyntax, UnknownKey, OperatorNotAllowed, WrongAttribute, BadValue, BadSubstitution, NoLaterLabel, GivenTwice, LineTooLong, BadPrefix, SetNotSupported, OpenAtEnd, ReservedProperty, NameWithoutEffect, UnknownBuiltin, MatchesExclude, SaidTwice, RuleWithoutEffect, ResultBeforeProgram, EmptyValue, BadAttributeSubstitution, AttributeElsewhere, OldSubsystemName, AssignExpected, UnknownAccount, FileAbandoned, CommaExpected, BlankExpected, ReadAsAssign, LabelUnused, LeadingComma, BlankBeforeComma}
+use Rattle.file_messages.specs.declared.message.MessageKind.{MessageKind}
+use Rattle.file_messages.specs.declared.message.MessageKind.TheVariants.{PropertyWithoutMatch, MatchWithoutProperty, UnindentedLine, NoEquals, EmptyKey, PatternNotSupported, BadSyntax, UnknownKey, OperatorNotAllowed, WrongAttribute, BadValue, BadSubstitution, NoLaterLabel, GivenTwice, LineTooLong, BadPrefix, SetNotSupported, OpenAtEnd, ReservedProperty, NameWithoutEffect, UnknownBuiltin, MatchesExclude, SaidTwice, RuleWithoutEffect, ResultBeforeProgram, EmptyValue, BadAttributeSubstitution, AttributeElsewhere, OldSubsystemName, AssignExpected, UnknownAccount, FileAbandoned, CommaExpected, BlankExpected, ReadAsAssign, LabelUnused, LeadingComma, BlankBeforeComma}
 use Rattle.rule_types.specs.declared.lint.Lint.{Lint}
 use Rattle.rule_types.specs.declared.lint.Lint.TheVariants.{ModeNotOctal, SignOfShell, RelativeProgram, LetterCase, NoSuchDevice, ImportedBelow, MeantToCompare, NameOutsideNet, LinkWithDev, QuotedName, NotAPattern, AlwaysHolds, NeverReached}
 use Rattle.engine_reports.specs.Checks.{is_style}

@@ -4,7 +4,7 @@ use Rattle.std.specs.List.{prefix_len, suffix_len}
 use Rattle.std.proofs.lemmas.List.{drop_at, take-append-drop, take_at}
 use Rattle.text_bytes.specs.Names.{is_blank, is_whitespace}
 use Rattle.text_bytes.specs.Texts.{trimmed, unindented}
-use Rattle.text_bytes.specs.declared.message.MessageKind.{MessageKind}
+use Rattle.file_messages.specs.declared.message.MessageKind.{MessageKind}
 use Rattle.hwdb_core.specs.Lines.{before_comment}
 use Rattle.engine_formats.specs.Placing.{is_about_property, place_in, reported_text}
 

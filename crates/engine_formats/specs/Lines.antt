@@ -1,7 +1,7 @@
 -- Diagnostics as lines for people and for editors.
 use Rattle.std.specs.Prelude.{ℕ, List, [], ◌∷◌, ◌++◌, codes, decimal}
 use Rattle.text_bytes.specs.Escapes.{escape_text}
-use Rattle.text_bytes.specs.Messages.{word_of}
+use Rattle.text_bytes.specs.Texts.{word_of}
 use Rattle.text_bytes.specs.Names.{colon, newline}
 use Rattle.engine_ends.specs.Places.{place_of, word_part}
 use Rattle.engine_formats.specs.Diagnostics.{DiagnosticValue}

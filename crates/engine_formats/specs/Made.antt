@@ -2,8 +2,8 @@
 use Rattle.std.specs.Prelude.{◌≡◌, ℕ, ◌+◌, ◌-◌, ◌<◌, List, drop, length, take}
 use Rattle.std.specs.List.{AllZip, Contains}
 use Rattle.text_bytes.specs.Lines.{NumberedLine}
-use Rattle.text_bytes.specs.Messages.{word_of}
-use Rattle.text_bytes.specs.declared.message.Message.{Message}
+use Rattle.text_bytes.specs.Texts.{word_of}
+use Rattle.file_messages.specs.declared.message.Message.{Message}
 use Rattle.engine_formats.specs.Diagnostics.{DiagnosticValue}
 use Rattle.engine_formats.specs.Placing.{Place}
 use Rattle.engine_formats.specs.declared.remark.Remark.TheVariants as about

@@ -1,11 +1,11 @@
 -- Where messages about a database are in their file.
 use Rattle.std.specs.Prelude.{ℕ, ◌+◌, ◌-◌, Bool, true, false, if◌then◌else◌, List, [], length, slice_index_or}
 use Rattle.text_bytes.specs.Lines.{NumberedLine}
-use Rattle.text_bytes.specs.Messages.{capped}
+use Rattle.text_bytes.specs.Numbers.{capped}
 use Rattle.text_bytes.specs.Texts.{trimmed, unindented}
-use Rattle.text_bytes.specs.declared.message.Message.{Message}
-use Rattle.text_bytes.specs.declared.message.MessageKind.{MessageKind}
-use Rattle.text_bytes.specs.declared.message.MessageKind.TheVariants.{PropertyWithoutMatch, NoEquals, EmptyKey}
+use Rattle.file_messages.specs.declared.message.Message.{Message}
+use Rattle.file_messages.specs.declared.message.MessageKind.{MessageKind}
+use Rattle.file_messages.specs.declared.message.MessageKind.TheVariants.{PropertyWithoutMatch, NoEquals, EmptyKey}
 use Rattle.hwdb_core.specs.Lines.{before_comment}
 use Rattle.engine_formats.specs.declared.placing.TextPlace.{TextPlace}
 

@@ -3,8 +3,8 @@ ghost use Rattle.std.specs.Prelude.{◌≡◌};
 ghost use Rattle.engine_formats.specs.Advice.{advice_of, advice_on, advice_on_lint};
 
 use crate::remark::Remark;
+use file_messages::MessageKind;
 use rule_types::Lint;
-use text_bytes::MessageKind;
 
 const PROPERTY_WITHOUT_MATCH: &[u8] = b"Put the match above its properties.";
 

@@ -4,8 +4,8 @@ ghost use Rattle.engine_formats.specs.Codes.{remark_of, remarks};
 ghost use Rattle.engine_formats.specs.Remarks.{code_of};
 
 use crate::remark::Remark;
+use file_messages::MessageKind;
 use rule_types::Lint;
-use text_bytes::MessageKind;
 
 /// Each remark.
 const REMARKS: [Remark; 53] = [

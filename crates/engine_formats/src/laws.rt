@@ -4,10 +4,10 @@
 ghost use Rattle.std.specs.Prelude.{◌≡◌, ℕ, ◌+◌, ◌-◌, ◌*◌, ◌^◌, ◌<◌, ◌≤◌, Bool, ◌==◌, false, if◌then◌else◌, List, [], ◌∷◌, ◌++◌, All, codes, length, map};
 ghost use Rattle.std.specs.List.{list_any};
 ghost use Rattle.text_bytes.specs.Lines.{lines, numbered_lines};
-ghost use Rattle.text_bytes.specs.Messages.{word_of};
+ghost use Rattle.text_bytes.specs.Texts.{word_of};
 ghost use Rattle.text_bytes.specs.Names.{space};
-ghost use Rattle.text_bytes.specs.declared.message.Message.{Message};
-ghost use Rattle.text_bytes.specs.declared.message.MessageKind.{MessageKind};
+ghost use Rattle.file_messages.specs.declared.message.Message.{Message};
+ghost use Rattle.file_messages.specs.declared.message.MessageKind.{MessageKind};
 ghost use Rattle.text_bytes.specs.declared.source_file.SourceFile.{SourceFile};
 ghost use Rattle.hwdb_core.specs.Sources.{messages_of};
 ghost use Rattle.rule_types.specs.declared.lint.Lint.{Lint};

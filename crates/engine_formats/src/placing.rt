@@ -3,9 +3,10 @@ ghost use Rattle.std.specs.Prelude.{◌≡◌, ◌≤◌, length, IfOk};
 ghost use Rattle.text_bytes.specs.Lines.{numbered_lines};
 ghost use Rattle.engine_formats.specs.Placing.{is_about_property, line_numbered, place_in, placed, reported_text, shown_place};
 
+use file_messages::{Message, MessageKind};
 use hwdb_core::before_comment;
 use std::alloc::{AllocError, Global};
-use text_bytes::{Line, Lines, Message, MessageKind, capped, trimmed, unindented};
+use text_bytes::{Line, Lines, capped, trimmed, unindented};
 
 /// Where a message about a database is in its line.
 ///

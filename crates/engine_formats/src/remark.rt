@@ -3,8 +3,9 @@ ghost use Rattle.std.specs.Prelude.{◌≡◌};
 ghost use Rattle.engine_formats.specs.Remarks.{code_of, heading_parts, lint_heading, remark_heading, severity_of, severity_word, text_of};
 
 use engine_reports::heading;
+use file_messages::MessageKind;
 use rule_types::Lint;
-use text_bytes::{MessageKind, begins_with, split_once};
+use text_bytes::{begins_with, split_once};
 
 /// What a diagnostic is about.
 #[derive(Clone, Copy, Debug, PartialEq, Eq)]

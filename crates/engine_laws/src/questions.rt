@@ -1,7 +1,7 @@
 //! What holds of questions, whatever the rules. Each function here is empty: its contract is the law.
 ghost use Rattle.std.specs.Prelude.{◌≡◌, ◌↔◌, ◌≤◌, ◌&&◌, ◌++◌, ◌^◌, true, false, not, List, [], None, Ok, filter, is_none, length, map};
 ghost use Rattle.std.specs.List.{list_all, list_any};
-ghost use Rattle.text_bytes.specs.Messages.{word_of};
+ghost use Rattle.text_bytes.specs.Texts.{word_of};
 ghost use Rattle.text_bytes.specs.declared.profile.Profile.TheVariants.{Manual, Udev};
 ghost use Rattle.text_tables.specs.Texts.{AreOnce, Text};
 ghost use Rattle.text_tables.specs.Pairs.{value_of};

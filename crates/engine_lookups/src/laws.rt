@@ -2,7 +2,7 @@
 ghost use Rattle.std.specs.Prelude.{◌≡◌, ◌+◌, List, false, true, [], ◌∷◌, ◌++◌, flat_map, length};
 ghost use Rattle.std.specs.List.{AllByRecursion};
 ghost use Rattle.text_bytes.specs.Names.{newline};
-ghost use Rattle.text_bytes.specs.declared.message.Message.{Message};
+ghost use Rattle.file_messages.specs.declared.message.Message.{Message};
 ghost use Rattle.text_tables.specs.Texts.{Text};
 ghost use Rattle.hwdb_lookup.specs.declared.entry.Entry.{Entry};
 ghost use Rattle.device_core.specs.RunBlocks.{newline_count};

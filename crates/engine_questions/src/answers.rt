@@ -6,7 +6,7 @@ use crate::rules::questions;
 use device_core::Event;
 use engine_answers::push_event;
 use hwdb_lookup::Lookup;
-use rule_core::RuleSet;
+use rule_types::RuleSet;
 use std::alloc::{AllocError, Global};
 use text_bytes::Bytes;
 use text_tables::OwnedTexts;
@@ -41,7 +41,7 @@ pub fn question_answer<L: Lookup>(
     event: &Event<'_>,
     lookup: &L,
 ) -> Result<Bytes, AllocError>
-    ensures { IfOk result (λ text. text ≡ question_answer rules.now.rules (L.entries lookup.now) event.now) }
+    ensures { IfOk result (λ text. text ≡ question_answer rules.now (L.entries lookup.now) event.now) }
 {
     let asked = questions(alloc, rules.rules(), event, lookup)?;
     let mut lines = Vec::new(alloc);

@@ -1,7 +1,7 @@
 -- The entries that fit a modalias answer it as all do.
 use Rattle.std.proofs.Common.{◌≡◌, ℕ, Bool, true, false, cond, List, ◌∷◌, [], refl, ap}
 use Rattle.std.specs.List.{filter}
-use Rattle.text_bytes.specs.declared.message.Message.{Message}
+use Rattle.file_messages.specs.declared.message.Message.{Message}
 use Rattle.hwdb_lookup.specs.Query.{fitting}
 use Rattle.hwdb_lookup.specs.declared.entry.Entry.{Entry}
 use Rattle.engine_ends.specs.declared.line.Line.{Line}

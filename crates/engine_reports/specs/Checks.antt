@@ -2,9 +2,9 @@
 use Rattle.std.specs.Prelude.{ℕ, ◌-◌, Bool, true, false, ◌==◌, not, if◌then◌else◌, List, [], ◌++◌, length, codes, decimal, filter}
 use Rattle.std.specs.List.{count_by, list_any}
 use Rattle.text_bytes.specs.declared.source_file.SourceFile.{SourceFile}
-use Rattle.text_bytes.specs.declared.message.Message.{Message}
-use Rattle.text_bytes.specs.declared.message.MessageKind.{MessageKind}
-use Rattle.text_bytes.specs.declared.message.MessageKind.TheVariants.{CommaExpected, BlankExpected, ReadAsAssign, LabelUnused, LeadingComma, BlankBeforeComma}
+use Rattle.file_messages.specs.declared.message.Message.{Message}
+use Rattle.file_messages.specs.declared.message.MessageKind.{MessageKind}
+use Rattle.file_messages.specs.declared.message.MessageKind.TheVariants.{CommaExpected, BlankExpected, ReadAsAssign, LabelUnused, LeadingComma, BlankBeforeComma}
 use Rattle.text_tables.specs.Texts.{same_text}
 use Rattle.engine_ends.specs.Delivery.{RunOutcome}
 use Rattle.engine_reports.specs.Messages.{message_lines}

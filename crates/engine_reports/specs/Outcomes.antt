@@ -2,7 +2,7 @@
 use Rattle.std.specs.Prelude.{ℕ, ◌^◌, Bool, ◌==◌, ◌&&◌, nat_le, not, if◌then◌else◌, List, [], ◌++◌, Option, Some, None, Result, Ok, Err, length, sum_by, codes}
 use Rattle.text_bytes.specs.declared.source_file.SourceFile.{SourceFile}
 use Rattle.text_bytes.specs.declared.source_file.FileKind.TheVariants.{Hwdb, Rules}
-use Rattle.text_bytes.specs.declared.message.Message.{Message}
+use Rattle.file_messages.specs.declared.message.Message.{Message}
 use Rattle.text_tables.specs.Texts.{Text}
 use Rattle.hwdb_lookup.specs.declared.entry.Entry.{Entry}
 use Rattle.hwdb_core.specs.Sources.{are_few, entries_of, messages_of}

@@ -11,10 +11,11 @@ use crate::messages::message_lines;
 use crate::refusal::Refusal;
 use crate::report::Report;
 use engine_ends::Line;
+use file_messages::{Message, MessageKind};
 use itoa::Buffer;
-use rule_core::{RuleSet, read_rules};
+use rule_core::{ReadRules, read_rules};
 use std::alloc::{AllocError, Global};
-use text_bytes::{FileKind, Message, MessageKind, SourceFile};
+use text_bytes::{FileKind, SourceFile};
 use text_tables::Texts;
 
 /// The messages about rules files, and how many of the files are bad.
@@ -49,7 +50,7 @@ fn checked(
     alloc: Global,
     line: &Line<'_>,
     files: &[SourceFile],
-    set: RuleSet,
+    set: ReadRules,
 ) -> Result<Report, AllocError>
     ensures said { IfOk result (λ r. said r ≡ said_of line.now.summary files.now (reported line.now.style set.messages)) }
     ensures status { IfOk result (λ r. r.status < 3) }

@@ -4,7 +4,7 @@
 //! makes the trie of all entries, as events do, of which the index is written; over such a trie `query -` answers the
 //! modaliases of its input.
 ghost use Rattle.std.specs.Prelude.{◌≡◌, ◌<◌, List, length, Ok, IfOk, IfErr};
-ghost use Rattle.text_bytes.specs.declared.message.Message.{Message};
+ghost use Rattle.file_messages.specs.declared.message.Message.{Message};
 ghost use Rattle.hwdb_lookup.specs.declared.entry.Entry.{Entry};
 ghost use Rattle.engine_ends.specs.Delivery.{RunOutcome};
 ghost use Rattle.engine_reports.specs.Outcomes.{database_outcome, query_outcome, query_over, update_outcome, update_status};
@@ -19,11 +19,12 @@ use crate::messages::message_lines;
 use crate::refusal::Refusal;
 use crate::report::Report;
 use engine_ends::Line;
+use file_messages::Message;
 use hwdb_core::{read_fitting, read_sources};
 use hwdb_lookup::{Lookup, PlainDb};
 use index_reading::{Index, IndexFault};
 use std::alloc::{AllocError, Global};
-use text_bytes::{FileKind, Message, SourceFile};
+use text_bytes::{FileKind, SourceFile};
 use trie_build::{Trie, trie_of};
 use trie_core::write_index;
 

@@ -7,8 +7,8 @@ ghost use Rattle.engine_reports.specs.Checks.{reported};
 
 use crate::checks::is_style;
 use engine_ends::{push_place, push_word};
+use file_messages::{Message, MessageKind};
 use std::alloc::{AllocError, Global};
-use text_bytes::{Message, MessageKind};
 
 /// The lines of messages, in the order given.
 pub(crate) fn message_lines(alloc: Global, messages: &[Message]) -> Result<Vec<u8>, AllocError>

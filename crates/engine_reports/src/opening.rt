@@ -11,11 +11,12 @@ use crate::file_choice::{both_read, files_read};
 use crate::messages::{message_lines, plain_message_lines};
 use crate::refusal::Refusal;
 use engine_ends::Line;
+use file_messages::Message;
 use hwdb_core::read_sources;
 use hwdb_lookup::Entry;
-use rule_core::{RuleSet, files_as_read, read_rules_as};
+use rule_core::{ReadRules, files_as_read, read_rules_as};
 use std::alloc::{AllocError, Global};
-use text_bytes::{FileKind, Message, Profile, SourceFile};
+use text_bytes::{FileKind, Profile, SourceFile};
 
 /// What comes before the first answer to an event.
 #[derive(Drop)]
@@ -23,7 +24,7 @@ pub struct Opening {
     /// The messages about the rules, without those about style, and then those about the database.
     pub messages: Vec<u8>,
     /// The rules.
-    pub rules: RuleSet,
+    pub rules: ReadRules,
     /// The entries of the database, by order. They are never too many for a trie.
     pub entries: Vec<Entry>,
 }
@@ -34,7 +35,7 @@ pub struct RulesRead {
     /// The messages about them, without those about style.
     pub messages: Vec<u8>,
     /// The rules.
-    pub rules: RuleSet,
+    pub rules: ReadRules,
 }
 
 /// Reads what is needed to answer events from the files passed in, rules by the line's profile.

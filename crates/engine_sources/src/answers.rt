@@ -11,7 +11,7 @@ use engine_answers::{push_event, push_notes};
 use eval_rules::Outcome;
 use eval_sources::{Sourced, Sources, evaluate_sources};
 use hwdb_lookup::Lookup;
-use rule_core::RuleSet;
+use rule_types::RuleSet;
 use std::alloc::{AllocError, Global};
 
 /// Adds the lines on the device's node.
@@ -67,7 +67,7 @@ fn lines_for<'a, L: Lookup>(
     event: &'a Event<'_>,
     lookup: &L,
 ) -> Result<Vec<u8>, AllocError>
-    ensures { IfOk result (λ lines. lines.items ≡ sourced_lines rules.now.rules (L.entries lookup.now) event.now) }
+    ensures { IfOk result (λ lines. lines.items ≡ sourced_lines rules.now (L.entries lookup.now) event.now) }
 {
     let found = evaluate_sources(alloc, rules, event, lookup)?;
     let said = lines_of(alloc, event, &found);
@@ -83,7 +83,7 @@ pub fn sourced_lines<L: Lookup>(
     event: &Event<'_>,
     lookup: &L,
 ) -> Result<Vec<u8>, AllocError>
-    ensures { IfOk result (λ lines. lines.items ≡ sourced_lines rules.now.rules (L.entries lookup.now) event.now) }
+    ensures { IfOk result (λ lines. lines.items ≡ sourced_lines rules.now (L.entries lookup.now) event.now) }
 {
     lines_for(alloc, rules, event, lookup)
 }

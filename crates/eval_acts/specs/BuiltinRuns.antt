@@ -6,8 +6,8 @@ use Rattle.text_tables.specs.Texts.{Text, same_text}
 use Rattle.text_tables.specs.Pairs.{Pair, value_of}
 use Rattle.hwdb_lookup.specs.Query.{query}
 use Rattle.hwdb_lookup.specs.declared.entry.Entry.{Entry}
-use Rattle.rule_parts.specs.Builtins.{builtin_name}
-use Rattle.rule_parts.specs.declared.builtins.Builtin.TheVariants.{InputId, NetId, PathId, UsbId}
+use Rattle.rule_types.specs.Builtins.{builtin_name}
+use Rattle.rule_types.specs.declared.builtins.Builtin.TheVariants.{InputId, NetId, PathId, UsbId}
 use Rattle.rule_types.specs.Rules.{Rule}
 use Rattle.builtin_devices.specs.Outcomes.{OutcomeValue}
 use Rattle.builtin_input.specs.Input.{input_id}

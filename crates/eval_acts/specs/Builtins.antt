@@ -3,9 +3,9 @@ use Rattle.std.specs.Prelude.{if◌then◌else◌, List, [], ◌∷◌, drop, Op
 use Rattle.text_bytes.specs.declared.profile.Profile.{Profile}
 use Rattle.text_bytes.specs.declared.profile.Profile.TheVariants.{Manual, Udev}
 use Rattle.text_tables.specs.Texts.{Text, same_text}
-use Rattle.rule_parts.specs.Builtins as udev
-use Rattle.rule_parts.specs.declared.builtins.Builtin as known
-use Rattle.rule_parts.specs.declared.builtins.Builtin.TheVariants as known_as
+use Rattle.rule_types.specs.Builtins as udev
+use Rattle.rule_types.specs.declared.builtins.Builtin as known
+use Rattle.rule_types.specs.declared.builtins.Builtin.TheVariants as known_as
 use Rattle.eval_acts.specs.declared.builtin.Builtin.{Builtin}
 use Rattle.eval_acts.specs.declared.builtin.Builtin.TheVariants as asked
 use Rattle.eval_acts.specs.declared.hwdb.Hwdb.{Hwdb}

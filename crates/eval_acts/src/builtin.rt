@@ -1,6 +1,6 @@
 //! What a builtin's command asks for.
 ghost use Rattle.std.specs.Prelude.{◌≡◌, IfOk, drop};
-ghost use Rattle.rule_parts.specs.Builtins as udev;
+ghost use Rattle.rule_types.specs.Builtins as udev;
 ghost use Rattle.eval_acts.specs.Builtins.{builtin, builtin_meant, builtin_of, builtin_of_words, hwdb_asked};
 ghost use Rattle.eval_acts.specs.Hwdb.{hwdb_of};
 ghost use Rattle.eval_acts.specs.UdevHwdb.{udev_hwdb_of};
@@ -9,7 +9,7 @@ ghost use Rattle.eval_acts.specs.Words.{command_words, udev_words};
 use crate::hwdb::{Hwdb, hwdb_of};
 use crate::udev_hwdb::udev_hwdb_of;
 use crate::words::{command_words, udev_words};
-use rule_parts::builtin_of;
+use rule_types::builtin_of;
 use std::alloc::{AllocError, Global};
 use text_bytes::{Bytes, Profile};
 
@@ -82,11 +82,11 @@ fn read_as_udev(alloc: Global, command: &[u8]) -> Result<Builtin, AllocError>
     ensures { IfOk result (λ b. b ≡ builtin_meant (udev.builtin_of command.now) command.now) }
 {
     match builtin_of(command) {
-        Some(rule_parts::Builtin::Hwdb) => read_hwdb(alloc, command),
-        Some(rule_parts::Builtin::InputId) => Ok(Builtin::InputId),
-        Some(rule_parts::Builtin::NetId) => Ok(Builtin::NetId),
-        Some(rule_parts::Builtin::PathId) => Ok(Builtin::PathId),
-        Some(rule_parts::Builtin::UsbId) => Ok(Builtin::UsbId),
+        Some(rule_types::Builtin::Hwdb) => read_hwdb(alloc, command),
+        Some(rule_types::Builtin::InputId) => Ok(Builtin::InputId),
+        Some(rule_types::Builtin::NetId) => Ok(Builtin::NetId),
+        Some(rule_types::Builtin::PathId) => Ok(Builtin::PathId),
+        Some(rule_types::Builtin::UsbId) => Ok(Builtin::UsbId),
         Some(other) => Ok(Builtin::Other(Bytes::copy_of(alloc, other.name())?)),
         None => Ok(Builtin::Other(Bytes::copy_of(alloc, command)?)),
     }

@@ -1,8 +1,8 @@
 //! The builtins of udev that look at the devices of an event.
 ghost use Rattle.std.specs.Prelude.{◌≡◌, ◌-◌, nat_le, Some, None, if◌then◌else◌, IfOk, OnErr, OnOk, map, option_map};
 ghost use Rattle.hwdb_lookup.specs.Query.{shown};
-ghost use Rattle.rule_parts.specs.Builtins.{builtin_name};
-ghost use Rattle.rule_parts.specs.declared.builtins.Builtin.TheVariants.{NetId};
+ghost use Rattle.rule_types.specs.Builtins.{builtin_name};
+ghost use Rattle.rule_types.specs.declared.builtins.Builtin.TheVariants.{NetId};
 ghost use Rattle.eval_state.specs.Properties.{properties_set};
 ghost use Rattle.eval_acts.specs.BuiltinRuns.{input_id_run, is_address_name, looked_up, most_set, need_noted, need_word, net_id_run, outcome_set, outcome_taken, path_id_run, properties_size, property_size, usb_id_run, with_maker};
 
@@ -14,8 +14,7 @@ use builtin_path::path_id;
 use builtin_usb::usb_id;
 use eval_state::{NoteKind, Scene, set_property};
 use hwdb_lookup::Lookup;
-use rule_parts::Builtin;
-use rule_types::Rule;
+use rule_types::{Builtin, Rule};
 use std::alloc::{AllocError, Global};
 use text_bytes::Bytes;
 use text_tables::CowPairs;

@@ -34,7 +34,6 @@ pub use eval_state::{Chain, Label, Labels, Note, NoteKind, Notes, Scene, State};
 pub use heads::{exact_head, first_byte};
 pub use hwdb_lookup::Lookup;
 pub use program::{Program, compile};
-pub use rule_core::RuleSet;
-pub use rule_types::{Rule, RunType};
+pub use rule_types::{Rule, RuleSet, RunType};
 pub use sketches::{exact_sketch, sketch};
 pub use text_tables::{CowPairs, OwnedTexts, SortedPairs};

@@ -10,9 +10,8 @@ use device_core::Event;
 use eval_rules::{Outcome, finish};
 use eval_state::Scene;
 use hwdb_lookup::Lookup;
-use rule_core::RuleSet;
 use rule_jumps::skipped;
-use rule_types::Rule;
+use rule_types::{Rule, RuleSet};
 use std::alloc::{AllocError, Global};
 use std::marker::Model;
 use text_bytes::Bytes;
@@ -38,11 +37,11 @@ impl Model for Program {
     ghost invariant = { λ p. IsLaidOut p.rules.items p.passes.items p.names.items p.courses.items };
 }
 
-/// Lays out the rules of a set for evaluation; its messages are dropped.
+/// Lays out the rules of a set for evaluation.
 ///
 /// If memory runs out, the rules are dropped.
 pub fn compile(alloc: Global, rules: RuleSet) -> Result<Program, AllocError>
-    ensures { IfOk result (λ program. program ≡ rules.rules) }
+    ensures { IfOk result (λ program. program ≡ rules) }
 {
     let rules = rules.into_rules();
     let passes = skipped(alloc, &rules)?;

@@ -34,8 +34,8 @@ use Rattle.eval_state.specs.declared.notes.Note.{Note}
 use Rattle.eval_state.specs.declared.note_kind.NoteKind.{NoteKind}
 use Rattle.eval_state.specs.declared.note_kind.NoteKind.TheVariants.{BadHwdbArguments, BuiltinNeeds, BuiltinNotRun, ImportNotRun, NoAnswer, TestNotMade, TextTooLong}
 use Rattle.eval_state.specs.declared.scene.Scene.{Scene}
-use Rattle.rule_parts.specs.Builtins.{builtin_name}
-use Rattle.rule_parts.specs.declared.builtins.Builtin.TheVariants.{InputId, NetId, PathId, UsbId}
+use Rattle.rule_types.specs.Builtins.{builtin_name}
+use Rattle.rule_types.specs.declared.builtins.Builtin.TheVariants.{InputId, NetId, PathId, UsbId}
 use Rattle.builtin_devices.specs.Outcomes.{OutcomeValue}
 use Rattle.builtin_input.specs.Input.{input_id}
 use Rattle.builtin_net.specs.NetId.{lookup, net_id}

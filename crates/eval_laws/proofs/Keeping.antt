@@ -32,8 +32,8 @@ use Rattle.eval_state.specs.declared.note_kind.NoteKind.TheVariants.{AttributeNo
 use Rattle.eval_rendering.specs.Bounds.{most_command_bytes, most_path_bytes}
 use Rattle.eval_rendering.specs.declared.rendered.Rendered.{Rendered}
 use Rattle.eval_rendering.specs.declared.rendered.Rendered.TheVariants as rendered
-use Rattle.rule_parts.specs.Builtins.{builtin_name}
-use Rattle.rule_parts.specs.declared.builtins.Builtin.TheVariants.{InputId, NetId, PathId, UsbId}
+use Rattle.rule_types.specs.Builtins.{builtin_name}
+use Rattle.rule_types.specs.declared.builtins.Builtin.TheVariants.{InputId, NetId, PathId, UsbId}
 use Rattle.builtin_devices.specs.Outcomes.{OutcomeValue}
 use Rattle.builtin_input.specs.Input.{input_id}
 use Rattle.builtin_net.specs.NetId.{lookup, net_id}

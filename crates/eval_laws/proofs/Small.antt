@@ -6,7 +6,7 @@ use Rattle.std.specs.Cmp.Lexicographic.{pointwise}
 use Rattle.std.specs.List.{cons_option, filter_map, range_with_len}
 use Rattle.std.specs.Option.{option_and_then, unwrap_or}
 use Rattle.text_bytes.specs.Numbers.{decimal, decimal_below, is_decimal}
-use Rattle.text_bytes.specs.declared.message.MessageKind.TheVariants.{BadValue, LineTooLong, RuleWithoutEffect}
+use Rattle.file_messages.specs.declared.message.MessageKind.TheVariants.{BadValue, LineTooLong, RuleWithoutEffect}
 use Rattle.text_bytes.specs.declared.source_file.SourceFile.{SourceFile}
 use Rattle.text_bytes.specs.declared.profile.Profile.{Profile}
 use Rattle.text_bytes.specs.declared.profile.Profile.TheVariants.{Manual, Udev}

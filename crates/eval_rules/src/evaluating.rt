@@ -13,8 +13,7 @@ use device_core::Event;
 use eval_rendering::{Mode, Rendered, render};
 use eval_state::{MadeRun, Run, Runs, Scene, State};
 use hwdb_lookup::Lookup;
-use rule_core::RuleSet;
-use rule_types::Key;
+use rule_types::{Key, RuleSet};
 use std::alloc::{AllocError, Global};
 use std::mem;
 use text_bytes::Bytes;
@@ -221,7 +220,7 @@ fn evaluate<'a, L: Lookup>(
     event: &'a Event<'_>,
     lookup: &L,
 ) -> Result<Outcome<'a>, AllocError>
-    ensures { IfOk result (λ answer. answer ≡ outcome rules.now.rules (L.entries lookup.now) event.now) }
+    ensures { IfOk result (λ answer. answer ≡ outcome rules.now (L.entries lookup.now) event.now) }
 {
     let mut scene = Scene::new(alloc, event)?;
     match run(alloc, rules.rules(), lookup, &mut scene) {
@@ -243,7 +242,7 @@ pub fn evaluate_plain<'a, L: Lookup>(
     event: &'a Event<'_>,
     lookup: &L,
 ) -> Result<Outcome<'a>, AllocError>
-    ensures { IfOk result (λ answer. answer ≡ outcome rules.now.rules (L.entries lookup.now) event.now) }
+    ensures { IfOk result (λ answer. answer ≡ outcome rules.now (L.entries lookup.now) event.now) }
 {
     evaluate(alloc, rules, event, lookup)
 }

@@ -13,8 +13,7 @@ use device_core::Event;
 use eval_rules::{Outcome, finish};
 use eval_state::Scene;
 use hwdb_lookup::Lookup;
-use rule_core::RuleSet;
-use rule_types::Rule;
+use rule_types::{Rule, RuleSet};
 use std::alloc::{AllocError, Global};
 
 /// The outcome of an event, and where it comes from.
@@ -57,9 +56,9 @@ pub fn evaluate_sources<'a, L: Lookup>(
     event: &'a Event<'_>,
     lookup: &L,
 ) -> Result<Sourced<'a>, AllocError>
-    ensures outcome { IfOk result (λ s. s.outcome ≡ outcome rules.now.rules (L.entries lookup.now) event.now) }
-    ensures sources { IfOk result (λ s. Reports (stages rules.now.rules (L.entries lookup.now) event.now) s.sources) }
-    ensures commands { IfOk result (λ s. s.commands.items ≡ event_commands rules.now.rules (L.entries lookup.now) event.now) }
+    ensures outcome { IfOk result (λ s. s.outcome ≡ outcome rules.now (L.entries lookup.now) event.now) }
+    ensures sources { IfOk result (λ s. Reports (stages rules.now (L.entries lookup.now) event.now) s.sources) }
+    ensures commands { IfOk result (λ s. s.commands.items ≡ event_commands rules.now (L.entries lookup.now) event.now) }
 {
     let mut scene = Scene::new(alloc, event)?;
     match run_sourced(alloc, rules.rules(), lookup, &mut scene) {

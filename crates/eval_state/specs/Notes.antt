@@ -2,7 +2,7 @@
 use Rattle.std.specs.Prelude.{codes, [], ◌∷◌, ◌++◌, Option, Some, None}
 use Rattle.text_bytes.specs.Names.{open_brace, close_brace}
 use Rattle.text_tables.specs.Texts.{Text}
-use Rattle.text_bytes.specs.Messages.{word_of}
+use Rattle.text_bytes.specs.Texts.{word_of}
 use Rattle.rule_types.specs.Names.{key_name}
 use Rattle.rule_types.specs.declared.keys.Key.{Key}
 use Rattle.rule_types.specs.Rules.{Rule}

@@ -3,7 +3,8 @@ use Rattle.std.proofs.Common.{◌≡◌, ℕ, ◌+◌, ◌<◌, ◌≤◌, suc, 
 use Rattle.std.specs.List.{flat_map, list_any, slice_get}
 use Rattle.std.proofs.Math.Seq.{drop-cons}
 use Rattle.std.proofs.lemmas.List.Concat.{flat_map_single}
-use Rattle.text_bytes.specs.Messages.{capped, message}
+use Rattle.text_bytes.specs.Numbers.{capped}
+use Rattle.file_messages.specs.Messages.{message}
 use Rattle.text_bytes.specs.declared.MessageKind.{MessageKind}
 use Rattle.text_core.specs.Spell.{spell}
 use Rattle.text_core.specs.declared.glob_fault.GlobFault.{GlobFault}

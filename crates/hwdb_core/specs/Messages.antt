@@ -1,6 +1,6 @@
 -- The messages about a paragraph.
 use Rattle.std.specs.Prelude.{ℕ, ◌==◌, if◌then◌else◌, List, [], ◌∷◌, ◌++◌, length, take, map, flat_map, Result, Ok, Err}
-use Rattle.text_bytes.specs.Messages.{message}
+use Rattle.file_messages.specs.Messages.{message}
 use Rattle.text_bytes.specs.declared.Message.{Message}
 use Rattle.text_bytes.specs.declared.MessageKind.{MessageKind}
 use Rattle.text_bytes.specs.declared.MessageKind.TheVariants.{PropertyWithoutMatch, MatchWithoutProperty, UnindentedLine, PatternNotSupported}

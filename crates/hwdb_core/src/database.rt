@@ -12,9 +12,10 @@ ghost use Rattle.hwdb_core.specs.declared.fault.HwdbFault.TheVariants.{TooMany};
 use crate::fault::HwdbFault;
 use crate::gathered::Gathered;
 use crate::reading::read_file;
+use file_messages::Message;
 use hwdb_lookup::{Entry, MAX_NAME_BYTES};
 use std::alloc::Global;
-use text_bytes::{Bytes, Message, SourceFile};
+use text_bytes::{Bytes, SourceFile};
 
 /// What database files hold, and what is wrong with them.
 #[derive(Debug, Drop)]

@@ -5,17 +5,19 @@
 
 ghost use Rattle.std.specs.Prelude.{◌≡◌, ◌≤◌, ◌<◌, ◌+◌, ◌⊎◌, ◌∷◌, [], IfOk, OnOk, OnErr};
 ghost use Rattle.hwdb_lookup.specs.Bounds.{max_entries, max_text_bytes};
-ghost use Rattle.text_bytes.specs.Messages.{capped, message};
+ghost use Rattle.text_bytes.specs.Numbers.{capped};
+ghost use Rattle.file_messages.specs.Messages.{message};
 ghost use Rattle.hwdb_core.specs.Ruling.{passes_over};
 ghost use Rattle.hwdb_core.specs.Found.{Adds, IsKept, begun, counts, one_more, only_messages, with_entry};
 
 use crate::fault::HwdbFault;
 use crate::paragraph::Pair;
 use crate::ruling::is_ruled_out;
+use file_messages::{Message, MessageKind};
 use hwdb_lookup::{Entry, MAX_ENTRIES, MAX_MATCH_BYTES, MAX_TEXT_BYTES, SharedBytes};
 use std::alloc::{AllocError, Global};
 use std::marker::Model;
-use text_bytes::{Bytes, Message, MessageKind, capped};
+use text_bytes::{Bytes, capped};
 use text_core::PackedPattern;
 
 /// Entries and messages, in order.

@@ -6,7 +6,8 @@ ghost use Rattle.hwdb_core.specs.Paragraphs.{cut, is_match, is_property};
 ghost use Rattle.hwdb_core.specs.Properties.{pair_of};
 
 use crate::lines::{is_property, property_text};
-use text_bytes::{Line, MessageKind, find};
+use file_messages::MessageKind;
+use text_bytes::{Line, find};
 
 /// A key and its value, both of a line.
 #[derive(Debug, Drop)]

@@ -16,8 +16,9 @@ use crate::fault::HwdbFault;
 use crate::gathered::Gathered;
 use crate::lines::{cleaned, is_comment, property_text};
 use crate::paragraph::{pair_of, parts_of};
+use file_messages::MessageKind;
 use std::alloc::Global;
-use text_bytes::{Line, Lines, MessageKind, SourceFile};
+use text_bytes::{Line, Lines, SourceFile};
 use text_core::{GlobFault, PackedPattern};
 
 /// Reads a file.

@@ -8,7 +8,8 @@ use Rattle.std.proofs.lemmas.List.Kept.{AllPairs-cons}
 use Rattle.std.proofs.lemmas.Bool.{cases_lt}
 use Rattle.text_bytes.specs.Names.{equals, newline}
 use Rattle.text_bytes.specs.Lines.{NumberedLine, lines, numbered_from}
-use Rattle.text_bytes.specs.Messages.{capped, message}
+use Rattle.text_bytes.specs.Numbers.{capped}
+use Rattle.file_messages.specs.Messages.{message}
 use Rattle.text_bytes.specs.declared.Message.{Message}
 use Rattle.text_bytes.specs.declared.MessageKind.{MessageKind}
 use Rattle.text_bytes.specs.declared.MessageKind.TheVariants.{MatchWithoutProperty, PatternNotSupported, UnindentedLine, EmptyKey}

@@ -6,7 +6,7 @@ use Rattle.text_core.specs.Spell.{spell}
 use Rattle.text_core.specs.declared.glob_fault.GlobFault.{GlobFault}
 use Rattle.text_core.specs.declared.item.Item.{Item}
 use Rattle.text_core.specs.declared.item.Item.TheVariants.{One}
-use Rattle.text_bytes.specs.Messages.{capped}
+use Rattle.text_bytes.specs.Numbers.{capped}
 use Rattle.text_bytes.specs.declared.MessageKind.{MessageKind}
 use Rattle.text_bytes.specs.declared.SourceFile.{SourceFile}
 use Rattle.text_bytes.specs.Lines.{NumberedLine}

@@ -1,5 +1,5 @@
 //! What tokens, templates and rules show only to a caller.
-use rule_core::{Rule, RuleSet, read_rules};
+use rule_core::{ReadRules, Rule, read_rules};
 use rule_templates::{Piece, Template, TemplateFault};
 use rule_tokens::{Operator, Quote, Span, TokenFault, TokenFaultKind, Tokens, unquote};
 use std::alloc::{AllocError, Global};
@@ -178,7 +178,7 @@ fn has_one_of_each(rule: &Rule) -> bool {
 }
 
 /// The set of one file of rules.
-fn set_of(alloc: Global, name: &[u8], text: &[u8]) -> Result<RuleSet, Fail> {
+fn set_of(alloc: Global, name: &[u8], text: &[u8]) -> Result<ReadRules, Fail> {
     match read_rules(alloc, &files(alloc, name, text)?) {
         Ok(set) => Ok(set),
         Err(_fault) => Err(Fail::from("no rules")),
@@ -190,7 +190,7 @@ fn a_rule_lends_what_it_holds(rt: HostRuntime) -> Result<(), Fail> {
     let text =
         b"\nLABEL=\"l\", GOTO=\"g\", KERNEL==\"a\", KERNELS==\"b\", TEST==\"c\", RESULT==\"d\", ENV{A}=\"1\"\nLABEL=\"g\"";
     let set = set_of(rt.alloc(), b"p.rules", text)?;
-    let [rule, _] = set.rules() else {
+    let [rule, _] = set.rules().rules() else {
         return Err(Fail::from("there are two rules"));
     };
     assert!(rt; rule.file() == b"p.rules".as_slice());
@@ -205,7 +205,7 @@ fn a_rule_lends_what_it_holds(rt: HostRuntime) -> Result<(), Fail> {
 fn a_set_of_rules_gives_its_rules_away(rt: HostRuntime) -> Result<(), Fail> {
     let set = set_of(rt.alloc(), b"g.rules", b"GOTO=\"y\", ENV{D}=\"1\"")?;
     assert!(rt; set.messages().len() == 1);
-    let rules = set.into_rules();
+    let rules = set.into_rules().into_rules();
     assert_eq!(rt; rules.len(), 1);
     assert!(rt; rules[0].goto().is_none());
     assert_eq!(rt; rules[0].sets().len(), 1);

@@ -6,9 +6,9 @@ use Rattle.std.proofs.lemmas.List.{map-id, take-append-drop}
 use Rattle.std.proofs.lemmas.List.Concat.{flat_map-append}
 use Rattle.std.proofs.lemmas.List.Sums.{sum_by-append}
 use Rattle.rule_types.specs.Rules.{Rule, rule_tokens, tokens_in}
-use Rattle.rule_core.specs.Rules.{RuleSet, file_messages, file_rules, set_of_as}
+use Rattle.rule_core.specs.Rules.{ReadRules, file_messages, file_rules, set_of_as}
 use Rattle.text_bytes.specs.declared.profile.Profile.{Profile}
-use Rattle.text_bytes.specs.declared.message.Message.{Message}
+use Rattle.file_messages.specs.declared.message.Message.{Message}
 use Rattle.text_bytes.specs.declared.source_file.SourceFile.{SourceFile}
 use Rattle.rule_core.specs.Gathering.{Adds, FailsAt}
 use Rattle.rule_core.specs.declared.fault.RulesFault.{RulesFault}
@@ -54,7 +54,7 @@ pub too_many_from_none : (start more : List Rule) (e : RulesFault) → start ≡
 too_many_from_none start more TooMany s h t = subst (λ (x : List Rule). 2 ^ 24 < tokens_in (x ++ more)) s h
 too_many_from_none start more Memory s h t = cc
 
-abbrev pub set_as : List Rule → List Message → RuleSet
+abbrev pub set_as : List Rule → List Message → ReadRules
 set_as rules messages = record { rules = rules; messages = messages }
 
 -- all files were read

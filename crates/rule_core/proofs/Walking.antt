@@ -1,7 +1,7 @@
 -- Joining line by line gives the joined lines of the longest runs.
 use Rattle.std.proofs.Common.{◌≡◌, ℕ, Bool, true, false, cond, not, List, ◌∷◌, [], ◌++◌, length, map, Option, Some, None, refl, sym, ◌∙◌, ap, append_assoc, append-nil}
 use Rattle.std.specs.List.{onto_first}
-use Rattle.text_bytes.specs.Messages.{capped}
+use Rattle.text_bytes.specs.Numbers.{capped}
 use Rattle.text_bytes.specs.declared.profile.Profile.{Profile}
 use Rattle.text_bytes.specs.declared.profile.Profile.TheVariants.{Manual, Udev}
 use Rattle.rule_core.specs.Lines.{Joined, NumberedLine, Piece, is_comment, is_empty, is_open, joined, joined_as, joined_lines, kept, lines, lines_of_runs, numbered_from, open_number, open_of_runs, piece_of, run_number, run_text, runs, unindented}

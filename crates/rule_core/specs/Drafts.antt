@@ -5,7 +5,7 @@ use Rattle.std.specs.Result.{result_ok}
 use Rattle.text_bytes.specs.Texts.{first, last}
 use Rattle.text_bytes.specs.declared.profile.Profile.{Profile}
 use Rattle.text_bytes.specs.declared.profile.Profile.TheVariants.{Manual, Udev}
-use Rattle.text_bytes.specs.declared.message.MessageKind.TheVariants.{BadSyntax, BadPrefix, LineTooLong, GivenTwice, RuleWithoutEffect}
+use Rattle.file_messages.specs.declared.message.MessageKind.TheVariants.{BadSyntax, BadPrefix, LineTooLong, GivenTwice, RuleWithoutEffect}
 use Rattle.rule_tokens.specs.Grammar.{Item, Placed, is_gap_byte}
 use Rattle.rule_tokens.specs.Lines.{items_from}
 use Rattle.rule_tokens.specs.Prefixes.{letters_at}

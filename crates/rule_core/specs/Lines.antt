@@ -5,7 +5,7 @@ use Rattle.text_bytes.specs.declared.profile.Profile.{Profile}
 use Rattle.text_bytes.specs.declared.profile.Profile.TheVariants.{Manual, Udev}
 use Rattle.text_bytes.specs.Names.{hash, backslash}
 use Rattle.text_bytes.specs.Texts.{begins_with, ends_in, unindented as text_unindented}
-pub use Rattle.text_bytes.specs.Messages.{capped}
+pub use Rattle.text_bytes.specs.Numbers.{capped}
 pub use Rattle.text_bytes.specs.Texts.{is_empty}
 pub use Rattle.text_bytes.specs.Lines.{NumberedLine, lines, numbered_from}
 

@@ -1,8 +1,8 @@
 -- The rules of files, and the messages about them.
 use Rattle.std.specs.Prelude.{ℕ, if◌then◌else◌, List, [], ◌∷◌, ◌++◌, map, zip, flat_map, Option, Some, None, Result, Ok, Err}
 use Rattle.std.specs.Option.{unwrap_or}
-use Rattle.text_bytes.specs.declared.message.Message.{Message}
-use Rattle.text_bytes.specs.declared.message.MessageKind.TheVariants.{NoLaterLabel, OpenAtEnd, LabelUnused, FileAbandoned}
+use Rattle.file_messages.specs.declared.message.Message.{Message}
+use Rattle.file_messages.specs.declared.message.MessageKind.TheVariants.{NoLaterLabel, OpenAtEnd, LabelUnused, FileAbandoned}
 use Rattle.text_bytes.specs.declared.profile.Profile.{Profile}
 use Rattle.text_bytes.specs.declared.profile.Profile.TheVariants.{Manual}
 use Rattle.text_bytes.specs.declared.source_file.SourceFile.{SourceFile}
@@ -16,7 +16,7 @@ use Rattle.rule_jumps.specs.Jumps.{Names, landings}
 use Rattle.rule_jumps.specs.declared.jumps.Landing.{Landing}
 
 -- the rules of files, and the messages about them
-pub record RuleSet : Type 0 where
+pub record ReadRules : Type 0 where
   pub rules : List Rule
   pub messages : List Message
 
@@ -103,9 +103,9 @@ abbrev pub file_messages : Profile → SourceFile → List Message
 file_messages by f = messages_unless by f (abandoned by f.bytes)
 
 -- the rules of files, and the messages about them
-unfoldable pub set_of_as : Profile → List SourceFile → RuleSet
+unfoldable pub set_of_as : Profile → List SourceFile → ReadRules
 set_of_as by files = record { rules = flat_map (file_rules by) files; messages = flat_map (file_messages by) files }
 
 -- the same by the manual
-abbrev pub set_of : List SourceFile → RuleSet
+abbrev pub set_of : List SourceFile → ReadRules
 set_of files = set_of_as Manual files

@@ -1,7 +1,7 @@
 -- Serves inner proofs only: joining line by line; what the lines so far have given, and what one more makes of it.
 use Rattle.std.specs.Prelude.{ℕ, if◌then◌else◌, List, [], ◌∷◌, ◌++◌, Option, Some, None}
 use Rattle.rule_core.specs.Lines.{NumberedLine, Piece, Joined, is_empty, joined_as}
-use Rattle.text_bytes.specs.Messages.{capped}
+use Rattle.text_bytes.specs.Numbers.{capped}
 use Rattle.text_bytes.specs.declared.profile.Profile.{Profile}
 use Rattle.text_bytes.specs.declared.profile.Profile.TheVariants.{Manual, Udev}
 

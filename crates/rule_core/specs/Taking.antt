@@ -2,7 +2,7 @@
 use Rattle.std.specs.Prelude.{ℕ, List, [], ◌∷◌, ◌++◌, Option, Some, None, filter_map}
 use Rattle.text_bytes.specs.declared.profile.Profile.{Profile}
 use Rattle.text_bytes.specs.declared.profile.Profile.TheVariants.{Manual, Udev}
-use Rattle.text_bytes.specs.declared.message.MessageKind.TheVariants.{GivenTwice}
+use Rattle.file_messages.specs.declared.message.MessageKind.TheVariants.{GivenTwice}
 use Rattle.rule_parts.specs.declared.finding.Finding.{Finding}
 use Rattle.rule_types.specs.declared.part.Part.{Part}
 use Rattle.rule_types.specs.declared.part.Part.TheVariants as part

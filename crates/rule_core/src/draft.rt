@@ -8,11 +8,12 @@ ghost use Rattle.rule_core.specs.Drafts.{lost_name};
 ghost use Rattle.rule_core.specs.Taking.{again, first_given, label_given, label_said, with_part, written};
 
 use crate::reporting::report;
+use file_messages::MessageKind;
 use rule_parts::Finding;
 use rule_types::{Act, Assignment, Comparison, Part, PlainMatch, UpMatch};
 use std::alloc::{AllocError, Global};
 use std::marker::Model;
-use text_bytes::{Bytes, MessageKind, Profile};
+use text_bytes::{Bytes, Profile};
 
 /// A rule as its line alone gives it.
 #[derive(Debug, Drop)]

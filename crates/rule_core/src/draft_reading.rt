@@ -9,11 +9,12 @@ use crate::line_ends::MAX_UDEV_BYTES;
 use crate::places::{following, line_tokens};
 use crate::style::add_style;
 use crate::turns::{sort_acts, sort_assignments};
+use file_messages::MessageKind;
 use rule_parts::{Finding, PartFault, read_part};
 use rule_tokens::{TokenFaultKind, letters_before_quote};
 use rule_types::Part;
 use std::alloc::{AllocError, Global};
-use text_bytes::{MessageKind, Profile};
+use text_bytes::Profile;
 
 /// The most bytes of a joined line by the manual.
 const MAX_BYTES: usize = 16_384;

@@ -1,7 +1,7 @@
 //! The joined lines of a file, as they are given to a caller.
 ghost use Rattle.std.specs.Prelude.{◌≡◌};
 ghost use Rattle.rule_core.specs.Lines.{joined_as};
-ghost use Rattle.text_bytes.specs.Messages.{capped};
+ghost use Rattle.text_bytes.specs.Numbers.{capped};
 
 use crate::text::Text;
 use std::marker::Model;

@@ -20,10 +20,10 @@ mod line_ends;
 mod messages;
 mod pieces;
 mod places;
+mod read_rules;
 mod reading;
 mod readings;
 mod reporting;
-mod rule_set;
 mod style;
 mod text;
 mod turns;
@@ -36,12 +36,13 @@ pub use joined::{JoinedLine, JoinedLines};
 pub use joining::joined_lines;
 pub use line_ends::{abandoned_at, files_as_read, is_too_long, read_ends};
 pub use places::{between, first_place, following, line_tokens};
+pub use read_rules::ReadRules;
 pub use reading::{read_rules, read_rules_as};
-pub use rule_set::RuleSet;
 pub use rule_templates::{Piece, Template, TemplateFault};
 pub use rule_tokens::{Operator, Quote, Span, Token, TokenFault, TokenFaultKind, Tokens, unquote};
 pub use rule_types::{
     Act, ActKind, AssignOperator, Assignment, Change, Comparison, Import, ImportType, Key,
-    MatchOperator, PlainKey, PlainMatch, Rule, RuleOption, RunType, Target, UpKey, UpMatch,
+    MatchOperator, PlainKey, PlainMatch, Rule, RuleOption, RuleSet, RunType, Target, UpKey,
+    UpMatch,
 };
 pub use style::{commas, has_blank_before_comma, read_as_assign_kind};

@@ -1,13 +1,14 @@
 //! What is found in the lines of a file, as messages.
 ghost use Rattle.std.specs.Prelude.{◌≡◌, ◌∷◌, ◌++◌, [], if◌then◌else◌, OnOk, map};
 ghost use Rattle.std.specs.Option.{unwrap_or};
-ghost use Rattle.text_bytes.specs.declared.message.MessageKind.TheVariants.{FileAbandoned, OpenAtEnd};
+ghost use Rattle.file_messages.specs.declared.message.MessageKind.TheVariants.{FileAbandoned, OpenAtEnd};
 ghost use Rattle.rule_parts.specs.Values.{finding};
 ghost use Rattle.rule_core.specs.Rules.{message_at, open_messages};
 
+use file_messages::{Message, MessageKind};
 use rule_parts::Finding;
 use std::alloc::{AllocError, Global};
-use text_bytes::{Bytes, Message, MessageKind};
+use text_bytes::Bytes;
 
 /// A line of a file.
 #[derive(Clone, Copy, Debug)]

@@ -11,18 +11,19 @@ use crate::gathered::Gathered;
 use crate::joining::joined_lines;
 use crate::line_ends::abandoned_at;
 use crate::messages::{Place, report, report_abandoned, report_all, report_if, report_open};
+use crate::read_rules::ReadRules;
 use crate::readings::{Reading, landings_of, read_lines};
-use crate::rule_set::RuleSet;
+use file_messages::{Message, MessageKind};
 use rule_jumps::Landing;
-use rule_types::Rule;
+use rule_types::{Rule, RuleSet};
 use std::alloc::Global;
-use text_bytes::{Bytes, Message, MessageKind, Profile, SourceFile};
+use text_bytes::{Bytes, Profile, SourceFile};
 
 /// Reads rules files as udev(7) writes them, in the order in which they are given.
 ///
 /// A line that is wrong costs a message and is not a rule. `TooMany` comes exactly if more than 2^24 tokens are
 /// left in the rules, and `Memory` only if an allocation fails.
-pub fn read_rules(alloc: Global, files: &[SourceFile]) -> Result<RuleSet, RulesFault>
+pub fn read_rules(alloc: Global, files: &[SourceFile]) -> Result<ReadRules, RulesFault>
     ensures set { IfOk result (λ s. s ≡ set_of files.now) }
     ensures within { IfOk result (λ s. tokens_in (set_of files.now).rules ≤ 2 ^ 24) }
     ensures too_many { IfErr result (λ e. e ≡ TooMany → 2 ^ 24 < tokens_in (set_of files.now).rules) }
@@ -36,7 +37,7 @@ pub fn read_rules_as(
     alloc: Global,
     profile: Profile,
     files: &[SourceFile],
-) -> Result<RuleSet, RulesFault>
+) -> Result<ReadRules, RulesFault>
     ensures set { IfOk result (λ s. s ≡ set_of_as profile files.now) }
     ensures within { IfOk result (λ s. tokens_in (set_of_as profile files.now).rules ≤ 2 ^ 24) }
     ensures too_many { IfErr result (λ e. e ≡ TooMany → 2 ^ 24 < tokens_in (set_of_as profile files.now).rules) }
@@ -44,8 +45,8 @@ pub fn read_rules_as(
     let mut rules = Gathered::new(alloc);
     let mut messages = Vec::new(alloc);
     read_files(alloc, profile, &mut rules, &mut messages, files)?;
-    Ok(RuleSet {
-        rules: rules.into_rules(),
+    Ok(ReadRules {
+        rules: RuleSet::new(rules.into_rules()),
         messages,
     })
 }

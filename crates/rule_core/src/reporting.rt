@@ -2,9 +2,9 @@
 ghost use Rattle.std.specs.Prelude.{◌≡◌, ◌++◌, ◌∷◌, [], OnOk};
 ghost use Rattle.rule_parts.specs.Values.{finding};
 
+use file_messages::MessageKind;
 use rule_parts::Finding;
 use std::alloc::{AllocError, Global};
-use text_bytes::MessageKind;
 
 /// Adds a finding to those before it.
 pub(crate) fn report(

@@ -10,10 +10,11 @@ ghost use Rattle.rule_core.specs.Style.{comma_findings, commas, end_findings, ga
 
 use crate::places::{between, following, line_tokens};
 use crate::reporting::report;
+use file_messages::MessageKind;
 use rule_parts::{Finding, is_read_as_assign};
 use rule_tokens::Token;
 use std::alloc::{AllocError, Global};
-use text_bytes::{MessageKind, Profile};
+use text_bytes::Profile;
 
 /// Adds the findings about how a line is written, by the places of its tokens.
 pub(crate) fn add_style(

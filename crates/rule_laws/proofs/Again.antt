@@ -1,6 +1,6 @@
 -- Names that are given again.
 use Rattle.std.proofs.Common.{◌≡◌, ◌∙◌, ◌++◌, ◌∷◌, ℕ, List, [], ap, refl, filter_map}
-use Rattle.text_bytes.specs.declared.message.MessageKind.TheVariants.{GivenTwice}
+use Rattle.file_messages.specs.declared.message.MessageKind.TheVariants.{GivenTwice}
 use Rattle.rule_parts.specs.Values.{finding}
 use Rattle.rule_parts.specs.declared.finding.Finding.{Finding}
 use Rattle.rule_types.specs.declared.part.Part.{Part}

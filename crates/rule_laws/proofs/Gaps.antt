@@ -4,7 +4,7 @@ use Rattle.std.proofs.lemmas.Bool.{eq-eqb, eqb-true, false≢true}
 use Rattle.std.specs.List.{list_all}
 use Rattle.std.proofs.lemmas.List.Sums.{sum_by-append, sum_by-cons}
 use Rattle.text_bytes.specs.Names.{comma, is_blank}
-use Rattle.text_bytes.specs.declared.message.MessageKind.TheVariants.{BlankExpected, CommaExpected, ReadAsAssign}
+use Rattle.file_messages.specs.declared.message.MessageKind.TheVariants.{BlankExpected, CommaExpected, ReadAsAssign}
 use Rattle.rule_tokens.specs.Grammar.{AllAre, Placed, is_gap_byte}
 use Rattle.rule_tokens.specs.Values.{ends_in}
 use Rattle.rule_parts.specs.Parts.{is_read_as_assign}

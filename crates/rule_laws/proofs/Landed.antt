@@ -1,7 +1,7 @@
 -- The joined lines of a file with what becomes of their jumps, some lines below others.
 use Rattle.std.proofs.Common.{ℕ, List, map, zip}
 use Rattle.std.specs.List.{flat_map}
-use Rattle.text_bytes.specs.declared.message.Message.{Message}
+use Rattle.file_messages.specs.declared.message.Message.{Message}
 use Rattle.text_bytes.specs.declared.profile.Profile.{Profile}
 use Rattle.rule_core.specs.Lines.{NumberedLine}
 use Rattle.rule_core.specs.Drafts.{draft_of}

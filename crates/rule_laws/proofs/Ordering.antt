@@ -3,8 +3,8 @@ use Rattle.std.proofs.Common.{◌≡◌, ℕ, ◌≤◌, ◌==◌, Bool, true, f
 use Rattle.std.specs.List.{filter_map}
 use Rattle.std.specs.Option.{unwrap_or}
 use Rattle.text_bytes.specs.Names.{comma}
-use Rattle.text_bytes.specs.declared.message.Message.{Message}
-use Rattle.text_bytes.specs.declared.message.MessageKind.TheVariants.{BlankExpected, CommaExpected, LabelUnused, LineTooLong, NoLaterLabel, ReadAsAssign}
+use Rattle.file_messages.specs.declared.message.Message.{Message}
+use Rattle.file_messages.specs.declared.message.MessageKind.TheVariants.{BlankExpected, CommaExpected, LabelUnused, LineTooLong, NoLaterLabel, ReadAsAssign}
 use Rattle.text_bytes.specs.declared.source_file.SourceFile.{SourceFile}
 use Rattle.rule_tokens.specs.Grammar.{Placed}
 use Rattle.rule_tokens.specs.Lines.{items_of}

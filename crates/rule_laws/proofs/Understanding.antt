@@ -2,13 +2,13 @@
 use Rattle.std.proofs.Common.{◌≡◌, ℕ, Bool, true, false, not, cond, List, [], ◌∷◌, ◌++◌, length, map, Option, Some, None, Result, Ok, Err, refl, sym, ◌∙◌, ap, subst, ◌⊎◌, inl, inr, Contains, Any, All}
 use Rattle.std.specs.List.{AllZip, flat_map, onto_first}
 use Rattle.std.proofs.lemmas.List.Elements.{All-cons, All-nil}
-use Rattle.text_bytes.specs.declared.message.Message.{Message}
+use Rattle.file_messages.specs.declared.message.Message.{Message}
 use Rattle.text_bytes.specs.declared.source_file.SourceFile.{SourceFile}
 use Rattle.rule_parts.specs.declared.finding.Finding.{Finding}
 use Rattle.text_bytes.specs.declared.profile.Profile.{Profile}
 use Rattle.rule_core.specs.Ends.{abandoned}
 use Rattle.rule_core.specs.Lines.{NumberedLine, Piece, is_comment, is_empty, is_open, joined_lines, kept, lines, lines_of_runs, open_number, open_of_runs, piece_of, run_number, run_text, runs, unindented}
-use Rattle.text_bytes.specs.Messages.{capped}
+use Rattle.text_bytes.specs.Numbers.{capped}
 use Rattle.rule_core.specs.Drafts.{Draft, draft_of}
 use Rattle.rule_jumps.specs.Jumps.{Names, is_lost, is_unused, landings}
 use Rattle.rule_jumps.specs.declared.jumps.Landing.{Landing}

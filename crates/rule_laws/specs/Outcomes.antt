@@ -1,9 +1,9 @@
 -- What becomes of each joined line of a file, with its jump decided by the rules after it.
 use Rattle.std.specs.Prelude.{◌≡◌, ◌↔◌, ℕ, List, [], ◌∷◌, ◌++◌, ⊤, map, flat_map, Any, Some, Ok, Err}
-use Rattle.text_bytes.specs.declared.message.Message.{Message}
+use Rattle.file_messages.specs.declared.message.Message.{Message}
 use Rattle.text_bytes.specs.declared.source_file.SourceFile.{SourceFile}
 use Rattle.text_bytes.specs.declared.profile.Profile.{Profile}
-use Rattle.text_bytes.specs.declared.message.MessageKind.TheVariants.{FileAbandoned}
+use Rattle.file_messages.specs.declared.message.MessageKind.TheVariants.{FileAbandoned}
 use Rattle.rule_parts.specs.Values.{finding}
 use Rattle.rule_core.specs.Lines.{NumberedLine, joined_lines}
 use Rattle.rule_parts.specs.declared.finding.Finding.{Finding}

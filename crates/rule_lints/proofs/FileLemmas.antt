@@ -4,7 +4,7 @@ use Rattle.std.specs.List.{list_any}
 use Rattle.std.proofs.lemmas.List.{reverse-append}
 use Rattle.std.proofs.lemmas.List.Folds.{list_any-append}
 use Rattle.std.proofs.lemmas.Grind.{flat_map-append}
-use Rattle.text_bytes.specs.declared.message.MessageKind.TheVariants.{LineTooLong, RuleWithoutEffect}
+use Rattle.file_messages.specs.declared.message.MessageKind.TheVariants.{LineTooLong, RuleWithoutEffect}
 use Rattle.text_bytes.specs.declared.profile.Profile.{Profile}
 use Rattle.text_bytes.specs.declared.source_file.SourceFile.{SourceFile}
 use Rattle.text_tables.specs.Texts.{Text, is_among, same_text}

@@ -12,10 +12,10 @@ use Rattle.rule_types.specs.declared.types.ImportType.{ImportType}
 use Rattle.rule_types.specs.declared.types.ImportType.TheVariants as import_of
 use Rattle.rule_types.specs.declared.types.RunType.{RunType}
 use Rattle.rule_types.specs.declared.types.RunType.TheVariants as run_of
-use Rattle.rule_parts.specs.Builtins.{builtin_name, builtin_of}
+use Rattle.rule_types.specs.Builtins.{builtin_name, builtin_of}
 use Rattle.text_bytes.specs.Texts.{following}
 use Rattle.rule_parts.specs.Options.{level_of, option_of}
-use Rattle.rule_parts.specs.declared.builtins.Builtin.{Builtin}
+use Rattle.rule_types.specs.declared.builtins.Builtin.{Builtin}
 use Rattle.rule_pairs.specs.Accounts.{Accounts, given_in}
 use Rattle.rule_pairs.specs.declared.accounts.AccountKind.TheVariants.{User, Group}
 use Rattle.rule_pairs.specs.declared.accounts.Given.{Given}

@@ -1,8 +1,8 @@
 -- What is reported for the tokens of one rule, two by two.
 use Rattle.std.specs.Prelude.{ℕ, ◌+◌, Bool, true, false, not, ◌&&◌, if◌then◌else◌, List, [], ◌∷◌, ◌++◌, map, fold, Option, Some, None}
 use Rattle.std.specs.List.{list_any}
-use Rattle.text_bytes.specs.declared.message.MessageKind.{MessageKind}
-use Rattle.text_bytes.specs.declared.message.MessageKind.TheVariants.{MatchesExclude, SaidTwice}
+use Rattle.file_messages.specs.declared.message.MessageKind.{MessageKind}
+use Rattle.file_messages.specs.declared.message.MessageKind.TheVariants.{MatchesExclude, SaidTwice}
 use Rattle.rule_tokens.specs.Grammar.{Placed}
 use Rattle.rule_pairs.specs.Accounts.{Accounts}
 use Rattle.rule_pairs.specs.Relations.{is_against, is_same}

@@ -2,7 +2,7 @@
 ghost use Rattle.std.specs.Prelude.{◌≡◌};
 ghost use Rattle.rule_pairs.specs.Pairs.{message_of};
 
-use text_bytes::MessageKind;
+use file_messages::MessageKind;
 
 /// What two tokens of a rule are to each other.
 #[derive(Clone, Copy, Debug, PartialEq, Eq)]

@@ -20,7 +20,7 @@ use Rattle.rule_types.specs.Names.{import_name, key_of}
 use Rattle.rule_types.specs.Topics.{attribute_as}
 use Rattle.rule_types.specs.Written.{attribute_of_role, attribute_of_topic, key_of_plain, key_of_role, key_of_target, key_of_topic, key_of_up}
 use Rattle.rule_types.specs.WrittenParts.{attribute_of_part, key_of_part}
-use Rattle.rule_parts.specs.Builtins.{builtin_of}
+use Rattle.rule_types.specs.Builtins.{builtin_of}
 use Rattle.rule_parts.specs.Parts.{IsReadAs, IsWritten, role_as, type_as, udev_role}
 
 -- by the manual an attribute is taken as it is written

@@ -1,6 +1,6 @@
 -- For contracts of inner functions only: what they return, compared with what reading gives.
 use Rattle.std.specs.Prelude.{◌≡◌, ℕ, List, Result, Ok, Err}
-use Rattle.text_bytes.specs.declared.message.MessageKind.{MessageKind}
+use Rattle.file_messages.specs.declared.message.MessageKind.{MessageKind}
 use Rattle.text_core.specs.declared.glob_fault.GlobFault.{GlobFault}
 use Rattle.text_core.specs.declared.glob_fault.GlobFault.TheVariants as glob
 use Rattle.rule_parts.specs.Faults.{FaultOf}

@@ -3,5 +3,4 @@ pub mod Parts
 pub mod Options
 pub mod Values
 pub mod Faults
-pub mod Builtins
 pub mod Refusals

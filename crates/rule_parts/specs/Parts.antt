@@ -1,7 +1,7 @@
 -- A token, read and checked: the part of a rule that it is, or what is wrong with it.
 use Rattle.std.specs.Prelude.{ℕ, Bool, true, false, not, ◌&&◌, nat_eq, if◌then◌else◌, List, Option, Some, None, is_some, Result, Ok, Err, ◌≡◌, [], ◌⊎◌, codes}
 use Rattle.std.specs.Cmp.Lexicographic.{pointwise}
-use Rattle.text_bytes.specs.declared.message.MessageKind.TheVariants.{UnknownKey, OperatorNotAllowed, WrongAttribute, BadValue}
+use Rattle.file_messages.specs.declared.message.MessageKind.TheVariants.{UnknownKey, OperatorNotAllowed, WrongAttribute, BadValue}
 use Rattle.text_bytes.specs.declared.profile.Profile.{Profile}
 use Rattle.text_bytes.specs.declared.profile.Profile.TheVariants as profile
 use Rattle.rule_tokens.specs.Grammar.{Placed}
@@ -22,7 +22,7 @@ use Rattle.rule_types.specs.declared.roles.MatchOperator.{MatchOperator}
 use Rattle.rule_types.specs.declared.roles.MatchOperator.TheVariants.{Equal, NotEqual}
 use Rattle.rule_types.specs.declared.roles.Role.{Role}
 use Rattle.rule_types.specs.declared.roles.Role.TheVariants as role
-use Rattle.rule_parts.specs.Builtins.{builtin_of}
+use Rattle.rule_types.specs.Builtins.{builtin_of}
 use Rattle.rule_parts.specs.Refusals.{refusal_by}
 use Rattle.rule_parts.specs.Values.{finding, read_choice, read_name, read_option, read_template}
 use Rattle.rule_parts.specs.declared.finding.Finding.{Finding}

@@ -3,7 +3,7 @@ use Rattle.std.specs.Prelude.{ℕ, Bool, ◌||◌, List, [], ◌∷◌, Option, 
 use Rattle.std.specs.Cmp.Lexicographic.{pointwise}
 use Rattle.std.specs.List.{list_any}
 use Rattle.text_bytes.specs.Texts.{is_empty}
-use Rattle.text_bytes.specs.declared.message.MessageKind.TheVariants.{ReservedProperty, NameWithoutEffect, UnknownBuiltin}
+use Rattle.file_messages.specs.declared.message.MessageKind.TheVariants.{ReservedProperty, NameWithoutEffect, UnknownBuiltin}
 use Rattle.text_bytes.specs.declared.profile.Profile.{Profile}
 use Rattle.text_bytes.specs.declared.profile.Profile.TheVariants as profile
 use Rattle.rule_types.specs.declared.types.ImportType.{ImportType}
@@ -14,7 +14,7 @@ use Rattle.rule_types.specs.declared.roles.Target.{Target}
 use Rattle.rule_types.specs.declared.roles.Target.TheVariants as target
 use Rattle.rule_types.specs.declared.roles.Role.{Role}
 use Rattle.rule_types.specs.declared.roles.Role.TheVariants as role
-use Rattle.rule_parts.specs.Builtins.{builtin_of}
+use Rattle.rule_types.specs.Builtins.{builtin_of}
 use Rattle.rule_parts.specs.Values.{finding}
 use Rattle.rule_parts.specs.declared.finding.Finding.{Finding}
 

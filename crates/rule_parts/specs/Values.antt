@@ -1,10 +1,10 @@
 -- The value of a token, read as what its role asks for.
 use Rattle.std.specs.Prelude.{ℕ, Bool, true, false, if◌then◌else◌, List, [], ◌∷◌, Option, Some, None, Result, Ok, Err}
-use Rattle.text_bytes.specs.Messages.{word_of}
+use Rattle.text_bytes.specs.Texts.{word_of}
 use Rattle.text_bytes.specs.declared.profile.Profile.{Profile}
 use Rattle.text_bytes.specs.declared.profile.Profile.TheVariants as profile
-use Rattle.text_bytes.specs.declared.message.MessageKind.{MessageKind}
-use Rattle.text_bytes.specs.declared.message.MessageKind.TheVariants.{BadValue, BadSubstitution, SetNotSupported}
+use Rattle.file_messages.specs.declared.message.MessageKind.{MessageKind}
+use Rattle.file_messages.specs.declared.message.MessageKind.TheVariants.{BadValue, BadSubstitution, SetNotSupported}
 use Rattle.text_core.specs.Choices.{choice, choice_blind}
 use Rattle.text_core.specs.Fnmatch.{fnmatch_choice}
 use Rattle.text_core.specs.declared.reading.Reading.{Reading}

@@ -3,8 +3,9 @@ ghost use Rattle.std.specs.Prelude.{◌≡◌, IfOk};
 ghost use Rattle.rule_parts.specs.Values.{finding};
 ghost use Rattle.rule_parts.specs.Inner.{Reports};
 
+use file_messages::MessageKind;
 use std::alloc::{AllocError, AllocFailed, Global};
-use text_bytes::{Bytes, MessageKind, word_of};
+use text_bytes::{Bytes, word_of};
 
 /// What is wrong with a part of a rule, before it is reported with the place of the rule.
 #[derive(Debug, Drop)]

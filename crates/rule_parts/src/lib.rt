@@ -6,14 +6,12 @@
 //! Functions that allocate return `AllocError` when memory runs out.
 #![tactic(auto)]
 
-mod builtins;
 mod finding;
 mod options;
 mod reading;
 mod refusals;
 mod values;
 
-pub use builtins::{Builtin, builtin_of};
 pub use finding::{Finding, PartFault};
 pub use options::{is_known_option, level_of, option_of, priority_of};
 pub use reading::{is_read_as_assign, is_something, read_part};

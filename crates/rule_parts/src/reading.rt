@@ -7,17 +7,17 @@ ghost use Rattle.rule_parts.specs.Inner.{Gives};
 ghost use Rattle.rule_types.specs.WrittenParts.{attribute_of_part, key_of_part, type_of};
 ghost use Rattle.rule_parts.specs.Parts.{IsWritten, comparison, ignores_case, import_by, is_match, is_read_as_assign, is_something, operator_as, opposite, part_by, part_of, role_as, type_as, udev_role, value_part};
 
-use crate::builtins::builtin_of;
 use crate::finding::{PartFault, wrong};
 use crate::refusals::refusal_by;
 use crate::values::{read_choice, read_name, read_option, read_template};
+use file_messages::MessageKind;
 use rule_tokens::{Quote, Token, unquote};
 use rule_types::{
     Act, ActKind, Assignment, Change, Comparison, Import, ImportType, MatchOperator, Part,
-    PlainMatch, Role, UpMatch, key_of, read_as, role_of, topic_of,
+    PlainMatch, Role, UpMatch, builtin_of, key_of, read_as, role_of, topic_of,
 };
 use std::alloc::{AllocError, Global};
-use text_bytes::{Bytes, MessageKind, Profile};
+use text_bytes::{Bytes, Profile};
 
 /// Reads a token as a part of a rule, by the tables of udev(7).
 ///

@@ -5,9 +5,9 @@ ghost use Rattle.std.specs.List.{list_any};
 ghost use Rattle.rule_parts.specs.Refusals.{is_no_name, is_reserved, refusal_by, refusal_of, refused_builtin, refused_import, refused_run, refused_text};
 ghost use Rattle.rule_parts.specs.Values.{finding};
 
-use crate::builtins::builtin_of;
-use rule_types::{ImportType, Role, RunType, Target};
-use text_bytes::{MessageKind, Profile};
+use file_messages::MessageKind;
+use rule_types::{ImportType, Role, RunType, Target, builtin_of};
+use text_bytes::Profile;
 
 /// The properties that udev sets by itself, which no rule may set.
 const RESERVED: [&[u8]; 12] = [

@@ -7,10 +7,11 @@ ghost use Rattle.rule_parts.specs.Values.{as_choice, manual_choice, read_choice,
 
 use crate::finding::{PartFault, wrong};
 use crate::options::option_of;
+use file_messages::MessageKind;
 use rule_templates::{Template, TemplateFault};
 use rule_types::RuleOption;
 use std::alloc::Global;
-use text_bytes::{Bytes, MessageKind, Profile};
+use text_bytes::{Bytes, Profile};
 use text_core::{Choice, GlobFault, Reading};
 
 /// Reads patterns between bars by a profile. `blind` says that case is ignored.

@@ -2,8 +2,8 @@
 use Rattle.std.proofs.Common.{◌≡◌, ℕ, ◌+◌, ◌-◌, ◌<◌, ◌^◌, Bool, true, false, cond, List, [], ◌∷◌, ◌++◌, length, Option, Some, refl, ap, sym, ◌∙◌, subst, arith}
 use Rattle.std.specs.List.{AllByRecursion}
 use Rattle.text_bytes.specs.Lines.{NumberedLine, numbered_lines}
-use Rattle.text_bytes.specs.Messages.{capped}
-use Rattle.text_bytes.specs.declared.message.MessageKind.TheVariants.{FileAbandoned}
+use Rattle.text_bytes.specs.Numbers.{capped}
+use Rattle.file_messages.specs.declared.message.MessageKind.TheVariants.{FileAbandoned}
 use Rattle.text_bytes.specs.declared.profile.Profile.{Profile}
 use Rattle.text_bytes.specs.declared.profile.Profile.TheVariants as profile
 use Rattle.text_bytes.specs.declared.source_file.SourceFile.{SourceFile}

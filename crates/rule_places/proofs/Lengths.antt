@@ -1,6 +1,6 @@
 -- A line by its length.
 use Rattle.std.proofs.Common.{◌≡◌, ℕ, ◌<◌, ◌≤◌, true, false, nat_lt, List, [], ◌∷◌, length, Result, Ok, Err, IfOk, refl, ap, sym, ◌∙◌, subst, lt-ltb, le-ltb}
-use Rattle.text_bytes.specs.declared.message.MessageKind.TheVariants.{LineTooLong}
+use Rattle.file_messages.specs.declared.message.MessageKind.TheVariants.{LineTooLong}
 use Rattle.text_bytes.specs.declared.profile.Profile.{Profile}
 use Rattle.rule_jumps.specs.declared.jumps.Landing.{Landing}
 use Rattle.rule_core.specs.Drafts.{items_as, most_bytes}

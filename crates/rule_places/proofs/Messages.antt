@@ -4,9 +4,9 @@ use Rattle.std.specs.List.{flat_map}
 use Rattle.std.specs.Option.{unwrap_or}
 use Rattle.std.proofs.lemmas.List.{map-append}
 use Rattle.text_bytes.specs.Lines.{NumberedLine}
-use Rattle.text_bytes.specs.declared.message.Message.{Message}
-use Rattle.text_bytes.specs.declared.message.MessageKind.{MessageKind}
-use Rattle.text_bytes.specs.declared.message.MessageKind.TheVariants.{NoLaterLabel, LabelUnused}
+use Rattle.file_messages.specs.declared.message.Message.{Message}
+use Rattle.file_messages.specs.declared.message.MessageKind.{MessageKind}
+use Rattle.file_messages.specs.declared.message.MessageKind.TheVariants.{NoLaterLabel, LabelUnused}
 use Rattle.text_bytes.specs.declared.profile.Profile.{Profile}
 use Rattle.text_bytes.specs.declared.source_file.SourceFile.{SourceFile}
 use Rattle.rule_jumps.specs.Jumps.{Names, landings}

@@ -2,10 +2,10 @@
 use Rattle.std.proofs.Common.{◌≡◌, ℕ, suc, ◌+◌, ◌-◌, ◌<◌, ◌^◌, Bool, true, false, true≢false, cond, not, ◌&&◌, List, [], ◌∷◌, ◌++◌, length, take, map, zip, slice_get, Option, Some, None, refl, ap, sym, ◌∙◌, subst, length-drop, length-take, arith}
 use Rattle.std.specs.List.{flat_map, onto_first, prefix_len}
 use Rattle.text_bytes.specs.Lines.{NumberedLine, lines, numbered_lines}
-use Rattle.text_bytes.specs.Messages.{capped}
+use Rattle.text_bytes.specs.Numbers.{capped}
 use Rattle.text_bytes.specs.Names.{backslash, is_blank}
 use Rattle.text_bytes.specs.Texts.{ends_in}
-use Rattle.text_bytes.specs.declared.message.MessageKind.TheVariants.{OpenAtEnd}
+use Rattle.file_messages.specs.declared.message.MessageKind.TheVariants.{OpenAtEnd}
 use Rattle.text_bytes.specs.declared.profile.Profile.{Profile}
 use Rattle.text_bytes.specs.declared.source_file.SourceFile.{SourceFile}
 use Rattle.rule_jumps.specs.Jumps.{landings}

@@ -2,8 +2,8 @@
 use Rattle.std.proofs.Common.{◌≡◌, ℕ, suc, ◌+◌, ◌-◌, ◌<◌, ◌≤◌, Bool, true, false, cond, true≢false, ◌||◌, List, [], ◌∷◌, ◌++◌, take, drop, length, Option, Some, None, refl, ap, sym, ◌∙◌, subst, take_all, take_at, take-take, drop-drop, length-append, le_refl, arith}
 use Rattle.std.specs.List.{AllByRecursion}
 use Rattle.text_bytes.specs.Names.{close_brace, double_quote, open_brace}
-use Rattle.text_bytes.specs.declared.message.MessageKind.{MessageKind}
-use Rattle.text_bytes.specs.declared.message.MessageKind.TheVariants.{UnknownKey, OperatorNotAllowed, WrongAttribute, BadValue, BadSubstitution, LineTooLong, GivenTwice, NoLaterLabel, SetNotSupported, ReservedProperty, NameWithoutEffect, UnknownBuiltin, RuleWithoutEffect, OldSubsystemName, UnknownAccount, LabelUnused, CommaExpected, LeadingComma}
+use Rattle.file_messages.specs.declared.message.MessageKind.{MessageKind}
+use Rattle.file_messages.specs.declared.message.MessageKind.TheVariants.{UnknownKey, OperatorNotAllowed, WrongAttribute, BadValue, BadSubstitution, LineTooLong, GivenTwice, NoLaterLabel, SetNotSupported, ReservedProperty, NameWithoutEffect, UnknownBuiltin, RuleWithoutEffect, OldSubsystemName, UnknownAccount, LabelUnused, CommaExpected, LeadingComma}
 use Rattle.rule_tokens.specs.Grammar.{IsFault, Placed, attribute_bytes, attribute_text}
 use Rattle.rule_tokens.specs.Places.{IsSlice, IsSliceAt}
 use Rattle.rule_tokens.specs.Values.{has_escapes}

@@ -5,8 +5,8 @@ use Rattle.std.proofs.lemmas.List.Sums.{prefix_len-le-length}
 use Rattle.std.proofs.lemmas.List.Elements.{recursion_from_All}
 use Rattle.std.specs.Option.{option_or}
 use Rattle.text_bytes.specs.Names.{comma, double_quote}
-use Rattle.text_bytes.specs.declared.message.MessageKind.{MessageKind}
-use Rattle.text_bytes.specs.declared.message.MessageKind.TheVariants.{LineTooLong, GivenTwice, NoLaterLabel, RuleWithoutEffect, LabelUnused, CommaExpected, BlankExpected, LeadingComma, BlankBeforeComma}
+use Rattle.file_messages.specs.declared.message.MessageKind.{MessageKind}
+use Rattle.file_messages.specs.declared.message.MessageKind.TheVariants.{LineTooLong, GivenTwice, NoLaterLabel, RuleWithoutEffect, LabelUnused, CommaExpected, BlankExpected, LeadingComma, BlankBeforeComma}
 use Rattle.text_bytes.specs.declared.profile.Profile.{Profile}
 use Rattle.text_bytes.specs.declared.profile.Profile.TheVariants as profile
 use Rattle.rule_jumps.specs.declared.jumps.Landing.{Landing}

@@ -3,7 +3,7 @@ use Rattle.std.proofs.Common.{◌≡◌, ℕ, suc, ◌+◌, ◌-◌, ◌<◌, �
 use Rattle.std.specs.List.{AllByRecursion, onto_first}
 use Rattle.std.proofs.lemmas.Bool.{cases_lt}
 use Rattle.text_bytes.specs.Lines.{NumberedLine, lines, numbered_from, numbered_lines}
-use Rattle.text_bytes.specs.Messages.{capped}
+use Rattle.text_bytes.specs.Numbers.{capped}
 use Rattle.text_bytes.specs.Names.{newline}
 use Rattle.rule_core.specs.Lines.{piece_of}
 use Rattle.rule_places.specs.Kept.{kept_lines, place_at, place_in, within_line}

@@ -1,7 +1,7 @@
 -- A line's reading, without the places.
 use Rattle.std.proofs.Common.{◌≡◌, ℕ, Bool, true, false, cond, nat_lt, List, [], ◌∷◌, ◌++◌, map, drop, length, Option, Some, None, option_map, Result, Ok, Err, refl, ap, sym, subst, append_assoc, append-nil}
 use Rattle.std.specs.Option.{option_or}
-use Rattle.text_bytes.specs.declared.message.MessageKind.TheVariants.{LineTooLong, RuleWithoutEffect}
+use Rattle.file_messages.specs.declared.message.MessageKind.TheVariants.{LineTooLong, RuleWithoutEffect}
 use Rattle.text_bytes.specs.declared.profile.Profile.{Profile}
 use Rattle.text_bytes.specs.declared.profile.Profile.TheVariants as profile
 use Rattle.rule_tokens.specs.Grammar.{Item, Placed}

@@ -1,8 +1,8 @@
 -- What is wrong with a token is reported with its key, or with what its value means.
 use Rattle.std.proofs.Common.{◌≡◌, ℕ, Bool, true, false, cond, true≢false, not, ◌&&◌, ◌||◌, List, [], ◌∷◌, Option, Some, None, is_some, Result, Ok, Err, refl, ap, sym, ◌∙◌}
 use Rattle.std.specs.Option.{IfSome}
-use Rattle.text_bytes.specs.declared.message.MessageKind.{MessageKind}
-use Rattle.text_bytes.specs.declared.message.MessageKind.TheVariants.{UnknownKey, OperatorNotAllowed, WrongAttribute, BadValue, ReservedProperty, NameWithoutEffect, UnknownBuiltin}
+use Rattle.file_messages.specs.declared.message.MessageKind.{MessageKind}
+use Rattle.file_messages.specs.declared.message.MessageKind.TheVariants.{UnknownKey, OperatorNotAllowed, WrongAttribute, BadValue, ReservedProperty, NameWithoutEffect, UnknownBuiltin}
 use Rattle.text_bytes.specs.declared.profile.Profile.{Profile}
 use Rattle.text_bytes.specs.declared.profile.Profile.TheVariants as profile
 use Rattle.text_core.specs.Choices.{choice, choice_blind}
@@ -34,7 +34,7 @@ use Rattle.rule_types.specs.declared.types.ImportType.{ImportType}
 use Rattle.rule_types.specs.declared.types.ImportType.TheVariants as import_of
 use Rattle.rule_parts.specs.Options.{option_of}
 use Rattle.rule_parts.specs.Parts.{comparison, if_found, ignores_case, import_by, is_match, made, meaning_of, part_by, part_of, role_as, unless_refused, value_part}
-use Rattle.rule_parts.specs.Builtins.{builtin_of}
+use Rattle.rule_types.specs.Builtins.{builtin_of}
 use Rattle.rule_parts.specs.Refusals.{is_no_name, is_reserved, refusal_by, refusal_of, refused_builtin, refused_import, refused_run, refused_text}
 use Rattle.rule_parts.specs.Values.{as_choice, as_option, as_template, choice_fault, finding, read_choice, read_name, read_option, read_template, reading_of}
 use Rattle.rule_parts.specs.declared.finding.Finding.{Finding}

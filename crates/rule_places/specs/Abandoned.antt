@@ -1,8 +1,8 @@
 -- A file that is given up because of a line that is too long.
 use Rattle.std.specs.Prelude.{ℕ, ◌+◌, if◌then◌else◌, List, [], ◌∷◌, length}
 use Rattle.text_bytes.specs.Lines.{NumberedLine, numbered_lines}
-use Rattle.text_bytes.specs.Messages.{capped}
-use Rattle.text_bytes.specs.declared.message.MessageKind.TheVariants.{FileAbandoned}
+use Rattle.text_bytes.specs.Numbers.{capped}
+use Rattle.file_messages.specs.declared.message.MessageKind.TheVariants.{FileAbandoned}
 use Rattle.rule_core.specs.Ends.{is_too_long}
 use Rattle.rule_places.specs.Kept.{file_start}
 use Rattle.rule_places.specs.Placed.{found_at}

@@ -1,8 +1,8 @@
 -- All findings of a rules file, with their places.
 use Rattle.std.specs.Prelude.{ℕ, ◌+◌, if◌then◌else◌, List, [], ◌∷◌, ◌++◌, length, map, zip, flat_map, Option, Some, None, option_map}
 use Rattle.text_bytes.specs.Lines.{NumberedLine}
-use Rattle.text_bytes.specs.declared.message.MessageKind.{MessageKind}
-use Rattle.text_bytes.specs.declared.message.MessageKind.TheVariants.{NoLaterLabel, OpenAtEnd, LabelUnused}
+use Rattle.file_messages.specs.declared.message.MessageKind.{MessageKind}
+use Rattle.file_messages.specs.declared.message.MessageKind.TheVariants.{NoLaterLabel, OpenAtEnd, LabelUnused}
 use Rattle.text_bytes.specs.declared.profile.Profile.{Profile}
 use Rattle.text_bytes.specs.declared.source_file.SourceFile.{SourceFile}
 use Rattle.rule_jumps.specs.Jumps.{Names, landings}

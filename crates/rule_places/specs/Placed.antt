@@ -1,6 +1,6 @@
 -- Findings about parts of lines, as findings of their file.
 use Rattle.std.specs.Prelude.{ℕ, ◌+◌, List}
-use Rattle.text_bytes.specs.declared.message.MessageKind.{MessageKind}
+use Rattle.file_messages.specs.declared.message.MessageKind.{MessageKind}
 use Rattle.rule_places.specs.Kept.{place_in}
 use Rattle.rule_places.specs.declared.kept.KeptLine.{KeptLine}
 use Rattle.rule_places.specs.declared.kept.Place.{Place}

@@ -1,7 +1,7 @@
 -- Findings about parts of a joined line, with the places of these parts in it.
 use Rattle.std.specs.Prelude.{ℕ, ◌+◌, ◌-◌, Bool, true, false, if◌then◌else◌, List, length, drop}
-use Rattle.text_bytes.specs.declared.message.MessageKind.{MessageKind}
-use Rattle.text_bytes.specs.declared.message.MessageKind.TheVariants.{BadSyntax, BadPrefix, UnknownKey, OperatorNotAllowed, WrongAttribute, ReservedProperty}
+use Rattle.file_messages.specs.declared.message.MessageKind.{MessageKind}
+use Rattle.file_messages.specs.declared.message.MessageKind.TheVariants.{BadSyntax, BadPrefix, UnknownKey, OperatorNotAllowed, WrongAttribute, ReservedProperty}
 use Rattle.rule_tokens.specs.Grammar.{Placed, attribute_bytes}
 use Rattle.rule_tokens.specs.Prefixes.{letters_at}
 use Rattle.rule_tokens.specs.declared.kinds.TokenFaultKind.{TokenFaultKind}

@@ -1,8 +1,8 @@
 -- How a rule is written, with the places of its tokens and gaps.
 use Rattle.std.specs.Prelude.{ℕ, ◌==◌, if◌then◌else◌, List, [], ◌∷◌, ◌++◌, drop, length, Option, Some, None}
 use Rattle.text_bytes.specs.Names.{comma}
-use Rattle.text_bytes.specs.declared.message.MessageKind.{MessageKind}
-use Rattle.text_bytes.specs.declared.message.MessageKind.TheVariants.{CommaExpected, BlankExpected, LeadingComma, BlankBeforeComma}
+use Rattle.file_messages.specs.declared.message.MessageKind.{MessageKind}
+use Rattle.file_messages.specs.declared.message.MessageKind.TheVariants.{CommaExpected, BlankExpected, LeadingComma, BlankBeforeComma}
 use Rattle.text_bytes.specs.declared.profile.Profile.{Profile}
 use Rattle.text_bytes.specs.declared.profile.Profile.TheVariants.{Manual, Udev}
 use Rattle.rule_tokens.specs.Grammar.{Placed}

@@ -1,6 +1,6 @@
 -- Serves inner proofs only: the findings if a token ends before, and if none does.
 use Rattle.std.specs.Prelude.{ℕ, List, [], drop, Option, Some, None}
-use Rattle.text_bytes.specs.declared.message.MessageKind.TheVariants.{CommaExpected}
+use Rattle.file_messages.specs.declared.message.MessageKind.TheVariants.{CommaExpected}
 use Rattle.text_bytes.specs.declared.profile.Profile.{Profile}
 use Rattle.rule_tokens.specs.Grammar.{Placed}
 use Rattle.rule_core.specs.Style.{between}

@@ -5,9 +5,10 @@ ghost use Rattle.rule_places.specs.Abandoned.{abandoned_findings, long_place, wh
 
 use crate::kept::{FILE_START, Place};
 use crate::placed_finding::PlacedFinding;
+use file_messages::MessageKind;
 use rule_core::is_too_long;
 use std::alloc::{AllocError, Global};
-use text_bytes::{Bytes, Line, Lines, MessageKind, capped};
+use text_bytes::{Bytes, Line, Lines, capped};
 
 /// What is found in a file that is given up because of the line with a number: only this, about the whole line.
 pub(crate) fn abandoned_findings(

@@ -10,10 +10,11 @@ use crate::placed_finding::PlacedFinding;
 use crate::placed_spots::place_spots;
 use crate::readings::{PlacedReading, landings_of, readings_of};
 use crate::spot::Spot;
+use file_messages::MessageKind;
 use rule_core::{abandoned_at, joined_lines};
 use rule_jumps::Landing;
 use std::alloc::{AllocError, Global};
-use text_bytes::{Bytes, MessageKind, Profile, SourceFile};
+use text_bytes::{Bytes, Profile, SourceFile};
 
 /// The findings of a rules file in the order of its messages, each with the physical line, the columns and the
 /// whole text that it is about. Each finding corresponds to one message that `read_rules_as` gives for the file.

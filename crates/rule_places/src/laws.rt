@@ -2,7 +2,7 @@
 ghost use Rattle.std.specs.Prelude.{◌≡◌, ◌<◌, ◌-◌, ◌^◌, ◌∷◌, [], List, None, Some, ℕ, drop, length, map, take};
 ghost use Rattle.std.specs.List.{AllByRecursion};
 ghost use Rattle.text_bytes.specs.Lines.{numbered_lines};
-ghost use Rattle.text_bytes.specs.declared.message.MessageKind.TheVariants.{LineTooLong};
+ghost use Rattle.file_messages.specs.declared.message.MessageKind.TheVariants.{LineTooLong};
 ghost use Rattle.text_bytes.specs.declared.profile.Profile as profiles;
 ghost use Rattle.text_bytes.specs.declared.source_file.SourceFile as files;
 ghost use Rattle.rule_jumps.specs.declared.jumps.Landing as jumps;

@@ -9,12 +9,13 @@ ghost use Rattle.rule_places.specs.Spots.{spot};
 use crate::found::RulePlaces;
 use crate::spot::{Spot, part_spot, token_spot};
 use crate::style::add_style;
+use file_messages::MessageKind;
 use rule_core::{lacks_effect, line_tokens, most_bytes};
 use rule_parts::{PartFault, read_part};
 use rule_tokens::Token;
 use rule_types::Part;
 use std::alloc::{AllocError, Global};
-use text_bytes::{Bytes, MessageKind, Profile};
+use text_bytes::{Bytes, Profile};
 
 /// What is found about a joined line.
 #[derive(Debug, Drop)]

@@ -7,10 +7,11 @@ ghost use Rattle.rule_places.specs.Reading.{again, lost, name_place, with_label,
 
 use crate::found::{NamePlace, RulePlaces};
 use crate::spot::{Spot, value_spot};
+use file_messages::MessageKind;
 use rule_tokens::Token;
 use rule_types::Part;
 use std::alloc::{AllocError, Global};
-use text_bytes::{Bytes, MessageKind, Profile};
+use text_bytes::{Bytes, Profile};
 
 impl RulePlaces {
     /// No part so far.

@@ -1,6 +1,7 @@
 //! A finding with the place that it is about.
 
-use text_bytes::{Bytes, MessageKind};
+use file_messages::MessageKind;
+use text_bytes::Bytes;
 
 /// A finding about a rules file, with the place in the file that it is about.
 #[derive(Debug, Drop)]

@@ -5,10 +5,11 @@ ghost use Rattle.rule_places.specs.Spots.{attribute_spot, key_spot, part_spot, t
 
 use crate::letters::letters_start;
 use crate::sums::sum_of;
+use file_messages::MessageKind;
 use rule_core::following;
 use rule_tokens::{Token, TokenFault, TokenFaultKind, letters_before_quote, unquote};
 use std::alloc::{AllocError, Global};
-use text_bytes::{Bytes, MessageKind};
+use text_bytes::Bytes;
 
 /// A finding about a part of a joined line.
 #[derive(Debug, Drop)]

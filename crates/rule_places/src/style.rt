@@ -5,13 +5,14 @@ ghost use Rattle.rule_places.specs.Style.{comma_spots, gap_spots, leading_spots,
 ghost use Rattle.rule_places.specs.TokenSpots.{spots_at_end, spots_before};
 
 use crate::spot::{Spot, key_spot};
+use file_messages::MessageKind;
 use rule_core::{
     between, commas, following, has_blank_before_comma, line_tokens, read_as_assign_kind,
 };
 use rule_parts::is_read_as_assign;
 use rule_tokens::Token;
 use std::alloc::{AllocError, Global};
-use text_bytes::{Bytes, MessageKind, Profile, ends_in};
+use text_bytes::{Bytes, Profile, ends_in};
 
 /// Adds the findings about how a line is written, by the places of its tokens.
 pub(crate) fn add_style(

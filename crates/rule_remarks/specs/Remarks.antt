@@ -1,8 +1,8 @@
 -- What udev reports about the tokens of a rule that stays, with their places in its line.
 use Rattle.std.specs.Prelude.{ℕ, Bool, true, false, if◌then◌else◌, List, [], ◌∷◌, ◌++◌, flat_map, filter_map, slice_get, Option, Some, None, option_map, codes}
 use Rattle.std.specs.List.{find}
-use Rattle.text_bytes.specs.declared.message.MessageKind.{MessageKind}
-use Rattle.text_bytes.specs.declared.message.MessageKind.TheVariants.{AttributeElsewhere, BadAttributeSubstitution, EmptyValue, ResultBeforeProgram}
+use Rattle.file_messages.specs.declared.message.MessageKind.{MessageKind}
+use Rattle.file_messages.specs.declared.message.MessageKind.TheVariants.{AttributeElsewhere, BadAttributeSubstitution, EmptyValue, ResultBeforeProgram}
 use Rattle.text_tables.specs.Texts.{same_text}
 use Rattle.rule_tokens.specs.Grammar.{Placed}
 use Rattle.rule_types.specs.Names.{key_of}

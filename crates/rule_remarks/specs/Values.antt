@@ -1,8 +1,8 @@
 -- What is wrong with the value of a token of a rule that stays.
 use Rattle.std.specs.Prelude.{ℕ, if◌then◌else◌, List, Option, Some, None, codes, ◌||◌}
 use Rattle.text_bytes.specs.Texts.{is_empty}
-use Rattle.text_bytes.specs.declared.message.MessageKind.{MessageKind}
-use Rattle.text_bytes.specs.declared.message.MessageKind.TheVariants.{BadSubstitution, BadValue, EmptyValue, OldSubsystemName, UnknownAccount}
+use Rattle.file_messages.specs.declared.message.MessageKind.{MessageKind}
+use Rattle.file_messages.specs.declared.message.MessageKind.TheVariants.{BadSubstitution, BadValue, EmptyValue, OldSubsystemName, UnknownAccount}
 use Rattle.text_tables.specs.Texts.{same_text}
 use Rattle.rule_templates.specs.Reading.{is_faulty}
 use Rattle.rule_tokens.specs.Grammar.{compares}

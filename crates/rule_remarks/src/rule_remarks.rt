@@ -4,11 +4,11 @@ ghost use Rattle.rule_remarks.specs.Remarks.{late_program, order_remarks, pair_r
 
 use crate::order::late_program;
 use crate::token_remarks::add_token;
+use file_messages::MessageKind;
 use rule_pairs::{Accounts, PairFinding, pair_findings};
 use rule_places::{Spot, key_spot};
 use rule_tokens::Token;
 use std::alloc::{AllocError, Global};
-use text_bytes::MessageKind;
 
 /// What is reported for a rule's tokens: for each by itself in written order, then for a RESULT before a PROGRAM,
 /// then for two tokens.

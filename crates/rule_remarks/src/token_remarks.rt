@@ -6,12 +6,13 @@ ghost use Rattle.rule_remarks.specs.Values.{value_fault};
 
 use crate::attributes::{is_bad_name, is_elsewhere};
 use crate::values::value_fault;
+use file_messages::MessageKind;
 use rule_pairs::Accounts;
 use rule_places::{Spot, attribute_spot, key_spot, value_spot};
 use rule_tokens::{Token, unquote};
 use rule_types::{Key, key_of};
 use std::alloc::{AllocError, Global};
-use text_bytes::{Bytes, MessageKind};
+use text_bytes::Bytes;
 
 /// Adds what is reported for a token: for its attribute, then for its value.
 #[tactic(auto, unfolding(crate::specs::Remarks::token_remarks))]

@@ -2,12 +2,12 @@
 ghost use Rattle.std.specs.Prelude.{◌≡◌};
 ghost use Rattle.rule_remarks.specs.Values.{account_fault, assigned_fault, compared_fault, filled_fault, given_fault, option_fault, subsystem_fault, text_fault, value_fault};
 
+use file_messages::MessageKind;
 use rule_pairs::{AccountKind, Accounts, Given, given_in};
 use rule_parts::is_known_option;
 use rule_templates::is_faulty;
 use rule_tokens::Operator;
 use rule_types::Key;
-use text_bytes::MessageKind;
 
 /// What is wrong with a value of a key after an operator, if anything is.
 #[tactic(auto, unfolding(crate::specs::Values::value_fault))]

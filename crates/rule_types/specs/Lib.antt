@@ -5,3 +5,4 @@ pub mod Roles
 pub mod Operators
 pub mod WrittenParts
 pub mod Rules
+pub mod Builtins

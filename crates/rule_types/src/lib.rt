@@ -1,8 +1,9 @@
-//! What a rule is: its keys, what each of them takes, its parts, and the rule itself.
+//! What a rule is: its keys, what each of them takes, its parts, the builtins of udev, and the rules of files.
 //!
 //! Evaluating rules needs these types and not how rules are read, so this crate is below both.
 #![tactic(auto)]
 
+mod builtins;
 mod keys;
 mod lint;
 mod modes;
@@ -11,11 +12,13 @@ mod part;
 mod roles;
 mod rule;
 mod rule_option;
+mod rule_set;
 mod topics;
 mod types;
 mod written;
 mod written_parts;
 
+pub use builtins::{Builtin, builtin_of};
 pub use keys::{Key, key_of};
 pub use lint::Lint;
 pub use modes::mode_of;
@@ -24,6 +27,7 @@ pub use part::{Act, ActKind, Assignment, Change, Comparison, Import, Part, Plain
 pub use roles::{AssignOperator, MatchOperator, PlainKey, Role, Target, UpKey, role_of};
 pub use rule::Rule;
 pub use rule_option::RuleOption;
+pub use rule_set::RuleSet;
 pub use rule_tokens::Operator;
 pub use topics::{Topic, topic_of};
 pub use types::{ImportType, RunType, import_type_of, run_type_of};

@@ -7,5 +7,4 @@ pub mod FileOrder
 pub mod OrderLaws
 pub mod Insertion
 pub mod Escapes
-pub mod Messages
 pub mod ByName

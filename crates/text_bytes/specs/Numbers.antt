@@ -1,5 +1,5 @@
--- Numbers in decimal digits.
-use Rattle.std.specs.Prelude.{ℕ, ◌+◌, ◌-◌, ◌*◌, Bool, not, ◌&&◌, nat_le, nat_lt, List, [], ◌∷◌, Option, Some, None, if◌then◌else◌}
+-- Numbers in decimal digits, and the numbers of lines.
+use Rattle.std.specs.Prelude.{ℕ, ◌+◌, ◌-◌, ◌*◌, ◌^◌, min, Bool, not, ◌&&◌, nat_le, nat_lt, List, [], ◌∷◌, Option, Some, None, if◌then◌else◌}
 use Rattle.std.specs.List.{list_all}
 use Rattle.text_bytes.specs.Names.{digit_zero, digit_nine}
 use Rattle.text_bytes.specs.Texts.{is_empty}
@@ -24,3 +24,7 @@ decimal text = decimal_after 0 text
 -- the number that a text of one digit or more writes, if it is below a bound
 unfoldable pub decimal_below : ℕ → List ℕ → Option ℕ
 decimal_below bound text = if is_decimal text && nat_lt (decimal text) bound then Some (decimal text) else None
+
+-- the number of a line as it is reported: at most 2^32 - 1
+abbrev pub capped : ℕ → ℕ
+capped number = min number (2 ^ 32 - 1)

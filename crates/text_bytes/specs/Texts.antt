@@ -49,3 +49,7 @@ trimmed text = take (length text - suffix_len is_whitespace text) text
 -- what comes before the first such byte of a text, and what comes after it
 unfoldable pub split_once : ℕ → List ℕ → Option (List ℕ × List ℕ)
 split_once byte text = option_map (λ n. (take n text, drop (n + 1) text)) (position (λ b. b == byte) text)
+
+-- what is reported of a text: its first 32 bytes
+abbrev pub word_of : List ℕ → List ℕ
+word_of text = take 32 text

@@ -1,7 +1,7 @@
 //! Bytes, words and files: what every layer above uses to read and write texts.
 //!
 //! A text is bytes, and need not be UTF-8. This crate has the search for a byte, what readers share (lines and their
-//! numbers, decimal numbers, blanks), the input files with their order, and messages about them.
+//! numbers, decimal numbers, blanks), and the input files with their order.
 //!
 //! Functions that allocate return `AllocError` when memory runs out.
 #![tactic(auto)]
@@ -10,7 +10,6 @@ mod bytes;
 mod escapes;
 mod file_order;
 mod lines;
-mod message;
 mod numbers;
 mod profile;
 mod search;
@@ -21,11 +20,11 @@ pub use bytes::Bytes;
 pub use escapes::{escape, escaped_byte};
 pub use file_order::order_files;
 pub use lines::{Line, Lines, first_line};
-pub use message::{Message, MessageKind, capped, word_of};
-pub use numbers::{decimal_below, is_digit};
+pub use numbers::{capped, decimal_below, is_digit};
 pub use profile::Profile;
 pub use search::find;
 pub use source_file::{FileKind, SourceFile};
 pub use texts::{
     begins_with, ends_in, following, is_blank, is_whitespace, split_once, trimmed, unindented,
+    word_of,
 };

@@ -1,6 +1,6 @@
-//! Numbers in decimal digits.
+//! Numbers in decimal digits, and the numbers of lines.
 ghost use Rattle.std.specs.Prelude.{◌≡◌, ◌≤◌, ◌<◌, ◌^◌, IfSome};
-ghost use Rattle.text_bytes.specs.Numbers.{decimal_below, is_digit};
+ghost use Rattle.text_bytes.specs.Numbers.{capped, decimal_below, is_digit};
 
 /// Whether a byte is one of the digits `0` to `9`.
 pub fn is_digit(byte: u8) -> bool
@@ -31,4 +31,11 @@ pub fn decimal_below(bound: u64, text: &[u8]) -> Option<u64>
         }
     }
     Some(number)
+}
+
+/// The number of a line as messages and entries of the database give it: at most 2^32 - 1.
+pub fn capped(number: usize) -> u32
+    ensures { result ≡ capped number }
+{
+    number.min(u32::MAX as usize) as u32
 }

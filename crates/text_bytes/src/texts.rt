@@ -1,10 +1,13 @@
-//! What a text begins with and ends with, and its blanks.
+//! What a text begins with and ends with, its blanks, and what is reported of it.
 ghost use Rattle.std.specs.Prelude.{◌≡◌, ◌≤◌, ◌<◌, ◌+◌, length, option_map, IfSome};
 ghost use Rattle.std.specs.List.{prefix_len, suffix_len};
 ghost use Rattle.text_bytes.specs.Names.{is_blank, is_whitespace};
-ghost use Rattle.text_bytes.specs.Texts.{begins_with, ends_in, following, split_once, trimmed, unindented};
+ghost use Rattle.text_bytes.specs.Texts.{begins_with, ends_in, following, split_once, trimmed, unindented, word_of};
 
 use crate::search::find;
+
+/// How many bytes of a text are reported.
+const MAX_WORD: usize = 32;
 
 /// Whether a byte is a space or a tab.
 pub fn is_blank(byte: u8) -> bool
@@ -92,4 +95,12 @@ pub fn split_once(byte: u8, text: &[u8]) -> Option<(&[u8], &[u8])>
         Some(at) => Some((&text[..at], &text[at + 1..])),
         None => None,
     }
+}
+
+/// What messages and notes keep of a text: its first 32 bytes.
+#[tactic(auto, using(std::proofs::lemmas::List::take_min))]
+pub fn word_of(text: &[u8]) -> &[u8]
+    ensures { result.now ≡ word_of text.now }
+{
+    &text[..MAX_WORD.min(text.len())]
 }

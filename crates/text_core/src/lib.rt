@@ -31,6 +31,4 @@ pub use item::Item;
 pub use packed::PackedPattern;
 pub use pattern::Pattern;
 pub use reading::Reading;
-pub use text_bytes::{
-    Bytes, FileKind, Message, MessageKind, SourceFile, escape, find, order_files,
-};
+pub use text_bytes::{Bytes, FileKind, SourceFile, escape, find, order_files};

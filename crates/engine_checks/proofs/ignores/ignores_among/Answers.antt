@@ -1,5 +1,5 @@
 use Rattle.std.proofs.Common.{ap, ◌∙◌}
-use Rattle.text_bytes.specs.Messages.{capped}
+use Rattle.text_bytes.specs.Numbers.{capped}
 use Rattle.engine_checks.proofs.Walking.{left_after, line_more, lines_done, no_line}
 use Rattle.engine_checks.proofs.ignores.ignores_among.Goals as goal
 

@@ -1,5 +1,5 @@
 use Rattle.std.proofs.Common.{◌∙◌, ap, refl, sym}
-use Rattle.text_bytes.specs.Messages.{capped}
+use Rattle.text_bytes.specs.Numbers.{capped}
 use Rattle.hwdb_core.specs.Found.{onto}
 use Rattle.hwdb_core.proofs.Joining.{onto_nothing, same_part}
 use Rattle.hwdb_core.proofs.Keeping.{counted_adds}

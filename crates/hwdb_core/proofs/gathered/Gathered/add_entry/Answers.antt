@@ -1,6 +1,6 @@
 use Rattle.std.proofs.Common.{ap, refl}
 use Rattle.std.proofs.lemmas.Result.{err_from_is_err_and}
-use Rattle.text_bytes.specs.Messages.{capped}
+use Rattle.text_bytes.specs.Numbers.{capped}
 use Rattle.hwdb_core.specs.Found.{Held}
 use Rattle.hwdb_core.proofs.Joining.{returned}
 use Rattle.hwdb_core.proofs.Keeping.{entry_added_as, entry_skipped_as, too_many_at}

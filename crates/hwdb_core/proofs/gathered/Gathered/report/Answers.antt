@@ -1,4 +1,4 @@
-use Rattle.text_bytes.specs.Messages.{message}
+use Rattle.file_messages.specs.Messages.{message}
 use Rattle.hwdb_core.proofs.Joining.{held_as}
 use Rattle.hwdb_core.proofs.Keeping.{reported_as}
 use Rattle.hwdb_core.proofs.gathered.Gathered.report.Goals as goal

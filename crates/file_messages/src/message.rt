@@ -2,13 +2,10 @@
 //!
 //! A message is kept as what it says and not as text: the texts are made once, where they are written.
 ghost use Rattle.std.specs.Prelude.{◌≡◌, IfOk};
-ghost use Rattle.text_bytes.specs.Messages.{capped, message, word_of};
+ghost use Rattle.file_messages.specs.Messages.{message};
 
-use crate::bytes::Bytes;
 use std::alloc::{AllocError, Global};
-
-/// How many bytes of a text a message keeps.
-const MAX_WORD: usize = 32;
+use text_bytes::{Bytes, capped, word_of};
 
 /// What is wrong with a line: of the database (H), with a rule (V), or with how a rule is written (S).
 #[derive(Clone, Copy, Debug, PartialEq, Eq)]
@@ -122,19 +119,4 @@ impl Message {
             word: Bytes::copy_of(alloc, word_of(text))?,
         })
     }
-}
-
-/// The number of a line as messages and entries of the database give it: at most 2^32 - 1.
-pub fn capped(number: usize) -> u32
-    ensures { result ≡ capped number }
-{
-    number.min(u32::MAX as usize) as u32
-}
-
-/// What a message keeps of a text: its first 32 bytes.
-#[tactic(auto, using(std::proofs::lemmas::List::take_min))]
-pub fn word_of(text: &[u8]) -> &[u8]
-    ensures { result.now ≡ word_of text.now }
-{
-    &text[..MAX_WORD.min(text.len())]
 }

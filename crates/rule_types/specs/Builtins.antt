@@ -3,8 +3,8 @@ use Rattle.std.specs.Prelude.{ℕ, not, List, [], ◌∷◌, Option, nat_eq, cod
 use Rattle.std.specs.List.{find, prefix_len, starts_with}
 use Rattle.text_bytes.specs.Texts.{skip_while}
 use Rattle.rule_templates.specs.Integers.{is_separator}
-use Rattle.rule_parts.specs.declared.builtins.Builtin.{Builtin}
-use Rattle.rule_parts.specs.declared.builtins.Builtin.TheVariants as builtin
+use Rattle.rule_types.specs.declared.builtins.Builtin.{Builtin}
+use Rattle.rule_types.specs.declared.builtins.Builtin.TheVariants as builtin
 
 -- the name of a builtin
 abbrev pub builtin_name : Builtin → List ℕ

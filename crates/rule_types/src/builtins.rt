@@ -2,7 +2,7 @@
 ghost use Rattle.std.specs.Prelude.{◌≡◌, ◌≤◌, IfSome, Some, length, nat_eq, not, true};
 ghost use Rattle.std.specs.List.{prefix_len, starts_with};
 ghost use Rattle.rule_templates.specs.Integers.{is_separator};
-ghost use Rattle.rule_parts.specs.Builtins.{builtin_name, builtin_of, first_word};
+ghost use Rattle.rule_types.specs.Builtins.{builtin_name, builtin_of, first_word};
 
 use rule_templates::{after_separators, is_separator};
 

@@ -1,5 +1,6 @@
 -- What is true of the lints of one rule, in terms of texts and not of how they are read.
-use Rattle.std.specs.Prelude.{◌≡◌, ◌<◌, ◌^◌, ℕ, ◌+◌, ◌*◌, Bool, true, false, ◌&&◌, ◌||◌, nat_eq, nat_le, List, [], ◌∷◌, ◌++◌, length, map, flat_map, take, drop, codes, Result, Ok, Err, is_some}
+use Rattle.std.specs.Prelude.{◌≡◌, ◌<◌, ◌^◌, ℕ, ◌+◌, ◌*◌, Bool, true, false, ◌&&◌, ◌||◌, nat_eq, nat_le, List, [], ◌∷◌, ◌++◌, length, map, flat_map, take}
+use Rattle.std.specs.Prelude.{drop, codes, Result, Ok, Err, is_some}
 use Rattle.std.specs.List.{AllByRecursion, list_any, slice_split, starts_with}
 use Rattle.text_bytes.specs.Names.{close_brace, comma, digit_zero, open_brace}
 use Rattle.text_core.specs.Choices.{choice, is_bar}

@@ -10,11 +10,3 @@ pub mod Names
 pub mod Patterns
 pub mod RuleLints
 pub mod Laws
-pub mod FileRules
-pub mod Matches
-pub mod Imported
-pub mod Compared
-pub mod Reached
-pub mod Steps
-pub mod FileLints
-pub mod FileLaws

@@ -6,7 +6,7 @@ use std::marker::Model;
 
 /// A token of a rule with the part of the rule that it is.
 #[derive(Debug, Drop)]
-pub(crate) struct WrittenPart<'a> {
+pub struct WrittenPart<'a> {
     /// The token, as it is in its line.
     pub token: Token<'a>,
     /// What it is for the rule.

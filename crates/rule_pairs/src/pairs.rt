@@ -1,6 +1,7 @@
 //! What is reported for the tokens of one rule, two by two.
 ghost use Rattle.std.specs.Prelude.{◌≡◌, ◌∷◌, [], ◌+◌, ◌<◌, ◌^◌, IfOk, OnOk, length, map};
-ghost use Rattle.rule_pairs.specs.Pairs.{are_of_kind, are_related, is_reported, pair_findings, pairs_from, pairs_with, reported_for, same_kind, with_kind, with_pair};
+ghost use Rattle.rule_pairs.specs.Pairs.{are_of_kind, are_related, is_reported, pair_findings, pairs_from, pairs_with, reported_for, same_kind, with_kind};
+ghost use Rattle.rule_pairs.specs.Pairs.{with_pair};
 ghost use Rattle.rule_pairs.specs.Said.{said_of};
 
 use crate::accounts::Accounts;

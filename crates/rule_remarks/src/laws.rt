@@ -50,7 +50,8 @@ pub fn late_programs_follow_results()
 /// fall.
 #[tactic(auto, using(crate::proofs::ByLines::both_rise))]
 pub fn lines_never_fall()
-    ensures { (line : ℕ) (found others : List places.PlacedFinding) → RisesFrom (λ p. p.begins) line found → RisesFrom (λ p. p.begins) line others → RisesFrom (λ p. p.begins) line (by_line (λ p. p.begins) found others) }
+    ensures { (line : ℕ) (found others : List places.PlacedFinding) → RisesFrom (λ p. p.begins) line found → RisesFrom (λ p. p.begins) line others
+        → RisesFrom (λ p. p.begins) line (by_line (λ p. p.begins) found others) }
 {}
 
 /// Each remark on a file is reported for a joined line that is a rule for udev.

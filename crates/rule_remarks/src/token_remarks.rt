@@ -75,7 +75,8 @@ fn add_value(
     key: Key,
     token: &Token<'_>,
 ) -> Result<(), AllocError>
-    ensures { OnOk result (spots.new.items ≡ spots.old.items ++ value_remarks (value_fault accounts.now key token.now.parts.head.operator (meaning_of token.now)) token.now) }
+    ensures { OnOk result (spots.new.items ≡ spots.old.items
+        ++ value_remarks (value_fault accounts.now key token.now.parts.head.operator (meaning_of token.now)) token.now) }
 {
     let text = unquote(alloc, token)?;
     if let Some(kind) = value_fault(accounts, key, token.operator(), &text) {

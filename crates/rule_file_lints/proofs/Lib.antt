@@ -1,0 +1,6 @@
+pub mod Labels
+pub mod Reading
+pub mod Meaning
+pub mod Passing
+pub mod Filing
+pub mod FileLemmas

@@ -4,7 +4,7 @@ use Rattle.rule_core.proofs.Drafting.{draft_read, fault_read, too_long, without_
 use Rattle.rule_core.proofs.draft_reading.read_draft.Goals as goal
 
 pub returns-then-line-most_bytes : goal.returns-then-line-most_bytes
-returns-then-line-most_bytes c = too_long c.args.profile c.args.line.now c.in_ok-found.found (omega arith) c.in_ok-found.ensures
+returns-then-line-most_bytes c = too_long c.args.profile c.args.line.now c.whole_spot.result (omega arith) c.whole_spot.ensures
 
 pub returns-in_err-parts : goal.returns-in_err-parts
 returns-in_err-parts c =
@@ -13,7 +13,7 @@ returns-in_err-parts c =
 
 pub returns-then-lacks : goal.returns-then-lacks
 returns-then-lacks c =
-    without_effect c.args.profile c.args.line.now c.in_ok-parts.parts.items c.in_ok-found-2.found (omega arith) c.in_ok-parts.ensures (sym c.in_ok-lacks.ensures ∙ c.if-lacks.true) c.in_ok-found-2.ensures
+    without_effect c.args.profile c.args.line.now c.in_ok-parts.parts.items c.whole_spot-2.result (omega arith) c.in_ok-parts.ensures (sym c.in_ok-lacks.ensures ∙ c.if-lacks.true) c.whole_spot-2.ensures
 
 pub returns : goal.returns
 returns c =

@@ -4,58 +4,23 @@ use Rattle.std.specs.List.{list_any}
 use Rattle.std.proofs.lemmas.List.{reverse-append}
 use Rattle.std.proofs.lemmas.List.Folds.{list_any-append}
 use Rattle.std.proofs.lemmas.Grind.{flat_map-append}
-use Rattle.file_messages.specs.declared.message.MessageKind.TheVariants.{LineTooLong, RuleWithoutEffect}
 use Rattle.text_bytes.specs.declared.profile.Profile.{Profile}
 use Rattle.text_bytes.specs.declared.source_file.SourceFile.{SourceFile}
 use Rattle.text_tables.specs.Texts.{Text, is_among, same_text}
-use Rattle.rule_tokens.specs.Grammar.{Item, Placed}
-use Rattle.rule_types.specs.declared.part.Part.{Part}
-use Rattle.rule_parts.specs.Values.{finding}
-use Rattle.rule_parts.specs.declared.finding.Finding.{Finding}
-use Rattle.rule_core.specs.Drafts.{Draft, draft, draft_of, draft_with, items_as, most_bytes, parts_of, tokens_of}
-use Rattle.rule_core.specs.Effects.{lacks_effect}
+use Rattle.rule_core.specs.Rules.{name_of}
 use Rattle.rule_core.specs.Ends.{abandoned}
 use Rattle.rule_places.specs.Kept.{kept_lines}
 use Rattle.rule_places.specs.declared.kept.KeptLine.{KeptLine}
 use Rattle.rule_file_lints.specs.Compared.{Valued, assigned_value, meant_spots, meant_to_compare}
 use Rattle.rule_file_lints.specs.FileLaws.{ImportsFurtherDown, IsImportedBelow, NoneAfterMatches, NoneUncompared, ReachedAfterLostJumps, ReachedAfterMatches, ReachedByLabels, reported_for, reported_in}
 use Rattle.rule_file_lints.specs.FileLints.{file_spots, lints_of, placed_lint, placed_lints}
-use Rattle.rule_file_lints.specs.FileRules.{LandedRule, file_rules, goto_of, landed_rules, rules_unless, tokens_of_rule, with_parts}
+use Rattle.rule_file_lints.specs.FileRules.{FileRule, file_rules, rules_unless}
 use Rattle.rule_file_lints.specs.Imported.{any_property, assigned_in, below_spots, families, given_by, given_names, has_family, has_property, imported_by, imported_in, imported_names, is_given, is_of, perhaps_in, wanted_in}
 use Rattle.rule_file_lints.specs.Matches.{is_match, may_end_at}
 use Rattle.rule_file_lints.specs.Reached.{is_labelled, jumps_above, jumps_to, may_go_on, never_reached}
-use Rattle.rule_lints.specs.Written.{WrittenPart}
+use Rattle.rule_core.specs.Written.{WrittenPart}
 use Rattle.rule_file_lints.specs.declared.file_lints.FileSpot.{FileSpot}
 use Rattle.rule_lints.specs.declared.spot.LintSpot.{LintSpot}
-
--- a line is a rule here if it is read as one
-abbrev drafted : Profile → List ℕ → Result (List Part) Finding → Bool → Result Draft Finding
-drafted by line (Ok parts) idle = cond idle (Err (finding RuleWithoutEffect [])) (Ok (draft by line parts))
-drafted by line (Err wrong) idle = Err wrong
-
-lines_kept : (by : Profile) (line : List ℕ) (tokens : List Placed) (parts : Result (List Part) Finding) (idle : Bool) → is_some (cond idle None (with_parts tokens parts)) ≡ is_ok (drafted by line parts idle)
-lines_kept by line tokens (Ok parts) true = refl
-lines_kept by line tokens (Ok parts) false = refl
-lines_kept by line tokens (Err wrong) true = refl
-lines_kept by line tokens (Err wrong) false = refl
-
-lines_drafted : (by : Profile) (line : List ℕ) (parts : Result (List Part) Finding) → drafted by line parts (lacks_effect by (tokens_of (items_as by line))) ≡ draft_with by line parts
-lines_drafted by line (Ok parts) = refl
-lines_drafted by line (Err wrong) = refl
-
-pub lines_read : (by : Profile) (line : List ℕ) → is_some (tokens_of_rule by line) ≡ is_ok (draft_of by line)
-unfolding tokens_of_rule draft_of
-lines_read by line = on (nat_lt (most_bytes by) (length line))
-  where
-    items : List Item
-    items = items_as by line
-
-    idle : Bool
-    idle = lacks_effect by (tokens_of items)
-
-    on : (b : Bool) → is_some (cond b None (cond idle None (with_parts (tokens_of items) (parts_of by line items)))) ≡ is_ok (cond b (Err (finding LineTooLong [])) (draft_with by line (parts_of by line items)))
-    on true = refl
-    on false = lines_kept by line (tokens_of items) (parts_of by line items) idle ∙ ap is_ok (lines_drafted by line (parts_of by line items))
 
 -- tests
 or_by : (a b c : Bool) → (a ≡ true → c ≡ true) → (b ≡ true → c ≡ true) → (a || b) ≡ true → c ≡ true
@@ -102,14 +67,14 @@ imports_given (w ∷ tokens) x h =
     within_both (imported_in w.part) (imported_by tokens) (imported_in w.part ++ others) (given_by tokens) (within_prefix (imported_in w.part) others) (imports_given tokens) x h
 
 -- what rules import they give, the nearest first
-above_given : (above : List LandedRule) → Within (imported_names (reverse above)) (given_names above)
+above_given : (above : List FileRule) → Within (imported_names (reverse above)) (given_names above)
 above_given [] x h = h
 above_given (r ∷ above) x h =
     let reversed : imported_names (reverse (r ∷ above)) ≡ imported_names (reverse above) ++ imported_names (r ∷ []) =
-    ap imported_names (reverse-append (r ∷ []) above) ∙ flat_map-append (λ (s : LandedRule). imported_by s.rule.tokens) (reverse above) (r ∷ []) in
-    let own : Within (imported_names (r ∷ [])) (given_by r.rule.tokens) =
-    λ y k. or_by (is_among (imported_by r.rule.tokens) y) false (is_among (given_by r.rule.tokens) y) (imports_given r.rule.tokens y) (λ e. absurd (cc)) (sym (among_append (imported_by r.rule.tokens) [] y) ∙ k) in
-    within_reversed (imported_names (reverse above)) (imported_names (r ∷ [])) (given_names above) (given_by r.rule.tokens) (above_given above) own x
+    ap imported_names (reverse-append (r ∷ []) above) ∙ flat_map-append (λ (s : FileRule). imported_by s.draft.parts) (reverse above) (r ∷ []) in
+    let own : Within (imported_names (r ∷ [])) (given_by r.draft.parts) =
+    λ y k. or_by (is_among (imported_by r.draft.parts) y) false (is_among (given_by r.draft.parts) y) (imports_given r.draft.parts y) (λ e. absurd (cc)) (sym (among_append (imported_by r.draft.parts) [] y) ∙ k) in
+    within_reversed (imported_names (reverse above)) (imported_names (r ∷ [])) (given_names above) (given_by r.draft.parts) (above_given above) own x
     (ap (λ n. is_among n x) (sym reversed) ∙ h)
 
 -- a property of two lists is one of either
@@ -175,10 +140,10 @@ left_out : (a b c : Bool) → (a ≡ true → c ≡ true) → c ≡ false → (a
 left_out true b c f e h = absurd (let t : c ≡ true = f refl in cc)
 left_out false b c f e h = h
 
-imported_here : (above : List LandedRule) (r : LandedRule) (below : List LandedRule) (name : Text) → has_property (imported_names (reverse above ++ r ∷ below)) name ≡ true → has_property (given_names above) name ≡ false
+imported_here : (above : List FileRule) (r : FileRule) (below : List FileRule) (name : Text) → has_property (imported_names (reverse above ++ r ∷ below)) name ≡ true → has_property (given_names above) name ≡ false
     → has_property (imported_names (r ∷ below)) name ≡ true
 imported_here above r below name h e =
-    let cut : imported_names (reverse above ++ r ∷ below) ≡ imported_names (reverse above) ++ imported_names (r ∷ below) = flat_map-append (λ (s : LandedRule). imported_by s.rule.tokens) (reverse above) (r ∷ below) in
+    let cut : imported_names (reverse above ++ r ∷ below) ≡ imported_names (reverse above) ++ imported_names (r ∷ below) = flat_map-append (λ (s : FileRule). imported_by s.draft.parts) (reverse above) (r ∷ below) in
     left_out (has_property (imported_names (reverse above)) name) (has_property (imported_names (r ∷ below)) name) (has_property (given_names above) name)
     (property_within (imported_names (reverse above)) (given_names above) (above_given above) name) e
     (property_by (imported_names (reverse above)) (imported_names (r ∷ below)) name (ap (λ n. has_property n name) (sym cut) ∙ h))
@@ -188,7 +153,7 @@ both_hold true false x reported e = (refl, refl, cc)
 both_hold true true x reported e = absurd (cc)
 both_hold false b x reported e = absurd (cc)
 
-wanted_here : (above : List LandedRule) (r : LandedRule) (below : List LandedRule) (w : WrittenPart) (wanted : Option Text) (reported : LintSpot)
+wanted_here : (above : List FileRule) (r : FileRule) (below : List FileRule) (w : WrittenPart) (wanted : Option Text) (reported : LintSpot)
     → below_spots (imported_names (reverse above ++ r ∷ below)) (given_names above) w wanted ≡ reported ∷ [] → IsImportedBelow above r below reported.word
 wanted_here above r below w None reported e = absurd (cc)
 wanted_here above r below w (Some name) reported e =
@@ -219,16 +184,16 @@ none_uncompared [] = refl
 none_uncompared (w ∷ tokens) =
     ap (λ x. x ++ meant_to_compare [] tokens) (spot_uncompared (list_any (λ (x : WrittenPart). is_match x.part) tokens) w (assigned_value w.part)) ∙ none_uncompared tokens
 
-proceeds : (nearest r : LandedRule) → may_go_on nearest ≡ true → never_reached (jumps_to nearest) r ≡ []
-proceeds nearest r h = ap (λ b. never_reached (cond b None (goto_of nearest.rule.tokens)) r) h
+proceeds : (nearest r : FileRule) → may_go_on nearest ≡ true → never_reached (jumps_to nearest) r ≡ []
+proceeds nearest r h = ap (λ b. never_reached (cond b None (name_of nearest.draft.goto)) r) h
 
 pub after_matches : ReachedAfterMatches
-after_matches nearest farther r h = proceeds nearest r (or_right nearest.landing.lost (list_any (λ w. may_end_at w.part) nearest.rule.tokens) h)
+after_matches nearest farther r h = proceeds nearest r (or_right nearest.landing.lost (list_any (λ w. may_end_at w.part) nearest.draft.parts) h)
 
 pub after_lost : ReachedAfterLostJumps
-after_lost nearest farther r h = proceeds nearest r (or_left nearest.landing.lost (list_any (λ w. may_end_at w.part) nearest.rule.tokens) h)
+after_lost nearest farther r h = proceeds nearest r (or_left nearest.landing.lost (list_any (λ w. may_end_at w.part) nearest.draft.parts) h)
 
-labelled : (above : Option Text) (r : LandedRule) → is_labelled r ≡ true → never_reached above r ≡ []
+labelled : (above : Option Text) (r : FileRule) → is_labelled r ≡ true → never_reached above r ≡ []
 labelled None r h = refl
 labelled (Some name) r h = rw h refl
 
@@ -239,10 +204,10 @@ reported_same : (kept : List KeptLine) (spots : List FileSpot) → map reported_
 reported_same kept [] = refl
 reported_same kept (s ∷ spots) = ap (λ x. reported_for s ∷ x) (reported_same kept spots)
 
-pub lints_of_rules : (by : Profile) (file : SourceFile) → map reported_in (placed_lints by file) ≡ map reported_for (file_spots (landed_rules by (file_rules by file.bytes)))
+pub lints_of_rules : (by : Profile) (file : SourceFile) → map reported_in (placed_lints by file) ≡ map reported_for (file_spots (file_rules by file.bytes))
 unfolding placed_lints
-lints_of_rules by file = reported_same (kept_lines file.bytes) (file_spots (landed_rules by (file_rules by file.bytes)))
+lints_of_rules by file = reported_same (kept_lines file.bytes) (file_spots (file_rules by file.bytes))
 
 pub none_abandoned : (by : Profile) (file : SourceFile) (number : ℕ) → abandoned by file.bytes ≡ Some number → placed_lints by file ≡ []
 unfolding placed_lints
-none_abandoned by file number e = ap (λ (o : Option ℕ). lints_of by file.bytes (rules_unless by file.bytes o)) e
+none_abandoned by file number e = ap (λ (o : Option ℕ). lints_of (kept_lines file.bytes) (rules_unless by file.bytes o)) e

@@ -1,5 +1,3 @@
-pub mod Labels
-pub mod Reading
 pub mod Meaning
 pub mod Passing
 pub mod Filing

@@ -8,7 +8,7 @@ use Rattle.text_tables.specs.Texts.{Text}
 use Rattle.rule_file_lints.specs.Compared.{assigned_value, meant_spots, meant_to_compare}
 use Rattle.rule_file_lints.specs.Matches.{is_match}
 use Rattle.rule_file_lints.specs.Steps.{before_matches, left_after}
-use Rattle.rule_lints.specs.Written.{WrittenPart}
+use Rattle.rule_core.specs.Written.{WrittenPart}
 use Rattle.rule_lints.specs.declared.spot.LintSpot.{LintSpot}
 
 -- how many matches tokens have

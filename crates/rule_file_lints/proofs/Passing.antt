@@ -8,13 +8,13 @@ use Rattle.text_tables.specs.Texts.{Text, is_among, same_text, with_text, with_t
 use Rattle.text_tables.proofs.Found.{among_added}
 use Rattle.rule_file_lints.specs.Compared.{compared_texts, meant_spots, meant_to_compare, assigned_value, text_of, Valued}
 use Rattle.rule_file_lints.specs.FileLints.{file_spot, file_spots, spots_below, spots_by, spots_of}
-use Rattle.rule_file_lints.specs.FileRules.{LandedRule}
+use Rattle.rule_file_lints.specs.FileRules.{FileRule}
 use Rattle.rule_file_lints.specs.Imported.{any_property, below_spots, families, given_by, given_names, has_property, imported_below, imported_names, is_of, wanted_in}
 use Rattle.rule_file_lints.specs.Matches.{is_match}
 use Rattle.rule_file_lints.specs.Reached.{jumps_above, never_reached}
 use Rattle.rule_lints.specs.RuleLints.{lints_of_rule}
 use Rattle.rule_file_lints.specs.Steps.{FileNames, RulesAbove, nothing_above, with_rule}
-use Rattle.rule_lints.specs.Written.{WrittenPart}
+use Rattle.rule_core.specs.Written.{WrittenPart}
 use Rattle.rule_file_lints.specs.declared.file_lints.FileSpot.{FileSpot}
 
 -- the same texts are among two lists
@@ -79,21 +79,21 @@ meant_same compared all same (w ∷ tokens) =
     ap (λ x. cond (list_any (λ y. is_match y.part) tokens) x [] ++ meant_to_compare compared tokens) (spot_same compared all same w (assigned_value w.part))
     ∙ ap (λ x. cond (list_any (λ y. is_match y.part) tokens) (meant_spots all w (assigned_value w.part)) [] ++ x) (meant_same compared all same tokens)
 
-pub spots_same : (imported compared given all_imported all_compared before : List Text) (jump above : Option Text) (r : LandedRule)
+pub spots_same : (imported compared given all_imported all_compared before : List Text) (jump above : Option Text) (r : FileRule)
     → SameTexts imported all_imported → SameTexts compared all_compared → SameTexts given before → jump ≡ above
     → spots_by imported compared given jump r ≡ spots_by all_imported all_compared before above r
 spots_same imported compared given all_imported all_compared before jump above r i c g j =
-    ap (λ x. lints_of_rule r.rule.tokens ++ (x ++ (meant_to_compare compared r.rule.tokens ++ never_reached jump r))) (tokens_same imported all_imported given before i g r.rule.tokens)
-    ∙ ap (λ x. lints_of_rule r.rule.tokens ++ (flat_map (imported_below all_imported before) r.rule.tokens ++ (x ++ never_reached jump r))) (meant_same compared all_compared c r.rule.tokens)
-    ∙ ap (λ x. lints_of_rule r.rule.tokens ++ (flat_map (imported_below all_imported before) r.rule.tokens ++ (meant_to_compare all_compared r.rule.tokens ++ never_reached x r))) j
+    ap (λ x. lints_of_rule r.draft.parts ++ (x ++ (meant_to_compare compared r.draft.parts ++ never_reached jump r))) (tokens_same imported all_imported given before i g r.draft.parts)
+    ∙ ap (λ x. lints_of_rule r.draft.parts ++ (flat_map (imported_below all_imported before) r.draft.parts ++ (x ++ never_reached jump r))) (meant_same compared all_compared c r.draft.parts)
+    ∙ ap (λ x. lints_of_rule r.draft.parts ++ (flat_map (imported_below all_imported before) r.draft.parts ++ (meant_to_compare all_compared r.draft.parts ++ never_reached x r))) j
 
 -- going down: what the rules above leave is known, and the lints so far and those of the rules below are all
-pub record Descends (above : RulesAbove) (spots : List FileSpot) (rules : List LandedRule) (i : ℕ) : Type 0 where
+pub record Descends (above : RulesAbove) (spots : List FileSpot) (rules : List FileRule) (i : ℕ) : Type 0 where
   pub given : SameTexts above.given (given_names (reverse (take i rules)))
   pub jump : above.jump ≡ jumps_above (reverse (take i rules))
   pub so_far : spots ++ spots_below rules (reverse (take i rules)) (drop i rules) ≡ file_spots rules
 
-pub down_start : (above : RulesAbove) (spots : List FileSpot) (rules : List LandedRule) → above ≡ nothing_above → spots ≡ [] → Descends above spots rules 0
+pub down_start : (above : RulesAbove) (spots : List FileSpot) (rules : List FileRule) → above ≡ nothing_above → spots ≡ [] → Descends above spots rules 0
 down_start above spots rules e f = record {
   given = λ name. ap (λ (a : RulesAbove). is_among a.given name) e;
   jump = ap (λ (a : RulesAbove). a.jump) e;
@@ -101,24 +101,24 @@ down_start above spots rules e f = record {
 }
 
 -- a rule comes before those after it
-rule_item : (rules : List LandedRule) (i : ℕ) (r : LandedRule) → i < length rules → r ≡ get_or rules i r → drop i rules ≡ r ∷ drop (i + 1) rules
+rule_item : (rules : List FileRule) (i : ℕ) (r : FileRule) → i < length rules → r ≡ get_or rules i r → drop i rules ≡ r ∷ drop (i + 1) rules
 rule_item rules i r h e =
     let next : i + 1 ≡ suc i = omega arith in
     drop-cons rules i r h ∙ ap (λ x. x ∷ drop (suc i) rules) (sym e) ∙ ap (λ n. r ∷ drop n rules) (sym next)
 
-given_more : (given : List Text) (above : List LandedRule) (r : LandedRule) → SameTexts given (given_names above) → SameTexts (with_texts given (given_by r.rule.tokens)) (given_names (r ∷ above))
+given_more : (given : List Text) (above : List FileRule) (r : FileRule) → SameTexts given (given_names above) → SameTexts (with_texts given (given_by r.draft.parts)) (given_names (r ∷ above))
 given_more given above r same name =
-    among_all (given_by r.rule.tokens) given name
-    ∙ ap (λ x. x || is_among (given_by r.rule.tokens) name) (same name)
-    ∙ reversed_or (is_among (given_names above) name) (is_among (given_by r.rule.tokens) name)
-    ∙ sym (list_any-append (same_text name) (given_by r.rule.tokens) (given_names above))
+    among_all (given_by r.draft.parts) given name
+    ∙ ap (λ x. x || is_among (given_by r.draft.parts) name) (same name)
+    ∙ reversed_or (is_among (given_names above) name) (is_among (given_by r.draft.parts) name)
+    ∙ sym (list_any-append (same_text name) (given_by r.draft.parts) (given_names above))
 
-pub down_past : (above next : RulesAbove) (spots more : List FileSpot) (names : FileNames) (rules : List LandedRule) (i : ℕ) (r : LandedRule) → Descends above spots rules i
+pub down_past : (above next : RulesAbove) (spots more : List FileSpot) (names : FileNames) (rules : List FileRule) (i : ℕ) (r : FileRule) → Descends above spots rules i
     → i < length rules → r ≡ get_or rules i r → names.imported ≡ with_texts [] (imported_names rules) → names.compared ≡ with_texts [] (compared_texts rules)
     → more ≡ spots ++ map (file_spot r.rule) (spots_by names.imported names.compared above.given above.jump r) → next ≡ with_rule above r
     → Descends next more rules (i + 1)
 down_past above next spots more names rules i r before h e imported compared m n =
-    let past : List LandedRule = reverse (take i rules) in
+    let past : List FileRule = reverse (take i rules) in
     let reversed : reverse (take (i + 1) rules) ≡ r ∷ past = ap reverse (take_more rules i r h ∙ ap (λ x. take i rules ++ x ∷ []) (sym e)) ∙ reverse-append (take i rules) (r ∷ []) in
     let own : spots_by names.imported names.compared above.given above.jump r ≡ spots_of rules past r =
     spots_same names.imported names.compared above.given (imported_names rules) (compared_texts rules) (given_names past) above.jump (jumps_above past) r
@@ -138,11 +138,11 @@ down_past above next spots more names rules i r before h e imported compared m n
     }
 
 -- past the end nothing is left
-none_left : (rules : List LandedRule) → length rules ≡ 0 → rules ≡ []
+none_left : (rules : List FileRule) → length rules ≡ 0 → rules ≡ []
 none_left [] e = refl
 none_left (r ∷ rules) e = absurd (omega arith)
 
-pub down_end : (above : RulesAbove) (spots : List FileSpot) (rules : List LandedRule) (i : ℕ) → Descends above spots rules i → length rules ≤ i → spots ≡ file_spots rules
+pub down_end : (above : RulesAbove) (spots : List FileSpot) (rules : List FileRule) (i : ℕ) → Descends above spots rules i → length rules ≤ i → spots ≡ file_spots rules
 down_end above spots rules i before h =
     let none : drop i rules ≡ [] = none_left (drop i rules) (length-drop i rules ∙ omega arith) in
     sym (append-nil spots) ∙ ap (λ rs. spots ++ spots_below rules (reverse (take i rules)) rs) (sym none) ∙ before.so_far

@@ -17,10 +17,10 @@ use Rattle.rule_types.specs.declared.roles.PlainKey.{PlainKey}
 use Rattle.rule_types.specs.declared.roles.PlainKey.TheVariants as plain
 use Rattle.rule_types.specs.declared.roles.Target.{Target}
 use Rattle.rule_types.specs.declared.roles.Target.TheVariants as target
-use Rattle.rule_file_lints.specs.FileRules.{LandedRule}
+use Rattle.rule_file_lints.specs.FileRules.{FileRule}
 use Rattle.rule_file_lints.specs.Matches.{by_equal, is_match}
 use Rattle.rule_lints.specs.Spots.{key_spot}
-use Rattle.rule_lints.specs.Written.{WrittenPart}
+use Rattle.rule_core.specs.Written.{WrittenPart}
 use Rattle.rule_lints.specs.declared.spot.LintSpot.{LintSpot}
 
 -- a property or an attribute with a value: its key, its name, and the value
@@ -74,8 +74,8 @@ abbrev pub compared_by : List WrittenPart → List Text
 compared_by tokens = filter_map (λ w. option_map text_of (compared_in w.part)) tokens
 
 -- what rules compare by `==`
-abbrev pub compared_texts : List LandedRule → List Text
-compared_texts rules = flat_map (λ r. compared_by r.rule.tokens) rules
+abbrev pub compared_texts : List FileRule → List Text
+compared_texts rules = flat_map (λ r. compared_by r.draft.parts) rules
 
 -- an assignment, if what it gives is compared
 abbrev pub meant_spots : List Text → WrittenPart → Option Valued → List LintSpot

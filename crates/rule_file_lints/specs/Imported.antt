@@ -20,10 +20,10 @@ use Rattle.rule_types.specs.declared.roles.PlainKey.TheVariants as plain
 use Rattle.rule_types.specs.declared.roles.Target.{Target}
 use Rattle.rule_types.specs.declared.roles.Target.TheVariants as target
 use Rattle.rule_lints.specs.Commands.{first_word}
-use Rattle.rule_file_lints.specs.FileRules.{LandedRule}
+use Rattle.rule_file_lints.specs.FileRules.{FileRule}
 use Rattle.rule_file_lints.specs.Matches.{by_equal}
 use Rattle.rule_lints.specs.Spots.{key_spot}
-use Rattle.rule_lints.specs.Written.{WrittenPart}
+use Rattle.rule_core.specs.Written.{WrittenPart}
 use Rattle.rule_lints.specs.declared.spot.LintSpot.{LintSpot}
 
 -- builtins, each with a family of properties that it imports: a family is written as what its names begin with, and
@@ -119,12 +119,12 @@ abbrev pub given_by : List WrittenPart → List Text
 given_by tokens = flat_map (λ w. imported_in w.part ++ (perhaps_in w.part ++ assigned_in w.part)) tokens
 
 -- what rules import
-abbrev pub imported_names : List LandedRule → List Text
-imported_names rules = flat_map (λ r. imported_by r.rule.tokens) rules
+abbrev pub imported_names : List FileRule → List Text
+imported_names rules = flat_map (λ r. imported_by r.draft.parts) rules
 
 -- what rules import, may import or assign
-abbrev pub given_names : List LandedRule → List Text
-given_names rules = flat_map (λ r. given_by r.rule.tokens) rules
+abbrev pub given_names : List FileRule → List Text
+given_names rules = flat_map (λ r. given_by r.draft.parts) rules
 
 -- whether a family of a property is among names
 abbrev pub has_family : List Text → List (Text × Text) → Text → Bool

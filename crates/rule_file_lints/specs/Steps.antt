@@ -1,20 +1,13 @@
 -- Serves inner proofs only: what its functions keep.
-use Rattle.std.specs.Prelude.{ℕ, ◌-◌, nat_lt, if◌then◌else◌, List, [], Option, Some, None, Result, Ok, Err}
+use Rattle.std.specs.Prelude.{ℕ, ◌-◌, nat_lt, if◌then◌else◌, List, [], Option, None}
 use Rattle.text_tables.specs.Texts.{Text, with_texts}
-use Rattle.rule_types.specs.declared.part.Part.{Part}
-use Rattle.rule_parts.specs.declared.finding.Finding.{Finding}
 use Rattle.rule_file_lints.specs.Compared.{assigned_value, meant_spots}
-use Rattle.rule_file_lints.specs.FileRules.{LandedRule}
+use Rattle.rule_file_lints.specs.FileRules.{FileRule}
 use Rattle.rule_file_lints.specs.Imported.{given_by}
 use Rattle.rule_file_lints.specs.Matches.{is_match}
 use Rattle.rule_file_lints.specs.Reached.{jumps_to}
-use Rattle.rule_lints.specs.Written.{WrittenPart}
+use Rattle.rule_core.specs.Written.{WrittenPart}
 use Rattle.rule_lints.specs.declared.spot.LintSpot.{LintSpot}
-
--- the part of a rule that was read, if it is one
-abbrev pub part_in : Result Part Finding → Option Part
-part_in (Ok p) = Some p
-part_in (Err wrong) = None
 
 -- what the rules of a file import and compare
 pub record FileNames : Type 0 where
@@ -31,8 +24,8 @@ abbrev pub nothing_above : RulesAbove
 nothing_above = record { given = []; jump = None }
 
 -- one more rule above, which is then the nearest
-abbrev pub with_rule : RulesAbove → LandedRule → RulesAbove
-with_rule a r = record { given = with_texts a.given (given_by r.rule.tokens); jump = jumps_to r }
+abbrev pub with_rule : RulesAbove → FileRule → RulesAbove
+with_rule a r = record { given = with_texts a.given (given_by r.draft.parts); jump = jumps_to r }
 
 -- how many of so many matches follow a token, which may be the first of them
 abbrev pub left_after : ℕ → WrittenPart → ℕ

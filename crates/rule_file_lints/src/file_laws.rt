@@ -2,18 +2,11 @@
 ghost use Rattle.std.specs.Prelude.{◌≡◌, [], List, Some, ℕ, is_ok, is_some, map};
 ghost use Rattle.text_bytes.specs.declared.profile.Profile as profiles;
 ghost use Rattle.text_bytes.specs.declared.source_file.SourceFile as files;
-ghost use Rattle.rule_core.specs.Drafts.{draft_of};
 ghost use Rattle.rule_core.specs.Ends.{abandoned};
 ghost use Rattle.rule_file_lints.specs.FileLaws.{FirstIsReached, ImportsFurtherDown, NoneAfterMatches, NoneUncompared, ReachedAfterLostJumps};
 ghost use Rattle.rule_file_lints.specs.FileLaws.{ReachedAfterMatches, ReachedByLabels, reported_for, reported_in};
 ghost use Rattle.rule_file_lints.specs.FileLints.{file_spots, placed_lints};
-ghost use Rattle.rule_file_lints.specs.FileRules.{file_rules, landed_rules, tokens_of_rule};
-
-/// A joined line is a rule for lints if and only if `rule_core` reads it as one.
-#[tactic(auto, using(crate::proofs::FileLemmas::lines_read))]
-pub fn lines_are_rules_where_they_are_read()
-    ensures { (by : profiles.Profile) (line : List ℕ) → is_some (tokens_of_rule by line) ≡ is_ok (draft_of by line) }
-{}
+ghost use Rattle.rule_file_lints.specs.FileRules.{file_rules};
 
 /// W6 is reported for properties that the rule or one further down imports, and that no rule before it imports,
 /// assigns or may import.
@@ -42,7 +35,7 @@ pub fn rules_that_are_reached_are_not_reported()
 #[tactic(auto, using(crate::proofs::FileLemmas::lints_of_rules))]
 pub fn lints_are_those_of_the_rules()
     ensures { (by : profiles.Profile) (file : files.SourceFile) → map reported_in (placed_lints by file)
-        ≡ map reported_for (file_spots (landed_rules by (file_rules by file.bytes))) }
+        ≡ map reported_for (file_spots (file_rules by file.bytes)) }
 {}
 
 /// No lint is reported for a file that is given up.

@@ -6,7 +6,7 @@ ghost use Rattle.rule_file_lints.specs.FileLints.{file_spot, file_spots, spots_b
 ghost use Rattle.rule_file_lints.specs.Imported.{imported_names};
 ghost use Rattle.rule_file_lints.specs.Steps.{nothing_above, with_rule};
 
-use crate::file_rule::LandedRule;
+use crate::file_rule::FileRule;
 use crate::imported::{add_given, add_imported};
 use crate::imported_below::add_imported_below;
 use crate::meant::{add_compared, add_meant};
@@ -63,7 +63,7 @@ impl<'a> Model for RulesAbove<'a> {
 /// The lints of the rules of a file, in their order.
 pub(crate) fn file_lints(
     alloc: Global,
-    rules: &[LandedRule<'_>],
+    rules: &[FileRule<'_, '_>],
 ) -> Result<Vec<FileSpot>, AllocError>
     ensures { IfOk result (λ spots. spots.items ≡ file_spots rules.now) }
 {
@@ -83,16 +83,16 @@ fn add_rule(
     spots: &mut Vec<FileSpot>,
     names: &FileNames<'_>,
     above: &RulesAbove<'_>,
-    rule: &LandedRule<'_>,
+    rule: &FileRule<'_, '_>,
 ) -> Result<(), AllocError>
     ensures { OnOk result (spots.new.items ≡ spots.old.items
-        ++ map (file_spot rule.now.rule) (spots_by names.now.imported names.now.compared above.now.given above.now.jump rule.now)) }
+        ++ map (file_spot rule.now) (spots_by names.now.imported names.now.compared above.now.given above.now.jump rule.now)) }
 {
     let found = rule_spots(alloc, names, above, rule)?;
     for spot in found {
         spots.push(FileSpot {
-            number: rule.rule.number,
-            start: rule.rule.start,
+            number: rule.number,
+            start: rule.start,
             spot,
         })?;
     }
@@ -104,11 +104,11 @@ fn rule_spots(
     alloc: Global,
     names: &FileNames<'_>,
     above: &RulesAbove<'_>,
-    rule: &LandedRule<'_>,
+    rule: &FileRule<'_, '_>,
 ) -> Result<Vec<LintSpot>, AllocError>
     ensures { IfOk result (λ spots. spots.items ≡ spots_by names.now.imported names.now.compared above.now.given above.now.jump rule.now) }
 {
-    let tokens = &rule.rule.tokens;
+    let tokens = &rule.draft.parts;
     let mut spots = lints_of_rule(alloc, tokens)?;
     add_imported_below(alloc, &mut spots, &names.imported, &above.given, tokens)?;
     add_meant(alloc, &mut spots, &names.compared, tokens)?;
@@ -118,15 +118,15 @@ fn rule_spots(
 
 impl<'a> FileNames<'a> {
     /// What rules import and compare.
-    fn of(alloc: Global, rules: &'a [LandedRule<'_>]) -> Result<FileNames<'a>, AllocError>
+    fn of(alloc: Global, rules: &'a [FileRule<'_, '_>]) -> Result<FileNames<'a>, AllocError>
         ensures imported { IfOk result (λ names. names.imported ≡ with_texts [] (imported_names rules.now)) }
         ensures compared { IfOk result (λ names. names.compared ≡ with_texts [] (compared_texts rules.now)) }
     {
         let mut imported = Texts::new(alloc);
         let mut compared = OwnedTexts::new(alloc);
         for rule in rules {
-            add_imported(&mut imported, &rule.rule.tokens)?;
-            add_compared(alloc, &mut compared, &rule.rule.tokens)?;
+            add_imported(&mut imported, &rule.draft.parts)?;
+            add_compared(alloc, &mut compared, &rule.draft.parts)?;
         }
         Ok(FileNames { imported, compared })
     }
@@ -144,10 +144,10 @@ impl<'a> RulesAbove<'a> {
     }
 
     /// Takes one more rule, which is then the nearest.
-    fn take(&mut self, rule: &'a LandedRule<'_>) -> Result<(), AllocError>
+    fn take(&mut self, rule: &'a FileRule<'_, '_>) -> Result<(), AllocError>
         ensures { OnOk result (self.new ≡ with_rule self.old rule.now) }
     {
-        add_given(&mut self.given, &rule.rule.tokens)?;
+        add_given(&mut self.given, &rule.draft.parts)?;
         self.jump = jumps_to(rule);
         Ok(())
     }

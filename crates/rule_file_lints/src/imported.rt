@@ -5,7 +5,8 @@ ghost use Rattle.rule_file_lints.specs.Imported.{any_property, assigned_in, else
 ghost use Rattle.rule_file_lints.specs.Imported.{imported_in, is_given, is_of, names_in_act_kind, names_in_import, names_perhaps, names_several, perhaps_in};
 ghost use Rattle.rule_file_lints.specs.Imported.{perhaps_in_act_kind};
 
-use rule_lints::{WrittenPart, first_word};
+use rule_core::WrittenPart;
+use rule_lints::first_word;
 use rule_types::{ActKind, Change, Import, Part, Target};
 use std::alloc::AllocError;
 use text_tables::Texts;

@@ -3,7 +3,8 @@ ghost use Rattle.std.specs.Prelude.{◌≡◌, ◌++◌, OnOk, flat_map, option_
 ghost use Rattle.rule_file_lints.specs.Imported.{asked_for, below_spots, imported_below, wanted_in};
 
 use crate::imported::{has_property, is_given};
-use rule_lints::{LintSpot, WrittenPart, key_spot};
+use rule_core::WrittenPart;
+use rule_lints::{LintSpot, key_spot};
 use rule_types::{Lint, MatchOperator, Part, PlainKey};
 use std::alloc::{AllocError, Global};
 use text_core::Choice;

@@ -11,7 +11,6 @@ mod file_rule;
 mod file_rules;
 mod imported;
 mod imported_below;
-mod landed;
 mod matches;
 mod meant;
 mod placed_lint;
@@ -21,8 +20,7 @@ mod valued;
 
 pub use file_laws::{
     abandoned_files_have_no_lints, assignments_come_before_matches, imports_are_further_down,
-    lines_are_rules_where_they_are_read, lints_are_those_of_the_rules,
-    rules_that_are_reached_are_not_reported,
+    lints_are_those_of_the_rules, rules_that_are_reached_are_not_reported,
 };
 pub use placed_lint::PlacedLint;
-pub use placing::placed_lints;
+pub use placing::{lints_of_lines, placed_lints};

@@ -8,7 +8,8 @@ ghost use Rattle.rule_file_lints.specs.Steps.{before_matches, left_after};
 
 use crate::matches::is_match;
 use crate::valued::{assigned_value, compared_in, text_of};
-use rule_lints::{LintSpot, WrittenPart, key_spot};
+use rule_core::WrittenPart;
+use rule_lints::{LintSpot, key_spot};
 use rule_types::Lint;
 use std::alloc::{AllocError, Global};
 use text_tables::OwnedTexts;

@@ -1,14 +1,14 @@
 //! The lints of a file with their places.
 ghost use Rattle.std.specs.Prelude.{◌≡◌, ◌++◌, IfOk, None, OnOk, map};
-ghost use Rattle.rule_file_lints.specs.FileLints.{lints_of, placed_lint, placed_lints};
+ghost use Rattle.rule_file_lints.specs.FileLints.{lints_of, lints_of_lines, placed_lint, placed_lints};
+ghost use Rattle.rule_places.specs.Kept.{kept_lines};
 ghost use Rattle.rule_file_lints.specs.FileRules.{rules_unless};
 
 use crate::file_lints::{FileSpot, file_lints};
 use crate::file_rules::file_rules;
-use crate::landed::landed_rules;
 use crate::placed_lint::PlacedLint;
-use rule_core::{abandoned_at, joined_lines};
-use rule_places::{KeptLines, sum_of};
+use rule_core::{LandedReading, abandoned_at, joined_lines, read_lines, sum_of};
+use rule_places::KeptLines;
 use std::alloc::{AllocError, Global};
 use text_bytes::{Profile, SourceFile};
 
@@ -28,25 +28,37 @@ pub fn placed_lints(
     let bytes = file.bytes.as_slice();
     match abandoned_at(profile, bytes) {
         Some(_) => Ok(Vec::new(alloc)),
-        None => lints_of_lines(alloc, profile, bytes),
+        None => lints_of_bytes(alloc, profile, bytes),
     }
 }
 
-/// The lints of the rules among the lines of a file with these bytes.
-fn lints_of_lines(
+/// The lints of the lines of a file with these bytes.
+fn lints_of_bytes(
     alloc: Global,
     profile: Profile,
     bytes: &[u8],
 ) -> Result<Vec<PlacedLint>, AllocError>
-    ensures { IfOk result (λ found. found.items ≡ lints_of profile bytes.now (rules_unless profile bytes.now None)) }
+    ensures { IfOk result (λ found. found.items ≡ lints_of (kept_lines bytes.now) (rules_unless profile bytes.now None)) }
 {
     let kept = KeptLines::of(alloc, bytes)?;
     let joined = joined_lines(alloc, profile, bytes)?;
-    let rules = file_rules(alloc, profile, joined.lines())?;
-    let landed = landed_rules(alloc, profile, rules)?;
-    let spots = file_lints(alloc, &landed)?;
+    let lines = read_lines(alloc, profile, joined.lines())?;
+    lints_of_lines(alloc, &kept, &lines)
+}
+
+/// The lints of the lines of a file that were read, in the order of its rules. The kept lines are those of the same
+/// file.
+pub fn lints_of_lines(
+    alloc: Global,
+    kept: &KeptLines,
+    lines: &[LandedReading<'_>],
+) -> Result<Vec<PlacedLint>, AllocError>
+    ensures { IfOk result (λ found. found.items ≡ lints_of_lines kept.now lines.now) }
+{
+    let rules = file_rules(alloc, lines)?;
+    let spots = file_lints(alloc, &rules)?;
     let mut found = Vec::new(alloc);
-    place_all(&mut found, &kept, spots)?;
+    place_all(&mut found, kept, spots)?;
     Ok(found)
 }
 

@@ -1,34 +1,36 @@
 //! Rules that no rule leads to.
-ghost use Rattle.std.specs.Prelude.{◌≡◌, ◌++◌, OnOk, is_some, option_map};
+ghost use Rattle.std.specs.Prelude.{◌≡◌, ◌++◌, OnOk, option_map};
 ghost use Rattle.std.specs.List.{list_any};
-ghost use Rattle.rule_core.specs.Drafts.{label_in};
 ghost use Rattle.rule_file_lints.specs.Matches.{may_end_at};
 ghost use Rattle.rule_file_lints.specs.Reached.{first_spot, is_labelled, jumps_to, may_go_on, never_reached};
 
-use crate::file_rule::LandedRule;
-use crate::landed::goto_of;
+use crate::file_rule::FileRule;
 use crate::matches::may_end_at;
-use rule_lints::{LintSpot, WrittenPart, key_spot};
-use rule_types::{Lint, Part};
+use rule_core::WrittenPart;
+use rule_lints::{LintSpot, key_spot};
+use rule_types::Lint;
 use std::alloc::{AllocError, Global};
 
 /// The label of a later rule to which a rule jumps for every device.
-pub(crate) fn jumps_to<'a>(rule: &'a LandedRule<'_>) -> Option<&'a [u8]>
+pub(crate) fn jumps_to<'a>(rule: &'a FileRule<'_, '_>) -> Option<&'a [u8]>
     ensures { option_map (λ t. t.now) result ≡ jumps_to rule.now }
 {
     if may_go_on(rule) {
         None
     } else {
-        goto_of(&rule.rule.tokens)
+        match &rule.draft.goto {
+            None => None,
+            Some(place) => Some(place.name.as_slice()),
+        }
     }
 }
 
 /// Whether a rule may lead to the one after it though it has a jump: there is no later label, or the rule may end
 /// before it jumps.
-fn may_go_on(rule: &LandedRule<'_>) -> bool
+fn may_go_on(rule: &FileRule<'_, '_>) -> bool
     ensures { result ≡ may_go_on rule.now }
 {
-    rule.landing.lost || may_end(&rule.rule.tokens)
+    rule.landing.lost || may_end(&rule.draft.parts)
 }
 
 /// Whether a rule may end at one of these tokens.
@@ -43,7 +45,7 @@ pub(crate) fn add_never_reached(
     alloc: Global,
     spots: &mut Vec<LintSpot>,
     above: Option<&[u8]>,
-    rule: &LandedRule<'_>,
+    rule: &FileRule<'_, '_>,
 ) -> Result<(), AllocError>
     ensures { OnOk result (spots.new.items ≡ spots.old.items ++ never_reached (option_map (λ t. t.now) above.entry) rule.now) }
 {
@@ -53,27 +55,17 @@ pub(crate) fn add_never_reached(
             if is_labelled(rule) {
                 Ok(())
             } else {
-                add_first(alloc, spots, name, &rule.rule.tokens)
+                add_first(alloc, spots, name, &rule.draft.parts)
             }
         }
     }
 }
 
 /// Whether a rule has a label.
-fn is_labelled(rule: &LandedRule<'_>) -> bool
+fn is_labelled(rule: &FileRule<'_, '_>) -> bool
     ensures { result ≡ is_labelled rule.now }
 {
-    rule.rule.tokens.iter().any(|token| is_label(&token.part))
-}
-
-/// Whether a part is a label.
-fn is_label(part: &Part) -> bool
-    ensures { result ≡ is_some (label_in part.now) }
-{
-    match part {
-        Part::Label(_) => true,
-        _ => false,
-    }
+    rule.draft.label.is_some()
 }
 
 /// Adds the first of these tokens, reported with a label.

@@ -1,4 +1,3 @@
-pub mod Written
 pub mod Spots
 pub mod Texts
 pub mod Parts

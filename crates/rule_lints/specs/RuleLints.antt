@@ -12,7 +12,7 @@ use Rattle.rule_lints.specs.Modes.{wrong_mode}
 use Rattle.rule_lints.specs.Names.{dev_link, is_outside_net, name_given, quoted_name}
 use Rattle.rule_lints.specs.Patterns.{always_holds, expression}
 use Rattle.rule_lints.specs.Spots.{key_spot, value_spot}
-use Rattle.rule_lints.specs.Written.{WrittenPart}
+use Rattle.rule_core.specs.Written.{WrittenPart}
 use Rattle.rule_lints.specs.declared.spot.LintSpot.{LintSpot}
 
 -- the text with which a lint of single tokens is reported for this one, if it is reported

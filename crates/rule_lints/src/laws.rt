@@ -13,7 +13,7 @@ ghost use Rattle.rule_lints.specs.Modes.{no_mode};
 ghost use Rattle.rule_lints.specs.Names.{links_with_dev};
 ghost use Rattle.rule_lints.specs.Patterns.{has_braces, has_open_parenthesis, is_expression, take_all};
 ghost use Rattle.rule_lints.specs.declared.letter_case.Writing.TheVariants.{Alias, Lower, Prefixed};
-ghost use Rattle.rule_lints.specs.Written.{WrittenPart};
+ghost use Rattle.rule_core.specs.Written.{WrittenPart};
 
 /// A text gives a mode if and only if it is one octal digit or more, and nothing else, of a number of at most 7777.
 #[tactic(auto, using(crate::proofs::ModeLaw::modes_written))]

@@ -15,7 +15,6 @@ mod parts;
 mod patterns;
 mod spot;
 mod texts;
-mod written;
 
 pub use commands::first_word;
 pub use laws::{
@@ -27,4 +26,3 @@ pub use laws::{
 };
 pub use lints::lints_of_rule;
 pub use spot::{LintSpot, key_spot};
-pub use written::WrittenPart;

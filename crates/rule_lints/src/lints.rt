@@ -11,7 +11,7 @@ use crate::modes::wrong_mode;
 use crate::names::{dev_link, is_outside_net, name_given, quoted_name};
 use crate::patterns::{always_holds, expression};
 use crate::spot::{LintSpot, key_spot, value_spot};
-use crate::written::WrittenPart;
+use rule_core::WrittenPart;
 use rule_tokens::Token;
 use rule_types::Lint;
 use std::alloc::{AllocError, Global};

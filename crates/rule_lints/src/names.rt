@@ -6,7 +6,7 @@ ghost use Rattle.rule_lints.specs.Names.{dev_link, excludes_net, is_outside_net,
 
 use crate::parts::change_of;
 use crate::texts::has_byte;
-use crate::written::WrittenPart;
+use rule_core::WrittenPart;
 use rule_tokens::Token;
 use rule_types::{Change, Comparison, MatchOperator, Part, PlainKey, Target};
 use text_bytes::is_blank;

@@ -8,6 +8,6 @@ returns-in-Some c = file_found c.args.profile c.args.file.now c.as_slice-bytes.r
 
 pub returns-in-None : goal.returns-in-None
 returns-in-None c =
-    IfOk-weaker c.lints_of_lines.result _ _
+    IfOk-weaker c.lints_of_bytes.result _ _
     (λ found h. file_found c.args.profile c.args.file.now c.as_slice-bytes.result.now None found.items c.as_slice-bytes.ensures (sym c.abandoned_at.ensures ∙ c.in-None.is) h)
-    c.lints_of_lines.ensures
+    c.lints_of_bytes.ensures

@@ -90,7 +90,7 @@ impl Kinds {
             Part::Act(act) => self.acts.push(act)?,
             Part::Result(wanted) => self.results.push(wanted)?,
             Part::Set(assignment) => self.sets.push(assignment)?,
-            Part::Label(_) | Part::Goto(_) => {}
+            Part::Label(_name) | Part::Goto(_name) => {}
         }
         Ok(())
     }

@@ -13,7 +13,7 @@ use crate::kinds::Kinds;
 use crate::line_ends::abandoned_at;
 use crate::messages::{Place, report, report_abandoned, report_all, report_if, report_open};
 use crate::names::NamePlace;
-use crate::read_rules::ReadRules;
+use crate::read_set::ReadRules;
 use crate::readings::{LandedReading, Reading, read_lines};
 use file_messages::{Message, MessageKind};
 use rule_jumps::Landing;

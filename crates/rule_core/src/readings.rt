@@ -46,7 +46,6 @@ pub struct LandedReading<'a> {
 }
 
 impl<'a> Model for LandedReading<'a> {
-    ghost use Rattle.std.specs.Prelude.{◌×◌};
     ghost use Rattle.rule_jumps.specs.declared.jumps.Landing as jumps;
     ghost use Rattle.rule_core.specs.Rules as rules;
 

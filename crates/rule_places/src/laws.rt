@@ -1,5 +1,5 @@
 //! Laws of places, each the contract of a function with an empty body.
-ghost use Rattle.std.specs.Prelude.{◌≡◌, ◌<◌, ◌-◌, ◌^◌, ◌∷◌, [], List, None, Some, ℕ, drop, length, take};
+ghost use Rattle.std.specs.Prelude.{◌≡◌, ◌<◌, ◌-◌, ◌^◌, ◌∷◌, [], List, None, Some, ℕ, drop, length, map, take};
 ghost use Rattle.std.specs.List.{AllByRecursion};
 ghost use Rattle.text_bytes.specs.Lines.{numbered_lines};
 ghost use Rattle.file_messages.specs.declared.message.MessageKind.TheVariants.{LineTooLong};
@@ -9,12 +9,18 @@ ghost use Rattle.rule_jumps.specs.declared.jumps.Landing as jumps;
 ghost use Rattle.rule_core.specs.Drafts.{draft_of, most_bytes};
 ghost use Rattle.rule_core.specs.Ends.{abandoned};
 ghost use Rattle.rule_core.specs.Lines.{joined_lines};
-ghost use Rattle.rule_core.specs.Rules.{line_findings};
+ghost use Rattle.rule_core.specs.Rules.{file_messages, line_findings};
 ghost use Rattle.rule_core.specs.Spots.{spot};
 ghost use Rattle.rule_places.specs.Files.{placed_findings};
 ghost use Rattle.rule_places.specs.Kept.{kept_lines, place_in};
-ghost use Rattle.rule_places.specs.Laws.{EndsOpen, FollowsTokens, IsFoundIn, IsInFile, IsQuotedThere, IsReportedForOneLine, IsTextThere, IsWholeLine, PrecedesTokens};
+ghost use Rattle.rule_places.specs.Laws.{EndsOpen, FollowsTokens, IsFoundIn, IsInFile, IsQuotedThere, IsReportedForOneLine, IsTextThere, IsWholeLine, PrecedesTokens, as_message};
 ghost use Rattle.rule_places.specs.Shown.{AreJoined, IsShown, kept_text};
+
+/// Without their places, and with their words cut, the findings of a file are its messages.
+#[tactic(auto, using(crate::proofs::Messages::findings_reported))]
+pub fn findings_are_the_messages()
+    ensures { (by : profiles.Profile) (file : files.SourceFile) → map (as_message file.name) (placed_findings by file) ≡ file_messages by file }
+{}
 
 /// What is said about a key, an attribute, the letters before a quote, or a part of a line that is not a token, is
 /// reported with the bytes that are in the joined line at the place.

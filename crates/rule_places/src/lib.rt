@@ -17,10 +17,10 @@ pub use file_findings::{placed_findings, placed_lines};
 pub use kept::{KeptLines, Place};
 pub use laws::{
     abandoned_files_are_reported_for_one_line, findings_are_in_their_lines,
-    first_commas_precede_tokens, joined_lines_are_kept_lines, last_commas_follow_tokens,
-    long_lines_are_reported_as_a_whole, open_lines_are_reported_at_their_backslash,
-    places_are_in_their_lines, places_show_their_bytes, rules_are_reported_as_a_whole,
-    values_are_between_quotes, words_are_at_their_places,
+    findings_are_the_messages, first_commas_precede_tokens, joined_lines_are_kept_lines,
+    last_commas_follow_tokens, long_lines_are_reported_as_a_whole,
+    open_lines_are_reported_at_their_backslash, places_are_in_their_lines, places_show_their_bytes,
+    rules_are_reported_as_a_whole, values_are_between_quotes, words_are_at_their_places,
 };
 pub use placed_finding::PlacedFinding;
 pub use placed_spots::place_spots;

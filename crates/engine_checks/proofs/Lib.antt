@@ -1,3 +1,4 @@
+pub mod ByLines
 pub mod Lists
 pub mod Walking
 pub mod Held

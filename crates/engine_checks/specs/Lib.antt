@@ -5,3 +5,4 @@ pub mod Files
 pub mod Outcomes
 pub mod Tables
 pub mod Laws
+pub mod Steps

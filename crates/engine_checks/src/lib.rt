@@ -9,7 +9,6 @@
 #![tactic(auto)]
 
 mod asked;
-mod borrowed;
 mod by_line;
 mod checks;
 mod codes;

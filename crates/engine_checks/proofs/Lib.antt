@@ -1,4 +1,5 @@
 pub mod ByLines
+pub mod Findings
 pub mod Lists
 pub mod Walking
 pub mod Held

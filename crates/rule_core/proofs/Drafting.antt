@@ -1,5 +1,5 @@
 -- The tokens of a line read one by one, and its draft.
-use Rattle.std.proofs.Common.{◌≡◌, ℕ, ◌<◌, ◌≤◌, true, false, cond, nat_lt, List, [], ◌∷◌, ◌++◌, length, Result, Ok, Err, refl, ap, sym, ◌∙◌, append_assoc, append-nil}
+use Rattle.std.proofs.Common.{◌≡◌, ℕ, ◌<◌, ◌≤◌, true, false, cond, nat_lt, List, [], ◌∷◌, ◌++◌, length, Option, Result, Ok, Err, refl, ap, sym, ◌∙◌, append_assoc, append-nil}
 use Rattle.std.proofs.lemmas.Bool.{lt-ltb, le-ltb}
 use Rattle.file_messages.specs.declared.message.MessageKind.TheVariants.{LineTooLong, RuleWithoutEffect}
 use Rattle.text_bytes.specs.declared.profile.Profile.{Profile}
@@ -8,6 +8,7 @@ use Rattle.rule_core.specs.Drafts.{Draft, draft, draft_of, draft_with, items_as,
 use Rattle.rule_core.specs.Effects.{lacks_effect}
 use Rattle.rule_core.specs.Faults.{FaultOf}
 use Rattle.rule_core.specs.Spots.{whole_spot}
+use Rattle.rule_core.specs.Taking.{Kinds, rule_with}
 use Rattle.rule_core.specs.Written.{WrittenPart, tokens_in}
 use Rattle.rule_core.specs.declared.line_fault.LineFault.{LineFault}
 use Rattle.rule_core.specs.declared.line_fault.LineFault.TheVariants.{Wrong, Memory}
@@ -80,3 +81,7 @@ draft_read by line parts d h e lacks f =
 pub fault_read : (by : Profile) (line : List ℕ) (fault : LineFault) → length line ≤ most_bytes by → FaultOf fault (parts_of by line (items_as by line)) → FaultOf fault (draft_of by line)
 fault_read by line (Wrong found) h e = not_long by line h ∙ ap (draft_with by line) e
 fault_read by line Memory h e = tt
+
+-- a rule of names and parts
+pub rule_made : (name : List ℕ) (line : ℕ) (label goto : Option (List ℕ)) (j k : Kinds) → j ≡ k → rule_with name line label goto j ≡ rule_with name line label goto k
+rule_made name line label goto j k e = ap (rule_with name line label goto) e

@@ -1,5 +1,6 @@
 -- The tokens of a rule taken one by one.
-use Rattle.std.proofs.Common.{◌≡◌, ℕ, List, [], ◌∷◌, ◌++◌, Option, Some, None, refl, ap, sym, ◌∙◌, append_assoc, append-nil}
+use Rattle.std.proofs.Common.{◌≡◌, ℕ, suc, ◌+◌, ◌<◌, List, [], ◌∷◌, ◌++◌, length, get_or, take, Option, Some, None, refl, ap, sym, ◌∙◌, append_assoc, append-nil, arith}
+use Rattle.std.proofs.Math.Seq.{take-suc}
 use Rattle.std.specs.List.{filter_map}
 use Rattle.std.proofs.lemmas.List.{map-append}
 use Rattle.std.proofs.lemmas.List.Elements.{filter_map-append}
@@ -91,6 +92,18 @@ one_name_of by parts t (part.Goto name) =
 
 pub one_more_name : (by : Profile) (parts : List WrittenPart) (w : WrittenPart) → names_given by (parts ++ w ∷ []) ≡ with_name by (names_given by parts) w.token w.part
 one_more_name by parts w = one_name_of by parts w.token w.part
+
+-- the token at a place after those before it
+pub names_next : (by : Profile) (parts : List WrittenPart) (i : ℕ) (w : WrittenPart) (before now : RuleNames) → i < length parts → w ≡ get_or parts i w → before ≡ names_given by (take i parts)
+    → now ≡ with_name by before w.token w.part → now ≡ names_given by (take (i + 1) parts)
+names_next by parts i w before now h e b f =
+    let next : i + 1 ≡ suc i = omega arith in
+    f
+    ∙ ap (λ (n : RuleNames). with_name by n w.token w.part) b
+    ∙ sym (one_more_name by (take i parts) w)
+    ∙ ap (λ (v : WrittenPart). names_given by (take i parts ++ v ∷ [])) e
+    ∙ sym (ap (names_given by) (take-suc parts i w h))
+    ∙ ap (λ (n : ℕ). names_given by (take n parts)) (sym next)
 
 -- one part more
 same_kinds : (j k : Kinds) → j.plain ≡ k.plain → j.up ≡ k.up → j.acts ≡ k.acts → j.results ≡ k.results → j.sets ≡ k.sets → j ≡ k

@@ -4,6 +4,7 @@ use Rattle.text_bytes.specs.declared.profile.Profile.{Profile}
 use Rattle.text_bytes.specs.declared.profile.Profile.TheVariants.{Manual, Udev}
 use Rattle.text_bytes.specs.Texts.{first}
 use Rattle.rule_tokens.specs.Grammar.{Placed}
+use Rattle.rule_types.specs.Rules.{Rule}
 use Rattle.rule_types.specs.declared.part.Act.{Act}
 use Rattle.rule_types.specs.declared.part.Assignment.{Assignment}
 use Rattle.rule_types.specs.declared.part.Comparison.{Comparison}
@@ -86,3 +87,7 @@ with_kind k (part.Act a) = record k { acts = k.acts ++ a ∷ [] }
 with_kind k (part.Result c) = record k { results = k.results ++ c ∷ [] }
 with_kind k (part.Set a) = record k { sets = k.sets ++ a ∷ [] }
 with_kind k _ = k
+
+-- a rule of these names and these parts
+abbrev pub rule_with : List ℕ → ℕ → Option (List ℕ) → Option (List ℕ) → Kinds → Rule
+rule_with name line label goto k = record { file = name; line = line; label = label; goto = goto; plain = k.plain; up = k.up; acts = k.acts; results = k.results; sets = k.sets }

@@ -48,7 +48,7 @@ impl Model for RuleNames {
 
 impl RuleNames {
     /// The names that the tokens of a rule give.
-    #[tactic(auto, using(crate::proofs::Taking::one_more_name, crate::proofs::Taking::no_names))]
+    #[tactic(auto, using(crate::proofs::Taking::no_names))]
     pub fn of(
         alloc: Global,
         profile: Profile,
@@ -58,7 +58,7 @@ impl RuleNames {
     {
         let mut names = RuleNames::new(alloc);
         for written in parts {
-            names.take(alloc, profile, &written.token, &written.part)?;
+            names.take(alloc, profile, written)?;
         }
         Ok(names)
     }
@@ -74,23 +74,22 @@ impl RuleNames {
         }
     }
 
-    /// Takes one more token, which is this part.
+    /// Takes one more token.
     fn take(
         &mut self,
         alloc: Global,
         profile: Profile,
-        token: &Token<'_>,
-        part: &Part,
+        written: &WrittenPart<'_>,
     ) -> Result<(), AllocError>
-        ensures { OnOk result (self.new ≡ with_name profile self.old token.now part.now) }
+        ensures { OnOk result (self.new ≡ with_name profile self.old written.now.token written.now.part) }
     {
-        match part {
+        match &written.part {
             Part::Label(name) => {
-                let given = name_place(alloc, token, name)?;
+                let given = name_place(alloc, &written.token, name)?;
                 give_label(profile, &mut self.label, &mut self.findings, given)?;
             }
             Part::Goto(name) => {
-                let given = name_place(alloc, token, name)?;
+                let given = name_place(alloc, &written.token, name)?;
                 give(&mut self.goto, &mut self.findings, given)?;
             }
             _ => {}

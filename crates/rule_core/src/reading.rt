@@ -3,6 +3,8 @@ ghost use Rattle.std.specs.Prelude.{◌≡◌, ◌∷◌, ◌++◌, ◌<◌, ◌
 ghost use Rattle.rule_core.specs.Gathering.{Adds};
 ghost use Rattle.rule_types.specs.Rules.{tokens_in};
 ghost use Rattle.rule_core.specs.Rules.{file_messages, file_rules, findings_of, line_messages, line_rules, message_at, messages_unless, name_of, rule_at, rules_unless, set_of, set_of_as};
+ghost use Rattle.rule_core.specs.Taking.{rule_with, sorted_kinds};
+ghost use Rattle.rule_core.specs.Written.{parts_in};
 ghost use Rattle.rule_core.specs.declared.fault.RulesFault.TheVariants.{TooMany};
 
 use crate::draft::Draft;
@@ -15,10 +17,11 @@ use crate::messages::{Place, report, report_abandoned, report_all, report_if, re
 use crate::names::NamePlace;
 use crate::read_set::ReadRules;
 use crate::readings::{LandedReading, Reading, read_lines};
+use crate::written::WrittenPart;
 use file_messages::{Message, MessageKind};
 use rule_jumps::Landing;
 use rule_types::{Rule, RuleSet};
-use std::alloc::Global;
+use std::alloc::{AllocError, Global};
 use text_bytes::{Bytes, Profile, SourceFile};
 
 /// Reads rules files as udev(7) writes them, in the order in which they are given.
@@ -179,17 +182,40 @@ fn add_draft(
     report_if(alloc, messages, place, landing.lost, lost, &goto)?;
     report_all(alloc, messages, place, findings)?;
     report_if(alloc, messages, place, landing.unused, unused, &label)?;
-    let kinds = Kinds::sorted(alloc, profile, parts)?;
-    rules.add(Rule {
-        file: Bytes::copy_of(alloc, place.file)?,
+    let kept = kept_jump(name_of(goto), landing.lost);
+    rules.add(rule_of(alloc, profile, place, name_of(label), kept, parts)?)
+}
+
+/// The rule of these names and these parts.
+#[tactic(auto, using(crate::proofs::Drafting::rule_made))]
+fn rule_of(
+    alloc: Global,
+    profile: Profile,
+    place: Place<'_>,
+    label: Option<Bytes>,
+    goto: Option<Bytes>,
+    parts: Vec<WrittenPart<'_>>,
+) -> Result<Rule, AllocError>
+    ensures { IfOk result (λ r. r ≡ rule_with place.entry.file.now place.entry.line label goto (sorted_kinds profile (parts_in parts.entry.items))) }
+{
+    let file = Bytes::copy_of(alloc, place.file)?;
+    let Kinds {
+        plain,
+        up,
+        acts,
+        results,
+        sets,
+    } = Kinds::sorted(alloc, profile, parts)?;
+    Ok(Rule {
+        file,
         line: place.line,
-        label: name_of(label),
-        goto: kept_jump(name_of(goto), landing.lost),
-        plain: kinds.plain,
-        up: kinds.up,
-        acts: kinds.acts,
-        results: kinds.results,
-        sets: kinds.sets,
+        label,
+        goto,
+        plain,
+        up,
+        acts,
+        results,
+        sets,
     })
 }
 

@@ -149,32 +149,35 @@ items_in_place by line (Ok t ∷ items) all fault =
 items_in_place by line (Err found ∷ items) all fault = with_present line (Err (token_spot found.kind found.at line)) (parts_of by line items) (token_in_place found.kind found.at line all.0 fault.0) (items_in_place by line items all.1 fault.1)
 
 -- tokens as the items of a line
+abbrev as_item : Placed → Item
+as_item t = Ok t
+
 abbrev as_items : List Placed → List Item
-as_items tokens = map (λ (t : Placed). Ok t) tokens
+as_items tokens = map as_item tokens
 
 token_kept : (t : Placed) (x : Result Part Finding) (w : WrittenPart) → written_part t x ≡ Ok w → w.token ≡ t
-token_kept t (Ok p) w e = cc
+token_kept t (Ok p) w e =
+    let written : WrittenPart = record { token = t; part = p } in
+    let same : w ≡ written = cc in
+    ap (λ (v : WrittenPart). v.token) same
 token_kept t (Err found) w e = cc
+
+item_kept : (by : Profile) (line : List ℕ) (i : Item) (w : WrittenPart) → part_of_item by line i ≡ Ok w → as_item w.token ≡ i
+item_kept by line (Ok t) w e = ap as_item (token_kept t (part_of by t) w e)
+item_kept by line (Err fault) w e = cc
 
 -- the tokens that were read are all items of their line
 all_tokens : (by : Profile) (line : List ℕ) (items : List Item) (parts : List WrittenPart) → parts_of by line items ≡ Ok parts → as_items (tokens_in parts) ≡ items
-all_tokens by line [] parts e = on parts e
-  where
-    on : (parts : List WrittenPart) → Ok {E = Spot} [] ≡ Ok parts → as_items (tokens_in parts) ≡ []
-    on [] e = refl
-    on (w ∷ parts) e = cc
+all_tokens by line [] [] e = refl
+all_tokens by line [] (w ∷ parts) e = cc
 all_tokens by line (i ∷ items) parts e = on (part_of_item by line i) (parts_of by line items) refl refl e
   where
-    is_item : (i : Item) (w : WrittenPart) → part_of_item by line i ≡ Ok w → Ok w.token ≡ i
-    is_item (Ok t) w f = ap (λ (u : Placed). Ok u) (token_kept t (part_of by t) w f)
-    is_item (Err fault) w f = cc
-
     on : (x : Result WrittenPart Spot) (rest : Result (List WrittenPart) Spot) → part_of_item by line i ≡ x → parts_of by line items ≡ rest → with_part x rest ≡ Ok parts → as_items (tokens_in parts) ≡ i ∷ items
     on (Ok w) (Ok more) f g h =
         let same : parts ≡ w ∷ more = cc in
         ap (λ (ws : List WrittenPart). as_items (tokens_in ws)) same
-        ∙ ap (λ (is : List Item). Ok w.token ∷ is) (all_tokens by line items more g)
-        ∙ ap (λ (j : Item). j ∷ items) (is_item i w f)
+        ∙ ap (λ (is : List Item). as_item w.token ∷ is) (all_tokens by line items more g)
+        ∙ ap (λ (j : Item). j ∷ items) (item_kept by line i w f)
     on (Ok w) (Err wrong) f g h = cc
     on (Err wrong) rest f g h = cc
 

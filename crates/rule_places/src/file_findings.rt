@@ -118,13 +118,46 @@ fn place_draft(
 ) -> Result<(), AllocError>
     ensures { OnOk result (found.new.items ≡ found.old.items ++ map (placed kept.now number start) (findings_of draft.now landing)) }
 {
-    if landing.lost {
-        let spot = name_spot(alloc, MessageKind::NoLaterLabel, &draft.goto)?;
-        found.push(placed(alloc, kept, number, start, &spot)?)?;
-    }
+    let lost = MessageKind::NoLaterLabel;
+    let unused = MessageKind::LabelUnused;
+    place_name(
+        alloc,
+        found,
+        kept,
+        number,
+        start,
+        landing.lost,
+        lost,
+        &draft.goto,
+    )?;
     place_spots(alloc, found, kept, number, start, &draft.findings)?;
-    if landing.unused {
-        let spot = name_spot(alloc, MessageKind::LabelUnused, &draft.label)?;
+    place_name(
+        alloc,
+        found,
+        kept,
+        number,
+        start,
+        landing.unused,
+        unused,
+        &draft.label,
+    )
+}
+
+/// Adds a finding about a name, if anything is wrong with it.
+fn place_name(
+    alloc: Global,
+    found: &mut Vec<PlacedFinding>,
+    kept: &KeptLines,
+    number: u32,
+    start: usize,
+    wrong: bool,
+    kind: MessageKind,
+    given: &Option<NamePlace>,
+) -> Result<(), AllocError>
+    ensures { OnOk result (found.new.items ≡ found.old.items ++ map (placed kept.now number start) (if wrong then name_spot kind given.now ∷ [] else [])) }
+{
+    if wrong {
+        let spot = name_spot(alloc, kind, given)?;
         found.push(placed(alloc, kept, number, start, &spot)?)?;
     }
     Ok(())

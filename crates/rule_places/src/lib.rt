@@ -13,6 +13,7 @@ mod laws;
 mod placed_finding;
 mod placed_spots;
 
+pub use abandoned::abandoned_findings;
 pub use file_findings::{placed_findings, placed_lines};
 pub use kept::{KeptLines, Place};
 pub use laws::{

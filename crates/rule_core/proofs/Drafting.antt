@@ -1,17 +1,14 @@
 -- The tokens of a line read one by one, and its draft.
-use Rattle.std.proofs.Common.{◌≡◌, ℕ, ◌<◌, ◌≤◌, true, false, cond, nat_lt, List, [], ◌∷◌, ◌++◌, length, Option, Result, Ok, Err, refl, ap, sym, ◌∙◌, append_assoc, append-nil}
-use Rattle.std.proofs.lemmas.Bool.{lt-ltb, le-ltb}
-use Rattle.file_messages.specs.declared.message.MessageKind.TheVariants.{LineTooLong, RuleWithoutEffect}
+use Rattle.std.proofs.Common.{◌≡◌, ℕ, cond, List, [], ◌∷◌, ◌++◌, Option, None, Result, Ok, Err, refl, ap, sym, ◌∙◌, append_assoc, append-nil}
 use Rattle.text_bytes.specs.declared.profile.Profile.{Profile}
 use Rattle.rule_tokens.specs.Grammar.{Item}
-use Rattle.rule_core.specs.Drafts.{Draft, draft, draft_of, draft_with, items_as, most_bytes, part_of_item, parts_of, with_part}
-use Rattle.rule_core.specs.Effects.{lacks_effect}
-use Rattle.rule_core.specs.Faults.{FaultOf}
-use Rattle.rule_core.specs.Spots.{whole_spot}
-use Rattle.rule_core.specs.Taking.{Kinds, rule_with}
-use Rattle.rule_core.specs.Written.{WrittenPart, tokens_in}
-use Rattle.rule_core.specs.declared.line_fault.LineFault.{LineFault}
-use Rattle.rule_core.specs.declared.line_fault.LineFault.TheVariants.{Wrong, Memory}
+use Rattle.rule_core.specs.Drafts.{Draft, part_of_item, parts_of, with_part}
+use Rattle.rule_core.specs.Rules.{name_of, rule_at}
+use Rattle.rule_core.specs.Taking.{Kinds, rule_with, sorted_kinds}
+use Rattle.rule_core.specs.Written.{WrittenPart, parts_in}
+use Rattle.rule_jumps.specs.declared.jumps.Landing.{Landing}
+use Rattle.rule_types.specs.Rules.{Rule}
+use Rattle.rule_core.specs.declared.names.NamePlace.{NamePlace}
 use Rattle.rule_core.specs.declared.spot.Spot.{Spot}
 
 -- parts in front of those that follow
@@ -51,37 +48,19 @@ pub items_ended : (by : Profile) (line : List ℕ) (before : List WrittenPart) (
 items_ended by line before left all h e =
     sym h ∙ ap (λ (x : List Item). prepended_to before (parts_of by line x)) e ∙ ap Ok (append-nil before)
 
--- a line that is too long
-pub too_long : (by : Profile) (line : List ℕ) (f : Spot) → most_bytes by < length line → f ≡ whole_spot LineTooLong line → draft_of by line ≡ Err f
-unfolding draft_of
-too_long by line f h e =
-    let long : nat_lt (most_bytes by) (length line) ≡ true = lt-ltb (most_bytes by) (length line) h in
-    rw long (ap Err (sym e))
-
--- a line of at most so many bytes
-not_long : (by : Profile) (line : List ℕ) → length line ≤ most_bytes by → draft_of by line ≡ draft_with by line (parts_of by line (items_as by line))
-unfolding draft_of
-not_long by line h =
-    let short : nat_lt (most_bytes by) (length line) ≡ false = le-ltb (most_bytes by) (length line) h in
-    rw short refl
-
--- a line without effect, of which the parts were read
-pub without_effect : (by : Profile) (line : List ℕ) (parts : List WrittenPart) (f : Spot) → length line ≤ most_bytes by → parts_of by line (items_as by line) ≡ Ok parts
-    → lacks_effect by (tokens_in parts) ≡ true → f ≡ whole_spot RuleWithoutEffect line → draft_of by line ≡ Err f
-without_effect by line parts f h e lacks g =
-    not_long by line h ∙ ap (draft_with by line) e ∙ ap (λ b. cond b (Err (whole_spot RuleWithoutEffect line)) (Ok (draft by line parts))) lacks ∙ ap Err (sym g)
-
--- a line with an effect, of which the parts were read
-pub draft_read : (by : Profile) (line : List ℕ) (parts : List WrittenPart) (d : Draft) → length line ≤ most_bytes by → parts_of by line (items_as by line) ≡ Ok parts
-    → lacks_effect by (tokens_in parts) ≡ false → d ≡ draft by line parts → draft_of by line ≡ Ok d
-draft_read by line parts d h e lacks f =
-    not_long by line h ∙ ap (draft_with by line) e ∙ ap (λ b. cond b (Err (whole_spot RuleWithoutEffect line)) (Ok (draft by line parts))) lacks ∙ ap Ok (sym f)
-
--- a line with a fault
-pub fault_read : (by : Profile) (line : List ℕ) (fault : LineFault) → length line ≤ most_bytes by → FaultOf fault (parts_of by line (items_as by line)) → FaultOf fault (draft_of by line)
-fault_read by line (Wrong found) h e = not_long by line h ∙ ap (draft_with by line) e
-fault_read by line Memory h e = tt
-
 -- a rule of names and parts
 pub rule_made : (name : List ℕ) (line : ℕ) (label goto : Option (List ℕ)) (j k : Kinds) → j ≡ k → rule_with name line label goto j ≡ rule_with name line label goto k
 rule_made name line label goto j k e = ap (rule_with name line label goto) e
+
+-- the same for the names and the parts of a draft
+pub rule_is : (by : Profile) (name : List ℕ) (line : ℕ) (d : Draft) (l : Landing) (label goto : Option (List ℕ)) (parts : List WrittenPart) (r : Rule) → r ≡ rule_with name line label goto (sorted_kinds by (parts_in parts))
+    → label ≡ name_of d.label → goto ≡ cond l.lost None (name_of d.goto) → parts ≡ d.parts → r ≡ rule_at by name line d l
+rule_is by name line d l label goto parts r e f g h =
+    e
+    ∙ ap (λ (x : Option (List ℕ)). rule_with name line x goto (sorted_kinds by (parts_in parts))) f
+    ∙ ap (λ (x : Option (List ℕ)). rule_with name line (name_of d.label) x (sorted_kinds by (parts_in parts))) g
+    ∙ ap (λ (x : List WrittenPart). rule_with name line (name_of d.label) (cond l.lost None (name_of d.goto)) (sorted_kinds by (parts_in x))) h
+
+-- the jump that is kept
+pub kept_is : (kept name : Option (List ℕ)) (given : Option NamePlace) (d : Draft) (l : Landing) → kept ≡ cond l.lost None name → name ≡ name_of given → given ≡ d.goto → kept ≡ cond l.lost None (name_of d.goto)
+kept_is kept name given d l k n g = k ∙ ap (λ (x : Option (List ℕ)). cond l.lost None x) n ∙ ap (λ (x : Option NamePlace). cond l.lost None (name_of x)) g

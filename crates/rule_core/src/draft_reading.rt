@@ -1,6 +1,6 @@
 //! Reading a joined line.
 ghost use Rattle.std.specs.Prelude.{◌≡◌, IfOk, MatchResult, Ok};
-ghost use Rattle.rule_core.specs.Drafts.{draft, draft_of, items_as, most_bytes, part_of_item, parts_of, written_part};
+ghost use Rattle.rule_core.specs.Drafts.{draft, draft_of, draft_with, items_as, most_bytes, part_of_item, parts_of, written_part};
 ghost use Rattle.rule_parts.specs.Parts.{part_of};
 ghost use Rattle.rule_core.specs.Faults.{FaultOf};
 
@@ -27,6 +27,7 @@ const MAX_BYTES: usize = 16_384;
 /// What is wrong is that the line has more than 16,384 bytes, or else it is the fault of the first token that has
 /// one. For udev a line of 16,384 bytes is also too long, and a line without such a fault is wrong if no token has
 /// an effect. `Memory` comes only if an allocation fails.
+#[tactic(auto, unfolding(crate::specs::Drafts::draft_of))]
 pub(crate) fn read_draft(
     alloc: Global,
     profile: Profile,
@@ -38,7 +39,28 @@ pub(crate) fn read_draft(
         let kind = MessageKind::LineTooLong;
         return Err(LineFault::Wrong(whole_spot(alloc, kind, line)));
     }
-    let parts = read_parts(alloc, profile, line)?;
+    read_short(alloc, profile, line)
+}
+
+/// Reads a joined line that is not too long.
+fn read_short(alloc: Global, profile: Profile, line: &[u8]) -> Result<Draft<'_>, LineFault>
+    ensures { MatchResult result (λ d. draft_with profile line.now (parts_of profile line.now (items_as profile line.now)) ≡ Ok d) (λ f. FaultOf f (draft_with profile line.now (parts_of profile line.now (items_as profile line.now)))) }
+{
+    match read_parts(alloc, profile, line) {
+        Ok(parts) => draft_with(alloc, profile, line, parts),
+        Err(fault) => Err(fault),
+    }
+}
+
+/// The draft of tokens that were read; udev also drops a rule without effect.
+fn draft_with<'a>(
+    alloc: Global,
+    profile: Profile,
+    line: &'a [u8],
+    parts: Vec<WrittenPart<'a>>,
+) -> Result<Draft<'a>, LineFault>
+    ensures { MatchResult result (λ d. draft_with profile line.now (Ok parts.entry.items) ≡ Ok d) (λ f. FaultOf f (draft_with profile line.now (Ok parts.entry.items))) }
+{
     let lacks = lacks_effect(alloc, profile, &parts)?;
     if lacks {
         let kind = MessageKind::RuleWithoutEffect;

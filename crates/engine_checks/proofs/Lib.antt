@@ -1,5 +1,4 @@
 pub mod ByLines
-pub mod Findings
 pub mod Lists
 pub mod Walking
 pub mod Held

@@ -31,9 +31,9 @@ use Rattle.engine_checks.specs.Codes.{has_comments}
 use Rattle.engine_checks.specs.Files.{accounts_by, file_text, findings_of, found_with, ignored_by, ignores_counted, rule_diagnostic, rules_found, rules_reported}
 use Rattle.engine_checks.specs.Laws.{messages_in}
 use Rattle.engine_checks.specs.Outcomes.{bad_count, checks_outcome, checks_said, is_named_in, rules_checks}
-use Rattle.engine_checks.specs.Reported.{FileText, merged, file_reported, is_reported}
+use Rattle.engine_checks.specs.Reported.{FileText, by_line, file_reported, is_reported}
 
-pub none_among : (ds : List DiagnosticValue) → merged ds [] ≡ ds
+pub none_among : (ds : List DiagnosticValue) → by_line ds [] ≡ ds
 none_among [] = refl
 none_among (d ∷ ds) = ap (λ xs. d ∷ xs) (none_among ds)
 

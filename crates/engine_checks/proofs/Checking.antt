@@ -26,7 +26,7 @@ use Rattle.engine_checks.specs.Files.{accounts_by, database_found, database_repo
 use Rattle.engine_checks.specs.Ignores.{Ignore, ignores_in}
 use Rattle.engine_checks.specs.Outcomes.{checks_said, database_checks, rules_checks, entries_said}
 use Rattle.engine_checks.specs.Tables.{database_reported_by, read_by, rules_found_by, rules_reported_by}
-use Rattle.engine_checks.specs.Reported.{FileText, merged, comment_diagnostics, file_reported, is_about_style, is_asked, is_lint, is_reported, is_silenced}
+use Rattle.engine_checks.specs.Reported.{FileText, by_line, comment_diagnostics, file_reported, is_about_style, is_asked, is_lint, is_reported, is_silenced}
 
 same_filter : {X : Type 0} (p q : X → Bool) (xs : List X) → ((x : X) → p x ≡ q x) → filter p xs ≡ filter q xs
 same_filter p q [] e = refl
@@ -38,9 +38,9 @@ reported_alike : (lint style : Bool) (these those : List Text) (file : FileText)
 unfolding file_reported
 reported_alike lint style these those file ignores found e =
     let asked : (remark : Remark) → is_asked lint style these remark ≡ is_asked lint style those remark = λ (remark : Remark). ap (λ b. ((not (is_lint remark) || lint) && (style || not (is_about_style remark))) && not b) (e (code_of remark)) in
-    ap (λ ds. merged ds (filter (λ d. is_asked lint style these d.remark) (comment_diagnostics file found ignores)))
+    ap (λ ds. by_line ds (filter (λ d. is_asked lint style these d.remark) (comment_diagnostics file found ignores)))
     (same_filter (is_reported lint style these ignores) (is_reported lint style those ignores) found (λ d. ap (λ b. b && not (is_silenced ignores d)) (asked d.remark)))
-    ∙ ap (merged (filter (is_reported lint style those ignores) found))
+    ∙ ap (by_line (filter (is_reported lint style those ignores) found))
     (same_filter (λ d. is_asked lint style these d.remark) (λ d. is_asked lint style those d.remark) (comment_diagnostics file found ignores) (λ d. asked d.remark))
 
 module _ (line : Line) (profile : Profile) (lint style comments : Bool) (ignored : List Text) (p : profile ≡ line.profile) (l : lint ≡ line.lint) (s : style ≡ line.style) (e : (code : Text) → is_among ignored code ≡ is_among (ignored_by line) code) (c : comments ≡ has_comments ignored) where

@@ -1,4 +1,3 @@
-pub mod ByLines
 pub mod Lists
 pub mod Walking
 pub mod Held

@@ -9,7 +9,7 @@ use Rattle.engine_formats.specs.Diagnostics.{DiagnosticValue}
 use Rattle.engine_formats.specs.declared.remark.Remark.TheVariants.{IdleIgnore, UnknownCode}
 use Rattle.engine_checks.specs.Ignores.{Ignore}
 use Rattle.engine_checks.specs.Tables.{are_silencing, is_met, is_reported_by, remark_by}
-use Rattle.engine_checks.specs.Reported.{FileText, merged, comment_diagnostic, comment_diagnostics, file_reported, is_asked, is_reported, is_silenced, is_unknown, remark_on, silences}
+use Rattle.engine_checks.specs.Reported.{FileText, by_line, comment_diagnostic, comment_diagnostics, file_reported, is_asked, is_reported, is_silenced, is_unknown, remark_on, silences}
 
 -- one element more that may give something
 pub filter_map_more : {X Y : Type 0} (f : X → Option Y) (xs : List X) (i : ℕ) (x : X) → i < length xs → x ≡ get_or xs i x → filter_map f (take (i + 1) xs) ≡ filter_map f (take i xs) ++ option_to_list (f x)
@@ -22,6 +22,21 @@ filter_map_more {X} {Y} f xs i x within is =
     by : (o : Option Y) → cons_option o [] ≡ option_to_list o
     by None = refl
     by (Some y) = refl
+
+-- a diagnostic more, with the remarks before it
+pub one_by_line : (remarks reported before pushed rest following more done : List DiagnosticValue) (d : DiagnosticValue)
+    → ((left : List DiagnosticValue) → reported ++ by_line left rest ≡ by_line (done ++ left) remarks)
+    → before ≡ take_while (λ o. nat_lt o.begins d.begins) rest → following ≡ skip_while (λ o. nat_lt o.begins d.begins) rest → pushed ≡ reported ++ before → more ≡ pushed ++ d ∷ []
+    → (left : List DiagnosticValue) → more ++ by_line left following ≡ by_line ((done ++ d ∷ []) ++ left) remarks
+one_by_line remarks reported before pushed rest following more done d so_far f g h k left =
+    ap (λ ms. ms ++ by_line left following) k
+    ∙ append_assoc pushed (d ∷ []) (by_line left following)
+    ∙ ap (λ ms. ms ++ d ∷ by_line left following) h
+    ∙ append_assoc reported before (d ∷ by_line left following)
+    ∙ ap (λ os. reported ++ (os ++ d ∷ by_line left following)) f
+    ∙ ap (λ os. reported ++ (take_while (λ o. nat_lt o.begins d.begins) rest ++ d ∷ by_line left os)) g
+    ∙ so_far (d ∷ left)
+    ∙ ap (λ ls. by_line ls remarks) (sym (append_assoc done (d ∷ []) left))
 
 same_filter_map : {X Y : Type 0} (f g : X → Option Y) (xs : List X) → ((x : X) → f x ≡ g x) → filter_map f xs ≡ filter_map g xs
 same_filter_map f g [] e = refl
@@ -53,21 +68,19 @@ reported_by f lint style ignored in_file at_lines ignores found silencing =
     (λ x. ap (λ b. is_asked lint style ignored (f x).remark && not b) (silencing (f x)))
 
 -- all that is reported for a file
-pub all_reported : {X : Type 0} (f : X → DiagnosticValue) (lint style : Bool) (ignored : List Text) (file : FileText) (ignores : List Ignore) (found seen kept remarks asked : List X) (reported : List DiagnosticValue)
+pub all_reported : {X : Type 0} (f : X → DiagnosticValue) (lint style : Bool) (ignored : List Text) (file : FileText) (ignores : List Ignore) (found seen kept : List X) (remarks borrowed reported : List DiagnosticValue)
     (met_file : List Text) (met_lines : List (ℕ × Text)) (in_file : List Text) (at_lines : List (ℕ × Text))
     → seen ≡ found
     → ((i : Ignore) → is_met met_file met_lines i.scope i.code ≡ list_any (silences i) (map f seen))
     → ((d : DiagnosticValue) → are_silencing in_file at_lines d ≡ is_silenced ignores d)
-    → map f remarks ≡ filter_map (λ i. option_map (comment_diagnostic file i) (remark_by met_file met_lines i)) ignores
-    → asked ≡ filter (λ x. is_asked lint style ignored (f x).remark) remarks
+    → remarks ≡ filter_map (λ i. option_map (comment_diagnostic file i) (remark_by met_file met_lines i)) ignores
+    → borrowed ≡ filter (λ d. is_asked lint style ignored d.remark) remarks
     → kept ≡ filter (λ x. is_reported_by lint style ignored in_file at_lines (f x)) found
-    → reported ≡ merged (map f kept) (map f asked)
+    → reported ≡ by_line (map f kept) borrowed
     → reported ≡ file_reported lint style ignored file ignores (map f found)
 unfolding file_reported
-all_reported f lint style ignored file ignores found seen kept remarks asked reported met_file met_lines in_file at_lines s met silencing r l k t =
+all_reported f lint style ignored file ignores found seen kept remarks borrowed reported met_file met_lines in_file at_lines s met silencing r l k t =
     t
-    ∙ ap (λ ds. merged ds (map f asked)) (ap (map f) k ∙ reported_by f lint style ignored in_file at_lines ignores found silencing)
-    ∙ ap (merged (filter (is_reported lint style ignored ignores) (map f found)))
-    (ap (map f) l
-    ∙ filter_made (λ x. is_asked lint style ignored (f x).remark) (λ d. is_asked lint style ignored d.remark) f remarks (λ x. refl)
-    ∙ ap (filter (λ d. is_asked lint style ignored d.remark)) (r ∙ remarks_by file met_file met_lines (map f found) ignores (λ i. met i ∙ ap (λ xs. list_any (silences i) (map f xs)) s)))
+    ∙ ap (λ ds. by_line ds borrowed) (ap (map f) k ∙ reported_by f lint style ignored in_file at_lines ignores found silencing)
+    ∙ ap (by_line (filter (is_reported lint style ignored ignores) (map f found)))
+    (l ∙ ap (filter (λ d. is_asked lint style ignored d.remark)) (r ∙ remarks_by file met_file met_lines (map f found) ignores (λ i. met i ∙ ap (λ xs. list_any (silences i) (map f xs)) s)))

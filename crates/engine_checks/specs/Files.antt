@@ -20,7 +20,7 @@ use Rattle.engine_formats.specs.Placing.{placed}
 use Rattle.engine_formats.specs.declared.remark.Remark.TheVariants as about
 use Rattle.engine_checks.specs.Codes.{has_comments}
 use Rattle.engine_checks.specs.Ignores.{Ignore, ignores_in}
-use Rattle.engine_checks.specs.Reported.{FileText, merged, diagnostic_in, file_reported}
+use Rattle.engine_checks.specs.Reported.{FileText, by_line, diagnostic_in, file_reported}
 
 -- a file that a command line reads, as diagnostics show it
 abbrev pub file_text : Line → SourceFile → FileText
@@ -61,7 +61,7 @@ lints_counted profile lint ignored file = if lint || has_comments ignored then p
 
 -- what is found in a rules file: its findings with these lints merged in, each after all that is found about its rule
 abbrev pub found_with : FileText → List PlacedFinding → List PlacedLint → List DiagnosticValue
-found_with file findings lints = merged (map (rule_diagnostic file) findings) (map (lint_diagnostic file) lints)
+found_with file findings lints = by_line (map (rule_diagnostic file) findings) (map (lint_diagnostic file) lints)
 
 -- all that is found in a rules file
 abbrev pub rules_found : Line → SourceFile → List DiagnosticValue

@@ -5,4 +5,3 @@ pub mod Files
 pub mod Outcomes
 pub mod Tables
 pub mod Laws
-pub mod Steps

@@ -1,10 +1,10 @@
 -- Which diagnostics of a file are reported, and which remarks on its comments.
 use Rattle.std.specs.Prelude.{ℕ, Bool, true, false, not, ◌==◌, ◌||◌, ◌&&◌, nat_lt, if◌then◌else◌, List, [], ◌∷◌, ◌++◌, filter, filter_map, Option, Some}
 use Rattle.std.specs.Prelude.{None, option_map}
-use Rattle.std.specs.List.{list_any}
+use Rattle.std.specs.List.{list_any, take_while}
 use Rattle.text_bytes.specs.Lines.{NumberedLine}
+use Rattle.text_bytes.specs.Texts.{skip_while}
 use Rattle.text_tables.specs.Texts.{Text, is_among, same_text}
-use Rattle.rule_remarks.specs.ByLine.{by_line}
 use Rattle.engine_reports.specs.Checks.{is_style}
 use Rattle.engine_formats.specs.Diagnostics.{DiagnosticValue}
 use Rattle.engine_formats.specs.Placing.{line_numbered}
@@ -90,13 +90,15 @@ comment_diagnostic file ignore remark = diagnostic_in file ignore.line ignore.li
 abbrev pub comment_diagnostics : FileText → List DiagnosticValue → List Ignore → List DiagnosticValue
 comment_diagnostics file found ignores = filter_map (λ ignore. option_map (comment_diagnostic file ignore) (remark_on found ignore)) ignores
 
--- diagnostics with others merged in by the lines with which they are reported
-abbrev pub merged : List DiagnosticValue → List DiagnosticValue → List DiagnosticValue
-merged found others = by_line (λ d. d.begins) found others
+-- diagnostics with others merged in by line: each of the others comes after all diagnostics for its line or for one
+-- before it
+abbrev pub by_line : List DiagnosticValue → List DiagnosticValue → List DiagnosticValue
+by_line [] others = others
+by_line (d ∷ ds) others = take_while (λ o. nat_lt o.begins d.begins) others ++ d ∷ by_line ds (skip_while (λ o. nat_lt o.begins d.begins) others)
 
 -- what is reported for a file, by what was found in it and the codes in its comments; what is said about these also
 -- has to be asked for
 unfoldable pub file_reported : Bool → Bool → List Text → FileText → List Ignore → List DiagnosticValue → List DiagnosticValue
 file_reported lint style ignored file ignores found =
-    merged (filter (is_reported lint style ignored ignores) found)
+    by_line (filter (is_reported lint style ignored ignores) found)
     (filter (λ d. is_asked lint style ignored d.remark) (comment_diagnostics file found ignores))

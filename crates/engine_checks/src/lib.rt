@@ -9,6 +9,7 @@
 #![tactic(auto)]
 
 mod asked;
+mod borrowed;
 mod by_line;
 mod checks;
 mod codes;

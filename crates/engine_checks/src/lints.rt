@@ -1,12 +1,12 @@
 //! The lints of a rules file, as diagnostics.
 ghost use Rattle.std.specs.Prelude.{◌≡◌, map, IfOk};
-ghost use Rattle.engine_formats.specs.Diagnostics.{shown};
 ghost use Rattle.engine_checks.specs.Files.{lint_diagnostic, lints_counted};
 
 use crate::asked::has_comments;
+use crate::borrowed::Borrowed;
 use crate::file_text::FileText;
 use crate::reported::Asked;
-use engine_formats::{Diagnostic, Remark};
+use engine_formats::Remark;
 use rule_file_lints::{PlacedLint, placed_lints};
 use std::alloc::{AllocError, Global};
 use text_bytes::SourceFile;
@@ -28,10 +28,10 @@ pub(crate) fn lints_counted(
 }
 
 /// A lint of a rules file as a diagnostic.
-fn lint_diagnostic<'r>(file: &'r FileText<'_>, lint: PlacedLint) -> Diagnostic<'r>
-    ensures { shown result ≡ lint_diagnostic file.now lint }
+fn lint_diagnostic<'r, 'w>(file: &'r FileText<'_>, lint: &'w PlacedLint) -> Borrowed<'r, 'w>
+    ensures { result ≡ lint_diagnostic file.now lint.now }
 {
-    Diagnostic {
+    Borrowed {
         name: file.name(),
         path: file.path(),
         source: file.line(lint.line),
@@ -40,17 +40,17 @@ fn lint_diagnostic<'r>(file: &'r FileText<'_>, lint: PlacedLint) -> Diagnostic<'
         column: lint.column,
         end: lint.end,
         remark: Remark::Lint(lint.lint),
-        word: lint.word,
+        word: lint.word.as_slice(),
     }
 }
 
 /// Lints of a rules file as diagnostics.
-pub(crate) fn lint_diagnostics<'r>(
+pub(crate) fn lint_diagnostics<'r, 'w>(
     alloc: Global,
     file: &'r FileText<'_>,
-    lints: Vec<PlacedLint>,
-) -> Result<Vec<Diagnostic<'r>>, AllocError>
-    ensures { IfOk result (λ found. map shown found.items ≡ map (lint_diagnostic file.now) lints.items) }
+    lints: &'w [PlacedLint],
+) -> Result<Vec<Borrowed<'r, 'w>>, AllocError>
+    ensures { IfOk result (λ found. found.items ≡ map (lint_diagnostic file.now) lints.now) }
 {
     let mut found = Vec::with_capacity(alloc, lints.len())?;
     for lint in lints {

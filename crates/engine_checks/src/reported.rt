@@ -4,6 +4,7 @@ ghost use Rattle.engine_formats.specs.Diagnostics.{shown};
 ghost use Rattle.engine_checks.specs.Tables.{is_reported_by};
 ghost use Rattle.engine_checks.specs.Reported.{file_reported, is_about_style, is_asked, is_lint};
 
+use crate::borrowed::Borrowed;
 use crate::by_line::by_line;
 use crate::comment_remarks::comment_remarks;
 use crate::file_text::FileText;
@@ -82,10 +83,13 @@ fn keep_reported<'a>(
 }
 
 /// Those of remarks on comments that are asked for.
-fn keep_asked<'r>(asked: &Asked<'_>, mut remarks: Vec<Diagnostic<'r>>) -> Vec<Diagnostic<'r>>
+fn keep_asked<'r, 'a>(
+    asked: &Asked<'_>,
+    mut remarks: Vec<Borrowed<'r, 'a>>,
+) -> Vec<Borrowed<'r, 'a>>
     ensures { result.items ≡ filter (λ r. is_asked asked.now.lint asked.now.style asked.now.ignored r.remark) remarks.entry.items }
 {
-    remarks.retain(|remark| is_asked(asked, remark.remark));
+    remarks.retain(|remark| is_asked(asked, remark.remark()));
     remarks
 }
 
@@ -104,5 +108,5 @@ pub(crate) fn file_reported<'r>(
     let met = Met::of(alloc, &found)?;
     let remarks = keep_asked(asked, comment_remarks(alloc, file, &met, ignores)?);
     let silenced = Silenced::by(alloc, ignores)?;
-    by_line(alloc, keep_reported(asked, &silenced, found), remarks)
+    by_line(alloc, keep_reported(asked, &silenced, found), &remarks)
 }

@@ -1,8 +1,6 @@
 //! What is reported for rules files.
 ghost use Rattle.std.specs.Prelude.{◌≡◌, flat_map, map, IfOk};
 ghost use Rattle.engine_formats.specs.Diagnostics.{shown};
-ghost use Rattle.rule_remarks.specs.Findings.{findings_as};
-ghost use Rattle.engine_checks.specs.Files.{rule_diagnostic};
 ghost use Rattle.engine_checks.specs.Tables.{rules_found_by, rules_reported_by};
 
 use crate::by_line::by_line;
@@ -11,31 +9,8 @@ use crate::lints::{lint_diagnostics, lints_counted};
 use crate::reads::FileRead;
 use crate::reported::{Asked, file_reported};
 use engine_formats::Diagnostic;
-use rule_places::placed_findings;
-use rule_remarks::file_remarks;
+use rule_remarks::file_findings;
 use std::alloc::{AllocError, Global};
-use text_bytes::Profile;
-
-/// All that is reported for the rules of a file by a profile, lints aside.
-#[tactic(auto, unfolding(rule_remarks::specs::Findings::findings_as))]
-fn messages_found<'r>(
-    alloc: Global,
-    asked: &Asked<'_>,
-    read: &'r FileRead<'_>,
-) -> Result<Vec<Diagnostic<'r>>, AllocError>
-    ensures { IfOk result (λ found. map shown found.items
-        ≡ map (rule_diagnostic read.now.text) (findings_as asked.now.profile asked.now.accounts read.now.file)) }
-{
-    let findings = placed_findings(alloc, asked.profile, read.file())?;
-    let found = rule_diagnostics(alloc, read.text(), findings)?;
-    match asked.profile {
-        Profile::Manual => Ok(found),
-        Profile::Udev => {
-            let remarks = file_remarks(alloc, &asked.accounts, read.file().bytes.as_slice())?;
-            by_line(alloc, found, rule_diagnostics(alloc, read.text(), remarks)?)
-        }
-    }
-}
 
 /// All that is found in a rules file: the findings about its rules, and after those of each rule its lints.
 fn rules_found<'r>(
@@ -43,12 +18,13 @@ fn rules_found<'r>(
     asked: &Asked<'_>,
     read: &'r FileRead<'_>,
 ) -> Result<Vec<Diagnostic<'r>>, AllocError>
-    ensures { IfOk result (λ found. map shown found.items
-        ≡ rules_found_by asked.now.profile asked.now.accounts asked.now.lint asked.now.ignored read.now) }
+    ensures { IfOk result (λ found. map shown found.items ≡ rules_found_by asked.now.profile asked.now.accounts asked.now.lint asked.now.ignored read.now) }
 {
-    let found = messages_found(alloc, asked, read)?;
+    let findings = file_findings(alloc, asked.profile, &asked.accounts, read.file())?;
+    let found = rule_diagnostics(alloc, read.text(), findings)?;
     let lints = lints_counted(alloc, asked, read.file())?;
-    by_line(alloc, found, lint_diagnostics(alloc, read.text(), lints)?)
+    let borrowed = lint_diagnostics(alloc, read.text(), &lints)?;
+    by_line(alloc, found, &borrowed)
 }
 
 /// What is reported for a rules file.

@@ -10,7 +10,9 @@
 mod account_lines;
 mod attributes;
 mod files;
+mod findings;
 mod laws;
+mod merging;
 mod order;
 mod rule_remarks;
 mod token_remarks;
@@ -18,6 +20,7 @@ mod values;
 
 pub use account_lines::read_accounts;
 pub use files::{file_remarks, remarks_of_lines};
+pub use findings::file_findings;
 pub use laws::{
     late_programs_follow_results, lines_never_fall, no_tokens_have_no_remarks,
     remarks_are_reported_for_rules, some_accounts, the_manual_reports_findings_alone,

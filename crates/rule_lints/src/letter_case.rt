@@ -1,12 +1,12 @@
 //! W4: a letter has a case in which the kernel does not write it.
 ghost use Rattle.std.specs.Prelude.{◌≡◌, ◌≤◌, length, not, option_map};
-ghost use Rattle.std.specs.List.{list_any, prefix_len};
+ghost use Rattle.std.specs.List.{list_all, list_any, prefix_len, zip};
 ghost use Rattle.rule_lints.specs.LetterCase.{begin_with, has_small_digit, is_byte_in, is_capital, is_many, is_miswritten, is_small_alias, items_in_place};
 ghost use Rattle.rule_lints.specs.LetterCase.{miswritten, writing_named, writing_of, writing_of_plain, writing_of_up, wrong_case};
 
 use crate::parts::{comparison_of, is_among};
 use rule_types::{Comparison, Part, PlainKey, UpKey};
-use text_core::Item;
+use text_core::{Item, Pattern};
 
 /// How the kernel writes a value.
 #[derive(Clone, Copy, Debug, PartialEq, Eq)]
@@ -103,16 +103,20 @@ fn writing_named(name: &[u8]) -> Option<Writing>
 fn miswritten(writing: Writing, wanted: &Comparison) -> Option<&[u8]>
     ensures { option_map (λ text. text.now) result ≡ miswritten writing wanted.now }
 {
-    let parts = wanted.choice.parts();
-    if !wanted.blind
-        && parts
-            .iter()
-            .any(|part| is_miswritten(writing, part.items()))
-    {
+    if !wanted.blind && some_miswritten(writing, wanted.choice.parts()) {
         Some(wanted.written.as_slice())
     } else {
         None
     }
+}
+
+/// Whether one of the alternatives has a letter that the kernel does not write so.
+fn some_miswritten(writing: Writing, parts: &[Pattern]) -> bool
+    ensures { result ≡ list_any (is_miswritten writing) parts.now }
+{
+    parts
+        .iter()
+        .any(|part| is_miswritten(writing, part.items()))
 }
 
 /// Whether an alternative has a letter that the kernel does not write so.
@@ -148,11 +152,16 @@ fn is_byte_in(first: u8, last: u8, item: &Item) -> bool
 fn begin_with(text: &[u8], items: &[Item]) -> bool
     ensures { result ≡ begin_with text.now items.now }
 {
-    text.len() <= items.len()
-        && text
-            .iter()
-            .zip(items)
-            .all(|(byte, item)| is_byte_in(*byte, *byte, item))
+    text.len() <= items.len() && all_in_place(text, items)
+}
+
+/// Whether each item is the byte at its place, as far as there are both.
+fn all_in_place(text: &[u8], items: &[Item]) -> bool
+    ensures { result ≡ list_all (λ pair. is_byte_in pair.0 pair.0 pair.1) (zip text.now items.now) }
+{
+    text.iter()
+        .zip(items)
+        .all(|(byte, item)| is_byte_in(*byte, *byte, item))
 }
 
 /// The items up to the first that takes any bytes.

@@ -12,7 +12,7 @@ use crate::parts::{comparison_of, is_equal};
 use crate::texts::{before_first, has_byte, rest_after_first, rest_after_last};
 use rule_types::{Comparison, Part, PlainKey};
 use text_bytes::{begins_with, ends_in};
-use text_core::Item;
+use text_core::{Item, Pattern};
 
 /// The value with which W11 is reported.
 pub(crate) fn expression(part: &Part) -> Option<&[u8]>
@@ -163,12 +163,14 @@ fn some_met_by_all(wanted: Option<&Comparison>) -> bool
 fn is_met_by_all(wanted: &Comparison) -> bool
     ensures { result ≡ is_met_by_all wanted.now }
 {
-    is_equal(wanted.operator)
-        && wanted
-            .choice
-            .parts()
-            .iter()
-            .any(|pattern| take_all(pattern.items()))
+    is_equal(wanted.operator) && some_take_all(wanted.choice.parts())
+}
+
+/// Whether one of the patterns takes any text.
+fn some_take_all(patterns: &[Pattern]) -> bool
+    ensures { result ≡ list_any take_all patterns.now }
+{
+    patterns.iter().any(|pattern| take_all(pattern.items()))
 }
 
 /// Whether items take any text.

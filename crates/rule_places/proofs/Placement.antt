@@ -170,16 +170,17 @@ item_kept by line (Err fault) w e = cc
 all_tokens : (by : Profile) (line : List ℕ) (items : List Item) (parts : List WrittenPart) → parts_of by line items ≡ Ok parts → as_items (tokens_in parts) ≡ items
 all_tokens by line [] [] e = refl
 all_tokens by line [] (w ∷ parts) e = cc
-all_tokens by line (i ∷ items) parts e = on (part_of_item by line i) (parts_of by line items) refl refl e
+all_tokens by line (i ∷ items) parts e = on (part_of_item by line i) (parts_of by line items) refl refl e (λ more g. all_tokens by line items more g)
   where
-    on : (x : Result WrittenPart Spot) (rest : Result (List WrittenPart) Spot) → part_of_item by line i ≡ x → parts_of by line items ≡ rest → with_part x rest ≡ Ok parts → as_items (tokens_in parts) ≡ i ∷ items
-    on (Ok w) (Ok more) f g h =
+    on : (x : Result WrittenPart Spot) (rest : Result (List WrittenPart) Spot) → part_of_item by line i ≡ x → parts_of by line items ≡ rest → with_part x rest ≡ Ok parts
+        → ((more : List WrittenPart) → parts_of by line items ≡ Ok more → as_items (tokens_in more) ≡ items) → as_items (tokens_in parts) ≡ i ∷ items
+    on (Ok w) (Ok more) f g h others =
         let same : parts ≡ w ∷ more = cc in
         ap (λ (ws : List WrittenPart). as_items (tokens_in ws)) same
-        ∙ ap (λ (is : List Item). as_item w.token ∷ is) (all_tokens by line items more g)
+        ∙ ap (λ (is : List Item). as_item w.token ∷ is) (others more g)
         ∙ ap (λ (j : Item). j ∷ items) (item_kept by line i w f)
-    on (Ok w) (Err wrong) f g h = cc
-    on (Err wrong) rest f g h = cc
+    on (Ok w) (Err wrong) f g h others = cc
+    on (Err wrong) rest f g h others = cc
 
 -- how a line is written
 commas_in_place : (line gap : List ℕ) (t : Placed) → IsSlice line t → AllPresent line (comma_findings gap t)

@@ -19,9 +19,9 @@ use std::alloc::{AllocError, Global};
 pub fn pair_findings(
     alloc: Global,
     accounts: &Accounts,
-    tokens: &[Token<'_>],
+    tokens: &[&Token<'_>],
 ) -> Result<Vec<PairFinding>, AllocError>
-    ensures { IfOk result (λ reported. reported.items ≡ pair_findings accounts.now tokens.now) }
+    ensures { IfOk result (λ reported. reported.items ≡ pair_findings accounts.now (map (λ t. t.now) tokens.now)) }
 {
     let said = all_said(alloc, accounts, tokens)?;
     reported_for(alloc, &said)
@@ -31,9 +31,9 @@ pub fn pair_findings(
 fn all_said(
     alloc: Global,
     accounts: &Accounts,
-    tokens: &[Token<'_>],
+    tokens: &[&Token<'_>],
 ) -> Result<Vec<Option<Said>>, AllocError>
-    ensures { IfOk result (λ said. said.items ≡ map (said_of accounts.now) tokens.now) }
+    ensures { IfOk result (λ said. said.items ≡ map (said_of accounts.now) (map (λ t. t.now) tokens.now)) }
 {
     let mut said = Vec::with_capacity(alloc, tokens.len())?;
     for token in tokens {

@@ -36,7 +36,10 @@ use Rattle.rule_types.specs.declared.part.Part.{Part}
 use Rattle.rule_types.specs.declared.part.Part.TheVariants as part
 use Rattle.rule_core.specs.Effects.{lacks_effect}
 use Rattle.rule_core.specs.Ends.{abandoned}
-use Rattle.rule_core.specs.Drafts.{Draft, assignment_in, draft, draft_of, draft_with, items_as, most_bytes, part_of_item, parts_of, tokens_of, with_part}
+use Rattle.rule_core.specs.Drafts.{Draft, assignment_in, draft, draft_of, draft_with, items_as, most_bytes, part_of_item, parts_of, with_part, written_part}
+use Rattle.rule_core.specs.Spots.{whole_spot}
+use Rattle.rule_core.specs.Written.{WrittenPart, parts_in, tokens_in}
+use Rattle.rule_core.specs.declared.spot.Spot.{Spot}
 use Rattle.rule_core.specs.Turns.{assignment_turns, assignments_by_turn, of_turn, turn_of_assignment}
 use Rattle.rule_types.specs.Rules.{Rule}
 use Rattle.rule_core.specs.Rules.{Reading, file_rules, rules_unless, line_rules, names_of, reading_of, readings_of, set_of_as}
@@ -237,15 +240,23 @@ part_fits profile t =
 
 -- ---- a rule
 
-item_fits : (profile : Profile) (line : List ℕ) (i : Item) → ResultFits (part_of_item profile line i)
-item_fits profile line (Ok t) = part_fits profile t
+abbrev WrittenFits : Result WrittenPart Spot → Type 0
+WrittenFits (Ok w) = PartFits w.part
+WrittenFits (Err wrong) = ⊤
+
+written_fits : (t : Placed) (p : Result Part Finding) → ResultFits p → WrittenFits (written_part t p)
+written_fits t (Ok p) h = h
+written_fits t (Err found) h = tt
+
+item_fits : (profile : Profile) (line : List ℕ) (i : Item) → WrittenFits (part_of_item profile line i)
+item_fits profile line (Ok t) = written_fits t (part_of profile t) (part_fits profile t)
 item_fits profile line (Err fault) = tt
 
-abbrev PartsFit : Result (List Part) Finding → Type 0
-PartsFit (Ok parts) = Each PartFits parts
+abbrev PartsFit : Result (List WrittenPart) Spot → Type 0
+PartsFit (Ok parts) = Each PartFits (parts_in parts)
 PartsFit (Err wrong) = ⊤
 
-with_fits : (p : Result Part Finding) (rest : Result (List Part) Finding) → ResultFits p → PartsFit rest → PartsFit (with_part p rest)
+with_fits : (p : Result WrittenPart Spot) (rest : Result (List WrittenPart) Spot) → WrittenFits p → PartsFit rest → PartsFit (with_part p rest)
 with_fits (Ok p) (Ok parts) a b = (a, b)
 with_fits (Ok p) (Err wrong) a b = tt
 with_fits (Err wrong) rest a b = tt
@@ -276,23 +287,23 @@ sorted_fit : (profile : Profile) (sets : List Assignment) → SetsFit sets → S
 sorted_fit profile sets h =
     each_flat_map (λ (a : Assignment). ChangeFits a.change) (of_turn (turn_of_assignment profile) sets) (λ t. each_filter (λ (a : Assignment). ChangeFits a.change) (λ x. turn_of_assignment profile x == t) sets h) (range_with_len 0 (assignment_turns profile))
 
-abbrev DraftFits : Result Draft Finding → Type 0
-DraftFits (Ok d) = SetsFit d.sets
+abbrev DraftFits : Result Draft Spot → Type 0
+DraftFits (Ok d) = Each PartFits (parts_in d.parts)
 DraftFits (Err wrong) = ⊤
 
-draft_with_fits : (profile : Profile) (line : List ℕ) (parts : Result (List Part) Finding) → PartsFit parts → DraftFits (draft_with profile line parts)
-draft_with_fits profile line (Ok parts) h = by (lacks_effect profile (tokens_of (items_as profile line)))
+draft_with_fits : (profile : Profile) (line : List ℕ) (parts : Result (List WrittenPart) Spot) → PartsFit parts → DraftFits (draft_with profile line parts)
+draft_with_fits profile line (Ok parts) h = by (lacks_effect profile (tokens_in parts))
   where
-    by : (b : Bool) → DraftFits (if b then Err (finding RuleWithoutEffect []) else Ok (draft profile line parts))
+    by : (b : Bool) → DraftFits (if b then Err (whole_spot RuleWithoutEffect line) else Ok (draft profile line parts))
     by true = tt
-    by false = sorted_fit profile (filter_map assignment_in parts) (assignments_fit parts h)
+    by false = h
 draft_with_fits profile line (Err wrong) h = tt
 
 draft_fits : (profile : Profile) (line : List ℕ) → DraftFits (draft_of profile line)
 unfolding draft_of
 draft_fits profile line = by (nat_lt (most_bytes profile) (length line))
   where
-    by : (b : Bool) → DraftFits (if b then Err (finding LineTooLong []) else draft_with profile line (parts_of profile line (items_as profile line)))
+    by : (b : Bool) → DraftFits (if b then Err (whole_spot LineTooLong line) else draft_with profile line (parts_of profile line (items_as profile line)))
     by true = tt
     by false = draft_with_fits profile line (parts_of profile line (items_as profile line)) (parts_fit profile line (items_as profile line))
 
@@ -300,15 +311,15 @@ draft_fits profile line = by (nat_lt (most_bytes profile) (length line))
 abbrev pub RulesFit : List Rule → Type 0
 RulesFit rules = Each (λ (r : Rule). SetsFit r.sets) rules
 
-line_fits : (name : List ℕ) (line : ℕ) (read : Result Draft Finding) (l : Landing) → DraftFits read → RulesFit (line_rules name line read l)
-line_fits name line (Ok d) l h = (h, tt)
-line_fits name line (Err wrong) l h = tt
+line_fits : (profile : Profile) (name : List ℕ) (line : ℕ) (read : Result Draft Spot) (l : Landing) → DraftFits read → RulesFit (line_rules profile name line read l)
+line_fits profile name line (Ok d) l h = (sorted_fit profile (filter_map assignment_in (parts_in d.parts)) (assignments_fit (parts_in d.parts) h), tt)
+line_fits profile name line (Err wrong) l h = tt
 
-lines_fit : (profile : Profile) (name : List ℕ) (lines : List NumberedLine) (ls : List Landing) → RulesFit (flat_map (λ (x : Reading × Landing). line_rules name x.0.line x.0.read x.1) (zip (map (reading_of profile) lines) ls))
+lines_fit : (profile : Profile) (name : List ℕ) (lines : List NumberedLine) (ls : List Landing) → RulesFit (flat_map (λ (x : Reading × Landing). line_rules profile name x.0.line x.0.read x.1) (zip (map (reading_of profile) lines) ls))
 lines_fit profile name [] ls = tt
 lines_fit profile name (l ∷ lines) [] = tt
 lines_fit profile name (l ∷ lines) (landing ∷ ls) =
-    each_append (λ (r : Rule). SetsFit r.sets) (line_rules name l.number (draft_of profile l.text) landing) _ (line_fits name l.number (draft_of profile l.text) landing (draft_fits profile l.text)) (lines_fit profile name lines ls)
+    each_append (λ (r : Rule). SetsFit r.sets) (line_rules profile name l.number (draft_of profile l.text) landing) _ (line_fits profile name l.number (draft_of profile l.text) landing (draft_fits profile l.text)) (lines_fit profile name lines ls)
 
 file_fits : (profile : Profile) (f : SourceFile) → RulesFit (file_rules profile f)
 file_fits profile f = by (abandoned profile f.bytes)

@@ -49,6 +49,9 @@ turn_failed f start now xs i x e h g n w =
 pub all_yielded : {X Y : Type 0} (f : X → List Y) (start now : List Y) (ys xs : List X) → now ≡ start ++ flat_map f ys → map (λ (x : X). x) ys ≡ xs → now ≡ start ++ flat_map f xs
 all_yielded {X = X} f start now ys xs n e = n ∙ ap (λ (zs : List X). start ++ flat_map f zs) (sym (map-id ys) ∙ e)
 
+pub all_added : {X : Type 0} (start now ys xs : List X) → now ≡ start ++ ys → map (λ (x : X). x) ys ≡ xs → now ≡ start ++ xs
+all_added {X = X} start now ys xs n e = n ∙ ap (λ (zs : List X). start ++ zs) (sym (map-id ys) ∙ e)
+
 -- nothing before
 pub too_many_from_none : (start more : List Rule) (e : RulesFault) → start ≡ [] → FailsAt start more e → e ≡ TooMany → 2 ^ 24 < tokens_in more
 too_many_from_none start more TooMany s h t = subst (λ (x : List Rule). 2 ^ 24 < tokens_in (x ++ more)) s h

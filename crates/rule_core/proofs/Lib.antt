@@ -9,3 +9,4 @@ mod Adding
 mod Filing
 mod Passing
 mod Counting
+mod Cuts

@@ -1,18 +1,13 @@
 -- A joined line read as a rule, before its jumps are followed.
-use Rattle.std.specs.Prelude.{ℕ, nat_lt, if◌then◌else◌, List, [], ◌∷◌, ◌++◌, drop, filter_map, length, Option, Some, None, Result, Ok, Err}
+use Rattle.std.specs.Prelude.{ℕ, nat_lt, if◌then◌else◌, List, [], ◌∷◌, ◌++◌, drop, filter_map, length, map, Option, Some, None, option_map, Result, Ok, Err}
 use Rattle.std.specs.List.{prefix_len}
-use Rattle.std.specs.Result.{result_ok}
 use Rattle.text_bytes.specs.Texts.{first, last}
 use Rattle.text_bytes.specs.declared.profile.Profile.{Profile}
 use Rattle.text_bytes.specs.declared.profile.Profile.TheVariants.{Manual, Udev}
-use Rattle.file_messages.specs.declared.message.MessageKind.TheVariants.{BadSyntax, BadPrefix, LineTooLong, GivenTwice, RuleWithoutEffect}
+use Rattle.file_messages.specs.declared.message.MessageKind.TheVariants.{LineTooLong, GivenTwice, RuleWithoutEffect}
 use Rattle.rule_tokens.specs.Grammar.{Item, Placed, is_gap_byte}
 use Rattle.rule_tokens.specs.Lines.{items_from}
-use Rattle.rule_tokens.specs.Prefixes.{letters_at}
-use Rattle.rule_tokens.specs.declared.kinds.TokenFaultKind.{TokenFaultKind}
-use Rattle.rule_tokens.specs.declared.kinds.TokenFaultKind.TheVariants.{Syntax, Prefix}
 use Rattle.rule_parts.specs.Parts.{part_of}
-use Rattle.rule_parts.specs.Values.{finding}
 use Rattle.rule_types.specs.declared.part.Act.{Act}
 use Rattle.rule_types.specs.declared.part.Assignment.{Assignment}
 use Rattle.rule_types.specs.declared.part.Comparison.{Comparison}
@@ -22,20 +17,20 @@ use Rattle.rule_types.specs.declared.part.UpMatch.{UpMatch}
 use Rattle.rule_parts.specs.declared.finding.Finding.{Finding}
 use Rattle.rule_types.specs.declared.part.Part.TheVariants as part
 use Rattle.rule_core.specs.Effects.{lacks_effect}
+use Rattle.rule_core.specs.Spots.{part_spot, spot, token_spot, value_start, whole_spot}
 use Rattle.rule_core.specs.Style.{style_findings}
 use Rattle.rule_core.specs.Turns.{acts_by_turn, assignments_by_turn}
+use Rattle.rule_core.specs.Written.{WrittenPart, parts_in, tokens_in}
+use Rattle.rule_core.specs.declared.names.NamePlace.{NamePlace}
+use Rattle.rule_core.specs.declared.spot.Spot.{Spot}
 
--- a rule as its line alone gives it: its names for jumps, its parts in the order of evaluation, and the findings
--- about it
+-- a rule as its line alone gives it: its names for jumps, its tokens with the parts that they are, in written order,
+-- and the findings about it
 pub record Draft : Type 0 where
-  pub label : Option (List ℕ)
-  pub goto : Option (List ℕ)
-  pub plain : List PlainMatch
-  pub up : List UpMatch
-  pub acts : List Act
-  pub results : List Comparison
-  pub sets : List Assignment
-  pub findings : List Finding
+  pub label : Option NamePlace
+  pub goto : Option NamePlace
+  pub parts : List WrittenPart
+  pub findings : List Spot
 
 -- the place in a line where its tokens begin: udev skips commas and blanks in front
 abbrev pub first_place : Profile → List ℕ → ℕ
@@ -46,30 +41,26 @@ first_place Udev line = prefix_len is_gap_byte line
 abbrev pub items_as : Profile → List ℕ → List Item
 items_as by line = items_from (first_place by line) line
 
--- what is wrong with a part of a line, given from its first byte on, that is not a token
-abbrev pub token_finding : TokenFaultKind → List ℕ → Finding
-token_finding Syntax text = finding BadSyntax text
-token_finding Prefix text = finding BadPrefix (letters_at text)
+-- a token with the part of a rule that it is, or the finding about it
+abbrev pub written_part : Placed → Result Part Finding → Result WrittenPart Spot
+written_part t (Ok p) = Ok (record { token = t; part = p })
+written_part t (Err found) = Err (part_spot found.kind t)
 
--- an item of a line as a part of a rule
-abbrev pub part_of_item : Profile → List ℕ → Item → Result Part Finding
-part_of_item by line (Ok t) = part_of by t
-part_of_item by line (Err fault) = Err (token_finding fault.kind (drop fault.at line))
+-- an item of a line as a token of a rule
+abbrev pub part_of_item : Profile → List ℕ → Item → Result WrittenPart Spot
+part_of_item by line (Ok t) = written_part t (part_of by t)
+part_of_item by line (Err fault) = Err (token_spot fault.kind fault.at line)
 
--- a part before others; of what is wrong the first
-abbrev pub with_part : Result Part Finding → Result (List Part) Finding → Result (List Part) Finding
-with_part (Ok p) (Ok parts) = Ok (p ∷ parts)
-with_part (Ok p) (Err wrong) = Err wrong
+-- a token before others; of what is wrong the first
+abbrev pub with_part : Result WrittenPart Spot → Result (List WrittenPart) Spot → Result (List WrittenPart) Spot
+with_part (Ok w) (Ok parts) = Ok (w ∷ parts)
+with_part (Ok w) (Err wrong) = Err wrong
 with_part (Err wrong) rest = Err wrong
 
--- the parts of the items of a line, or what is wrong with the first item that is not one
-abbrev pub parts_of : Profile → List ℕ → List Item → Result (List Part) Finding
+-- the tokens that are the items of a line, each with its part, or what is wrong with the first item that is none
+abbrev pub parts_of : Profile → List ℕ → List Item → Result (List WrittenPart) Spot
 parts_of by line [] = Ok []
 parts_of by line (i ∷ items) = with_part (part_of_item by line i) (parts_of by line items)
-
--- the tokens of items
-abbrev pub tokens_of : List Item → List Placed
-tokens_of items = filter_map result_ok items
 
 -- what a part is, if it is that
 abbrev pub plain_in : Part → Option PlainMatch
@@ -100,53 +91,74 @@ abbrev pub goto_in : Part → Option (List ℕ)
 goto_in (part.Goto name) = Some name
 goto_in _ = None
 
+-- the acts and the assignments among parts, in the order of evaluation
+abbrev pub acts_of : List Part → List Act
+acts_of parts = acts_by_turn (filter_map act_in parts)
+
+abbrev pub sets_of : Profile → List Part → List Assignment
+sets_of by parts = assignments_by_turn by (filter_map assignment_in parts)
+
+-- a name at the value of its token
+abbrev pub name_place : Placed → List ℕ → NamePlace
+name_place t name = record { name = name; start = value_start t; size = length t.parts.value }
+
+-- the name that a label gives, and that of a jump
+abbrev pub label_at : WrittenPart → Option NamePlace
+label_at w = option_map (name_place w.token) (label_in w.part)
+
+abbrev pub goto_at : WrittenPart → Option NamePlace
+goto_at w = option_map (name_place w.token) (goto_in w.part)
+
 -- the label that counts of those that a rule gives: the first, for udev the last
-abbrev pub label_among : Profile → List (List ℕ) → Option (List ℕ)
+abbrev pub label_among : Profile → List NamePlace → Option NamePlace
 label_among Manual names = first names
 label_among Udev names = last names
 
+-- a name that does not count is reported at its value
+abbrev pub given_twice : NamePlace → Spot
+given_twice n = spot GivenTwice n.name n.start n.size
+
 -- a name, after those that were given before it
-abbrev pub given_again : List (List ℕ) → List ℕ → List Finding
+abbrev pub given_again : List NamePlace → NamePlace → List Spot
 given_again [] name = []
-given_again (other ∷ names) name = finding GivenTwice name ∷ []
+given_again (other ∷ names) name = given_twice name ∷ []
 
 -- a name that is lost to a later one, if there is one
-abbrev pub lost_name : Option (List ℕ) → List Finding
+abbrev pub lost_name : Option NamePlace → List Spot
 lost_name None = []
-lost_name (Some name) = finding GivenTwice name ∷ []
+lost_name (Some name) = given_twice name ∷ []
 
 -- a label, after those that were given before it: the one that does not count is reported
-abbrev pub label_again : Profile → List (List ℕ) → List ℕ → List Finding
+abbrev pub label_again : Profile → List NamePlace → NamePlace → List Spot
 label_again Manual names name = given_again names name
 label_again Udev names name = lost_name (last names)
 
--- a part after others: a second label is one too many, and so is a second jump
-abbrev pub again_in : Profile → List Part → Part → List Finding
-again_in by before (part.Label name) = label_again by (filter_map label_in before) name
-again_in by before (part.Goto name) = given_again (filter_map goto_in before) name
-again_in by before _ = []
+-- a token that is this part, after others: a second label is one too many, and so is a second jump
+abbrev pub part_again : Profile → List WrittenPart → Placed → Part → List Spot
+part_again by before t (part.Label name) = label_again by (filter_map label_at before) (name_place t name)
+part_again by before t (part.Goto name) = given_again (filter_map goto_at before) (name_place t name)
+part_again by before t _ = []
 
--- the names that are given again among parts after others, in written order
-abbrev pub given_again_after : Profile → List Part → List Part → List Finding
+abbrev pub again_in : Profile → List WrittenPart → WrittenPart → List Spot
+again_in by before w = part_again by before w.token w.part
+
+-- the names that are given again among tokens after others, in written order
+abbrev pub given_again_after : Profile → List WrittenPart → List WrittenPart → List Spot
 given_again_after by before [] = []
-given_again_after by before (p ∷ parts) = again_in by before p ++ given_again_after by (before ++ p ∷ []) parts
+given_again_after by before (w ∷ parts) = again_in by before w ++ given_again_after by (before ++ w ∷ []) parts
 
--- the draft of the parts and the tokens of a line: of several jumps the first counts
-abbrev pub draft : Profile → List ℕ → List Part → Draft
+-- the draft of the tokens of a line: of several jumps the first counts
+abbrev pub draft : Profile → List ℕ → List WrittenPart → Draft
 draft by line parts = record {
-  label = label_among by (filter_map label_in parts);
-  goto = first (filter_map goto_in parts);
-  plain = filter_map plain_in parts;
-  up = filter_map up_in parts;
-  acts = acts_by_turn (filter_map act_in parts);
-  results = filter_map result_in parts;
-  sets = assignments_by_turn by (filter_map assignment_in parts);
-  findings = given_again_after by [] parts ++ style_findings by line (tokens_of (items_as by line));
+  label = label_among by (filter_map label_at parts);
+  goto = first (filter_map goto_at parts);
+  parts = parts;
+  findings = given_again_after by [] parts ++ style_findings by line (tokens_in parts);
 }
 
--- the draft of parts that were read, or what is wrong with them: udev also drops a rule without effect
-abbrev pub draft_with : Profile → List ℕ → Result (List Part) Finding → Result Draft Finding
-draft_with by line (Ok parts) = if lacks_effect by (tokens_of (items_as by line)) then Err (finding RuleWithoutEffect []) else Ok (draft by line parts)
+-- the draft of tokens that were read, or what is wrong with them: udev also drops a rule without effect
+abbrev pub draft_with : Profile → List ℕ → Result (List WrittenPart) Spot → Result Draft Spot
+draft_with by line (Ok parts) = if lacks_effect by (tokens_in parts) then Err (whole_spot RuleWithoutEffect line) else Ok (draft by line parts)
 draft_with by line (Err wrong) = Err wrong
 
 -- the most bytes of a joined line
@@ -155,5 +167,5 @@ most_bytes Manual = 16384
 most_bytes Udev = 16383
 
 -- a joined line read as a rule: its draft, or what is wrong with it, first its length
-unfoldable pub draft_of : Profile → List ℕ → Result Draft Finding
-draft_of by line = if nat_lt (most_bytes by) (length line) then Err (finding LineTooLong []) else draft_with by line (parts_of by line (items_as by line))
+unfoldable pub draft_of : Profile → List ℕ → Result Draft Spot
+draft_of by line = if nat_lt (most_bytes by) (length line) then Err (whole_spot LineTooLong line) else draft_with by line (parts_of by line (items_as by line))

@@ -7,10 +7,11 @@ use Rattle.text_bytes.specs.declared.profile.Profile.{Profile}
 use Rattle.text_bytes.specs.declared.profile.Profile.TheVariants.{Manual}
 use Rattle.rule_tokens.specs.Grammar.{AllAre, Placed}
 use Rattle.rule_parts.specs.Parts.{is_read_as_assign}
-use Rattle.rule_parts.specs.Values.{finding}
 use Rattle.rule_types.specs.declared.part.Part.{Part}
 use Rattle.rule_types.specs.declared.part.Part.TheVariants as part
-use Rattle.rule_core.specs.Drafts.{act_in, assignment_in, draft, given_again_after, goto_in, label_in, plain_in, result_in, up_in}
+use Rattle.rule_core.specs.Drafts.{act_in, acts_of, assignment_in, given_again_after, goto_in, label_in, plain_in, result_in, sets_of, up_in}
+use Rattle.rule_core.specs.Spots.{value_spot}
+use Rattle.rule_core.specs.Written.{WrittenPart}
 use Rattle.rule_core.specs.Style.{between}
 use Rattle.rule_core.specs.Turns.{of_turn, turn_of_act, turn_of_assignment}
 
@@ -24,10 +25,10 @@ pub record IsInOrder {X : Type 0} (turn : X → ℕ) (written sorted : List X) :
   pub each : (t : ℕ) → of_turn turn sorted t ≡ of_turn turn written t
   pub rises : RisesFrom turn 0 sorted
 
--- the acts and the assignments of each draft are in the order of evaluation
-pub record AreInOrder (by : Profile) (line : List ℕ) (parts : List Part) : Type 0 where
-  pub acts : IsInOrder turn_of_act (filter_map act_in parts) (draft by line parts).acts
-  pub sets : IsInOrder (turn_of_assignment by) (filter_map assignment_in parts) (draft by line parts).sets
+-- the acts and the assignments among parts are put in the order of evaluation
+pub record AreInOrder (by : Profile) (parts : List Part) : Type 0 where
+  pub acts : IsInOrder turn_of_act (filter_map act_in parts) (acts_of parts)
+  pub sets : IsInOrder (turn_of_assignment by) (filter_map assignment_in parts) (sets_of by parts)
 
 -- each part is in one of five lists, or gives a label or a jump
 abbrev pub NoneIsLost : List Part → Type 0
@@ -41,19 +42,19 @@ GivesAgain (part.Label earlier) (part.Label later) name = later ≡ name
 GivesAgain (part.Goto earlier) (part.Goto later) name = later ≡ name
 GivesAgain _ _ _ = ⊥
 
--- one of the parts has this part's key, and this part gives the name
-pub record IsGivenAmong (parts : List Part) (p : Part) (name : List ℕ) : Type 0 where
-  pub before : List Part
-  pub earlier : Part
-  pub following : List Part
+-- one of the tokens has this token's key, and this token gives the name
+pub record IsGivenAmong (parts : List WrittenPart) (w : WrittenPart) (name : List ℕ) : Type 0 where
+  pub before : List WrittenPart
+  pub earlier : WrittenPart
+  pub following : List WrittenPart
   pub cut : parts ≡ before ++ earlier ∷ following
-  pub again : GivesAgain earlier p name
+  pub again : GivesAgain earlier.part w.part name
 
--- By the manual, a part after others is reported as one given twice exactly if one with its key is among these, and
--- otherwise nothing is said.
-pub record IsReportedWhereAgain (parts : List Part) (p : Part) : Type 0 where
-  pub again : (name : List ℕ) → IsGivenAmong parts p name → given_again_after Manual [] (parts ++ p ∷ []) ≡ given_again_after Manual [] parts ++ finding GivenTwice name ∷ []
-  pub once : ((name : List ℕ) → IsGivenAmong parts p name → ⊥) → given_again_after Manual [] (parts ++ p ∷ []) ≡ given_again_after Manual [] parts
+-- By the manual, a token after others is reported at its value as one given twice exactly if one with its key is among
+-- these, and otherwise nothing is said.
+pub record IsReportedWhereAgain (parts : List WrittenPart) (w : WrittenPart) : Type 0 where
+  pub again : (name : List ℕ) → IsGivenAmong parts w name → given_again_after Manual [] (parts ++ w ∷ []) ≡ given_again_after Manual [] parts ++ value_spot GivenTwice name w.token ∷ []
+  pub once : ((name : List ℕ) → IsGivenAmong parts w name → ⊥) → given_again_after Manual [] (parts ++ w ∷ []) ≡ given_again_after Manual [] parts
 
 -- blanks, one comma, and blanks, of which there is at least one
 pub record IsPlainGap (gap : List ℕ) : Type 0 where

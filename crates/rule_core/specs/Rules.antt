@@ -1,17 +1,20 @@
 -- The rules of files, and the messages about them.
-use Rattle.std.specs.Prelude.{ℕ, if◌then◌else◌, List, [], ◌∷◌, ◌++◌, map, zip, flat_map, Option, Some, None, Result, Ok, Err}
-use Rattle.std.specs.Option.{unwrap_or}
+use Rattle.std.specs.Prelude.{ℕ, if◌then◌else◌, List, [], ◌∷◌, ◌++◌, map, zip, filter_map, flat_map, Option, Some, None, option_map, Result, Ok, Err}
 use Rattle.file_messages.specs.declared.message.Message.{Message}
+use Rattle.file_messages.specs.declared.message.MessageKind.{MessageKind}
 use Rattle.file_messages.specs.declared.message.MessageKind.TheVariants.{NoLaterLabel, OpenAtEnd, LabelUnused, FileAbandoned}
 use Rattle.text_bytes.specs.declared.profile.Profile.{Profile}
 use Rattle.text_bytes.specs.declared.profile.Profile.TheVariants.{Manual}
 use Rattle.text_bytes.specs.declared.source_file.SourceFile.{SourceFile}
 use Rattle.rule_core.specs.Ends.{abandoned}
 use Rattle.rule_core.specs.Lines.{NumberedLine, joined_lines}
-use Rattle.rule_parts.specs.Values.{finding}
-use Rattle.rule_parts.specs.declared.finding.Finding.{Finding}
 use Rattle.rule_types.specs.Rules.{Rule}
-use Rattle.rule_core.specs.Drafts.{Draft, draft_of}
+use Rattle.rule_core.specs.Drafts.{Draft, acts_of, draft_of, plain_in, result_in, sets_of, up_in}
+use Rattle.rule_core.specs.Spots.{spot}
+use Rattle.rule_core.specs.Written.{parts_in}
+use Rattle.rule_core.specs.declared.names.NamePlace.{NamePlace}
+use Rattle.rule_core.specs.declared.spot.Spot.{Spot}
+use Rattle.text_bytes.specs.Texts.{word_of}
 use Rattle.rule_jumps.specs.Jumps.{Names, landings}
 use Rattle.rule_jumps.specs.declared.jumps.Landing.{Landing}
 
@@ -23,69 +26,87 @@ pub record ReadRules : Type 0 where
 -- a joined line, read as a rule
 pub record Reading : Type 0 where
   pub line : ℕ
-  pub read : Result Draft Finding
+  pub text : List ℕ
+  pub read : Result Draft Spot
 
 -- a joined line, read as a rule
 abbrev pub reading_of : Profile → NumberedLine → Reading
-reading_of by l = record { line = l.number; read = draft_of by l.text }
+reading_of by l = record { line = l.number; text = l.text; read = draft_of by l.text }
 
 -- the joined lines of a file, read as rules
 abbrev pub readings_of : Profile → SourceFile → List Reading
 readings_of by file = map (reading_of by) (joined_lines by file.bytes).lines
 
+-- a name, if there is one, without its place
+abbrev pub name_of : Option NamePlace → Option (List ℕ)
+name_of given = option_map (λ n. n.name) given
+
 -- the names for jumps of a line; one that is not a rule has none
-abbrev pub names_of : Result Draft Finding → Names
-names_of (Ok d) = record { label = d.label; goto = d.goto }
+abbrev pub names_of : Result Draft Spot → Names
+names_of (Ok d) = record { label = name_of d.label; goto = name_of d.goto }
 names_of (Err wrong) = record { label = None; goto = None }
 
 -- lines with what becomes of their jumps
 abbrev pub landed : List Reading → List (Reading × Landing)
 landed readings = zip readings (landings (map (λ r. names_of r.read) readings))
 
--- the findings about a rule: first about its jump, and about its label last
-abbrev pub findings_of : Draft → Landing → List Finding
-findings_of d l =
-    (if l.lost then finding NoLaterLabel (unwrap_or d.goto []) ∷ [] else [])
-    ++ (d.findings
-    ++ (if l.unused then finding LabelUnused (unwrap_or d.label []) ∷ [] else []))
+-- a name at its value, empty if there is none
+abbrev pub name_spot : MessageKind → Option NamePlace → Spot
+name_spot kind None = spot kind [] 0 0
+name_spot kind (Some n) = spot kind n.name n.start n.size
 
--- a finding about a line of a file, as a message
-abbrev pub message_at : List ℕ → ℕ → Finding → Message
-message_at name line found = record { file = name; line = line; kind = found.kind; word = found.word }
+-- the findings about a rule: first about its jump, and about its label last
+abbrev pub findings_of : Draft → Landing → List Spot
+findings_of d l =
+    (if l.lost then name_spot NoLaterLabel d.goto ∷ [] else [])
+    ++ (d.findings
+    ++ (if l.unused then name_spot LabelUnused d.label ∷ [] else []))
+
+-- the findings about a line
+abbrev pub line_findings : Result Draft Spot → Landing → List Spot
+line_findings (Ok d) l = findings_of d l
+line_findings (Err wrong) l = wrong ∷ []
+
+-- what is found, reported for a line of a file with what a message keeps of a text
+abbrev pub message : List ℕ → ℕ → MessageKind → List ℕ → Message
+message name line kind text = record { file = name; line = line; kind = kind; word = word_of text }
+
+-- a finding about a line of a file, as a message: without its place
+abbrev pub message_at : List ℕ → ℕ → Spot → Message
+message_at name line found = message name line found.kind found.word
 
 -- the messages about a line
-abbrev pub line_messages : List ℕ → ℕ → Result Draft Finding → Landing → List Message
-line_messages name line (Ok d) l = map (message_at name line) (findings_of d l)
-line_messages name line (Err wrong) l = message_at name line wrong ∷ []
+abbrev pub line_messages : List ℕ → ℕ → Result Draft Spot → Landing → List Message
+line_messages name line read l = map (message_at name line) (line_findings read l)
 
 -- a rule, its jump dropped if no later rule has the label
-abbrev pub rule_at : List ℕ → ℕ → Draft → Landing → Rule
-rule_at name line d l = record {
+abbrev pub rule_at : Profile → List ℕ → ℕ → Draft → Landing → Rule
+rule_at by name line d l = record {
   file = name;
   line = line;
-  label = d.label;
-  goto = if l.lost then None else d.goto;
-  plain = d.plain;
-  up = d.up;
-  acts = d.acts;
-  results = d.results;
-  sets = d.sets;
+  label = name_of d.label;
+  goto = if l.lost then None else name_of d.goto;
+  plain = filter_map plain_in (parts_in d.parts);
+  up = filter_map up_in (parts_in d.parts);
+  acts = acts_of (parts_in d.parts);
+  results = filter_map result_in (parts_in d.parts);
+  sets = sets_of by (parts_in d.parts);
 }
 
 -- the rule of a line, if it is one
-abbrev pub line_rules : List ℕ → ℕ → Result Draft Finding → Landing → List Rule
-line_rules name line (Ok d) l = rule_at name line d l ∷ []
-line_rules name line (Err wrong) l = []
+abbrev pub line_rules : Profile → List ℕ → ℕ → Result Draft Spot → Landing → List Rule
+line_rules by name line (Ok d) l = rule_at by name line d l ∷ []
+line_rules by name line (Err wrong) l = []
 
 -- the message about a line that is still open at its file's end
 abbrev pub open_messages : List ℕ → Option ℕ → List Message
 open_messages name None = []
-open_messages name (Some line) = message_at name line (finding OpenAtEnd []) ∷ []
+open_messages name (Some line) = message name line OpenAtEnd [] ∷ []
 
 -- the rules of a file in order, none if it is given up because of a line
 abbrev pub rules_unless : Profile → SourceFile → Option ℕ → List Rule
 rules_unless by f (Some line) = []
-rules_unless by f None = flat_map (λ x. line_rules f.name x.0.line x.0.read x.1) (landed (readings_of by f))
+rules_unless by f None = flat_map (λ x. line_rules by f.name x.0.line x.0.read x.1) (landed (readings_of by f))
 
 -- the rules of a file, in order
 abbrev pub file_rules : Profile → SourceFile → List Rule
@@ -93,7 +114,7 @@ file_rules by f = rules_unless by f (abandoned by f.bytes)
 
 -- the messages about a file by line, only one if it is given up because of a line
 abbrev pub messages_unless : Profile → SourceFile → Option ℕ → List Message
-messages_unless by f (Some line) = message_at f.name line (finding FileAbandoned []) ∷ []
+messages_unless by f (Some line) = message f.name line FileAbandoned [] ∷ []
 messages_unless by f None =
     flat_map (λ x. line_messages f.name x.0.line x.0.read x.1) (landed (readings_of by f))
     ++ open_messages f.name (joined_lines by f.bytes).open_at

@@ -1,5 +1,5 @@
 -- How a rule is written: commas and blanks between its tokens, and operators that are read as `=`.
-use Rattle.std.specs.Prelude.{ℕ, ◌-◌, ◌==◌, Bool, false, not, ◌&&◌, if◌then◌else◌, List, [], ◌∷◌, ◌++◌, take, drop}
+use Rattle.std.specs.Prelude.{ℕ, ◌-◌, ◌==◌, Bool, false, not, ◌&&◌, if◌then◌else◌, List, [], ◌∷◌, ◌++◌, take, drop, length}
 use Rattle.std.specs.List.{count_by}
 use Rattle.text_bytes.specs.Names.{comma, is_blank}
 use Rattle.file_messages.specs.declared.message.MessageKind.{MessageKind}
@@ -9,57 +9,57 @@ use Rattle.text_bytes.specs.declared.profile.Profile.TheVariants.{Manual, Udev}
 use Rattle.rule_tokens.specs.Grammar.{Placed}
 use Rattle.rule_tokens.specs.Values.{ends_in}
 use Rattle.rule_parts.specs.Parts.{is_read_as_assign}
-use Rattle.rule_parts.specs.Values.{finding}
-use Rattle.rule_parts.specs.declared.finding.Finding.{Finding}
+use Rattle.rule_core.specs.Spots.{key_spot, spot}
+use Rattle.rule_core.specs.declared.spot.Spot.{Spot}
 
 -- how many commas a gap has
 abbrev pub commas : List ℕ → ℕ
 commas gap = count_by (λ b. b == comma) gap
 
--- the commas of a gap before a token, and that token's key
-abbrev pub comma_findings : List ℕ → List ℕ → List Finding
-comma_findings gap key =
-    (if commas gap == 1 then [] else finding CommaExpected key ∷ [])
-    ++ (if ends_in comma gap then finding BlankExpected key ∷ [] else [])
+-- a whole gap, which begins at a place, if it has a comma
+abbrev pub whole_gap : MessageKind → ℕ → List ℕ → List Spot
+whole_gap kind place gap = if commas gap == 0 then [] else spot kind [] place (length gap) ∷ []
+
+-- the commas of a gap before a token: that token's key
+abbrev pub comma_findings : List ℕ → Placed → List Spot
+comma_findings gap t =
+    (if commas gap == 1 then [] else key_spot CommaExpected t ∷ [])
+    ++ (if ends_in comma gap then key_spot BlankExpected t ∷ [] else [])
 
 -- whether a gap has a comma and begins with a blank
 abbrev pub has_blank_before_comma : List ℕ → Bool
 has_blank_before_comma [] = false
 has_blank_before_comma (b ∷ gap) = is_blank b && not (commas gap == 0)
 
--- a gap before a token, and that token's key: udev also reports blanks before a comma
-abbrev pub gap_findings : Profile → List ℕ → List ℕ → List Finding
-gap_findings Manual gap key = comma_findings gap key
-gap_findings Udev gap key = comma_findings gap key ++ (if has_blank_before_comma gap then finding BlankBeforeComma key ∷ [] else [])
+-- a gap before a token: that token's key; udev also reports blanks before a comma
+abbrev pub gap_findings : Profile → List ℕ → Placed → List Spot
+gap_findings Manual gap t = comma_findings gap t
+gap_findings Udev gap t = comma_findings gap t ++ (if has_blank_before_comma gap then key_spot BlankBeforeComma t ∷ [] else [])
 
--- the gap before the first token, which udev skips
-abbrev pub leading_findings : Profile → List ℕ → List Finding
+-- the gap before the first token, which only udev skips
+abbrev pub leading_findings : Profile → List ℕ → List Spot
 leading_findings Manual gap = []
-leading_findings Udev gap = if commas gap == 0 then [] else finding LeadingComma [] ∷ []
-
--- the gap after the last token
-abbrev pub end_findings : List ℕ → List Finding
-end_findings gap = if commas gap == 0 then [] else finding CommaExpected [] ∷ []
+leading_findings Udev gap = whole_gap LeadingComma 0 gap
 
 -- what is reported for an operator that is read as `=`: a remark on style, for udev a fault
 abbrev pub read_as_assign_kind : Profile → MessageKind
 read_as_assign_kind Manual = ReadAsAssign
 read_as_assign_kind Udev = AssignExpected
 
--- a token's operator
-abbrev pub operator_findings : Profile → Placed → List Finding
-operator_findings by t = if is_read_as_assign t then finding (read_as_assign_kind by) t.parts.head.key ∷ [] else []
+-- a token's operator: its key
+abbrev pub operator_findings : Profile → Placed → List Spot
+operator_findings by t = if is_read_as_assign t then key_spot (read_as_assign_kind by) t ∷ [] else []
 
 -- the bytes of a line from a place up to another
 abbrev pub between : ℕ → ℕ → List ℕ → List ℕ
 between from to line = take (to - from) (drop from line)
 
--- the gaps and tokens of a line after a place where a token ends
-abbrev pub style_after : Profile → List ℕ → ℕ → List Placed → List Finding
-style_after by line place [] = end_findings (drop place line)
-style_after by line place (t ∷ tokens) = gap_findings by (between place t.span.start line) t.parts.head.key ++ (operator_findings by t ++ style_after by line t.span.end tokens)
+-- the gaps and tokens of a line after a place where a token ends; no token follows the last gap
+abbrev pub style_after : Profile → List ℕ → ℕ → List Placed → List Spot
+style_after by line place [] = whole_gap CommaExpected place (drop place line)
+style_after by line place (t ∷ tokens) = gap_findings by (between place t.span.start line) t ++ (operator_findings by t ++ style_after by line t.span.end tokens)
 
 -- the gaps and tokens of a line, in the order of their places
-abbrev pub style_findings : Profile → List ℕ → List Placed → List Finding
+abbrev pub style_findings : Profile → List ℕ → List Placed → List Spot
 style_findings by line [] = []
 style_findings by line (t ∷ tokens) = leading_findings by (between 0 t.span.start line) ++ (operator_findings by t ++ style_after by line t.span.end tokens)

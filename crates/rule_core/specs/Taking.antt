@@ -1,54 +1,93 @@
--- Serves inner proofs only: the parts of a rule taken one by one.
+-- Serves inner proofs only: the tokens of a rule taken one by one.
 use Rattle.std.specs.Prelude.{ℕ, List, [], ◌∷◌, ◌++◌, Option, Some, None, filter_map}
 use Rattle.text_bytes.specs.declared.profile.Profile.{Profile}
 use Rattle.text_bytes.specs.declared.profile.Profile.TheVariants.{Manual, Udev}
-use Rattle.file_messages.specs.declared.message.MessageKind.TheVariants.{GivenTwice}
-use Rattle.rule_parts.specs.declared.finding.Finding.{Finding}
-use Rattle.rule_types.specs.declared.part.Part.{Part}
-use Rattle.rule_types.specs.declared.part.Part.TheVariants as part
-use Rattle.rule_parts.specs.Values.{finding}
 use Rattle.text_bytes.specs.Texts.{first}
-use Rattle.rule_core.specs.Drafts.{Draft, act_in, assignment_in, given_again_after, goto_in, label_among, label_in, lost_name, plain_in, result_in, up_in}
+use Rattle.rule_tokens.specs.Grammar.{Placed}
+use Rattle.rule_types.specs.Rules.{Rule}
+use Rattle.rule_types.specs.declared.part.Act.{Act}
+use Rattle.rule_types.specs.declared.part.Assignment.{Assignment}
+use Rattle.rule_types.specs.declared.part.Comparison.{Comparison}
+use Rattle.rule_types.specs.declared.part.Part.{Part}
+use Rattle.rule_types.specs.declared.part.PlainMatch.{PlainMatch}
+use Rattle.rule_types.specs.declared.part.UpMatch.{UpMatch}
+use Rattle.rule_types.specs.declared.part.Part.TheVariants as part
+use Rattle.rule_core.specs.Drafts.{act_in, acts_of, assignment_in, given_again_after, given_twice, goto_at, label_among, label_at, lost_name, name_place, plain_in, result_in, sets_of, up_in}
+use Rattle.rule_core.specs.Written.{WrittenPart}
+use Rattle.rule_core.specs.declared.names.NamePlace.{NamePlace}
+use Rattle.rule_core.specs.declared.spot.Spot.{Spot}
 
--- the parts of a rule by what they are for, in written order
-abbrev pub written : Profile → List Part → Draft
-written by parts = record {
-  label = label_among by (filter_map label_in parts);
-  goto = first (filter_map goto_in parts);
+-- the names of a rule, and the findings about those that don't count
+pub record RuleNames : Type 0 where
+  pub label : Option NamePlace
+  pub goto : Option NamePlace
+  pub findings : List Spot
+
+-- the names that tokens give
+abbrev pub names_given : Profile → List WrittenPart → RuleNames
+names_given by parts = record {
+  label = label_among by (filter_map label_at parts);
+  goto = first (filter_map goto_at parts);
+  findings = given_again_after by [] parts;
+}
+
+-- a name, or the one that was given before it
+abbrev pub first_given : Option NamePlace → NamePlace → Option NamePlace
+first_given (Some name) later = Some name
+first_given None name = Some name
+
+-- the findings about a name, by the one that was given before it
+abbrev pub again : Option NamePlace → NamePlace → List Spot
+again None name = []
+again (Some name) later = given_twice later ∷ []
+
+-- of a label and a later one, the one that counts
+abbrev pub label_given : Profile → Option NamePlace → NamePlace → Option NamePlace
+label_given Manual earlier name = first_given earlier name
+label_given Udev earlier name = Some name
+
+-- the findings about a label, by the one that counts of those before it
+abbrev pub label_said : Profile → Option NamePlace → NamePlace → List Spot
+label_said Manual earlier name = again earlier name
+label_said Udev earlier name = lost_name earlier
+
+-- one more token, which is this part
+abbrev pub with_name : Profile → RuleNames → Placed → Part → RuleNames
+with_name by n t (part.Label name) = record n { label = label_given by n.label (name_place t name); findings = n.findings ++ label_said by n.label (name_place t name) }
+with_name by n t (part.Goto name) = record n { goto = first_given n.goto (name_place t name); findings = n.findings ++ again n.goto (name_place t name) }
+with_name by n t _ = n
+
+-- parts by what they are for
+pub record Kinds : Type 0 where
+  pub plain : List PlainMatch
+  pub up : List UpMatch
+  pub acts : List Act
+  pub results : List Comparison
+  pub sets : List Assignment
+
+-- parts by what they are for, in written order
+abbrev pub kinds_of : List Part → Kinds
+kinds_of parts = record {
   plain = filter_map plain_in parts;
   up = filter_map up_in parts;
   acts = filter_map act_in parts;
   results = filter_map result_in parts;
   sets = filter_map assignment_in parts;
-  findings = given_again_after by [] parts;
 }
 
--- a name, or the one that was given before it
-abbrev pub first_given : Option (List ℕ) → List ℕ → Option (List ℕ)
-first_given (Some name) later = Some name
-first_given None name = Some name
-
--- the findings about a name, by the one that was given before it
-abbrev pub again : Option (List ℕ) → List ℕ → List Finding
-again None name = []
-again (Some name) later = finding GivenTwice later ∷ []
-
--- of a label and a later one, the one that counts
-abbrev pub label_given : Profile → Option (List ℕ) → List ℕ → Option (List ℕ)
-label_given Manual earlier name = first_given earlier name
-label_given Udev earlier name = Some name
-
--- the findings about a label, by the one that counts of those before it
-abbrev pub label_said : Profile → Option (List ℕ) → List ℕ → List Finding
-label_said Manual earlier name = again earlier name
-label_said Udev earlier name = lost_name earlier
+-- the same, those that act and those that assign in the order of evaluation
+abbrev pub sorted_kinds : Profile → List Part → Kinds
+sorted_kinds by parts = record (kinds_of parts) { acts = acts_of parts; sets = sets_of by parts }
 
 -- one more part
-abbrev pub with_part : Profile → Draft → Part → Draft
-with_part by d (part.Plain m) = record d { plain = d.plain ++ m ∷ [] }
-with_part by d (part.Up m) = record d { up = d.up ++ m ∷ [] }
-with_part by d (part.Act a) = record d { acts = d.acts ++ a ∷ [] }
-with_part by d (part.Result c) = record d { results = d.results ++ c ∷ [] }
-with_part by d (part.Set a) = record d { sets = d.sets ++ a ∷ [] }
-with_part by d (part.Label name) = record d { label = label_given by d.label name; findings = d.findings ++ label_said by d.label name }
-with_part by d (part.Goto name) = record d { goto = first_given d.goto name; findings = d.findings ++ again d.goto name }
+abbrev pub with_kind : Kinds → Part → Kinds
+with_kind k (part.Plain m) = record k { plain = k.plain ++ m ∷ [] }
+with_kind k (part.Up m) = record k { up = k.up ++ m ∷ [] }
+with_kind k (part.Act a) = record k { acts = k.acts ++ a ∷ [] }
+with_kind k (part.Result c) = record k { results = k.results ++ c ∷ [] }
+with_kind k (part.Set a) = record k { sets = k.sets ++ a ∷ [] }
+with_kind k _ = k
+
+-- a rule of these names and these parts
+abbrev pub rule_with : List ℕ → ℕ → Option (List ℕ) → Option (List ℕ) → Kinds → Rule
+rule_with name line label goto k = record { file = name; line = line; label = label; goto = goto; plain = k.plain; up = k.up; acts = k.acts; results = k.results; sets = k.sets }

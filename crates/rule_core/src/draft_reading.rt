@@ -1,18 +1,21 @@
 //! Reading a joined line.
-ghost use Rattle.std.specs.Prelude.{◌≡◌, Err, IfOk, MatchResult, Ok};
-ghost use Rattle.rule_parts.specs.Faults.{FaultOf};
-ghost use Rattle.rule_core.specs.Drafts.{draft, draft_of, items_as, most_bytes, parts_of, token_finding};
+ghost use Rattle.std.specs.Prelude.{◌≡◌, IfOk, MatchResult, Ok};
+ghost use Rattle.rule_core.specs.Drafts.{draft, draft_of, draft_with, items_as, most_bytes, part_of_item, parts_of, written_part};
+ghost use Rattle.rule_parts.specs.Parts.{part_of};
+ghost use Rattle.rule_core.specs.Faults.{FaultOf};
 
 use crate::draft::Draft;
 use crate::effects::lacks_effect;
 use crate::line_ends::MAX_UDEV_BYTES;
-use crate::places::{following, line_tokens};
+use crate::line_fault::LineFault;
+use crate::names::RuleNames;
+use crate::places::line_tokens;
+use crate::spot::{part_spot, token_spot, whole_spot};
 use crate::style::add_style;
-use crate::turns::{sort_acts, sort_assignments};
+use crate::written::WrittenPart;
 use file_messages::MessageKind;
-use rule_parts::{Finding, PartFault, read_part};
-use rule_tokens::{TokenFaultKind, letters_before_quote};
-use rule_types::Part;
+use rule_parts::{PartFault, read_part};
+use rule_tokens::{Token, TokenFault};
 use std::alloc::{AllocError, Global};
 use text_bytes::Profile;
 
@@ -24,24 +27,50 @@ const MAX_BYTES: usize = 16_384;
 /// What is wrong is that the line has more than 16,384 bytes, or else it is the fault of the first token that has
 /// one. For udev a line of 16,384 bytes is also too long, and a line without such a fault is wrong if no token has
 /// an effect. `Memory` comes only if an allocation fails.
-pub fn read_draft(alloc: Global, profile: Profile, line: &[u8]) -> Result<Draft, PartFault>
+#[tactic(auto, unfolding(crate::specs::Drafts::draft_of))]
+pub(crate) fn read_draft(
+    alloc: Global,
+    profile: Profile,
+    line: &[u8],
+) -> Result<Draft<'_>, LineFault>
     ensures { MatchResult result (λ d. draft_of profile line.now ≡ Ok d) (λ f. FaultOf f (draft_of profile line.now)) }
 {
     if line.len() > most_bytes(profile) {
-        let found = Finding::about(alloc, MessageKind::LineTooLong, &[])?;
-        return Err(PartFault::Wrong(found));
+        let kind = MessageKind::LineTooLong;
+        return Err(LineFault::Wrong(whole_spot(alloc, kind, line)));
     }
-    let parts = read_parts(alloc, profile, line)?;
-    let lacks = lacks_effect(alloc, profile, line)?;
+    read_short(alloc, profile, line)
+}
+
+/// Reads a joined line that is not too long.
+fn read_short(alloc: Global, profile: Profile, line: &[u8]) -> Result<Draft<'_>, LineFault>
+    ensures { MatchResult result (λ d. draft_with profile line.now (parts_of profile line.now (items_as profile line.now)) ≡ Ok d) (λ f. FaultOf f (draft_with profile line.now (parts_of profile line.now (items_as profile line.now)))) }
+{
+    match read_parts(alloc, profile, line) {
+        Ok(parts) => draft_with(alloc, profile, line, parts),
+        Err(fault) => Err(fault),
+    }
+}
+
+/// The draft of tokens that were read; udev also drops a rule without effect.
+fn draft_with<'a>(
+    alloc: Global,
+    profile: Profile,
+    line: &'a [u8],
+    parts: Vec<WrittenPart<'a>>,
+) -> Result<Draft<'a>, LineFault>
+    ensures { MatchResult result (λ d. draft_with profile line.now (Ok parts.entry.items) ≡ Ok d) (λ f. FaultOf f (draft_with profile line.now (Ok parts.entry.items))) }
+{
+    let lacks = lacks_effect(alloc, profile, &parts)?;
     if lacks {
-        let found = Finding::about(alloc, MessageKind::RuleWithoutEffect, &[])?;
-        return Err(PartFault::Wrong(found));
+        let kind = MessageKind::RuleWithoutEffect;
+        return Err(LineFault::Wrong(whole_spot(alloc, kind, line)));
     }
     Ok(draft(alloc, profile, line, parts)?)
 }
 
 /// The most bytes of a joined line: 16,384, for udev 16,383.
-pub fn most_bytes(profile: Profile) -> usize
+fn most_bytes(profile: Profile) -> usize
     ensures { result ≡ most_bytes profile }
 {
     match profile {
@@ -50,50 +79,74 @@ pub fn most_bytes(profile: Profile) -> usize
     }
 }
 
-/// The parts of a line, up to the first token with a fault, which is then what is wrong.
+/// The tokens of a line with their parts, up to the first with a fault, which is then what is wrong.
 #[tactic(auto, using(crate::proofs::Drafting::part_read))]
-fn read_parts(alloc: Global, profile: Profile, line: &[u8]) -> Result<Vec<Part>, PartFault>
+fn read_parts(
+    alloc: Global,
+    profile: Profile,
+    line: &[u8],
+) -> Result<Vec<WrittenPart<'_>>, LineFault>
     ensures { MatchResult result (λ parts. parts_of profile line.now (items_as profile line.now) ≡ Ok parts.items) (λ f. FaultOf f (parts_of profile line.now (items_as profile line.now))) }
 {
     let mut parts = Vec::new(alloc);
     for item in line_tokens(profile, line) {
-        match item {
-            Ok(token) => parts.push(read_part(alloc, profile, &token)?)?,
-            Err(fault) => {
-                let found = token_finding(alloc, fault.kind, following(fault.at, line))?;
-                return Err(PartFault::Wrong(found));
-            }
-        }
+        parts.push(read_item(alloc, profile, line, item)?)?;
     }
     Ok(parts)
 }
 
-/// What is wrong with a part of a line, given from its first byte on, that is not a token.
-fn token_finding(alloc: Global, kind: TokenFaultKind, text: &[u8]) -> Result<Finding, AllocError>
-    ensures { IfOk result (λ found. found ≡ token_finding kind text.now) }
+/// An item of a line as a token of a rule.
+fn read_item<'a>(
+    alloc: Global,
+    profile: Profile,
+    line: &'a [u8],
+    item: Result<Token<'a>, TokenFault>,
+) -> Result<WrittenPart<'a>, LineFault>
+    ensures { MatchResult result (λ w. part_of_item profile line.now item.entry ≡ Ok w) (λ f. FaultOf f (part_of_item profile line.now item.entry)) }
 {
-    match kind {
-        TokenFaultKind::Syntax => Finding::about(alloc, MessageKind::BadSyntax, text),
-        TokenFaultKind::Prefix => Finding::about(
-            alloc,
-            MessageKind::BadPrefix,
-            letters_before_quote(text),
-        ),
+    match item {
+        Ok(token) => read_token(alloc, profile, token),
+        Err(fault) => Err(LineFault::Wrong(token_spot(alloc, fault, line)?)),
     }
 }
 
-/// The draft of the parts of a line.
-fn draft(
+/// A token with the part of a rule that it is.
+fn read_token<'a>(
     alloc: Global,
     profile: Profile,
-    line: &[u8],
-    parts: Vec<Part>,
-) -> Result<Draft, AllocError>
-    ensures { IfOk result (λ d. d ≡ draft profile line.now parts.items) }
+    token: Token<'a>,
+) -> Result<WrittenPart<'a>, LineFault>
+    ensures { MatchResult result (λ w. written_part token.entry (part_of profile token.entry) ≡ Ok w) (λ f. FaultOf f (written_part token.entry (part_of profile token.entry))) }
 {
-    let mut draft = Draft::of(alloc, profile, parts)?;
-    sort_acts(&mut draft.acts)?;
-    sort_assignments(profile, &mut draft.sets)?;
-    add_style(alloc, profile, &mut draft.findings, line)?;
-    Ok(draft)
+    match read_part(alloc, profile, &token) {
+        Ok(part) => Ok(WrittenPart { token, part }),
+        Err(PartFault::Wrong(found)) => {
+            Err(LineFault::Wrong(part_spot(alloc, found.kind, &token)?))
+        }
+        Err(PartFault::Memory) => Err(LineFault::Memory),
+    }
+}
+
+/// The draft of the tokens of a line.
+fn draft<'a>(
+    alloc: Global,
+    profile: Profile,
+    line: &'a [u8],
+    parts: Vec<WrittenPart<'a>>,
+) -> Result<Draft<'a>, AllocError>
+    ensures { IfOk result (λ d. d ≡ draft profile line.now parts.entry.items) }
+{
+    let RuleNames {
+        label,
+        goto,
+        findings,
+    } = RuleNames::of(alloc, profile, &parts)?;
+    let mut findings = findings;
+    add_style(alloc, profile, &mut findings, line, &parts)?;
+    Ok(Draft {
+        label,
+        goto,
+        parts,
+        findings,
+    })
 }

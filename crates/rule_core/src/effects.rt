@@ -1,12 +1,11 @@
 //! Whether the tokens of a line do anything but compare.
 ghost use Rattle.std.specs.Prelude.{◌≡◌, Bool, not, IfOk};
 ghost use Rattle.std.specs.List.{list_any};
-ghost use Rattle.text_bytes.specs.declared.profile.Profile.TheVariants.{Udev};
 ghost use Rattle.rule_types.specs.Names.{key_of};
-ghost use Rattle.rule_core.specs.Drafts.{items_as, tokens_of};
 ghost use Rattle.rule_core.specs.Effects.{acts_compared, has_effect, is_unknown_option, lacks_effect};
+ghost use Rattle.rule_core.specs.Written.{tokens_in};
 
-use crate::places::line_tokens;
+use crate::written::WrittenPart;
 use rule_parts::is_known_option;
 use rule_tokens::{Token, unquote};
 use rule_types::{Key, key_of};
@@ -14,24 +13,26 @@ use std::alloc::{AllocError, Global};
 use text_bytes::Profile;
 
 /// Whether a rule is dropped because no token of its line has an effect: udev does so, and by the manual it stays.
-pub fn lacks_effect(alloc: Global, profile: Profile, line: &[u8]) -> Result<bool, AllocError>
-    ensures { IfOk result (λ lacks. lacks ≡ lacks_effect profile (tokens_of (items_as profile line.now))) }
+pub(crate) fn lacks_effect(
+    alloc: Global,
+    profile: Profile,
+    parts: &[WrittenPart<'_>],
+) -> Result<bool, AllocError>
+    ensures { IfOk result (λ lacks. lacks ≡ lacks_effect profile (tokens_in parts.now)) }
 {
     match profile {
         Profile::Manual => Ok(false),
-        Profile::Udev => Ok(!some_has_effect(alloc, line)?),
+        Profile::Udev => Ok(!some_has_effect(alloc, parts)?),
     }
 }
 
-/// Whether a token of a line has an effect for udev.
-fn some_has_effect(alloc: Global, line: &[u8]) -> Result<bool, AllocError>
-    ensures { IfOk result (λ some. some ≡ list_any has_effect (tokens_of (items_as Udev line.now))) }
+/// Whether a token has an effect for udev.
+fn some_has_effect(alloc: Global, parts: &[WrittenPart<'_>]) -> Result<bool, AllocError>
+    ensures { IfOk result (λ some. some ≡ list_any has_effect (tokens_in parts.now)) }
 {
-    for item in line_tokens(Profile::Udev, line) {
-        if let Ok(token) = item {
-            if has_effect(alloc, &token)? {
-                return Ok(true);
-            }
+    for written in parts {
+        if has_effect(alloc, &written.token)? {
+            return Ok(true);
         }
     }
     Ok(false)

@@ -16,28 +16,33 @@ mod fault;
 mod gathered;
 mod joined;
 mod joining;
+mod kinds;
+mod letters;
 mod line_ends;
+mod line_fault;
 mod messages;
+mod names;
 mod pieces;
 mod places;
-mod read_rules;
+mod read_set;
 mod reading;
 mod readings;
-mod reporting;
+mod spot;
 mod style;
+mod sums;
 mod text;
 mod turns;
+mod written;
 
 pub use draft::Draft;
-pub use draft_reading::{most_bytes, read_draft};
-pub use effects::{has_effect, lacks_effect};
 pub use fault::RulesFault;
 pub use joined::{JoinedLine, JoinedLines};
 pub use joining::joined_lines;
 pub use line_ends::{abandoned_at, files_as_read, is_too_long, read_ends};
-pub use places::{between, first_place, following, line_tokens};
-pub use read_rules::ReadRules;
+pub use names::NamePlace;
+pub use read_set::ReadRules;
 pub use reading::{read_rules, read_rules_as};
+pub use readings::{LandedReading, Reading, read_lines};
 pub use rule_templates::{Piece, Template, TemplateFault};
 pub use rule_tokens::{Operator, Quote, Span, Token, TokenFault, TokenFaultKind, Tokens, unquote};
 pub use rule_types::{
@@ -45,4 +50,6 @@ pub use rule_types::{
     MatchOperator, PlainKey, PlainMatch, Rule, RuleOption, RuleSet, RunType, Target, UpKey,
     UpMatch,
 };
-pub use style::{commas, has_blank_before_comma, read_as_assign_kind};
+pub use spot::{Spot, attribute_spot, key_spot, value_spot};
+pub use sums::sum_of;
+pub use written::WrittenPart;

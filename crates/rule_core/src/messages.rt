@@ -1,14 +1,14 @@
-//! What is found in the lines of a file, as messages.
+//! What is found in the lines of a file, as messages: without places, and with the first bytes of their words.
 ghost use Rattle.std.specs.Prelude.{◌≡◌, ◌∷◌, ◌++◌, [], if◌then◌else◌, OnOk, map};
-ghost use Rattle.std.specs.Option.{unwrap_or};
 ghost use Rattle.file_messages.specs.declared.message.MessageKind.TheVariants.{FileAbandoned, OpenAtEnd};
-ghost use Rattle.rule_parts.specs.Values.{finding};
-ghost use Rattle.rule_core.specs.Rules.{message_at, open_messages};
+ghost use Rattle.text_bytes.specs.Texts.{word_of};
+ghost use Rattle.rule_core.specs.Rules.{message, message_at, name_spot, open_messages};
 
+use crate::names::NamePlace;
+use crate::spot::Spot;
 use file_messages::{Message, MessageKind};
-use rule_parts::Finding;
 use std::alloc::{AllocError, Global};
-use text_bytes::Bytes;
+use text_bytes::{Bytes, word_of};
 
 /// A line of a file.
 #[derive(Clone, Copy, Debug)]
@@ -24,7 +24,7 @@ pub(crate) fn report(
     alloc: Global,
     messages: &mut Vec<Message>,
     place: Place<'_>,
-    found: Finding,
+    found: Spot,
 ) -> Result<(), AllocError>
     ensures { OnOk result (messages.new.items ≡ messages.old.items ++ message_at place.entry.file.now place.entry.line found ∷ []) }
 {
@@ -32,7 +32,35 @@ pub(crate) fn report(
         file: Bytes::copy_of(alloc, place.file)?,
         line: place.line,
         kind: found.kind,
-        word: found.word,
+        word: cut_word(found.word),
+    })?;
+    Ok(())
+}
+
+/// What a message keeps of a text: its first 32 bytes.
+fn cut_word(text: Bytes) -> Bytes
+    ensures { result ≡ word_of text }
+{
+    let mut bytes = text.into_vec();
+    bytes.truncate(32);
+    Bytes::new(bytes)
+}
+
+/// Adds a message about a line, reported with what it keeps of a text.
+fn add(
+    alloc: Global,
+    messages: &mut Vec<Message>,
+    place: Place<'_>,
+    kind: MessageKind,
+    text: &[u8],
+) -> Result<(), AllocError>
+    ensures { OnOk result (messages.new.items ≡ messages.old.items ++ message place.entry.file.now place.entry.line kind text.now ∷ []) }
+{
+    messages.push(Message {
+        file: Bytes::copy_of(alloc, place.file)?,
+        line: place.line,
+        kind,
+        word: Bytes::copy_of(alloc, word_of(text))?,
     })?;
     Ok(())
 }
@@ -42,7 +70,7 @@ pub(crate) fn report_all(
     alloc: Global,
     messages: &mut Vec<Message>,
     place: Place<'_>,
-    findings: Vec<Finding>,
+    findings: Vec<Spot>,
 ) -> Result<(), AllocError>
     ensures { OnOk result (messages.new.items ≡ messages.old.items ++ map (message_at place.entry.file.now place.entry.line) findings.items) }
 {
@@ -59,19 +87,30 @@ pub(crate) fn report_if(
     place: Place<'_>,
     wrong: bool,
     kind: MessageKind,
-    name: &Option<Bytes>,
+    name: &Option<NamePlace>,
 ) -> Result<(), AllocError>
-    ensures { OnOk result (messages.new.items ≡ messages.old.items ++ map (message_at place.entry.file.now place.entry.line) (if wrong then finding kind (unwrap_or name.now []) ∷ [] else [])) }
+    ensures { OnOk result (messages.new.items ≡ messages.old.items ++ map (message_at place.entry.file.now place.entry.line) (if wrong then name_spot kind name.now ∷ [] else [])) }
 {
     if wrong {
-        report(
-            alloc,
-            messages,
-            place,
-            Finding::about(alloc, kind, text_of(name))?,
-        )?;
+        report_name(alloc, messages, place, kind, name)?;
     }
     Ok(())
+}
+
+/// Adds a message about a name of a line.
+fn report_name(
+    alloc: Global,
+    messages: &mut Vec<Message>,
+    place: Place<'_>,
+    kind: MessageKind,
+    name: &Option<NamePlace>,
+) -> Result<(), AllocError>
+    ensures { OnOk result (messages.new.items ≡ messages.old.items ++ message_at place.entry.file.now place.entry.line (name_spot kind name.now) ∷ []) }
+{
+    match name {
+        None => add(alloc, messages, place, kind, &[]),
+        Some(given) => add(alloc, messages, place, kind, given.name.as_slice()),
+    }
 }
 
 /// Adds a message about a line that is still open at its file's end, if there is such a line.
@@ -86,8 +125,8 @@ pub(crate) fn report_open(
     match open_at {
         None => Ok(()),
         Some(line) => {
-            let found = Finding::about(alloc, MessageKind::OpenAtEnd, &[])?;
-            report(alloc, messages, Place { file, line }, found)
+            let place = Place { file, line };
+            add(alloc, messages, place, MessageKind::OpenAtEnd, &[])
         }
     }
 }
@@ -99,19 +138,8 @@ pub(crate) fn report_abandoned(
     file: &[u8],
     line: u32,
 ) -> Result<(), AllocError>
-    ensures { OnOk result (messages.new.items ≡ messages.old.items ++ message_at file.now line (finding FileAbandoned []) ∷ []) }
+    ensures { OnOk result (messages.new.items ≡ messages.old.items ++ message file.now line FileAbandoned [] ∷ []) }
 {
-    let found = Finding::about(alloc, MessageKind::FileAbandoned, &[])?;
     let place = Place { file, line };
-    report(alloc, messages, place, found)
-}
-
-/// A name, or the empty one if there is none.
-fn text_of(name: &Option<Bytes>) -> &[u8]
-    ensures { result.now ≡ unwrap_or name.now [] }
-{
-    match name {
-        None => &[],
-        Some(text) => text.as_slice(),
-    }
+    add(alloc, messages, place, MessageKind::FileAbandoned, &[])
 }

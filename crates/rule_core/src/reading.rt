@@ -1,22 +1,27 @@
 //! Reading rules files.
-ghost use Rattle.std.specs.Prelude.{◌≡◌, ◌∷◌, ◌++◌, ◌<◌, ◌≤◌, ◌^◌, [], if◌then◌else◌, None, IfOk, IfErr, OnOk, flat_map, map, zip};
+ghost use Rattle.std.specs.Prelude.{◌≡◌, ◌∷◌, ◌++◌, ◌<◌, ◌≤◌, ◌^◌, [], if◌then◌else◌, None, IfOk, IfErr, OnOk, flat_map, map};
 ghost use Rattle.rule_core.specs.Gathering.{Adds};
 ghost use Rattle.rule_types.specs.Rules.{tokens_in};
-ghost use Rattle.rule_core.specs.Rules.{file_messages, file_rules, findings_of, line_messages, line_rules, message_at, messages_unless, rule_at, rules_unless, set_of, set_of_as};
+ghost use Rattle.rule_core.specs.Rules.{file_messages, file_rules, findings_of, line_messages, line_rules, message_at, messages_unless, name_of, rule_at, rules_unless, set_of, set_of_as};
+ghost use Rattle.rule_core.specs.Taking.{rule_with, sorted_kinds};
+ghost use Rattle.rule_core.specs.Written.{parts_in};
 ghost use Rattle.rule_core.specs.declared.fault.RulesFault.TheVariants.{TooMany};
 
 use crate::draft::Draft;
 use crate::fault::RulesFault;
 use crate::gathered::Gathered;
 use crate::joining::joined_lines;
+use crate::kinds::Kinds;
 use crate::line_ends::abandoned_at;
 use crate::messages::{Place, report, report_abandoned, report_all, report_if, report_open};
-use crate::read_rules::ReadRules;
-use crate::readings::{Reading, landings_of, read_lines};
+use crate::names::NamePlace;
+use crate::read_set::ReadRules;
+use crate::readings::{LandedReading, Reading, read_lines};
+use crate::written::WrittenPart;
 use file_messages::{Message, MessageKind};
 use rule_jumps::Landing;
 use rule_types::{Rule, RuleSet};
-use std::alloc::Global;
+use std::alloc::{AllocError, Global};
 use text_bytes::{Bytes, Profile, SourceFile};
 
 /// Reads rules files as udev(7) writes them, in the order in which they are given.
@@ -101,27 +106,26 @@ fn read_kept(
 {
     let name = file.name.as_slice();
     let joined = joined_lines(alloc, profile, file.bytes.as_slice())?;
-    let readings = read_lines(alloc, profile, joined.lines())?;
-    let landings = landings_of(alloc, &readings)?;
-    add_lines(alloc, rules, messages, name, readings, landings)?;
+    let lines = read_lines(alloc, profile, joined.lines())?;
+    add_lines(alloc, profile, rules, messages, name, lines)?;
     report_open(alloc, messages, name, joined.open_at())?;
     Ok(())
 }
 
-/// Adds the lines of a file, each with what becomes of its jumps.
+/// Adds the lines of a file.
 fn add_lines(
     alloc: Global,
+    profile: Profile,
     rules: &mut Gathered,
     messages: &mut Vec<Message>,
     name: &[u8],
-    readings: Vec<Reading>,
-    landings: Vec<Landing>,
+    lines: Vec<LandedReading<'_>>,
 ) -> Result<(), RulesFault>
-    ensures rules { Adds rules.old rules.new (flat_map (λ x. line_rules name.now x.0.line x.0.read x.1) (zip readings.items landings.items)) result }
-    ensures messages { OnOk result (messages.new.items ≡ messages.old.items ++ flat_map (λ x. line_messages name.now x.0.line x.0.read x.1) (zip readings.items landings.items)) }
+    ensures rules { Adds rules.old rules.new (flat_map (λ x. line_rules profile name.now x.0.line x.0.read x.1) lines.entry.items) result }
+    ensures messages { OnOk result (messages.new.items ≡ messages.old.items ++ flat_map (λ x. line_messages name.now x.0.line x.0.read x.1) lines.entry.items) }
 {
-    for (reading, landing) in readings.into_iter().zip(landings) {
-        add_line(alloc, rules, messages, name, reading, landing)?;
+    for line in lines {
+        add_line(alloc, profile, rules, messages, name, line)?;
     }
     Ok(())
 }
@@ -129,19 +133,24 @@ fn add_lines(
 /// Adds a line: a rule, or a message about one that is not a rule.
 fn add_line(
     alloc: Global,
+    profile: Profile,
     rules: &mut Gathered,
     messages: &mut Vec<Message>,
     name: &[u8],
-    reading: Reading,
-    landing: Landing,
+    line: LandedReading<'_>,
 ) -> Result<(), RulesFault>
-    ensures rules { Adds rules.old rules.new (line_rules name.now reading.line reading.read landing) result }
-    ensures messages { OnOk result (messages.new.items ≡ messages.old.items ++ line_messages name.now reading.line reading.read landing) }
+    ensures rules { Adds rules.old rules.new (line_rules profile name.now line.entry.0.line line.entry.0.read line.entry.1) result }
+    ensures messages { OnOk result (messages.new.items ≡ messages.old.items ++ line_messages name.now line.entry.0.line line.entry.0.read line.entry.1) }
 {
-    let Reading { line, read } = reading;
+    let LandedReading { reading, landing } = line;
+    let Reading {
+        line,
+        text: _,
+        read,
+    } = reading;
     let place = Place { file: name, line };
     match read {
-        Ok(draft) => add_draft(alloc, rules, messages, place, draft, landing),
+        Ok(draft) => add_draft(alloc, profile, rules, messages, place, draft, landing),
         Err(found) => {
             report(alloc, messages, place, found)?;
             Ok(())
@@ -152,23 +161,20 @@ fn add_line(
 /// Adds a rule, and the messages about it: first about its jump, and about its label last.
 fn add_draft(
     alloc: Global,
+    profile: Profile,
     rules: &mut Gathered,
     messages: &mut Vec<Message>,
     place: Place<'_>,
-    draft: Draft,
+    draft: Draft<'_>,
     landing: Landing,
 ) -> Result<(), RulesFault>
-    ensures rules { Adds rules.old rules.new (rule_at place.entry.file.now place.entry.line draft landing ∷ []) result }
-    ensures messages { OnOk result (messages.new.items ≡ messages.old.items ++ map (message_at place.entry.file.now place.entry.line) (findings_of draft landing)) }
+    ensures rules { Adds rules.old rules.new (rule_at profile place.entry.file.now place.entry.line draft.entry landing ∷ []) result }
+    ensures messages { OnOk result (messages.new.items ≡ messages.old.items ++ map (message_at place.entry.file.now place.entry.line) (findings_of draft.entry landing)) }
 {
     let Draft {
         label,
         goto,
-        plain,
-        up,
-        acts,
-        results,
-        sets,
+        parts,
         findings,
     } = draft;
     let lost = MessageKind::NoLaterLabel;
@@ -176,17 +182,51 @@ fn add_draft(
     report_if(alloc, messages, place, landing.lost, lost, &goto)?;
     report_all(alloc, messages, place, findings)?;
     report_if(alloc, messages, place, landing.unused, unused, &label)?;
-    rules.add(Rule {
-        file: Bytes::copy_of(alloc, place.file)?,
+    let kept = kept_jump(name_of(goto), landing.lost);
+    rules.add(rule_of(alloc, profile, place, name_of(label), kept, parts)?)
+}
+
+/// The rule of these names and these parts.
+#[tactic(auto, using(crate::proofs::Drafting::rule_made))]
+fn rule_of(
+    alloc: Global,
+    profile: Profile,
+    place: Place<'_>,
+    label: Option<Bytes>,
+    goto: Option<Bytes>,
+    parts: Vec<WrittenPart<'_>>,
+) -> Result<Rule, AllocError>
+    ensures { IfOk result (λ r. r ≡ rule_with place.entry.file.now place.entry.line label goto (sorted_kinds profile (parts_in parts.entry.items))) }
+{
+    let file = Bytes::copy_of(alloc, place.file)?;
+    let Kinds {
+        plain,
+        up,
+        acts,
+        results,
+        sets,
+    } = Kinds::sorted(alloc, profile, parts)?;
+    Ok(Rule {
+        file,
         line: place.line,
         label,
-        goto: kept_jump(goto, landing.lost),
+        goto,
         plain,
         up,
         acts,
         results,
         sets,
     })
+}
+
+/// A name, if there is one, without its place.
+fn name_of(given: Option<NamePlace>) -> Option<Bytes>
+    ensures { result ≡ name_of given }
+{
+    match given {
+        None => None,
+        Some(NamePlace { name, .. }) => Some(name),
+    }
 }
 
 /// A rule's jump, which is dropped if it is lost.

@@ -2,64 +2,93 @@
 //!
 //! A line that is not a rule is kept here with what is wrong with it, so that the lines, what is said about them
 //! and their jumps stay side by side.
-ghost use Rattle.std.specs.Prelude.{◌≡◌, IfOk, map, option_map};
+ghost use Rattle.std.specs.Prelude.{◌≡◌, ◌++◌, IfOk, OnOk, map, option_map, zip};
 ghost use Rattle.rule_jumps.specs.Jumps.{landings};
-ghost use Rattle.rule_core.specs.Rules.{names_of, reading_of};
+ghost use Rattle.rule_core.specs.Rules.{landed, name_of, names_of, reading_of};
 
 use crate::draft::Draft;
 use crate::draft_reading::read_draft;
 use crate::joined::JoinedLine;
+use crate::line_fault::LineFault;
+use crate::names::NamePlace;
+use crate::spot::Spot;
 use rule_jumps::{Jump, Landing, landings};
-use rule_parts::{Finding, PartFault};
 use std::alloc::{AllocError, Global};
 use std::marker::Model;
-use text_bytes::{Bytes, Profile};
+use text_bytes::Profile;
 
 /// A joined line, read as a rule.
 #[derive(Debug, Drop)]
-pub(crate) struct Reading {
-    /// The number of the line of the file in which it begins.
+pub struct Reading<'a> {
+    /// The number of the line of the file in which it begins, or for udev of the last that is part of it.
     pub line: u32,
+    /// The joined bytes.
+    pub text: &'a [u8],
     /// The rule as its line alone gives it, or what is wrong with it.
-    pub read: Result<Draft, Finding>,
+    pub read: Result<Draft<'a>, Spot>,
 }
 
-impl Model for Reading {
+impl<'a> Model for Reading<'a> {
     ghost use Rattle.rule_core.specs.Rules as rules;
 
     ghost Value = { rules.Reading };
 
-    ghost view = { λ r. record { line = r.line; read = r.read } };
+    ghost view = { λ r. record { line = r.line; text = r.text.now; read = r.read } };
 }
 
-impl Reading {
-    /// Its names for jumps; a line that is not a rule has none.
-    pub fn jump(&self) -> Jump<'_>
-        ensures { result ≡ names_of self.now.read }
-    {
-        match &self.read {
-            Ok(draft) => Jump::new(borrowed(&draft.label), borrowed(&draft.goto)),
-            Err(_) => Jump::new(None, None),
-        }
-    }
+/// A joined line with what becomes of its jump and of its label.
+#[derive(Debug, Drop)]
+pub struct LandedReading<'a> {
+    /// The line.
+    pub reading: Reading<'a>,
+    /// What becomes of its jump and of its label.
+    pub landing: Landing,
 }
 
-/// Returns a name, if there is one.
-fn borrowed(name: &Option<Bytes>) -> Option<&[u8]>
-    ensures { option_map (λ t. t.now) result ≡ name.now }
+impl<'a> Model for LandedReading<'a> {
+    ghost use Rattle.rule_jumps.specs.declared.jumps.Landing as jumps;
+    ghost use Rattle.rule_core.specs.Rules as rules;
+
+    ghost Value = { rules.Reading × jumps.Landing };
+
+    ghost view = { λ l. (l.reading, l.landing) };
+}
+
+/// Reads the joined lines of a file as rules, each with what becomes of its jump and of its label.
+pub fn read_lines<'a>(
+    alloc: Global,
+    profile: Profile,
+    lines: &'a [JoinedLine<'_>],
+) -> Result<Vec<LandedReading<'a>>, AllocError>
+    ensures { IfOk result (λ read. read.items ≡ landed (map (reading_of profile) lines.now)) }
 {
-    match name {
-        None => None,
-        Some(text) => Some(text.as_slice()),
+    let readings = readings_of(alloc, profile, lines)?;
+    let landings = landings_of(alloc, &readings)?;
+    let mut landed = Vec::with_capacity(alloc, readings.len())?;
+    land(&mut landed, readings, landings)?;
+    Ok(landed)
+}
+
+/// Adds lines, each with what becomes of its jump and of its label.
+fn land<'a>(
+    landed: &mut Vec<LandedReading<'a>>,
+    readings: Vec<Reading<'a>>,
+    landings: Vec<Landing>,
+) -> Result<(), AllocError>
+    ensures { OnOk result (landed.new.items ≡ landed.old.items ++ zip readings.entry.items landings.items) }
+{
+    for (reading, landing) in readings.into_iter().zip(landings) {
+        landed.push(LandedReading { reading, landing })?;
     }
+    Ok(())
 }
 
 /// Reads joined lines as rules.
-pub(crate) fn read_lines(
+fn readings_of<'a>(
     alloc: Global,
     profile: Profile,
-    lines: &[JoinedLine<'_>],
-) -> Result<Vec<Reading>, AllocError>
+    lines: &'a [JoinedLine<'_>],
+) -> Result<Vec<Reading<'a>>, AllocError>
     ensures { IfOk result (λ readings. readings.items ≡ map (reading_of profile) lines.now) }
 {
     let mut readings = Vec::with_capacity(alloc, lines.len())?;
@@ -70,27 +99,53 @@ pub(crate) fn read_lines(
 }
 
 /// Reads a joined line as a rule.
-fn read_line(alloc: Global, profile: Profile, line: &JoinedLine<'_>) -> Result<Reading, AllocError>
+fn read_line<'a>(
+    alloc: Global,
+    profile: Profile,
+    line: &'a JoinedLine<'_>,
+) -> Result<Reading<'a>, AllocError>
     ensures { IfOk result (λ reading. reading ≡ reading_of profile line.now) }
 {
-    let read = match read_draft(alloc, profile, line.text()) {
+    let text = line.text();
+    let read = match read_draft(alloc, profile, text) {
         Ok(draft) => Ok(draft),
-        Err(PartFault::Wrong(found)) => Err(found),
-        Err(PartFault::Memory) => return Err(AllocError),
+        Err(LineFault::Wrong(found)) => Err(found),
+        Err(LineFault::Memory) => return Err(AllocError),
     };
     Ok(Reading {
         line: line.number(),
+        text,
         read,
     })
 }
 
 /// What becomes of the jumps of lines.
-pub(crate) fn landings_of(alloc: Global, readings: &[Reading]) -> Result<Vec<Landing>, AllocError>
+fn landings_of(alloc: Global, readings: &[Reading<'_>]) -> Result<Vec<Landing>, AllocError>
     ensures { IfOk result (λ found. found.items ≡ landings (map (λ r. names_of r.read) readings.now)) }
 {
     let mut jumps = Vec::with_capacity(alloc, readings.len())?;
     for reading in readings {
-        jumps.push(reading.jump())?;
+        jumps.push(jump_of(&reading.read))?;
     }
     landings(alloc, &jumps)
+}
+
+/// The names for jumps of a line; one that is not a rule has none.
+fn jump_of<'r>(read: &'r Result<Draft<'_>, Spot>) -> Jump<'r>
+    ensures { result ≡ names_of read.now }
+{
+    match read {
+        Ok(draft) => Jump::new(borrowed(&draft.label), borrowed(&draft.goto)),
+        Err(_) => Jump::new(None, None),
+    }
+}
+
+/// Returns a name, if there is one.
+fn borrowed(given: &Option<NamePlace>) -> Option<&[u8]>
+    ensures { option_map (λ t. t.now) result ≡ name_of given.now }
+{
+    match given {
+        None => None,
+        Some(place) => Some(place.name.as_slice()),
+    }
 }

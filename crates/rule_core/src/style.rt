@@ -2,118 +2,113 @@
 //!
 //! None of this keeps a line from being a rule, so it is looked at only if no token has a fault.
 ghost use Rattle.std.specs.Prelude.{◌≡◌, ◌++◌, OnOk};
-ghost use Rattle.text_bytes.specs.Names.{comma};
-ghost use Rattle.rule_tokens.specs.Values.{ends_in};
-ghost use Rattle.rule_core.specs.Drafts.{items_as, tokens_of};
 ghost use Rattle.rule_core.specs.Places.{findings_at_end, findings_before};
-ghost use Rattle.rule_core.specs.Style.{comma_findings, commas, end_findings, gap_findings, has_blank_before_comma, leading_findings, operator_findings, read_as_assign_kind, style_findings};
+ghost use Rattle.rule_core.specs.Style.{comma_findings, commas, gap_findings, has_blank_before_comma, leading_findings, operator_findings, read_as_assign_kind, style_findings, whole_gap};
+ghost use Rattle.rule_core.specs.Written.{tokens_in};
 
-use crate::places::{between, following, line_tokens};
-use crate::reporting::report;
+use crate::places::{between, following};
+use crate::spot::{Spot, key_spot};
+use crate::written::WrittenPart;
 use file_messages::MessageKind;
-use rule_parts::{Finding, is_read_as_assign};
+use rule_parts::is_read_as_assign;
 use rule_tokens::Token;
 use std::alloc::{AllocError, Global};
-use text_bytes::Profile;
+use text_bytes::{Bytes, Profile, ends_in};
 
 /// Adds the findings about how a line is written, by the places of its tokens.
 pub(crate) fn add_style(
     alloc: Global,
     profile: Profile,
-    findings: &mut Vec<Finding>,
+    findings: &mut Vec<Spot>,
     line: &[u8],
+    parts: &[WrittenPart<'_>],
 ) -> Result<(), AllocError>
-    ensures { OnOk result (findings.new.items ≡ findings.old.items ++ style_findings profile line.now (tokens_of (items_as profile line.now))) }
+    ensures { OnOk result (findings.new.items ≡ findings.old.items ++ style_findings profile line.now (tokens_in parts.now)) }
 {
     let mut place = None;
-    for item in line_tokens(profile, line) {
-        if let Ok(token) = item {
-            add_token(alloc, profile, findings, line, place, &token)?;
-            place = Some(token.span().end);
-        }
+    for written in parts {
+        add_token(alloc, profile, findings, line, place, &written.token)?;
+        place = Some(written.token.span().end);
     }
     add_end(alloc, findings, line, place)
 }
 
-/// Adds the findings about a token and the gap before it, which begins at a place, or for the first token at
-/// the start of the line.
+/// Adds the findings about a token and the gap before it, which begins at a place, or else at the line's
+/// start.
 fn add_token(
     alloc: Global,
     profile: Profile,
-    findings: &mut Vec<Finding>,
+    findings: &mut Vec<Spot>,
     line: &[u8],
     place: Option<usize>,
     token: &Token<'_>,
 ) -> Result<(), AllocError>
     ensures { OnOk result (findings.new.items ≡ findings.old.items ++ (findings_before profile line.now place token.now ++ operator_findings profile token.now)) }
 {
-    let start = token.span().start;
     match place {
-        None => add_leading(alloc, profile, findings, between(0, start, line))?,
+        None => {
+            let gap = between(0, token.span().start, line);
+            add_leading(alloc, profile, findings, gap)?;
+        }
         Some(from) => {
-            let gap = between(from, start, line);
-            add_gap(alloc, profile, findings, gap, token.key())?;
+            let gap = between(from, token.span().start, line);
+            add_gap(alloc, profile, findings, gap, token)?;
         }
     }
     add_operator(alloc, profile, findings, token)
 }
 
-/// Adds the findings about the gap before the first token, which only udev skips.
+/// Adds the findings about the gap before the first token.
 fn add_leading(
     alloc: Global,
     profile: Profile,
-    findings: &mut Vec<Finding>,
+    findings: &mut Vec<Spot>,
     gap: &[u8],
 ) -> Result<(), AllocError>
     ensures { OnOk result (findings.new.items ≡ findings.old.items ++ leading_findings profile gap.now) }
 {
     match profile {
-        Profile::Manual => {}
-        Profile::Udev => {
-            if commas(gap) != 0 {
-                report(alloc, findings, MessageKind::LeadingComma, &[])?;
-            }
-        }
+        Profile::Manual => Ok(()),
+        Profile::Udev => add_whole_gap(alloc, MessageKind::LeadingComma, findings, 0, gap),
     }
-    Ok(())
 }
 
-/// Adds the findings about the gap before a token with this key.
+/// Adds the findings about the gap before a token.
 fn add_gap(
     alloc: Global,
     profile: Profile,
-    findings: &mut Vec<Finding>,
+    findings: &mut Vec<Spot>,
     gap: &[u8],
-    key: &[u8],
+    token: &Token<'_>,
 ) -> Result<(), AllocError>
-    ensures { OnOk result (findings.new.items ≡ findings.old.items ++ gap_findings profile gap.now key.now) }
+    ensures { OnOk result (findings.new.items ≡ findings.old.items ++ gap_findings profile gap.now token.now) }
 {
-    add_commas(alloc, findings, gap, key)?;
+    add_commas(alloc, findings, gap, token)?;
     match profile {
         Profile::Manual => {}
         Profile::Udev => {
             if has_blank_before_comma(gap) {
-                report(alloc, findings, MessageKind::BlankBeforeComma, key)?;
+                findings.push(key_spot(alloc, MessageKind::BlankBeforeComma, token)?)?;
             }
         }
     }
     Ok(())
 }
 
-/// Adds the findings about the commas of the gap before a token with this key.
+/// Adds the findings about the commas of the gap before a token.
 fn add_commas(
     alloc: Global,
-    findings: &mut Vec<Finding>,
+    findings: &mut Vec<Spot>,
     gap: &[u8],
-    key: &[u8],
+    token: &Token<'_>,
 ) -> Result<(), AllocError>
-    ensures { OnOk result (findings.new.items ≡ findings.old.items ++ comma_findings gap.now key.now) }
+    ensures { OnOk result (findings.new.items ≡ findings.old.items ++ comma_findings gap.now token.now) }
 {
     if commas(gap) != 1 {
-        report(alloc, findings, MessageKind::CommaExpected, key)?;
+        findings.push(key_spot(alloc, MessageKind::CommaExpected, token)?)?;
     }
-    if ends_in_comma(gap) {
-        report(alloc, findings, MessageKind::BlankExpected, key)?;
+    if ends_in(b',', gap) {
+        findings.push(key_spot(alloc, MessageKind::BlankExpected, token)?)?;
     }
     Ok(())
 }
@@ -122,19 +117,61 @@ fn add_commas(
 fn add_operator(
     alloc: Global,
     profile: Profile,
-    findings: &mut Vec<Finding>,
+    findings: &mut Vec<Spot>,
     token: &Token<'_>,
 ) -> Result<(), AllocError>
     ensures { OnOk result (findings.new.items ≡ findings.old.items ++ operator_findings profile token.now) }
 {
     if is_read_as_assign(token) {
-        report(alloc, findings, read_as_assign_kind(profile), token.key())?;
+        findings.push(key_spot(alloc, read_as_assign_kind(profile), token)?)?;
+    }
+    Ok(())
+}
+
+/// Adds the findings about the gap after the last token, which begins at a place.
+fn add_end(
+    alloc: Global,
+    findings: &mut Vec<Spot>,
+    line: &[u8],
+    place: Option<usize>,
+) -> Result<(), AllocError>
+    ensures { OnOk result (findings.new.items ≡ findings.old.items ++ findings_at_end line.now place) }
+{
+    match place {
+        None => Ok(()),
+        Some(from) => add_whole_gap(
+            alloc,
+            MessageKind::CommaExpected,
+            findings,
+            from,
+            following(from, line),
+        ),
+    }
+}
+
+/// Adds this about a whole gap, which begins at a place, if it has a comma.
+fn add_whole_gap(
+    alloc: Global,
+    kind: MessageKind,
+    findings: &mut Vec<Spot>,
+    place: usize,
+    gap: &[u8],
+) -> Result<(), AllocError>
+    ensures { OnOk result (findings.new.items ≡ findings.old.items ++ whole_gap kind place gap.now) }
+{
+    if commas(gap) != 0 {
+        findings.push(Spot {
+            kind,
+            word: Bytes::new(Vec::new(alloc)),
+            start: place,
+            size: gap.len(),
+        })?;
     }
     Ok(())
 }
 
 /// What is reported for an operator that is read as `=`: a remark on style, for udev a fault.
-pub fn read_as_assign_kind(profile: Profile) -> MessageKind
+fn read_as_assign_kind(profile: Profile) -> MessageKind
     ensures { result ≡ read_as_assign_kind profile }
 {
     match profile {
@@ -143,49 +180,19 @@ pub fn read_as_assign_kind(profile: Profile) -> MessageKind
     }
 }
 
-/// Adds the findings about the gap after the last token, which begins at a place.
-fn add_end(
-    alloc: Global,
-    findings: &mut Vec<Finding>,
-    line: &[u8],
-    place: Option<usize>,
-) -> Result<(), AllocError>
-    ensures { OnOk result (findings.new.items ≡ findings.old.items ++ findings_at_end line.now place) }
-{
-    match place {
-        None => Ok(()),
-        Some(from) => {
-            if commas(following(from, line)) != 0 {
-                report(alloc, findings, MessageKind::CommaExpected, &[])?;
-            }
-            Ok(())
-        }
-    }
-}
-
 /// How many commas a gap has.
-pub fn commas(gap: &[u8]) -> usize
+fn commas(gap: &[u8]) -> usize
     ensures { result ≡ commas gap.now }
 {
     gap.iter().filter(|byte| **byte == b',').count()
 }
 
 /// Whether a gap has a comma and begins with a blank.
-pub fn has_blank_before_comma(gap: &[u8]) -> bool
+fn has_blank_before_comma(gap: &[u8]) -> bool
     ensures { result ≡ has_blank_before_comma gap.now }
 {
     match gap.split_first() {
         None => false,
         Some((byte, following)) => (*byte == b' ' || *byte == b'\t') && commas(following) != 0,
-    }
-}
-
-/// Whether the last byte of a gap is a comma.
-fn ends_in_comma(gap: &[u8]) -> bool
-    ensures { result ≡ ends_in comma gap.now }
-{
-    match gap.last() {
-        None => false,
-        Some(byte) => *byte == b',',
     }
 }

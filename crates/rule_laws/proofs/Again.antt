@@ -1,125 +1,145 @@
 -- Names that are given again.
 use Rattle.std.proofs.Common.{◌≡◌, ◌∙◌, ◌++◌, ◌∷◌, ℕ, List, [], ap, refl, filter_map}
 use Rattle.file_messages.specs.declared.message.MessageKind.TheVariants.{GivenTwice}
-use Rattle.rule_parts.specs.Values.{finding}
-use Rattle.rule_parts.specs.declared.finding.Finding.{Finding}
+use Rattle.rule_tokens.specs.Grammar.{Placed}
 use Rattle.rule_types.specs.declared.part.Part.{Part}
 use Rattle.rule_types.specs.declared.part.Part.TheVariants as part
 use Rattle.text_bytes.specs.declared.profile.Profile.TheVariants.{Manual}
-use Rattle.rule_core.specs.Drafts.{again_in, given_again, given_again_after, goto_in, label_in}
+use Rattle.rule_core.specs.Drafts.{again_in, given_again, given_again_after, given_twice, goto_at, label_at, name_place, part_again}
 use Rattle.rule_core.specs.Laws.{GivesAgain, IsGivenAmong, IsReportedWhereAgain}
+use Rattle.rule_core.specs.Spots.{value_spot}
+use Rattle.rule_core.specs.Written.{WrittenPart}
+use Rattle.rule_core.specs.declared.names.NamePlace.{NamePlace}
+use Rattle.rule_core.specs.declared.spot.Spot.{Spot}
 use Rattle.rule_core.proofs.Taking.{none_said, said_after}
 
-label_again : (before following : List Part) (given name : List ℕ) → given_again (filter_map label_in (before ++ part.Label given ∷ following)) name ≡ finding GivenTwice name ∷ []
-label_again [] following given name = refl
-label_again (part.Plain m ∷ before) following given name = label_again before following given name
-label_again (part.Up m ∷ before) following given name = label_again before following given name
-label_again (part.Act a ∷ before) following given name = label_again before following given name
-label_again (part.Result c ∷ before) following given name = label_again before following given name
-label_again (part.Set a ∷ before) following given name = label_again before following given name
-label_again (part.Label l ∷ before) following given name = refl
-label_again (part.Goto l ∷ before) following given name = label_again before following given name
+abbrev token_of : Placed → Part → WrittenPart
+token_of t p = record { token = t; part = p }
 
-no_label : (parts : List Part) → ((before following : List Part) (given : List ℕ) → parts ≡ before ++ part.Label given ∷ following → ⊥) → filter_map label_in parts ≡ []
+label_again : (before following : List WrittenPart) (t : Placed) (given : List ℕ) (name : NamePlace) → given_again (filter_map label_at (before ++ token_of t (part.Label given) ∷ following)) name ≡ given_twice name ∷ []
+label_again [] following t given name = refl
+label_again (w ∷ before) following t given name = by w.token w.part (label_again before following t given name)
+  where
+    by : (u : Placed) (p : Part) → given_again (filter_map label_at (before ++ token_of t (part.Label given) ∷ following)) name ≡ given_twice name ∷ []
+        → given_again (filter_map label_at (token_of u p ∷ before ++ token_of t (part.Label given) ∷ following)) name ≡ given_twice name ∷ []
+    by u (part.Plain m) e = e
+    by u (part.Up m) e = e
+    by u (part.Act a) e = e
+    by u (part.Result c) e = e
+    by u (part.Set a) e = e
+    by u (part.Label l) e = refl
+    by u (part.Goto l) e = e
+
+no_label : (parts : List WrittenPart) → ((before following : List WrittenPart) (t : Placed) (given : List ℕ) → parts ≡ before ++ token_of t (part.Label given) ∷ following → ⊥) → filter_map label_at parts ≡ []
 no_label [] none = refl
-no_label (part.Plain m ∷ parts) none = no_label parts (λ before following given cut. none (part.Plain m ∷ before) following given (ap (λ (ps : List Part). part.Plain m ∷ ps) cut))
-no_label (part.Up m ∷ parts) none = no_label parts (λ before following given cut. none (part.Up m ∷ before) following given (ap (λ (ps : List Part). part.Up m ∷ ps) cut))
-no_label (part.Act a ∷ parts) none = no_label parts (λ before following given cut. none (part.Act a ∷ before) following given (ap (λ (ps : List Part). part.Act a ∷ ps) cut))
-no_label (part.Result c ∷ parts) none = no_label parts (λ before following given cut. none (part.Result c ∷ before) following given (ap (λ (ps : List Part). part.Result c ∷ ps) cut))
-no_label (part.Set a ∷ parts) none = no_label parts (λ before following given cut. none (part.Set a ∷ before) following given (ap (λ (ps : List Part). part.Set a ∷ ps) cut))
-no_label (part.Label l ∷ parts) none = absurd (none [] parts l refl)
-no_label (part.Goto l ∷ parts) none = no_label parts (λ before following given cut. none (part.Goto l ∷ before) following given (ap (λ (ps : List Part). part.Goto l ∷ ps) cut))
+no_label (w ∷ parts) none = by w.token w.part (λ before following t given cut. none before following t given cut) (no_label parts (λ before following t given cut. none (w ∷ before) following t given (ap (λ (ws : List WrittenPart). w ∷ ws) cut)))
+  where
+    by : (u : Placed) (p : Part) → ((before following : List WrittenPart) (t : Placed) (given : List ℕ) → token_of u p ∷ parts ≡ before ++ token_of t (part.Label given) ∷ following → ⊥) → filter_map label_at parts ≡ [] → filter_map label_at (token_of u p ∷ parts) ≡ []
+    by u (part.Plain m) gone e = e
+    by u (part.Up m) gone e = e
+    by u (part.Act a) gone e = e
+    by u (part.Result c) gone e = e
+    by u (part.Set a) gone e = e
+    by u (part.Label l) gone e = absurd (gone [] parts u l refl)
+    by u (part.Goto l) gone e = e
 
-goto_again : (before following : List Part) (given name : List ℕ) → given_again (filter_map goto_in (before ++ part.Goto given ∷ following)) name ≡ finding GivenTwice name ∷ []
-goto_again [] following given name = refl
-goto_again (part.Plain m ∷ before) following given name = goto_again before following given name
-goto_again (part.Up m ∷ before) following given name = goto_again before following given name
-goto_again (part.Act a ∷ before) following given name = goto_again before following given name
-goto_again (part.Result c ∷ before) following given name = goto_again before following given name
-goto_again (part.Set a ∷ before) following given name = goto_again before following given name
-goto_again (part.Label l ∷ before) following given name = goto_again before following given name
-goto_again (part.Goto l ∷ before) following given name = refl
+goto_again : (before following : List WrittenPart) (t : Placed) (given : List ℕ) (name : NamePlace) → given_again (filter_map goto_at (before ++ token_of t (part.Goto given) ∷ following)) name ≡ given_twice name ∷ []
+goto_again [] following t given name = refl
+goto_again (w ∷ before) following t given name = by w.token w.part (goto_again before following t given name)
+  where
+    by : (u : Placed) (p : Part) → given_again (filter_map goto_at (before ++ token_of t (part.Goto given) ∷ following)) name ≡ given_twice name ∷ []
+        → given_again (filter_map goto_at (token_of u p ∷ before ++ token_of t (part.Goto given) ∷ following)) name ≡ given_twice name ∷ []
+    by u (part.Plain m) e = e
+    by u (part.Up m) e = e
+    by u (part.Act a) e = e
+    by u (part.Result c) e = e
+    by u (part.Set a) e = e
+    by u (part.Goto l) e = refl
+    by u (part.Label l) e = e
 
-no_goto : (parts : List Part) → ((before following : List Part) (given : List ℕ) → parts ≡ before ++ part.Goto given ∷ following → ⊥) → filter_map goto_in parts ≡ []
+no_goto : (parts : List WrittenPart) → ((before following : List WrittenPart) (t : Placed) (given : List ℕ) → parts ≡ before ++ token_of t (part.Goto given) ∷ following → ⊥) → filter_map goto_at parts ≡ []
 no_goto [] none = refl
-no_goto (part.Plain m ∷ parts) none = no_goto parts (λ before following given cut. none (part.Plain m ∷ before) following given (ap (λ (ps : List Part). part.Plain m ∷ ps) cut))
-no_goto (part.Up m ∷ parts) none = no_goto parts (λ before following given cut. none (part.Up m ∷ before) following given (ap (λ (ps : List Part). part.Up m ∷ ps) cut))
-no_goto (part.Act a ∷ parts) none = no_goto parts (λ before following given cut. none (part.Act a ∷ before) following given (ap (λ (ps : List Part). part.Act a ∷ ps) cut))
-no_goto (part.Result c ∷ parts) none = no_goto parts (λ before following given cut. none (part.Result c ∷ before) following given (ap (λ (ps : List Part). part.Result c ∷ ps) cut))
-no_goto (part.Set a ∷ parts) none = no_goto parts (λ before following given cut. none (part.Set a ∷ before) following given (ap (λ (ps : List Part). part.Set a ∷ ps) cut))
-no_goto (part.Label l ∷ parts) none = no_goto parts (λ before following given cut. none (part.Label l ∷ before) following given (ap (λ (ps : List Part). part.Label l ∷ ps) cut))
-no_goto (part.Goto l ∷ parts) none = absurd (none [] parts l refl)
+no_goto (w ∷ parts) none = by w.token w.part (λ before following t given cut. none before following t given cut) (no_goto parts (λ before following t given cut. none (w ∷ before) following t given (ap (λ (ws : List WrittenPart). w ∷ ws) cut)))
+  where
+    by : (u : Placed) (p : Part) → ((before following : List WrittenPart) (t : Placed) (given : List ℕ) → token_of u p ∷ parts ≡ before ++ token_of t (part.Goto given) ∷ following → ⊥) → filter_map goto_at parts ≡ [] → filter_map goto_at (token_of u p ∷ parts) ≡ []
+    by u (part.Plain m) gone e = e
+    by u (part.Up m) gone e = e
+    by u (part.Act a) gone e = e
+    by u (part.Result c) gone e = e
+    by u (part.Set a) gone e = e
+    by u (part.Goto l) gone e = absurd (gone [] parts u l refl)
+    by u (part.Label l) gone e = e
 
--- what is said of a part more
-reported_again : (parts : List Part) (p : Part) (name : List ℕ) → again_in Manual parts p ≡ finding GivenTwice name ∷ [] → given_again_after Manual [] (parts ++ p ∷ []) ≡ given_again_after Manual [] parts ++ finding GivenTwice name ∷ []
-reported_again parts p name e = said_after Manual [] parts p ∙ ap (λ (fs : List Finding). given_again_after Manual [] parts ++ fs) e
+-- what is said of a token more
+reported_again : (parts : List WrittenPart) (w : WrittenPart) (name : List ℕ) → again_in Manual parts w ≡ value_spot GivenTwice name w.token ∷ [] → given_again_after Manual [] (parts ++ w ∷ []) ≡ given_again_after Manual [] parts ++ value_spot GivenTwice name w.token ∷ []
+reported_again parts w name e = said_after Manual [] parts w ∙ ap (λ (fs : List Spot). given_again_after Manual [] parts ++ fs) e
 
-said_of_again : (before : List Part) (earlier : Part) (following : List Part) (p : Part) (name : List ℕ) → GivesAgain earlier p name → again_in Manual (before ++ earlier ∷ following) p ≡ finding GivenTwice name ∷ []
-said_of_again before (part.Label given) following (part.Label later) name e = label_again before following given later ∙ ap (λ (n : List ℕ). finding GivenTwice n ∷ []) e
-said_of_again before (part.Goto given) following (part.Goto later) name e = goto_again before following given later ∙ ap (λ (n : List ℕ). finding GivenTwice n ∷ []) e
-said_of_again before (part.Plain m) following (part.Plain w) name e = absurd e
-said_of_again before (part.Plain m) following (part.Up w) name e = absurd e
-said_of_again before (part.Plain m) following (part.Act w) name e = absurd e
-said_of_again before (part.Plain m) following (part.Result w) name e = absurd e
-said_of_again before (part.Plain m) following (part.Set w) name e = absurd e
-said_of_again before (part.Plain m) following (part.Label w) name e = absurd e
-said_of_again before (part.Plain m) following (part.Goto w) name e = absurd e
-said_of_again before (part.Up m) following (part.Plain w) name e = absurd e
-said_of_again before (part.Up m) following (part.Up w) name e = absurd e
-said_of_again before (part.Up m) following (part.Act w) name e = absurd e
-said_of_again before (part.Up m) following (part.Result w) name e = absurd e
-said_of_again before (part.Up m) following (part.Set w) name e = absurd e
-said_of_again before (part.Up m) following (part.Label w) name e = absurd e
-said_of_again before (part.Up m) following (part.Goto w) name e = absurd e
-said_of_again before (part.Act a) following (part.Plain w) name e = absurd e
-said_of_again before (part.Act a) following (part.Up w) name e = absurd e
-said_of_again before (part.Act a) following (part.Act w) name e = absurd e
-said_of_again before (part.Act a) following (part.Result w) name e = absurd e
-said_of_again before (part.Act a) following (part.Set w) name e = absurd e
-said_of_again before (part.Act a) following (part.Label w) name e = absurd e
-said_of_again before (part.Act a) following (part.Goto w) name e = absurd e
-said_of_again before (part.Result c) following (part.Plain w) name e = absurd e
-said_of_again before (part.Result c) following (part.Up w) name e = absurd e
-said_of_again before (part.Result c) following (part.Act w) name e = absurd e
-said_of_again before (part.Result c) following (part.Result w) name e = absurd e
-said_of_again before (part.Result c) following (part.Set w) name e = absurd e
-said_of_again before (part.Result c) following (part.Label w) name e = absurd e
-said_of_again before (part.Result c) following (part.Goto w) name e = absurd e
-said_of_again before (part.Set a) following (part.Plain w) name e = absurd e
-said_of_again before (part.Set a) following (part.Up w) name e = absurd e
-said_of_again before (part.Set a) following (part.Act w) name e = absurd e
-said_of_again before (part.Set a) following (part.Result w) name e = absurd e
-said_of_again before (part.Set a) following (part.Set w) name e = absurd e
-said_of_again before (part.Set a) following (part.Label w) name e = absurd e
-said_of_again before (part.Set a) following (part.Goto w) name e = absurd e
-said_of_again before (part.Label l) following (part.Plain w) name e = absurd e
-said_of_again before (part.Label l) following (part.Up w) name e = absurd e
-said_of_again before (part.Label l) following (part.Act w) name e = absurd e
-said_of_again before (part.Label l) following (part.Result w) name e = absurd e
-said_of_again before (part.Label l) following (part.Set w) name e = absurd e
-said_of_again before (part.Label l) following (part.Goto w) name e = absurd e
-said_of_again before (part.Goto l) following (part.Plain w) name e = absurd e
-said_of_again before (part.Goto l) following (part.Up w) name e = absurd e
-said_of_again before (part.Goto l) following (part.Act w) name e = absurd e
-said_of_again before (part.Goto l) following (part.Result w) name e = absurd e
-said_of_again before (part.Goto l) following (part.Set w) name e = absurd e
-said_of_again before (part.Goto l) following (part.Label w) name e = absurd e
+said_of_again : (before : List WrittenPart) (u : Placed) (earlier : Part) (following : List WrittenPart) (t : Placed) (p : Part) (name : List ℕ) → GivesAgain earlier p name → part_again Manual (before ++ token_of u earlier ∷ following) t p ≡ value_spot GivenTwice name t ∷ []
+said_of_again before u (part.Label given) following t (part.Label later) name e = label_again before following u given (name_place t later) ∙ ap (λ (n : List ℕ). value_spot GivenTwice n t ∷ []) e
+said_of_again before u (part.Goto given) following t (part.Goto later) name e = goto_again before following u given (name_place t later) ∙ ap (λ (n : List ℕ). value_spot GivenTwice n t ∷ []) e
+said_of_again before u (part.Plain m) following t (part.Plain w) name e = absurd e
+said_of_again before u (part.Plain m) following t (part.Up w) name e = absurd e
+said_of_again before u (part.Plain m) following t (part.Act w) name e = absurd e
+said_of_again before u (part.Plain m) following t (part.Result w) name e = absurd e
+said_of_again before u (part.Plain m) following t (part.Set w) name e = absurd e
+said_of_again before u (part.Plain m) following t (part.Label w) name e = absurd e
+said_of_again before u (part.Plain m) following t (part.Goto w) name e = absurd e
+said_of_again before u (part.Up m) following t (part.Plain w) name e = absurd e
+said_of_again before u (part.Up m) following t (part.Up w) name e = absurd e
+said_of_again before u (part.Up m) following t (part.Act w) name e = absurd e
+said_of_again before u (part.Up m) following t (part.Result w) name e = absurd e
+said_of_again before u (part.Up m) following t (part.Set w) name e = absurd e
+said_of_again before u (part.Up m) following t (part.Label w) name e = absurd e
+said_of_again before u (part.Up m) following t (part.Goto w) name e = absurd e
+said_of_again before u (part.Act a) following t (part.Plain w) name e = absurd e
+said_of_again before u (part.Act a) following t (part.Up w) name e = absurd e
+said_of_again before u (part.Act a) following t (part.Act w) name e = absurd e
+said_of_again before u (part.Act a) following t (part.Result w) name e = absurd e
+said_of_again before u (part.Act a) following t (part.Set w) name e = absurd e
+said_of_again before u (part.Act a) following t (part.Label w) name e = absurd e
+said_of_again before u (part.Act a) following t (part.Goto w) name e = absurd e
+said_of_again before u (part.Result c) following t (part.Plain w) name e = absurd e
+said_of_again before u (part.Result c) following t (part.Up w) name e = absurd e
+said_of_again before u (part.Result c) following t (part.Act w) name e = absurd e
+said_of_again before u (part.Result c) following t (part.Result w) name e = absurd e
+said_of_again before u (part.Result c) following t (part.Set w) name e = absurd e
+said_of_again before u (part.Result c) following t (part.Label w) name e = absurd e
+said_of_again before u (part.Result c) following t (part.Goto w) name e = absurd e
+said_of_again before u (part.Set a) following t (part.Plain w) name e = absurd e
+said_of_again before u (part.Set a) following t (part.Up w) name e = absurd e
+said_of_again before u (part.Set a) following t (part.Act w) name e = absurd e
+said_of_again before u (part.Set a) following t (part.Result w) name e = absurd e
+said_of_again before u (part.Set a) following t (part.Set w) name e = absurd e
+said_of_again before u (part.Set a) following t (part.Label w) name e = absurd e
+said_of_again before u (part.Set a) following t (part.Goto w) name e = absurd e
+said_of_again before u (part.Label l) following t (part.Plain w) name e = absurd e
+said_of_again before u (part.Label l) following t (part.Up w) name e = absurd e
+said_of_again before u (part.Label l) following t (part.Act w) name e = absurd e
+said_of_again before u (part.Label l) following t (part.Result w) name e = absurd e
+said_of_again before u (part.Label l) following t (part.Set w) name e = absurd e
+said_of_again before u (part.Label l) following t (part.Goto w) name e = absurd e
+said_of_again before u (part.Goto l) following t (part.Plain w) name e = absurd e
+said_of_again before u (part.Goto l) following t (part.Up w) name e = absurd e
+said_of_again before u (part.Goto l) following t (part.Act w) name e = absurd e
+said_of_again before u (part.Goto l) following t (part.Result w) name e = absurd e
+said_of_again before u (part.Goto l) following t (part.Set w) name e = absurd e
+said_of_again before u (part.Goto l) following t (part.Label w) name e = absurd e
 
-said_once : (parts : List Part) (p : Part) → ((name : List ℕ) → IsGivenAmong parts p name → ⊥) → again_in Manual parts p ≡ []
-said_once parts (part.Plain m) none = refl
-said_once parts (part.Up m) none = refl
-said_once parts (part.Act a) none = refl
-said_once parts (part.Result c) none = refl
-said_once parts (part.Set a) none = refl
-said_once parts (part.Label later) none =
-    let gone : filter_map label_in parts ≡ [] = no_label parts (λ before following given cut. none later (record { before = before; earlier = part.Label given; following = following; cut = cut; again = refl })) in
-    ap (λ (names : List (List ℕ)). given_again names later) gone
-said_once parts (part.Goto later) none =
-    let gone : filter_map goto_in parts ≡ [] = no_goto parts (λ before following given cut. none later (record { before = before; earlier = part.Goto given; following = following; cut = cut; again = refl })) in
-    ap (λ (names : List (List ℕ)). given_again names later) gone
+said_once : (parts : List WrittenPart) (t : Placed) (p : Part) → ((name : List ℕ) → IsGivenAmong parts (token_of t p) name → ⊥) → part_again Manual parts t p ≡ []
+said_once parts t (part.Plain m) none = refl
+said_once parts t (part.Up m) none = refl
+said_once parts t (part.Act a) none = refl
+said_once parts t (part.Result c) none = refl
+said_once parts t (part.Set a) none = refl
+said_once parts t (part.Label later) none =
+    let gone : filter_map label_at parts ≡ [] = no_label parts (λ before following u given cut. none later (record { before = before; earlier = token_of u (part.Label given); following = following; cut = cut; again = refl })) in
+    ap (λ (names : List NamePlace). given_again names (name_place t later)) gone
+said_once parts t (part.Goto later) none =
+    let gone : filter_map goto_at parts ≡ [] = no_goto parts (λ before following u given cut. none later (record { before = before; earlier = token_of u (part.Goto given); following = following; cut = cut; again = refl })) in
+    ap (λ (names : List NamePlace). given_again names (name_place t later)) gone
 
-pub is_reported : (parts : List Part) (p : Part) → IsReportedWhereAgain parts p
-is_reported parts p = record {
-  again = λ name g. reported_again parts p name (ap (λ (ps : List Part). again_in Manual ps p) g.cut ∙ said_of_again g.before g.earlier g.following p name g.again);
-  once = λ none. none_said Manual parts p (said_once parts p none);
+pub is_reported : (parts : List WrittenPart) (w : WrittenPart) → IsReportedWhereAgain parts w
+is_reported parts w = record {
+  again = λ name g. reported_again parts w name (ap (λ (ws : List WrittenPart). again_in Manual ws w) g.cut ∙ said_of_again g.before g.earlier.token g.earlier.part g.following w.token w.part name g.again);
+  once = λ none. none_said Manual parts w (said_once parts w.token w.part none);
 }

@@ -8,8 +8,8 @@ use Rattle.file_messages.specs.declared.message.MessageKind.TheVariants.{BlankEx
 use Rattle.rule_tokens.specs.Grammar.{AllAre, Placed, is_gap_byte}
 use Rattle.rule_tokens.specs.Values.{ends_in}
 use Rattle.rule_parts.specs.Parts.{is_read_as_assign}
-use Rattle.rule_parts.specs.Values.{finding}
-use Rattle.rule_parts.specs.declared.finding.Finding.{Finding}
+use Rattle.rule_core.specs.Spots.{key_spot, spot}
+use Rattle.rule_core.specs.declared.spot.Spot.{Spot}
 use Rattle.text_bytes.specs.declared.profile.Profile.TheVariants.{Manual}
 use Rattle.rule_core.specs.Laws.{IsPlain, IsPlainAfter, IsPlainGap}
 use Rattle.rule_core.specs.Places.{AreGaps, AreGapsAfter}
@@ -144,62 +144,62 @@ ends_far (b ∷ c ∷ before) following h a = ends_far (c ∷ before) following 
 
 -- ---- what is to be said
 
-prefix_empty : (xs ys : List Finding) → xs ++ ys ≡ [] → xs ≡ []
+prefix_empty : (xs ys : List Spot) → xs ++ ys ≡ [] → xs ≡ []
 prefix_empty [] ys e = refl
 prefix_empty (x ∷ xs) ys e = cc
 
-back_empty : (xs ys : List Finding) → xs ++ ys ≡ [] → ys ≡ []
+back_empty : (xs ys : List Spot) → xs ++ ys ≡ [] → ys ≡ []
 back_empty [] ys e = e
 back_empty (x ∷ xs) ys e = cc
 
-both_empty : (xs ys : List Finding) → xs ≡ [] → ys ≡ [] → xs ++ ys ≡ []
+both_empty : (xs ys : List Spot) → xs ≡ [] → ys ≡ [] → xs ++ ys ≡ []
 both_empty xs ys e f = ap (λ zs. zs ++ ys) e ∙ f
 
-unsaid : (b : Bool) (f : Finding) → cond b (f ∷ []) [] ≡ [] → b ≡ false
+unsaid : (b : Bool) (f : Spot) → cond b (f ∷ []) [] ≡ [] → b ≡ false
 unsaid true f e = cc
 unsaid false f e = refl
 
-passed : (b : Bool) (f : Finding) → cond b [] (f ∷ []) ≡ [] → b ≡ true
+passed : (b : Bool) (f : Spot) → cond b [] (f ∷ []) ≡ [] → b ≡ true
 passed true f e = refl
 passed false f e = cc
 
-gap_passed : (gap key : List ℕ) → AllAre is_gap_byte gap → gap_findings Manual gap key ≡ [] → IsPlainGap gap
-gap_passed gap key g e =
-    let first : List Finding = cond (commas gap == 1) [] (finding CommaExpected key ∷ []) in
-    let second : List Finding = cond (ends_in comma gap) (finding BlankExpected key ∷ []) [] in
-    plain_so gap g (eqb-true (commas gap) 1 (passed (commas gap == 1) (finding CommaExpected key) (prefix_empty first second e))) (unsaid (ends_in comma gap) (finding BlankExpected key) (back_empty first second e))
+gap_passed : (gap : List ℕ) (t : Placed) → AllAre is_gap_byte gap → gap_findings Manual gap t ≡ [] → IsPlainGap gap
+gap_passed gap t g e =
+    let first : List Spot = cond (commas gap == 1) [] (key_spot CommaExpected t ∷ []) in
+    let second : List Spot = cond (ends_in comma gap) (key_spot BlankExpected t ∷ []) [] in
+    plain_so gap g (eqb-true (commas gap) 1 (passed (commas gap == 1) (key_spot CommaExpected t) (prefix_empty first second e))) (unsaid (ends_in comma gap) (key_spot BlankExpected t) (back_empty first second e))
 
-plain_gap_passed : (gap key : List ℕ) → IsPlainGap gap → gap_findings Manual gap key ≡ []
-plain_gap_passed gap key p =
-    both_empty (cond (commas gap == 1) [] (finding CommaExpected key ∷ [])) (cond (ends_in comma gap) (finding BlankExpected key ∷ []) [])
-    (ap (λ b. cond b [] (finding CommaExpected key ∷ [])) (eq-eqb (commas gap) 1 (one_comma gap p)))
-    (ap (λ b. cond b (finding BlankExpected key ∷ []) []) (ap (ends_in comma) p.spelled ∙ ends_far p.before p.following p.some_after p.blank_after))
+plain_gap_passed : (gap : List ℕ) (t : Placed) → IsPlainGap gap → gap_findings Manual gap t ≡ []
+plain_gap_passed gap t p =
+    both_empty (cond (commas gap == 1) [] (key_spot CommaExpected t ∷ [])) (cond (ends_in comma gap) (key_spot BlankExpected t ∷ []) [])
+    (ap (λ b. cond b [] (key_spot CommaExpected t ∷ [])) (eq-eqb (commas gap) 1 (one_comma gap p)))
+    (ap (λ b. cond b (key_spot BlankExpected t ∷ []) []) (ap (ends_in comma) p.spelled ∙ ends_far p.before p.following p.some_after p.blank_after))
 
 after_passed : (line : List ℕ) (place : ℕ) (tokens : List Placed) → AreGapsAfter line place tokens → style_after Manual line place tokens ≡ [] → IsPlainAfter line place tokens
-after_passed line place [] g e = blank_so (drop place line) g (eqb-true (commas (drop place line)) 0 (passed (commas (drop place line) == 0) (finding CommaExpected []) e))
+after_passed line place [] g e = blank_so (drop place line) g (eqb-true (commas (drop place line)) 0 (passed (commas (drop place line) == 0) (spot CommaExpected [] place (length (drop place line))) e))
 after_passed line place (t ∷ tokens) g e =
-    let gap : List Finding = gap_findings Manual (between place t.span.start line) t.parts.head.key in
-    let others : List Finding = operator_findings Manual t ++ style_after Manual line t.span.end tokens in
+    let gap : List Spot = gap_findings Manual (between place t.span.start line) t in
+    let others : List Spot = operator_findings Manual t ++ style_after Manual line t.span.end tokens in
     let rest = back_empty gap others e in (
-      gap_passed (between place t.span.start line) t.parts.head.key g.0 (prefix_empty gap others e),
-      unsaid (is_read_as_assign t) (finding ReadAsAssign t.parts.head.key) (prefix_empty (operator_findings Manual t) (style_after Manual line t.span.end tokens) rest),
+      gap_passed (between place t.span.start line) t g.0 (prefix_empty gap others e),
+      unsaid (is_read_as_assign t) (key_spot ReadAsAssign t) (prefix_empty (operator_findings Manual t) (style_after Manual line t.span.end tokens) rest),
       after_passed line t.span.end tokens g.1 (back_empty (operator_findings Manual t) (style_after Manual line t.span.end tokens) rest),
     )
 
 unread : (t : Placed) → is_read_as_assign t ≡ false → operator_findings Manual t ≡ []
-unread t e = ap (λ b. cond b (finding ReadAsAssign t.parts.head.key ∷ []) []) e
+unread t e = ap (λ b. cond b (key_spot ReadAsAssign t ∷ []) []) e
 
 plain_after_passed : (line : List ℕ) (place : ℕ) (tokens : List Placed) → IsPlainAfter line place tokens → style_after Manual line place tokens ≡ []
-plain_after_passed line place [] p = ap (λ b. cond b [] (finding CommaExpected [] ∷ [])) (eq-eqb (commas (drop place line)) 0 (so_blank (drop place line) p))
+plain_after_passed line place [] p = ap (λ b. cond b [] (spot CommaExpected [] place (length (drop place line)) ∷ [])) (eq-eqb (commas (drop place line)) 0 (so_blank (drop place line) p))
 plain_after_passed line place (t ∷ tokens) p =
-    both_empty (gap_findings Manual (between place t.span.start line) t.parts.head.key) (operator_findings Manual t ++ style_after Manual line t.span.end tokens) (plain_gap_passed (between place t.span.start line) t.parts.head.key p.0)
+    both_empty (gap_findings Manual (between place t.span.start line) t) (operator_findings Manual t ++ style_after Manual line t.span.end tokens) (plain_gap_passed (between place t.span.start line) t p.0)
     (both_empty (operator_findings Manual t) (style_after Manual line t.span.end tokens) (unread t p.1) (plain_after_passed line t.span.end tokens p.2))
 
 pub plain_is_passed : (line : List ℕ) (tokens : List Placed) → AreGaps line tokens → (style_findings Manual line tokens ≡ []) ↔ IsPlain line tokens
 plain_is_passed line [] g = (λ e. tt, λ p. refl)
 plain_is_passed line (t ∷ tokens) g = (
   λ e. (
-    unsaid (is_read_as_assign t) (finding ReadAsAssign t.parts.head.key) (prefix_empty (operator_findings Manual t) (style_after Manual line t.span.end tokens) e),
+    unsaid (is_read_as_assign t) (key_spot ReadAsAssign t) (prefix_empty (operator_findings Manual t) (style_after Manual line t.span.end tokens) e),
     after_passed line t.span.end tokens g (back_empty (operator_findings Manual t) (style_after Manual line t.span.end tokens) e),
   ),
   λ p. both_empty (operator_findings Manual t) (style_after Manual line t.span.end tokens) (unread t p.0) (plain_after_passed line t.span.end tokens p.1),

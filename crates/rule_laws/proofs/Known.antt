@@ -12,7 +12,7 @@ use Rattle.rule_types.specs.declared.part.Change.TheVariants as change
 use Rattle.rule_types.specs.declared.part.Part.{Part}
 use Rattle.rule_types.specs.declared.roles.Target.{Target}
 use Rattle.rule_types.specs.declared.roles.Target.TheVariants as target
-use Rattle.rule_core.specs.Drafts.{assignment_in, draft}
+use Rattle.rule_core.specs.Drafts.{assignment_in, sets_of}
 use Rattle.rule_core.specs.Laws.{RisesFrom}
 use Rattle.rule_core.specs.Turns.{assignment_turns, is_rendered_late, turn_of_assignment, turn_of_change, turn_of_target, turn_of_text}
 use Rattle.rule_core.proofs.Bounds.{assignment_below}
@@ -118,7 +118,7 @@ after : (t : ℕ) (before : List Assignment) (known : Assignment) (following : L
 after t [] known following rises = rises.1
 after t (a ∷ before) known following rises = after (turn_of_assignment Udev a) before known following rises.1
 
-pub known_last : (line : List ℕ) (parts : List Part) → KnownComeLast (draft Udev line parts).sets
-known_last line parts before known following cut is_known =
+pub known_last : (parts : List Part) → KnownComeLast (sets_of Udev parts)
+known_last parts before known following cut is_known =
     let order = are_in_order (turn_of_assignment Udev) (assignment_turns Udev) (assignment_below Udev) (filter_map assignment_in parts) in
     none_rendered (turn_of_assignment Udev known) following (late known.change is_known) (after 0 before known following (subst (RisesFrom (turn_of_assignment Udev) 0) cut order.rises))

@@ -29,4 +29,4 @@ abbrev pub reported_below : Profile → List ℕ → List Names → List Numbere
 reported_below by file above ls = flat_map (λ x. line_messages file x.0.line x.0.read x.1) (landed_below by above ls)
 
 abbrev pub rules_below : Profile → List ℕ → List Names → List NumberedLine → List Rule
-rules_below by file above ls = flat_map (λ x. line_rules file x.0.line x.0.read x.1) (landed_below by above ls)
+rules_below by file above ls = flat_map (λ x. line_rules by file x.0.line x.0.read x.1) (landed_below by above ls)

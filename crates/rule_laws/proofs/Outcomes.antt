@@ -9,13 +9,13 @@ use Rattle.text_bytes.specs.declared.source_file.SourceFile.{SourceFile}
 use Rattle.text_bytes.specs.declared.profile.Profile.{Profile}
 use Rattle.rule_core.specs.Ends.{abandoned}
 use Rattle.rule_core.specs.Lines.{NumberedLine, joined_lines}
-use Rattle.rule_parts.specs.declared.finding.Finding.{Finding}
+use Rattle.rule_core.specs.declared.spot.Spot.{Spot}
 use Rattle.rule_core.specs.Drafts.{Draft, draft_of}
 use Rattle.rule_jumps.specs.Jumps.{Names, has_label, is_lost, is_named, is_unused, landings}
 use Rattle.rule_jumps.specs.declared.jumps.Landing.{Landing}
 use Rattle.rule_laws.specs.Outcomes.{AllBecome, Becomes, HasLabel, IsAbandoned, IsReadByLine, LineOutcome, messages_in, one_message, one_rule, rules_in}
 use Rattle.rule_types.specs.Rules.{Rule}
-use Rattle.rule_core.specs.Rules.{line_messages, line_rules, message_at, messages_unless, names_of, open_messages, rule_at, rules_unless}
+use Rattle.rule_core.specs.Rules.{line_messages, line_rules, message_at, messages_unless, name_of, names_of, open_messages, rule_at, rules_unless}
 use Rattle.rule_laws.proofs.Landed.{landing_at, names_at, names_in, reported_below, rules_below}
 
 -- ---- labels of rules
@@ -45,9 +45,9 @@ same_labels : (profile : Profile) (file : List ℕ) (above : List Names) (ls : L
 same_labels profile file above [] name = refl
 same_labels profile file above (l ∷ ls) name = by (draft_of profile l.text) (landing_at profile above l ls) (rules_below profile file (names_at profile l ∷ above) ls) (same_labels profile file (names_at profile l ∷ above) ls name)
   where
-    by : (read : Result Draft Finding) (k : Landing) (rules : List Rule) → bears name rules ≡ has_label name (names_in profile ls)
-        → bears name (line_rules file l.number read k ++ rules) ≡ (is_named name (names_of read).label || has_label name (names_in profile ls))
-    by (Ok d) k rules e = ap (λ b. is_named name d.label || b) e
+    by : (read : Result Draft Spot) (k : Landing) (rules : List Rule) → bears name rules ≡ has_label name (names_in profile ls)
+        → bears name (line_rules profile file l.number read k ++ rules) ≡ (is_named name (names_of read).label || has_label name (names_in profile ls))
+    by (Ok d) k rules e = ap (λ b. is_named name (name_of d.label) || b) e
     by (Err wrong) k rules e = e
 
 -- a jump is kept exactly if one of these rules has its label
@@ -66,28 +66,28 @@ jump_kept (Some other) below rules same name = by (has_label other below) refl
 -- ---- lines
 
 -- the outcome of a line that is read in this way
-abbrev outcome_of : List ℕ → ℕ → Result Draft Finding → Landing → LineOutcome
-outcome_of file n (Ok d) k = one_rule (rule_at file n d k) (line_messages file n (Ok d) k)
-outcome_of file n (Err wrong) k = one_message (message_at file n wrong)
+abbrev outcome_of : Profile → List ℕ → ℕ → Result Draft Spot → Landing → LineOutcome
+outcome_of by file n (Ok d) k = one_rule (rule_at by file n d k) (line_messages file n (Ok d) k)
+outcome_of by file n (Err wrong) k = one_message (message_at file n wrong)
 
 -- the outcomes of lines below others
 abbrev outcomes_below : Profile → List ℕ → List Names → List NumberedLine → List LineOutcome
 outcomes_below profile file above [] = []
-outcomes_below profile file above (l ∷ ls) = outcome_of file l.number (draft_of profile l.text) (landing_at profile above l ls) ∷ outcomes_below profile file (names_at profile l ∷ above) ls
+outcomes_below profile file above (l ∷ ls) = outcome_of profile file l.number (draft_of profile l.text) (landing_at profile above l ls) ∷ outcomes_below profile file (names_at profile l ∷ above) ls
 
 rules_are : (profile : Profile) (file : List ℕ) (above : List Names) (ls : List NumberedLine) → rules_below profile file above ls ≡ flat_map rules_in (outcomes_below profile file above ls)
 rules_are profile file above [] = refl
 rules_are profile file above (l ∷ ls) = by (draft_of profile l.text) (landing_at profile above l ls) (rules_below profile file (names_at profile l ∷ above) ls) (outcomes_below profile file (names_at profile l ∷ above) ls) (rules_are profile file (names_at profile l ∷ above) ls)
   where
-    by : (read : Result Draft Finding) (k : Landing) (rules : List Rule) (os : List LineOutcome) → rules ≡ flat_map rules_in os → line_rules file l.number read k ++ rules ≡ flat_map rules_in (outcome_of file l.number read k ∷ os)
-    by (Ok d) k rules os e = ap (λ rs. rule_at file l.number d k ∷ rs) e
+    by : (read : Result Draft Spot) (k : Landing) (rules : List Rule) (os : List LineOutcome) → rules ≡ flat_map rules_in os → line_rules profile file l.number read k ++ rules ≡ flat_map rules_in (outcome_of profile file l.number read k ∷ os)
+    by (Ok d) k rules os e = ap (λ rs. rule_at profile file l.number d k ∷ rs) e
     by (Err wrong) k rules os e = e
 
 messages_are : (profile : Profile) (file : List ℕ) (above : List Names) (ls : List NumberedLine) → reported_below profile file above ls ≡ flat_map messages_in (outcomes_below profile file above ls)
 messages_are profile file above [] = refl
 messages_are profile file above (l ∷ ls) = by (draft_of profile l.text) (landing_at profile above l ls) (reported_below profile file (names_at profile l ∷ above) ls) (outcomes_below profile file (names_at profile l ∷ above) ls) (messages_are profile file (names_at profile l ∷ above) ls)
   where
-    by : (read : Result Draft Finding) (k : Landing) (reported : List Message) (os : List LineOutcome) → reported ≡ flat_map messages_in os → line_messages file l.number read k ++ reported ≡ flat_map messages_in (outcome_of file l.number read k ∷ os)
+    by : (read : Result Draft Spot) (k : Landing) (reported : List Message) (os : List LineOutcome) → reported ≡ flat_map messages_in os → line_messages file l.number read k ++ reported ≡ flat_map messages_in (outcome_of profile file l.number read k ∷ os)
     by (Ok d) k reported os e = ap (λ ms. line_messages file l.number (Ok d) k ++ ms) e
     by (Err wrong) k reported os e = ap (λ ms. message_at file l.number wrong ∷ ms) e
 
@@ -98,16 +98,16 @@ all_come profile file above (l ∷ ls) = (by (draft_of profile l.text) refl, all
     following : List Rule
     following = flat_map rules_in (outcomes_below profile file (names_at profile l ∷ above) ls)
 
-    by : (read : Result Draft Finding) → draft_of profile l.text ≡ read
-        → Becomes profile file l (outcome_of file l.number read (record { lost = is_lost (names_of read).goto (names_in profile ls); unused = is_unused (names_of read).label above })) following
+    by : (read : Result Draft Spot) → draft_of profile l.text ≡ read
+        → Becomes profile file l (outcome_of profile file l.number read (record { lost = is_lost (names_of read).goto (names_in profile ls); unused = is_unused (names_of read).label above })) following
     by (Err wrong) e = record { wrong = wrong; reads = e; is = refl }
     by (Ok d) e = record {
       draft = d;
-      landing = record { lost = is_lost d.goto (names_in profile ls); unused = is_unused d.label above };
+      landing = record { lost = is_lost (name_of d.goto) (names_in profile ls); unused = is_unused (name_of d.label) above };
       reads = e;
       is = refl;
       reported = refl;
-      jump = jump_kept d.goto (names_in profile ls) following (λ name. ap (bears name) (sym (rules_are profile file (names_at profile l ∷ above) ls)) ∙ same_labels profile file (names_at profile l ∷ above) ls name);
+      jump = jump_kept (name_of d.goto) (names_in profile ls) following (λ name. ap (bears name) (sym (rules_are profile file (names_at profile l ∷ above) ls)) ∙ same_labels profile file (names_at profile l ∷ above) ls name);
     }
 
 pub read_by_line : (profile : Profile) (f : SourceFile) → abandoned profile f.bytes ≡ None → IsReadByLine profile f

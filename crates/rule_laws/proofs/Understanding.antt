@@ -4,7 +4,7 @@ use Rattle.std.specs.List.{AllZip, flat_map, onto_first}
 use Rattle.std.proofs.lemmas.List.Elements.{All-cons, All-nil}
 use Rattle.file_messages.specs.declared.message.Message.{Message}
 use Rattle.text_bytes.specs.declared.source_file.SourceFile.{SourceFile}
-use Rattle.rule_parts.specs.declared.finding.Finding.{Finding}
+use Rattle.rule_core.specs.declared.spot.Spot.{Spot}
 use Rattle.text_bytes.specs.declared.profile.Profile.{Profile}
 use Rattle.rule_core.specs.Ends.{abandoned}
 use Rattle.rule_core.specs.Lines.{NumberedLine, Piece, is_comment, is_empty, is_open, joined_lines, kept, lines, lines_of_runs, open_number, open_of_runs, piece_of, run_number, run_text, runs, unindented}
@@ -24,15 +24,15 @@ well l e f = ap (λ (b : Bool). as_landing b l.unused) e ∙ ap (λ (b : Bool). 
   as_landing a b = record { lost = a; unused = b }
 
 -- a line of which nothing is said is a rule as it is written
-written_line : (profile : Profile) (file : List ℕ) (l : NumberedLine) (read : Result Draft Finding) (k : Landing) (more : List Message) (ls : List NumberedLine) (rules : List Rule)
-    → draft_of profile l.text ≡ read → line_messages file l.number read k ++ more ≡ [] → (more ≡ [] → AllZip (IsWritten profile file) ls rules) → AllZip (IsWritten profile file) (l ∷ ls) (line_rules file l.number read k ++ rules)
+written_line : (profile : Profile) (file : List ℕ) (l : NumberedLine) (read : Result Draft Spot) (k : Landing) (more : List Message) (ls : List NumberedLine) (rules : List Rule)
+    → draft_of profile l.text ≡ read → line_messages file l.number read k ++ more ≡ [] → (more ≡ [] → AllZip (IsWritten profile file) ls rules) → AllZip (IsWritten profile file) (l ∷ ls) (line_rules profile file l.number read k ++ rules)
 written_line profile file l (Err wrong) k more ls rules e m f = cc
 written_line profile file l (Ok d) k more ls rules e m f =
     let said : findings_of d k ≡ [] = map_empty (message_at file l.number) (findings_of d k) (prefix_empty _ more m) in
     let lost : k.lost ≡ false = not_reported _ k.lost (prefix_empty _ _ said) in
     let others = back_empty _ _ said in
     let unused : k.unused ≡ false = not_reported _ k.unused (back_empty d.findings _ others) in
-    (record { draft = d; reads = e; is = ap (rule_at file l.number d) (well k lost unused); quiet = prefix_empty d.findings _ others }, f (back_empty _ more m))
+    (record { draft = d; reads = e; is = ap (rule_at profile file l.number d) (well k lost unused); quiet = prefix_empty d.findings _ others }, f (back_empty _ more m))
 
 written : (profile : Profile) (file : List ℕ) (above : List Names) (ls : List NumberedLine) → reported_below profile file above ls ≡ [] → AllZip (IsWritten profile file) ls (rules_below profile file above ls)
 written profile file above [] e = tt

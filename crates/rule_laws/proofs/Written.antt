@@ -10,7 +10,7 @@ use Rattle.rule_types.specs.declared.part.Change.{Change}
 use Rattle.rule_types.specs.declared.part.Change.TheVariants as change
 use Rattle.rule_types.specs.declared.part.Part.{Part}
 use Rattle.rule_types.specs.declared.roles.Target.TheVariants as target
-use Rattle.rule_core.specs.Drafts.{assignment_in, draft}
+use Rattle.rule_core.specs.Drafts.{assignment_in, sets_of}
 use Rattle.rule_core.specs.Turns.{assignment_turns, turn_of_assignment, turn_of_change}
 use Rattle.rule_core.proofs.Bounds.{assignment_below}
 use Rattle.rule_core.proofs.Sorting.{are_in_order}
@@ -57,10 +57,10 @@ narrower p q h (x ∷ xs) = by (q x) refl (p x) refl (narrower p q h xs)
     by false e true k rest = absurd (false≢true (sym e ∙ h x k))
     by false e false k rest = rest
 
-pub as_written : (line : List ℕ) (parts : List Part) → EachKeyAsWritten (filter_map assignment_in parts) (draft Manual line parts).sets
-as_written line parts k is_of of_key =
+pub as_written : (parts : List Part) → EachKeyAsWritten (filter_map assignment_in parts) (sets_of Manual parts)
+as_written parts k is_of of_key =
     let written = filter_map assignment_in parts in
-    let sets = (draft Manual line parts).sets in
+    let sets = sets_of Manual parts in
     let order = are_in_order (turn_of_assignment Manual) (assignment_turns Manual) (assignment_below Manual) written in
     let at : (a : Assignment) → is_of a ≡ true → (turn_of_assignment Manual a == turn_of_key k) ≡ true = λ a h. eq-eqb (turn_of_assignment Manual a) (turn_of_key k) (by_key a.change ∙ ap turn_of_key ((of_key a).0 h)) in
     sym (narrower is_of (λ a. turn_of_assignment Manual a == turn_of_key k) at sets)

@@ -18,7 +18,7 @@ well_landed = record { lost = false; unused = false }
 pub record IsWritten (by : Profile) (file : List ℕ) (l : NumberedLine) (r : Rule) : Type 0 where
   pub draft : Draft
   pub reads : draft_of by l.text ≡ Ok draft
-  pub is : r ≡ rule_at file l.number draft well_landed
+  pub is : r ≡ rule_at by file l.number draft well_landed
   pub quiet : draft.findings ≡ []
 
 -- the physical lines of a file, as they are written

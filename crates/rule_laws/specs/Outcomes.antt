@@ -4,13 +4,12 @@ use Rattle.file_messages.specs.declared.message.Message.{Message}
 use Rattle.text_bytes.specs.declared.source_file.SourceFile.{SourceFile}
 use Rattle.text_bytes.specs.declared.profile.Profile.{Profile}
 use Rattle.file_messages.specs.declared.message.MessageKind.TheVariants.{FileAbandoned}
-use Rattle.rule_parts.specs.Values.{finding}
 use Rattle.rule_core.specs.Lines.{NumberedLine, joined_lines}
-use Rattle.rule_parts.specs.declared.finding.Finding.{Finding}
+use Rattle.rule_core.specs.declared.spot.Spot.{Spot}
 use Rattle.rule_core.specs.Drafts.{Draft, draft_of}
 use Rattle.rule_jumps.specs.declared.jumps.Landing.{Landing}
 use Rattle.rule_types.specs.Rules.{Rule}
-use Rattle.rule_core.specs.Rules.{file_messages, file_rules, findings_of, message_at, open_messages, rule_at}
+use Rattle.rule_core.specs.Rules.{file_messages, file_rules, findings_of, message, message_at, name_of, open_messages, rule_at}
 
 -- what becomes of a joined line: one rule and the messages about it, or no rule and one message
 pub data LineOutcome : Type 0 where
@@ -36,13 +35,13 @@ pub record IsRule (by : Profile) (file : List ℕ) (l : NumberedLine) (r : Rule)
   pub draft : Draft
   pub landing : Landing
   pub reads : draft_of by l.text ≡ Ok draft
-  pub is : r ≡ rule_at file l.number draft landing
+  pub is : r ≡ rule_at by file l.number draft landing
   pub reported : messages ≡ map (message_at file l.number) (findings_of draft landing)
-  pub jump : (name : List ℕ) → (r.goto ≡ Some name) ↔ ((draft.goto ≡ Some name) × HasLabel name following)
+  pub jump : (name : List ℕ) → (r.goto ≡ Some name) ↔ ((name_of draft.goto ≡ Some name) × HasLabel name following)
 
 -- a line is not a rule, and the message says why
 pub record IsNoRule (by : Profile) (file : List ℕ) (l : NumberedLine) (m : Message) : Type 0 where
-  pub wrong : Finding
+  pub wrong : Spot
   pub reads : draft_of by l.text ≡ Err wrong
   pub is : m ≡ message_at file l.number wrong
 
@@ -69,4 +68,4 @@ pub record IsReadByLine (by : Profile) (f : SourceFile) : Type 0 where
 -- A file that is given up because of a line has no rule, and one message.
 pub record IsAbandoned (by : Profile) (f : SourceFile) (line : ℕ) : Type 0 where
   pub rules : file_rules by f ≡ []
-  pub messages : file_messages by f ≡ message_at f.name line (finding FileAbandoned []) ∷ []
+  pub messages : file_messages by f ≡ message f.name line FileAbandoned [] ∷ []

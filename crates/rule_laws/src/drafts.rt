@@ -5,23 +5,24 @@ ghost use Rattle.text_bytes.specs.declared.profile.Profile.TheVariants.{Manual};
 ghost use Rattle.rule_types.specs.declared.part.Part.{Part};
 ghost use Rattle.rule_tokens.specs.Grammar.{Placed, answers};
 ghost use Rattle.rule_tokens.specs.Lines.{items_of};
-ghost use Rattle.rule_core.specs.Drafts.{assignment_in, draft};
+ghost use Rattle.rule_core.specs.Drafts.{assignment_in, sets_of};
 ghost use Rattle.rule_laws.specs.Turns.{EachKeyAsWritten};
 ghost use Rattle.rule_core.specs.Laws.{AreInOrder, IsPlain, IsReportedWhereAgain, NoneIsLost};
 ghost use Rattle.rule_core.specs.Style.{style_findings};
+ghost use Rattle.rule_core.specs.Written.{WrittenPart};
 
-/// The acts and the assignments of a line are in its draft in the order of their turns, those of
-/// one turn as they are written.
+/// The acts and the assignments among parts are put in the order of their turns, those of one turn as they are
+/// written.
 pub fn parts_are_kept_in_order()
-    ensures { (by : Profile) (line : List ℕ) (parts : List Part) → AreInOrder by line parts }
+    ensures { (by : Profile) (parts : List Part) → AreInOrder by parts }
 {}
 
 /// By the manual the assignments of each key are made as they are written, whatever their values are.
 pub fn keys_are_assigned_as_written()
-    ensures { (line : List ℕ) (parts : List Part) → EachKeyAsWritten (filter_map assignment_in parts) (draft Manual line parts).sets }
+    ensures { (parts : List Part) → EachKeyAsWritten (filter_map assignment_in parts) (sets_of Manual parts) }
 {}
 
-/// Each part of a line is in one list of its draft, or gives a label or a jump.
+/// Each part of a line is in one list of its rule, or gives a label or a jump.
 pub fn no_part_is_lost()
     ensures { (parts : List Part) → NoneIsLost parts }
 {}
@@ -29,7 +30,7 @@ pub fn no_part_is_lost()
 /// By the manual a LABEL is reported as given twice if and only if one comes before it in the line, and so is a
 /// GOTO.
 pub fn names_given_again_are_reported()
-    ensures { (parts : List Part) (p : Part) → IsReportedWhereAgain parts p }
+    ensures { (parts : List WrittenPart) (w : WrittenPart) → IsReportedWhereAgain parts w }
 {}
 
 /// By the manual, for a line that is tokens to its end, there is no finding about how it is written if and only

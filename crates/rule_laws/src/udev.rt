@@ -2,7 +2,9 @@
 ghost use Rattle.std.specs.Prelude.{List, ℕ};
 ghost use Rattle.text_bytes.specs.declared.profile.Profile.TheVariants.{Udev};
 ghost use Rattle.rule_types.specs.declared.part.Part.{Part};
-ghost use Rattle.rule_core.specs.Drafts.{draft, first_place};
+ghost use Rattle.rule_tokens.specs.Grammar.{Placed};
+ghost use Rattle.rule_core.specs.Drafts.{first_place, sets_of};
+ghost use Rattle.rule_core.specs.Written.{WrittenPart};
 ghost use Rattle.rule_laws.specs.LineEnds.{StaysAsRead, TakesLongestEnd};
 ghost use Rattle.rule_laws.specs.Turns.{KnownComeLast};
 ghost use Rattle.rule_laws.specs.Udev.{CountsInPlace, IsFirstPlace};
@@ -24,11 +26,11 @@ pub fn first_tokens_follow_gaps()
 
 /// A label after others counts instead of the one that counted before it, which is reported.
 pub fn last_label_counts()
-    ensures { (line : List ℕ) (parts : List Part) (name : List ℕ) → CountsInPlace line parts name }
+    ensures { (line : List ℕ) (parts : List WrittenPart) (t : Placed) (name : List ℕ) → CountsInPlace line parts t name }
 {}
 
 /// Of the assignments of OWNER, GROUP and MODE, none whose value is rendered for each event comes after one whose
 /// value is known when the rule is read: a text without substitutions, and for MODE an octal number up to 7777.
 pub fn known_values_come_last()
-    ensures { (line : List ℕ) (parts : List Part) → KnownComeLast (draft Udev line parts).sets }
+    ensures { (parts : List Part) → KnownComeLast (sets_of Udev parts) }
 {}

@@ -1,18 +1,10 @@
 -- What follows the last token of a line.
 use Rattle.std.proofs.Common.{◌≡◌, ℕ, ◌+◌, ◌≤◌, Bool, true, false, List, [], ◌∷◌, ◌++◌, length, take, drop, Option, Some, None, Result, Ok, Err, ap, sym, ◌∙◌, subst, append_assoc, append-nil, drop_at, length-append, arith}
 use Rattle.std.proofs.lemmas.List.{length-take-le, take-append-drop}
-use Rattle.text_bytes.specs.declared.profile.Profile.{Profile}
 use Rattle.rule_tokens.specs.Grammar.{AllAre, Item, LexesAt, Placed, answers, is_gap_byte, last, more}
 use Rattle.rule_tokens.specs.Lines.{is_over, items_from, items_left}
 use Rattle.rule_tokens.specs.declared.kinds.TokenFault.{TokenFault}
 use Rattle.rule_tokens.proofs.Steps.{left_done, left_given}
-use Rattle.rule_parts.specs.Parts.{part_of}
-use Rattle.rule_types.specs.declared.part.Part.{Part}
-use Rattle.rule_places.specs.Found.{RulePlaces}
-use Rattle.rule_places.specs.Reading.{proceeds, reported, taken}
-use Rattle.rule_places.specs.declared.line_reading.LineReading.{LineReading}
-use Rattle.rule_places.specs.declared.line_reading.LineReading.TheVariants.{Rule}
-use Rattle.rule_places.specs.declared.spot.Spot.{Spot}
 use Rattle.rule_places.proofs.Prefixes.{own_of}
 
 -- after a place, or the last of these items, only blanks and commas are in the line; if one is a fault, nothing is said
@@ -79,19 +71,3 @@ all_begin start line = by (is_over start line)
     by : (done : Bool) → BeginsAt start (items_left done start (drop start line))
     by true = rw (left_done start (drop start line)) tt
     by false = let g = left_given start (drop start line) in rw g.3 (begins (drop start line) start g.0 g.1 g.2)
-
--- none of the items is a fault
-abbrev pub NoFault : List Item → Type 0
-NoFault [] = Unit {0}
-NoFault (Ok t ∷ items) = NoFault items
-NoFault (Err fault ∷ items) = ⊥
-
-token_read : (by : Profile) (r q : RulePlaces) (t : Placed) (next : RulePlaces → LineReading) (items : List Item) (x : Result Part Spot) → ((s : RulePlaces) → next s ≡ Rule q → NoFault items) → proceeds by r t next x ≡ Rule q → NoFault items
-token_read by r q t next items (Ok p) f e = f _ e
-token_read by r q t next items (Err found) f e = cc
-
--- a line that is a rule has no fault
-pub rule_has_none : (by : Profile) (line : List ℕ) (items : List Item) (r q : RulePlaces) → taken by line r items ≡ Rule q → NoFault items
-rule_has_none by line [] r q e = tt
-rule_has_none by line (Ok t ∷ items) r q e = token_read by r q t (λ s. taken by line s items) items (reported t (part_of by t)) (λ s f. rule_has_none by line items s q f) e
-rule_has_none by line (Err fault ∷ items) r q e = cc

@@ -10,14 +10,15 @@ use Rattle.rule_jumps.specs.Jumps.{landings}
 use Rattle.rule_jumps.specs.declared.jumps.Landing.{Landing}
 use Rattle.rule_core.specs.Ends.{abandoned}
 use Rattle.rule_core.specs.Lines.{joined_lines}
-use Rattle.rule_places.specs.Files.{findings_of_lines, findings_unless, line_findings, names_of, open_findings, placed_findings, readings_from, spots_of}
+use Rattle.rule_core.specs.Drafts.{draft_of}
+use Rattle.rule_core.specs.Rules.{line_findings, names_of, reading_of}
+use Rattle.rule_core.specs.declared.spot.Spot.{Spot}
+use Rattle.rule_places.specs.Files.{findings_of_lines, findings_unless, open_findings, placed_findings, placed_from}
 use Rattle.rule_places.specs.Kept.{kept_lines, place_in}
 use Rattle.rule_places.specs.Laws.{IsFoundIn, IsInFile, IsTextThere}
 use Rattle.rule_places.specs.Placed.{placed}
-use Rattle.rule_places.specs.Reading.{reading_of}
 use Rattle.rule_places.specs.Shown.{kept_text}
 use Rattle.rule_places.specs.declared.placed_finding.PlacedFinding.{PlacedFinding}
-use Rattle.rule_places.specs.declared.spot.Spot.{Spot}
 use Rattle.rule_places.proofs.Joining.{all_joined}
 use Rattle.rule_places.proofs.Placing.{all_placed}
 use Rattle.rule_places.proofs.Placement.{all_in_place}
@@ -73,7 +74,7 @@ both bytes (x ∷ xs) ys h g = (h.0, both bytes xs ys h.1 g)
 -- lines, each with what becomes of its jumps
 lines_in_file : (by : Profile) (bytes before following : List ℕ) (start : ℕ) (ls : List NumberedLine) (found : List Landing) → length bytes < 2 ^ 32 - 1
     → kept_text (numbered_lines bytes) ≡ before ++ (flat_map (λ l. l.text) ls ++ following) → length before ≡ start
-    → AllByRecursion (IsInFile bytes) (flat_map (λ x. line_findings (kept_lines bytes) x.0 x.1) (zip (readings_from by start ls) found))
+    → AllByRecursion (IsInFile bytes) (placed_from (kept_lines bytes) start (zip (map (reading_of by) ls) found))
 lines_in_file by bytes before following start [] found few e l = tt
 lines_in_file by bytes before following start (line ∷ ls) [] few e l = tt
 lines_in_file by bytes before following start (line ∷ ls) (m ∷ found) few e l =
@@ -81,8 +82,8 @@ lines_in_file by bytes before following start (line ∷ ls) (m ∷ found) few e 
     let here : kept_text (numbered_lines bytes) ≡ before ++ (line.text ++ (others ++ following)) = e ∙ ap (λ (x : List ℕ). before ++ x) (append_assoc line.text others following) in
     let next : kept_text (numbered_lines bytes) ≡ (before ++ line.text) ++ (others ++ following) = here ∙ sym (append_assoc before line.text (others ++ following)) in
     let long : length (before ++ line.text) ≡ start + length line.text = length-append before line.text ∙ ap (λ (n : ℕ). n + length line.text) l in
-    both bytes (map (placed (kept_lines bytes) line.number start) (spots_of (reading_of by line.text) m)) (flat_map (λ x. line_findings (kept_lines bytes) x.0 x.1) (zip (readings_from by (start + length line.text) ls) found))
-    (spots_in_file bytes before line.text (others ++ following) line.number start (spots_of (reading_of by line.text) m) few here l (all_in_place by line.text m))
+    both bytes (map (placed (kept_lines bytes) line.number start) (line_findings (draft_of by line.text) m)) (placed_from (kept_lines bytes) (start + length line.text) (zip (map (reading_of by) ls) found))
+    (spots_in_file bytes before line.text (others ++ following) line.number start (line_findings (draft_of by line.text) m) few here l (all_in_place by line.text m))
     (lines_in_file by bytes (before ++ line.text) following (start + length line.text) ls found few next long)
 
 -- a line that is open
@@ -93,9 +94,9 @@ open_in_file bytes (Some number) = (λ reported some. absurd (true≢false (sym 
 lines_in_place : (by : Profile) (bytes : List ℕ) → length bytes < 2 ^ 32 - 1 → AllByRecursion (IsInFile bytes) (findings_of_lines by bytes)
 lines_in_place by bytes few =
     let ls = (joined_lines by bytes).lines in
-    let found = landings (map (λ r. names_of r.read) (readings_from by 0 ls)) in
+    let found = landings (map (λ r. names_of r.read) (map (reading_of by) ls)) in
     let joined = all_joined by bytes in
-    both bytes (flat_map (λ x. line_findings (kept_lines bytes) x.0 x.1) (zip (readings_from by 0 ls) found)) (open_findings (kept_lines bytes) (joined_lines by bytes).open_at)
+    both bytes (placed_from (kept_lines bytes) 0 (zip (map (reading_of by) ls) found)) (open_findings (kept_lines bytes) (joined_lines by bytes).open_at)
     (lines_in_file by bytes [] joined.0 0 ls found few joined.1 refl)
     (open_in_file bytes (joined_lines by bytes).open_at)
 

@@ -8,10 +8,10 @@ use Rattle.text_bytes.specs.Texts.{ends_in}
 use Rattle.file_messages.specs.declared.message.MessageKind.TheVariants.{OpenAtEnd}
 use Rattle.text_bytes.specs.declared.profile.Profile.{Profile}
 use Rattle.text_bytes.specs.declared.source_file.SourceFile.{SourceFile}
-use Rattle.rule_jumps.specs.Jumps.{landings}
 use Rattle.rule_core.specs.Ends.{abandoned}
 use Rattle.rule_core.specs.Lines.{Piece, is_comment, is_open, joined_lines, kept, open_number, open_of_runs, piece_of, runs, unindented}
-use Rattle.rule_places.specs.Files.{findings_of_lines, findings_unless, line_findings, names_of, open_findings, placed_findings, readings_from}
+use Rattle.rule_core.specs.Rules.{landed, reading_of}
+use Rattle.rule_places.specs.Files.{findings_of_lines, findings_unless, open_findings, placed_findings, placed_from}
 use Rattle.rule_places.specs.Kept.{as_kept, backslash_of, kept_before, kept_from, kept_lines, place_at}
 use Rattle.rule_places.specs.Laws.{EndsOpen}
 use Rattle.rule_places.specs.Placed.{found_at}
@@ -135,8 +135,7 @@ lines_open : (by : Profile) (bytes : List ℕ) (number : ℕ) → length bytes <
 lines_open by bytes number few e =
     let ls = (joined_lines by bytes).lines in
     let r = last_kept 0 (numbered_lines bytes) (open_last by (length (lines bytes)) (map piece_of (kept (numbered_lines bytes))) number e) in
-    let readings = readings_from by 0 ls in
-    let others = flat_map (λ x. line_findings (kept_lines bytes) x.0 x.1) (zip readings (landings (map (λ x. names_of x.read) readings))) in
+    let others = placed_from (kept_lines bytes) 0 (landed (map (reading_of by) ls)) in
     let bounds = line_bounds bytes r.line (subst (IsAmong r.line) (sym r.lines) (among_others r.before r.line r.following)) in
     let reaches = r.reaches in
     record {

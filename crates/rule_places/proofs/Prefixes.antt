@@ -16,7 +16,7 @@ use Rattle.rule_tokens.proofs.HeadLemmas.{of_blank}
 use Rattle.rule_tokens.proofs.LetterLemmas.{letters_again}
 use Rattle.rule_tokens.proofs.RunLemmas.{apart, run_again}
 use Rattle.rule_tokens.proofs.Steps.{left_done, left_given}
-use Rattle.rule_places.specs.Letters.{after_braces, after_key, start_before_quote}
+use Rattle.rule_core.specs.Letters.{after_braces, after_key, start_before_quote}
 
 -- not this byte
 abbrev pub is_other : ℕ → ℕ → Bool

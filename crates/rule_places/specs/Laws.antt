@@ -8,24 +8,18 @@ use Rattle.file_messages.specs.declared.message.Message.{Message}
 use Rattle.file_messages.specs.declared.message.MessageKind.{MessageKind}
 use Rattle.file_messages.specs.declared.message.MessageKind.TheVariants.{BadSyntax, BadPrefix, UnknownKey, OperatorNotAllowed, WrongAttribute, BadValue, BadSubstitution, NoLaterLabel, GivenTwice, LineTooLong, SetNotSupported, ReservedProperty, NameWithoutEffect, UnknownBuiltin, MatchesExclude, SaidTwice, RuleWithoutEffect, ResultBeforeProgram, EmptyValue, BadAttributeSubstitution, AttributeElsewhere, OldSubsystemName, AssignExpected, UnknownAccount, FileAbandoned, CommaExpected, BlankExpected, ReadAsAssign, OpenAtEnd, LabelUnused, LeadingComma, BlankBeforeComma}
 use Rattle.rule_tokens.specs.Grammar.{AllAre, BeginsOther, is_gap_byte}
-use Rattle.rule_parts.specs.Values.{finding}
-use Rattle.rule_parts.specs.declared.finding.Finding.{Finding}
 use Rattle.rule_core.specs.Ends.{is_too_long}
 use Rattle.rule_core.specs.Lines.{kept, piece_of}
+use Rattle.rule_core.specs.Rules.{message}
 use Rattle.rule_core.specs.Style.{commas}
-use Rattle.rule_core.specs.Rules.{message_at}
 use Rattle.rule_places.specs.Shown.{IsAmong}
 use Rattle.rule_places.specs.declared.kept.Place.{Place}
 use Rattle.rule_places.specs.declared.placed_finding.PlacedFinding.{PlacedFinding}
-use Rattle.rule_places.specs.declared.spot.Spot.{Spot}
-
--- what is said about a part of a line, without its place and with the word that a message keeps
-abbrev pub cut : Spot → Finding
-cut s = finding s.kind s.word
+use Rattle.rule_core.specs.declared.spot.Spot.{Spot}
 
 -- a finding of a file of this name, as its message
 abbrev pub as_message : List ℕ → PlacedFinding → Message
-as_message name p = message_at name p.begins (finding p.kind p.word)
+as_message name p = message name p.begins p.kind p.word
 
 -- whether what is said is reported with the very text that it is about: a key, an attribute, the letters before a
 -- quote, or the rest of a line that is not a token

@@ -1,12 +1,6 @@
-pub mod Letters
-pub mod Spots
-pub mod Style
-pub mod TokenSpots
-pub mod Found
-pub mod Reading
 pub mod Kept
 pub mod Placed
 pub mod Abandoned
 pub mod Files
-pub mod Laws
 pub mod Shown
+pub mod Laws

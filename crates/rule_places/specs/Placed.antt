@@ -5,7 +5,7 @@ use Rattle.rule_places.specs.Kept.{place_in}
 use Rattle.rule_places.specs.declared.kept.KeptLine.{KeptLine}
 use Rattle.rule_places.specs.declared.kept.Place.{Place}
 use Rattle.rule_places.specs.declared.placed_finding.PlacedFinding.{PlacedFinding}
-use Rattle.rule_places.specs.declared.spot.Spot.{Spot}
+use Rattle.rule_core.specs.declared.spot.Spot.{Spot}
 
 -- a finding at a place, with the number that its message gives
 abbrev pub found_at : ℕ → Place → MessageKind → List ℕ → PlacedFinding

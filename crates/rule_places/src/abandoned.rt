@@ -11,7 +11,7 @@ use std::alloc::{AllocError, Global};
 use text_bytes::{Bytes, Line, Lines, capped};
 
 /// What is found in a file that is given up because of the line with a number: only this, about the whole line.
-pub(crate) fn abandoned_findings(
+pub fn abandoned_findings(
     alloc: Global,
     bytes: &[u8],
     number: u32,

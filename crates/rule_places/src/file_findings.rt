@@ -1,17 +1,17 @@
 //! All findings of a file, with their places.
-ghost use Rattle.std.specs.Prelude.{◌≡◌, ◌∷◌, ◌++◌, [], if◌then◌else◌, IfOk, OnOk, flat_map, map, zip};
-ghost use Rattle.rule_places.specs.Files.{findings_of_lines, line_findings, name_spot, open_findings, placed_findings, rule_spots, spots_of};
+ghost use Rattle.std.specs.Prelude.{◌≡◌, ◌∷◌, ◌++◌, [], if◌then◌else◌, IfOk, OnOk, map};
+ghost use Rattle.rule_core.specs.Rules.{findings_of, name_spot};
+ghost use Rattle.rule_places.specs.Files.{findings_of_lines, open_findings, placed_findings, placed_from, placed_line, placed_lines};
+ghost use Rattle.rule_places.specs.Placed.{placed};
 
 use crate::abandoned::abandoned_findings;
-use crate::found::{NamePlace, RulePlaces};
 use crate::kept::KeptLines;
-use crate::line_reading::LineReading;
 use crate::placed_finding::PlacedFinding;
-use crate::placed_spots::place_spots;
-use crate::readings::{PlacedReading, landings_of, readings_of};
-use crate::spot::Spot;
+use crate::placed_spots::{place_spots, placed};
 use file_messages::MessageKind;
-use rule_core::{abandoned_at, joined_lines};
+use rule_core::{
+    Draft, LandedReading, NamePlace, Spot, abandoned_at, joined_lines, read_lines, sum_of,
+};
 use rule_jumps::Landing;
 use std::alloc::{AllocError, Global};
 use text_bytes::{Bytes, Profile, SourceFile};
@@ -50,121 +50,140 @@ fn findings_of_lines(
 {
     let kept = KeptLines::of(alloc, bytes)?;
     let joined = joined_lines(alloc, profile, bytes)?;
-    let readings = readings_of(alloc, profile, joined.lines())?;
-    let landings = landings_of(alloc, &readings)?;
-    let mut found = Vec::new(alloc);
-    place_lines(alloc, &mut found, &kept, readings, landings)?;
-    place_open(alloc, &mut found, &kept, joined.open_at())?;
+    let lines = read_lines(alloc, profile, joined.lines())?;
+    placed_lines(alloc, &kept, &lines, joined.open_at())
+}
+
+/// The findings of all lines of a file that were read, by line, and of the one that is still open at its end. The kept
+/// lines are those of the same file.
+pub fn placed_lines(
+    alloc: Global,
+    kept: &KeptLines,
+    lines: &[LandedReading<'_>],
+    open_at: Option<u32>,
+) -> Result<Vec<PlacedFinding>, AllocError>
+    ensures { IfOk result (λ found. found.items ≡ placed_lines kept.now lines.now open_at) }
+{
+    let mut found = place_lines(alloc, kept, lines)?;
+    place_open(alloc, &mut found, kept, open_at)?;
     Ok(found)
 }
 
-/// Adds the findings of lines, each with what becomes of its jumps.
+/// The findings of lines.
 fn place_lines(
     alloc: Global,
-    found: &mut Vec<PlacedFinding>,
     kept: &KeptLines,
-    readings: Vec<PlacedReading>,
-    landings: Vec<Landing>,
-) -> Result<(), AllocError>
-    ensures { OnOk result (found.new.items ≡ found.old.items ++ flat_map (λ x. line_findings kept.now x.0 x.1) (zip readings.items landings.items)) }
+    lines: &[LandedReading<'_>],
+) -> Result<Vec<PlacedFinding>, AllocError>
+    ensures { IfOk result (λ found. found.items ≡ placed_from kept.now 0 lines.now) }
 {
-    for (reading, landing) in readings.into_iter().zip(landings) {
-        place_line(alloc, found, kept, reading, landing)?;
+    let mut found = Vec::new(alloc);
+    let mut start = 0;
+    for line in lines {
+        place_line(alloc, &mut found, kept, start, line)?;
+        start = sum_of(start, line.reading.text.len())?;
     }
-    Ok(())
+    Ok(found)
 }
 
-/// Adds the findings of a line.
+/// Adds the findings of a line that follows so many bytes of other joined lines.
 fn place_line(
     alloc: Global,
     found: &mut Vec<PlacedFinding>,
     kept: &KeptLines,
-    reading: PlacedReading,
-    landing: Landing,
+    start: usize,
+    line: &LandedReading<'_>,
 ) -> Result<(), AllocError>
-    ensures { OnOk result (found.new.items ≡ found.old.items ++ line_findings kept.now reading landing) }
+    ensures { OnOk result (found.new.items ≡ found.old.items ++ placed_line kept.now start line.now) }
 {
-    let PlacedReading {
-        number,
-        start,
-        read,
-    } = reading;
-    let spots = spots_of(alloc, read, landing)?;
-    place_spots(found, kept, number, start, spots)
-}
-
-/// All findings about a line.
-fn spots_of(alloc: Global, read: LineReading, landing: Landing) -> Result<Vec<Spot>, AllocError>
-    ensures { IfOk result (λ spots. spots.items ≡ spots_of read landing) }
-{
-    match read {
-        LineReading::Rule(places) => rule_spots(alloc, places, landing),
-        LineReading::Wrong(spot) => {
-            let mut spots = Vec::new(alloc);
-            spots.push(spot)?;
-            Ok(spots)
+    let number = line.reading.line;
+    match &line.reading.read {
+        Ok(draft) => place_draft(alloc, found, kept, number, start, draft, line.landing),
+        Err(wrong) => {
+            found.push(placed(alloc, kept, number, start, wrong)?)?;
+            Ok(())
         }
     }
 }
 
-/// All findings about a rule: first about its jump, and about its label last.
-fn rule_spots(alloc: Global, places: RulePlaces, landing: Landing) -> Result<Vec<Spot>, AllocError>
-    ensures { IfOk result (λ spots. spots.items ≡ rule_spots places landing) }
+/// Adds the findings about a rule: first about its jump, and about its label last.
+fn place_draft(
+    alloc: Global,
+    found: &mut Vec<PlacedFinding>,
+    kept: &KeptLines,
+    number: u32,
+    start: usize,
+    draft: &Draft<'_>,
+    landing: Landing,
+) -> Result<(), AllocError>
+    ensures { OnOk result (found.new.items ≡ found.old.items ++ map (placed kept.now number start) (findings_of draft.now landing)) }
 {
-    let RulePlaces { label, goto, spots } = places;
-    let mut own = spots;
-    let mut all = Vec::new(alloc);
-    report_name(
+    let lost = MessageKind::NoLaterLabel;
+    let unused = MessageKind::LabelUnused;
+    place_name(
         alloc,
-        &mut all,
+        found,
+        kept,
+        number,
+        start,
         landing.lost,
-        MessageKind::NoLaterLabel,
-        goto,
+        lost,
+        &draft.goto,
     )?;
-    all.append(&mut own)?;
-    report_name(
+    place_spots(alloc, found, kept, number, start, &draft.findings)?;
+    place_name(
         alloc,
-        &mut all,
+        found,
+        kept,
+        number,
+        start,
         landing.unused,
-        MessageKind::LabelUnused,
-        label,
-    )?;
-    Ok(all)
+        unused,
+        &draft.label,
+    )
 }
 
 /// Adds a finding about a name, if anything is wrong with it.
-fn report_name(
+fn place_name(
     alloc: Global,
-    spots: &mut Vec<Spot>,
+    found: &mut Vec<PlacedFinding>,
+    kept: &KeptLines,
+    number: u32,
+    start: usize,
     wrong: bool,
     kind: MessageKind,
-    given: Option<NamePlace>,
+    given: &Option<NamePlace>,
 ) -> Result<(), AllocError>
-    ensures { OnOk result (spots.new.items ≡ spots.old.items ++ (if wrong then name_spot kind given ∷ [] else [])) }
+    ensures { OnOk result (found.new.items ≡ found.old.items ++ map (placed kept.now number start) (if wrong then name_spot kind given.now ∷ [] else [])) }
 {
     if wrong {
-        spots.push(name_spot(alloc, kind, given))?;
+        let spot = name_spot(alloc, kind, given)?;
+        found.push(placed(alloc, kept, number, start, &spot)?)?;
     }
     Ok(())
 }
 
 /// A finding about a name, which is empty if there is none.
-fn name_spot(alloc: Global, kind: MessageKind, given: Option<NamePlace>) -> Spot
-    ensures { result ≡ name_spot kind given }
+fn name_spot(
+    alloc: Global,
+    kind: MessageKind,
+    given: &Option<NamePlace>,
+) -> Result<Spot, AllocError>
+    ensures { IfOk result (λ spot. spot ≡ name_spot kind given.now) }
 {
     match given {
-        None => Spot {
+        None => Ok(Spot {
             kind,
             word: Bytes::new(Vec::new(alloc)),
             start: 0,
             size: 0,
-        },
-        Some(NamePlace { name, start, size }) => Spot {
+        }),
+        Some(place) => Ok(Spot {
             kind,
-            word: name,
-            start,
-            size,
-        },
+            word: Bytes::copy_of(alloc, place.name.as_slice())?,
+            start: place.start,
+            size: place.size,
+        }),
     }
 }
 

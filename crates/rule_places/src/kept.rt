@@ -5,7 +5,7 @@ ghost use Rattle.std.specs.List.Sorted.{IsNonDecreasingBy};
 ghost use Rattle.rule_core.specs.Lines.{piece_of};
 ghost use Rattle.rule_places.specs.Kept.{kept_line, kept_lines, line_at, place_at, place_in, place_of_backslash};
 
-use crate::sums::sum_of;
+use rule_core::sum_of;
 use std::alloc::{AllocError, Global};
 use std::marker::Model;
 use text_bytes::{Line, Lines, begins_with, capped, ends_in, unindented};

@@ -6,15 +6,14 @@ ghost use Rattle.file_messages.specs.declared.message.MessageKind.TheVariants.{L
 ghost use Rattle.text_bytes.specs.declared.profile.Profile as profiles;
 ghost use Rattle.text_bytes.specs.declared.source_file.SourceFile as files;
 ghost use Rattle.rule_jumps.specs.declared.jumps.Landing as jumps;
-ghost use Rattle.rule_core.specs.Drafts.{most_bytes};
+ghost use Rattle.rule_core.specs.Drafts.{draft_of, most_bytes};
 ghost use Rattle.rule_core.specs.Ends.{abandoned};
 ghost use Rattle.rule_core.specs.Lines.{joined_lines};
-ghost use Rattle.rule_core.specs.Rules.{file_messages};
-ghost use Rattle.rule_places.specs.Files.{placed_findings, spots_of};
+ghost use Rattle.rule_core.specs.Rules.{file_messages, line_findings};
+ghost use Rattle.rule_core.specs.Spots.{spot};
+ghost use Rattle.rule_places.specs.Files.{placed_findings};
 ghost use Rattle.rule_places.specs.Kept.{kept_lines, place_in};
 ghost use Rattle.rule_places.specs.Laws.{EndsOpen, FollowsTokens, IsFoundIn, IsInFile, IsQuotedThere, IsReportedForOneLine, IsTextThere, IsWholeLine, PrecedesTokens, as_message};
-ghost use Rattle.rule_places.specs.Reading.{reading_of};
-ghost use Rattle.rule_places.specs.Spots.{spot};
 ghost use Rattle.rule_places.specs.Shown.{AreJoined, IsShown, kept_text};
 
 /// Without their places, and with their words cut, the findings of a file are its messages.
@@ -27,38 +26,38 @@ pub fn findings_are_the_messages()
 /// reported with the bytes that are in the joined line at the place.
 #[tactic(auto, using(crate::proofs::Placement::all_in_place))]
 pub fn words_are_at_their_places()
-    ensures { (by : profiles.Profile) (line : List ℕ) (landing : jumps.Landing) → AllByRecursion (IsTextThere line) (spots_of (reading_of by line) landing) }
+    ensures { (by : profiles.Profile) (line : List ℕ) (landing : jumps.Landing) → AllByRecursion (IsTextThere line) (line_findings (draft_of by line) landing) }
 {}
 
 /// What is said about a value is said about bytes of the joined line between two quotes, with no quote among them
 /// that ends a value. For a jump this holds if the rule has a name for it.
 #[tactic(auto, using(crate::proofs::Placement::all_quoted))]
 pub fn values_are_between_quotes()
-    ensures { (by : profiles.Profile) (line : List ℕ) (landing : jumps.Landing) → AllByRecursion (IsQuotedThere line) (spots_of (reading_of by line) landing) }
+    ensures { (by : profiles.Profile) (line : List ℕ) (landing : jumps.Landing) → AllByRecursion (IsQuotedThere line) (line_findings (draft_of by line) landing) }
 {}
 
 /// What is said about commas with no key is said about all that follows the last token.
 #[tactic(auto, using(crate::proofs::Placement::all_after))]
 pub fn last_commas_follow_tokens()
-    ensures { (by : profiles.Profile) (line : List ℕ) (landing : jumps.Landing) → AllByRecursion (FollowsTokens line) (spots_of (reading_of by line) landing) }
+    ensures { (by : profiles.Profile) (line : List ℕ) (landing : jumps.Landing) → AllByRecursion (FollowsTokens line) (line_findings (draft_of by line) landing) }
 {}
 
 /// What is said about commas before the first token is said about the whole gap there.
 #[tactic(auto, using(crate::proofs::Placement::all_precede_tokens))]
 pub fn first_commas_precede_tokens()
-    ensures { (by : profiles.Profile) (line : List ℕ) (landing : jumps.Landing) → AllByRecursion (PrecedesTokens line) (spots_of (reading_of by line) landing) }
+    ensures { (by : profiles.Profile) (line : List ℕ) (landing : jumps.Landing) → AllByRecursion (PrecedesTokens line) (line_findings (draft_of by line) landing) }
 {}
 
 /// What is said about a rule as a whole is said about its whole line.
 #[tactic(auto, using(crate::proofs::Placement::all_whole))]
 pub fn rules_are_reported_as_a_whole()
-    ensures { (by : profiles.Profile) (line : List ℕ) (landing : jumps.Landing) → AllByRecursion (IsWholeLine line) (spots_of (reading_of by line) landing) }
+    ensures { (by : profiles.Profile) (line : List ℕ) (landing : jumps.Landing) → AllByRecursion (IsWholeLine line) (line_findings (draft_of by line) landing) }
 {}
 
 /// About a line that is too long nothing else is said, and this is said about the whole line.
 #[tactic(auto, using(crate::proofs::Lengths::reported_whole))]
 pub fn long_lines_are_reported_as_a_whole()
-    ensures { (by : profiles.Profile) (line : List ℕ) (landing : jumps.Landing) → most_bytes by < length line → spots_of (reading_of by line) landing ≡ spot LineTooLong [] 0 (length line) ∷ [] }
+    ensures { (by : profiles.Profile) (line : List ℕ) (landing : jumps.Landing) → most_bytes by < length line → line_findings (draft_of by line) landing ≡ spot LineTooLong [] 0 (length line) ∷ [] }
 {}
 
 /// The joined lines of a file are what its kept lines give, one after another, so that a place

@@ -1,28 +1,20 @@
 //! Where the findings of a rules file are: the physical line, the column and the whole text of each message about it.
 //!
-//! A joined line is read once more, token by token, and each finding is kept with its place among the joined bytes. The
-//! physical place then follows from the lines of the file that were kept, each with the place at which it begins among
-//! these bytes.
+//! Each finding about a joined line has its place among the joined bytes. The physical place follows from the lines of
+//! the file that were kept, each with the place at which it begins among these bytes.
 //!
 //! Functions that allocate return `AllocError` when memory runs out.
 #![tactic(auto)]
 
 mod abandoned;
 mod file_findings;
-mod found;
 mod kept;
 mod laws;
-mod letters;
-mod line_reading;
-mod names;
 mod placed_finding;
 mod placed_spots;
-mod readings;
-mod spot;
-mod style;
-mod sums;
 
-pub use file_findings::placed_findings;
+pub use abandoned::abandoned_findings;
+pub use file_findings::{placed_findings, placed_lines};
 pub use kept::{KeptLines, Place};
 pub use laws::{
     abandoned_files_are_reported_for_one_line, findings_are_in_their_lines,
@@ -33,5 +25,4 @@ pub use laws::{
 };
 pub use placed_finding::PlacedFinding;
 pub use placed_spots::place_spots;
-pub use spot::{Spot, attribute_spot, key_spot, value_spot};
-pub use sums::sum_of;
+pub use rule_core::{Spot, attribute_spot, key_spot, sum_of, value_spot};

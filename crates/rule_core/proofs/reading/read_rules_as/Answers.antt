@@ -1,3 +1,4 @@
+use Rattle.std.proofs.Common.{◌∙◌}
 use Rattle.std.proofs.lemmas.Result.{err_from_is_err_and}
 use Rattle.rule_core.proofs.Adding.{set_read, within_read, too_many_read}
 use Rattle.rule_core.proofs.reading.read_rules_as.Goals as goal
@@ -9,8 +10,8 @@ returns-in_err-read_files-clause-too_many c =
 
 pub returns-clause-set : goal.returns-clause-set
 returns-clause-set c =
-    set_read c.args.profile c.args.files.now c.new-rules.result c.read_files.new.rules c.into_rules.result.items c.new-messages.result.items c.read_files.new.messages.items
-    c.new-rules.ensures c.new-messages.ensures.items c.in_ok-read_files.ensures.rules c.in_ok-read_files.ensures.messages (c.into_rules.ensures.items)
+    set_read c.args.profile c.args.files.now c.new-rules.result c.read_files.new.rules c.new.result c.new-messages.result.items c.read_files.new.messages.items
+    c.new-rules.ensures c.new-messages.ensures.items c.in_ok-read_files.ensures.rules c.in_ok-read_files.ensures.messages (c.new.ensures ∙ c.into_rules.ensures.items)
 
 pub returns-clause-within : goal.returns-clause-within
 returns-clause-within c = within_read c.args.profile c.args.files.now c.new-rules.result c.read_files.new.rules c.new-rules.ensures c.in_ok-read_files.ensures.rules c.into_rules.ensures.within

@@ -1,7 +1,6 @@
-use Rattle.std.proofs.Common.{◌≡◌, ◌++◌}
-use Rattle.std.specs.List.{flat_map}
-use Rattle.rule_places.specs.Files.{line_findings}
+use Rattle.std.proofs.Common.{◌≡◌, ◌++◌, drop}
+use Rattle.rule_places.specs.Files.{placed_from}
 use Rattle.rule_places.proofs.file_findings.place_lines.Given as goal
 
-abbrev pub invariant-loop-reading : goal.invariant-loop-reading
-invariant-loop-reading l = l.found.items ≡ l.initial.found.items ++ flat_map (λ x. line_findings l.kept x.0 x.1) l.yielded
+abbrev pub invariant-loop-line : goal.invariant-loop-line
+invariant-loop-line l = l.found.items ++ placed_from l.kept l.start (drop l.line-index l.lines) ≡ placed_from l.kept 0 l.lines

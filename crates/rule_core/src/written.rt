@@ -1,0 +1,22 @@
+//! A token of a rule with the part of the rule that it is.
+
+use rule_tokens::Token;
+use rule_types::Part;
+use std::marker::Model;
+
+/// A token of a rule with the part of the rule that it is.
+#[derive(Debug, Drop)]
+pub struct WrittenPart<'a> {
+    /// The token, as it is in its line.
+    pub token: Token<'a>,
+    /// What it is for the rule.
+    pub part: Part,
+}
+
+impl<'a> Model for WrittenPart<'a> {
+    ghost use Rattle.rule_core.specs.Written as written;
+
+    ghost Value = { written.WrittenPart };
+
+    ghost view = { λ w. record { token = w.token; part = w.part } };
+}

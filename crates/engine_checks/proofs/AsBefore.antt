@@ -15,7 +15,7 @@ use Rattle.rule_places.specs.Laws.{as_message}
 use Rattle.rule_places.specs.declared.placed_finding.PlacedFinding.{PlacedFinding}
 use Rattle.rule_places.proofs.Messages.{findings_reported}
 use Rattle.rule_remarks.specs.Findings.{findings_as}
-use Rattle.rule_lints.specs.FileLints.{placed_lints}
+use Rattle.rule_file_lints.specs.FileLints.{placed_lints}
 use Rattle.engine_ends.specs.Delivery.{RunOutcome}
 use Rattle.engine_ends.specs.declared.line.Format.TheVariants.{Plain}
 use Rattle.engine_ends.specs.declared.line.Line.{Line}

@@ -10,7 +10,7 @@ use Rattle.hwdb_core.specs.declared.fault.HwdbFault.{HwdbFault}
 use Rattle.hwdb_core.specs.declared.fault.HwdbFault.TheVariants as hwdb
 use Rattle.rule_types.specs.Rules.{tokens_in}
 use Rattle.rule_core.specs.Rules.{set_of_as}
-use Rattle.rule_lints.specs.FileLints.{placed_lints}
+use Rattle.rule_file_lints.specs.FileLints.{placed_lints}
 use Rattle.rule_pairs.specs.Accounts.{Accounts}
 use Rattle.rule_core.specs.declared.fault.RulesFault.{RulesFault}
 use Rattle.rule_core.specs.declared.fault.RulesFault.TheVariants as rules

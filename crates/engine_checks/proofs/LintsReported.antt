@@ -4,7 +4,7 @@ use Rattle.std.proofs.lemmas.List.Elements.{All-map}
 use Rattle.text_bytes.specs.declared.source_file.SourceFile.{SourceFile}
 use Rattle.text_tables.specs.Texts.{Text, is_among}
 use Rattle.hwdb_core.specs.Sources.{messages_of}
-use Rattle.rule_lints.specs.FileLints.{placed_lints}
+use Rattle.rule_file_lints.specs.FileLints.{placed_lints}
 use Rattle.engine_ends.specs.declared.line.Line.{Line}
 use Rattle.engine_formats.specs.Diagnostics.{DiagnosticValue}
 use Rattle.engine_formats.specs.Remarks.{code_of}

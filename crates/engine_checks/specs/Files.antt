@@ -11,8 +11,8 @@ use Rattle.rule_pairs.specs.declared.accounts.AccountKind.TheVariants.{User, Gro
 use Rattle.rule_remarks.specs.AccountLines.{accounts_of}
 use Rattle.rule_remarks.specs.Findings.{findings_as}
 use Rattle.rule_places.specs.declared.placed_finding.PlacedFinding.{PlacedFinding}
-use Rattle.rule_lints.specs.FileLints.{placed_lints}
-use Rattle.rule_lints.specs.declared.placed_lint.PlacedLint.{PlacedLint}
+use Rattle.rule_file_lints.specs.FileLints.{placed_lints}
+use Rattle.rule_file_lints.specs.declared.placed_lint.PlacedLint.{PlacedLint}
 use Rattle.engine_ends.specs.declared.line.Line.{Line}
 use Rattle.engine_formats.specs.Diagnostics.{DiagnosticValue}
 use Rattle.engine_formats.specs.Paths.{path_of}
@@ -77,7 +77,8 @@ ignores_counted profile ignored file = if has_comments ignored then ignores_in p
 
 -- what is reported for what was found in a file
 abbrev pub reported_for : Line → SourceFile → List DiagnosticValue → List DiagnosticValue
-reported_for line file found = file_reported line.lint line.style (ignored_by line) (file_text line file) (ignores_counted line.profile (ignored_by line) file) found
+reported_for line file found = file_reported line.lint line.style (ignored_by line) (file_text line file)
+    (ignores_counted line.profile (ignored_by line) file) found
 
 -- what is reported for a rules file
 unfoldable pub rules_reported : Line → SourceFile → List DiagnosticValue

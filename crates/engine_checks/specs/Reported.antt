@@ -1,5 +1,6 @@
 -- Which diagnostics of a file are reported, and which remarks on its comments.
-use Rattle.std.specs.Prelude.{ℕ, Bool, true, false, not, ◌==◌, ◌||◌, ◌&&◌, nat_lt, if◌then◌else◌, List, [], ◌∷◌, ◌++◌, filter, filter_map, Option, Some, None, option_map}
+use Rattle.std.specs.Prelude.{ℕ, Bool, true, false, not, ◌==◌, ◌||◌, ◌&&◌, nat_lt, if◌then◌else◌, List, [], ◌∷◌, ◌++◌, filter, filter_map, Option, Some}
+use Rattle.std.specs.Prelude.{None, option_map}
 use Rattle.std.specs.List.{list_any, take_while}
 use Rattle.text_bytes.specs.Lines.{NumberedLine}
 use Rattle.text_bytes.specs.Texts.{skip_while}
@@ -99,4 +100,5 @@ by_line (d ∷ ds) others = take_while (λ o. nat_lt o.begins d.begins) others +
 -- has to be asked for
 unfoldable pub file_reported : Bool → Bool → List Text → FileText → List Ignore → List DiagnosticValue → List DiagnosticValue
 file_reported lint style ignored file ignores found =
-    by_line (filter (is_reported lint style ignored ignores) found) (filter (λ d. is_asked lint style ignored d.remark) (comment_diagnostics file found ignores))
+    by_line (filter (is_reported lint style ignored ignores) found)
+    (filter (λ d. is_asked lint style ignored d.remark) (comment_diagnostics file found ignores))

@@ -96,4 +96,5 @@ rules_reported_by profile accounts lint style ignored read =
 
 -- what is reported for a file of a database that is read
 abbrev pub database_reported_by : Bool → Bool → List Text → FileRead → List DiagnosticValue
-database_reported_by lint style ignored read = file_reported lint style ignored read.text read.ignores (map (database_diagnostic read.text) (messages_of (read.file ∷ [])))
+database_reported_by lint style ignored read = file_reported lint style ignored read.text read.ignores
+    (map (database_diagnostic read.text) (messages_of (read.file ∷ [])))

@@ -20,20 +20,27 @@ ghost use Rattle.engine_checks.specs.Reported.{comment_diagnostic, is_reported, 
 /// and for what the line or a comment silences; nothing else is left out.
 pub fn found_is_reported_or_silenced()
     ensures rules { (line : Line) (file : SourceFile) → has_comments (ignored_by line) ≡ true
-        → found_among (rules_reported line file) ≡ filter (is_reported line.lint line.style (ignored_by line) (ignores_in line.profile file)) (rules_found line file) }
+        → found_among (rules_reported line file)
+        ≡ filter (is_reported line.lint line.style (ignored_by line) (ignores_in line.profile file)) (rules_found line file) }
     ensures database { (line : Line) (file : SourceFile) → has_comments (ignored_by line) ≡ true
-        → found_among (database_reported line file) ≡ filter (is_reported line.lint line.style (ignored_by line) (ignores_in line.profile file)) (database_found line file) }
-    ensures silenced { (lint style : Bool) (ignored : List Text) (comments : List ignores.Ignore) (d : DiagnosticValue) → is_reported lint style ignored comments d ≡ false → IsLeftOut lint style ignored comments d }
-    ensures reported { (lint style : Bool) (ignored : List Text) (comments : List ignores.Ignore) (d : DiagnosticValue) → is_reported lint style ignored comments d ≡ true → IsLeftOut lint style ignored comments d → ⊥ }
+        → found_among (database_reported line file)
+        ≡ filter (is_reported line.lint line.style (ignored_by line) (ignores_in line.profile file)) (database_found line file) }
+    ensures silenced { (lint style : Bool) (ignored : List Text) (comments : List ignores.Ignore) (d : DiagnosticValue)
+        → is_reported lint style ignored comments d ≡ false → IsLeftOut lint style ignored comments d }
+    ensures reported { (lint style : Bool) (ignored : List Text) (comments : List ignores.Ignore) (d : DiagnosticValue)
+        → is_reported lint style ignored comments d ≡ true → IsLeftOut lint style ignored comments d → ⊥ }
 {}
 
 /// Each code in a comment silences something that was found, or is reported as I1 or I2, and only then; except for
 /// these codes if the line ignores them.
 pub fn comments_silence_or_are_reported()
     ensures rules { (line : Line) (file : SourceFile) → has_comments (ignored_by line) ≡ true
-        → remarks_among (rules_reported line file) ≡ filter (λ d. not (is_among (ignored_by line) (code_of d.remark))) (filter_map (λ i. option_map (comment_diagnostic (file_text line file) i) (remark_on (rules_found line file) i)) (ignores_in line.profile file)) }
+        → remarks_among (rules_reported line file) ≡ filter (λ d. not (is_among (ignored_by line) (code_of d.remark)))
+        (filter_map (λ i. option_map (comment_diagnostic (file_text line file) i) (remark_on (rules_found line file) i)) (ignores_in line.profile file)) }
     ensures database { (line : Line) (file : SourceFile) → has_comments (ignored_by line) ≡ true
-        → remarks_among (database_reported line file) ≡ filter (λ d. not (is_among (ignored_by line) (code_of d.remark))) (filter_map (λ i. option_map (comment_diagnostic (file_text line file) i) (remark_on (database_found line file) i)) (ignores_in line.profile file)) }
+        → remarks_among (database_reported line file) ≡ filter (λ d. not (is_among (ignored_by line) (code_of d.remark)))
+        (filter_map (λ i. option_map (comment_diagnostic (file_text line file) i) (remark_on (database_found line file) i))
+        (ignores_in line.profile file)) }
     ensures said { (found : List DiagnosticValue) (ignore : ignores.Ignore) → IsSaidOf found ignore (remark_on found ignore) }
 {}
 

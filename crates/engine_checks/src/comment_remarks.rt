@@ -53,7 +53,8 @@ pub(crate) fn comment_remarks<'r, 'a>(
     met: &Met,
     ignores: &[Ignore<'a>],
 ) -> Result<Vec<Borrowed<'r, 'a>>, AllocError>
-    ensures { IfOk result (λ remarks. remarks.items ≡ filter_map (λ i. option_map (comment_diagnostic file.now i) (remark_by met.now.in_file met.now.at_lines i)) ignores.now) }
+    ensures { IfOk result (λ remarks. remarks.items
+        ≡ filter_map (λ i. option_map (comment_diagnostic file.now i) (remark_by met.now.in_file met.now.at_lines i)) ignores.now) }
 {
     let mut remarks = Vec::new(alloc);
     for ignore in ignores {

@@ -22,7 +22,8 @@ use engine_formats::{messages_are_at_their_words, messages_are_plain_diagnostics
 /// By the manual, with the default format, without lints and with nothing ignored `verify` says what it says
 /// without these options.
 pub fn plain_checks_are_as_before()
-    ensures { (line : Line) (files : List SourceFile) → line.profile ≡ Profile.Manual → line.format ≡ Format.Plain → line.lint ≡ false → ignored_by line ≡ [] → checks_outcome line files ≡ verify_outcome line files }
+    ensures { (line : Line) (files : List SourceFile) → line.profile ≡ Profile.Manual → line.format ≡ Format.Plain → line.lint ≡ false
+        → ignored_by line ≡ [] → checks_outcome line files ≡ verify_outcome line files }
 {
     messages_are_plain_diagnostics();
 }
@@ -30,7 +31,8 @@ pub fn plain_checks_are_as_before()
 /// With the default format and nothing ignored `update` says what it says without these options, if the lines of
 /// each file that is read can be reported by number.
 pub fn plain_updates_are_as_before()
-    ensures { (line : Line) (files : List SourceFile) → line.format ≡ Format.Plain → ignored_by line ≡ [] → All (λ file. length (lines file.bytes) < 2 ^ 32) (files_read kinds.FileKind.Hwdb line files)
+    ensures { (line : Line) (files : List SourceFile) → line.format ≡ Format.Plain → ignored_by line ≡ []
+        → All (λ file. length (lines file.bytes) < 2 ^ 32) (files_read kinds.FileKind.Hwdb line files)
         → reported_update_outcome line files ≡ database_outcome (update_outcome line) (files_read kinds.FileKind.Hwdb line files) }
 {
     messages_are_plain_diagnostics();
@@ -41,7 +43,9 @@ pub fn plain_updates_are_as_before()
 /// that is left out.
 pub fn ignored_codes_alone_are_left_out()
     ensures rules { (line : Line) (file : SourceFile) → has_comments (ignored_by line) ≡ false
-        → rules_reported line file ≡ filter (λ d. (line.style || not (is_about_style d.remark)) && not (is_among (ignored_by line) (code_of d.remark))) (rules_found line file) }
+        → rules_reported line file
+        ≡ filter (λ d. (line.style || not (is_about_style d.remark)) && not (is_among (ignored_by line) (code_of d.remark))) (rules_found line file) }
     ensures database { (line : Line) (file : SourceFile) → has_comments (ignored_by line) ≡ false
-        → database_reported line file ≡ filter (λ d. (line.style || not (is_about_style d.remark)) && not (is_among (ignored_by line) (code_of d.remark))) (database_found line file) }
+        → database_reported line file
+        ≡ filter (λ d. (line.style || not (is_about_style d.remark)) && not (is_among (ignored_by line) (code_of d.remark))) (database_found line file) }
 {}

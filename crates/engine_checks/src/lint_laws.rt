@@ -15,7 +15,9 @@ ghost use Rattle.engine_checks.specs.Reported.{is_about_style, is_reported, is_s
 /// comment silences; never for a database.
 pub fn lints_are_reported_where_asked()
     ensures asked { (line : Line) (file : SourceFile) → line.lint ≡ true
-        → lints_among (rules_reported line file) ≡ filter (λ d. not (is_among (ignored_by line) (code_of d.remark)) && not (is_silenced (ignores_counted line.profile (ignored_by line) file) d)) (lints_in line file) }
+        → lints_among (rules_reported line file)
+        ≡ filter (λ d. not (is_among (ignored_by line) (code_of d.remark))
+        && not (is_silenced (ignores_counted line.profile (ignored_by line) file) d)) (lints_in line file) }
     ensures unasked { (line : Line) (file : SourceFile) → line.lint ≡ false → lints_among (rules_reported line file) ≡ [] }
     ensures database { (line : Line) (file : SourceFile) → lints_among (database_reported line file) ≡ [] }
 {}
@@ -24,9 +26,11 @@ pub fn lints_are_reported_where_asked()
 /// that is reported is messages.
 pub fn messages_are_reported_as_without_lints()
     ensures messages { (line : Line) (file : SourceFile)
-        → messages_among (rules_reported line file) ≡ filter (is_reported false line.style (ignored_by line) (ignores_counted line.profile (ignored_by line) file)) (messages_in line file) }
+        → messages_among (rules_reported line file)
+        ≡ filter (is_reported false line.style (ignored_by line) (ignores_counted line.profile (ignored_by line) file)) (messages_in line file) }
     ensures unasked { (line : Line) (file : SourceFile) → line.lint ≡ false → has_comments (ignored_by line) ≡ false
-        → rules_reported line file ≡ filter (λ d. (line.style || not (is_about_style d.remark)) && not (is_among (ignored_by line) (code_of d.remark))) (messages_in line file) }
+        → rules_reported line file
+        ≡ filter (λ d. (line.style || not (is_about_style d.remark)) && not (is_among (ignored_by line) (code_of d.remark))) (messages_in line file) }
 {}
 
 /// If comments count, lints are found whether they are reported or not, so that a code in a comment that silences

@@ -7,7 +7,7 @@ use crate::borrowed::Borrowed;
 use crate::file_text::FileText;
 use crate::reported::Asked;
 use engine_formats::Remark;
-use rule_lints::{PlacedLint, placed_lints};
+use rule_file_lints::{PlacedLint, placed_lints};
 use std::alloc::{AllocError, Global};
 use text_bytes::SourceFile;
 

@@ -27,7 +27,8 @@ pub(crate) struct Met {
 impl Met {
     /// The codes of these diagnostics.
     pub(crate) fn of(alloc: Global, found: &[Diagnostic<'_>]) -> Result<Met, AllocError>
-        ensures { IfOk result (λ m. (ignore : ignores.Ignore) → is_met m.in_file m.at_lines ignore.scope ignore.code ≡ list_any (silences ignore) (map shown found.now)) }
+        ensures { IfOk result (λ m. (ignore : ignores.Ignore) → is_met m.in_file m.at_lines ignore.scope ignore.code
+            ≡ list_any (silences ignore) (map shown found.now)) }
     {
         Ok(Met {
             in_file: codes_in_file(alloc, found)?,

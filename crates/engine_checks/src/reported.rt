@@ -75,7 +75,8 @@ fn keep_reported<'a>(
     silenced: &Silenced<'_>,
     mut found: Vec<Diagnostic<'a>>,
 ) -> Vec<Diagnostic<'a>>
-    ensures { result.items ≡ filter (λ d. is_reported_by asked.now.lint asked.now.style asked.now.ignored silenced.now.in_file silenced.now.at_lines (shown d)) found.entry.items }
+    ensures { result.items ≡ filter (λ d.
+        is_reported_by asked.now.lint asked.now.style asked.now.ignored silenced.now.in_file silenced.now.at_lines (shown d)) found.entry.items }
 {
     found.retain(|diagnostic| is_reported(asked, silenced, diagnostic));
     found
@@ -101,7 +102,8 @@ pub(crate) fn file_reported<'r>(
     ignores: &[Ignore<'_>],
     found: Vec<Diagnostic<'r>>,
 ) -> Result<Vec<Diagnostic<'r>>, AllocError>
-    ensures { IfOk result (λ reported. map shown reported.items ≡ file_reported asked.now.lint asked.now.style asked.now.ignored file.now ignores.now (map shown found.entry.items)) }
+    ensures { IfOk result (λ reported. map shown reported.items
+        ≡ file_reported asked.now.lint asked.now.style asked.now.ignored file.now ignores.now (map shown found.entry.items)) }
 {
     let met = Met::of(alloc, &found)?;
     let remarks = keep_asked(asked, comment_remarks(alloc, file, &met, ignores)?);

@@ -33,7 +33,8 @@ fn reported_for_file<'r>(
     asked: &Asked<'_>,
     read: &'r FileRead<'_>,
 ) -> Result<Vec<Diagnostic<'r>>, AllocError>
-    ensures { IfOk result (λ reported. map shown reported.items ≡ rules_reported_by asked.now.profile asked.now.accounts asked.now.lint asked.now.style asked.now.ignored read.now) }
+    ensures { IfOk result (λ reported. map shown reported.items
+        ≡ rules_reported_by asked.now.profile asked.now.accounts asked.now.lint asked.now.style asked.now.ignored read.now) }
 {
     let found = rules_found(alloc, asked, read)?;
     file_reported(alloc, asked, read.text(), read.ignores(), found)
@@ -45,7 +46,8 @@ pub(crate) fn rules_reported<'r>(
     asked: &Asked<'_>,
     reads: &'r [FileRead<'_>],
 ) -> Result<Vec<Diagnostic<'r>>, AllocError>
-    ensures { IfOk result (λ reported. map shown reported.items ≡ flat_map (rules_reported_by asked.now.profile asked.now.accounts asked.now.lint asked.now.style asked.now.ignored) reads.now) }
+    ensures { IfOk result (λ reported. map shown reported.items
+        ≡ flat_map (rules_reported_by asked.now.profile asked.now.accounts asked.now.lint asked.now.style asked.now.ignored) reads.now) }
 {
     let mut reported = Vec::new(alloc);
     for read in reads {

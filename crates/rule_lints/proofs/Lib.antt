@@ -1,4 +1,3 @@
-pub mod Labels
 pub mod Octal
 pub mod ModeLaw
 pub mod SignLaw
@@ -7,8 +6,3 @@ pub mod AliasLaw
 pub mod DeviceLaw
 pub mod BraceLaw
 pub mod ParenthesisLaw
-pub mod Reading
-pub mod Meaning
-pub mod Passing
-pub mod Filing
-pub mod FileLemmas

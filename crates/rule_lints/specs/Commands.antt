@@ -67,7 +67,8 @@ is_redirected text = (is_word_end text || begins_with slash text) || (begins_wit
 -- whether a byte is a sign of the shell before this text: `|` or `;` at the end of a word, `>` before its target, or
 -- `&` and another `&`
 abbrev pub is_shell_sign : ℕ → List ℕ → Bool
-is_shell_sign b text = ((b == bar || b == semicolon) && is_word_end text) || ((b == greater && is_redirected text) || (b == ampersand && begins_with ampersand text))
+is_shell_sign b text = ((b == bar || b == semicolon)
+    && is_word_end text) || ((b == greater && is_redirected text) || (b == ampersand && begins_with ampersand text))
 
 -- whether a text has a sign of the shell outside of quotes, if this quote is open before it
 abbrev pub has_sign_after : Option ℕ → List ℕ → Bool

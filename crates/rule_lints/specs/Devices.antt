@@ -8,7 +8,7 @@ use Rattle.rule_types.specs.declared.roles.MatchOperator.TheVariants as op
 use Rattle.rule_types.specs.declared.roles.UpKey.{UpKey}
 use Rattle.rule_types.specs.declared.roles.UpKey.TheVariants as up
 use Rattle.text_tables.specs.Texts.{is_among}
-use Rattle.rule_lints.specs.Written.{WrittenPart}
+use Rattle.rule_core.specs.Written.{WrittenPart}
 use Rattle.rule_lints.specs.declared.devices.Group.{Group}
 use Rattle.rule_lints.specs.declared.devices.Group.TheVariants.{UsbDevice, UsbInterface, Input, Pci}
 

@@ -1,5 +1,6 @@
 -- What is true of the lints of one rule, in terms of texts and not of how they are read.
-use Rattle.std.specs.Prelude.{◌≡◌, ◌<◌, ◌^◌, ℕ, ◌+◌, ◌*◌, Bool, true, false, ◌&&◌, ◌||◌, nat_eq, nat_le, List, [], ◌∷◌, ◌++◌, length, map, flat_map, take, drop, codes, Result, Ok, Err, is_some}
+use Rattle.std.specs.Prelude.{◌≡◌, ◌<◌, ◌^◌, ℕ, ◌+◌, ◌*◌, Bool, true, false, ◌&&◌, ◌||◌, nat_eq, nat_le, List, [], ◌∷◌, ◌++◌, length, map, flat_map, take}
+use Rattle.std.specs.Prelude.{drop, codes, Result, Ok, Err, is_some}
 use Rattle.std.specs.List.{AllByRecursion, list_any, slice_split, starts_with}
 use Rattle.text_bytes.specs.Names.{close_brace, comma, digit_zero, open_brace}
 use Rattle.text_core.specs.Choices.{choice, is_bar}
@@ -10,7 +11,7 @@ use Rattle.rule_lints.specs.Devices.{group_of, is_other}
 use Rattle.rule_lints.specs.LetterCase.{is_miswritten}
 use Rattle.rule_lints.specs.Patterns.{are_expressions, close_parenthesis, open_parenthesis, take_all}
 use Rattle.rule_lints.specs.Texts.{has_byte}
-use Rattle.rule_lints.specs.Written.{WrittenPart}
+use Rattle.rule_core.specs.Written.{WrittenPart}
 use Rattle.rule_lints.specs.declared.devices.Group.{Group}
 use Rattle.rule_lints.specs.declared.letter_case.Writing.{Writing}
 

@@ -1,4 +1,3 @@
-pub mod Written
 pub mod Spots
 pub mod Texts
 pub mod Parts
@@ -10,11 +9,3 @@ pub mod Names
 pub mod Patterns
 pub mod RuleLints
 pub mod Laws
-pub mod FileRules
-pub mod Matches
-pub mod Imported
-pub mod Compared
-pub mod Reached
-pub mod Steps
-pub mod FileLints
-pub mod FileLaws

@@ -3,7 +3,8 @@ use Rattle.std.specs.Prelude.{ℕ, Bool, true, false, if◌then◌else◌, List,
 use Rattle.std.specs.List.{filter_map}
 use Rattle.rule_tokens.specs.Grammar.{Placed}
 use Rattle.rule_types.specs.declared.lint.Lint.{Lint}
-use Rattle.rule_types.specs.declared.lint.Lint.TheVariants.{ModeNotOctal, SignOfShell, RelativeProgram, LetterCase, NoSuchDevice, NameOutsideNet, LinkWithDev, QuotedName, NotAPattern, AlwaysHolds}
+use Rattle.rule_types.specs.declared.lint.Lint.TheVariants.{ModeNotOctal, SignOfShell, RelativeProgram, LetterCase, NoSuchDevice, NameOutsideNet}
+use Rattle.rule_types.specs.declared.lint.Lint.TheVariants.{LinkWithDev, QuotedName, NotAPattern, AlwaysHolds}
 use Rattle.rule_lints.specs.Commands.{relative_program, shell_command}
 use Rattle.rule_lints.specs.Devices.{asked_name, stranger}
 use Rattle.rule_lints.specs.LetterCase.{wrong_case}
@@ -11,7 +12,7 @@ use Rattle.rule_lints.specs.Modes.{wrong_mode}
 use Rattle.rule_lints.specs.Names.{dev_link, is_outside_net, name_given, quoted_name}
 use Rattle.rule_lints.specs.Patterns.{always_holds, expression}
 use Rattle.rule_lints.specs.Spots.{key_spot, value_spot}
-use Rattle.rule_lints.specs.Written.{WrittenPart}
+use Rattle.rule_core.specs.Written.{WrittenPart}
 use Rattle.rule_lints.specs.declared.spot.LintSpot.{LintSpot}
 
 -- the text with which a lint of single tokens is reported for this one, if it is reported
@@ -57,8 +58,8 @@ abbrev pub names_reported : List WrittenPart → List LintSpot
 names_reported tokens = if is_outside_net tokens then reported NameOutsideNet tokens else []
 
 -- what is reported for a rule's tokens: the lints in the order of their codes, and those of one code in written order
-unfoldable pub rule_lints : List WrittenPart → List LintSpot
-rule_lints tokens =
+unfoldable pub lints_of_rule : List WrittenPart → List LintSpot
+lints_of_rule tokens =
     ((((((((reported ModeNotOctal tokens
     ++ reported SignOfShell tokens)
     ++ reported RelativeProgram tokens)

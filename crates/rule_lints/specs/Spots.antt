@@ -2,7 +2,7 @@
 use Rattle.std.specs.Prelude.{ℕ, List, length}
 use Rattle.rule_tokens.specs.Grammar.{Placed}
 use Rattle.rule_types.specs.declared.lint.Lint.{Lint}
-use Rattle.rule_places.specs.Spots.{value_start}
+use Rattle.rule_core.specs.Spots.{value_start}
 use Rattle.rule_lints.specs.declared.spot.LintSpot.{LintSpot}
 
 -- a lint about a token's key, reported with a text

@@ -2,7 +2,8 @@
 ghost use Rattle.std.specs.Prelude.{◌≡◌, ◌≤◌, length, not, option_map};
 ghost use Rattle.std.specs.List.{prefix_len};
 ghost use Rattle.text_bytes.specs.Names.{is_blank};
-ghost use Rattle.rule_lints.specs.Commands.{asked_command, command_of, first_word, is_quote, is_redirected, is_shell_sign, is_word_end, has_shell_sign, lacks_path, lacks_shell, open_after, program_name, relative_program, run_command, shell_command};
+ghost use Rattle.rule_lints.specs.Commands.{asked_command, command_of, first_word, is_quote, is_redirected, is_shell_sign, is_word_end, has_shell_sign};
+ghost use Rattle.rule_lints.specs.Commands.{open_after, relative_program, run_command, shell_command};
 
 use crate::parts::{change_of, is_among};
 use crate::texts::rest_after_last;
@@ -56,7 +57,13 @@ const COMMANDS: [&[u8]; 35] = [
 pub(crate) fn shell_command(part: &Part) -> Option<&[u8]>
     ensures { option_map (λ text. text.now) result ≡ shell_command part.now }
 {
-    lacks_shell(command_of(part)?)
+    let command = command_of(part)?;
+    let program = rest_after_last(b'/', first_word(command));
+    if has_shell_sign(command) && !is_among(&SHELLS, program) {
+        Some(command)
+    } else {
+        None
+    }
 }
 
 /// The value with which W3 is reported: a command of RUN whose program is not where udev looks for one without a
@@ -64,7 +71,12 @@ pub(crate) fn shell_command(part: &Part) -> Option<&[u8]>
 pub(crate) fn relative_program(part: &Part) -> Option<&[u8]>
     ensures { option_map (λ text. text.now) result ≡ relative_program part.now }
 {
-    lacks_path(run_command(change_of(part)?)?)
+    let command = run_command(change_of(part)?)?;
+    if is_among(&COMMANDS, first_word(command)) {
+        Some(command)
+    } else {
+        None
+    }
 }
 
 /// The program that a part of a rule runs, with its words.
@@ -97,17 +109,6 @@ fn asked_command(act_kind: &ActKind) -> Option<&[u8]>
         ActKind::Program(template) => Some(template.written()),
         ActKind::Import(Import::Program(template)) => Some(template.written()),
         _ => None,
-    }
-}
-
-/// A command with a sign of the shell that no shell runs.
-fn lacks_shell(command: &[u8]) -> Option<&[u8]>
-    ensures { option_map (λ text. text.now) result ≡ lacks_shell command.now }
-{
-    if has_shell_sign(command) && !is_among(&SHELLS, program_name(command)) {
-        Some(command)
-    } else {
-        None
     }
 }
 
@@ -175,15 +176,8 @@ fn is_word_end(following: &[u8]) -> bool
     }
 }
 
-/// The name of the program of a command: what follows the last `/` of its first word.
-fn program_name(command: &[u8]) -> &[u8]
-    ensures { result.now ≡ program_name command.now }
-{
-    rest_after_last(b'/', first_word(command))
-}
-
 /// The first word of a command.
-pub(crate) fn first_word(command: &[u8]) -> &[u8]
+pub fn first_word(command: &[u8]) -> &[u8]
     ensures { result.now ≡ first_word command.now }
 {
     let words = unindented(command);
@@ -197,15 +191,4 @@ fn word_length(text: &[u8]) -> usize
     ensures within { result ≤ length text.now }
 {
     text.iter().take_while(|byte| !is_blank(**byte)).count()
-}
-
-/// A command whose first word is the name of one that is elsewhere.
-fn lacks_path(command: &[u8]) -> Option<&[u8]>
-    ensures { option_map (λ text. text.now) result ≡ lacks_path command.now }
-{
-    if is_among(&COMMANDS, first_word(command)) {
-        Some(command)
-    } else {
-        None
-    }
 }

@@ -3,7 +3,7 @@ ghost use Rattle.std.specs.Prelude.{◌≡◌, option_map};
 ghost use Rattle.rule_lints.specs.Devices.{asked_by, asked_name, group_named, group_of, is_other, is_same, stranger};
 
 use crate::parts::is_among;
-use crate::written::WrittenPart;
+use rule_core::WrittenPart;
 use rule_types::{MatchOperator, Part, UpKey};
 
 /// The kind of devices that alone has an attribute.

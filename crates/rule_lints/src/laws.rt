@@ -5,14 +5,15 @@ ghost use Rattle.text_core.specs.Fits.{fits};
 ghost use Rattle.text_core.specs.declared.item.Item.{Item};
 ghost use Rattle.rule_lints.specs.Commands.{has_shell_sign, lacks_path, lacks_shell};
 ghost use Rattle.rule_lints.specs.Devices.{stranger};
-ghost use Rattle.rule_lints.specs.Laws.{AreOfOneGroup, HasBraces, HasOpenParenthesis, HasSignOutside, IsStranger, WritesMode, has_capital, is_reported_as, is_reported_as_expression, is_reported_to_hold, is_small_text};
+ghost use Rattle.rule_lints.specs.Laws.{AreOfOneGroup, HasBraces, HasOpenParenthesis, HasSignOutside, IsStranger, WritesMode, has_capital, is_reported_as};
+ghost use Rattle.rule_lints.specs.Laws.{is_reported_as_expression, is_reported_to_hold, is_small_text};
 ghost use Rattle.rule_lints.specs.LetterCase.{is_capital, is_small_alias, items_in_place};
 ghost use Rattle.rule_types.specs.Topics.{is_mode};
 ghost use Rattle.rule_lints.specs.Modes.{no_mode};
 ghost use Rattle.rule_lints.specs.Names.{links_with_dev};
 ghost use Rattle.rule_lints.specs.Patterns.{has_braces, has_open_parenthesis, is_expression, take_all};
 ghost use Rattle.rule_lints.specs.declared.letter_case.Writing.TheVariants.{Alias, Lower, Prefixed};
-ghost use Rattle.rule_lints.specs.Written.{WrittenPart};
+ghost use Rattle.rule_core.specs.Written.{WrittenPart};
 
 /// A text gives a mode if and only if it is one octal digit or more, and nothing else, of a number of at most 7777.
 #[tactic(auto, using(crate::proofs::ModeLaw::modes_written))]

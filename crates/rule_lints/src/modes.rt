@@ -3,7 +3,7 @@ ghost use Rattle.std.specs.Prelude.{◌≡◌, ◌||◌, option_map};
 ghost use Rattle.text_bytes.specs.Names.{space, tab};
 ghost use Rattle.text_bytes.specs.Texts.{begins_with};
 ghost use Rattle.rule_types.specs.Topics.{is_mode};
-ghost use Rattle.rule_lints.specs.Modes.{mode_in, no_mode, wrong_mode};
+ghost use Rattle.rule_lints.specs.Modes.{mode_in, wrong_mode};
 
 use crate::parts::change_of;
 use rule_templates::has_sign;
@@ -14,7 +14,12 @@ use text_bytes::begins_with;
 pub(crate) fn wrong_mode(part: &Part) -> Option<&[u8]>
     ensures { option_map (λ text. text.now) result ≡ wrong_mode part.now }
 {
-    no_mode(mode_in(change_of(part)?)?)
+    let text = mode_in(change_of(part)?)?;
+    if has_sign(text) || is_mode(text) {
+        None
+    } else {
+        Some(text)
+    }
 }
 
 /// The text that a change gives to MODE.
@@ -24,17 +29,6 @@ fn mode_in(change: &Change) -> Option<&[u8]>
     match change {
         Change::Text(Target::Mode, template) => Some(template.written()),
         _ => None,
-    }
-}
-
-/// A text that is not a mode, whatever the device is.
-fn no_mode(text: &[u8]) -> Option<&[u8]>
-    ensures { option_map (λ text. text.now) result ≡ no_mode text.now }
-{
-    if has_sign(text) || is_mode(text) {
-        None
-    } else {
-        Some(text)
     }
 }
 

@@ -2,11 +2,11 @@
 ghost use Rattle.std.specs.Prelude.{◌≡◌, codes, nat_eq, option_map};
 ghost use Rattle.std.specs.List.{list_any, slice_split, starts_with};
 ghost use Rattle.text_bytes.specs.Names.{is_blank};
-ghost use Rattle.rule_lints.specs.Names.{dev_link, excludes_net, is_outside_net, is_subsystem, links_in, links_with_dev, meets, name_given, name_in, quoted_name, with_quote};
+ghost use Rattle.rule_lints.specs.Names.{dev_link, excludes_net, is_outside_net, is_subsystem, links_in, meets, name_given, name_in, quoted_name};
 
 use crate::parts::change_of;
 use crate::texts::has_byte;
-use crate::written::WrittenPart;
+use rule_core::WrittenPart;
 use rule_tokens::Token;
 use rule_types::{Change, Comparison, MatchOperator, Part, PlainKey, Target};
 use text_bytes::is_blank;
@@ -67,7 +67,8 @@ fn name_in(change: &Change) -> Option<&[u8]>
 pub(crate) fn dev_link(part: &Part) -> Option<&[u8]>
     ensures { option_map (λ text. text.now) result ≡ dev_link part.now }
 {
-    links_with_dev(links_in(change_of(part)?)?)
+    let links = links_in(change_of(part)?)?;
+    if has_dev(links) { Some(links) } else { None }
 }
 
 /// The text that a change gives to SYMLINK.
@@ -78,13 +79,6 @@ fn links_in(change: &Change) -> Option<&[u8]>
         Change::Text(Target::Symlink, template) => Some(template.written()),
         _ => None,
     }
-}
-
-/// Links, if one of them begins with `/dev/`.
-fn links_with_dev(links: &[u8]) -> Option<&[u8]>
-    ensures { option_map (λ text. text.now) result ≡ links_with_dev links.now }
-{
-    if has_dev(links) { Some(links) } else { None }
 }
 
 /// Whether one of the links begins with `/dev/`.
@@ -100,15 +94,9 @@ fn has_dev(links: &[u8]) -> bool
 pub(crate) fn quoted_name<'a>(token: &Token<'a>) -> Option<&'a [u8]>
     ensures { option_map (λ text. text.now) result ≡ quoted_name token.now }
 {
-    with_quote(token.attribute()?)
-}
-
-/// A text, if it has a `"`.
-fn with_quote(text: &[u8]) -> Option<&[u8]>
-    ensures { option_map (λ text. text.now) result ≡ with_quote text.now }
-{
-    if has_byte(b'"', text) {
-        Some(text)
+    let name = token.attribute()?;
+    if has_byte(b'"', name) {
+        Some(name)
     } else {
         None
     }

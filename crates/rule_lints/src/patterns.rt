@@ -3,7 +3,9 @@ ghost use Rattle.std.specs.Prelude.{◌≡◌, option_map};
 ghost use Rattle.std.specs.List.{list_all, list_any, slice_split};
 ghost use Rattle.text_core.specs.Choices.{is_bar};
 ghost use Rattle.rule_lints.specs.LetterCase.{is_many};
-ghost use Rattle.rule_lints.specs.Patterns.{always_holds, are_of_group, begins_with_class, expression, expression_in, has_braces, has_class, has_close_parenthesis, has_open_parenthesis, is_always_there, is_class_letter, is_expression, is_met_by_all, looks_at_all, some_met_by_all, take_all};
+ghost use Rattle.rule_lints.specs.Patterns.{always_holds, begins_with_class, expression, expression_in, has_braces, has_class, has_close_parenthesis};
+ghost use Rattle.rule_lints.specs.Patterns.{has_open_parenthesis, is_always_there, is_class_letter, is_expression, is_met_by_all, looks_at_all};
+ghost use Rattle.rule_lints.specs.Patterns.{some_met_by_all, take_all};
 
 use crate::letter_case::is_many;
 use crate::parts::{comparison_of, is_equal};
@@ -25,18 +27,11 @@ fn expression_in(wanted: &Comparison) -> Option<&[u8]>
     ensures { option_map (λ text. text.now) result ≡ expression_in wanted.now }
 {
     let written = wanted.written.as_slice();
-    if has_expression(written) || is_group(written) {
+    if has_expression(written) || (opens_group(written) && closes_group(written)) {
         Some(written)
     } else {
         None
     }
-}
-
-/// Whether texts between bars are those of a group in parentheses.
-fn is_group(written: &[u8]) -> bool
-    ensures { result ≡ are_of_group (slice_split is_bar written.now) }
-{
-    opens_group(written) && closes_group(written)
 }
 
 /// Whether a text between bars opens a group in parentheses.

@@ -9,7 +9,7 @@ use text_bytes::Bytes;
 
 /// A part of a rule's line that a lint is about.
 #[derive(Debug, Drop)]
-pub(crate) struct LintSpot {
+pub struct LintSpot {
     /// What is reported.
     pub lint: Lint,
     /// The text that it is reported with.
@@ -21,7 +21,7 @@ pub(crate) struct LintSpot {
 }
 
 /// A lint about a token's key, reported with a text.
-pub(crate) fn key_spot(
+pub fn key_spot(
     alloc: Global,
     lint: Lint,
     word: &[u8],

@@ -2,7 +2,8 @@
 ghost use Rattle.std.specs.Prelude.{◌≡◌, option_map};
 ghost use Rattle.std.specs.List.{find};
 ghost use Rattle.text_tables.specs.Texts.{same_text};
-ghost use Rattle.rule_pairs.specs.Accounts.{given_among, given_by, given_in, given_named, is_identity, is_padded, list_of, nobody, nobody_name, written_identity};
+ghost use Rattle.rule_pairs.specs.Accounts.{given_among, given_by, given_in, given_named, is_identity, is_padded, list_of, nobody, nobody_name};
+ghost use Rattle.rule_pairs.specs.Accounts.{written_identity};
 
 use rule_templates::is_substituted;
 use std::marker::Model;

@@ -25,7 +25,8 @@ pub fn no_pair_is_of_both_kinds()
 
 /// The first pair of each kind is reported, and no other.
 pub fn the_first_pair_of_a_kind_is_reported()
-    ensures first { (kind : PairKind) (pairs : List Pair) → find (λ f. same_kind kind f.kind) (reported_for [] pairs) ≡ option_map (finding kind) (find (is_of_kind kind) pairs) }
+    ensures first { (kind : PairKind) (pairs : List Pair) → find (λ f. same_kind kind f.kind) (reported_for [] pairs)
+        ≡ option_map (finding kind) (find (is_of_kind kind) pairs) }
     ensures once { (kind : PairKind) (pairs : List Pair) → length (filter (λ f. same_kind kind f.kind) (reported_for [] pairs)) ≤ 1 }
 {}
 

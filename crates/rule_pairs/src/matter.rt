@@ -3,7 +3,8 @@ ghost use Rattle.std.specs.Prelude.{◌≡◌, option_map};
 ghost use Rattle.std.specs.Option.{option_and_then};
 ghost use Rattle.rule_types.specs.Names.{import_type_of, run_type_of};
 ghost use Rattle.rule_types.specs.Builtins.{builtin_of};
-ghost use Rattle.rule_pairs.specs.Matters.{bare_option, log_level, matter_of, mode_in, numbered, of_account, of_builtin, of_import, of_kind, of_mode, of_name, of_option, of_run, of_test, only_number, only_text, other_option};
+ghost use Rattle.rule_pairs.specs.Matters.{bare_option, log_level, matter_of, mode_in, numbered, of_account, of_builtin, of_import, of_kind, of_mode};
+ghost use Rattle.rule_pairs.specs.Matters.{of_name, of_option, of_run, of_test, only_number, only_text, other_option};
 
 use crate::accounts::{AccountKind, Accounts, Given, given_in};
 use rule_parts::{level_of, option_of};

@@ -1,6 +1,7 @@
 //! What is reported for the tokens of one rule, two by two.
 ghost use Rattle.std.specs.Prelude.{◌≡◌, ◌∷◌, [], ◌+◌, ◌<◌, ◌^◌, IfOk, OnOk, length, map};
-ghost use Rattle.rule_pairs.specs.Pairs.{are_of_kind, are_related, is_reported, pair_findings, pairs_from, pairs_with, reported_for, same_kind, with_kind, with_pair};
+ghost use Rattle.rule_pairs.specs.Pairs.{are_of_kind, are_related, is_reported, pair_findings, pairs_from, pairs_with, reported_for, same_kind, with_kind};
+ghost use Rattle.rule_pairs.specs.Pairs.{with_pair};
 ghost use Rattle.rule_pairs.specs.Said.{said_of};
 
 use crate::accounts::Accounts;
@@ -18,9 +19,9 @@ use std::alloc::{AllocError, Global};
 pub fn pair_findings(
     alloc: Global,
     accounts: &Accounts,
-    tokens: &[Token<'_>],
+    tokens: &[&Token<'_>],
 ) -> Result<Vec<PairFinding>, AllocError>
-    ensures { IfOk result (λ reported. reported.items ≡ pair_findings accounts.now tokens.now) }
+    ensures { IfOk result (λ reported. reported.items ≡ pair_findings accounts.now (map (λ t. t.now) tokens.now)) }
 {
     let said = all_said(alloc, accounts, tokens)?;
     reported_for(alloc, &said)
@@ -30,9 +31,9 @@ pub fn pair_findings(
 fn all_said(
     alloc: Global,
     accounts: &Accounts,
-    tokens: &[Token<'_>],
+    tokens: &[&Token<'_>],
 ) -> Result<Vec<Option<Said>>, AllocError>
-    ensures { IfOk result (λ said. said.items ≡ map (said_of accounts.now) tokens.now) }
+    ensures { IfOk result (λ said. said.items ≡ map (said_of accounts.now) (map (λ t. t.now) tokens.now)) }
 {
     let mut said = Vec::with_capacity(alloc, tokens.len())?;
     for token in tokens {

@@ -3,7 +3,9 @@ ghost use Rattle.std.specs.Prelude.{◌≡◌, ◌≤◌, length, map, not};
 ghost use Rattle.std.specs.List.{list_all, list_any, prefix_len};
 ghost use Rattle.text_tables.specs.Texts.{is_among, same_text};
 ghost use Rattle.text_core.specs.Fnmatch.{is_special};
-ghost use Rattle.rule_pairs.specs.Relations.{all_part_ways, are_alike, are_disjoint, are_opposite, beginning, is_against, is_same, is_strict, is_wordless, lacks_words, leave_nothing, part_ways, parts_from_all, same_bool, same_form, same_matter, same_operator, same_way, same_words, share_a_word};
+ghost use Rattle.rule_pairs.specs.Relations.{all_part_ways, are_alike, are_disjoint, are_opposite, beginning, is_against, is_same, is_strict, is_wordless};
+ghost use Rattle.rule_pairs.specs.Relations.{lacks_words, leave_nothing, part_ways, parts_from_all, same_bool, same_form, same_matter, same_operator};
+ghost use Rattle.rule_pairs.specs.Relations.{same_way, same_words, share_a_word};
 
 use crate::form::{Form, is_special};
 use crate::said::Said;

@@ -1,6 +1,7 @@
 //! A token of a rule as it is compared with the others of its rule.
 ghost use Rattle.std.specs.Prelude.{◌≡◌, IfOk, map};
-ghost use Rattle.rule_pairs.specs.Said.{as_assign, as_equal, ends_dark, first_ends_dark, is_attribute, operator_of, opposite, opposite_by, said_by, said_of, said_with, trims};
+ghost use Rattle.rule_pairs.specs.Said.{as_assign, as_equal, ends_dark, first_ends_dark, is_attribute, operator_of, opposite, opposite_by, said_by, said_of};
+ghost use Rattle.rule_pairs.specs.Said.{said_with, trims};
 
 use crate::accounts::Accounts;
 use crate::form::{Form, form_of, is_choice};

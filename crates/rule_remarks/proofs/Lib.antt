@@ -1,4 +1,5 @@
 pub mod Late
+pub mod Tokens
 pub mod WayUp
 pub mod Placement
 pub mod OfRules

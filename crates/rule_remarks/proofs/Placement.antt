@@ -1,9 +1,9 @@
 -- Where what is reported for a rule is in its line.
-use Rattle.std.proofs.Common.{◌≡◌, ℕ, zero, suc, Bool, true, false, cond, true≢false, ◌||◌, List, [], ◌∷◌, ◌++◌, flat_map, filter_map, slice_get, is_ok, Option, Some, None, option_map, Ok, Err, refl, sym}
+use Rattle.std.proofs.Common.{◌≡◌, ℕ, zero, suc, Bool, true, false, cond, nat_lt, true≢false, ◌||◌, List, [], ◌∷◌, ◌++◌, flat_map, filter_map, slice_get, length, Option, Some, None, option_map, Result, Ok, Err, refl, subst, sym}
 use Rattle.std.specs.List.{AllByRecursion, cons_option, find}
 use Rattle.text_bytes.specs.Texts.{is_empty}
 use Rattle.file_messages.specs.declared.message.MessageKind.{MessageKind}
-use Rattle.file_messages.specs.declared.message.MessageKind.TheVariants.{AttributeElsewhere, BadAttributeSubstitution, BadSubstitution, BadValue, EmptyValue, OldSubsystemName, ResultBeforeProgram}
+use Rattle.file_messages.specs.declared.message.MessageKind.TheVariants.{AttributeElsewhere, BadAttributeSubstitution, BadSubstitution, BadValue, EmptyValue, LineTooLong, OldSubsystemName, ResultBeforeProgram, RuleWithoutEffect}
 use Rattle.text_bytes.specs.declared.profile.Profile.TheVariants.{Udev}
 use Rattle.rule_templates.specs.Reading.{is_faulty}
 use Rattle.rule_tokens.specs.Grammar.{Item, Placed, compares}
@@ -14,7 +14,12 @@ use Rattle.rule_types.specs.declared.keys.Key.{Key}
 use Rattle.rule_types.specs.declared.keys.Key.TheVariants as key
 use Rattle.rule_parts.specs.Options.{is_known_option}
 use Rattle.rule_parts.specs.Parts.{meaning_of}
-use Rattle.rule_core.specs.Drafts.{draft_of, items_as, tokens_of}
+use Rattle.rule_types.specs.declared.part.Part.{Part}
+use Rattle.rule_parts.specs.Parts.{part_of}
+use Rattle.rule_parts.specs.declared.finding.Finding.{Finding}
+use Rattle.rule_core.specs.Drafts.{draft, draft_of, draft_with, items_as, most_bytes, parts_of, with_part, written_part}
+use Rattle.rule_core.specs.Effects.{lacks_effect}
+use Rattle.rule_core.specs.Written.{WrittenPart, tokens_in}
 use Rattle.rule_pairs.specs.Accounts.{Accounts, given_in}
 use Rattle.rule_pairs.specs.Pairs.{message_of, pair_findings}
 use Rattle.rule_pairs.specs.declared.accounts.AccountKind.TheVariants.{User, Group}
@@ -24,8 +29,8 @@ use Rattle.rule_pairs.specs.declared.pair_finding.PairFinding.{PairFinding}
 use Rattle.rule_pairs.specs.declared.pair_finding.PairKind.{PairKind}
 use Rattle.rule_pairs.specs.declared.pair_finding.PairKind.TheVariants.{Same, Against}
 use Rattle.rule_places.specs.Laws.{IsQuotedThere, IsTextThere, is_about_text, is_about_value}
-use Rattle.rule_places.specs.Spots.{attribute_spot, key_spot, value_spot}
-use Rattle.rule_places.specs.declared.spot.Spot.{Spot}
+use Rattle.rule_core.specs.Spots.{attribute_spot, key_spot, token_spot, value_spot, whole_spot}
+use Rattle.rule_core.specs.declared.spot.Spot.{Spot}
 use Rattle.rule_places.proofs.PartPlacement.{AllPresent, IsPresent, attribute_in_place, both, key_in_place, one_or_none, value_in_place}
 use Rattle.rule_places.proofs.Placement.{all_lie, weaker}
 use Rattle.rule_remarks.specs.Attributes.{is_bad_name, is_elsewhere}
@@ -184,22 +189,47 @@ rule_reported accounts line tokens h =
     both line (flat_map (token_remarks accounts) tokens) (order_remarks (late_program tokens) ++ filter_map (pair_remark tokens) (pair_findings accounts tokens)) (tokens_reported accounts line tokens h)
     (both line (order_remarks (late_program tokens)) (filter_map (pair_remark tokens) (pair_findings accounts tokens)) (order_reported line (late_program tokens) (late_slice line tokens h)) (pairs_reported line tokens (pair_findings accounts tokens) h))
 
--- the tokens of a line are slices of it
-slices : (line : List ℕ) (items : List Item) → AllByRecursion (LiesIn line) items → AllByRecursion (IsSlice line) (tokens_of items)
-slices line [] h = tt
-slices line (Ok t ∷ items) h = (h.0, slices line items h.1)
-slices line (Err fault ∷ items) h = slices line items h.1
-
-line_reported : (accounts : Accounts) (line : List ℕ) → AllPresent line (line_remarks accounts line)
-unfolding line_remarks
-line_reported accounts line = by (is_ok (draft_of Udev line))
+-- the tokens of a rule are slices of its line
+slices : (line : List ℕ) (items : List Item) (parts : List WrittenPart) → parts_of Udev line items ≡ Ok parts → AllByRecursion (LiesIn line) items → AllByRecursion (IsSlice line) (tokens_in parts)
+slices line [] parts e h =
+    let none : [] ≡ parts = cc in
+    subst (λ (ps : List WrittenPart). AllByRecursion (IsSlice line) (tokens_in ps)) none tt
+slices line (Err fault ∷ items) parts e h = absurd (wrong_first (parts_of Udev line items) e)
   where
-    by : (b : Bool) → AllPresent line (cond b (rule_remarks accounts (tokens_of (items_as Udev line))) [])
-    by true = rule_reported accounts line (tokens_of (items_as Udev line)) (slices line (items_as Udev line) (all_lie Udev line))
-    by false = tt
+    wrong_first : (rest : Result (List WrittenPart) Spot) → with_part (Err (token_spot fault.kind fault.at line)) rest ≡ Ok parts → ⊥
+    wrong_first (Ok more) g = cc
+    wrong_first (Err other) g = cc
+slices line (Ok t ∷ items) parts e h = by (part_of Udev t) (parts_of Udev line items) refl e
+  where
+    by : (x : Result Part Finding) (rest : Result (List WrittenPart) Spot) → parts_of Udev line items ≡ rest → with_part (written_part t x) rest ≡ Ok parts → AllByRecursion (IsSlice line) (tokens_in parts)
+    by (Ok p) (Ok more) f g =
+        let all : record { token = t; part = p } ∷ more ≡ parts = cc in
+        subst (λ (ps : List WrittenPart). AllByRecursion (IsSlice line) (tokens_in ps)) all (h.0, slices line items more f h.1)
+    by (Ok p) (Err wrong) f g = absurd (cc)
+    by (Err found) (Ok more) f g = absurd (cc)
+    by (Err found) (Err wrong) f g = absurd (cc)
 
-pub words_in_place : (accounts : Accounts) (line : List ℕ) → AllByRecursion (IsTextThere line) (line_remarks accounts line)
-words_in_place accounts line = weaker line (IsTextThere line) (line_remarks accounts line) (λ s h. h.0) (line_reported accounts line)
+line_reported : (accounts : Accounts) (line : List ℕ) → AllPresent line (line_remarks accounts (draft_of Udev line))
+unfolding draft_of
+line_reported accounts line = on (nat_lt (most_bytes Udev) (length line))
+  where
+    items : List Item
+    items = items_as Udev line
 
-pub values_in_place : (accounts : Accounts) (line : List ℕ) → AllByRecursion (IsQuotedThere line) (line_remarks accounts line)
-values_in_place accounts line = weaker line (IsQuotedThere line) (line_remarks accounts line) (λ s h. h.1) (line_reported accounts line)
+    kept : (parts : List WrittenPart) (idle : Bool) → parts_of Udev line items ≡ Ok parts → AllPresent line (line_remarks accounts (cond idle (Err (whole_spot RuleWithoutEffect line)) (Ok (draft Udev line parts))))
+    kept parts true e = tt
+    kept parts false e = rule_reported accounts line (tokens_in parts) (slices line items parts e (all_lie Udev line))
+
+    read : (r : Result (List WrittenPart) Spot) → parts_of Udev line items ≡ r → AllPresent line (line_remarks accounts (draft_with Udev line r))
+    read (Ok parts) e = kept parts (lacks_effect Udev (tokens_in parts)) e
+    read (Err wrong) e = tt
+
+    on : (b : Bool) → AllPresent line (line_remarks accounts (cond b (Err (whole_spot LineTooLong line)) (draft_with Udev line (parts_of Udev line items))))
+    on true = tt
+    on false = read (parts_of Udev line items) refl
+
+pub words_in_place : (accounts : Accounts) (line : List ℕ) → AllByRecursion (IsTextThere line) (line_remarks accounts (draft_of Udev line))
+words_in_place accounts line = weaker line (IsTextThere line) (line_remarks accounts (draft_of Udev line)) (λ s h. h.0) (line_reported accounts line)
+
+pub values_in_place : (accounts : Accounts) (line : List ℕ) → AllByRecursion (IsQuotedThere line) (line_remarks accounts (draft_of Udev line))
+values_in_place accounts line = weaker line (IsQuotedThere line) (line_remarks accounts (draft_of Udev line)) (λ s h. h.1) (line_reported accounts line)

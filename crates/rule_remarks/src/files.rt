@@ -1,14 +1,15 @@
 //! What is reported for the rules of a file that stay.
-ghost use Rattle.std.specs.Prelude.{◌≡◌, ◌++◌, IfOk, OnOk};
+ghost use Rattle.std.specs.Prelude.{◌≡◌, IfOk, map};
 ghost use Rattle.text_bytes.specs.declared.profile.Profile.TheVariants.{Udev};
 ghost use Rattle.rule_core.specs.Lines.{joined_lines};
+ghost use Rattle.rule_core.specs.Rules.{landed, reading_of};
 ghost use Rattle.rule_places.specs.Kept.{kept_lines};
-ghost use Rattle.rule_remarks.specs.Rules.{file_remarks, remarks_from};
+ghost use Rattle.rule_remarks.specs.Rules.{file_remarks, line_remarks, remarks_from};
 
-use crate::line_remarks::line_remarks;
-use rule_core::{JoinedLine, abandoned_at, joined_lines};
+use crate::rule_remarks::rule_remarks;
+use rule_core::{Draft, LandedReading, Spot, abandoned_at, joined_lines, read_lines, sum_of};
 use rule_pairs::Accounts;
-use rule_places::{KeptLines, PlacedFinding, place_spots, sum_of};
+use rule_places::{KeptLines, PlacedFinding, place_spots};
 use std::alloc::{AllocError, Global};
 use text_bytes::Profile;
 
@@ -30,41 +31,55 @@ pub fn file_remarks(
 {
     match abandoned_at(Profile::Udev, bytes) {
         Some(_) => Ok(Vec::new(alloc)),
-        None => remarks_of_lines(alloc, accounts, bytes),
+        None => remarks_of_bytes(alloc, accounts, bytes),
     }
 }
 
-/// What is reported for the joined lines of a file.
-fn remarks_of_lines(
+/// What is reported for the lines of a file with these bytes.
+fn remarks_of_bytes(
     alloc: Global,
     accounts: &Accounts,
     bytes: &[u8],
 ) -> Result<Vec<PlacedFinding>, AllocError>
-    ensures { IfOk result (λ reported. reported.items ≡ remarks_from accounts.now (kept_lines bytes.now) 0 (joined_lines Udev bytes.now).lines) }
+    ensures { IfOk result (λ reported. reported.items
+        ≡ remarks_from accounts.now (kept_lines bytes.now) 0 (landed (map (reading_of Udev) (joined_lines Udev bytes.now).lines))) }
 {
     let kept = KeptLines::of(alloc, bytes)?;
     let joined = joined_lines(alloc, Profile::Udev, bytes)?;
+    let lines = read_lines(alloc, Profile::Udev, joined.lines())?;
+    remarks_of_lines(alloc, accounts, &kept, &lines)
+}
+
+/// What is reported for the lines of a file that were read for udev. The kept lines are those of the same file.
+pub fn remarks_of_lines(
+    alloc: Global,
+    accounts: &Accounts,
+    kept: &KeptLines,
+    lines: &[LandedReading<'_>],
+) -> Result<Vec<PlacedFinding>, AllocError>
+    ensures { IfOk result (λ reported. reported.items ≡ remarks_from accounts.now kept.now 0 lines.now) }
+{
     let mut reported = Vec::new(alloc);
-    place_lines(alloc, &mut reported, accounts, &kept, joined.lines())?;
+    let mut start = 0;
+    for line in lines {
+        let reading = &line.reading;
+        let spots = line_remarks(alloc, accounts, &reading.read)?;
+        place_spots(alloc, &mut reported, kept, reading.line, start, &spots)?;
+        start = sum_of(start, reading.text.len())?;
+    }
     Ok(reported)
 }
 
-/// Adds what is reported for joined lines.
-fn place_lines(
+/// What is reported for a line, if it was read as a rule.
+fn line_remarks(
     alloc: Global,
-    reported: &mut Vec<PlacedFinding>,
     accounts: &Accounts,
-    kept: &KeptLines,
-    lines: &[JoinedLine<'_>],
-) -> Result<(), AllocError>
-    ensures { OnOk result (reported.new.items ≡ reported.old.items ++ remarks_from accounts.now kept.now 0 lines.now) }
+    read: &Result<Draft<'_>, Spot>,
+) -> Result<Vec<Spot>, AllocError>
+    ensures { IfOk result (λ spots. spots.items ≡ line_remarks accounts.now read.now) }
 {
-    let mut start = 0;
-    for line in lines {
-        let text = line.text();
-        let spots = line_remarks(alloc, accounts, text)?;
-        place_spots(reported, kept, line.number(), start, spots)?;
-        start = sum_of(start, text.len())?;
+    match read {
+        Ok(draft) => rule_remarks(alloc, accounts, &draft.parts),
+        Err(_) => Ok(Vec::new(alloc)),
     }
-    Ok(())
 }

@@ -4,6 +4,7 @@ ghost use Rattle.std.specs.List.{AllByRecursion};
 ghost use Rattle.text_bytes.specs.declared.profile.Profile.TheVariants.{Manual, Udev};
 ghost use Rattle.text_bytes.specs.declared.source_file.SourceFile as files;
 ghost use Rattle.rule_tokens.specs.Grammar.{Placed};
+ghost use Rattle.rule_core.specs.Drafts.{draft_of};
 ghost use Rattle.rule_core.specs.Lines.{joined_lines};
 ghost use Rattle.rule_pairs.specs.Accounts.{Accounts};
 ghost use Rattle.rule_pairs.specs.declared.accounts.AccountKind.TheVariants.{Group, User};
@@ -28,14 +29,14 @@ pub fn ways_up_are_in_their_names()
 /// What is reported for a key or an attribute is reported with the bytes that are in the joined line at the place.
 #[tactic(auto, using(crate::proofs::Placement::words_in_place))]
 pub fn words_are_at_their_places()
-    ensures { (accounts : Accounts) (line : List ℕ) → AllByRecursion (IsTextThere line) (line_remarks accounts line) }
+    ensures { (accounts : Accounts) (line : List ℕ) → AllByRecursion (IsTextThere line) (line_remarks accounts (draft_of Udev line)) }
 {}
 
 /// What is reported for a value is reported for bytes of the joined line between two quotes, with no quote among
 /// them that ends a value.
 #[tactic(auto, using(crate::proofs::Placement::values_in_place))]
 pub fn values_are_between_quotes()
-    ensures { (accounts : Accounts) (line : List ℕ) → AllByRecursion (IsQuotedThere line) (line_remarks accounts line) }
+    ensures { (accounts : Accounts) (line : List ℕ) → AllByRecursion (IsQuotedThere line) (line_remarks accounts (draft_of Udev line)) }
 {}
 
 /// A PROGRAM is reported as late only if a RESULT comes before it, and if one does for any PROGRAM, some PROGRAM is
@@ -50,7 +51,8 @@ pub fn late_programs_follow_results()
 /// fall.
 #[tactic(auto, using(crate::proofs::ByLines::both_rise))]
 pub fn lines_never_fall()
-    ensures { (line : ℕ) (found others : List places.PlacedFinding) → RisesFrom (λ p. p.begins) line found → RisesFrom (λ p. p.begins) line others → RisesFrom (λ p. p.begins) line (by_line (λ p. p.begins) found others) }
+    ensures { (line : ℕ) (found others : List places.PlacedFinding) → RisesFrom (λ p. p.begins) line found → RisesFrom (λ p. p.begins) line others
+        → RisesFrom (λ p. p.begins) line (by_line (λ p. p.begins) found others) }
 {}
 
 /// Each remark on a file is reported for a joined line that is a rule for udev.

@@ -12,7 +12,6 @@ mod attributes;
 mod files;
 mod findings;
 mod laws;
-mod line_remarks;
 mod merging;
 mod order;
 mod rule_remarks;
@@ -20,7 +19,7 @@ mod token_remarks;
 mod values;
 
 pub use account_lines::read_accounts;
-pub use files::file_remarks;
+pub use files::{file_remarks, remarks_of_lines};
 pub use findings::file_findings;
 pub use laws::{
     late_programs_follow_results, lines_never_fall, no_tokens_have_no_remarks,

@@ -1,15 +1,18 @@
 //! A PROGRAM that follows a RESULT.
 ghost use Rattle.std.specs.Prelude.{◌≡◌, option_map};
+ghost use Rattle.rule_core.specs.Written.{tokens_in};
 ghost use Rattle.rule_remarks.specs.Remarks.{is_program, is_result, late_program};
 
+use rule_core::WrittenPart;
 use rule_tokens::Token;
 
 /// The first PROGRAM that follows a RESULT.
-pub(crate) fn late_program<'t, 'a>(tokens: &'t [Token<'a>]) -> Option<&'t Token<'a>>
-    ensures { option_map (λ t. t.now) result ≡ late_program tokens.now }
+pub(crate) fn late_program<'t, 'a>(parts: &'t [WrittenPart<'a>]) -> Option<&'t Token<'a>>
+    ensures { option_map (λ t. t.now) result ≡ late_program (tokens_in parts.now) }
 {
     let mut asked = false;
-    for token in tokens {
+    for written in parts {
+        let token = &written.token;
         if asked && is_program(token) {
             return Some(token);
         }

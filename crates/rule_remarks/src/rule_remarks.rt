@@ -1,12 +1,13 @@
 //! What is reported for the tokens of a rule that stays.
-ghost use Rattle.std.specs.Prelude.{◌≡◌, ◌∷◌, ◌++◌, [], IfOk, OnOk, filter_map, flat_map, option_map, slice_get};
+ghost use Rattle.std.specs.Prelude.{◌≡◌, ◌∷◌, ◌++◌, [], IfOk, OnOk, filter_map, flat_map, map, option_map, slice_get};
+ghost use Rattle.rule_core.specs.Written.{tokens_in};
 ghost use Rattle.rule_remarks.specs.Remarks.{late_program, order_remarks, pair_remark, rule_remarks, token_remarks};
 
 use crate::order::late_program;
 use crate::token_remarks::add_token;
 use file_messages::MessageKind;
+use rule_core::{Spot, WrittenPart, key_spot};
 use rule_pairs::{Accounts, PairFinding, pair_findings};
-use rule_places::{Spot, key_spot};
 use rule_tokens::Token;
 use std::alloc::{AllocError, Global};
 
@@ -16,15 +17,16 @@ use std::alloc::{AllocError, Global};
 pub(crate) fn rule_remarks(
     alloc: Global,
     accounts: &Accounts,
-    tokens: &[Token<'_>],
+    parts: &[WrittenPart<'_>],
 ) -> Result<Vec<Spot>, AllocError>
-    ensures { IfOk result (λ spots. spots.items ≡ rule_remarks accounts.now tokens.now) }
+    ensures { IfOk result (λ spots. spots.items ≡ rule_remarks accounts.now (tokens_in parts.now)) }
 {
     let mut spots = Vec::new(alloc);
-    add_tokens(alloc, &mut spots, accounts, tokens)?;
-    add_order(alloc, &mut spots, tokens)?;
-    let pairs = pair_findings(alloc, accounts, tokens)?;
-    add_pairs(alloc, &mut spots, tokens, &pairs)?;
+    add_tokens(alloc, &mut spots, accounts, parts)?;
+    add_order(alloc, &mut spots, parts)?;
+    let tokens = tokens_of(alloc, parts)?;
+    let pairs = pair_findings(alloc, accounts, &tokens)?;
+    add_pairs(alloc, &mut spots, parts, &pairs)?;
     Ok(spots)
 }
 
@@ -33,21 +35,25 @@ fn add_tokens(
     alloc: Global,
     spots: &mut Vec<Spot>,
     accounts: &Accounts,
-    tokens: &[Token<'_>],
+    parts: &[WrittenPart<'_>],
 ) -> Result<(), AllocError>
-    ensures { OnOk result (spots.new.items ≡ spots.old.items ++ flat_map (token_remarks accounts.now) tokens.now) }
+    ensures { OnOk result (spots.new.items ≡ spots.old.items ++ flat_map (token_remarks accounts.now) (tokens_in parts.now)) }
 {
-    for token in tokens {
-        add_token(alloc, spots, accounts, token)?;
+    for written in parts {
+        add_token(alloc, spots, accounts, &written.token)?;
     }
     Ok(())
 }
 
 /// Adds what is reported for a PROGRAM after a RESULT.
-fn add_order(alloc: Global, spots: &mut Vec<Spot>, tokens: &[Token<'_>]) -> Result<(), AllocError>
-    ensures { OnOk result (spots.new.items ≡ spots.old.items ++ order_remarks (late_program tokens.now)) }
+fn add_order(
+    alloc: Global,
+    spots: &mut Vec<Spot>,
+    parts: &[WrittenPart<'_>],
+) -> Result<(), AllocError>
+    ensures { OnOk result (spots.new.items ≡ spots.old.items ++ order_remarks (late_program (tokens_in parts.now))) }
 {
-    if let Some(token) = late_program(tokens) {
+    if let Some(token) = late_program(parts) {
         spots.push(key_spot(alloc, MessageKind::ResultBeforeProgram, token)?)?;
     }
     Ok(())
@@ -57,13 +63,13 @@ fn add_order(alloc: Global, spots: &mut Vec<Spot>, tokens: &[Token<'_>]) -> Resu
 fn add_pairs(
     alloc: Global,
     spots: &mut Vec<Spot>,
-    tokens: &[Token<'_>],
+    parts: &[WrittenPart<'_>],
     pairs: &[PairFinding],
 ) -> Result<(), AllocError>
-    ensures { OnOk result (spots.new.items ≡ spots.old.items ++ filter_map (pair_remark tokens.now) pairs.now) }
+    ensures { OnOk result (spots.new.items ≡ spots.old.items ++ filter_map (pair_remark (tokens_in parts.now)) pairs.now) }
 {
     for found in pairs {
-        add_pair(alloc, spots, tokens, *found)?;
+        add_pair(alloc, spots, parts, *found)?;
     }
     Ok(())
 }
@@ -72,20 +78,38 @@ fn add_pairs(
 fn add_pair(
     alloc: Global,
     spots: &mut Vec<Spot>,
-    tokens: &[Token<'_>],
+    parts: &[WrittenPart<'_>],
     found: PairFinding,
 ) -> Result<(), AllocError>
-    ensures { OnOk result (spots.new.items ≡ spots.old.items ++ filter_map (pair_remark tokens.now) (found ∷ [])) }
+    ensures { OnOk result (spots.new.items ≡ spots.old.items ++ filter_map (pair_remark (tokens_in parts.now)) (found ∷ [])) }
 {
-    if let Some(token) = token_at(tokens, found.token) {
+    if let Some(token) = token_at(parts, found.token) {
         spots.push(key_spot(alloc, found.kind.message_kind(), token)?)?;
     }
     Ok(())
 }
 
-/// The token at a place among tokens.
-fn token_at<'t, 'a>(tokens: &'t [Token<'a>], place: usize) -> Option<&'t Token<'a>>
-    ensures { option_map (λ t. t.now) result ≡ slice_get tokens.now place }
+/// The token at a place among those of a rule.
+#[tactic(auto, using(crate::proofs::Tokens::token_there))]
+fn token_at<'t, 'a>(parts: &'t [WrittenPart<'a>], place: usize) -> Option<&'t Token<'a>>
+    ensures { option_map (λ t. t.now) result ≡ slice_get (tokens_in parts.now) place }
 {
-    tokens.get(place)
+    match parts.get(place) {
+        None => None,
+        Some(written) => Some(&written.token),
+    }
+}
+
+/// The tokens of a rule without their parts.
+fn tokens_of<'t, 'a>(
+    alloc: Global,
+    parts: &'t [WrittenPart<'a>],
+) -> Result<Vec<&'t Token<'a>>, AllocError>
+    ensures { IfOk result (λ tokens. map (λ t. t.now) tokens.items ≡ tokens_in parts.now) }
+{
+    let mut tokens = Vec::with_capacity(alloc, parts.len())?;
+    for written in parts {
+        tokens.push(&written.token)?;
+    }
+    Ok(tokens)
 }

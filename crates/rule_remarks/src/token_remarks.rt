@@ -7,8 +7,8 @@ ghost use Rattle.rule_remarks.specs.Values.{value_fault};
 use crate::attributes::{is_bad_name, is_elsewhere};
 use crate::values::value_fault;
 use file_messages::MessageKind;
+use rule_core::{Spot, attribute_spot, key_spot, value_spot};
 use rule_pairs::Accounts;
-use rule_places::{Spot, attribute_spot, key_spot, value_spot};
 use rule_tokens::{Token, unquote};
 use rule_types::{Key, key_of};
 use std::alloc::{AllocError, Global};
@@ -75,7 +75,8 @@ fn add_value(
     key: Key,
     token: &Token<'_>,
 ) -> Result<(), AllocError>
-    ensures { OnOk result (spots.new.items ≡ spots.old.items ++ value_remarks (value_fault accounts.now key token.now.parts.head.operator (meaning_of token.now)) token.now) }
+    ensures { OnOk result (spots.new.items ≡ spots.old.items
+        ++ value_remarks (value_fault accounts.now key token.now.parts.head.operator (meaning_of token.now)) token.now) }
 {
     let text = unquote(alloc, token)?;
     if let Some(kind) = value_fault(accounts, key, token.operator(), &text) {

@@ -1,6 +1,7 @@
 //! What is wrong with the value of a token of a rule that stays.
 ghost use Rattle.std.specs.Prelude.{◌≡◌};
-ghost use Rattle.rule_remarks.specs.Values.{account_fault, assigned_fault, compared_fault, filled_fault, given_fault, option_fault, subsystem_fault, text_fault, value_fault};
+ghost use Rattle.rule_remarks.specs.Values.{account_fault, assigned_fault, compared_fault, filled_fault, given_fault, option_fault, subsystem_fault};
+ghost use Rattle.rule_remarks.specs.Values.{text_fault, value_fault};
 
 use file_messages::MessageKind;
 use rule_pairs::{AccountKind, Accounts, Given, given_in};

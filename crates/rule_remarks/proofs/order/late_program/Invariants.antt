@@ -1,7 +1,8 @@
 use Rattle.std.proofs.Common.{◌≡◌, drop}
+use Rattle.rule_core.specs.Written.{tokens_in}
 use Rattle.rule_remarks.specs.Remarks.{late_program}
 use Rattle.rule_remarks.proofs.Late.{following}
 use Rattle.rule_remarks.proofs.order.late_program.Given as goal
 
-abbrev pub invariant-loop-token : goal.invariant-loop-token
-invariant-loop-token l = following l.asked (drop l.token-index l.tokens) ≡ late_program l.tokens
+abbrev pub invariant-loop-written : goal.invariant-loop-written
+invariant-loop-written l = following l.asked (tokens_in (drop l.written-index l.parts)) ≡ late_program (tokens_in l.parts)

@@ -1,7 +1,8 @@
 use Rattle.std.proofs.Common.{◌≡◌, ◌++◌, drop, filter_map}
+use Rattle.rule_core.specs.Written.{tokens_in}
 use Rattle.rule_remarks.specs.Remarks.{pair_remark}
 use Rattle.rule_remarks.proofs.rule_remarks.add_pairs.Given as goal
 
 abbrev pub invariant-loop-found : goal.invariant-loop-found
 invariant-loop-found l =
-    l.spots.items ++ filter_map (pair_remark l.tokens) (drop l.found-index l.pairs) ≡ l.initial.spots.items ++ filter_map (pair_remark l.tokens) l.pairs
+    l.spots.items ++ filter_map (pair_remark (tokens_in l.parts)) (drop l.found-index l.pairs) ≡ l.initial.spots.items ++ filter_map (pair_remark (tokens_in l.parts)) l.pairs

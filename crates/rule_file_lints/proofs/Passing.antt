@@ -1,0 +1,148 @@
+-- What the pass over the rules of a file keeps.
+use Rattle.std.proofs.Common.{◌≡◌, ℕ, ◌+◌, ◌<◌, ◌≤◌, suc, Bool, true, false, cond, ◌||◌, ◌&&◌, List, [], ◌∷◌, ◌++◌, length, map, get_or, take, drop, Option, Some, None, reverse, refl, ap, sym, ◌∙◌, append-nil, append_assoc, length-drop, arith}
+use Rattle.std.specs.List.{flat_map, list_any}
+use Rattle.std.proofs.Math.Seq.{drop-cons}
+use Rattle.std.proofs.lemmas.List.{reverse-append, take_more}
+use Rattle.std.proofs.lemmas.List.Folds.{list_any-append}
+use Rattle.text_tables.specs.Texts.{Text, is_among, same_text, with_text, with_texts}
+use Rattle.text_tables.proofs.Found.{among_added}
+use Rattle.rule_file_lints.specs.Compared.{compared_texts, meant_spots, meant_to_compare, assigned_value, text_of, Valued}
+use Rattle.rule_file_lints.specs.FileLints.{file_spot, file_spots, spots_below, spots_by, spots_of}
+use Rattle.rule_file_lints.specs.FileRules.{FileRule}
+use Rattle.rule_file_lints.specs.Imported.{any_property, below_spots, families, given_by, given_names, has_property, imported_below, imported_names, is_of, wanted_in}
+use Rattle.rule_file_lints.specs.Matches.{is_match}
+use Rattle.rule_file_lints.specs.Reached.{jumps_above, never_reached}
+use Rattle.rule_lints.specs.RuleLints.{lints_of_rule}
+use Rattle.rule_file_lints.specs.Steps.{FileNames, RulesAbove, nothing_above, with_rule}
+use Rattle.rule_core.specs.Written.{WrittenPart}
+use Rattle.rule_file_lints.specs.declared.file_lints.FileSpot.{FileSpot}
+
+-- the same texts are among two lists
+abbrev pub SameTexts : List Text → List Text → Type 0
+SameTexts a b = (name : Text) → is_among a name ≡ is_among b name
+
+or_swapped : (a b c : Bool) → ((a || b) || c) ≡ (a || (b || c))
+or_swapped true b c = refl
+or_swapped false b c = refl
+
+reversed_or : (a b : Bool) → (a || b) ≡ (b || a)
+reversed_or true true = refl
+reversed_or true false = refl
+reversed_or false true = refl
+reversed_or false false = refl
+
+same_reversed : (a b : Text) → same_text a b ≡ same_text a b
+same_reversed a b = refl
+
+-- what was added one after another is there, and so is what was there before
+pub among_all : (more texts : List Text) (name : Text) → is_among (with_texts texts more) name ≡ (is_among texts name || is_among more name)
+among_all [] texts name = reversed_or false (is_among texts name)
+among_all (t ∷ more) texts name =
+    among_all more (with_text texts t) name
+    ∙ ap (λ b. b || is_among more name) (among_added texts t name)
+    ∙ or_swapped (is_among texts name) (same_text name t) (is_among more name)
+
+pub all_added : (more : List Text) → SameTexts (with_texts [] more) more
+all_added more name = among_all more [] name
+
+has_by : (a b : List Text) → SameTexts a b → (rows : List (Text × Text)) (name : Text)
+    → list_any (λ row. is_of row.1 name && is_among a row.1) rows ≡ list_any (λ row. is_of row.1 name && is_among b row.1) rows
+has_by a b same [] name = refl
+has_by a b same (row ∷ rows) name =
+    ap (λ x. (is_of row.1 name && x) || list_any (λ r. is_of r.1 name && is_among a r.1) rows) (same row.1)
+    ∙ ap (λ x. (is_of row.1 name && is_among b row.1) || x) (has_by a b same rows name)
+
+pub has_same : (a b : List Text) → SameTexts a b → (name : Text) → has_property a name ≡ has_property b name
+has_same a b same name =
+    ap (λ x. x || list_any (λ row. is_of row.1 name && is_among a row.1) families) (same name)
+    ∙ ap (λ x. is_among b name || x) (has_by a b same families name)
+
+below_same : (imported all given before : List Text) → SameTexts imported all → SameTexts given before → (w : WrittenPart) (wanted : Option Text)
+    → below_spots imported given w wanted ≡ below_spots all before w wanted
+below_same imported all given before i g w None = refl
+below_same imported all given before i g w (Some name) = rw (has_same imported all i name, g any_property, has_same given before g name)
+
+tokens_same : (imported all given before : List Text) → SameTexts imported all → SameTexts given before → (tokens : List WrittenPart)
+    → flat_map (imported_below imported given) tokens ≡ flat_map (imported_below all before) tokens
+tokens_same imported all given before i g [] = refl
+tokens_same imported all given before i g (w ∷ tokens) =
+    ap (λ x. x ++ flat_map (imported_below imported given) tokens) (below_same imported all given before i g w (wanted_in w.part))
+    ∙ ap (λ x. imported_below all before w ++ x) (tokens_same imported all given before i g tokens)
+
+spot_same : (compared all : List Text) → SameTexts compared all → (w : WrittenPart) (given : Option Valued) → meant_spots compared w given ≡ meant_spots all w given
+spot_same compared all same w None = refl
+spot_same compared all same w (Some v) = rw (same (text_of v))
+
+meant_same : (compared all : List Text) → SameTexts compared all → (tokens : List WrittenPart) → meant_to_compare compared tokens ≡ meant_to_compare all tokens
+meant_same compared all same [] = refl
+meant_same compared all same (w ∷ tokens) =
+    ap (λ x. cond (list_any (λ y. is_match y.part) tokens) x [] ++ meant_to_compare compared tokens) (spot_same compared all same w (assigned_value w.part))
+    ∙ ap (λ x. cond (list_any (λ y. is_match y.part) tokens) (meant_spots all w (assigned_value w.part)) [] ++ x) (meant_same compared all same tokens)
+
+pub spots_same : (imported compared given all_imported all_compared before : List Text) (jump above : Option Text) (r : FileRule)
+    → SameTexts imported all_imported → SameTexts compared all_compared → SameTexts given before → jump ≡ above
+    → spots_by imported compared given jump r ≡ spots_by all_imported all_compared before above r
+spots_same imported compared given all_imported all_compared before jump above r i c g j =
+    ap (λ x. lints_of_rule r.draft.parts ++ (x ++ (meant_to_compare compared r.draft.parts ++ never_reached jump r))) (tokens_same imported all_imported given before i g r.draft.parts)
+    ∙ ap (λ x. lints_of_rule r.draft.parts ++ (flat_map (imported_below all_imported before) r.draft.parts ++ (x ++ never_reached jump r))) (meant_same compared all_compared c r.draft.parts)
+    ∙ ap (λ x. lints_of_rule r.draft.parts ++ (flat_map (imported_below all_imported before) r.draft.parts ++ (meant_to_compare all_compared r.draft.parts ++ never_reached x r))) j
+
+-- going down: what the rules above leave is known, and the lints so far and those of the rules below are all
+pub record Descends (above : RulesAbove) (spots : List FileSpot) (rules : List FileRule) (i : ℕ) : Type 0 where
+  pub given : SameTexts above.given (given_names (reverse (take i rules)))
+  pub jump : above.jump ≡ jumps_above (reverse (take i rules))
+  pub so_far : spots ++ spots_below rules (reverse (take i rules)) (drop i rules) ≡ file_spots rules
+
+pub down_start : (above : RulesAbove) (spots : List FileSpot) (rules : List FileRule) → above ≡ nothing_above → spots ≡ [] → Descends above spots rules 0
+down_start above spots rules e f = record {
+  given = λ name. ap (λ (a : RulesAbove). is_among a.given name) e;
+  jump = ap (λ (a : RulesAbove). a.jump) e;
+  so_far = ap (λ x. x ++ file_spots rules) f;
+}
+
+-- a rule comes before those after it
+rule_item : (rules : List FileRule) (i : ℕ) (r : FileRule) → i < length rules → r ≡ get_or rules i r → drop i rules ≡ r ∷ drop (i + 1) rules
+rule_item rules i r h e =
+    let next : i + 1 ≡ suc i = omega arith in
+    drop-cons rules i r h ∙ ap (λ x. x ∷ drop (suc i) rules) (sym e) ∙ ap (λ n. r ∷ drop n rules) (sym next)
+
+given_more : (given : List Text) (above : List FileRule) (r : FileRule) → SameTexts given (given_names above) → SameTexts (with_texts given (given_by r.draft.parts)) (given_names (r ∷ above))
+given_more given above r same name =
+    among_all (given_by r.draft.parts) given name
+    ∙ ap (λ x. x || is_among (given_by r.draft.parts) name) (same name)
+    ∙ reversed_or (is_among (given_names above) name) (is_among (given_by r.draft.parts) name)
+    ∙ sym (list_any-append (same_text name) (given_by r.draft.parts) (given_names above))
+
+pub down_past : (above next : RulesAbove) (spots more : List FileSpot) (names : FileNames) (rules : List FileRule) (i : ℕ) (r : FileRule) → Descends above spots rules i
+    → i < length rules → r ≡ get_or rules i r → names.imported ≡ with_texts [] (imported_names rules) → names.compared ≡ with_texts [] (compared_texts rules)
+    → more ≡ spots ++ map (file_spot r.rule) (spots_by names.imported names.compared above.given above.jump r) → next ≡ with_rule above r
+    → Descends next more rules (i + 1)
+down_past above next spots more names rules i r before h e imported compared m n =
+    let past : List FileRule = reverse (take i rules) in
+    let reversed : reverse (take (i + 1) rules) ≡ r ∷ past = ap reverse (take_more rules i r h ∙ ap (λ x. take i rules ++ x ∷ []) (sym e)) ∙ reverse-append (take i rules) (r ∷ []) in
+    let own : spots_by names.imported names.compared above.given above.jump r ≡ spots_of rules past r =
+    spots_same names.imported names.compared above.given (imported_names rules) (compared_texts rules) (given_names past) above.jump (jumps_above past) r
+    (λ name. ap (λ x. is_among x name) imported ∙ all_added (imported_names rules) name)
+    (λ name. ap (λ x. is_among x name) compared ∙ all_added (compared_texts rules) name)
+    before.given before.jump in
+    record {
+      given = λ name. ap (λ (a : RulesAbove). is_among a.given name) n ∙ given_more above.given past r before.given name ∙ ap (λ rs. is_among (given_names rs) name) (sym reversed);
+      jump = ap (λ (a : RulesAbove). a.jump) n ∙ ap jumps_above (sym reversed);
+      so_far =
+          ap (λ x. x ++ spots_below rules (reverse (take (i + 1) rules)) (drop (i + 1) rules)) m
+          ∙ ap (λ rs. (spots ++ map (file_spot r.rule) (spots_by names.imported names.compared above.given above.jump r)) ++ spots_below rules rs (drop (i + 1) rules)) reversed
+          ∙ append_assoc spots (map (file_spot r.rule) (spots_by names.imported names.compared above.given above.jump r)) (spots_below rules (r ∷ past) (drop (i + 1) rules))
+          ∙ ap (λ x. spots ++ (map (file_spot r.rule) x ++ spots_below rules (r ∷ past) (drop (i + 1) rules))) own
+          ∙ ap (λ rs. spots ++ spots_below rules past rs) (sym (rule_item rules i r h e))
+          ∙ before.so_far;
+    }
+
+-- past the end nothing is left
+none_left : (rules : List FileRule) → length rules ≡ 0 → rules ≡ []
+none_left [] e = refl
+none_left (r ∷ rules) e = absurd (omega arith)
+
+pub down_end : (above : RulesAbove) (spots : List FileSpot) (rules : List FileRule) (i : ℕ) → Descends above spots rules i → length rules ≤ i → spots ≡ file_spots rules
+down_end above spots rules i before h =
+    let none : drop i rules ≡ [] = none_left (drop i rules) (length-drop i rules ∙ omega arith) in
+    sym (append-nil spots) ∙ ap (λ rs. spots ++ spots_below rules (reverse (take i rules)) rs) (sym none) ∙ before.so_far

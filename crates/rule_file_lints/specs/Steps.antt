@@ -1,0 +1,36 @@
+-- Serves inner proofs only: what its functions keep.
+use Rattle.std.specs.Prelude.{ℕ, ◌-◌, nat_lt, if◌then◌else◌, List, [], Option, None}
+use Rattle.text_tables.specs.Texts.{Text, with_texts}
+use Rattle.rule_file_lints.specs.Compared.{assigned_value, meant_spots}
+use Rattle.rule_file_lints.specs.FileRules.{FileRule}
+use Rattle.rule_file_lints.specs.Imported.{given_by}
+use Rattle.rule_file_lints.specs.Matches.{is_match}
+use Rattle.rule_file_lints.specs.Reached.{jumps_to}
+use Rattle.rule_core.specs.Written.{WrittenPart}
+use Rattle.rule_lints.specs.declared.spot.LintSpot.{LintSpot}
+
+-- what the rules of a file import and compare
+pub record FileNames : Type 0 where
+  pub imported : List Text
+  pub compared : List Text
+
+-- what the rules above a rule import or assign, and the label to which the nearest of them jumps for every device
+pub record RulesAbove : Type 0 where
+  pub given : List Text
+  pub jump : Option Text
+
+-- no rules above
+abbrev pub nothing_above : RulesAbove
+nothing_above = record { given = []; jump = None }
+
+-- one more rule above, which is then the nearest
+abbrev pub with_rule : RulesAbove → FileRule → RulesAbove
+with_rule a r = record { given = with_texts a.given (given_by r.draft.parts); jump = jumps_to r }
+
+-- how many of so many matches follow a token, which may be the first of them
+abbrev pub left_after : ℕ → WrittenPart → ℕ
+left_after matches w = if is_match w.part then matches - 1 else matches
+
+-- an assignment that so many matches follow, if there are any and what it gives is compared
+abbrev pub before_matches : ℕ → List Text → WrittenPart → List LintSpot
+before_matches matches compared w = if nat_lt 0 matches then meant_spots compared w (assigned_value w.part) else []

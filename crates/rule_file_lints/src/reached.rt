@@ -1,0 +1,84 @@
+//! Rules that no rule leads to.
+ghost use Rattle.std.specs.Prelude.{◌≡◌, ◌++◌, OnOk, option_map};
+ghost use Rattle.std.specs.List.{list_any};
+ghost use Rattle.rule_file_lints.specs.Matches.{may_end_at};
+ghost use Rattle.rule_file_lints.specs.Reached.{first_spot, is_labelled, jumps_to, may_go_on, never_reached};
+
+use crate::file_rule::FileRule;
+use crate::matches::may_end_at;
+use rule_core::WrittenPart;
+use rule_lints::{LintSpot, key_spot};
+use rule_types::Lint;
+use std::alloc::{AllocError, Global};
+
+/// The label of a later rule to which a rule jumps for every device.
+pub(crate) fn jumps_to<'a>(rule: &'a FileRule<'_, '_>) -> Option<&'a [u8]>
+    ensures { option_map (λ t. t.now) result ≡ jumps_to rule.now }
+{
+    if may_go_on(rule) {
+        None
+    } else {
+        match &rule.draft.goto {
+            None => None,
+            Some(place) => Some(place.name.as_slice()),
+        }
+    }
+}
+
+/// Whether a rule may lead to the one after it though it has a jump: there is no later label, or the rule may end
+/// before it jumps.
+fn may_go_on(rule: &FileRule<'_, '_>) -> bool
+    ensures { result ≡ may_go_on rule.now }
+{
+    rule.landing.lost || may_end(&rule.draft.parts)
+}
+
+/// Whether a rule may end at one of these tokens.
+fn may_end(tokens: &[WrittenPart<'_>]) -> bool
+    ensures { result ≡ list_any (λ w. may_end_at w.part) tokens.now }
+{
+    tokens.iter().any(|token| may_end_at(&token.part))
+}
+
+/// Adds a rule without a label, if the rule above jumps to a label for every device.
+pub(crate) fn add_never_reached(
+    alloc: Global,
+    spots: &mut Vec<LintSpot>,
+    above: Option<&[u8]>,
+    rule: &FileRule<'_, '_>,
+) -> Result<(), AllocError>
+    ensures { OnOk result (spots.new.items ≡ spots.old.items ++ never_reached (option_map (λ t. t.now) above.entry) rule.now) }
+{
+    match above {
+        None => Ok(()),
+        Some(name) => {
+            if is_labelled(rule) {
+                Ok(())
+            } else {
+                add_first(alloc, spots, name, &rule.draft.parts)
+            }
+        }
+    }
+}
+
+/// Whether a rule has a label.
+fn is_labelled(rule: &FileRule<'_, '_>) -> bool
+    ensures { result ≡ is_labelled rule.now }
+{
+    rule.draft.label.is_some()
+}
+
+/// Adds the first of these tokens, reported with a label.
+fn add_first(
+    alloc: Global,
+    spots: &mut Vec<LintSpot>,
+    name: &[u8],
+    tokens: &[WrittenPart<'_>],
+) -> Result<(), AllocError>
+    ensures { OnOk result (spots.new.items ≡ spots.old.items ++ first_spot name.now tokens.now) }
+{
+    if let Some(token) = tokens.first() {
+        spots.push(key_spot(alloc, Lint::NeverReached, name, &token.token)?)?;
+    }
+    Ok(())
+}

@@ -1,5 +1,0 @@
-use Rattle.rule_lints.proofs.FileLemmas.{further_down}
-use Rattle.rule_lints.proofs.file_laws.imports_are_further_down.Goals as goal
-
-pub returns : goal.returns
-returns c = further_down

@@ -1,7 +1,0 @@
-use Rattle.std.proofs.Common.{◌≡◌, drop}
-use Rattle.text_bytes.specs.Texts.{first}
-use Rattle.rule_lints.specs.FileRules.{labels_of}
-use Rattle.rule_lints.proofs.landed.first_label.Given as goal
-
-abbrev pub invariant-loop-token : goal.invariant-loop-token
-invariant-loop-token l = first (labels_of (drop l.token-index l.tokens)) ≡ first (labels_of l.tokens)

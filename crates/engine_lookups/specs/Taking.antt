@@ -31,7 +31,8 @@ pub record Cut (text : Text) (ended : List Text) (rest : Text) : Type 0 where
 
 -- each of these lines is answered, whatever follows them
 abbrev pub Leads : (Text → Text) → List Text → Type 0
-Leads answer ended = (number : ℕ) (others : List Text) → answered_from answer number (ended ++ others) ≡ after_answer (flat_map answer ended) (answered_from answer (number + length ended) others)
+Leads answer ended = (number : ℕ) (others : List Text) → answered_from answer number (ended ++ others)
+    ≡ after_answer (flat_map answer ended) (answered_from answer (number + length ended) others)
 
 -- Some bytes were taken, and the lines that ended in them are answered.
 pub record Answers (answer : Text → Text) (old : HeldLine) (part : Text) (now : HeldLine) (before sink : SinkState) : Type 0 where

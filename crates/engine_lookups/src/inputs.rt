@@ -28,13 +28,8 @@ pub(crate) fn answer_input<L: Lookup, R: Source, W: Sink>(
 {
     let mut held = Held::new(alloc);
     for _made in 0..MAX_TURNS {
-        match turn(alloc, sources, database, &mut held, input, output) {
-            Ok(more) => {
-                if !more {
-                    return Ok(());
-                }
-            }
-            Err(fault) => return Err(fault),
+        if !turn(alloc, sources, database, &mut held, input, output)? {
+            return Ok(());
         }
     }
     Err(LookupFault::Read)

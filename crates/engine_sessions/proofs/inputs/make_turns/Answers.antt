@@ -17,21 +17,21 @@ returns-in-Err g c =
 pub loop-made-init : goal.loop-made-init
 loop-made-init g c = finding_at_start _ _ _ _ c.requires
 
-pub returns-then-not-after_turn : goal.returns-then-not-after_turn
-returns-then-not-after_turn g c =
+pub returns-then-not-outcome : goal.returns-then-not-outcome
+returns-then-not-outcome g c =
     let s = c.loop-made.invariant in
-    let ok = subst (λ m. TurnsFinding (answer_of g.A.Answering.answers c.loop-made.session.answering) m c.in-Ok.after_turn.finds (at c.loop-made.session (g.R.Source.shown c.loop-made.input) (g.W.Sink.shown c.loop-made.output)) (at c.turn_finding.new.session (g.R.Source.shown c.turn_finding.new.input) (g.W.Sink.shown c.turn_finding.new.output)))
-    (not-true c.in-Ok.after_turn.more c.if-not-after_turn.true) c.in-Ok.ensures.ok in
-    let turn = subst (λ a. TurnsFinding (answer_of g.A.Answering.answers a) false c.in-Ok.after_turn.finds (at c.loop-made.session (g.R.Source.shown c.loop-made.input) (g.W.Sink.shown c.loop-made.output)) (at c.turn_finding.new.session (g.R.Source.shown c.turn_finding.new.input) (g.W.Sink.shown c.turn_finding.new.output))) s.served.answering ok in
-    finding_finished (answer_of g.A.Answering.answers c.args.session.now.answering) c.args.session.now c.loop-made.session c.turn_finding.new.session _ _ _ _ _ _ c.loop-made._made c.loop-made.finds c.in-Ok.after_turn.finds s turn
+    let ok = subst (λ m. TurnsFinding (answer_of g.A.Answering.answers c.loop-made.session.answering) m c.in-Ok.outcome.finds (at c.loop-made.session (g.R.Source.shown c.loop-made.input) (g.W.Sink.shown c.loop-made.output)) (at c.turn_finding.new.session (g.R.Source.shown c.turn_finding.new.input) (g.W.Sink.shown c.turn_finding.new.output)))
+    (not-true c.in-Ok.outcome.more c.if-not-outcome.true) c.in-Ok.ensures.ok in
+    let turn = subst (λ a. TurnsFinding (answer_of g.A.Answering.answers a) false c.in-Ok.outcome.finds (at c.loop-made.session (g.R.Source.shown c.loop-made.input) (g.W.Sink.shown c.loop-made.output)) (at c.turn_finding.new.session (g.R.Source.shown c.turn_finding.new.input) (g.W.Sink.shown c.turn_finding.new.output))) s.served.answering ok in
+    finding_finished (answer_of g.A.Answering.answers c.args.session.now.answering) c.args.session.now c.loop-made.session c.turn_finding.new.session _ _ _ _ _ _ c.loop-made._made c.loop-made.finds c.in-Ok.outcome.finds s turn
 
 pub loop-made-preserved : goal.loop-made-preserved
 loop-made-preserved g c =
     let s = c.loop-made.invariant in
-    let ok = subst (λ m. TurnsFinding (answer_of g.A.Answering.answers c.loop-made.session.answering) m c.in-Ok.after_turn.finds (at c.loop-made.session (g.R.Source.shown c.loop-made.input) (g.W.Sink.shown c.loop-made.output)) (at c.turn_finding.new.session (g.R.Source.shown c.turn_finding.new.input) (g.W.Sink.shown c.turn_finding.new.output)))
-    (not-false c.in-Ok.after_turn.more c.if-not-after_turn.false) c.in-Ok.ensures.ok in
-    let turn = subst (λ a. TurnsFinding (answer_of g.A.Answering.answers a) true c.in-Ok.after_turn.finds (at c.loop-made.session (g.R.Source.shown c.loop-made.input) (g.W.Sink.shown c.loop-made.output)) (at c.turn_finding.new.session (g.R.Source.shown c.turn_finding.new.input) (g.W.Sink.shown c.turn_finding.new.output))) s.served.answering ok in
-    finding_more (answer_of g.A.Answering.answers c.args.session.now.answering) c.args.session.now c.loop-made.session c.turn_finding.new.session _ _ _ _ _ _ c.loop-made._made c.loop-made.finds c.in-Ok.after_turn.finds s turn c.turn_finding.ensures.fits
+    let ok = subst (λ m. TurnsFinding (answer_of g.A.Answering.answers c.loop-made.session.answering) m c.in-Ok.outcome.finds (at c.loop-made.session (g.R.Source.shown c.loop-made.input) (g.W.Sink.shown c.loop-made.output)) (at c.turn_finding.new.session (g.R.Source.shown c.turn_finding.new.input) (g.W.Sink.shown c.turn_finding.new.output)))
+    (not-false c.in-Ok.outcome.more c.if-not-outcome.false) c.in-Ok.ensures.ok in
+    let turn = subst (λ a. TurnsFinding (answer_of g.A.Answering.answers a) true c.in-Ok.outcome.finds (at c.loop-made.session (g.R.Source.shown c.loop-made.input) (g.W.Sink.shown c.loop-made.output)) (at c.turn_finding.new.session (g.R.Source.shown c.turn_finding.new.input) (g.W.Sink.shown c.turn_finding.new.output))) s.served.answering ok in
+    finding_more (answer_of g.A.Answering.answers c.args.session.now.answering) c.args.session.now c.loop-made.session c.turn_finding.new.session _ _ _ _ _ _ c.loop-made._made c.loop-made.finds c.in-Ok.outcome.finds s turn c.turn_finding.ensures.fits
 
 pub returns : goal.returns
 returns g c =

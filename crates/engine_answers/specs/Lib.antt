@@ -1,3 +1,5 @@
-pub mod Inner
 pub mod Lines
+pub mod Items
 pub mod Answers
+pub mod Tables
+pub mod Inner

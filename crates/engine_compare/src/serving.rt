@@ -11,9 +11,11 @@ ghost use Rattle.engine_sessions.specs.Sessions.{answers_as};
 
 use crate::compared::Compared;
 use crate::shared::Shared;
-use engine_core::{Tables, open_with_database};
+use engine_answers::Tables;
 use engine_ends::{Line, Sink, Source, report_out_of_memory};
-use engine_reports::{Refusal, RulesRead, deliver_refusal, open_index, open_rules};
+use engine_reports::{
+    Refusal, RulesRead, deliver_refusal, open_index, open_rules, open_with_database,
+};
 use engine_sessions::find_after_messages;
 use hwdb_lookup::Lookup;
 use index_reading::{Index, IndexFault};
@@ -126,7 +128,8 @@ fn compare_rules<L: Lookup + Drop, M: Lookup + Drop, R: Source, W: Sink, E: Sink
     output: &mut W,
     error: &mut E,
 ) -> u8
-    ensures { FindsAll (old.messages.items ++ new.messages.items) (answers_as profile (differences_by (shown_rules old (L.entries old_lookup)) (shown_rules new (M.entries new_lookup)))) result
+    ensures { FindsAll (old.messages.items ++ new.messages.items)
+        (answers_as profile (differences_by (shown_rules old (L.entries old_lookup)) (shown_rules new (M.entries new_lookup)))) result
         (record { input = R.shown input.old; out = W.shown output.old; err = E.shown error.old })
         (record { input = R.shown input.new; out = W.shown output.new; err = E.shown error.new }) }
 {

@@ -7,9 +7,8 @@ use Rattle.hwdb_lookup.specs.declared.entry.Entry.{Entry}
 use Rattle.rule_types.specs.Rules.{Rule}
 use Rattle.device_core.specs.Values.{EventValue}
 use Rattle.eval_rules.specs.Outcomes.{outcome}
-use Rattle.engine_answers.specs.Answers.{answer_lines}
+use Rattle.engine_answers.specs.Answers.{answer_lines, sourced_lines}
 use Rattle.engine_courses.specs.WhyLines.{why_lines}
-use Rattle.engine_sources.specs.Answers.{sourced_lines}
 
 -- what is asked for, whether sources and for which rules what they met, and what events are answered by: the messages
 -- about the rules, the rules, and the entries of the database
@@ -22,7 +21,8 @@ pub record ReportedValue : Type 0 where
 
 -- the lines of an answer, with sources or without
 abbrev pub lines_reported : Bool → List Rule → List Entry → EventValue → Text
-lines_reported sources rules entries event = if sources then sourced_lines rules entries event else answer_lines event (outcome rules entries event)
+lines_reported sources rules entries event =
+    if sources then sourced_lines rules entries event else answer_lines event (outcome rules entries event)
 
 -- the answer to an event: its lines, then what the rules that are asked for met, and an empty line
 abbrev pub reported_by : ReportedValue → EventValue → Text

@@ -19,7 +19,7 @@ pub struct AskedTables<L: Lookup> {
 }
 
 impl<L: Lookup> Model for AskedTables<L> {
-    ghost use Rattle.engine_core.specs.Answering.{TablesValue};
+    ghost use Rattle.engine_answers.specs.Tables.{TablesValue};
 
     ghost Value = { TablesValue };
 
@@ -36,9 +36,9 @@ impl<L: Lookup + Drop> AskedTables<L> {
 }
 
 impl<L: Lookup> Answering for AskedTables<L> {
-    ghost use Rattle.engine_core.specs.Answering.{questions_by};
+    ghost use Rattle.engine_questions.specs.Lines.{question_answer};
 
-    ghost answers = { questions_by };
+    ghost answers = { λ t. question_answer t.rules t.entries };
 
     fn answer(&self, alloc: Global, event: &Event<'_>) -> Result<Bytes, AllocError> {
         question_answer(alloc, &self.rules, event, &self.lookup)

@@ -1,5 +1,5 @@
 //! `events`: the messages, and then the answers to the blocks of the input.
-ghost use Rattle.std.specs.Prelude.{◌≡◌, true, false, Ok, IfOk, IfErr, None, Some, Result};
+ghost use Rattle.std.specs.Prelude.{◌≡◌, Ok, IfOk, IfErr, Some, Result};
 ghost use Rattle.engine_ends.specs.Delivery.{RunOutcome};
 ghost use Rattle.engine_core.specs.Outcomes.{answer_with, asked_of, why_of};
 ghost use Rattle.engine_core.specs.Runs.{RunsBy};
@@ -10,18 +10,17 @@ ghost use Rattle.engine_sessions.specs.Serves.{AnswersAll};
 
 use crate::asked::AskedTables;
 use crate::reported::ReportedTables;
-use crate::tables::Tables;
+use engine_answers::Tables;
 use engine_courses::first_unknown;
 use engine_ends::{Line, Sink, Source, report_out_of_memory};
 use engine_reports::{
-    Opening, Refusal, RulesRead, deliver_refusal, deliver_usage_error, open_files, open_rules,
+    Refusal, RulesRead, deliver_refusal, deliver_usage_error, open_rules, open_with_database,
 };
 use engine_sessions::answer_after_messages;
 use hwdb_lookup::Lookup;
 use index_reading::{Index, IndexFault};
 use std::alloc::Global;
 use text_bytes::SourceFile;
-use trie_build::{Trie, trie_of};
 
 /// Reads what events are answered by, writes the messages about it, answers the input, both by the line's profile,
 /// and returns the status to exit with. The database is the index that was opened, or otherwise that of the files.
@@ -100,8 +99,8 @@ fn answer_asked<L: Lookup + Drop, R: Source, W: Sink, E: Sink>(
     }
 }
 
-/// Writes the messages and answers the input: with what the rules ask if the line asks for questions, and otherwise
-/// with the outcome of each event.
+/// Writes the messages and answers the input: with what the rules ask if the line asks for questions; by the rules as
+/// they were read if it asks for more than the answers; and otherwise by their program.
 fn answer_by_rules<L: Lookup + Drop, R: Source, W: Sink, E: Sink>(
     alloc: Global,
     line: &Line<'_>,
@@ -115,62 +114,15 @@ fn answer_by_rules<L: Lookup + Drop, R: Source, W: Sink, E: Sink>(
         (record { input = R.shown input.old; out = W.shown output.old; err = E.shown error.old })
         (record { input = R.shown input.new; out = W.shown output.new; err = E.shown error.new }) }
 {
-    if line.questions {
-        ask_by_rules(alloc, line, read, lookup, input, output, error)
-    } else {
-        report_by_rules(alloc, line, read, lookup, input, output, error)
-    }
-}
-
-/// Writes the messages, and after them what the rules ask of each event of the input.
-fn ask_by_rules<L: Lookup + Drop, R: Source, W: Sink, E: Sink>(
-    alloc: Global,
-    line: &Line<'_>,
-    read: RulesRead,
-    lookup: L,
-    input: &mut R,
-    output: &mut W,
-    error: &mut E,
-) -> u8
-    requires { line.now.questions ≡ true }
-    ensures { AnswersAll read.messages.items (answer_with line.now (shown_rules read (L.entries lookup))) result
-        (record { input = R.shown input.old; out = W.shown output.old; err = E.shown error.old })
-        (record { input = R.shown input.new; out = W.shown output.new; err = E.shown error.new }) }
-{
-    let RulesRead { messages, rules } = read;
-    let tables = AskedTables::new(rules.into_rules(), lookup);
-    answer_after_messages(
-        alloc,
-        line.profile,
-        &messages,
-        &tables,
-        input,
-        output,
-        error,
-    )
-}
-
-/// Writes the messages and answers the input: by the program of the rules, or, if the line asks for more than the
-/// answers, by the rules as they were read.
-fn report_by_rules<L: Lookup + Drop, R: Source, W: Sink, E: Sink>(
-    alloc: Global,
-    line: &Line<'_>,
-    read: RulesRead,
-    lookup: L,
-    input: &mut R,
-    output: &mut W,
-    error: &mut E,
-) -> u8
-    requires { line.now.questions ≡ false }
-    ensures { AnswersAll read.messages.items (answer_with line.now (shown_rules read (L.entries lookup))) result
-        (record { input = R.shown input.old; out = W.shown output.old; err = E.shown error.old })
-        (record { input = R.shown input.new; out = W.shown output.new; err = E.shown error.new }) }
-{
     let RulesRead { messages, rules } = read;
     let profile = line.profile;
+    if line.questions {
+        let asked = AskedTables::new(rules.into_rules(), lookup);
+        return answer_after_messages(alloc, profile, &messages, &asked, input, output, error);
+    }
     if line.sources || !line.why.is_empty() {
-        let tables = ReportedTables::new(line.sources, &line.why, rules, lookup);
-        return answer_after_messages(alloc, profile, &messages, &tables, input, output, error);
+        let reported = ReportedTables::new(line.sources, &line.why, rules, lookup);
+        return answer_after_messages(alloc, profile, &messages, &reported, input, output, error);
     }
     match Tables::new(alloc, rules.into_rules(), lookup) {
         Ok(tables) => answer_after_messages(
@@ -180,28 +132,7 @@ fn report_by_rules<L: Lookup + Drop, R: Source, W: Sink, E: Sink>(
     }
 }
 
-/// The rules and the messages about the files passed in, and the database that these hold.
-///
-/// There is `TooManyEntries` exactly if the files of the database hold more than they may, otherwise `TooManyRules`
-/// exactly if the rules have more than 2^24 tokens; `Memory` if memory runs out.
-pub fn open_with_database(
-    alloc: Global,
-    line: &Line<'_>,
-    files: Vec<SourceFile>,
-) -> Result<(RulesRead, Trie), Refusal>
-    ensures opening { IfOk result (λ r. opening line.now files.items None ≡ Ok (shown_rules r.0 r.1.entries)) }
-    ensures refused { IfErr result (λ e. IsRefused e (opening line.now files.items None)) }
-{
-    let Opening {
-        messages,
-        rules,
-        entries,
-    } = open_files(alloc, line, files)?;
-    let database = trie_of(alloc, entries)?;
-    Ok((RulesRead { messages, rules }, database))
-}
-
-/// The same if the database is an index: of the files only rules are read.
+/// The rules and the messages about the files passed in, if the database is an index: of the files only rules are read.
 fn open_beside<'a>(
     alloc: Global,
     line: &Line<'_>,

@@ -4,10 +4,9 @@ ghost use Rattle.std.specs.Prelude.{◌≡◌, IfOk, map};
 ghost use Rattle.engine_core.specs.Reported.{lines_reported, reported_by};
 
 use device_core::Event;
-use engine_answers::answer_lines;
+use engine_answers::{answer_lines, sourced_lines};
 use engine_courses::push_why_lines;
 use engine_sessions::Answering;
-use engine_sources::sourced_lines;
 use eval_rules::evaluate_plain;
 use hwdb_lookup::Lookup;
 use rule_core::ReadRules;

@@ -3,7 +3,7 @@ use Rattle.std.specs.Prelude.{List, [], ◌∷◌, ◌++◌, Some, None, codes, 
 use Rattle.text_bytes.specs.Names.{newline}
 use Rattle.text_tables.specs.Texts.{Text}
 use Rattle.text_tables.specs.Pairs.{Pair}
-use Rattle.hwdb_lookup.specs.declared.entry.Entry.{Entry}
+use Rattle.builtin_devices.specs.Knowledge.{Known}
 use Rattle.rule_types.specs.Rules.{Rule}
 use Rattle.device_core.specs.Values.{EventValue}
 use Rattle.eval_rules.specs.Outcomes.{outcome}
@@ -39,12 +39,12 @@ answer event outcome = answer_lines event outcome ++ newline ∷ []
 abbrev pub command_lines : List (Command × Rule) → List (Source × Text)
 command_lines commands = map (λ c. (Some c.1, run_line c.0)) commands
 
--- the lines of the answer to an event by rules and entries, those about items and commands after such a part on where
+-- the lines of the answer to an event by rules and what is known, those about items and commands after such a part on where
 -- they come from
-abbrev pub lines_by : (Source → Text) → List Rule → List Entry → EventValue → Text
-lines_by part rules entries event =
-    lines_with (λ item. part (source_of (stages rules entries event) item)) (lines_after part (command_lines (event_commands rules entries event)))
-    event (outcome rules entries event)
+abbrev pub lines_by : (Source → Text) → List Rule → Known → EventValue → Text
+lines_by part rules known event =
+    lines_with (λ item. part (source_of (stages rules known event) item)) (lines_after part (command_lines (event_commands rules known event)))
+    event (outcome rules known event)
 
 -- where a line comes from, `FILE:LINE: `, or `-: ` if it comes from no rule
 abbrev pub source_part : Source → Text
@@ -52,5 +52,5 @@ source_part None = codes "-: "
 source_part (Some r) = place_of r.file r.line
 
 -- the lines of the answer to an event, each after the place of the rule that it comes from
-abbrev pub sourced_lines : List Rule → List Entry → EventValue → Text
-sourced_lines rules entries event = lines_by source_part rules entries event
+abbrev pub sourced_lines : List Rule → Known → EventValue → Text
+sourced_lines rules known event = lines_by source_part rules known event

@@ -7,11 +7,11 @@ ghost use Rattle.eval_sources.specs.Sources.{source_in};
 use crate::front::{Nothing, push_source};
 use crate::items::push_items;
 use crate::lines::{push_event, push_note, push_run};
+use builtin_devices::Knowledge;
 use device_core::Event;
 use eval_rules::{Commands, Outcome};
 use eval_sources::{Sourced, SourcedCommand, evaluate_sources};
 use eval_state::Notes;
-use hwdb_lookup::Lookup;
 use rule_types::RuleSet;
 use std::alloc::{AllocError, Global};
 use text_bytes::Bytes;
@@ -53,27 +53,27 @@ pub fn answer(alloc: Global, event: &Event<'_>, outcome: &Outcome<'_>) -> Result
 /// The lines of the answer to an event by the rules as they are read, each after the place of the rule that it comes
 /// from: `FILE:LINE: `, or `-: ` if what it is about is in the block or is set when the event starts. The first line
 /// and those of notes stay as they are.
-pub fn sourced_lines<L: Lookup>(
+pub fn sourced_lines<K: Knowledge>(
     alloc: Global,
     rules: &RuleSet,
     event: &Event<'_>,
-    lookup: &L,
+    knowledge: &K,
 ) -> Result<Vec<u8>, AllocError>
-    ensures { IfOk result (λ lines. lines.items ≡ sourced_lines rules.now (L.entries lookup.now) event.now) }
+    ensures { IfOk result (λ lines. lines.items ≡ sourced_lines rules.now (K.known knowledge.now) event.now) }
 {
-    lines_for(alloc, rules, event, lookup)
+    lines_for(alloc, rules, event, knowledge)
 }
 
 /// The same; rules and event are borrowed for the same lifetime.
-fn lines_for<'a, L: Lookup>(
+fn lines_for<'a, K: Knowledge>(
     alloc: Global,
     rules: &'a RuleSet,
     event: &'a Event<'_>,
-    lookup: &L,
+    knowledge: &K,
 ) -> Result<Vec<u8>, AllocError>
-    ensures { IfOk result (λ lines. lines.items ≡ sourced_lines rules.now (L.entries lookup.now) event.now) }
+    ensures { IfOk result (λ lines. lines.items ≡ sourced_lines rules.now (K.known knowledge.now) event.now) }
 {
-    let found = evaluate_sources(alloc, rules, event, lookup)?;
+    let found = evaluate_sources(alloc, rules, event, knowledge)?;
     let said = lines_of(alloc, event, &found);
     drop(found);
     said

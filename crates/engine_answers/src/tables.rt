@@ -1,67 +1,67 @@
-//! Rules and a database, as one thing that answers events.
+//! Rules, and what is known beyond an event, as one thing that answers events.
 ghost use Rattle.std.specs.Prelude.{◌≡◌, IfOk};
 ghost use Rattle.engine_answers.specs.Tables.{answer_by};
 
 use crate::answers::answer;
+use builtin_devices::Knowledge;
 use device_core::Event;
 use engine_sessions::Answering;
 use eval_core::{Program, compile};
-use hwdb_lookup::Lookup;
 use rule_types::RuleSet;
 use std::alloc::{AllocError, Global};
 use std::marker::Model;
 use text_bytes::Bytes;
 
-/// Rules and a database, by which events are answered, each as its profile has it.
+/// Rules and what is known beyond an event, by which events are answered, each as its profile has it.
 #[derive(Drop)]
-pub struct Tables<L: Lookup> {
+pub struct Tables<K: Knowledge> {
     program: Program,
-    lookup: L,
+    knowledge: K,
 }
 
-impl<L: Lookup> Model for Tables<L> {
+impl<K: Knowledge> Model for Tables<K> {
     ghost use Rattle.engine_answers.specs.Tables.{TablesValue};
 
     ghost Value = { TablesValue };
 
-    ghost view = { λ t. record { rules = t.program; entries = L.entries t.lookup } };
+    ghost view = { λ t. record { rules = t.program; known = K.known t.knowledge } };
 }
 
-impl<L: Lookup + Drop> Tables<L> {
-    /// The rules and the database that events are answered by; the rules are laid out once, as a program.
+impl<K: Knowledge + Drop> Tables<K> {
+    /// The rules and the knowledge that events are answered by; the rules are laid out once, as a program.
     ///
     /// There is an error only if memory runs out; what was passed in is then dropped.
-    pub fn new(alloc: Global, rules: RuleSet, lookup: L) -> Result<Tables<L>, AllocError>
-        ensures { IfOk result (λ tables. tables ≡ record { rules = rules; entries = L.entries lookup }) }
+    pub fn new(alloc: Global, rules: RuleSet, knowledge: K) -> Result<Tables<K>, AllocError>
+        ensures { IfOk result (λ tables. tables ≡ record { rules = rules; known = K.known knowledge }) }
     {
         Ok(Tables {
             program: compile(alloc, rules)?,
-            lookup,
+            knowledge,
         })
     }
 }
 
-/// The answer to an event by rules and a database.
-fn answer_by<L: Lookup>(
+/// The answer to an event by rules and what is known.
+fn answer_by<K: Knowledge>(
     alloc: Global,
     program: &Program,
-    lookup: &L,
+    knowledge: &K,
     event: &Event<'_>,
 ) -> Result<Bytes, AllocError>
-    ensures { IfOk result (λ text. text ≡ answer_by program.now (L.entries lookup.now) event.now) }
+    ensures { IfOk result (λ text. text ≡ answer_by program.now (K.known knowledge.now) event.now) }
 {
-    let outcome = program.evaluate(alloc, event, lookup)?;
+    let outcome = program.evaluate(alloc, event, knowledge)?;
     let said = answer(alloc, event, &outcome);
     drop(outcome);
     said
 }
 
-impl<L: Lookup> Answering for Tables<L> {
+impl<K: Knowledge> Answering for Tables<K> {
     ghost use Rattle.engine_answers.specs.Tables.{answer_by};
 
-    ghost answers = { λ t. answer_by t.rules t.entries };
+    ghost answers = { λ t. answer_by t.rules t.known };
 
     fn answer(&self, alloc: Global, event: &Event<'_>) -> Result<Bytes, AllocError> {
-        answer_by(alloc, &self.program, &self.lookup, event)
+        answer_by(alloc, &self.program, &self.knowledge, event)
     }
 }

@@ -51,7 +51,7 @@ new_refused profile Memory old new value status before now e is r = old_refused 
 
 -- what comes and goes between two tables
 abbrev pub reported_by : TablesValue × TablesValue → EventValue → Text
-reported_by both event = differences event (answer_by both.0.rules both.0.entries event) (answer_by both.1.rules both.1.entries event)
+reported_by both event = differences event (answer_by both.0.rules both.0.known event) (answer_by both.1.rules both.1.known event)
 
 pub finds_both : (profile : Profile) (messages said : Text) (both tables : TablesValue × TablesValue) (status : ℕ) (before now : Streams) → messages ≡ said → both ≡ tables → FindsAll messages (answers_as profile (reported_by both)) status before now → FindsAll said (answers_as profile (reported_by tables)) status before now
 finds_both profile messages said both tables status before now e f h = subst (λ m. FindsAll m (answers_as profile (reported_by tables)) status before now) e (subst (λ t. FindsAll messages (answers_as profile (reported_by t)) status before now) f h)

@@ -1,6 +1,7 @@
 //! The whole comparison.
 ghost use Rattle.std.specs.Prelude.{◌≡◌, ◌++◌, Ok, Err, Some, None, IfOk, IfErr, option_map, Result};
 ghost use Rattle.engine_ends.specs.Delivery.{RunOutcome};
+ghost use Rattle.builtin_core.specs.Builtins.{known_by};
 ghost use Rattle.engine_compare.specs.Outcomes.{differences_by};
 ghost use Rattle.engine_compare.specs.Runs.{ComparesBy, ComparesOver};
 ghost use Rattle.engine_reports.specs.Indexes.{entries_in};
@@ -11,6 +12,7 @@ ghost use Rattle.engine_sessions.specs.Sessions.{answers_as};
 
 use crate::compared::Compared;
 use crate::shared::Shared;
+use builtin_core::Builtins;
 use engine_answers::Tables;
 use engine_ends::{Line, Sink, Source, report_out_of_memory};
 use engine_reports::{
@@ -148,11 +150,11 @@ fn both_tables<L: Lookup + Drop, M: Lookup + Drop>(
     old_lookup: L,
     new: RulesRead,
     new_lookup: M,
-) -> Result<(Vec<u8>, Compared<Tables<L>, Tables<M>>), AllocError>
+) -> Result<(Vec<u8>, Compared<Tables<Builtins<L>>, Tables<Builtins<M>>>), AllocError>
     ensures messages { IfOk result (λ both. both.0.items ≡ old.messages.items ++ new.messages.items) }
     ensures tables { IfOk result (λ both. both.1 ≡ (
-      record { rules = old.rules.rules; entries = L.entries old_lookup },
-      record { rules = new.rules.rules; entries = M.entries new_lookup },
+      record { rules = old.rules.rules; known = known_by (L.entries old_lookup) },
+      record { rules = new.rules.rules; known = known_by (M.entries new_lookup) },
     )) }
 {
     let RulesRead {
@@ -164,8 +166,8 @@ fn both_tables<L: Lookup + Drop, M: Lookup + Drop>(
         rules: new_rules,
     } = new;
     messages.append(&mut more)?;
-    let old_tables = Tables::new(alloc, old_rules.into_rules(), old_lookup)?;
-    let new_tables = Tables::new(alloc, new_rules.into_rules(), new_lookup)?;
+    let old_tables = Tables::new(alloc, old_rules.into_rules(), Builtins::new(old_lookup))?;
+    let new_tables = Tables::new(alloc, new_rules.into_rules(), Builtins::new(new_lookup))?;
     Ok((messages, Compared::new(old_tables, new_tables)))
 }
 

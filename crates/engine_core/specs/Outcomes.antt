@@ -15,6 +15,7 @@ use Rattle.engine_lookups.specs.Databases.{lookups_by}
 use Rattle.engine_reports.specs.Databases.{database}
 use Rattle.engine_reports.specs.Openings.{OpeningValue, opening}
 use Rattle.engine_reports.specs.Outcomes.{query_over, usage_error}
+use Rattle.builtin_core.specs.Builtins.{known_by}
 use Rattle.engine_answers.specs.Tables.{answer_by}
 use Rattle.engine_courses.specs.Asked.{unknown}
 use Rattle.engine_core.specs.Checking.{update_said, verify_said}
@@ -34,7 +35,7 @@ reported_for line opening = record {
   why = why_of line;
   messages = opening.about_rules;
   rules = opening.rules;
-  entries = opening.entries;
+  known = known_by opening.entries;
 }
 
 -- whether a line asks for more than the answers
@@ -45,8 +46,8 @@ asks_more line = line.sources || not (vec_len line.why == 0)
 -- outcome of the event with what else the line asks for
 abbrev pub answer_by_line : Line → OpeningValue → EventValue → Text
 answer_by_line line opening =
-    if line.questions then question_answer opening.rules opening.entries
-    else (if asks_more line then reported_by (reported_for line opening) else answer_by opening.rules opening.entries)
+    if line.questions then question_answer opening.rules (known_by opening.entries)
+    else (if asks_more line then reported_by (reported_for line opening) else answer_by opening.rules (known_by opening.entries))
 
 -- the same, with rules evaluated by the line's profile
 abbrev pub answer_with : Line → OpeningValue → EventValue → Text

@@ -1,46 +1,46 @@
-//! Rules as they were read and a database, as one thing that says of events what the rules ask.
+//! Rules as they were read, and what is known beyond an event, as one thing that says of events what the rules ask.
 ghost use Rattle.std.specs.Prelude.{◌≡◌};
 
+use builtin_devices::Knowledge;
 use device_core::Event;
 use engine_questions::question_answer;
 use engine_sessions::Answering;
-use hwdb_lookup::Lookup;
 use rule_types::RuleSet;
 use std::alloc::{AllocError, Global};
 use std::marker::Model;
 use text_bytes::Bytes;
 
-/// Rules and a database, by which each event is answered with the commands that the rules ask for and its block does not
+/// Rules and what is known beyond an event, by which each event is answered with the commands that the rules ask for and its block does not
 /// answer.
 #[derive(Drop)]
-pub struct AskedTables<L: Lookup> {
+pub struct AskedTables<K: Knowledge> {
     rules: RuleSet,
-    lookup: L,
+    knowledge: K,
 }
 
-impl<L: Lookup> Model for AskedTables<L> {
+impl<K: Knowledge> Model for AskedTables<K> {
     ghost use Rattle.engine_answers.specs.Tables.{TablesValue};
 
     ghost Value = { TablesValue };
 
-    ghost view = { λ t. record { rules = t.rules; entries = L.entries t.lookup } };
+    ghost view = { λ t. record { rules = t.rules; known = K.known t.knowledge } };
 }
 
-impl<L: Lookup + Drop> AskedTables<L> {
-    /// The rules and the database that say what is asked.
-    pub fn new(rules: RuleSet, lookup: L) -> AskedTables<L>
-        ensures { result ≡ record { rules = rules; entries = L.entries lookup } }
+impl<K: Knowledge + Drop> AskedTables<K> {
+    /// The rules and the knowledge that say what is asked.
+    pub fn new(rules: RuleSet, knowledge: K) -> AskedTables<K>
+        ensures { result ≡ record { rules = rules; known = K.known knowledge } }
     {
-        AskedTables { rules, lookup }
+        AskedTables { rules, knowledge }
     }
 }
 
-impl<L: Lookup> Answering for AskedTables<L> {
+impl<K: Knowledge> Answering for AskedTables<K> {
     ghost use Rattle.engine_questions.specs.Lines.{question_answer};
 
-    ghost answers = { λ t. question_answer t.rules t.entries };
+    ghost answers = { λ t. question_answer t.rules t.known };
 
     fn answer(&self, alloc: Global, event: &Event<'_>) -> Result<Bytes, AllocError> {
-        question_answer(alloc, &self.rules, event, &self.lookup)
+        question_answer(alloc, &self.rules, event, &self.knowledge)
     }
 }

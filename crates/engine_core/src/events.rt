@@ -10,6 +10,7 @@ ghost use Rattle.engine_sessions.specs.Serves.{AnswersAll};
 
 use crate::asked::AskedTables;
 use crate::reported::ReportedTables;
+use builtin_core::Builtins;
 use engine_answers::Tables;
 use engine_courses::first_unknown;
 use engine_ends::{Line, Sink, Source, report_out_of_memory};
@@ -116,15 +117,16 @@ fn answer_by_rules<L: Lookup + Drop, R: Source, W: Sink, E: Sink>(
 {
     let RulesRead { messages, rules } = read;
     let profile = line.profile;
+    let builtins = Builtins::new(lookup);
     if line.questions {
-        let asked = AskedTables::new(rules.into_rules(), lookup);
+        let asked = AskedTables::new(rules.into_rules(), builtins);
         return answer_after_messages(alloc, profile, &messages, &asked, input, output, error);
     }
     if line.sources || !line.why.is_empty() {
-        let reported = ReportedTables::new(line.sources, &line.why, rules, lookup);
+        let reported = ReportedTables::new(line.sources, &line.why, rules, builtins);
         return answer_after_messages(alloc, profile, &messages, &reported, input, output, error);
     }
-    match Tables::new(alloc, rules.into_rules(), lookup) {
+    match Tables::new(alloc, rules.into_rules(), builtins) {
         Ok(tables) => answer_after_messages(
             alloc, profile, &messages, &tables, input, output, error,
         ),

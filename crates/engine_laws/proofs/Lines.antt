@@ -3,7 +3,7 @@ use Rattle.std.proofs.Common.{◌≡◌, List, [], ◌∷◌, ◌++◌, map, fla
 use Rattle.std.proofs.lemmas.List.Concat.{flat_map-append, flat_map-cons}
 use Rattle.std.proofs.lemmas.List.Folds.{flat_map-map}
 use Rattle.text_tables.specs.Texts.{Text}
-use Rattle.hwdb_lookup.specs.declared.entry.Entry.{Entry}
+use Rattle.builtin_devices.specs.Knowledge.{Known}
 use Rattle.rule_types.specs.Rules.{Rule}
 use Rattle.device_core.specs.Values.{EventValue}
 use Rattle.eval_rendering.specs.declared.rendered.Rendered.{Rendered}
@@ -55,17 +55,17 @@ made_lines [] = refl
 made_lines (m ∷ made) = ap (λ rest. run_line (made_command m) ++ rest) (made_lines made)
 
 -- an event's commands without their rules
-event_lines : (rules : List Rule) (entries : List Entry) (event : EventValue) → flat_map line_of (event_commands rules entries event) ≡ flat_map run_line (outcome rules entries event).runs
+event_lines : (rules : List Rule) (known : Known) (event : EventValue) → flat_map line_of (event_commands rules known event) ≡ flat_map run_line (outcome rules known event).runs
 unfolding outcome_of
-event_lines rules entries event =
-    let end = run_all entries rules (start event) in
+event_lines rules known event =
+    let end = run_all known rules (start event) in
     flat_map-append line_of (sourced_commands end.state end.runs) (map sourced_made end.made)
     ∙ ap (λ first. first ++ flat_map line_of (map sourced_made end.made)) (all_commands end.state end.runs)
     ∙ ap (λ rest. flat_map run_line (commands end.state end.runs) ++ rest) (made_lines end.made)
     ∙ sym (flat_map-append run_line (commands end.state end.runs) (map made_command end.made))
 
-pub lines_alone : (rules : List Rule) (entries : List Entry) (event : EventValue) → lines_by nothing rules entries event ≡ answer_lines event (outcome rules entries event)
-lines_alone rules entries event =
+pub lines_alone : (rules : List Rule) (known : Known) (event : EventValue) → lines_by nothing rules known event ≡ answer_lines event (outcome rules known event)
+lines_alone rules known event =
     let as_text : Source × Text → Text = λ (l : Source × Text). nothing l.0 ++ l.1 in
     let beside : Command × Rule → Source × Text = λ (c : Command × Rule). (Some c.1, run_line c.0) in
-    ap (λ runs. lines_with (λ item. []) runs event (outcome rules entries event)) (flat_map-map as_text beside (event_commands rules entries event) ∙ event_lines rules entries event)
+    ap (λ runs. lines_with (λ item. []) runs event (outcome rules known event)) (flat_map-map as_text beside (event_commands rules known event) ∙ event_lines rules known event)

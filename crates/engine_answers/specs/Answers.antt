@@ -35,6 +35,10 @@ answer_lines event outcome = lines_with (λ item. []) (flat_map run_line outcome
 abbrev pub answer : EventValue → Outcome → Text
 answer event outcome = answer_lines event outcome ++ newline ∷ []
 
+-- the answer to an event by rules and what is known: its outcome, as lines
+abbrev pub answer_by : List Rule → Known → EventValue → Text
+answer_by rules known event = answer event (outcome rules known event)
+
 -- the lines of commands, each beside the rule that added it
 abbrev pub command_lines : List (Command × Rule) → List (Source × Text)
 command_lines commands = map (λ c. (Some c.1, run_line c.0)) commands

@@ -62,6 +62,8 @@ pub(crate) trait Front {
 pub(crate) struct Nothing;
 
 impl Front for Nothing {
+    ghost use Rattle.std.specs.Prelude.{[]};
+
     ghost front = { λ nothing item. [] };
 
     #[inline(always)]

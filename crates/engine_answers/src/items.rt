@@ -32,7 +32,8 @@ pub(crate) fn push_items<F: Front>(
     push_members(alloc, lines, front, b"tag", &outcome.tags)?;
     push_env(alloc, lines, front, &outcome.env)?;
     push_values(alloc, lines, front, b"attr", &outcome.attrs)?;
-    push_values(alloc, lines, front, b"sysctl", &outcome.sysctls)
+    push_values(alloc, lines, front, b"sysctl", &outcome.sysctls)?;
+    Ok(())
 }
 
 /// Adds the lines on the device's node.
@@ -51,7 +52,8 @@ fn push_node<F: Front>(
     push_given(alloc, lines, front, b"mode", &outcome.mode)?;
     push_priority(alloc, lines, front, outcome.priority)?;
     push_watch(alloc, lines, front, outcome.watch)?;
-    push_persist(alloc, lines, front, outcome.persist)
+    push_persist(alloc, lines, front, outcome.persist)?;
+    Ok(())
 }
 
 /// Adds the line of a text that is the only one of its word, if there is one.

@@ -1,6 +1,6 @@
 //! Rules, and what is known beyond an event, as one thing that answers events.
 ghost use Rattle.std.specs.Prelude.{◌≡◌, IfOk};
-ghost use Rattle.engine_answers.specs.Tables.{answer_by};
+ghost use Rattle.engine_answers.specs.Answers.{answer_by};
 
 use crate::answers::answer;
 use builtin_devices::Knowledge;
@@ -20,11 +20,12 @@ pub struct Tables<K: Knowledge> {
 }
 
 impl<K: Knowledge> Model for Tables<K> {
-    ghost use Rattle.engine_answers.specs.Tables.{TablesValue};
+    ghost use Rattle.std.specs.Prelude.{List};
+    ghost use Rattle.rule_types.specs.Rules.{Rule};
 
-    ghost Value = { TablesValue };
+    ghost Value = { List Rule × K };
 
-    ghost view = { λ t. record { rules = t.program; known = K.known t.knowledge } };
+    ghost view = { λ t. (t.program, t.knowledge) };
 }
 
 impl<K: Knowledge + Drop> Tables<K> {
@@ -32,7 +33,7 @@ impl<K: Knowledge + Drop> Tables<K> {
     ///
     /// There is an error only if memory runs out; what was passed in is then dropped.
     pub fn new(alloc: Global, rules: RuleSet, knowledge: K) -> Result<Tables<K>, AllocError>
-        ensures { IfOk result (λ tables. tables ≡ record { rules = rules; known = K.known knowledge }) }
+        ensures { IfOk result (λ tables. tables ≡ (rules, knowledge)) }
     {
         Ok(Tables {
             program: compile(alloc, rules)?,
@@ -57,9 +58,9 @@ fn answer_by<K: Knowledge>(
 }
 
 impl<K: Knowledge> Answering for Tables<K> {
-    ghost use Rattle.engine_answers.specs.Tables.{answer_by};
+    ghost use Rattle.engine_answers.specs.Answers.{answer_by};
 
-    ghost answers = { λ t. answer_by t.rules t.known };
+    ghost answers = { λ tables. answer_by tables.0 (K.known tables.1) };
 
     fn answer(&self, alloc: Global, event: &Event<'_>) -> Result<Bytes, AllocError> {
         answer_by(alloc, &self.program, &self.knowledge, event)

@@ -5,7 +5,7 @@ use Rattle.text_bytes.specs.declared.profile.Profile.{Profile}
 use Rattle.text_tables.specs.Texts.{Text}
 use Rattle.device_core.specs.Values.{EventValue}
 use Rattle.builtin_core.specs.Builtins.{known_by}
-use Rattle.engine_answers.specs.Tables.{answer_by}
+use Rattle.engine_answers.specs.Answers.{answer_by}
 use Rattle.engine_ends.specs.Delivery.{RunOutcome}
 use Rattle.engine_reports.specs.Openings.{OpeningValue}
 use Rattle.engine_sessions.specs.Findings.{found}

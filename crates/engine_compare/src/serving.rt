@@ -1,7 +1,6 @@
 //! The whole comparison.
 ghost use Rattle.std.specs.Prelude.{◌≡◌, ◌++◌, Ok, Err, Some, None, IfOk, IfErr, option_map, Result};
 ghost use Rattle.engine_ends.specs.Delivery.{RunOutcome};
-ghost use Rattle.builtin_core.specs.Builtins.{known_by};
 ghost use Rattle.engine_compare.specs.Outcomes.{differences_by};
 ghost use Rattle.engine_compare.specs.Runs.{ComparesBy, ComparesOver};
 ghost use Rattle.engine_reports.specs.Indexes.{entries_in};
@@ -153,8 +152,8 @@ fn both_tables<L: Lookup + Drop, M: Lookup + Drop>(
 ) -> Result<(Vec<u8>, Compared<Tables<Builtins<L>>, Tables<Builtins<M>>>), AllocError>
     ensures messages { IfOk result (λ both. both.0.items ≡ old.messages.items ++ new.messages.items) }
     ensures tables { IfOk result (λ both. both.1 ≡ (
-      record { rules = old.rules.rules; known = known_by (L.entries old_lookup) },
-      record { rules = new.rules.rules; known = known_by (M.entries new_lookup) },
+      (old.rules.rules, L.entries old_lookup),
+      (new.rules.rules, M.entries new_lookup),
     )) }
 {
     let RulesRead {

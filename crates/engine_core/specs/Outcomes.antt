@@ -16,7 +16,7 @@ use Rattle.engine_reports.specs.Databases.{database}
 use Rattle.engine_reports.specs.Openings.{OpeningValue, opening}
 use Rattle.engine_reports.specs.Outcomes.{query_over, usage_error}
 use Rattle.builtin_core.specs.Builtins.{known_by}
-use Rattle.engine_answers.specs.Tables.{answer_by}
+use Rattle.engine_answers.specs.Answers.{answer_by}
 use Rattle.engine_courses.specs.Asked.{unknown}
 use Rattle.engine_core.specs.Checking.{update_said, verify_said}
 use Rattle.engine_core.specs.Reported.{ReportedValue, reported_by}
@@ -35,7 +35,6 @@ reported_for line opening = record {
   why = why_of line;
   messages = opening.about_rules;
   rules = opening.rules;
-  known = known_by opening.entries;
 }
 
 -- whether a line asks for more than the answers
@@ -46,8 +45,9 @@ asks_more line = line.sources || not (vec_len line.why == 0)
 -- outcome of the event with what else the line asks for
 abbrev pub answer_by_line : Line → OpeningValue → EventValue → Text
 answer_by_line line opening =
-    if line.questions then question_answer opening.rules (known_by opening.entries)
-    else (if asks_more line then reported_by (reported_for line opening) else answer_by opening.rules (known_by opening.entries))
+    let known = known_by opening.entries in
+    if line.questions then question_answer opening.rules known
+    else (if asks_more line then reported_by (reported_for line opening) known else answer_by opening.rules known)
 
 -- the same, with rules evaluated by the line's profile
 abbrev pub answer_with : Line → OpeningValue → EventValue → Text

@@ -11,19 +11,18 @@ use Rattle.engine_answers.specs.Answers.{answer_lines, sourced_lines}
 use Rattle.engine_courses.specs.WhyLines.{why_lines}
 
 -- what is asked for, whether sources and for which rules what they met, and what events are answered by: the messages
--- about the rules, the rules, and what is known beyond an event
+-- about the rules, and the rules
 pub record ReportedValue : Type 0 where
   pub sources : Bool
   pub why : List Text
   pub messages : List Message
   pub rules : List Rule
-  pub known : Known
 
 -- the lines of an answer, with sources or without
 abbrev pub lines_reported : Bool → List Rule → Known → EventValue → Text
 lines_reported sources rules known event =
     if sources then sourced_lines rules known event else answer_lines event (outcome rules known event)
 
--- the answer to an event: its lines, then what the rules that are asked for met, and an empty line
-abbrev pub reported_by : ReportedValue → EventValue → Text
-reported_by t event = lines_reported t.sources t.rules t.known event ++ why_lines t.why t.messages t.rules t.known event ++ newline ∷ []
+-- the answer to an event, by what is known beyond it: its lines, then what the rules that are asked for met, and an empty line
+abbrev pub reported_by : ReportedValue → Known → EventValue → Text
+reported_by t known event = lines_reported t.sources t.rules known event ++ why_lines t.why t.messages t.rules known event ++ newline ∷ []

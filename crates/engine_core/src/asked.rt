@@ -19,17 +19,18 @@ pub struct AskedTables<K: Knowledge> {
 }
 
 impl<K: Knowledge> Model for AskedTables<K> {
-    ghost use Rattle.engine_answers.specs.Tables.{TablesValue};
+    ghost use Rattle.std.specs.Prelude.{List};
+    ghost use Rattle.rule_types.specs.Rules.{Rule};
 
-    ghost Value = { TablesValue };
+    ghost Value = { List Rule × K };
 
-    ghost view = { λ t. record { rules = t.rules; known = K.known t.knowledge } };
+    ghost view = { λ t. (t.rules, t.knowledge) };
 }
 
 impl<K: Knowledge + Drop> AskedTables<K> {
     /// The rules and the knowledge that say what is asked.
     pub fn new(rules: RuleSet, knowledge: K) -> AskedTables<K>
-        ensures { result ≡ record { rules = rules; known = K.known knowledge } }
+        ensures { result ≡ (rules, knowledge) }
     {
         AskedTables { rules, knowledge }
     }
@@ -38,7 +39,7 @@ impl<K: Knowledge + Drop> AskedTables<K> {
 impl<K: Knowledge> Answering for AskedTables<K> {
     ghost use Rattle.engine_questions.specs.Lines.{question_answer};
 
-    ghost answers = { λ t. question_answer t.rules t.known };
+    ghost answers = { λ tables. question_answer tables.0 (K.known tables.1) };
 
     fn answer(&self, alloc: Global, event: &Event<'_>) -> Result<Bytes, AllocError> {
         question_answer(alloc, &self.rules, event, &self.knowledge)

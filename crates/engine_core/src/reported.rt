@@ -29,15 +29,14 @@ impl<'b, 'a, K: Knowledge> Model for ReportedTables<'b, 'a, K> {
     ghost use Rattle.std.specs.Prelude.{map};
     ghost use Rattle.engine_core.specs.Reported.{ReportedValue};
 
-    ghost Value = { ReportedValue };
+    ghost Value = { ReportedValue × K };
 
-    ghost view = { λ t. record {
+    ghost view = { λ t. (record {
       sources = t.sources;
       why = map (λ w. w.now) t.why.now;
       messages = t.rules.messages;
       rules = t.rules.rules;
-      known = K.known t.knowledge;
-    } };
+    }, t.knowledge) };
 }
 
 impl<'b, 'a, K: Knowledge + Drop> ReportedTables<'b, 'a, K> {
@@ -49,13 +48,12 @@ impl<'b, 'a, K: Knowledge + Drop> ReportedTables<'b, 'a, K> {
         rules: ReadRules,
         knowledge: K,
     ) -> ReportedTables<'b, 'a, K>
-        ensures { result ≡ record {
+        ensures { result ≡ (record {
           sources = sources;
           why = map (λ w. w.now) why.entry.now;
           messages = rules.messages;
           rules = rules.rules;
-          known = K.known knowledge;
-        } }
+        }, knowledge) }
     {
         ReportedTables {
             sources,
@@ -99,8 +97,7 @@ fn reported_by<K: Knowledge>(
       why = map (λ w. w.now) why.now;
       messages = rules.now.messages;
       rules = rules.now.rules;
-      known = K.known knowledge.now;
-    }) event.now) }
+    }) (K.known knowledge.now) event.now) }
 {
     let mut lines = lines_reported(alloc, sources, rules.rules(), knowledge, event)?;
     push_why_lines(alloc, &mut lines, why, rules, event, knowledge)?;
@@ -111,7 +108,7 @@ fn reported_by<K: Knowledge>(
 impl<'b, 'a, K: Knowledge> Answering for ReportedTables<'b, 'a, K> {
     ghost use Rattle.engine_core.specs.Reported.{reported_by};
 
-    ghost answers = { reported_by };
+    ghost answers = { λ tables. reported_by tables.0 (K.known tables.1) };
 
     fn answer(&self, alloc: Global, event: &Event<'_>) -> Result<Bytes, AllocError> {
         reported_by(

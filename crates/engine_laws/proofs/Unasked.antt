@@ -7,7 +7,7 @@ use Rattle.engine_ends.specs.declared.line.Line.{Line}
 use Rattle.engine_ends.specs.Delivery.{RunOutcome}
 use Rattle.engine_reports.specs.Openings.{OpeningValue}
 use Rattle.builtin_core.specs.Builtins.{known_by}
-use Rattle.engine_answers.specs.Tables.{answer_by}
+use Rattle.engine_answers.specs.Answers.{answer_by}
 use Rattle.engine_questions.specs.Lines.{question_answer}
 use Rattle.engine_core.specs.Outcomes.{answer_with, asked_of, asks_more, reported_for, why_of}
 use Rattle.engine_core.specs.Reported.{reported_by}
@@ -35,5 +35,5 @@ pub answered_alone : (line : Line) (opened : OpeningValue) → line.questions �
 answered_alone line opened q a b =
     let asked : EventValue → Text = question_answer opened.rules (known_by opened.entries) in
     let alone : EventValue → Text = answer_by opened.rules (known_by opened.entries) in
-    ap (λ (s : Bool). answers_as line.profile (cond s asked (cond (asks_more line) (reported_by (reported_for line opened)) alone))) q
-    ∙ ap (λ (s : Bool). answers_as line.profile (cond s (reported_by (reported_for line opened)) alone)) (asks_no_more line a b)
+    ap (λ (s : Bool). answers_as line.profile (cond s asked (cond (asks_more line) (reported_by (reported_for line opened) (known_by opened.entries)) alone))) q
+    ∙ ap (λ (s : Bool). answers_as line.profile (cond s (reported_by (reported_for line opened) (known_by opened.entries)) alone)) (asks_no_more line a b)

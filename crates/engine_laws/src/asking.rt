@@ -9,7 +9,7 @@ ghost use Rattle.engine_ends.specs.declared.line.Line.{Line};
 ghost use Rattle.engine_ends.specs.declared.line.Verb.TheVariants.{Events};
 ghost use Rattle.engine_reports.specs.Openings.{OpeningValue, opening};
 ghost use Rattle.builtin_core.specs.Builtins.{known_by};
-ghost use Rattle.engine_answers.specs.Tables.{answer_by};
+ghost use Rattle.engine_answers.specs.Answers.{answer_by};
 ghost use Rattle.engine_core.specs.Outcomes.{answer_with, before_input};
 ghost use Rattle.engine_sessions.specs.Sessions.{answers_as};
 

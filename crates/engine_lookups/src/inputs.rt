@@ -28,7 +28,8 @@ pub(crate) fn answer_input<L: Lookup, R: Source, W: Sink>(
 {
     let mut held = Held::new(alloc);
     for _made in 0..MAX_TURNS {
-        if !turn(alloc, sources, database, &mut held, input, output)? {
+        let more = turn(alloc, sources, database, &mut held, input, output)?;
+        if !more {
             return Ok(());
         }
     }

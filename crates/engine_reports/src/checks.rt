@@ -1,6 +1,6 @@
 //! What `verify` says about rules files.
 ghost use Rattle.std.specs.Prelude.{◌≡◌, ◌<◌, IfOk, IfErr};
-ghost use Rattle.engine_reports.specs.Checks.{is_style, reported};
+ghost use Rattle.engine_reports.specs.Checks.{is_style, reported, said_of};
 ghost use Rattle.engine_reports.specs.Outcomes.{verify_outcome};
 ghost use Rattle.engine_reports.specs.Reports.{IsSaid, said};
 
@@ -11,8 +11,8 @@ use crate::refusal::Refusal;
 use crate::report::Report;
 use engine_ends::Line;
 use file_messages::{Message, MessageKind};
-use rule_core::read_rules;
-use std::alloc::Global;
+use rule_core::{ReadRules, read_rules};
+use std::alloc::{AllocError, Global};
 use text_bytes::{FileKind, SourceFile};
 
 /// The messages about rules files, and how many of the files are bad.
@@ -29,9 +29,23 @@ pub fn report_on_rules(
 {
     let files = files_read(alloc, FileKind::Rules, line, files)?;
     let set = read_rules(alloc, &files)?;
+    let report = checked(alloc, line, &files, set)?;
+    Ok(report)
+}
+
+/// The messages about the files that are given, and how many of the files they make bad.
+fn checked(
+    alloc: Global,
+    line: &Line<'_>,
+    files: &[SourceFile],
+    set: ReadRules,
+) -> Result<Report, AllocError>
+    ensures said { IfOk result (λ r. said r ≡ said_of line.now.summary files.now (reported line.now.style set.messages)) }
+    ensures status { IfOk result (λ r. r.status < 3) }
+{
     let messages = reported(line.style, set.into_messages());
     let lines = message_lines(alloc, &messages)?;
-    Ok(report_on_files(alloc, line.summary, &files, &messages, lines)?)
+    report_on_files(alloc, line.summary, files, &messages, lines)
 }
 
 /// The messages that are given: all, or without style those that are not about it.

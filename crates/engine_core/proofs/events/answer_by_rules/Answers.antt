@@ -1,5 +1,4 @@
 use Rattle.std.proofs.Common.{rules, ◌≡◌, true}
-use Rattle.builtin_core.specs.Builtins.{known_by}
 use Rattle.engine_reports.specs.Reports.{shown_rules}
 use Rattle.engine_core.specs.Outcomes.{asks_more, reported_for}
 use Rattle.engine_core.proofs.Running.{asked_runs, reported_runs}
@@ -10,7 +9,7 @@ pub returns-then-line : goal.returns-then-line
 returns-then-line g c =
     let opened = shown_rules c.args.read (g.L.Lookup.entries c.args.lookup) in
     let messages : c.deref-then-line.result.now ≡ c.args.read.messages.items = search rules in
-    let tables : c.new-asked.result ≡ record { rules = opened.rules; known = known_by opened.entries } = search rules in
+    let tables : c.new-asked.result ≡ (opened.rules, opened.entries) = search rules in
     asked_runs c.args.line.now opened c.deref-then-line.result.now c.new-asked.result _ _ _ c.if-line.true messages tables c.answer_after_messages.ensures.steps
 
 pub returns-then-line-2 : goal.returns-then-line-2
@@ -19,5 +18,5 @@ returns-then-line-2 g c =
     let asks : asks_more c.args.line.now ≡ true =
     elim c.then-line-2.branch [ then-line-2-via-then-line w ↦ search rules | then-line-2-via-else-line+then-not-is_empty w ↦ search rules ] in
     let messages : c.deref-then-line-2.result.now ≡ c.args.read.messages.items = search rules in
-    let tables : c.new-reported.result ≡ reported_for c.args.line.now opened = search rules in
+    let tables : c.new-reported.result ≡ (reported_for c.args.line.now opened, opened.entries) = search rules in
     reported_runs c.args.line.now opened c.deref-then-line-2.result.now c.new-reported.result _ _ _ c.if-line.false asks messages tables c.answer_after_messages-then-line-2.ensures.steps

@@ -8,4 +8,6 @@ returns-in_err-set-clause-refused c =
     rw (p.1, p.2, ← c.in_ok-files.ensures, ← c.deref.ensures.value) (rules_refused c.args.line.now c.deref.result.now c.in_err-set.field-0.0 c.in_err-set.ensures.too_many)
 
 pub returns-clause-said : goal.returns-clause-said
-returns-clause-said c = ?
+returns-clause-said c =
+    rw (← c.in_ok-files.ensures, ← c.deref.ensures.value, rules_few c.args.line.now c.deref.result.now c.in_ok-set.ensures.within)
+    (rw (c.in_ok-set.ensures.set, c.deref-2.ensures.value, ← c.deref.ensures.value) at c.in_ok-report.ensures.said)

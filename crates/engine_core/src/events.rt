@@ -1,5 +1,5 @@
 //! `events`: the messages, and then the answers to the blocks of the input.
-ghost use Rattle.std.specs.Prelude.{◌≡◌, Ok, IfOk, IfErr, Some, Result};
+ghost use Rattle.std.specs.Prelude.{◌≡◌, true, false, Ok, IfOk, IfErr, Some, Result};
 ghost use Rattle.engine_ends.specs.Delivery.{RunOutcome};
 ghost use Rattle.engine_core.specs.Outcomes.{answer_with, asked_of, why_of};
 ghost use Rattle.engine_core.specs.Runs.{RunsBy};
@@ -100,8 +100,8 @@ fn answer_asked<L: Lookup + Drop, R: Source, W: Sink, E: Sink>(
     }
 }
 
-/// Writes the messages and answers the input: with what the rules ask if the line asks for questions; by the rules as
-/// they were read if it asks for more than the answers; and otherwise by their program.
+/// Writes the messages and answers the input: with what the rules ask if the line asks for questions, and otherwise
+/// with the outcome of each event.
 fn answer_by_rules<L: Lookup + Drop, R: Source, W: Sink, E: Sink>(
     alloc: Global,
     line: &Line<'_>,
@@ -115,18 +115,65 @@ fn answer_by_rules<L: Lookup + Drop, R: Source, W: Sink, E: Sink>(
         (record { input = R.shown input.old; out = W.shown output.old; err = E.shown error.old })
         (record { input = R.shown input.new; out = W.shown output.new; err = E.shown error.new }) }
 {
+    if line.questions {
+        ask_by_rules(alloc, line, read, lookup, input, output, error)
+    } else {
+        report_by_rules(alloc, line, read, lookup, input, output, error)
+    }
+}
+
+/// Writes the messages, and after them what the rules ask of each event of the input.
+fn ask_by_rules<L: Lookup + Drop, R: Source, W: Sink, E: Sink>(
+    alloc: Global,
+    line: &Line<'_>,
+    read: RulesRead,
+    lookup: L,
+    input: &mut R,
+    output: &mut W,
+    error: &mut E,
+) -> u8
+    requires { line.now.questions ≡ true }
+    ensures { AnswersAll read.messages.items (answer_with line.now (shown_rules read (L.entries lookup))) result
+        (record { input = R.shown input.old; out = W.shown output.old; err = E.shown error.old })
+        (record { input = R.shown input.new; out = W.shown output.new; err = E.shown error.new }) }
+{
+    let RulesRead { messages, rules } = read;
+    let tables = AskedTables::new(rules.into_rules(), Builtins::new(lookup));
+    answer_after_messages(
+        alloc,
+        line.profile,
+        &messages,
+        &tables,
+        input,
+        output,
+        error,
+    )
+}
+
+/// Writes the messages and answers the input: by the program of the rules, or, if the line asks for more than the
+/// answers, by the rules as they were read.
+fn report_by_rules<L: Lookup + Drop, R: Source, W: Sink, E: Sink>(
+    alloc: Global,
+    line: &Line<'_>,
+    read: RulesRead,
+    lookup: L,
+    input: &mut R,
+    output: &mut W,
+    error: &mut E,
+) -> u8
+    requires { line.now.questions ≡ false }
+    ensures { AnswersAll read.messages.items (answer_with line.now (shown_rules read (L.entries lookup))) result
+        (record { input = R.shown input.old; out = W.shown output.old; err = E.shown error.old })
+        (record { input = R.shown input.new; out = W.shown output.new; err = E.shown error.new }) }
+{
     let RulesRead { messages, rules } = read;
     let profile = line.profile;
-    let builtins = Builtins::new(lookup);
-    if line.questions {
-        let asked = AskedTables::new(rules.into_rules(), builtins);
-        return answer_after_messages(alloc, profile, &messages, &asked, input, output, error);
-    }
     if line.sources || !line.why.is_empty() {
-        let reported = ReportedTables::new(line.sources, &line.why, rules, builtins);
-        return answer_after_messages(alloc, profile, &messages, &reported, input, output, error);
+        let builtins = Builtins::new(lookup);
+        let tables = ReportedTables::new(line.sources, &line.why, rules, builtins);
+        return answer_after_messages(alloc, profile, &messages, &tables, input, output, error);
     }
-    match Tables::new(alloc, rules.into_rules(), builtins) {
+    match Tables::new(alloc, rules.into_rules(), Builtins::new(lookup)) {
         Ok(tables) => answer_after_messages(
             alloc, profile, &messages, &tables, input, output, error,
         ),

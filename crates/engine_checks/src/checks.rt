@@ -1,5 +1,6 @@
 //! What `verify` says with other formats, with lints, and with messages that are ignored.
-ghost use Rattle.std.specs.Prelude.{◌≡◌, ◌<◌, flat_map, IfOk, IfErr};
+ghost use Rattle.std.specs.Prelude.{◌≡◌, ◌<◌, flat_map, map, IfOk, IfErr};
+ghost use Rattle.engine_formats.specs.Diagnostics.{shown};
 ghost use Rattle.engine_reports.specs.Reports.{IsSaid, said};
 ghost use Rattle.engine_checks.specs.Files.{rules_reported};
 ghost use Rattle.engine_checks.specs.Outcomes.{checks_outcome, checks_said, rules_checks};
@@ -8,7 +9,7 @@ use crate::asked::{asked_by, has_comments};
 use crate::reads::read_files;
 use crate::rules_reported::rules_reported;
 use engine_ends::Line;
-use engine_formats::formatted;
+use engine_formats::{Diagnostic, formatted};
 use engine_reports::{Refusal, Report, files_read, report_on_files};
 use rule_core::{files_as_read, read_rules_as};
 use std::alloc::{AllocError, Global};
@@ -54,6 +55,19 @@ fn checked(alloc: Global, line: &Line<'_>, files: &[SourceFile]) -> Result<Repor
     let asked = asked_by(alloc, line)?;
     let reads = read_files(alloc, line, has_comments(&asked.ignored), files)?;
     let reported = rules_reported(alloc, &asked, &reads)?;
-    let lines = formatted(alloc, line.format, &reported)?;
-    report_on_files(alloc, line.summary, files, &reported, lines)
+    report_on_reported(alloc, line, files, &reported)
+}
+
+/// What is said about files and what is reported for them.
+fn report_on_reported(
+    alloc: Global,
+    line: &Line<'_>,
+    files: &[SourceFile],
+    reported: &[Diagnostic<'_>],
+) -> Result<Report, AllocError>
+    ensures said { IfOk result (λ r. said r ≡ checks_said line.now files.now (map shown reported.now)) }
+    ensures status { IfOk result (λ r. r.status < 3) }
+{
+    let lines = formatted(alloc, line.format, reported)?;
+    report_on_files(alloc, line.summary, files, reported, lines)
 }

@@ -1,5 +1,5 @@
 -- How long each line of an answer is, by what its texts weigh.
-use Rattle.std.proofs.Common.{◌≡◌, ℕ, zero, suc, ◌+◌, ◌*◌, ◌≤◌, ◌/◌, ◌%◌, ◌==◌, Bool, true, false, cond, if◌then◌else◌, List, [], ◌∷◌, ◌++◌, length, Option, Some, None, codes, decimal, flat_map, arith}
+use Rattle.std.proofs.Common.{◌≡◌, ℕ, zero, suc, ◌+◌, ◌*◌, ◌≤◌, ◌/◌, ◌%◌, ◌==◌, Bool, true, false, cond, if◌then◌else◌, List, [], ◌∷◌, ◌++◌, length, Option, Some, None, codes, decimal, flat_map, append-nil, ap, sym, subst, arith}
 use Rattle.std.proofs.lemmas.List.{length-append}
 use Rattle.std.proofs.lemmas.List.Sums.{sum_by-cons}
 use Rattle.std.specs.Fmt.{digits, digits_onto, digit_glyph}
@@ -73,11 +73,11 @@ alone lines = lines_after (λ item. []) lines
 
 -- the line of one item
 pub one_length : (item : Pair) (text : Text) → length (alone ((item, text) ∷ [])) ≡ length text
-one_length item text = let a = length-append text [] in omega (arith, a)
+one_length item text = ap length (append-nil text)
 
 pub given_line_short : (word : Text) (t : Option Text) → length word ≤ 6 → length (alone (given_lines word t)) ≤ 8 * given_weight t
 given_line_short word None short = omega arith
-given_line_short word (Some t) short = let a = one_length (word, t) (text_line word t) in let b = text_line_short word t short in omega (arith, a, b)
+given_line_short word (Some t) short = subst (λ k. k ≤ 8 * text_weight t) (sym (one_length (word, t) (text_line word t))) (text_line_short word t short)
 
 pub pair_line_short : (word : Text) (pair : Pair) → length word ≤ 13 → length (pair_line word pair) ≤ 8 * pair_weight pair
 unfolding pair_line

@@ -138,7 +138,11 @@ fn takes(
 }
 
 /// Whether a session ends with this answer, or with none.
-fn ends(alloc: Global, session: &mut Session<'_, Tables<Builtins<PlainDb>>>, answer: Option<&[u8]>) -> bool {
+fn ends(
+    alloc: Global,
+    session: &mut Session<'_, Tables<Builtins<PlainDb>>>,
+    answer: Option<&[u8]>,
+) -> bool {
     match session.end(alloc) {
         Ok(last) => is_answer(&last, answer),
         Err(_fault) => false,
@@ -169,7 +173,10 @@ fn each_block_is_answered(alloc: Global, tables: &Tables<Builtins<PlainDb>>) -> 
 }
 
 /// Whether a block without the empty line after it is answered at the end, and not before.
-fn the_last_block_is_answered(alloc: Global, tables: &Tables<Builtins<PlainDb>>) -> Result<bool, Fail> {
+fn the_last_block_is_answered(
+    alloc: Global,
+    tables: &Tables<Builtins<PlainDb>>,
+) -> Result<bool, Fail> {
     let mut session = Session::new(alloc, tables)?;
     let answered = takes(alloc, &mut session, DISK, 57, None)
         && ends(alloc, &mut session, Some(ANSWER));
@@ -178,7 +185,11 @@ fn the_last_block_is_answered(alloc: Global, tables: &Tables<Builtins<PlainDb>>)
 }
 
 /// Whether a piece stops a session at the wrong path of its second block.
-fn is_stopped(alloc: Global, session: &mut Session<'_, Tables<Builtins<PlainDb>>>, piece: &[u8]) -> bool {
+fn is_stopped(
+    alloc: Global,
+    session: &mut Session<'_, Tables<Builtins<PlainDb>>>,
+    piece: &[u8],
+) -> bool {
     match session.take(alloc, piece) {
         Ok(_step) => false,
         Err(fault) => fault == WRONG_PATH,
@@ -186,7 +197,10 @@ fn is_stopped(alloc: Global, session: &mut Session<'_, Tables<Builtins<PlainDb>>
 }
 
 /// Whether the block before a faulty one is answered, and the one after it is not.
-fn a_faulty_block_is_the_last(alloc: Global, tables: &Tables<Builtins<PlainDb>>) -> Result<bool, Fail> {
+fn a_faulty_block_is_the_last(
+    alloc: Global,
+    tables: &Tables<Builtins<PlainDb>>,
+) -> Result<bool, Fail> {
     let mut session = Session::new(alloc, tables)?;
     let (_, following) = FAULTY.split_at(58);
     let ended = takes(alloc, &mut session, FAULTY, 58, Some(ANSWER))

@@ -8,7 +8,10 @@ use std::alloc::Global;
 use std::test::Fail;
 
 /// What files of rules answer without a database.
-pub(crate) fn tables_of(alloc: Global, given: &[Given<'_>]) -> Result<Tables<Builtins<PlainDb>>, Fail> {
+pub(crate) fn tables_of(
+    alloc: Global,
+    given: &[Given<'_>],
+) -> Result<Tables<Builtins<PlainDb>>, Fail> {
     let Ok(rules) = read_rules(alloc, &files_of(alloc, given)?) else {
         return Err("no rules")?;
     };
@@ -47,7 +50,10 @@ pub(crate) fn take_all(
 }
 
 /// Whether a session has ended, so that it answers nothing more.
-pub(crate) fn has_ended(alloc: Global, session: &mut Session<'_, Tables<Builtins<PlainDb>>>) -> bool {
+pub(crate) fn has_ended(
+    alloc: Global,
+    session: &mut Session<'_, Tables<Builtins<PlainDb>>>,
+) -> bool {
     session.take(alloc, b"x").err() == Some(SessionFault::Ended)
         && session.end(alloc).err() == Some(SessionFault::Ended)
 }

@@ -31,12 +31,15 @@ impl<'b, 'a, K: Knowledge> Model for ReportedTables<'b, 'a, K> {
 
     ghost Value = { ReportedValue × K };
 
-    ghost view = { λ t. (record {
-      sources = t.sources;
-      why = map (λ w. w.now) t.why.now;
-      messages = t.rules.messages;
-      rules = t.rules.rules;
-    }, t.knowledge) };
+    ghost view = { λ t. (
+      record {
+        sources = t.sources;
+        why = map (λ w. w.now) t.why.now;
+        messages = t.rules.messages;
+        rules = t.rules.rules;
+      },
+      t.knowledge,
+    ) };
 }
 
 impl<'b, 'a, K: Knowledge + Drop> ReportedTables<'b, 'a, K> {
@@ -48,12 +51,15 @@ impl<'b, 'a, K: Knowledge + Drop> ReportedTables<'b, 'a, K> {
         rules: ReadRules,
         knowledge: K,
     ) -> ReportedTables<'b, 'a, K>
-        ensures { result ≡ (record {
-          sources = sources;
-          why = map (λ w. w.now) why.entry.now;
-          messages = rules.messages;
-          rules = rules.rules;
-        }, knowledge) }
+        ensures { result ≡ (
+          record {
+            sources = sources;
+            why = map (λ w. w.now) why.entry.now;
+            messages = rules.messages;
+            rules = rules.rules;
+          },
+          knowledge,
+        ) }
     {
         ReportedTables {
             sources,

@@ -64,7 +64,7 @@ fn report_rule<'a, K: Knowledge>(
     ensures scene { IfOk result (λ on. (scene.new, on) ≡ apply (K.known knowledge.now) rule.now scene.old) }
     ensures lines { OnOk result (lines.new.items
         ≡ lines.old.items ++ flat_map rule_lines
-            (reported_if_asked (map (λ t. t.now) why.now) rule.now (course (K.known knowledge.now) since.now rule.now scene.old))) }
+        (reported_if_asked (map (λ t. t.now) why.now) rule.now (course (K.known knowledge.now) since.now rule.now scene.old))) }
 {
     if !is_asked(why, rule.file(), rule.line()) {
         return apply(alloc, rule, knowledge, scene);

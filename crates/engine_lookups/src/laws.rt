@@ -27,7 +27,7 @@ pub fn a_line_alone_is_a_query()
 pub fn answers_to_lines_follow_one_another()
     ensures output { (messages : Text) (answer : Text → Text) (first second : Text) → (lines_outcome messages answer (first ++ newline ∷ [])).status ≡ 0
         → (lines_outcome messages answer (first ++ newline ∷ second)).output ≡ (lines_outcome messages answer (first ++ newline ∷ [])).output
-            ++ (lines_outcome messages answer second).output }
+        ++ (lines_outcome messages answer second).output }
     ensures status { (messages : Text) (answer : Text → Text) (first second : Text) → (lines_outcome messages answer (first ++ newline ∷ [])).status ≡ 0
         → (lines_outcome messages answer (first ++ newline ∷ second)).status ≡ (lines_outcome messages answer second).status }
 {}

@@ -6,7 +6,7 @@ ghost use Rattle.engine_answers.specs.Inner.{lines_as_is, shown_count};
 ghost use Rattle.engine_answers.specs.Items.{env_lines, given_lines, item_lines, label_lines, member_lines, node_lines, persist_lines, priority_lines, value_lines, watch_lines};
 
 use crate::front::Front;
-use crate::lines::{is_hidden, push_as_is, push_bare, push_pair, push_text};
+use crate::lines::{is_hidden, push_as_is, push_bare, push_line, push_pair, push_text};
 use engine_ends::escaped_count;
 use eval_rules::Outcome;
 use eval_state::Label;
@@ -88,10 +88,7 @@ fn push_priority<F: Front>(
     let mut buffer = Buffer::new();
     let number = buffer.format(priority).as_bytes();
     front.push_word(alloc, lines, b"priority", number)?;
-    lines.extend_from_slice(b"priority ")?;
-    lines.extend_from_slice(number)?;
-    lines.push(b'\n')?;
-    Ok(())
+    push_line(lines, b"priority", number)
 }
 
 /// The word for watching or not.

@@ -1,7 +1,7 @@
 //! One line of each kind, as text.
 ghost use Rattle.std.specs.Prelude.{◌≡◌, ◌++◌, codes, not, IfOk, OnOk};
 ghost use Rattle.engine_answers.specs.Inner.{pair_words, shown_as_is};
-ghost use Rattle.engine_answers.specs.Lines.{bare_line, event_line, is_hidden, note_line, pair_line, run_line, text_line};
+ghost use Rattle.engine_answers.specs.Lines.{bare_line, event_line, is_hidden, line, note_line, pair_line, run_line, text_line};
 
 use engine_ends::{is_plain, push_escaped, push_place, push_word};
 use eval_rules::Command;
@@ -100,6 +100,17 @@ pub(crate) fn is_hidden(name: &[u8]) -> bool
     ensures { result ≡ is_hidden name.now }
 {
     name.first() == Some(&b'.')
+}
+
+/// Adds a line with what it says, in which nothing has to be escaped.
+pub(crate) fn push_line(lines: &mut Vec<u8>, word: &[u8], said: &[u8]) -> Result<(), AllocError>
+    ensures { OnOk result (lines.new.items ≡ lines.old.items ++ line word.now said.now) }
+{
+    lines.extend_from_slice(word)?;
+    lines.push(b' ')?;
+    lines.extend_from_slice(said)?;
+    lines.push(b'\n')?;
+    Ok(())
 }
 
 /// Adds a line that is its word alone.

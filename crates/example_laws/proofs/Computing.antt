@@ -44,7 +44,6 @@ use Rattle.text_core.specs.Elements.{named_class, symbol_len, point, ranged, ele
 use Rattle.text_core.specs.Fnmatch.{fnmatch_bracket, fnmatch_first, fnmatch_choice}
 use Rattle.text_core.specs.Sets.{bits_of, set_of}
 use Rattle.text_core.specs.Spell.{bracket, first_item, spell_by, spell, spell_blind}
-use Rattle.text_links.specs.Encoded.{is_own, encoded_byte, encoded}
 use Rattle.text_links.specs.Kernels.{kernel_name}
 use Rattle.text_links.specs.Safe.{sequence_len, is_reached, is_hex_escape, stays, safe_byte, safe}
 use Rattle.text_links.specs.Underscores.{underscored}
@@ -101,8 +100,7 @@ reading_databases = tt
 unfoldable reading_texts : ⊤
 unfolding decimal_below split_once choice_by choice choice_blind class_of named_class symbol_len point ranged
     element_of fnmatch_bracket fnmatch_first fnmatch_choice bits_of set_of bracket first_item spell_by spell
-    spell_blind is_own encoded_byte encoded kernel_name sequence_len is_reached is_hex_escape stays safe_byte safe
-    underscored
+    spell_blind kernel_name sequence_len is_reached is_hex_escape stays safe_byte safe underscored
 reading_texts = tt
 
 -- those by which rules are evaluated

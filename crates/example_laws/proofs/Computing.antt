@@ -68,9 +68,29 @@ use Rattle.eval_rules.specs.Idle.{is_idle_by}
 use Rattle.eval_rules.specs.Jumps.{run}
 use Rattle.eval_rules.specs.Outcomes.{outcome_of}
 use Rattle.eval_rules.specs.Steps.{walk, plain_step, result_step, steps, apply}
+use Rattle.eval_effects.specs.Changes.{run_text}
+use Rattle.eval_effects.specs.Effects.{effect, ending}
+use Rattle.eval_effects.specs.Items.{node_items, items}
+use Rattle.eval_effects.specs.Shown.{cut}
+use Rattle.eval_sources.specs.Reported.{stages_from}
+use Rattle.eval_sources.specs.Sources.{source_of, kept_after, Reports}
+use Rattle.eval_courses.specs.Acts.{property_report, act_report}
+use Rattle.eval_courses.specs.Courses.{walk_reports, key_reports, course}
+use Rattle.eval_courses.specs.Keys.{wanted_text}
+use Rattle.eval_courses.specs.Looks.{plain_report, result_report}
+use Rattle.eval_courses.specs.Upward.{device_report, up_report, partial_report, search_reports}
+use Rattle.engine_sources.specs.Answers.{sourced_node, lines_after}
+use Rattle.engine_sources.specs.Lines.{command_line, word_line, member_line, value_line, label_line}
+use Rattle.engine_reports.specs.Messages.{message_line}
+use Rattle.engine_courses.specs.Asked.{unread, unknown_line, unknown}
+use Rattle.engine_courses.specs.Nearest.{least}
+use Rattle.engine_courses.specs.WhyLines.{why_line, unread_text, reported_from, why_lines}
+use Rattle.engine_questions.specs.Lines.{question_answer}
+use Rattle.engine_questions.specs.Questions.{acts_ask, rule_asks, rules_ask}
 use Rattle.engine_answers.specs.Answers.{node_lines, answer_lines}
 use Rattle.engine_answers.specs.Lines.{text_line, pair_line, run_line, note_line, event_line}
 use Rattle.example_laws.specs.Answered.{answered_by}
+use Rattle.example_laws.specs.Reported.{sourced, explained, asked}
 
 -- the words by which the text of a rules file is read
 unfoldable reading_rules : ⊤
@@ -110,6 +130,15 @@ unfolding star_place named named_place start_env name_text render udev_value is_
     usb_modalias escape_of set_step is_idle_by run outcome_of walk plain_step result_step steps apply
 evaluating = tt
 
+-- those by which what happened is told
+unfoldable reporting : ⊤
+unfolding run_text effect ending node_items items cut stages_from source_of kept_after Reports property_report
+    act_report walk_reports key_reports course wanted_text plain_report result_report device_report up_report
+    partial_report search_reports sourced_node lines_after command_line word_line member_line value_line label_line
+    message_line unread unknown_line unknown least why_line unread_text reported_from why_lines question_answer
+    acts_ask rule_asks rules_ask
+reporting = tt
+
 -- those by which an answer is written
 unfoldable writing : ⊤
 unfolding node_lines answer_lines text_line pair_line run_line note_line event_line
@@ -117,5 +146,5 @@ writing = tt
 
 -- all of these
 unfoldable pub computed : ⊤
-unfolding digits answered_by reading_rules reading_blocks reading_databases reading_texts evaluating writing
+unfolding digits answered_by sourced explained asked reading_rules reading_blocks reading_databases reading_texts evaluating reporting writing
 computed = tt

@@ -9,5 +9,6 @@ pub mod acts;
 pub mod assignments;
 pub mod events;
 pub mod matches;
+pub mod reports;
 pub mod substitutions;
 pub mod udev;

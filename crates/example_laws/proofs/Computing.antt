@@ -1,4 +1,5 @@
--- What a proof unfolds so that an answer computes from texts.
+-- What a proof unfolds so that an answer computes from texts. A word marked `unfoldable` that an answer is made by is named here:
+-- where one is not, the proofs of the examples that use it fail, as nothing then says what it is.
 use Rattle.std.specs.Prelude.{⊤}
 use Rattle.std.specs.Fmt.{digits}
 use Rattle.rule_templates.specs.Braces.{braced}

@@ -8,8 +8,7 @@ use Rattle.device_core.specs.Faults.{block_gives}
 use Rattle.device_core.specs.Values.{EventValue}
 use Rattle.builtin_devices.specs.Knowledge.{Known}
 use Rattle.eval_rules.specs.Outcomes.{outcome}
-use Rattle.engine_answers.specs.Answers.{answer_lines}
-use Rattle.engine_sources.specs.Answers.{sourced_lines}
+use Rattle.engine_answers.specs.Answers.{answer_lines, sourced_lines}
 use Rattle.engine_courses.specs.WhyLines.{why_lines}
 use Rattle.engine_questions.specs.Lines.{question_answer}
 use Rattle.example_laws.specs.Answered.{answer_to, only_entries, read_by}

@@ -1,6 +1,6 @@
 -- The lines of properties one by one, and with nothing in front of them.
-use Rattle.std.proofs.Common.{◌≡◌, Bool, true, false, not, cond, List, [], ◌∷◌, ◌++◌, codes, filter, flat_map, map, refl, ap, ap₂, sym, ◌∙◌, append-nil}
-use Rattle.std.proofs.lemmas.List.Concat.{flat_map-cons}
+use Rattle.std.proofs.Common.{◌≡◌, Bool, true, false, not, cond, List, [], ◌∷◌, ◌++◌, codes, filter, flat_map, map, refl, ap, ap₂, sym, ◌∙◌, append-nil, append_assoc}
+use Rattle.std.proofs.lemmas.List.Concat.{flat_map-append, flat_map-cons}
 use Rattle.text_tables.specs.Texts.{Text}
 use Rattle.text_tables.specs.Pairs.{Pair}
 use Rattle.eval_effects.specs.Items.{item_name}
@@ -16,6 +16,17 @@ value pair = ((item_name (codes "env") pair.0, pair.1), pair_line (codes "env") 
 -- the properties that have a line
 abbrev shown : List Pair → List Pair
 shown pairs = filter (λ pair. not (is_hidden pair.0)) pairs
+
+-- a line about one thing, after what is in front of it
+pub one_after : {A : Type 0} (front : A → Text) (first next now said : Text) (about : A) → next ≡ first ++ front about → now ≡ next ++ said → now ≡ first ++ lines_after front ((about, said) ∷ [])
+one_after front first next now said about p q =
+    q ∙ ap (λ l. l ++ said) p ∙ append_assoc first (front about) said ∙ ap (λ l. first ++ l) (sym (append-nil (front about ++ said)))
+
+-- lines after others
+pub more_after : {A : Type 0} (front : A → Text) (first next now : Text) (some more : List (A × Text)) → next ≡ first ++ lines_after front some → now ≡ next ++ lines_after front more → now ≡ first ++ lines_after front (some ++ more)
+more_after front first next now some more p q =
+    q ∙ ap (λ l. l ++ lines_after front more) p ∙ append_assoc first (lines_after front some) (lines_after front more)
+    ∙ ap (λ l. first ++ l) (sym (flat_map-append (λ l. front l.0 ++ l.1) some more))
 
 module _ (front : Pair → Text) where
   abbrev with_front : ItemLine → Text

@@ -80,15 +80,14 @@ use Rattle.eval_courses.specs.Courses.{walk_reports, key_reports, course}
 use Rattle.eval_courses.specs.Keys.{wanted_text}
 use Rattle.eval_courses.specs.Looks.{plain_report, result_report}
 use Rattle.eval_courses.specs.Upward.{device_report, up_report, partial_report, search_reports}
-use Rattle.engine_sources.specs.Answers.{sourced_node, lines_after}
-use Rattle.engine_sources.specs.Lines.{command_line, word_line, member_line, value_line, label_line}
 use Rattle.engine_reports.specs.Messages.{message_line}
 use Rattle.engine_courses.specs.Asked.{unread, unknown_line, unknown}
 use Rattle.engine_courses.specs.Nearest.{least}
 use Rattle.engine_courses.specs.WhyLines.{why_line, unread_text, reported_from, why_lines}
 use Rattle.engine_questions.specs.Lines.{question_answer}
 use Rattle.engine_questions.specs.Questions.{acts_ask, rule_asks, rules_ask}
-use Rattle.engine_answers.specs.Answers.{node_lines, answer_lines}
+use Rattle.engine_answers.specs.Answers.{lines_with}
+use Rattle.engine_answers.specs.Items.{node_lines, item_lines}
 use Rattle.engine_answers.specs.Lines.{text_line, pair_line, run_line, note_line, event_line}
 use Rattle.example_laws.specs.Answered.{answered_by}
 use Rattle.example_laws.specs.Reported.{sourced, explained, asked}
@@ -135,14 +134,13 @@ evaluating = tt
 unfoldable reporting : ⊤
 unfolding run_text effect ending node_items items cut stages_from source_of kept_after Reports property_report
     act_report walk_reports key_reports course wanted_text plain_report result_report device_report up_report
-    partial_report search_reports sourced_node lines_after command_line word_line member_line value_line label_line
-    message_line unread unknown_line unknown least why_line unread_text reported_from why_lines question_answer
-    acts_ask rule_asks rules_ask
+    partial_report search_reports message_line unread unknown_line unknown least why_line unread_text reported_from
+    why_lines question_answer acts_ask rule_asks rules_ask
 reporting = tt
 
 -- those by which an answer is written
 unfoldable writing : ⊤
-unfolding node_lines answer_lines text_line pair_line run_line note_line event_line
+unfolding lines_with node_lines item_lines text_line pair_line run_line note_line event_line
 writing = tt
 
 -- all of these

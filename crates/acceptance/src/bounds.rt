@@ -1,6 +1,7 @@
 //! Blocks and chains as large as they may be, and one more.
 use crate::running::{line, run_by};
 use crate::sessions::{block_with, has_ended, tables_of, take_all};
+use builtin_core::Builtins;
 use device_core::BlockFaultKind;
 use engine_core::{Session, SessionFault, Tables, Verb};
 use hwdb_core::PlainDb;
@@ -11,7 +12,7 @@ use std::test::Fail;
 /// Passes an input to a session in pieces of so many bytes, and appends the answers to a text.
 fn feed_in_pieces(
     alloc: Global,
-    session: &mut Session<'_, Tables<PlainDb>>,
+    session: &mut Session<'_, Tables<Builtins<PlainDb>>>,
     input: &[u8],
     size: usize,
     text: &mut Vec<u8>,
@@ -35,7 +36,7 @@ fn whole_block(alloc: Global, letters: usize) -> Result<Vec<u8>, Fail> {
 /// How many bytes a session answers to an input in pieces of so many bytes, if nothing fails.
 fn answered(
     alloc: Global,
-    tables: &Tables<PlainDb>,
+    tables: &Tables<Builtins<PlainDb>>,
     input: &[u8],
     size: usize,
 ) -> Result<usize, Fail> {
@@ -53,7 +54,7 @@ const SIZES: [usize; 3] = [1, 4096, 65_537];
 /// Whether a session answers an input with so many bytes in pieces of each size.
 fn each_size_answers(
     alloc: Global,
-    tables: &Tables<PlainDb>,
+    tables: &Tables<Builtins<PlainDb>>,
     input: &[u8],
     wanted: usize,
 ) -> Result<bool, Fail> {
@@ -90,7 +91,7 @@ fn is_too_long(fault: &SessionFault) -> bool {
 /// Whether an input in pieces of so many bytes ends a session as too long, with no answer.
 fn is_refused(
     alloc: Global,
-    tables: &Tables<PlainDb>,
+    tables: &Tables<Builtins<PlainDb>>,
     input: &[u8],
     size: usize,
 ) -> Result<bool, Fail> {
@@ -107,7 +108,7 @@ fn is_refused(
 /// Whether an input ends a session like this in pieces of each size.
 fn each_size_is_refused(
     alloc: Global,
-    tables: &Tables<PlainDb>,
+    tables: &Tables<Builtins<PlainDb>>,
     input: &[u8],
 ) -> Result<bool, Fail> {
     for size in SIZES {

@@ -4,6 +4,7 @@ use crate::running::{
     run_by, run_in, wanted,
 };
 use crate::sessions::{block_with, has_ended, tables_of};
+use builtin_core::Builtins;
 use device_core::{BlockFault, BlockFaultKind};
 use engine_core::{MemorySink, MemorySource, Session, SessionFault, Tables, Verb, turn};
 use hwdb_core::PlainDb;
@@ -58,7 +59,7 @@ const READ_FAILED: &[u8] = b"devdry: read failed\n";
 const WRITE_FAILED: &[u8] = b"devdry: write failed\n";
 
 /// What the rule answers.
-fn tables(alloc: Global) -> Result<Tables<PlainDb>, Fail> {
+fn tables(alloc: Global) -> Result<Tables<Builtins<PlainDb>>, Fail> {
     tables_of(alloc, &[(FileKind::Rules, 0, "r.rules", RULE)])
 }
 
@@ -125,7 +126,7 @@ fn answers_do_not_depend_on_cuts(rt: HostRuntime) -> Result<(), Fail> {
 /// Whether a session uses so many bytes of a piece, for this answer or for none.
 fn takes(
     alloc: Global,
-    session: &mut Session<'_, Tables<PlainDb>>,
+    session: &mut Session<'_, Tables<Builtins<PlainDb>>>,
     piece: &[u8],
     used: usize,
     answer: Option<&[u8]>,
@@ -137,7 +138,11 @@ fn takes(
 }
 
 /// Whether a session ends with this answer, or with none.
-fn ends(alloc: Global, session: &mut Session<'_, Tables<PlainDb>>, answer: Option<&[u8]>) -> bool {
+fn ends(
+    alloc: Global,
+    session: &mut Session<'_, Tables<Builtins<PlainDb>>>,
+    answer: Option<&[u8]>,
+) -> bool {
     match session.end(alloc) {
         Ok(last) => is_answer(&last, answer),
         Err(_fault) => false,
@@ -154,7 +159,7 @@ fn is_answer(answer: &Option<Bytes>, wanted: Option<&[u8]>) -> bool {
 }
 
 /// Whether three blocks in one piece are answered in three calls, and nothing is left for the end.
-fn each_block_is_answered(alloc: Global, tables: &Tables<PlainDb>) -> Result<bool, Fail> {
+fn each_block_is_answered(alloc: Global, tables: &Tables<Builtins<PlainDb>>) -> Result<bool, Fail> {
     let mut session = Session::new(alloc, tables)?;
     let (_, following) = THREE_BLOCKS.split_at(58);
     let (_, last) = THREE_BLOCKS.split_at(116);
@@ -168,7 +173,10 @@ fn each_block_is_answered(alloc: Global, tables: &Tables<PlainDb>) -> Result<boo
 }
 
 /// Whether a block without the empty line after it is answered at the end, and not before.
-fn the_last_block_is_answered(alloc: Global, tables: &Tables<PlainDb>) -> Result<bool, Fail> {
+fn the_last_block_is_answered(
+    alloc: Global,
+    tables: &Tables<Builtins<PlainDb>>,
+) -> Result<bool, Fail> {
     let mut session = Session::new(alloc, tables)?;
     let answered = takes(alloc, &mut session, DISK, 57, None)
         && ends(alloc, &mut session, Some(ANSWER));
@@ -177,7 +185,11 @@ fn the_last_block_is_answered(alloc: Global, tables: &Tables<PlainDb>) -> Result
 }
 
 /// Whether a piece stops a session at the wrong path of its second block.
-fn is_stopped(alloc: Global, session: &mut Session<'_, Tables<PlainDb>>, piece: &[u8]) -> bool {
+fn is_stopped(
+    alloc: Global,
+    session: &mut Session<'_, Tables<Builtins<PlainDb>>>,
+    piece: &[u8],
+) -> bool {
     match session.take(alloc, piece) {
         Ok(_step) => false,
         Err(fault) => fault == WRONG_PATH,
@@ -185,7 +197,10 @@ fn is_stopped(alloc: Global, session: &mut Session<'_, Tables<PlainDb>>, piece: 
 }
 
 /// Whether the block before a faulty one is answered, and the one after it is not.
-fn a_faulty_block_is_the_last(alloc: Global, tables: &Tables<PlainDb>) -> Result<bool, Fail> {
+fn a_faulty_block_is_the_last(
+    alloc: Global,
+    tables: &Tables<Builtins<PlainDb>>,
+) -> Result<bool, Fail> {
     let mut session = Session::new(alloc, tables)?;
     let (_, following) = FAULTY.split_at(58);
     let ended = takes(alloc, &mut session, FAULTY, 58, Some(ANSWER))
@@ -196,7 +211,7 @@ fn a_faulty_block_is_the_last(alloc: Global, tables: &Tables<PlainDb>) -> Result
 }
 
 /// Whether sessions answer a block once it is whole, and nothing after a faulty one.
-fn sessions_answer(alloc: Global, tables: &Tables<PlainDb>) -> Result<bool, Fail> {
+fn sessions_answer(alloc: Global, tables: &Tables<Builtins<PlainDb>>) -> Result<bool, Fail> {
     Ok(
         each_block_is_answered(alloc, tables)?
             && the_last_block_is_answered(alloc, tables)?
@@ -216,7 +231,7 @@ fn sessions_answer_block_by_block(rt: HostRuntime) -> Result<(), Fail> {
 /// Whether so many turns go on, and nothing goes out.
 fn is_held_back(
     alloc: Global,
-    session: &mut Session<'_, Tables<PlainDb>>,
+    session: &mut Session<'_, Tables<Builtins<PlainDb>>>,
     input: &mut MemorySource,
     output: &mut MemorySink,
     turns: usize,
@@ -233,7 +248,7 @@ fn is_held_back(
 /// Whether the answer goes out, and is flushed, in the next turn.
 fn is_sent_now(
     alloc: Global,
-    session: &mut Session<'_, Tables<PlainDb>>,
+    session: &mut Session<'_, Tables<Builtins<PlainDb>>>,
     input: &mut MemorySource,
     output: &mut MemorySink,
 ) -> bool {
@@ -245,7 +260,7 @@ fn is_sent_now(
 
 /// Whether an answer goes out in the turn that reads the last byte of its block, and nothing before, if the input
 /// gives a byte at a time.
-fn is_sent_at_its_end(alloc: Global, tables: &Tables<PlainDb>) -> Result<bool, Fail> {
+fn is_sent_at_its_end(alloc: Global, tables: &Tables<Builtins<PlainDb>>) -> Result<bool, Fail> {
     let mut input = input_of(alloc, BLOCK, 1)?;
     let mut output = output_of(alloc, AMPLE)?;
     let mut session = Session::new(alloc, tables)?;

@@ -1,5 +1,6 @@
 //! Sessions that get an input piece by piece, and blocks as long as a test asks for.
 use crate::running::{Given, files_of};
+use builtin_core::Builtins;
 use engine_core::{Session, SessionFault, Tables};
 use hwdb_core::{PlainDb, read_sources};
 use rule_core::read_rules;
@@ -7,12 +8,19 @@ use std::alloc::Global;
 use std::test::Fail;
 
 /// What files of rules answer without a database.
-pub(crate) fn tables_of(alloc: Global, given: &[Given<'_>]) -> Result<Tables<PlainDb>, Fail> {
+pub(crate) fn tables_of(
+    alloc: Global,
+    given: &[Given<'_>],
+) -> Result<Tables<Builtins<PlainDb>>, Fail> {
     let Ok(rules) = read_rules(alloc, &files_of(alloc, given)?) else {
         return Err("no rules")?;
     };
     match read_sources(alloc, &Vec::new(alloc)) {
-        Ok(database) => Ok(Tables::new(alloc, rules, PlainDb::new(database.entries))?),
+        Ok(database) => Ok(Tables::new(
+            alloc,
+            rules,
+            Builtins::new(PlainDb::new(database.entries)),
+        )?),
         Err(_fault) => {
             drop(rules);
             Err("no database")?
@@ -25,7 +33,7 @@ pub(crate) fn tables_of(alloc: Global, given: &[Given<'_>]) -> Result<Tables<Pla
 /// A call that says it used more than it was given also ends here.
 pub(crate) fn take_all(
     alloc: Global,
-    session: &mut Session<'_, Tables<PlainDb>>,
+    session: &mut Session<'_, Tables<Builtins<PlainDb>>>,
     piece: &[u8],
     text: &mut Vec<u8>,
 ) -> Result<(), SessionFault> {
@@ -42,7 +50,10 @@ pub(crate) fn take_all(
 }
 
 /// Whether a session has ended, so that it answers nothing more.
-pub(crate) fn has_ended(alloc: Global, session: &mut Session<'_, Tables<PlainDb>>) -> bool {
+pub(crate) fn has_ended(
+    alloc: Global,
+    session: &mut Session<'_, Tables<Builtins<PlainDb>>>,
+) -> bool {
     session.take(alloc, b"x").err() == Some(SessionFault::Ended)
         && session.end(alloc).err() == Some(SessionFault::Ended)
 }

@@ -1,13 +1,13 @@
 -- Lines of properties that were put together as they are: if only their newlines would have to be escaped, nothing else has to be.
-use Rattle.std.proofs.Common.{◌≡◌, ℕ, Bool, true, false, not, cond, ◌&&◌, ◌+◌, List, [], ◌∷◌, ◌++◌, codes, count_by, arith, refl, ap, sym, ◌∙◌}
+use Rattle.std.proofs.Common.{◌≡◌, ℕ, Bool, true, false, not, cond, ◌&&◌, ◌+◌, List, [], ◌∷◌, ◌++◌, codes, count_by, flat_map, arith, refl, ap, sym, ◌∙◌}
 use Rattle.std.specs.List.{sum_by}
 use Rattle.std.proofs.lemmas.List.Sums.{sum_by-append, sum_by-cons}
 use Rattle.text_bytes.specs.Escapes.{is_escaped}
 use Rattle.text_bytes.specs.Names.{newline}
 use Rattle.text_tables.specs.Pairs.{Pair}
 use Rattle.engine_ends.proofs.Plain.{are_plain}
-use Rattle.engine_answers.specs.Inner.{env_as_is, lines_as_is, pair_words, shown_as_is, shown_count}
-use Rattle.engine_answers.specs.Lines.{env_lines, is_hidden, pair_line, shown_line}
+use Rattle.engine_answers.specs.Inner.{env_as_is, lines_as_is, pair_words, shown_as_is, shown_count, shown_line}
+use Rattle.engine_answers.specs.Lines.{is_hidden, pair_line}
 use Rattle.engine_answers.proofs.Plain.{plain_pair}
 
 -- how many bytes of a text have to be escaped
@@ -46,7 +46,7 @@ line_is : (hidden : Bool) (name value : List ℕ) → cond hidden 0 (escapes (pa
 line_is true name value e = refl
 line_is false name value e = plain_pair (codes "env") name value (none_escaped (pair_words (codes "env") name value) e)
 
-lines_are : (pairs : List Pair) → sum_by inner_escapes pairs ≡ 0 → lines_as_is pairs ≡ env_lines pairs
+lines_are : (pairs : List Pair) → sum_by inner_escapes pairs ≡ 0 → lines_as_is pairs ≡ flat_map shown_line pairs
 lines_are [] e = refl
 lines_are ((name, value) ∷ pairs) e =
     let all = sum_by-cons inner_escapes (name, value) pairs in
@@ -55,5 +55,5 @@ lines_are ((name, value) ∷ pairs) e =
     ap (λ l. l ++ lines_as_is pairs) (line_is (is_hidden name) name value first) ∙ ap (λ l. shown_line (name, value) ++ l) (lines_are pairs others)
 
 -- then the lines are as they should be
-pub as_they_are : (pairs : List Pair) → escapes (lines_as_is pairs) ≡ shown_count pairs → lines_as_is pairs ≡ env_lines pairs
+pub as_they_are : (pairs : List Pair) → escapes (lines_as_is pairs) ≡ shown_count pairs → lines_as_is pairs ≡ flat_map shown_line pairs
 as_they_are pairs e = let none : sum_by inner_escapes pairs ≡ 0 = omega (arith, e, lines_count pairs) in lines_are pairs none

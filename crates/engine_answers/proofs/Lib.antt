@@ -1,3 +1,5 @@
 mod Plain
 pub mod Listed
+pub mod InFront
 mod AsIs
+mod Sourced

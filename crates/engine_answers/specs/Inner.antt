@@ -3,7 +3,7 @@ use Rattle.std.specs.Prelude.{ℕ, [], ◌∷◌, ◌++◌, List, codes, cond, c
 use Rattle.text_bytes.specs.Names.{space, equals, newline}
 use Rattle.text_tables.specs.Texts.{Text}
 use Rattle.text_tables.specs.Pairs.{Pair}
-use Rattle.engine_answers.specs.Lines.{is_hidden}
+use Rattle.engine_answers.specs.Lines.{is_hidden, pair_line}
 
 -- a word, a name and its value, as they are
 abbrev pub pair_words : Text → Text → Text → Text
@@ -24,3 +24,7 @@ lines_as_is pairs = flat_map shown_as_is pairs
 -- how many lines these are
 abbrev pub shown_count : List Pair → ℕ
 shown_count pairs = count_by (λ pair. not (is_hidden pair.0)) pairs
+
+-- the line of a property that is not for rules alone, with nothing in front
+abbrev pub shown_line : Pair → Text
+shown_line pair = cond (is_hidden pair.0) [] (pair_line (codes "env") pair)

@@ -1,3 +1,4 @@
-pub mod Inner
 pub mod Lines
+pub mod Items
 pub mod Answers
+pub mod Inner

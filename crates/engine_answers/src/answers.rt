@@ -1,11 +1,18 @@
 //! The whole answer.
-ghost use Rattle.std.specs.Prelude.{◌≡◌, ◌++◌, IfOk, OnOk};
-ghost use Rattle.engine_answers.specs.Answers.{answer, answer_lines, node_lines, run_lines};
+ghost use Rattle.std.specs.Prelude.{◌≡◌, ◌++◌, flat_map, None, IfOk, OnOk};
+ghost use Rattle.engine_answers.specs.Answers.{answer, answer_lines, command_lines, lines_after, lines_with, source_part, sourced_lines};
+ghost use Rattle.engine_answers.specs.Lines.{note_lines, run_line};
+ghost use Rattle.eval_sources.specs.Sources.{source_in};
 
-use crate::lines::{push_event, push_given, push_persist, push_priority, push_run, push_watch};
-use crate::lists::{push_env, push_labels, push_notes, push_pairs, push_texts};
+use crate::front::{Nothing, push_source};
+use crate::items::push_items;
+use crate::lines::{push_event, push_note, push_run};
+use builtin_devices::Knowledge;
 use device_core::Event;
 use eval_rules::{Commands, Outcome};
+use eval_sources::{Sourced, SourcedCommand, evaluate_sources};
+use eval_state::Notes;
+use rule_types::RuleSet;
 use std::alloc::{AllocError, Global};
 use text_bytes::Bytes;
 
@@ -18,7 +25,7 @@ const USUAL_LEN: usize = 1024;
 /// `nowatch`, `persist`, `label MODULE=..`, `link`, `tag`, `env KEY=..`, `attr NAME=..`, `sysctl
 /// NAME=..`, `run TYPE ..` and `note FILE:LINE: TEXT: WORD`, in this order, as udev(7) names these
 /// things. Properties whose names begin with a dot are left out.
-#[tactic(auto, unfolding(crate::specs::Answers::answer_lines))]
+#[tactic(auto, unfolding(crate::specs::Answers::lines_with))]
 pub fn answer_lines(
     alloc: Global,
     event: &Event<'_>,
@@ -28,13 +35,7 @@ pub fn answer_lines(
 {
     let mut lines = Vec::with_capacity(alloc, USUAL_LEN)?;
     push_event(alloc, &mut lines, event.action(), event.device().path())?;
-    push_node(alloc, &mut lines, outcome)?;
-    push_labels(alloc, &mut lines, outcome.labels.as_slice())?;
-    push_texts(alloc, &mut lines, b"link", &outcome.links)?;
-    push_texts(alloc, &mut lines, b"tag", &outcome.tags)?;
-    push_env(alloc, &mut lines, &outcome.env)?;
-    push_pairs(alloc, &mut lines, b"attr", &outcome.attrs)?;
-    push_pairs(alloc, &mut lines, b"sysctl", &outcome.sysctls)?;
+    push_items(alloc, &mut lines, &Nothing, event.profile(), outcome)?;
     push_runs(alloc, &mut lines, &outcome.runs)?;
     push_notes(alloc, &mut lines, &outcome.notes)?;
     Ok(lines)
@@ -49,27 +50,81 @@ pub fn answer(alloc: Global, event: &Event<'_>, outcome: &Outcome<'_>) -> Result
     Ok(Bytes::new(lines))
 }
 
-/// Adds the lines on the device's node.
-#[tactic(auto, unfolding(crate::specs::Answers::node_lines))]
-fn push_node(alloc: Global, lines: &mut Vec<u8>, outcome: &Outcome<'_>) -> Result<(), AllocError>
-    ensures { OnOk result (lines.new.items ≡ lines.old.items ++ node_lines outcome.now) }
+/// The lines of the answer to an event by the rules as they are read, each after the place of the rule that it comes
+/// from: `FILE:LINE: `, or `-: ` if what it is about is in the block or is set when the event starts. The first line
+/// and those of notes stay as they are.
+pub fn sourced_lines<K: Knowledge>(
+    alloc: Global,
+    rules: &RuleSet,
+    event: &Event<'_>,
+    knowledge: &K,
+) -> Result<Vec<u8>, AllocError>
+    ensures { IfOk result (λ lines. lines.items ≡ sourced_lines rules.now (K.known knowledge.now) event.now) }
 {
-    push_given(alloc, lines, b"name", &outcome.name)?;
-    push_given(alloc, lines, b"owner", &outcome.owner)?;
-    push_given(alloc, lines, b"group", &outcome.group)?;
-    push_given(alloc, lines, b"mode", &outcome.mode)?;
-    push_priority(lines, outcome.priority)?;
-    push_watch(lines, outcome.watch)?;
-    push_persist(lines, outcome.persist)?;
-    Ok(())
+    lines_for(alloc, rules, event, knowledge)
+}
+
+/// The same; rules and event are borrowed for the same lifetime.
+fn lines_for<'a, K: Knowledge>(
+    alloc: Global,
+    rules: &'a RuleSet,
+    event: &'a Event<'_>,
+    knowledge: &K,
+) -> Result<Vec<u8>, AllocError>
+    ensures { IfOk result (λ lines. lines.items ≡ sourced_lines rules.now (K.known knowledge.now) event.now) }
+{
+    let found = evaluate_sources(alloc, rules, event, knowledge)?;
+    let said = lines_of(alloc, event, &found);
+    drop(found);
+    said
+}
+
+/// The lines of the outcome of an event, each after where it comes from.
+#[tactic(auto, unfolding(crate::specs::Answers::lines_with))]
+fn lines_of(alloc: Global, event: &Event<'_>, found: &Sourced<'_>) -> Result<Vec<u8>, AllocError>
+    ensures { IfOk result (λ lines. lines.items ≡ lines_with (λ item. source_part (source_in found.now.sources None item))
+        (lines_after source_part (command_lines found.now.commands.items)) event.now found.now.outcome) }
+{
+    let mut lines = Vec::new(alloc);
+    let outcome = &found.outcome;
+    push_event(alloc, &mut lines, event.action(), event.device().path())?;
+    push_items(alloc, &mut lines, &found.sources, event.profile(), outcome)?;
+    push_sourced_runs(alloc, &mut lines, &found.commands)?;
+    push_notes(alloc, &mut lines, &outcome.notes)?;
+    Ok(lines)
 }
 
 /// Adds the lines of commands.
 fn push_runs(alloc: Global, lines: &mut Vec<u8>, runs: &Commands) -> Result<(), AllocError>
-    ensures { OnOk result (lines.new.items ≡ lines.old.items ++ run_lines runs.now) }
+    ensures { OnOk result (lines.new.items ≡ lines.old.items ++ flat_map run_line runs.now) }
 {
     for command in runs.as_slice() {
-        push_run(alloc, lines, command.kind, command.text.as_slice())?;
+        push_run(alloc, lines, command)?;
+    }
+    Ok(())
+}
+
+/// Adds the lines of commands, each after the rule that added it.
+fn push_sourced_runs(
+    alloc: Global,
+    lines: &mut Vec<u8>,
+    commands: &[SourcedCommand<'_>],
+) -> Result<(), AllocError>
+    ensures { OnOk result (lines.new.items ≡ lines.old.items ++ lines_after source_part (command_lines commands.now)) }
+{
+    for found in commands {
+        push_source(alloc, lines, Some(found.rule()))?;
+        push_run(alloc, lines, found.command())?;
+    }
+    Ok(())
+}
+
+/// Adds the lines of notes.
+fn push_notes(alloc: Global, lines: &mut Vec<u8>, notes: &Notes) -> Result<(), AllocError>
+    ensures { OnOk result (lines.new.items ≡ lines.old.items ++ note_lines notes.now) }
+{
+    for note in notes.as_slice() {
+        push_note(alloc, lines, note)?;
     }
     Ok(())
 }

@@ -1,17 +1,18 @@
-//! Answers: the outcome of an event, as lines.
+//! Answers: the outcome of an event, as lines; and rules with a database, as what answers events.
 //!
 //! Each line is a word and what it says, so that a reader can cut it at its first space. Every text is escaped, so
-//! that no text can be taken for a line.
+//! that no text can be taken for a line. The lines about items and of commands can each have in front of them which rule
+//! they come from.
 //!
 //! Functions that allocate return `AllocError` when memory runs out.
 #![tactic(auto)]
 
 mod answers;
+mod front;
+mod items;
 mod lines;
-mod lists;
+mod tables;
 
-pub use answers::{answer, answer_lines};
-pub use lines::{
-    is_hidden, push_event, push_pair, push_persist, push_priority, push_run, push_text, push_watch,
-};
-pub use lists::push_notes;
+pub use answers::{answer, answer_lines, sourced_lines};
+pub use lines::push_event;
+pub use tables::Tables;

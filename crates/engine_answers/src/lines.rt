@@ -1,18 +1,16 @@
-//! One line of each kind.
-ghost use Rattle.std.specs.Prelude.{◌≡◌, ◌++◌, codes, not, IfOk, OnOk, option_map};
+//! One line of each kind, as text.
+ghost use Rattle.std.specs.Prelude.{◌≡◌, ◌++◌, codes, not, IfOk, OnOk};
 ghost use Rattle.engine_answers.specs.Inner.{pair_words, shown_as_is};
-ghost use Rattle.engine_answers.specs.Lines.{event_line, given_line, is_hidden, note_line, pair_line, persist_line, priority_line, run_line, shown_line, text_line, watch_line};
+ghost use Rattle.engine_answers.specs.Lines.{bare_line, event_line, is_hidden, line, note_line, pair_line, run_line, text_line};
 
 use engine_ends::{is_plain, push_escaped, push_place, push_word};
+use eval_rules::Command;
 use eval_state::Note;
-use itoa::Buffer;
-use rule_types::RunType;
 use std::alloc::{AllocError, Global};
-use text_bytes::Bytes;
 
 /// Adds a line with a text.
 #[tactic(auto, unfolding(crate::specs::Lines::text_line))]
-pub fn push_text(
+pub(crate) fn push_text(
     alloc: Global,
     lines: &mut Vec<u8>,
     word: &[u8],
@@ -25,21 +23,6 @@ pub fn push_text(
     push_escaped(alloc, lines, text)?;
     lines.push(b'\n')?;
     Ok(())
-}
-
-/// Adds a line with a text, if there is one.
-pub(crate) fn push_given(
-    alloc: Global,
-    lines: &mut Vec<u8>,
-    word: &[u8],
-    text: &Option<Bytes>,
-) -> Result<(), AllocError>
-    ensures { OnOk result (lines.new.items ≡ lines.old.items ++ given_line word.now text.now) }
-{
-    match text {
-        Some(text) => push_text(alloc, lines, word, text.as_slice()),
-        None => Ok(()),
-    }
 }
 
 /// Adds a word, a name and its value, as they are.
@@ -76,7 +59,7 @@ fn push_escaped_pair(
 
 /// Adds a line with a name and its value. Mostly nothing has to be escaped, and then the line is as it was put together.
 #[inline(always)]
-pub fn push_pair(
+pub(crate) fn push_pair(
     alloc: Global,
     lines: &mut Vec<u8>,
     word: &[u8],
@@ -112,77 +95,46 @@ pub(crate) fn push_as_is(lines: &mut Vec<u8>, name: &[u8], value: &[u8]) -> Resu
     Ok(true)
 }
 
-/// Adds the line of a property, unless its name begins with a dot.
-pub(crate) fn push_shown(
-    alloc: Global,
-    lines: &mut Vec<u8>,
-    name: &[u8],
-    value: &[u8],
-) -> Result<(), AllocError>
-    ensures { OnOk result (lines.new.items ≡ lines.old.items ++ shown_line (name.now, value.now)) }
-{
-    if is_hidden(name) {
-        return Ok(());
-    }
-    push_pair(alloc, lines, b"env", name, value)
-}
-
 /// Whether a name begins with a dot: such a property is for rules alone.
-pub fn is_hidden(name: &[u8]) -> bool
+pub(crate) fn is_hidden(name: &[u8]) -> bool
     ensures { result ≡ is_hidden name.now }
 {
     name.first() == Some(&b'.')
 }
 
-/// Adds the line of a priority, if one was assigned.
-pub fn push_priority(lines: &mut Vec<u8>, priority: Option<i32>) -> Result<(), AllocError>
-    ensures { OnOk result (lines.new.items ≡ lines.old.items ++ priority_line priority) }
+/// Adds a line with what it says, in which nothing has to be escaped.
+pub(crate) fn push_line(lines: &mut Vec<u8>, word: &[u8], said: &[u8]) -> Result<(), AllocError>
+    ensures { OnOk result (lines.new.items ≡ lines.old.items ++ line word.now said.now) }
 {
-    let Some(priority) = priority else {
-        return Ok(());
-    };
-    lines.extend_from_slice(b"priority ")?;
-    lines.extend_from_slice(Buffer::new().format(priority).as_bytes())?;
+    lines.extend_from_slice(word)?;
+    lines.push(b' ')?;
+    lines.extend_from_slice(said)?;
     lines.push(b'\n')?;
     Ok(())
 }
 
-/// Adds the line for watching or not, if it was assigned.
-pub fn push_watch(lines: &mut Vec<u8>, watch: Option<bool>) -> Result<(), AllocError>
-    ensures { OnOk result (lines.new.items ≡ lines.old.items ++ watch_line watch) }
+/// Adds a line that is its word alone.
+pub(crate) fn push_bare(lines: &mut Vec<u8>, word: &[u8]) -> Result<(), AllocError>
+    ensures { OnOk result (lines.new.items ≡ lines.old.items ++ bare_line word.now) }
 {
-    match watch {
-        Some(true) => lines.extend_from_slice(b"watch\n")?,
-        Some(false) => lines.extend_from_slice(b"nowatch\n")?,
-        None => {}
-    }
-    Ok(())
-}
-
-/// Adds the line that says that what is known stays in the database, if it does.
-pub fn push_persist(lines: &mut Vec<u8>, persist: bool) -> Result<(), AllocError>
-    ensures { OnOk result (lines.new.items ≡ lines.old.items ++ persist_line persist) }
-{
-    if persist {
-        lines.extend_from_slice(b"persist\n")?;
-    }
+    lines.extend_from_slice(word)?;
+    lines.push(b'\n')?;
     Ok(())
 }
 
 /// Adds the line of a command.
 #[tactic(auto, unfolding(crate::specs::Lines::run_line))]
-pub fn push_run(
+pub(crate) fn push_run(
     alloc: Global,
     lines: &mut Vec<u8>,
-    kind: RunType,
-    text: &[u8],
+    command: &Command,
 ) -> Result<(), AllocError>
-    ensures { OnOk result (lines.new.items ≡ lines.old.items ++ run_line kind text.now) }
+    ensures { OnOk result (lines.new.items ≡ lines.old.items ++ run_line command.now) }
 {
     lines.extend_from_slice(b"run ")?;
-    lines.extend_from_slice(kind.name())?;
+    lines.extend_from_slice(command.kind.name())?;
     lines.push(b' ')?;
-    push_escaped(alloc, lines, text)?;
+    push_escaped(alloc, lines, command.text.as_slice())?;
     lines.push(b'\n')?;
     Ok(())
 }

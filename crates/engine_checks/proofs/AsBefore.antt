@@ -1,13 +1,13 @@
 -- With the default format and nothing ignored, what is reported is what the messages say.
-use Rattle.std.proofs.Common.{◌≡◌, ℕ, ◌+◌, ◌^◌, Bool, true, false, not, ◌&&◌, ◌||◌, cond, List, [], ◌∷◌, ◌++◌, length, filter, fold, map, nat_le, refl, ap, sym, ◌∙◌, subst}
-use Rattle.std.specs.List.{count_by, flat_map}
+use Rattle.std.proofs.Common.{◌≡◌, ◌^◌, Bool, true, false, not, ◌&&◌, ◌||◌, cond, List, [], ◌∷◌, ◌++◌, filter, map, nat_le, refl, ap, ap₂, sym, ◌∙◌, subst}
+use Rattle.std.specs.List.{flat_map}
 use Rattle.std.proofs.lemmas.List.{map-id}
 use Rattle.std.proofs.lemmas.List.Elements.{filter-append}
 use Rattle.file_messages.specs.declared.message.Message.{Message}
 use Rattle.text_bytes.specs.declared.profile.Profile.TheVariants.{Manual}
 use Rattle.text_bytes.specs.declared.source_file.SourceFile.{SourceFile}
 use Rattle.text_bytes.specs.declared.source_file.FileKind.TheVariants.{Rules}
-use Rattle.text_tables.specs.Texts.{Text, same_text}
+use Rattle.text_tables.specs.Texts.{Text}
 use Rattle.rule_types.specs.Rules.{tokens_in}
 use Rattle.rule_core.specs.Ends.{file_as_read}
 use Rattle.rule_core.specs.Rules.{file_messages, set_of_as}
@@ -16,11 +16,9 @@ use Rattle.rule_places.specs.declared.placed_finding.PlacedFinding.{PlacedFindin
 use Rattle.rule_places.proofs.Messages.{findings_reported}
 use Rattle.rule_remarks.specs.Findings.{findings_as}
 use Rattle.rule_file_lints.specs.FileLints.{placed_lints}
-use Rattle.engine_ends.specs.Delivery.{RunOutcome}
 use Rattle.engine_ends.specs.declared.line.Format.TheVariants.{Plain}
 use Rattle.engine_ends.specs.declared.line.Line.{Line}
-use Rattle.engine_reports.specs.Checks as plain
-use Rattle.engine_reports.specs.Checks.{is_style, reported, said_of, summary_line, verify_status}
+use Rattle.engine_reports.specs.Checks.{files_said, is_style, reported, said_of}
 use Rattle.engine_reports.specs.FilesRead.{files_read}
 use Rattle.engine_reports.specs.Messages.{message_lines}
 use Rattle.engine_reports.specs.Outcomes.{rules_outcome, too_many_rules, verify_outcome}
@@ -30,7 +28,7 @@ use Rattle.engine_formats.specs.Made.{AreMadeFrom, IsMadeFrom}
 use Rattle.engine_checks.specs.Codes.{has_comments}
 use Rattle.engine_checks.specs.Files.{accounts_by, file_text, findings_of, found_with, ignored_by, ignores_counted, rule_diagnostic, rules_found, rules_reported}
 use Rattle.engine_checks.specs.Laws.{messages_in}
-use Rattle.engine_checks.specs.Outcomes.{bad_count, checks_outcome, checks_said, is_named_in, rules_checks}
+use Rattle.engine_checks.specs.Outcomes.{checks_outcome, checks_said, rules_checks}
 use Rattle.engine_checks.specs.Reported.{FileText, by_line, file_reported, is_reported}
 
 pub none_among : (ds : List DiagnosticValue) → by_line ds [] ≡ ds
@@ -107,27 +105,16 @@ files_made line (file ∷ files) plain unasked none =
     subst (λ ms. AreMadeFrom ms (rules_reported line file ++ flat_map (rules_reported line) files)) (sym (reported_both line.style (file_messages Manual file) (flat_map (file_messages Manual) files)))
     (both_made (reported line.style (file_messages Manual file)) (reported line.style (flat_map (file_messages Manual) files)) (rules_reported line file) (flat_map (rules_reported line) files) (file_made line file plain unasked none) (files_made line files plain unasked none))
 
-same_named : (ms : List Message) (ds : List DiagnosticValue) (name : Text) → AreMadeFrom ms ds → is_named_in ds name ≡ plain.is_named_in ms name
-same_named [] [] name made = refl
-same_named [] (d ∷ ds) name made = absurd made
-same_named (m ∷ ms) [] name made = absurd made
-same_named (m ∷ ms) (d ∷ ds) name made = ap (λ file. same_text name file || is_named_in ds name) made.0.name ∙ ap (λ b. same_text name m.file || b) (same_named ms ds name made.1)
-
-same_sums : (p q : SourceFile → Bool) (n : ℕ) (files : List SourceFile) → ((file : SourceFile) → p file ≡ q file) → fold (λ a x. a + cond (p x) 1 0) n files ≡ fold (λ a x. a + cond (q x) 1 0) n files
-same_sums p q n [] e = refl
-same_sums p q n (file ∷ files) e =
-    ap (λ b. fold (λ a x. a + cond (p x) 1 0) (n + cond b 1 0) files) (e file) ∙ same_sums p q (n + cond (q file) 1 0) files e
-
-same_count : (p q : SourceFile → Bool) (files : List SourceFile) → ((file : SourceFile) → p file ≡ q file) → count_by p files ≡ count_by q files
-same_count p q files e = same_sums p q 0 files e
+same_names : (ms : List Message) (ds : List DiagnosticValue) → AreMadeFrom ms ds → map (λ d. d.name) ds ≡ map (λ m. m.file) ms
+same_names [] [] made = refl
+same_names [] (d ∷ ds) made = absurd made
+same_names (m ∷ ms) [] made = absurd made
+same_names (m ∷ ms) (d ∷ ds) made = ap₂ (λ n ns. n ∷ ns) made.0.name (same_names ms ds made.1)
 
 module _ (plainly : (ms : List Message) (ds : List DiagnosticValue) → AreMadeFrom ms ds → formatted Plain ds ≡ message_lines ms) where
   same_said : (line : Line) (files : List SourceFile) (ms : List Message) (ds : List DiagnosticValue) → line.format ≡ Plain → AreMadeFrom ms ds → checks_said line files ds ≡ said_of line.summary files ms
   same_said line files ms ds format made =
-      let count : bad_count files ds ≡ plain.bad_count files ms = same_count (λ f. is_named_in ds f.name) (λ f. plain.is_named_in ms f.name) files (λ f. same_named ms ds f.name made) in
-      let text : formatted line.format ds ≡ message_lines ms = ap (λ f. formatted f ds) format ∙ plainly ms ds made in
-      let said : ℕ → Text → RunOutcome = λ (n : ℕ) (t : Text). record { output = cond line.summary (summary_line (length files) n) []; messages = t; status = verify_status n } in
-      ap (λ n. said n (formatted line.format ds)) count ∙ ap (said (plain.bad_count files ms)) text
+      ap₂ (files_said line.summary files) (same_names ms ds made) (ap (λ f. formatted f ds) format ∙ plainly ms ds made)
 
   same_rules : (line : Line) (files : List SourceFile) → line.profile ≡ Manual → line.format ≡ Plain → line.lint ≡ false → ignored_by line ≡ [] → rules_checks line files ≡ rules_outcome line files
   unfolding rules_checks rules_outcome set_of_as

@@ -1,38 +1,25 @@
 -- What `verify` and `update` say with other formats, with lints, and with messages that are ignored.
-use Rattle.std.specs.Prelude.{ℕ, Bool, if◌then◌else◌, List, [], length, flat_map, map}
-use Rattle.std.specs.List.{count_by, list_any}
+use Rattle.std.specs.Prelude.{ℕ, if◌then◌else◌, List, length, flat_map, map}
 use Rattle.text_bytes.specs.declared.source_file.SourceFile.{SourceFile}
 use Rattle.text_bytes.specs.declared.source_file.FileKind.TheVariants.{Hwdb, Rules}
 use Rattle.file_messages.specs.declared.message.Message.{Message}
-use Rattle.text_tables.specs.Texts.{Text, same_text}
+use Rattle.text_tables.specs.Texts.{Text}
 use Rattle.hwdb_lookup.specs.declared.entry.Entry.{Entry}
 use Rattle.rule_core.specs.Ends.{file_as_read}
 use Rattle.rule_core.specs.Rules.{set_of_as}
 use Rattle.trie_core.specs.Image.{image}
 use Rattle.engine_ends.specs.Delivery.{RunOutcome}
 use Rattle.engine_ends.specs.declared.line.Line.{Line}
-use Rattle.engine_reports.specs.Checks.{summary_line, verify_status}
+use Rattle.engine_reports.specs.Checks.{files_said}
 use Rattle.engine_reports.specs.FilesRead.{files_read}
 use Rattle.engine_reports.specs.Outcomes.{database_outcome, hold_few_tokens, too_many_rules, update_status}
 use Rattle.engine_formats.specs.Diagnostics.{DiagnosticValue}
 use Rattle.engine_formats.specs.Formats.{formatted}
 use Rattle.engine_checks.specs.Files.{database_reported, rules_reported}
 
--- whether one of the diagnostics has a name
-abbrev pub is_named_in : List DiagnosticValue → Text → Bool
-is_named_in reported name = list_any (λ d. same_text name d.name) reported
-
--- how many of the files are bad: something is reported under their name
-abbrev pub bad_count : List SourceFile → List DiagnosticValue → ℕ
-bad_count files reported = count_by (λ f. is_named_in reported f.name) files
-
 -- what is said about files and what is reported for them
 abbrev pub checks_said : Line → List SourceFile → List DiagnosticValue → RunOutcome
-checks_said line files reported = record {
-  output = if line.summary then summary_line (length files) (bad_count files reported) else [];
-  messages = formatted line.format reported;
-  status = verify_status (bad_count files reported);
-}
+checks_said line files reported = files_said line.summary files (map (λ d. d.name) reported) (formatted line.format reported)
 
 -- what `verify` says about rules files
 unfoldable pub rules_checks : Line → List SourceFile → RunOutcome

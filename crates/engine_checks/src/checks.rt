@@ -1,18 +1,16 @@
 //! What `verify` says with other formats, with lints, and with messages that are ignored.
 ghost use Rattle.std.specs.Prelude.{◌≡◌, ◌<◌, flat_map, map, IfOk, IfErr};
 ghost use Rattle.engine_formats.specs.Diagnostics.{shown};
-ghost use Rattle.engine_reports.specs.Checks.{verify_status};
 ghost use Rattle.engine_reports.specs.Reports.{IsSaid, said};
 ghost use Rattle.engine_checks.specs.Files.{rules_reported};
 ghost use Rattle.engine_checks.specs.Outcomes.{checks_outcome, checks_said, rules_checks};
 
 use crate::asked::{asked_by, has_comments};
-use crate::counts::bad_count;
 use crate::reads::read_files;
 use crate::rules_reported::rules_reported;
 use engine_ends::Line;
 use engine_formats::{Diagnostic, formatted};
-use engine_reports::{Refusal, Report, counted, files_read};
+use engine_reports::{Refusal, Report, files_read, report_on_files};
 use rule_core::{files_as_read, read_rules_as};
 use std::alloc::{AllocError, Global};
 use text_bytes::{FileKind, SourceFile};
@@ -70,17 +68,6 @@ fn report_on_reported(
     ensures said { IfOk result (λ r. said r ≡ checks_said line.now files.now (map shown reported.now)) }
     ensures status { IfOk result (λ r. r.status < 3) }
 {
-    let bad = bad_count(alloc, files, reported)?;
-    Ok(Report {
-        output: counted(alloc, line.summary, files.len(), bad)?,
-        messages: formatted(alloc, line.format, reported)?,
-        status: verify_status(bad),
-    })
-}
-
-/// 0 if no file is bad, else 1.
-fn verify_status(bad: usize) -> u8
-    ensures { result ≡ verify_status bad }
-{
-    if bad == 0 { 0 } else { 1 }
+    let lines = formatted(alloc, line.format, reported)?;
+    report_on_files(alloc, line.summary, files, reported, lines)
 }

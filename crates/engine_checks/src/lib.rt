@@ -15,7 +15,6 @@ mod checks;
 mod codes;
 mod comment_laws;
 mod comment_remarks;
-mod counts;
 mod database_reported;
 mod file_text;
 mod found;

@@ -1,7 +1,6 @@
 //! What `update` says with other formats, and with messages that are ignored.
 ghost use Rattle.std.specs.Prelude.{◌≡◌, ◌<◌, flat_map, length, IfOk, IfErr};
 ghost use Rattle.engine_formats.specs.Formats.{formatted};
-ghost use Rattle.engine_reports.specs.Outcomes.{update_status};
 ghost use Rattle.engine_reports.specs.Reports.{IsSaid, said};
 ghost use Rattle.engine_checks.specs.Files.{database_reported};
 ghost use Rattle.engine_checks.specs.Outcomes.{database_checks, reported_update_outcome, updated_by};
@@ -11,7 +10,7 @@ use crate::database_reported::database_reported;
 use crate::reads::read_files;
 use engine_ends::Line;
 use engine_formats::formatted;
-use engine_reports::{Refusal, Report, files_read};
+use engine_reports::{Refusal, Report, files_read, update_status};
 use hwdb_core::read_sources;
 use std::alloc::{AllocError, Global};
 use text_bytes::{FileKind, SourceFile};
@@ -94,11 +93,4 @@ fn updated(
         messages: reported.text,
         status: update_status(line.strict, reported.count),
     })
-}
-
-/// The status of `update`: 1 if it is strict and something is reported.
-fn update_status(strict: bool, count: usize) -> u8
-    ensures { result ≡ update_status strict count }
-{
-    if strict && count != 0 { 1 } else { 0 }
 }

@@ -1,5 +1,5 @@
 -- From the steps of a comparison to what it serves.
-use Rattle.std.proofs.Common.{◌≡◌, ℕ, ◌++◌, inl, inr, refl, subst, Result, Ok, Err}
+use Rattle.std.proofs.Common.{◌≡◌, ℕ, List, ◌++◌, inl, inr, refl, subst, Result, Ok, Err}
 use Rattle.text_bytes.specs.declared.profile.Profile.{Profile}
 use Rattle.text_tables.specs.Texts.{Text}
 use Rattle.engine_ends.specs.Streams.{Streams, outputs}
@@ -10,8 +10,11 @@ use Rattle.engine_reports.specs.Outcomes.{too_many_entries, too_many_rules}
 use Rattle.engine_reports.specs.Reports.{IsRefused, IsSaid}
 use Rattle.engine_reports.specs.declared.refusal.Refusal.{Refusal}
 use Rattle.engine_reports.specs.declared.refusal.Refusal.TheVariants.{TooManyEntries, TooManyRules, Index, Memory}
+use Rattle.hwdb_lookup.specs.declared.entry.Entry.{Entry}
+use Rattle.rule_types.specs.Rules.{Rule}
 use Rattle.device_core.specs.Values.{EventValue}
-use Rattle.engine_core.specs.Answering.{TablesValue, answer_by}
+use Rattle.builtin_core.specs.Builtins.{known_by}
+use Rattle.engine_answers.specs.Answers.{answer_by}
 use Rattle.engine_sessions.specs.Findings.{FindsAll}
 use Rattle.engine_sessions.specs.Serves.{Serves}
 use Rattle.engine_sessions.specs.Sessions.{answers_as}
@@ -49,9 +52,13 @@ new_refused profile TooManyRules old new value status before now e is r = rw (e,
 new_refused profile (Index fault) old new value status before now e is r = rw (e, is) (record { delivers = r.delivers (refused_index fault) refl; faults = r.faults; unread = r.unread })
 new_refused profile Memory old new value status before now e is r = old_refused profile Memory old new status before now tt r
 
--- what comes and goes between two tables
-abbrev pub reported_by : TablesValue × TablesValue → EventValue → Text
-reported_by both event = differences event (answer_by both.0 event) (answer_by both.1 event)
+-- rules, and the entries of a database
+abbrev pub Tables : Type 0
+Tables = List Rule × List Entry
 
-pub finds_both : (profile : Profile) (messages said : Text) (both tables : TablesValue × TablesValue) (status : ℕ) (before now : Streams) → messages ≡ said → both ≡ tables → FindsAll messages (answers_as profile (reported_by both)) status before now → FindsAll said (answers_as profile (reported_by tables)) status before now
+-- what comes and goes between two tables
+abbrev pub reported_by : Tables × Tables → EventValue → Text
+reported_by both event = differences event (answer_by both.0.0 (known_by both.0.1) event) (answer_by both.1.0 (known_by both.1.1) event)
+
+pub finds_both : (profile : Profile) (messages said : Text) (both tables : Tables × Tables) (status : ℕ) (before now : Streams) → messages ≡ said → both ≡ tables → FindsAll messages (answers_as profile (reported_by both)) status before now → FindsAll said (answers_as profile (reported_by tables)) status before now
 finds_both profile messages said both tables status before now e f h = subst (λ m. FindsAll m (answers_as profile (reported_by tables)) status before now) e (subst (λ t. FindsAll messages (answers_as profile (reported_by t)) status before now) f h)

@@ -23,7 +23,8 @@ ComparesBy profile (Err said) new status before now = Reports said status before
 
 -- A comparison with the outcome of opening the index, by the old line's profile: what is written and returned is one
 -- function of the two lines, the files of each, the index and the input; and the same step by step.
-pub record ComparesOver (old_line new_line : Line) (old_files new_files : List SourceFile) (index : Option Text) (status : ℕ) (before now : Streams) : Type 0 where
+pub record ComparesOver (old_line new_line : Line) (old_files new_files : List SourceFile) (index : Option Text) (status : ℕ)
+    (before now : Streams) : Type 0 where
   pub opened : Option (Result Contents IndexFault)
   pub opens : Opens index opened
   pub serves : Serves (compare_outcome old_line.profile (opening old_line old_files opened) (opening new_line new_files opened)) status before now

@@ -11,9 +11,12 @@ ghost use Rattle.engine_sessions.specs.Sessions.{answers_as};
 
 use crate::compared::Compared;
 use crate::shared::Shared;
-use engine_core::{Tables, open_with_database};
+use builtin_core::Builtins;
+use engine_answers::Tables;
 use engine_ends::{Line, Sink, Source, report_out_of_memory};
-use engine_reports::{Refusal, RulesRead, deliver_refusal, open_index, open_rules};
+use engine_reports::{
+    Refusal, RulesRead, deliver_refusal, open_index, open_rules, open_with_database,
+};
 use engine_sessions::find_after_messages;
 use hwdb_lookup::Lookup;
 use index_reading::{Index, IndexFault};
@@ -126,7 +129,8 @@ fn compare_rules<L: Lookup + Drop, M: Lookup + Drop, R: Source, W: Sink, E: Sink
     output: &mut W,
     error: &mut E,
 ) -> u8
-    ensures { FindsAll (old.messages.items ++ new.messages.items) (answers_as profile (differences_by (shown_rules old (L.entries old_lookup)) (shown_rules new (M.entries new_lookup)))) result
+    ensures { FindsAll (old.messages.items ++ new.messages.items)
+        (answers_as profile (differences_by (shown_rules old (L.entries old_lookup)) (shown_rules new (M.entries new_lookup)))) result
         (record { input = R.shown input.old; out = W.shown output.old; err = E.shown error.old })
         (record { input = R.shown input.new; out = W.shown output.new; err = E.shown error.new }) }
 {
@@ -145,11 +149,11 @@ fn both_tables<L: Lookup + Drop, M: Lookup + Drop>(
     old_lookup: L,
     new: RulesRead,
     new_lookup: M,
-) -> Result<(Vec<u8>, Compared<Tables<L>, Tables<M>>), AllocError>
+) -> Result<(Vec<u8>, Compared<Tables<Builtins<L>>, Tables<Builtins<M>>>), AllocError>
     ensures messages { IfOk result (λ both. both.0.items ≡ old.messages.items ++ new.messages.items) }
     ensures tables { IfOk result (λ both. both.1 ≡ (
-      record { rules = old.rules.rules; entries = L.entries old_lookup },
-      record { rules = new.rules.rules; entries = M.entries new_lookup },
+      (old.rules.rules, L.entries old_lookup),
+      (new.rules.rules, M.entries new_lookup),
     )) }
 {
     let RulesRead {
@@ -161,8 +165,8 @@ fn both_tables<L: Lookup + Drop, M: Lookup + Drop>(
         rules: new_rules,
     } = new;
     messages.append(&mut more)?;
-    let old_tables = Tables::new(alloc, old_rules.into_rules(), old_lookup)?;
-    let new_tables = Tables::new(alloc, new_rules.into_rules(), new_lookup)?;
+    let old_tables = Tables::new(alloc, old_rules.into_rules(), Builtins::new(old_lookup))?;
+    let new_tables = Tables::new(alloc, new_rules.into_rules(), Builtins::new(new_lookup))?;
     Ok((messages, Compared::new(old_tables, new_tables)))
 }
 

@@ -2,6 +2,8 @@
 use Rattle.std.proofs.Common.{◌≡◌, ◌∙◌, ℕ, Bool, true, false, cond, List, inl, inr, refl, ap, subst, sym, Option, Result, Ok, Err}
 use Rattle.text_bytes.specs.declared.source_file.SourceFile.{SourceFile}
 use Rattle.text_tables.specs.Texts.{Text}
+use Rattle.hwdb_lookup.specs.declared.entry.Entry.{Entry}
+use Rattle.rule_types.specs.Rules.{Rule}
 use Rattle.device_core.specs.Values.{EventValue}
 use Rattle.engine_ends.specs.declared.line.Line.{Line}
 use Rattle.engine_ends.specs.Streams.{Streams, outputs}
@@ -20,9 +22,11 @@ use Rattle.engine_reports.specs.declared.refusal.Refusal.TheVariants.{TooManyEnt
 use Rattle.engine_sessions.specs.Serves.{AnswersAll, Serves}
 use Rattle.engine_sessions.specs.Sessions.{answers_as}
 use Rattle.engine_sessions.proofs.Serving.{answers_serve, reports_serve}
-use Rattle.engine_core.specs.Answering.{TablesValue, answer_by, questions_by}
-use Rattle.engine_core.specs.Outcomes.{answer_by_line, answer_with, asked_of, asks_more, before_input, outcome_as, outcome_by, reported_for, tables_of}
-use Rattle.engine_core.specs.Runs.{RunsAs, RunsBy}
+use Rattle.builtin_core.specs.Builtins.{known_by}
+use Rattle.engine_answers.specs.Answers.{answer_by}
+use Rattle.engine_questions.specs.Lines.{question_answer}
+use Rattle.engine_core.specs.Outcomes.{answer_by_line, answer_with, asked_of, asks_more, before_input, outcome, outcome_by, reads_modaliases, reported_for}
+use Rattle.engine_core.specs.Runs.{RunsBy}
 use Rattle.engine_core.specs.Reported.{ReportedValue, reported_by}
 
 runs_serve : (line : Line) (opened : Result OpeningValue RunOutcome) (status : ℕ) (before now : Streams) → RunsBy line opened status before now → Serves (outcome_by line opened) status before now
@@ -33,10 +37,19 @@ lookups_serve : (line : Line) (read : Result DatabaseValue RunOutcome) (status :
 lookups_serve line (Ok database) status before now r = r.serves
 lookups_serve line (Err said) status before now r = reports_serve (λ text. said) said status before now (λ text. refl) r
 
-pub runs_as : (reads : Bool) (line : Line) (files : List SourceFile) (opened : Option (Result Contents IndexFault)) (status : ℕ) (before now : Streams) → RunsAs reads line files opened status before now
-    → Serves (outcome_as reads line files opened) status before now
-runs_as true line files opened status before now r = lookups_serve line (database line files opened) status before now r
-runs_as false line files opened status before now r = runs_serve line (before_input line.verb line files opened) status before now r
+-- a run that looks up the modaliases of its input serves
+pub look_ups_serve : (line : Line) (files : List SourceFile) (opened : Option (Result Contents IndexFault)) (status : ℕ) (before now : Streams) → reads_modaliases line ≡ true → LooksUpBy line (database line files opened) status before now
+    → Serves (outcome line files opened) status before now
+look_ups_serve line files opened status before now e r =
+    subst (λ (v : Bool). Serves (λ input. cond v (lookups_by line (database line files opened) input) (outcome_by line (before_input line.verb line files opened) input)) status before now) (sym e)
+    (lookups_serve line (database line files opened) status before now r)
+
+-- any other run serves
+pub others_serve : (line : Line) (files : List SourceFile) (opened : Option (Result Contents IndexFault)) (status : ℕ) (before now : Streams) → reads_modaliases line ≡ false → RunsBy line (before_input line.verb line files opened) status before now
+    → Serves (outcome line files opened) status before now
+others_serve line files opened status before now e r =
+    subst (λ (v : Bool). Serves (λ input. cond v (lookups_by line (database line files opened) input) (outcome_by line (before_input line.verb line files opened) input)) status before now) (sym e)
+    (runs_serve line (before_input line.verb line files opened) status before now r)
 
 -- what is said without a look at the input
 pub report_runs : (line : Line) (begun : Result OpeningValue RunOutcome) (said : RunOutcome) (report : Result Report Refusal) (status : ℕ) (before now : Streams) → begun ≡ Err said → ((outcome : RunOutcome) → IsReport outcome report → Delivers outcome status (outputs before) (outputs now))
@@ -67,19 +80,21 @@ answered_runs line opening messages answer status before now m a h =
     subst (λ u. AnswersAll u (answer_with line opening) status before now) m (subst (λ (f : EventValue → Text). AnswersAll messages (answers_as line.profile f) status before now) a h)
 
 -- a line that asks for questions is answered with these
-pub asked_runs : (line : Line) (opening : OpeningValue) (messages : Text) (tables : TablesValue) (status : ℕ) (before now : Streams) → line.questions ≡ true → messages ≡ opening.messages → tables ≡ tables_of opening
-    → AnswersAll messages (answers_as line.profile (questions_by tables)) status before now → AnswersAll opening.messages (answer_with line opening) status before now
+pub asked_runs : (line : Line) (opening : OpeningValue) (messages : Text) (tables : List Rule × List Entry) (status : ℕ) (before now : Streams) → line.questions ≡ true → messages ≡ opening.messages → tables ≡ (opening.rules, opening.entries)
+    → AnswersAll messages (answers_as line.profile (question_answer tables.0 (known_by tables.1))) status before now → AnswersAll opening.messages (answer_with line opening) status before now
 asked_runs line opening messages tables status before now q m t h =
-    let other : EventValue → Text = cond (asks_more line) (reported_by (reported_for line opening)) (answer_by (tables_of opening)) in
-    answered_runs line opening messages (questions_by tables) status before now m
-    (ap questions_by t ∙ ap (λ b. cond b (questions_by (tables_of opening)) other) (sym q)) h
+    let other : EventValue → Text = cond (asks_more line) (reported_by (reported_for line opening) (known_by opening.entries)) (answer_by opening.rules (known_by opening.entries)) in
+    answered_runs line opening messages (question_answer tables.0 (known_by tables.1)) status before now m
+    (ap (λ (t : List Rule × List Entry). question_answer t.0 (known_by t.1)) t ∙ ap (λ b. cond b (question_answer opening.rules (known_by opening.entries)) other) (sym q)) h
 
 -- a line that asks for more is answered with that
-pub reported_runs : (line : Line) (opening : OpeningValue) (messages : Text) (tables : ReportedValue) (status : ℕ) (before now : Streams) → line.questions ≡ false → asks_more line ≡ true → messages ≡ opening.messages
-    → tables ≡ reported_for line opening → AnswersAll messages (answers_as line.profile (reported_by tables)) status before now → AnswersAll opening.messages (answer_with line opening) status before now
+pub reported_runs : (line : Line) (opening : OpeningValue) (messages : Text) (tables : ReportedValue × List Entry) (status : ℕ) (before now : Streams) → line.questions ≡ false → asks_more line ≡ true → messages ≡ opening.messages
+    → tables ≡ (reported_for line opening, opening.entries) → AnswersAll messages (answers_as line.profile (reported_by tables.0 (known_by tables.1))) status before now → AnswersAll opening.messages (answer_with line opening) status before now
 reported_runs line opening messages tables status before now q a m t h =
-    let asked : EventValue → Text = questions_by (tables_of opening) in
-    answered_runs line opening messages (reported_by tables) status before now m
-    (ap reported_by t
-    ∙ ap (λ b. cond b (reported_by (reported_for line opening)) (answer_by (tables_of opening))) (sym a)
-    ∙ ap (λ b. cond b asked (cond (asks_more line) (reported_by (reported_for line opening)) (answer_by (tables_of opening)))) (sym q)) h
+    let asked : EventValue → Text = question_answer opening.rules (known_by opening.entries) in
+    let more : EventValue → Text = reported_by (reported_for line opening) (known_by opening.entries) in
+    let alone : EventValue → Text = answer_by opening.rules (known_by opening.entries) in
+    answered_runs line opening messages (reported_by tables.0 (known_by tables.1)) status before now m
+    (ap (λ (t : ReportedValue × List Entry). reported_by t.0 (known_by t.1)) t
+    ∙ ap (λ b. cond b more alone) (sym a)
+    ∙ ap (λ b. cond b asked (cond (asks_more line) more alone)) (sym q)) h

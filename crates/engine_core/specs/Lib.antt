@@ -1,4 +1,3 @@
-pub mod Answering
 pub mod Reported
 pub mod Runs
 pub mod Checking

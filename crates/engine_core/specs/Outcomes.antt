@@ -15,10 +15,12 @@ use Rattle.engine_lookups.specs.Databases.{lookups_by}
 use Rattle.engine_reports.specs.Databases.{database}
 use Rattle.engine_reports.specs.Openings.{OpeningValue, opening}
 use Rattle.engine_reports.specs.Outcomes.{query_over, usage_error}
+use Rattle.builtin_core.specs.Builtins.{known_by}
+use Rattle.engine_answers.specs.Answers.{answer_by}
 use Rattle.engine_courses.specs.Asked.{unknown}
-use Rattle.engine_core.specs.Answering.{TablesValue, answer_by, questions_by}
 use Rattle.engine_core.specs.Checking.{update_said, verify_said}
 use Rattle.engine_core.specs.Reported.{ReportedValue, reported_by}
+use Rattle.engine_questions.specs.Lines.{question_answer}
 use Rattle.engine_sessions.specs.Outcomes.{input_outcome}
 use Rattle.engine_sessions.specs.Sessions.{answers_as}
 
@@ -26,24 +28,26 @@ use Rattle.engine_sessions.specs.Sessions.{answers_as}
 abbrev pub why_of : Line → List Text
 why_of line = map (λ w. w.now) line.why.items
 
--- the rules and entries of an opening
-abbrev pub tables_of : OpeningValue → TablesValue
-tables_of opening = record { rules = opening.rules; entries = opening.entries }
-
--- these, with the messages about the rules and what a line asks for
+-- what a line asks for in addition to the answers, and by what these are made
 abbrev pub reported_for : Line → OpeningValue → ReportedValue
-reported_for line opening = record { sources = line.sources; why = why_of line; messages = opening.about_rules; rules = opening.rules; entries = opening.entries }
+reported_for line opening = record {
+  sources = line.sources;
+  why = why_of line;
+  messages = opening.about_rules;
+  rules = opening.rules;
+}
 
 -- whether a line asks for more than the answers
 abbrev pub asks_more : Line → Bool
 asks_more line = line.sources || not (vec_len line.why == 0)
 
--- the answer to an event by what an opening has: the questions of the rules if the line asks for these, otherwise the outcome of the event
--- with what else the line asks for
+-- the answer to an event by what an opening has: the questions of the rules if the line asks for these, otherwise the
+-- outcome of the event with what else the line asks for
 abbrev pub answer_by_line : Line → OpeningValue → EventValue → Text
 answer_by_line line opening =
-    if line.questions then questions_by (tables_of opening)
-    else (if asks_more line then reported_by (reported_for line opening) else answer_by (tables_of opening))
+    let known = known_by opening.entries in
+    if line.questions then question_answer opening.rules known
+    else (if asks_more line then reported_by (reported_for line opening) known else answer_by opening.rules known)
 
 -- the same, with rules evaluated by the line's profile
 abbrev pub answer_with : Line → OpeningValue → EventValue → Text
@@ -82,11 +86,8 @@ is_query _ = false
 abbrev pub reads_modaliases : Line → Bool
 reads_modaliases line = is_query line.verb && bytes_eq line.modalias.now (codes "-")
 
--- the outcome of a run, by whether it looks up the modaliases of its input
-abbrev pub outcome_as : Bool → Line → List SourceFile → Option (Result Contents IndexFault) → Text → RunOutcome
-outcome_as true line files opened input = lookups_by line (database line files opened) input
-outcome_as false line files opened input = outcome_by line (before_input line.verb line files opened) input
-
 -- the outcome of a run over the files passed in, the outcome of opening an index and an input
 abbrev pub outcome : Line → List SourceFile → Option (Result Contents IndexFault) → Text → RunOutcome
-outcome line files opened input = outcome_as (reads_modaliases line) line files opened input
+outcome line files opened input =
+    if reads_modaliases line then lookups_by line (database line files opened) input
+    else outcome_by line (before_input line.verb line files opened) input

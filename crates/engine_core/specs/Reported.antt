@@ -3,30 +3,26 @@ use Rattle.std.specs.Prelude.{Bool, if◌then◌else◌, List, [], ◌∷◌, �
 use Rattle.text_bytes.specs.Names.{newline}
 use Rattle.file_messages.specs.declared.message.Message.{Message}
 use Rattle.text_tables.specs.Texts.{Text}
-use Rattle.hwdb_lookup.specs.declared.entry.Entry.{Entry}
+use Rattle.builtin_devices.specs.Knowledge.{Known}
 use Rattle.rule_types.specs.Rules.{Rule}
 use Rattle.device_core.specs.Values.{EventValue}
-use Rattle.builtin_core.specs.Builtins.{known_by}
 use Rattle.eval_rules.specs.Outcomes.{outcome}
-use Rattle.engine_answers.specs.Answers.{answer_lines}
+use Rattle.engine_answers.specs.Answers.{answer_lines, sourced_lines}
 use Rattle.engine_courses.specs.WhyLines.{why_lines}
-use Rattle.engine_sources.specs.Answers.{sourced_lines}
 
 -- what is asked for, whether sources and for which rules what they met, and what events are answered by: the messages
--- about the rules, the rules, and the entries of the database
+-- about the rules, and the rules
 pub record ReportedValue : Type 0 where
   pub sources : Bool
   pub why : List Text
   pub messages : List Message
   pub rules : List Rule
-  pub entries : List Entry
 
 -- the lines of an answer, with sources or without
-abbrev pub lines_reported : Bool → List Rule → List Entry → EventValue → Text
-lines_reported sources rules entries event =
-    if sources then sourced_lines rules (known_by entries) event
-    else answer_lines event (outcome rules (known_by entries) event)
+abbrev pub lines_reported : Bool → List Rule → Known → EventValue → Text
+lines_reported sources rules known event =
+    if sources then sourced_lines rules known event else answer_lines event (outcome rules known event)
 
--- the answer to an event: its lines, then what the rules that are asked for met, and an empty line
-abbrev pub reported_by : ReportedValue → EventValue → Text
-reported_by t event = lines_reported t.sources t.rules t.entries event ++ why_lines t.why t.messages t.rules (known_by t.entries) event ++ newline ∷ []
+-- the answer to an event, by what is known beyond it: its lines, then what the rules that are asked for met, and an empty line
+abbrev pub reported_by : ReportedValue → Known → EventValue → Text
+reported_by t known event = lines_reported t.sources t.rules known event ++ why_lines t.why t.messages t.rules known event ++ newline ∷ []

@@ -1,5 +1,5 @@
 -- A run step by step.
-use Rattle.std.specs.Prelude.{ℕ, Bool, true, false, List, Option, Result, Ok, Err}
+use Rattle.std.specs.Prelude.{◌≡◌, ℕ, true, false, List, Option, Result, Ok, Err}
 use Rattle.text_bytes.specs.declared.source_file.SourceFile.{SourceFile}
 use Rattle.text_tables.specs.Texts.{Text}
 use Rattle.index_reading.specs.declared.fault.IndexFault.{IndexFault}
@@ -19,15 +19,11 @@ abbrev pub RunsBy : Line → Result OpeningValue RunOutcome → ℕ → Streams 
 RunsBy line (Ok opening) status before now = AnswersAll opening.messages (answer_with line opening) status before now
 RunsBy line (Err said) status before now = Reports said status before now
 
--- a run of a line, by whether it looks up the modaliases of its input
-abbrev pub RunsAs : Bool → Line → List SourceFile → Option (Result Contents IndexFault) → ℕ → Streams → Streams → Type 0
-RunsAs true line files opened status before now = LooksUpBy line (database line files opened) status before now
-RunsAs false line files opened status before now = RunsBy line (before_input line.verb line files opened) status before now
-
 -- A run over the outcome of opening its index: what is written and answered is one function of the line, the files,
--- the index and the input, also step by step.
+-- the index and the input, also step by step, whether it looks up the modaliases of its input or not.
 pub record RunsOver (line : Line) (files : List SourceFile) (index : Option Text) (status : ℕ) (before now : Streams) : Type 0 where
   pub opened : Option (Result Contents IndexFault)
   pub opens : Opens index opened
   pub serves : Serves (outcome line files opened) status before now
-  pub steps : RunsAs (reads_modaliases line) line files opened status before now
+  pub looks_up : reads_modaliases line ≡ true → LooksUpBy line (database line files opened) status before now
+  pub runs : reads_modaliases line ≡ false → RunsBy line (before_input line.verb line files opened) status before now

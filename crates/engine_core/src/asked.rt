@@ -1,50 +1,47 @@
-//! Rules as they were read and a database, as one thing that says of events what the rules ask.
+//! Rules as they were read, and what is known beyond an event, as one thing that says of events what the rules ask.
 ghost use Rattle.std.specs.Prelude.{◌≡◌};
 
-use builtin_core::Builtins;
+use builtin_devices::Knowledge;
 use device_core::Event;
 use engine_questions::question_answer;
 use engine_sessions::Answering;
-use hwdb_lookup::Lookup;
 use rule_types::RuleSet;
 use std::alloc::{AllocError, Global};
 use std::marker::Model;
 use text_bytes::Bytes;
 
-/// Rules and a database, by which each event is answered with the commands that the rules ask for and its block does not
+/// Rules and what is known beyond an event, by which each event is answered with the commands that the rules ask for and its block does not
 /// answer.
 #[derive(Drop)]
-pub struct AskedTables<L: Lookup> {
+pub struct AskedTables<K: Knowledge> {
     rules: RuleSet,
-    builtins: Builtins<L>,
+    knowledge: K,
 }
 
-impl<L: Lookup> Model for AskedTables<L> {
-    ghost use Rattle.engine_core.specs.Answering.{TablesValue};
+impl<K: Knowledge> Model for AskedTables<K> {
+    ghost use Rattle.std.specs.Prelude.{List};
+    ghost use Rattle.rule_types.specs.Rules.{Rule};
 
-    ghost Value = { TablesValue };
+    ghost Value = { List Rule × K };
 
-    ghost view = { λ t. record { rules = t.rules; entries = t.builtins } };
+    ghost view = { λ t. (t.rules, t.knowledge) };
 }
 
-impl<L: Lookup + Drop> AskedTables<L> {
-    /// The rules and the database that say what is asked.
-    pub fn new(rules: RuleSet, lookup: L) -> AskedTables<L>
-        ensures { result ≡ record { rules = rules; entries = L.entries lookup } }
+impl<K: Knowledge + Drop> AskedTables<K> {
+    /// The rules and the knowledge that say what is asked.
+    pub fn new(rules: RuleSet, knowledge: K) -> AskedTables<K>
+        ensures { result ≡ (rules, knowledge) }
     {
-        AskedTables {
-            rules,
-            builtins: Builtins::new(lookup),
-        }
+        AskedTables { rules, knowledge }
     }
 }
 
-impl<L: Lookup> Answering for AskedTables<L> {
-    ghost use Rattle.engine_core.specs.Answering.{questions_by};
+impl<K: Knowledge> Answering for AskedTables<K> {
+    ghost use Rattle.engine_questions.specs.Lines.{question_answer};
 
-    ghost answers = { questions_by };
+    ghost answers = { λ tables. question_answer tables.0 (K.known tables.1) };
 
     fn answer(&self, alloc: Global, event: &Event<'_>) -> Result<Bytes, AllocError> {
-        question_answer(alloc, &self.rules, event, &self.builtins)
+        question_answer(alloc, &self.rules, event, &self.knowledge)
     }
 }

@@ -1,5 +1,5 @@
 //! `events`: the messages, and then the answers to the blocks of the input.
-ghost use Rattle.std.specs.Prelude.{◌≡◌, true, false, Ok, IfOk, IfErr, None, Some, Result};
+ghost use Rattle.std.specs.Prelude.{◌≡◌, true, false, Ok, IfOk, IfErr, Some, Result};
 ghost use Rattle.engine_ends.specs.Delivery.{RunOutcome};
 ghost use Rattle.engine_core.specs.Outcomes.{answer_with, asked_of, why_of};
 ghost use Rattle.engine_core.specs.Runs.{RunsBy};
@@ -10,18 +10,18 @@ ghost use Rattle.engine_sessions.specs.Serves.{AnswersAll};
 
 use crate::asked::AskedTables;
 use crate::reported::ReportedTables;
-use crate::tables::Tables;
+use builtin_core::Builtins;
+use engine_answers::Tables;
 use engine_courses::first_unknown;
 use engine_ends::{Line, Sink, Source, report_out_of_memory};
 use engine_reports::{
-    Opening, Refusal, RulesRead, deliver_refusal, deliver_usage_error, open_files, open_rules,
+    Refusal, RulesRead, deliver_refusal, deliver_usage_error, open_rules, open_with_database,
 };
 use engine_sessions::answer_after_messages;
 use hwdb_lookup::Lookup;
 use index_reading::{Index, IndexFault};
 use std::alloc::Global;
 use text_bytes::SourceFile;
-use trie_build::{Trie, trie_of};
 
 /// Reads what events are answered by, writes the messages about it, answers the input, both by the line's profile,
 /// and returns the status to exit with. The database is the index that was opened, or otherwise that of the files.
@@ -138,7 +138,7 @@ fn ask_by_rules<L: Lookup + Drop, R: Source, W: Sink, E: Sink>(
         (record { input = R.shown input.new; out = W.shown output.new; err = E.shown error.new }) }
 {
     let RulesRead { messages, rules } = read;
-    let tables = AskedTables::new(rules.into_rules(), lookup);
+    let tables = AskedTables::new(rules.into_rules(), Builtins::new(lookup));
     answer_after_messages(
         alloc,
         line.profile,
@@ -169,10 +169,11 @@ fn report_by_rules<L: Lookup + Drop, R: Source, W: Sink, E: Sink>(
     let RulesRead { messages, rules } = read;
     let profile = line.profile;
     if line.sources || !line.why.is_empty() {
-        let tables = ReportedTables::new(line.sources, &line.why, rules, lookup);
+        let builtins = Builtins::new(lookup);
+        let tables = ReportedTables::new(line.sources, &line.why, rules, builtins);
         return answer_after_messages(alloc, profile, &messages, &tables, input, output, error);
     }
-    match Tables::new(alloc, rules.into_rules(), lookup) {
+    match Tables::new(alloc, rules.into_rules(), Builtins::new(lookup)) {
         Ok(tables) => answer_after_messages(
             alloc, profile, &messages, &tables, input, output, error,
         ),
@@ -180,28 +181,7 @@ fn report_by_rules<L: Lookup + Drop, R: Source, W: Sink, E: Sink>(
     }
 }
 
-/// The rules and the messages about the files passed in, and the database that these hold.
-///
-/// There is `TooManyEntries` exactly if the files of the database hold more than they may, otherwise `TooManyRules`
-/// exactly if the rules have more than 2^24 tokens; `Memory` if memory runs out.
-pub fn open_with_database(
-    alloc: Global,
-    line: &Line<'_>,
-    files: Vec<SourceFile>,
-) -> Result<(RulesRead, Trie), Refusal>
-    ensures opening { IfOk result (λ r. opening line.now files.items None ≡ Ok (shown_rules r.0 r.1.entries)) }
-    ensures refused { IfErr result (λ e. IsRefused e (opening line.now files.items None)) }
-{
-    let Opening {
-        messages,
-        rules,
-        entries,
-    } = open_files(alloc, line, files)?;
-    let database = trie_of(alloc, entries)?;
-    Ok((RulesRead { messages, rules }, database))
-}
-
-/// The same if the database is an index: of the files only rules are read.
+/// The rules and the messages about the files passed in, if the database is an index: of the files only rules are read.
 fn open_beside<'a>(
     alloc: Global,
     line: &Line<'_>,

@@ -13,17 +13,15 @@ mod checking;
 mod events;
 mod reported;
 mod serving;
-mod tables;
 
 pub use asked::AskedTables;
+pub use engine_answers::Tables;
 pub use engine_ends::{
     DeviceFault, Format, Line, LineFault, MemorySink, MemorySource, Request, Sink, SinkOver,
     Source, SourceOver, Verb, deliver, hand_on, hand_on_each, report_failure, report_in_pieces,
     report_out_of_memory, write_all,
 };
 pub use engine_sessions::{Answering, Session, SessionFault, Step, TurnFault, turn};
-pub use events::open_with_database;
 pub use index_reading::{Index, IndexFault};
 pub use reported::ReportedTables;
 pub use serving::serve;
-pub use tables::Tables;

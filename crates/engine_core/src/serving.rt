@@ -1,7 +1,7 @@
 //! The whole run.
 ghost use Rattle.std.specs.Prelude.{◌≡◌, false, option_map};
 ghost use Rattle.engine_core.specs.Outcomes.{before_input, reads_modaliases};
-ghost use Rattle.engine_core.specs.Runs.{RunsAs, RunsBy, RunsOver};
+ghost use Rattle.engine_core.specs.Runs.{RunsBy, RunsOver};
 
 use crate::checking::{report_on_index, report_on_verify};
 use crate::events::serve_events;
@@ -51,7 +51,11 @@ pub fn serve<R: Source, W: Sink, E: Sink>(
         (record { input = R.shown input.new; out = W.shown output.new; err = E.shown error.new }) }
     ensures untouched { (line.now.verb ≡ Verb.Events → ⊥) → reads_modaliases line.now ≡ false → input.new ≡ input.old }
 {
-    serve_opened(alloc, line, files, open_index(index), input, output, error)
+    let opened = open_index(index);
+    if reads_modaliases(line) {
+        return serve_lookups(alloc, line, files, opened, input, output, error);
+    }
+    serve_verb(alloc, line, files, opened, input, output, error)
 }
 
 /// Whether a line looks up the modaliases that its input has.
@@ -61,28 +65,7 @@ fn reads_modaliases(line: &Line<'_>) -> bool
     line.verb == Verb::Query && line.modalias == "-"
 }
 
-/// The same, by the outcome of opening the index.
-fn serve_opened<R: Source, W: Sink, E: Sink>(
-    alloc: Global,
-    line: &Line<'_>,
-    files: Vec<SourceFile>,
-    opened: Option<Result<Index<'_>, IndexFault>>,
-    input: &mut R,
-    output: &mut W,
-    error: &mut E,
-) -> u8
-    ensures runs { RunsAs (reads_modaliases line.now) line.now files.items opened.entry result
-        (record { input = R.shown input.old; out = W.shown output.old; err = E.shown error.old })
-        (record { input = R.shown input.new; out = W.shown output.new; err = E.shown error.new }) }
-    ensures untouched { (line.now.verb ≡ Verb.Events → ⊥) → reads_modaliases line.now ≡ false → input.new ≡ input.old }
-{
-    if reads_modaliases(line) {
-        return serve_lookups(alloc, line, files, opened, input, output, error);
-    }
-    serve_verb(alloc, line, files, opened, input, output, error)
-}
-
-/// A run that looks up no modaliases of its input.
+/// A run that looks up no modaliases of its input, by the outcome of opening the index.
 fn serve_verb<R: Source, W: Sink, E: Sink>(
     alloc: Global,
     line: &Line<'_>,

@@ -48,7 +48,8 @@ pub fn push_why_lines<K: Knowledge>(
     event: &Event<'_>,
     knowledge: &K,
 ) -> Result<(), AllocError>
-    ensures { OnOk result (lines.new.items ≡ lines.old.items ++ why_lines (map (λ t. t.now) why.now) rules.now.messages rules.now.rules (K.known knowledge.now) event.now) }
+    ensures { OnOk result (lines.new.items ≡ lines.old.items ++ why_lines (map (λ t. t.now) why.now) rules.now.messages rules.now.rules
+        (K.known knowledge.now) event.now) }
 {
     push_unread_lines(alloc, lines, why, rules.messages(), rules.rules().rules())?;
     report_event(alloc, lines, why, rules.rules().rules(), event, knowledge)

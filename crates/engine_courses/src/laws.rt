@@ -12,19 +12,22 @@ ghost use Rattle.engine_courses.specs.WhyLines.{reported_for, why_lines};
 /// A text is unknown if and only if it asks for no rule and for no message's place.
 #[tactic(auto, using(crate::proofs::Known::known_is))]
 pub fn unknown_asks_for_nothing()
-    ensures { (text : Text) (reported : List messages.Message) (read : List rules.Rule) → is_none (unknown (text ∷ []) reported read) ≡ (list_any (λ r. is_asked (text ∷ []) r.file r.line) read || list_any (λ m. is_asked (text ∷ []) m.file m.line) reported) }
+    ensures { (text : Text) (reported : List messages.Message) (read : List rules.Rule) → is_none (unknown (text ∷ []) reported read)
+        ≡ (list_any (λ r. is_asked (text ∷ []) r.file r.line) read || list_any (λ m. is_asked (text ∷ []) m.file m.line) reported) }
 {}
 
 /// Of several texts the first unknown one is reported.
 #[tactic(auto, using(crate::proofs::Known::first_is))]
 pub fn first_unknown_is_reported()
-    ensures { (text : Text) (why : List Text) (reported : List messages.Message) (read : List rules.Rule) → unknown (text ∷ why) reported read ≡ (if is_none (unknown (text ∷ []) reported read) then unknown why reported read else unknown (text ∷ []) reported read) }
+    ensures { (text : Text) (why : List Text) (reported : List messages.Message) (read : List rules.Rule) → unknown (text ∷ why) reported read
+        ≡ (if is_none (unknown (text ∷ []) reported read) then unknown why reported read else unknown (text ∷ []) reported read) }
 {}
 
 /// Rules that are not asked for have no line.
 #[tactic(auto, using(crate::proofs::Reported::asked_alone))]
 pub fn rules_are_reported_where_asked()
-    ensures { (why : List Text) (read : List rules.Rule) (known : Known) (event : EventValue) → list_all (λ reported. is_asked why reported.0.file reported.0.line) (reported_for why read known event) ≡ true }
+    ensures { (why : List Text) (read : List rules.Rule) (known : Known) (event : EventValue)
+        → list_all (λ reported. is_asked why reported.0.file reported.0.line) (reported_for why read known event) ≡ true }
 {}
 
 /// If nothing is asked for, nothing is reported.

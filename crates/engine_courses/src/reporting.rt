@@ -42,7 +42,8 @@ fn report_passed(
     jumping: Option<&Rule>,
     rule: &Rule,
 ) -> Result<(), AllocError>
-    ensures { OnOk result (lines.new.items ≡ lines.old.items ++ flat_map rule_lines (reported_if_asked (map (λ t. t.now) why.now) rule.now (passed_texts (option_map (λ r. r.now) jumping.entry)))) }
+    ensures { OnOk result (lines.new.items ≡ lines.old.items
+        ++ flat_map rule_lines (reported_if_asked (map (λ t. t.now) why.now) rule.now (passed_texts (option_map (λ r. r.now) jumping.entry)))) }
 {
     if is_asked(why, rule.file(), rule.line()) {
         push_passed(alloc, lines, jumping, rule)?;
@@ -61,7 +62,9 @@ fn report_rule<'a, K: Knowledge>(
     scene: &mut Scene<'a>,
 ) -> Result<bool, AllocError>
     ensures scene { IfOk result (λ on. (scene.new, on) ≡ apply (K.known knowledge.now) rule.now scene.old) }
-    ensures lines { OnOk result (lines.new.items ≡ lines.old.items ++ flat_map rule_lines (reported_if_asked (map (λ t. t.now) why.now) rule.now (course (K.known knowledge.now) since.now rule.now scene.old))) }
+    ensures lines { OnOk result (lines.new.items
+        ≡ lines.old.items ++ flat_map rule_lines
+        (reported_if_asked (map (λ t. t.now) why.now) rule.now (course (K.known knowledge.now) since.now rule.now scene.old))) }
 {
     if !is_asked(why, rule.file(), rule.line()) {
         return apply(alloc, rule, knowledge, scene);
@@ -80,7 +83,8 @@ fn report_rules<'a, K: Knowledge>(
     knowledge: &K,
     scene: &mut Scene<'a>,
 ) -> Result<(), AllocError>
-    ensures { OnOk result (lines.new.items ≡ lines.old.items ++ flat_map rule_lines (reported_from (map (λ t. t.now) why.now) (K.known knowledge.now) no_since None rules.now scene.old)) }
+    ensures { OnOk result (lines.new.items ≡ lines.old.items
+        ++ flat_map rule_lines (reported_from (map (λ t. t.now) why.now) (K.known knowledge.now) no_since None rules.now scene.old)) }
 {
     let mut since = Since::new();
     let mut jumping = None;
@@ -105,7 +109,8 @@ pub(crate) fn report_event<'a, K: Knowledge>(
     event: &'a Event<'_>,
     knowledge: &K,
 ) -> Result<(), AllocError>
-    ensures { OnOk result (lines.new.items ≡ lines.old.items ++ flat_map rule_lines (reported_for (map (λ t. t.now) why.now) rules.now (K.known knowledge.now) event.now)) }
+    ensures { OnOk result (lines.new.items ≡ lines.old.items
+        ++ flat_map rule_lines (reported_for (map (λ t. t.now) why.now) rules.now (K.known knowledge.now) event.now)) }
 {
     let mut scene = Scene::new(alloc, event)?;
     let reported = report_rules(alloc, lines, why, rules, knowledge, &mut scene);

@@ -36,10 +36,10 @@ pub record FailsAtMessages (outcome : RunOutcome) (before now : Outputs) : Type 
 
 -- The output failed after all messages were written: its line follows them, as far as the error output takes it.
 pub record FailsAtOutput (outcome : RunOutcome) (status : ℕ) (before now : Outputs) : Type 0 where
-  pub reported : SinkState
-  pub messages : HandsOn before.err outcome.messages reported
+  pub after : SinkState
+  pub messages : HandsOn before.err outcome.messages after
   pub output : BreaksOff before.out outcome.output now.out
-  pub line : ReportsFailure write_failed 3 status reported now.err
+  pub line : ReportsFailure write_failed 3 status after now.err
 
 -- Memory ran out: no part of the outcome is written, and the line that says so is, as far as the error output takes
 -- it.

@@ -40,7 +40,8 @@ impl<R: Read> Source for SourceOver<R> {
 
     fn read(&mut self, into: &mut [u8]) -> Result<usize, DeviceFault>
         ensures within { IfOk result (λ n. n ≤ length into.old) }
-        ensures gives { IfOk result (λ n. Gives (unreported_source self.old.made self.old.faults) (take n into.new) (unreported_source self.new.made self.new.faults)) }
+        ensures gives { IfOk result (λ n. Gives (unreported_source self.old.made self.old.faults) (take n into.new)
+            (unreported_source self.new.made self.new.faults)) }
         ensures end { IfOk result (λ n. n ≡ 0 → NoneLeft (unreported_source self.old.made self.old.faults).left) }
         ensures fails { OnErr result (SourceFails (unreported_source self.old.made self.old.faults) (unreported_source self.new.made self.new.faults)) }
         ensures bytes { ReadConsumes (R.remaining self.old.reader) (R.remaining self.new.reader) result into.new }

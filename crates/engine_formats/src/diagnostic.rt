@@ -1,6 +1,7 @@
 //! A diagnostic: what is said about a place in a file.
 
 use crate::remark::Remark;
+use engine_reports::Named;
 use text_bytes::Bytes;
 
 /// What is said about a place in a file.
@@ -26,4 +27,12 @@ pub struct Diagnostic<'a> {
     pub remark: Remark,
     /// The part of the file that it is about, whole and not escaped.
     pub word: Bytes,
+}
+
+impl<'a> Named for Diagnostic<'a> {
+    ghost name = { λ d. d.name.now };
+
+    fn file_name(&self) -> &[u8] {
+        self.name
+    }
 }

@@ -13,8 +13,7 @@ ghost use Rattle.eval_effects.specs.Items.{items};
 ghost use Rattle.eval_sources.specs.Sources.{Stage, is_present_throughout, source_of};
 ghost use Rattle.eval_effects.specs.Items.{is_present};
 ghost use Rattle.eval_sources.specs.Reported.{stages};
-ghost use Rattle.engine_answers.specs.Answers.{answer_lines};
-ghost use Rattle.engine_sources.specs.Answers.{lines_by};
+ghost use Rattle.engine_answers.specs.Answers.{answer_lines, lines_by};
 
 /// Taking the sources away gives the answer: with nothing before any line, the lines are those of the
 /// answer, each once and in their order.

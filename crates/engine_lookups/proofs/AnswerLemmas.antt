@@ -85,9 +85,9 @@ first_empty [] second e = refl
 first_empty (byte ∷ first) second e = absurd cc
 
 -- what was written first is flushed first
-pub flushed_first : (before reported now : SinkState) (first second : Text) → now.flushed ≡ reported.flushed → WritesOut before (first ++ second) reported → HasFlushed before first now
-flushed_first before reported now first second e (inl h) = inr (second, e ∙ h.flushed ∙ h.taken)
-flushed_first before reported now first second e (inr p) = inl (first_empty first second p.0)
+pub flushed_first : (before after now : SinkState) (first second : Text) → now.flushed ≡ after.flushed → WritesOut before (first ++ second) after → HasFlushed before first now
+flushed_first before after now first second e (inl h) = inr (second, e ∙ h.flushed ∙ h.taken)
+flushed_first before after now first second e (inr p) = inl (first_empty first second p.0)
 
 -- the line on a line that is too long, piece by piece
 pub too_long_pieces : (number : ℕ) → too_long_line number ≡ codes "devdry: line " ++ (decimal number ++ (codes ": too long" ++ (newline ∷ [] ++ [])))

@@ -71,10 +71,10 @@ first_open : IsOpen first_line
 first_open = record { none = refl; fits = omega arith }
 
 -- the lines that ended in the pieces are answered in front of what was written then
-has_answered : (answer : Text → Text) (read : List Text) (held : HeldLine) (output sink reported now : SinkState) (more : Text) → Answers answer first_line (joined read) held output sink → WritesOut sink more reported → now.flushed ≡ reported.flushed → HasAnswered answer read output now
-has_answered answer read held output sink reported now more a w e =
+has_answered : (answer : Text → Text) (read : List Text) (held : HeldLine) (output sink after now : SinkState) (more : Text) → Answers answer first_line (joined read) held output sink → WritesOut sink more after → now.flushed ≡ after.flushed → HasAnswered answer read output now
+has_answered answer read held output sink after now more a w e =
     subst (λ ls. HasFlushed output (flat_map answer ls) now) (sym (ended_are (joined read) a.ended held.bytes a.cut))
-    (flushed_first output reported now (flat_map answer a.ended) more e (writes-after output sink reported (flat_map answer a.ended) more a.writes w))
+    (flushed_first output after now (flat_map answer a.ended) more e (writes-after output sink after (flat_map answer a.ended) more a.writes w))
 
 -- the same of all pieces but the last
 has_answered_due : (answer : Text → Text) (read : List Text) (piece : Text) (output now : SinkState) → HasAnswered answer read output now → HasAnswered answer (all_but_last (read ++ piece ∷ [])) output now
@@ -136,18 +136,18 @@ finished answer turns held input now later output sink sink_later t e =
     }
 
 -- if it stops, nothing more is flushed than the answers before
-stops_flushed : (answer : Text → Text) (fault : LookupFault) (number : ℕ) (others : List Text) (reported now : SinkState) → StopsBy answer fault number others reported now → now.flushed ≡ reported.flushed
-stops_flushed answer Read number others reported now s = absurd s
-stops_flushed answer Write number others reported now s = s.breaks.flushed
-stops_flushed answer (TooLong counted) number others reported now s = ap (λ sink. sink.flushed) s.untouched
-stops_flushed answer Memory number others reported now s = ap (λ sink. sink.flushed) s
+stops_flushed : (answer : Text → Text) (fault : LookupFault) (number : ℕ) (others : List Text) (after now : SinkState) → StopsBy answer fault number others after now → now.flushed ≡ after.flushed
+stops_flushed answer Read number others after now s = absurd s
+stops_flushed answer Write number others after now s = s.breaks.flushed
+stops_flushed answer (TooLong counted) number others after now s = ap (λ sink. sink.flushed) s.untouched
+stops_flushed answer Memory number others after now s = ap (λ sink. sink.flushed) s
 
 after_read : (answer : Text → Text) (fault : LookupFault) (turns : ℕ) (held : HeldLine) (input now later : SourceState) (output sink sink_later : SinkState) (t : AfterTurns answer turns held input now output sink) (f : FailsAfterRead answer fault held (shown now sink) (shown later sink_later))
     → (StopsInput answer fault (joined (t.read ++ f.piece ∷ [])) later.left output sink_later → EndsBy answer (Err fault) (joined (t.read ++ f.piece ∷ [])) later.left output sink_later)
     → (later.faults ≡ input.faults → FaultsBy (Err fault) (length (t.read ++ f.piece ∷ [])) input later) → AnswersInput answer (Err fault) (shown input output) (shown later sink_later)
 after_read answer fault turns held input now later output sink sink_later t f ends faults =
     let well : later.faults ≡ input.faults = f.reads.gives.well ∙ t.counts.well in
-    let flushed : sink_later.flushed ≡ f.stops.reported.flushed = stops_flushed answer fault (held.number + length f.stops.ended) (f.stops.at [] (λ e. refl)).others f.stops.reported sink_later (f.stops.at [] (λ e. refl)).stops in
+    let flushed : sink_later.flushed ≡ f.stops.after.flushed = stops_flushed answer fault (held.number + length f.stops.ended) (f.stops.at [] (λ e. refl)).others f.stops.after sink_later (f.stops.at [] (λ e. refl)).stops in
     let stops : StopsIn answer fault f.more 1 (joined t.read ++ f.piece) output sink_later = stops-after answer fault f.more first_line held (joined t.read) f.piece output sink sink_later t.answers f.stops in
     record {
       read = t.read ++ f.piece ∷ [];
@@ -155,7 +155,7 @@ after_read answer fault turns held input now later output sink sink_later t f en
       left = left_after input now later t.read f.piece t.left f.reads.gives.left;
       faults = faults well;
       fits = few_after t.read f.piece t.fits;
-      due = has_answered_due answer t.read f.piece output sink_later (has_answered answer t.read held output sink f.stops.reported sink_later (flat_map answer f.stops.ended) t.answers f.stops.writes flushed);
+      due = has_answered_due answer t.read f.piece output sink_later (has_answered answer t.read held output sink f.stops.after sink_later (flat_map answer f.stops.ended) t.answers f.stops.writes flushed);
       due_at_fault = λ g. absurd (g well);
       ends = ends (record {
         more = f.more;

@@ -31,17 +31,17 @@ use Rattle.engine_lookups.specs.declared.held.LookupFault.TheVariants.{Read, Wri
 use Rattle.engine_lookups.proofs.LineLemmas.{cut_lines}
 use Rattle.engine_lookups.proofs.AnswerLemmas.{answered_all, answered_long, answered_short, stopped, writes_taken, writes_well}
 
-three : (line : Text) (status : ℕ) (reported now : SinkState) → ReportsFailure line 3 status reported now → status ≡ 3
-three line status reported now (inl p) = p.0
-three line status reported now (inr p) = p.0
+three : (line : Text) (status : ℕ) (after now : SinkState) → ReportsFailure line 3 status after now → status ≡ 3
+three line status after now (inl p) = p.0
+three line status after now (inr p) = p.0
 
 -- the outcome of a text whose first lines are answered
 first_lines : (answer : Text → Text) (text : Text) (ended others : List Text) → Leads answer ended → lines text ≡ ended ++ others → answered_from answer 1 (lines text) ≡ after_answer (flat_map answer ended) (answered_from answer (1 + length ended) others)
 first_lines answer text ended others l e = ap (answered_from answer 1) e ∙ l 1 others
 
 -- the outcome of a text that has a line that is too long after these
-long_text : (answer : Text → Text) (counted : ℕ) (text : Text) (ended : List Text) (reported now : SinkState) → Leads answer ended → StopsAt answer (TooLong counted) 1 ended text reported now → answered_from answer 1 (lines text) ≡ record { output = flat_map answer ended; messages = too_long_line counted; status = 1 }
-long_text answer counted text ended reported now l s =
+long_text : (answer : Text → Text) (counted : ℕ) (text : Text) (ended : List Text) (after now : SinkState) → Leads answer ended → StopsAt answer (TooLong counted) 1 ended text after now → answered_from answer 1 (lines text) ≡ record { output = flat_map answer ended; messages = too_long_line counted; status = 1 }
+long_text answer counted text ended after now l s =
     first_lines answer text ended s.others l s.lines_are
     ∙ ap (λ ls. after_answer (flat_map answer ended) (answered_from answer (1 + length ended) ls)) s.stops.lines_are
     ∙ ap (after_answer (flat_map answer ended)) (answered_long answer (1 + length ended) s.stops.line s.stops.others s.stops.long)
@@ -49,23 +49,23 @@ long_text answer counted text ended reported now l s =
     ∙ ap (λ said. record { output = said; messages = too_long_line counted; status = 1 }) (append-nil (flat_map answer ended))
 
 -- the output has the answers to these lines, and a first part of what follows them
-output_begun : (answer : Text → Text) (text : Text) (ended others : List Text) (before reported now : SinkState) → Leads answer ended → lines text ≡ ended ++ others → WritesOut before (flat_map answer ended) reported
-    → HasBegun reported (answered_from answer (1 + length ended) others).output now → HasBegun before (answered_from answer 1 (lines text)).output now
-output_begun answer text ended others before reported now l e w b =
+output_begun : (answer : Text → Text) (text : Text) (ended others : List Text) (before after now : SinkState) → Leads answer ended → lines text ≡ ended ++ others → WritesOut before (flat_map answer ended) after
+    → HasBegun after (answered_from answer (1 + length ended) others).output now → HasBegun before (answered_from answer 1 (lines text)).output now
+output_begun answer text ended others before after now l e w b =
     subst (λ outcome. HasBegun before outcome.output now) (sym (first_lines answer text ended others l e))
-    (begun-following before reported now (flat_map answer ended) (answered_from answer (1 + length ended) others).output (writes_taken before reported (flat_map answer ended) w) b)
+    (begun-following before after now (flat_map answer ended) (answered_from answer (1 + length ended) others).output (writes_taken before after (flat_map answer ended) w) b)
 
 -- it breaks off in the answer to the next line
-answer_begun : (answer : Text → Text) (number : ℕ) (ls others : List Text) (next : Text) (reported now : SinkState) → ls ≡ next ∷ others → answered_from answer number (next ∷ others) ≡ after_answer (answer next) (answered_from answer (number + 1) others) → HasBegun reported (answer next) now → HasBegun reported (answered_from answer number ls).output now
-answer_begun answer number ls others next reported now e short b =
-    subst (λ outcome. HasBegun reported outcome.output now) (sym (ap (answered_from answer number) e ∙ short))
-    (begun-first reported now (answer next) (answered_from answer (number + 1) others).output b)
+answer_begun : (answer : Text → Text) (number : ℕ) (ls others : List Text) (next : Text) (after now : SinkState) → ls ≡ next ∷ others → answered_from answer number (next ∷ others) ≡ after_answer (answer next) (answered_from answer (number + 1) others) → HasBegun after (answer next) now → HasBegun after (answered_from answer number ls).output now
+answer_begun answer number ls others next after now e short b =
+    subst (λ outcome. HasBegun after outcome.output now) (sym (ap (answered_from answer number) e ∙ short))
+    (begun-first after now (answer next) (answered_from answer (number + 1) others).output b)
 
-module _ (messages : Text) (answer : Text → Text) (status : ℕ) (before now : Streams) (reported : SinkState) (says : HandsOn before.err messages reported) where
-  messages_begun : (text : Text) → HasBegun before.err (lines_outcome messages answer text).messages reported
-  messages_begun text = begun-first before.err reported messages (answered_from answer 1 (lines text)).messages (begun-taken before.err reported messages says.taken)
+module _ (messages : Text) (answer : Text → Text) (status : ℕ) (before now : Streams) (after : SinkState) (says : HandsOn before.err messages after) where
+  messages_begun : (text : Text) → HasBegun before.err (lines_outcome messages answer text).messages after
+  messages_begun text = begun-first before.err after messages (answered_from answer 1 (lines text)).messages (begun-taken before.err after messages says.taken)
 
-  looked_well : (t : AnswersInput answer (Ok tt) (devices_of before) (devices_of now)) → Concludes (Ok tt) status reported now.err → LooksUp messages answer status before now
+  looked_well : (t : AnswersInput answer (Ok tt) (devices_of before) (devices_of now)) → Concludes (Ok tt) status after now.err → LooksUp messages answer status before now
   looked_well t c =
       let is : lines_outcome messages answer (joined t.read) ≡ record { output = flat_map answer (lines (joined t.read)); messages = messages; status = 0 } =
       ap (after_messages messages) (answered_all answer 1 (lines (joined t.read)) t.ends.leads)
@@ -89,7 +89,7 @@ module _ (messages : Text) (answer : Text → Text) (status : ℕ) (before now :
         fits = t.fits;
       }
 
-  looked_read : (t : AnswersInput answer (Err Read) (devices_of before) (devices_of now)) → Concludes (Err Read) status reported now.err → status ≡ 3 → LooksUp messages answer status before now
+  looked_read : (t : AnswersInput answer (Err Read) (devices_of before) (devices_of now)) → Concludes (Err Read) status after now.err → status ≡ 3 → LooksUp messages answer status before now
   looked_read t c e =
       let a = t.ends.answers in
       record {
@@ -98,9 +98,9 @@ module _ (messages : Text) (answer : Text → Text) (status : ℕ) (before now :
           pieces = t.pieces;
           whole = not_under status (omega (arith, e));
           all = not_under status (omega (arith, e));
-          cut = λ h. cut_by (lines_outcome messages answer (joined t.read)) status before now reported read_failed (inr (inl refl))
+          cut = λ h. cut_by (lines_outcome messages answer (joined t.read)) status before now after read_failed (inr (inl refl))
               (output_begun answer (joined t.read) a.ended (lines t.ends.held.bytes) before.out now.out now.out a.leads (cut_lines (joined t.read) a.ended t.ends.held.bytes a.cut) a.writes (begun-none now.out _))
-              (messages_begun (joined t.read)) (reports_begun read_failed 3 status reported now.err c) (not_four status e);
+              (messages_begun (joined t.read)) (reports_begun read_failed 3 status after now.err c) (not_four status e);
           failures = record {
             failed = λ f. elim t.faults [ inl n ↦ inl n | inr u ↦ inr (inr (inr u)) ];
             well = λ h. absurd (h e);
@@ -112,7 +112,7 @@ module _ (messages : Text) (answer : Text → Text) (status : ℕ) (before now :
         fits = t.fits;
       }
 
-  looked_write : (t : AnswersInput answer (Err Write) (devices_of before) (devices_of now)) → Concludes (Err Write) status reported now.err → status ≡ 3 → LooksUp messages answer status before now
+  looked_write : (t : AnswersInput answer (Err Write) (devices_of before) (devices_of now)) → Concludes (Err Write) status after now.err → status ≡ 3 → LooksUp messages answer status before now
   looked_write t c e =
       let s = t.ends.stops in
       let there = s.at [] (λ f. refl) in
@@ -123,12 +123,12 @@ module _ (messages : Text) (answer : Text → Text) (status : ℕ) (before now :
           pieces = t.pieces;
           whole = not_under status (omega (arith, e));
           all = not_under status (omega (arith, e));
-          cut = λ h. cut_by (lines_outcome messages answer (joined t.read)) status before now reported write_failed (inr (inr (inl refl)))
-              (output_begun answer (joined t.read) s.ended there.others before.out s.reported now.out s.leads (ap lines (sym (append-nil (joined t.read))) ∙ there.lines_are) s.writes
-              (answer_begun answer (1 + length s.ended) there.others stops.others stops.next s.reported now.out stops.lines_are (answered_short answer (1 + length s.ended) stops.next stops.others stops.short) stops.breaks.taken))
-              (messages_begun (joined t.read)) (reports_begun write_failed 3 status reported now.err c) (not_four status e);
+          cut = λ h. cut_by (lines_outcome messages answer (joined t.read)) status before now after write_failed (inr (inr (inl refl)))
+              (output_begun answer (joined t.read) s.ended there.others before.out s.after now.out s.leads (ap lines (sym (append-nil (joined t.read))) ∙ there.lines_are) s.writes
+              (answer_begun answer (1 + length s.ended) there.others stops.others stops.next s.after now.out stops.lines_are (answered_short answer (1 + length s.ended) stops.next stops.others stops.short) stops.breaks.taken))
+              (messages_begun (joined t.read)) (reports_begun write_failed 3 status after now.err c) (not_four status e);
           failures = record {
-            failed = λ f. inr (inl (subst (λ n. Counts 1 n now.out.faults) (writes_well before.out s.reported (flat_map answer s.ended) s.writes) stops.breaks.failed));
+            failed = λ f. inr (inl (subst (λ n. Counts 1 n now.out.faults) (writes_well before.out s.after (flat_map answer s.ended) s.writes) stops.breaks.failed));
             well = λ h. absurd (h e);
           };
           statuses = omega (arith, e);
@@ -138,7 +138,7 @@ module _ (messages : Text) (answer : Text → Text) (status : ℕ) (before now :
         fits = t.fits;
       }
 
-  looked_memory : (t : AnswersInput answer (Err Memory) (devices_of before) (devices_of now)) → Concludes (Err Memory) status reported now.err → LooksUp messages answer status before now
+  looked_memory : (t : AnswersInput answer (Err Memory) (devices_of before) (devices_of now)) → Concludes (Err Memory) status after now.err → LooksUp messages answer status before now
   looked_memory t c =
       let s = t.ends.stops in
       let there = s.at [] (λ f. refl) in
@@ -146,20 +146,20 @@ module _ (messages : Text) (answer : Text → Text) (status : ℕ) (before now :
         serves = record {
           read = t.read;
           pieces = t.pieces;
-          whole = not_under status (memory_status status reported now.err c);
-          all = not_under status (memory_status status reported now.err c);
-          cut = λ h. cut_by (lines_outcome messages answer (joined t.read)) status before now reported out_of_memory (inr (inr (inr refl)))
-              (output_begun answer (joined t.read) s.ended there.others before.out s.reported now.out s.leads (ap lines (sym (append-nil (joined t.read))) ∙ there.lines_are) s.writes (rw there.stops (begun-none s.reported _)))
-              (messages_begun (joined t.read)) (reports_begun out_of_memory 4 status reported now.err c) (at_memory status reported now.err c);
-          failures = reported_failures c t.faults (ap (λ sink. sink.faults) there.stops ∙ writes_well before.out s.reported (flat_map answer s.ended) s.writes);
-          statuses = memory_most status reported now.err c;
+          whole = not_under status (memory_status status after now.err c);
+          all = not_under status (memory_status status after now.err c);
+          cut = λ h. cut_by (lines_outcome messages answer (joined t.read)) status before now after out_of_memory (inr (inr (inr refl)))
+              (output_begun answer (joined t.read) s.ended there.others before.out s.after now.out s.leads (ap lines (sym (append-nil (joined t.read))) ∙ there.lines_are) s.writes (rw there.stops (begun-none s.after _)))
+              (messages_begun (joined t.read)) (reports_begun out_of_memory 4 status after now.err c) (at_memory status after now.err c);
+          failures = reported_failures c t.faults (ap (λ sink. sink.faults) there.stops ∙ writes_well before.out s.after (flat_map answer s.ended) s.writes);
+          statuses = memory_most status after now.err c;
         };
         due = t.due;
         due_at_fault = t.due_at_fault;
         fits = t.fits;
       }
     where
-      reported_failures : ReportsFailure out_of_memory 4 status reported now.err → now.input.faults ≡ before.input.faults → now.out.faults ≡ before.out.faults → ReportsFailures status (length t.read) before now
+      reported_failures : ReportsFailure out_of_memory 4 status after now.err → now.input.faults ≡ before.input.faults → now.out.faults ≡ before.out.faults → ReportsFailures status (length t.read) before now
       reported_failures (inl p) e f = record { failed = λ g. not_four status g p.0; well = λ h. (e, f, p.1.well ∙ says.well) }
       reported_failures (inr p) e f = record { failed = λ g. inr (inr (inl (subst (λ n. Counts 1 n now.err.faults) says.well p.1.failed))); well = λ h. absurd (h p.0) }
 
@@ -167,26 +167,26 @@ module _ (messages : Text) (answer : Text → Text) (status : ℕ) (before now :
   long_outcome : (counted : ℕ) (text : Text) (ended : List Text) (sink : SinkState) → Leads answer ended → StopsAt answer (TooLong counted) 1 ended text sink now.out → lines_outcome messages answer text ≡ record { output = flat_map answer ended; messages = messages ++ too_long_line counted; status = 1 }
   long_outcome counted text ended sink l s = ap (after_messages messages) (long_text answer counted text ended sink now.out l s)
 
-  looked_long : (counted : ℕ) (t : AnswersInput answer (Err (TooLong counted)) (devices_of before) (devices_of now)) → Concludes (Err (TooLong counted)) status reported now.err → LooksUp messages answer status before now
+  looked_long : (counted : ℕ) (t : AnswersInput answer (Err (TooLong counted)) (devices_of before) (devices_of now)) → Concludes (Err (TooLong counted)) status after now.err → LooksUp messages answer status before now
   looked_long counted t (inl p) =
       let s = t.ends.stops in
       let there = s.at [] (λ f. refl) in
       let of : (rest : Text) → now.input.left ≡ Some rest → lines_outcome messages answer (joined t.read ++ rest) ≡ record { output = flat_map answer s.ended; messages = messages ++ too_long_line counted; status = 1 } =
-      λ rest e. long_outcome counted (joined t.read ++ rest) s.ended s.reported s.leads (s.at rest (t.ends.last rest e)) in
+      λ rest e. long_outcome counted (joined t.read ++ rest) s.ended s.after s.leads (s.at rest (t.ends.last rest e)) in
       let is : lines_outcome messages answer (joined t.read) ≡ record { output = flat_map answer s.ended; messages = messages ++ too_long_line counted; status = 1 } =
-      ap (lines_outcome messages answer) (sym (append-nil (joined t.read))) ∙ long_outcome counted (joined t.read ++ []) s.ended s.reported s.leads there in
+      ap (lines_outcome messages answer) (sym (append-nil (joined t.read))) ∙ long_outcome counted (joined t.read ++ []) s.ended s.after s.leads there in
       record {
         serves = record {
           read = t.read;
           pieces = t.pieces;
           whole = λ h. subst (λ o. IsWhole WritesOut o status (outputs before) (outputs now)) (sym is)
-              (record { output = rw there.stops.untouched s.writes; messages = hands_after before.err reported now.err messages (too_long_line counted) says p.1; status_is = p.0 });
+              (record { output = rw there.stops.untouched s.writes; messages = hands_after before.err after now.err messages (too_long_line counted) says p.1; status_is = p.0 });
           all = λ h text e. let r = rest_reported text (joined t.read) now.input.left (sym e ∙ t.left) in
               ap (lines_outcome messages answer) r.2 ∙ of r.0 r.1 ∙ sym is;
           cut = λ h. absurd (omega (arith, h, p.0));
           failures = record {
             failed = λ e. absurd (omega (arith, e, p.0));
-            well = λ h. (t.faults, ap (λ sink. sink.faults) there.stops.untouched ∙ writes_well before.out s.reported (flat_map answer s.ended) s.writes, p.1.well ∙ says.well);
+            well = λ h. (t.faults, ap (λ sink. sink.faults) there.stops.untouched ∙ writes_well before.out s.after (flat_map answer s.ended) s.writes, p.1.well ∙ says.well);
           };
           statuses = omega (arith, p.0);
         };
@@ -198,7 +198,7 @@ module _ (messages : Text) (answer : Text → Text) (status : ℕ) (before now :
       let s = t.ends.stops in
       let there = s.at [] (λ f. refl) in
       let is : lines_outcome messages answer (joined t.read) ≡ record { output = flat_map answer s.ended; messages = messages ++ too_long_line counted; status = 1 } =
-      ap (lines_outcome messages answer) (sym (append-nil (joined t.read))) ∙ long_outcome counted (joined t.read ++ []) s.ended s.reported s.leads there in
+      ap (lines_outcome messages answer) (sym (append-nil (joined t.read))) ∙ long_outcome counted (joined t.read ++ []) s.ended s.after s.leads there in
       record {
         serves = record {
           read = t.read;
@@ -207,8 +207,8 @@ module _ (messages : Text) (answer : Text → Text) (status : ℕ) (before now :
           all = not_under status (omega (arith, p.0));
           cut = λ h. subst (λ o. IsCutShort o status before now) (sym is)
               (cut_by (record { output = flat_map answer s.ended; messages = messages ++ too_long_line counted; status = 1 }) status before now now.err [] (inl refl)
-              (begun-taken before.out now.out (flat_map answer s.ended) (ap (λ sink. sink.taken) there.stops.untouched ∙ writes_taken before.out s.reported (flat_map answer s.ended) s.writes))
-              (begun-following before.err reported now.err messages (too_long_line counted) says.taken p.1.taken) (begun-none now.err []) (not_four status p.0));
+              (begun-taken before.out now.out (flat_map answer s.ended) (ap (λ sink. sink.taken) there.stops.untouched ∙ writes_taken before.out s.after (flat_map answer s.ended) s.writes))
+              (begun-following before.err after now.err messages (too_long_line counted) says.taken p.1.taken) (begun-none now.err []) (not_four status p.0));
           failures = record {
             failed = λ g. inr (inr (inl (subst (λ n. Counts 1 n now.err.faults) says.well p.1.failed)));
             well = λ h. absurd (h p.0);
@@ -220,10 +220,10 @@ module _ (messages : Text) (answer : Text → Text) (status : ℕ) (before now :
         fits = t.fits;
       }
 
-  pub looked_up : (end : Result (Unit {0}) LookupFault) → AnswersInput answer end (devices_of before) (devices_of now) → Concludes end status reported now.err → LooksUp messages answer status before now
+  pub looked_up : (end : Result (Unit {0}) LookupFault) → AnswersInput answer end (devices_of before) (devices_of now) → Concludes end status after now.err → LooksUp messages answer status before now
   looked_up (Ok done) t c = looked_well t c
-  looked_up (Err Read) t c = looked_read t c (three read_failed status reported now.err c)
-  looked_up (Err Write) t c = looked_write t c (three write_failed status reported now.err c)
+  looked_up (Err Read) t c = looked_read t c (three read_failed status after now.err c)
+  looked_up (Err Write) t c = looked_write t c (three write_failed status after now.err c)
   looked_up (Err (TooLong counted)) t c = looked_long counted t c
   looked_up (Err Memory) t c = looked_memory t c
 

@@ -68,12 +68,12 @@ answers-byte answer old new byte sink o n l e = rw e (record {
 })
 
 -- more bytes are taken after some
-pub answers-after : (answer : Text → Text) (old middle now : HeldLine) (part more : Text) (before reported sink : SinkState) → Answers answer old part middle before reported → Answers answer middle more now reported sink → Answers answer old (part ++ more) now before sink
-answers-after answer old middle now part more before reported sink a b = record {
+pub answers-after : (answer : Text → Text) (old middle now : HeldLine) (part more : Text) (before after sink : SinkState) → Answers answer old part middle before after → Answers answer middle more now after sink → Answers answer old (part ++ more) now before sink
+answers-after answer old middle now part more before after sink a b = record {
   ended = a.ended ++ b.ended;
   cut = subst (λ text. Cut text (a.ended ++ b.ended) now.bytes) (append_assoc old.bytes part more) (cut-after (old.bytes ++ part) more a.ended b.ended middle.bytes now.bytes a.cut b.cut);
   leads = leads-after answer a.ended b.ended a.leads b.leads;
-  writes = subst (λ text. WritesOut before text sink) (sym (flat_map-append answer a.ended b.ended)) (writes-after before reported sink (flat_map answer a.ended) (flat_map answer b.ended) a.writes b.writes);
+  writes = subst (λ text. WritesOut before text sink) (sym (flat_map-append answer a.ended b.ended)) (writes-after before after sink (flat_map answer a.ended) (flat_map answer b.ended) a.writes b.writes);
   number = omega (arith, a.number, b.number, length-append a.ended b.ended);
   fits = b.fits;
 }
@@ -89,7 +89,7 @@ pub stops-line : (answer : Text → Text) (fault : LookupFault) (old : HeldLine)
 stops-line answer fault old before now o s = record {
   ended = [];
   leads = leads-none answer;
-  reported = before;
+  after = before;
   writes = writes-none before;
   at = λ later e. record {
     others = old.bytes ∷ lines later;
@@ -116,7 +116,7 @@ pub stops-byte : (answer : Text → Text) (fault : LookupFault) (old : HeldLine)
 stops-byte answer fault old byte sink o n s = record {
   ended = [];
   leads = leads-none answer;
-  reported = sink;
+  after = sink;
   writes = writes-none sink;
   at = λ later e.
       let text : Text = old.bytes ++ byte ∷ [] in
@@ -134,18 +134,18 @@ pub stops-more : (answer : Text → Text) (fault : LookupFault) (number : ℕ) (
 stops-more answer fault number text more before now s = record {
   ended = s.ended;
   leads = s.leads;
-  reported = s.reported;
+  after = s.after;
   writes = s.writes;
-  at = λ later e. subst (λ all. StopsAt answer fault number s.ended all s.reported now) (sym (append_assoc text more later)) (s.at (more ++ later) (λ both. absurd cc));
+  at = λ later e. subst (λ all. StopsAt answer fault number s.ended all s.after now) (sym (append_assoc text more later)) (s.at (more ++ later) (λ both. absurd cc));
 }
 
 -- it stops after lines that are answered
-pub stops-after : (answer : Text → Text) (fault : LookupFault) (more : Bool) (old middle : HeldLine) (part next : Text) (before reported now : SinkState) → Answers answer old part middle before reported → StopsIn answer fault more middle.number (middle.bytes ++ next) reported now → StopsIn answer fault more old.number (old.bytes ++ (part ++ next)) before now
-stops-after answer fault more old middle part next before reported now a s = record {
+pub stops-after : (answer : Text → Text) (fault : LookupFault) (more : Bool) (old middle : HeldLine) (part next : Text) (before after now : SinkState) → Answers answer old part middle before after → StopsIn answer fault more middle.number (middle.bytes ++ next) after now → StopsIn answer fault more old.number (old.bytes ++ (part ++ next)) before now
+stops-after answer fault more old middle part next before after now a s = record {
   ended = a.ended ++ s.ended;
   leads = leads-after answer a.ended s.ended a.leads s.leads;
-  reported = s.reported;
-  writes = subst (λ text. WritesOut before text s.reported) (sym (flat_map-append answer a.ended s.ended)) (writes-after before reported s.reported (flat_map answer a.ended) (flat_map answer s.ended) a.writes s.writes);
+  after = s.after;
+  writes = subst (λ text. WritesOut before text s.after) (sym (flat_map-append answer a.ended s.ended)) (writes-after before after s.after (flat_map answer a.ended) (flat_map answer s.ended) a.writes s.writes);
   at = λ later e.
       let there = s.at later e in
       record {
@@ -153,7 +153,7 @@ stops-after answer fault more old middle part next before reported now a s = rec
         lines_are = ap lines (texts_are later) ∙ a.cut.lines_are (next ++ later)
             ∙ ap (λ ls. a.ended ++ ls) (ap lines (sym (append_assoc middle.bytes next later)) ∙ there.lines_are)
             ∙ sym (append_assoc a.ended s.ended there.others);
-        stops = subst (λ n. StopsBy answer fault n there.others s.reported now) number_is there.stops;
+        stops = subst (λ n. StopsBy answer fault n there.others s.after now) number_is there.stops;
       };
 }
   where
@@ -185,7 +185,7 @@ pub end-stops : (answer : Text → Text) (fault : LookupFault) (held : HeldLine)
 end-stops answer fault held before now o l s = record {
   ended = [];
   leads = leads-none answer;
-  reported = before;
+  after = before;
   writes = writes-none before;
   at = λ later e. record {
     others = held.bytes ∷ [];
@@ -195,18 +195,18 @@ end-stops answer fault held before now o l s = record {
 }
 
 -- there is a number for the line after the next byte
-pub few_taken : (answer : Text → Text) (old middle : HeldLine) (piece : Text) (at top : ℕ) (before reported : SinkState) → IsOpen old → at < length piece → old.number + length piece < top → Answers answer old (take at piece) middle before reported → middle.number + 1 < top
-few_taken answer old middle piece at top before reported o h k a = omega (arith, few_ended answer old (take at piece) middle before reported o a, length-take at piece, h, k)
+pub few_taken : (answer : Text → Text) (old middle : HeldLine) (piece : Text) (at top : ℕ) (before after : SinkState) → IsOpen old → at < length piece → old.number + length piece < top → Answers answer old (take at piece) middle before after → middle.number + 1 < top
+few_taken answer old middle piece at top before after o h k a = omega (arith, few_ended answer old (take at piece) middle before after o a, length-take at piece, h, k)
 
 -- one byte more of a piece
-pub piece_more : (answer : Text → Text) (old middle now : HeldLine) (piece : Text) (at : ℕ) (before reported sink : SinkState) → at < length piece → Answers answer old (take at piece) middle before reported → Answers answer middle (get_or piece at 0 ∷ []) now reported sink → Answers answer old (take (at + 1) piece) now before sink
-piece_more answer old middle now piece at before reported sink h a b =
-    subst (λ part. Answers answer old part now before sink) (sym (take_more piece at 0 h)) (answers-after answer old middle now (take at piece) (get_or piece at 0 ∷ []) before reported sink a b)
+pub piece_more : (answer : Text → Text) (old middle now : HeldLine) (piece : Text) (at : ℕ) (before after sink : SinkState) → at < length piece → Answers answer old (take at piece) middle before after → Answers answer middle (get_or piece at 0 ∷ []) now after sink → Answers answer old (take (at + 1) piece) now before sink
+piece_more answer old middle now piece at before after sink h a b =
+    subst (λ part. Answers answer old part now before sink) (sym (take_more piece at 0 h)) (answers-after answer old middle now (take at piece) (get_or piece at 0 ∷ []) before after sink a b)
 
 -- it stops at a byte of a piece
-pub piece_stops : (answer : Text → Text) (fault : LookupFault) (old middle : HeldLine) (piece : Text) (at : ℕ) (before reported now : SinkState) → at < length piece → Answers answer old (take at piece) middle before reported → StopsIn answer fault true middle.number (middle.bytes ++ get_or piece at 0 ∷ []) reported now → StopsIn answer fault true old.number (old.bytes ++ piece) before now
-piece_stops answer fault old middle piece at before reported now h a s =
-    let first : StopsIn answer fault true old.number (old.bytes ++ (take at piece ++ get_or piece at 0 ∷ [])) before now = stops-after answer fault true old middle (take at piece) (get_or piece at 0 ∷ []) before reported now a s in
+pub piece_stops : (answer : Text → Text) (fault : LookupFault) (old middle : HeldLine) (piece : Text) (at : ℕ) (before after now : SinkState) → at < length piece → Answers answer old (take at piece) middle before after → StopsIn answer fault true middle.number (middle.bytes ++ get_or piece at 0 ∷ []) after now → StopsIn answer fault true old.number (old.bytes ++ piece) before now
+piece_stops answer fault old middle piece at before after now h a s =
+    let first : StopsIn answer fault true old.number (old.bytes ++ (take at piece ++ get_or piece at 0 ∷ [])) before now = stops-after answer fault true old middle (take at piece) (get_or piece at 0 ∷ []) before after now a s in
     let all : StopsIn answer fault true old.number ((old.bytes ++ (take at piece ++ get_or piece at 0 ∷ [])) ++ drop (at + 1) piece) before now = stops-more answer fault old.number (old.bytes ++ (take at piece ++ get_or piece at 0 ∷ [])) (drop (at + 1) piece) before now first in
     subst (λ text. StopsIn answer fault true old.number text before now) texts_are all
   where

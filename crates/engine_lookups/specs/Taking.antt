@@ -31,7 +31,8 @@ pub record Cut (text : Text) (ended : List Text) (rest : Text) : Type 0 where
 
 -- each of these lines is answered, whatever follows them
 abbrev pub Leads : (Text → Text) → List Text → Type 0
-Leads answer ended = (number : ℕ) (others : List Text) → answered_from answer number (ended ++ others) ≡ after_answer (flat_map answer ended) (answered_from answer (number + length ended) others)
+Leads answer ended = (number : ℕ) (others : List Text) → answered_from answer number (ended ++ others)
+    ≡ after_answer (flat_map answer ended) (answered_from answer (number + length ended) others)
 
 -- Some bytes were taken, and the lines that ended in them are answered.
 pub record Answers (answer : Text → Text) (old : HeldLine) (part : Text) (now : HeldLine) (before sink : SinkState) : Type 0 where
@@ -43,42 +44,42 @@ pub record Answers (answer : Text → Text) (old : HeldLine) (part : Text) (now 
   pub fits : length now.bytes ≤ most_bytes
 
 -- The output breaks off at the answer to the first of these lines.
-pub record StopsInAnswer (answer : Text → Text) (lines : List Text) (reported now : SinkState) : Type 0 where
+pub record StopsInAnswer (answer : Text → Text) (lines : List Text) (after now : SinkState) : Type 0 where
   pub next : Text
   pub others : List Text
   pub lines_are : lines ≡ next ∷ others
   pub short : is_too_long next ≡ false
-  pub breaks : BreaksOff reported (answer next) now
+  pub breaks : BreaksOff after (answer next) now
 
 -- The first of these lines has this number and is too long.
-pub record StopsAtLong (counted number : ℕ) (lines : List Text) (reported now : SinkState) : Type 0 where
+pub record StopsAtLong (counted number : ℕ) (lines : List Text) (after now : SinkState) : Type 0 where
   pub numbered : counted ≡ number
   pub line : Text
   pub others : List Text
   pub lines_are : lines ≡ line ∷ others
   pub long : is_too_long line ≡ true
-  pub untouched : now ≡ reported
+  pub untouched : now ≡ after
 
 -- why it stops before these lines, of which the first has this number
 abbrev pub StopsBy : (Text → Text) → LookupFault → ℕ → List Text → SinkState → SinkState → Type 0
-StopsBy answer Read number lines reported now = ⊥
-StopsBy answer Write number lines reported now = StopsInAnswer answer lines reported now
-StopsBy answer (TooLong counted) number lines reported now = StopsAtLong counted number lines reported now
-StopsBy answer Memory number lines reported now = now ≡ reported
+StopsBy answer Read number lines after now = ⊥
+StopsBy answer Write number lines after now = StopsInAnswer answer lines after now
+StopsBy answer (TooLong counted) number lines after now = StopsAtLong counted number lines after now
+StopsBy answer Memory number lines after now = now ≡ after
 
 -- It stops in this text, of which some lines are answered.
-pub record StopsAt (answer : Text → Text) (fault : LookupFault) (number : ℕ) (ended : List Text) (text : Text) (reported now : SinkState) : Type 0 where
+pub record StopsAt (answer : Text → Text) (fault : LookupFault) (number : ℕ) (ended : List Text) (text : Text) (after now : SinkState) : Type 0 where
   pub others : List Text
   pub lines_are : lines text ≡ ended ++ others
-  pub stops : StopsBy answer fault (number + length ended) others reported now
+  pub stops : StopsBy answer fault (number + length ended) others after now
 
 -- It stops in this text, of whose lines the first has this number; and in whatever begins with it, if the input may go on.
 pub record StopsIn (answer : Text → Text) (fault : LookupFault) (more : Bool) (number : ℕ) (text : Text) (before now : SinkState) : Type 0 where
   pub ended : List Text
   pub leads : Leads answer ended
-  pub reported : SinkState
-  pub writes : WritesOut before (flat_map answer ended) reported
-  pub at : (later : Text) → (more ≡ false → later ≡ []) → StopsAt answer fault number ended (text ++ later) reported now
+  pub after : SinkState
+  pub writes : WritesOut before (flat_map answer ended) after
+  pub at : (later : Text) → (more ≡ false → later ≡ []) → StopsAt answer fault number ended (text ++ later) after now
 
 -- how the answering of one line fails: in the output, or because memory runs out
 abbrev pub StopsInLine : LookupFault → Text → SinkState → SinkState → Type 0

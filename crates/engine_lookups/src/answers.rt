@@ -33,7 +33,8 @@ pub(crate) fn send_answer<L: Lookup, W: Sink>(
     output: &mut W,
 ) -> Result<(), LookupFault>
     ensures ok { OnOk result (HandsOn (W.shown output.old) (answer_to sources (L.entries database.now) modalias.now) (W.shown output.new)) }
-    ensures err { IfErr result (λ fault. StopsInLine fault (answer_to sources (L.entries database.now) modalias.now) (W.shown output.old) (W.shown output.new)) }
+    ensures err { IfErr result (λ fault. StopsInLine fault (answer_to sources (L.entries database.now) modalias.now) (W.shown output.old)
+        (W.shown output.new)) }
 {
     match answer_to(alloc, sources, database, modalias) {
         Ok(text) => match hand_on(output, &text) {

@@ -65,8 +65,10 @@ impl Held {
     ) -> Result<(), LookupFault>
         requires open { IsOpen self.old }
         requires few { self.old.number + 1 < 2 ^ 64 }
-        ensures ok { OnOk result (Answers (answer_to sources (L.entries database.now)) self.old (byte ∷ []) self.new (W.shown output.old) (W.shown output.new)) }
-        ensures err { IfErr result (λ fault. StopsIn (answer_to sources (L.entries database.now)) fault true self.old.number (self.old.bytes ++ byte ∷ []) (W.shown output.old) (W.shown output.new)) }
+        ensures ok { OnOk result (Answers (answer_to sources (L.entries database.now)) self.old (byte ∷ []) self.new (W.shown output.old)
+            (W.shown output.new)) }
+        ensures err { IfErr result (λ fault. StopsIn (answer_to sources (L.entries database.now)) fault true self.old.number (self.old.bytes ++ byte ∷ [])
+            (W.shown output.old) (W.shown output.new)) }
     {
         if byte == b'\n' {
             self.answer(alloc, sources, database, output)
@@ -86,16 +88,13 @@ impl Held {
         requires { self.old.number + 1 < 2 ^ 64 }
         ensures next { OnOk result (self.new ≡ record { number = self.old.number + 1; bytes = [] }) }
         ensures sends { OnOk result (HandsOn (W.shown output.old) (answer_to sources (L.entries database.now) self.old.bytes) (W.shown output.new)) }
-        ensures err { IfErr result (λ fault. StopsInLine fault (answer_to sources (L.entries database.now) self.old.bytes) (W.shown output.old) (W.shown output.new)) }
+        ensures err { IfErr result (λ fault. StopsInLine fault (answer_to sources (L.entries database.now) self.old.bytes) (W.shown output.old)
+            (W.shown output.new)) }
     {
-        match send_answer(alloc, sources, database, &self.bytes, output) {
-            Ok(()) => {
-                self.bytes.clear();
-                self.number += 1;
-                Ok(())
-            }
-            Err(fault) => Err(fault),
-        }
+        send_answer(alloc, sources, database, &self.bytes, output)?;
+        self.bytes.clear();
+        self.number += 1;
+        Ok(())
     }
 
     /// Takes a byte of the line.
@@ -123,8 +122,10 @@ impl Held {
     ) -> Result<(), LookupFault>
         requires { IsOpen self.now }
         ensures leads { Leads (answer_to sources (L.entries database.now)) (lines self.now.bytes) }
-        ensures ok { OnOk result (WritesOut (W.shown output.old) (flat_map (answer_to sources (L.entries database.now)) (lines self.now.bytes)) (W.shown output.new)) }
-        ensures err { IfErr result (λ fault. StopsIn (answer_to sources (L.entries database.now)) fault false self.now.number self.now.bytes (W.shown output.old) (W.shown output.new)) }
+        ensures ok { OnOk result (WritesOut (W.shown output.old) (flat_map (answer_to sources (L.entries database.now)) (lines self.now.bytes))
+            (W.shown output.new)) }
+        ensures err { IfErr result (λ fault. StopsIn (answer_to sources (L.entries database.now)) fault false self.now.number self.now.bytes
+            (W.shown output.old) (W.shown output.new)) }
     {
         let modalias = self.bytes.as_slice();
         if modalias.is_empty() {

@@ -28,13 +28,9 @@ pub(crate) fn answer_input<L: Lookup, R: Source, W: Sink>(
 {
     let mut held = Held::new(alloc);
     for _made in 0..MAX_TURNS {
-        match turn(alloc, sources, database, &mut held, input, output) {
-            Ok(more) => {
-                if !more {
-                    return Ok(());
-                }
-            }
-            Err(fault) => return Err(fault),
+        let more = turn(alloc, sources, database, &mut held, input, output)?;
+        if !more {
+            return Ok(());
         }
     }
     Err(LookupFault::Read)

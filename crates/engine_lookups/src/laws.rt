@@ -26,7 +26,8 @@ pub fn a_line_alone_is_a_query()
 /// line is too long, and its status.
 pub fn answers_to_lines_follow_one_another()
     ensures output { (messages : Text) (answer : Text → Text) (first second : Text) → (lines_outcome messages answer (first ++ newline ∷ [])).status ≡ 0
-        → (lines_outcome messages answer (first ++ newline ∷ second)).output ≡ (lines_outcome messages answer (first ++ newline ∷ [])).output ++ (lines_outcome messages answer second).output }
+        → (lines_outcome messages answer (first ++ newline ∷ second)).output ≡ (lines_outcome messages answer (first ++ newline ∷ [])).output
+        ++ (lines_outcome messages answer second).output }
     ensures status { (messages : Text) (answer : Text → Text) (first second : Text) → (lines_outcome messages answer (first ++ newline ∷ [])).status ≡ 0
         → (lines_outcome messages answer (first ++ newline ∷ second)).status ≡ (lines_outcome messages answer second).status }
 {}
@@ -34,7 +35,8 @@ pub fn answers_to_lines_follow_one_another()
 /// After lines that are not too long, one that is too long ends the answers, whatever follows it. It is reported by its
 /// number, counted from 1.
 pub fn a_line_too_long_is_reported_by_its_number()
-    ensures { (messages : Text) (answer : Text → Text) (before : List Text) (long later : Text) → AllByRecursion (λ line. (newline_count line ≡ 0) × (is_too_long line ≡ false)) before → newline_count long ≡ 0 → is_too_long long ≡ true
+    ensures { (messages : Text) (answer : Text → Text) (before : List Text) (long later : Text)
+        → AllByRecursion (λ line. (newline_count line ≡ 0) × (is_too_long line ≡ false)) before → newline_count long ≡ 0 → is_too_long long ≡ true
         → lines_outcome messages answer (flat_map (λ line. line ++ newline ∷ []) before ++ (long ++ later)) ≡ record {
           output = flat_map answer before;
           messages = messages ++ too_long_line (length before + 1);

@@ -33,14 +33,14 @@ pub(crate) fn turn<L: Lookup, R: Source, W: Sink>(
 {
     let mut piece = [0u8; MAX_READ];
     match input.read(&mut piece) {
-        Ok(0) => match held.end(alloc, sources, database, output) {
-            Ok(()) => Ok(false),
-            Err(fault) => Err(fault),
-        },
-        Ok(len) => match answer_piece(alloc, sources, database, held, &piece[..len], output) {
-            Ok(()) => Ok(true),
-            Err(fault) => Err(fault),
-        },
+        Ok(0) => {
+            held.end(alloc, sources, database, output)?;
+            Ok(false)
+        }
+        Ok(len) => {
+            answer_piece(alloc, sources, database, held, &piece[..len], output)?;
+            Ok(true)
+        }
         Err(DeviceFault) => Err(LookupFault::Read),
     }
 }
@@ -57,13 +57,11 @@ fn answer_piece<L: Lookup, W: Sink>(
     requires open { IsOpen held.old }
     requires few { held.old.number + length piece.now < 2 ^ 64 }
     ensures ok { OnOk result (Answers (answer_to sources (L.entries database.now)) held.old piece.now held.new (W.shown output.old) (W.shown output.new)) }
-    ensures err { IfErr result (λ fault. StopsIn (answer_to sources (L.entries database.now)) fault true held.old.number (held.old.bytes ++ piece.now) (W.shown output.old) (W.shown output.new)) }
+    ensures err { IfErr result (λ fault. StopsIn (answer_to sources (L.entries database.now)) fault true held.old.number (held.old.bytes ++ piece.now)
+        (W.shown output.old) (W.shown output.new)) }
 {
     for byte in piece {
-        match held.take(alloc, sources, database, *byte, output) {
-            Ok(()) => {}
-            Err(fault) => return Err(fault),
-        }
+        held.take(alloc, sources, database, *byte, output)?;
     }
     Ok(())
 }

@@ -14,7 +14,8 @@ use Rattle.engine_ends.specs.Delivery.{RunOutcome}
 -- the first check that they fail.
 abbrev pub Opens : Option Text → Option (Result Contents IndexFault) → Type 0
 Opens None opened = opened ≡ None
-Opens (Some bytes) opened = (Accepted bytes × (opened ≡ Some (Ok (contents bytes)))) ⊎ ((fault : IndexFault) × FailsFirst bytes fault × (opened ≡ Some (Err fault)))
+Opens (Some bytes) opened = (Accepted bytes × (opened ≡ Some (Ok (contents bytes))))
+    ⊎ ((fault : IndexFault) × FailsFirst bytes fault × (opened ≡ Some (Err fault)))
 
 -- the entries that an index lists, node by node and value by value
 abbrev pub entries_in : Contents → List Entry

@@ -33,8 +33,14 @@ opening_messages rules database = message_lines (reported false rules) ++ messag
 -- what comes before the first answer, by rules files read by a profile, messages about a database and its entries, if
 -- the rules hold no more than they may, and else what is said about that
 unfoldable pub opening_by : Profile → List SourceFile → List Message → List Entry → Result OpeningValue RunOutcome
-opening_by profile rules messages entries =
-    if hold_few_tokens (set_of_as profile rules).rules then Ok (record { messages = opening_messages (set_of_as profile rules).messages messages; about_rules = (set_of_as profile rules).messages; rules = (set_of_as profile rules).rules; entries = entries })
+opening_by profile files messages entries =
+    let read = set_of_as profile files in
+    if hold_few_tokens read.rules then Ok (record {
+      messages = opening_messages read.messages messages;
+      about_rules = read.messages;
+      rules = read.rules;
+      entries = entries;
+    })
     else Err too_many_rules
 
 -- the same by rules files and files of a database, if these also hold no more than they may; if both hold more, that

@@ -10,7 +10,6 @@ use Rattle.engine_ends.specs.Delivery.{RunOutcome}
 use Rattle.engine_reports.specs.Indexes.{refused_index}
 use Rattle.engine_reports.specs.Outcomes.{too_many_entries, too_many_rules}
 use Rattle.engine_reports.specs.Openings.{OpeningValue}
-use Rattle.engine_reports.specs.declared.opening.Opening.{Opening}
 use Rattle.engine_reports.specs.declared.opening.RulesRead.{RulesRead}
 use Rattle.engine_reports.specs.declared.report.Report.{Report}
 use Rattle.engine_reports.specs.declared.refusal.Refusal.{Refusal}
@@ -42,11 +41,7 @@ pub record IsReport (outcome : RunOutcome) (report : Result Report Refusal) : Ty
   pub says : IfOk report (λ r. said r ≡ outcome)
   pub refused : IfErr report (λ e. IsSaid e outcome)
 
--- what a contract sees of what comes before the first answer
-abbrev pub shown_opening : Opening → OpeningValue
-shown_opening opening = record { messages = opening.messages.items; about_rules = opening.rules.messages; rules = opening.rules.rules; entries = opening.entries.items }
-
--- what a contract sees of it, by the rules that were read and the entries beside them
+-- what a contract sees of what comes before the first answer, by the rules that were read and the entries beside them
 abbrev pub shown_rules : RulesRead → List Entry → OpeningValue
 shown_rules read entries = record { messages = read.messages.items; about_rules = read.rules.messages; rules = read.rules.rules; entries = entries }
 

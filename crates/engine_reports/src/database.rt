@@ -3,7 +3,7 @@
 //! `query` asks an index where one is passed in; of files it keeps just the entries that the modalias fits. `update`
 //! makes the trie of all entries, as events do, of which the index is written; over such a trie `query -` answers the
 //! modaliases of its input.
-ghost use Rattle.std.specs.Prelude.{◌≡◌, ◌<◌, List, length, Ok, IfOk, IfErr};
+ghost use Rattle.std.specs.Prelude.{◌≡◌, ◌<◌, List, Ok, IfOk, IfErr};
 ghost use Rattle.file_messages.specs.declared.message.Message.{Message};
 ghost use Rattle.hwdb_lookup.specs.declared.entry.Entry.{Entry};
 ghost use Rattle.engine_ends.specs.Delivery.{RunOutcome};
@@ -58,7 +58,8 @@ fn read_answer(
     line: &Line<'_>,
     files: Vec<SourceFile>,
 ) -> Result<(PlainDb, Vec<Message>), Refusal>
-    ensures read { IfOk result (λ read. query_outcome line.now read.0 read.1.items ≡ database_outcome (query_outcome line.now) (files_read FileKind.Hwdb line.now files.items)) }
+    ensures read { IfOk result (λ read. query_outcome line.now read.0 read.1.items
+        ≡ database_outcome (query_outcome line.now) (files_read FileKind.Hwdb line.now files.items)) }
     ensures refused { IfErr result (λ e. IsSaid e (database_outcome (query_outcome line.now) (files_read FileKind.Hwdb line.now files.items))) }
 {
     let files = files_read(alloc, FileKind::Hwdb, line, files)?;
@@ -77,7 +78,8 @@ fn read_database(
         → say read.0.entries read.1.items ≡ database_outcome say (files_read FileKind.Hwdb line.now files.items)) }
     ensures refused { IfErr result (λ e. (say : List Entry → List Message → RunOutcome)
         → IsSaid e (database_outcome say (files_read FileKind.Hwdb line.now files.items))) }
-    ensures database { IfOk result (λ read. database_of (files_read FileKind.Hwdb line.now files.items) ≡ Ok (record { messages = message_lines read.1.items; entries = read.0.entries })) }
+    ensures database { IfOk result (λ read. database_of (files_read FileKind.Hwdb line.now files.items)
+        ≡ Ok (record { messages = message_lines read.1.items; entries = read.0.entries })) }
     ensures none { IfErr result (λ e. IsRefused e (database_of (files_read FileKind.Hwdb line.now files.items))) }
 {
     let files = files_read(alloc, FileKind::Hwdb, line, files)?;
@@ -95,7 +97,8 @@ pub fn open_database(
     line: &Line<'_>,
     files: Vec<SourceFile>,
 ) -> Result<(Vec<u8>, Trie), Refusal>
-    ensures database { IfOk result (λ read. database_of (files_read FileKind.Hwdb line.now files.items) ≡ Ok (record { messages = read.0.items; entries = read.1.entries })) }
+    ensures database { IfOk result (λ read. database_of (files_read FileKind.Hwdb line.now files.items)
+        ≡ Ok (record { messages = read.0.items; entries = read.1.entries })) }
     ensures none { IfErr result (λ e. IsRefused e (database_of (files_read FileKind.Hwdb line.now files.items))) }
 {
     let (trie, messages) = read_database(alloc, line, files)?;
@@ -151,13 +154,13 @@ fn updated(
     Ok(Report {
         output: write_index(alloc, entries)?,
         messages: message_lines(alloc, messages)?,
-        status: update_status(line.strict, messages),
+        status: update_status(line.strict, messages.len()),
     })
 }
 
-/// The status of `update`: 1 if it is strict and there is a message.
-fn update_status(strict: bool, messages: &[Message]) -> u8
-    ensures { result ≡ update_status strict (length messages.now) }
+/// The status of `update`: 1 if it is strict and something is reported.
+pub fn update_status(strict: bool, count: usize) -> u8
+    ensures { result ≡ update_status strict count }
 {
-    if strict && !messages.is_empty() { 1 } else { 0 }
+    if strict && count != 0 { 1 } else { 0 }
 }

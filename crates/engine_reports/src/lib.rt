@@ -10,6 +10,7 @@
 
 mod answers;
 mod checks;
+mod counts;
 mod database;
 mod delivery;
 mod file_choice;
@@ -21,13 +22,14 @@ mod refusal;
 mod report;
 
 pub use answers::answer_lines;
-pub use checks::{counted, is_style, report_on_rules};
-pub use database::{open_database, report_on_query, report_on_update};
+pub use checks::{is_style, report_on_rules};
+pub use counts::{Named, report_on_files};
+pub use database::{open_database, report_on_query, report_on_update, update_status};
 pub use delivery::{deliver_refusal, deliver_report, deliver_usage_error};
 pub use file_choice::files_read;
 pub use indexes::open_index;
 pub use law::an_index_opens_to_one_thing;
 pub use messages::heading;
-pub use opening::{Opening, RulesRead, open_files, open_rules};
+pub use opening::{RulesRead, open_rules, open_with_database};
 pub use refusal::Refusal;
 pub use report::Report;

@@ -5,7 +5,7 @@ ghost use Rattle.trie_build.specs.Sizes.{KeepsBounds};
 ghost use Rattle.hwdb_lookup.specs.declared.entry.Entry.{Entry};
 ghost use Rattle.engine_reports.specs.FilesRead.{rules_read};
 ghost use Rattle.engine_reports.specs.Openings.{opening, opening_by, opening_messages, opening_within};
-ghost use Rattle.engine_reports.specs.Reports.{IsRefused, shown_opening, shown_rules};
+ghost use Rattle.engine_reports.specs.Reports.{IsRefused, shown_rules};
 
 use crate::file_choice::{both_read, files_read};
 use crate::messages::{message_lines, plain_message_lines};
@@ -17,17 +17,7 @@ use hwdb_lookup::Entry;
 use rule_core::{ReadRules, files_as_read, read_rules_as};
 use std::alloc::{AllocError, Global};
 use text_bytes::{FileKind, Profile, SourceFile};
-
-/// What comes before the first answer to an event.
-#[derive(Drop)]
-pub struct Opening {
-    /// The messages about the rules, without those about style, and then those about the database.
-    pub messages: Vec<u8>,
-    /// The rules.
-    pub rules: ReadRules,
-    /// The entries of the database, by order. They are never too many for a trie.
-    pub entries: Vec<Entry>,
-}
+use trie_build::{Trie, trie_of};
 
 /// The rules and messages of rules files.
 #[derive(Drop)]
@@ -38,44 +28,43 @@ pub struct RulesRead {
     pub rules: ReadRules,
 }
 
-/// Reads what is needed to answer events from the files passed in, rules by the line's profile.
+/// Reads what events are answered by from the files passed in, rules by the line's profile: the rules and the messages,
+/// and the database as a trie. The files are returned as soon as what they hold is known.
 ///
-/// `TooManyEntries` comes exactly if the files of the database hold more than they may, else `TooManyRules` exactly
-/// if the rules have more than 2^24 tokens; `Memory` if memory runs out.
-pub fn open_files(
+/// There is `TooManyEntries` exactly if the files of the database hold more than they may, otherwise `TooManyRules`
+/// exactly if the rules have more than 2^24 tokens; `Memory` if memory runs out.
+pub fn open_with_database(
     alloc: Global,
     line: &Line<'_>,
     files: Vec<SourceFile>,
-) -> Result<Opening, Refusal>
-    ensures opening { IfOk result (λ o. opening line.now files.items None ≡ Ok (shown_opening o)) }
-    ensures rising { IfOk result (λ o. Rising o.entries.items) }
-    ensures bounds { IfOk result (λ o. KeepsBounds o.entries.items) }
+) -> Result<(RulesRead, Trie), Refusal>
+    ensures opening { IfOk result (λ r. opening line.now files.items None ≡ Ok (shown_rules r.0 r.1.entries)) }
     ensures refused { IfErr result (λ e. IsRefused e (opening line.now files.items None)) }
 {
     let (rules, database) = both_read(alloc, line, files)?;
     let rules = files_as_read(alloc, line.profile, rules)?;
-    open_these(alloc, line.profile, &rules, &database)
+    let (read, entries) = open_these(alloc, line.profile, &rules, &database)?;
+    drop(rules);
+    drop(database);
+    Ok((read, trie_of(alloc, entries)?))
 }
 
-/// The same for the files that are read, rules with their ends of lines as the profile has them.
+/// The same for the files that are read, rules with their ends of lines as the profile has them. The entries of the
+/// database are by order, and never too many for a trie.
 fn open_these(
     alloc: Global,
     profile: Profile,
     rules: &[SourceFile],
     database: &[SourceFile],
-) -> Result<Opening, Refusal>
-    ensures opening { IfOk result (λ o. opening_within profile rules.now database.now ≡ Ok (shown_opening o)) }
-    ensures rising { IfOk result (λ o. Rising o.entries.items) }
-    ensures bounds { IfOk result (λ o. KeepsBounds o.entries.items) }
+) -> Result<(RulesRead, Vec<Entry>), Refusal>
+    ensures opening { IfOk result (λ r. opening_within profile rules.now database.now ≡ Ok (shown_rules r.0 r.1.items)) }
+    ensures rising { IfOk result (λ r. Rising r.1.items) }
+    ensures bounds { IfOk result (λ r. KeepsBounds r.1.items) }
     ensures refused { IfErr result (λ e. IsRefused e (opening_within profile rules.now database.now)) }
 {
     let database = read_sources(alloc, database)?;
     let read = open_these_rules(alloc, profile, rules, &database.messages)?;
-    Ok(Opening {
-        messages: read.messages,
-        rules: read.rules,
-        entries: database.entries,
-    })
+    Ok((read, database.entries))
 }
 
 /// Reads the rules by which events are answered with an index, from the files passed in and by the line's profile.
@@ -87,7 +76,8 @@ pub fn open_rules(
     line: &Line<'_>,
     files: Vec<SourceFile>,
 ) -> Result<RulesRead, Refusal>
-    ensures opening { IfOk result (λ r. (entries : List Entry) → opening_by line.now.profile (rules_read line.now files.items) [] entries ≡ Ok (shown_rules r entries)) }
+    ensures opening { IfOk result (λ r. (entries : List Entry) → opening_by line.now.profile (rules_read line.now files.items) [] entries
+        ≡ Ok (shown_rules r entries)) }
     ensures refused { IfErr result (λ e. (entries : List Entry) → IsRefused e (opening_by line.now.profile (rules_read line.now files.items) [] entries)) }
 {
     let rules = files_read(alloc, FileKind::Rules, line, files)?;

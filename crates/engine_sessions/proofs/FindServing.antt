@@ -47,14 +47,14 @@ serves_still messages answer status before now n s = record {
         status_is = status_stays status outcome.status (length outcome.output == 0) n (outcome_under messages answer (joined s.read)) w.status_is;
       };
   all = λ h text e. ap found (s.all h text e);
-  cut = λ h. let c = s.cut h in record { output = c.output; reported = c.reported; messages = c.messages; line = c.line; line_is = c.line_is; begun = c.begun; memory = c.memory };
+  cut = λ h. let c = s.cut h in record { output = c.output; after = c.after; messages = c.messages; line = c.line; line_is = c.line_is; begun = c.begun; memory = c.memory };
   failures = s.failures;
   statuses = s.statuses;
 }
 
-reports_some : (line : Text) (wanted status : ℕ) (reported now : SinkState) → 0 < wanted → ReportsFailure line wanted status reported now → status ≡ 0 → ⊥
-reports_some line wanted status reported now h (inl p) e = absurd (omega (arith, h, p.0, e))
-reports_some line wanted status reported now h (inr p) e = absurd (omega (arith, p.0, e))
+reports_some : (line : Text) (wanted status : ℕ) (after now : SinkState) → 0 < wanted → ReportsFailure line wanted status after now → status ≡ 0 → ⊥
+reports_some line wanted status after now h (inl p) e = absurd (omega (arith, h, p.0, e))
+reports_some line wanted status after now h (inr p) e = absurd (omega (arith, p.0, e))
 
 stops_some : (messages : Text) (status : ℕ) (before now : Streams) → StopsBefore messages status before now → status ≡ 0 → ⊥
 stops_some messages status before now s e = by s.reports
@@ -71,8 +71,8 @@ low : (b : Bool) (status : ℕ) → status ≡ cond b 1 0 → status ≤ 1
 low true status e = omega (arith, e)
 low false status e = omega (arith, e)
 
-module _ (messages : Text) (answer : EventValue → Text) (status : ℕ) (before now : Streams) (reported : SinkState) (says : HandsOn before.err messages reported) where
-  found_well : (t : AnswersInput answer (Ok tt) (devices_of before) (devices_of now)) → ConcludesFinding (Ok tt) t.sent status reported now.err → Serves (λ text. found (input_outcome messages answer text)) status before now
+module _ (messages : Text) (answer : EventValue → Text) (status : ℕ) (before now : Streams) (after : SinkState) (says : HandsOn before.err messages after) where
+  found_well : (t : AnswersInput answer (Ok tt) (devices_of before) (devices_of now)) → ConcludesFinding (Ok tt) t.sent status after now.err → Serves (λ text. found (input_outcome messages answer text)) status before now
   found_well t c =
       let is = ap found (outcome_well messages answer (joined t.read) t.sent t.ends.answers) in
       let few : status ≤ 1 = low (say_something t.sent) status c.0 in
@@ -80,28 +80,28 @@ module _ (messages : Text) (answer : EventValue → Text) (status : ℕ) (before
         read = t.read;
         pieces = t.pieces;
         whole = λ h. subst (λ o. IsWhole WritesOut o status (outputs before) (outputs now)) (sym is)
-            (record { output = sends_output before.out t.reported now.out t.sent t.sends t.ends.untouched; messages = rw c.1 says; status_is = c.0 ∙ after_turn (length (joined t.sent) == 0) 1 0 });
+            (record { output = sends_output before.out t.after now.out t.sent t.sends t.ends.untouched; messages = rw c.1 says; status_is = c.0 ∙ after_turn (length (joined t.sent) == 0) 1 0 });
         all = λ h text e. let r = rest_reported text (joined t.read) now.input.left (sym e ∙ t.left) in
             ap (λ x. found (input_outcome messages answer x)) (r.2 ∙ ap (λ rest. joined t.read ++ rest) (none_is now.input.left r.0 t.ends.none_left r.1) ∙ append-nil (joined t.read));
         cut = λ h. absurd (omega (arith, h, few));
         failures = record {
           failed = λ e. absurd (omega (arith, e, few));
-          well = λ h. (t.counts.well, ap (λ s. s.faults) t.ends.untouched ∙ sends_well before.out t.reported t.sent t.sends, ap (λ s. s.faults) c.1 ∙ says.well);
+          well = λ h. (t.counts.well, ap (λ s. s.faults) t.ends.untouched ∙ sends_well before.out t.after t.sent t.sends, ap (λ s. s.faults) c.1 ∙ says.well);
         };
         statuses = omega (arith, few);
       }
 
-  found_fault : (fault : TurnFault) → AnswersInput answer (Err fault) (devices_of before) (devices_of now) → Concludes (Err fault) status reported now.err → (status ≡ 0 → ⊥) → Serves (λ text. found (input_outcome messages answer text)) status before now
-  found_fault fault t c n = serves_still messages answer status before now n (answers_serve messages answer status before now (inr (record { reported = reported; says = says; end = Err fault; answers = t; concludes = c })))
+  found_fault : (fault : TurnFault) → AnswersInput answer (Err fault) (devices_of before) (devices_of now) → Concludes (Err fault) status after now.err → (status ≡ 0 → ⊥) → Serves (λ text. found (input_outcome messages answer text)) status before now
+  found_fault fault t c n = serves_still messages answer status before now n (answers_serve messages answer status before now (inr (record { after = after; says = says; end = Err fault; answers = t; concludes = c })))
 
-  found_by : (end : Result (Unit {0}) TurnFault) (t : AnswersInput answer end (devices_of before) (devices_of now)) → ConcludesFinding end t.sent status reported now.err → Serves (λ text. found (input_outcome messages answer text)) status before now
+  found_by : (end : Result (Unit {0}) TurnFault) (t : AnswersInput answer end (devices_of before) (devices_of now)) → ConcludesFinding end t.sent status after now.err → Serves (λ text. found (input_outcome messages answer text)) status before now
   found_by (Ok done) t c = found_well t c
-  found_by (Err Read) t c = found_fault Read t c (reports_some read_failed 3 status reported now.err (omega arith) c)
-  found_by (Err Write) t c = found_fault Write t c (reports_some write_failed 3 status reported now.err (omega arith) c)
-  found_by (Err (Session (Block number fault))) t c = found_fault (Session (Block number fault)) t c (reports_some (block_line number fault) 1 status reported now.err (omega arith) c)
-  found_by (Err (Session Memory)) t c = found_fault (Session Memory) t c (reports_some out_of_memory 4 status reported now.err (omega arith) c)
+  found_by (Err Read) t c = found_fault Read t c (reports_some read_failed 3 status after now.err (omega arith) c)
+  found_by (Err Write) t c = found_fault Write t c (reports_some write_failed 3 status after now.err (omega arith) c)
+  found_by (Err (Session (Block number fault))) t c = found_fault (Session (Block number fault)) t c (reports_some (block_line number fault) 1 status after now.err (omega arith) c)
+  found_by (Err (Session Memory)) t c = found_fault (Session Memory) t c (reports_some out_of_memory 4 status after now.err (omega arith) c)
   found_by (Err (Session Ended)) t c = absurd c
 
 pub finds_serve : (messages : Text) (answer : EventValue → Text) (status : ℕ) (before now : Streams) → FindsAll messages answer status before now → Serves (λ text. found (input_outcome messages answer text)) status before now
 finds_serve messages answer status before now (inl s) = serves_still messages answer status before now (stops_some messages status before now s) (answers_serve messages answer status before now (inl s))
-finds_serve messages answer status before now (inr b) = found_by messages answer status before now b.reported b.says b.end b.answers b.concludes
+finds_serve messages answer status before now (inr b) = found_by messages answer status before now b.after b.says b.end b.answers b.concludes

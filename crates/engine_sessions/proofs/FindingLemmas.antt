@@ -90,4 +90,4 @@ finding_used_up answer first session input now output sink finds s = record { an
 -- all is answered, and what is found is reported by the status
 pub found_after : (messages : Text) (answer : EventValue → Text) (finds : Bool) (status : ℕ) (before now : Streams) → HandsOn before.err messages now.err → AnswersFinding answer (Ok finds) (devices_of before) (devices_of now) → status ≡ cond finds 1 0
     → FindsAll messages answer status before now
-found_after messages answer finds status before now h a e = inr (record { reported = now.err; says = h; end = Ok tt; answers = a.answers; concludes = (e ∙ ap (λ b. cond b 1 0) a.finds_is, refl) })
+found_after messages answer finds status before now h a e = inr (record { after = now.err; says = h; end = Ok tt; answers = a.answers; concludes = (e ∙ ap (λ b. cond b 1 0) a.finds_is, refl) })

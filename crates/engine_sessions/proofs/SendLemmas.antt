@@ -10,7 +10,7 @@ use Rattle.engine_sessions.specs.Turns.{Sends, joined}
 
 pub hands_after : (before between now : SinkState) (first second : Text) → HandsOn before first between → HandsOn between second now → HandsOn before (first ++ second) now
 hands_after before between now first second h k = record {
-  taken = k.taken ∙ ap (λ reported. followed_by reported second) h.taken ∙ followed_by-append before.taken first second;
+  taken = k.taken ∙ ap (λ shown. followed_by shown second) h.taken ∙ followed_by-append before.taken first second;
   flushed = k.flushed;
   well = k.well ∙ h.well;
 }

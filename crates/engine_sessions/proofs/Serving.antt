@@ -45,33 +45,33 @@ begun-taken before now text e = (length text, omega arith, e ∙ ap (followed_by
 pub begun-first : (before now : SinkState) (first second : Text) → HasBegun before first now → HasBegun before (first ++ second) now
 begun-first before now first second b = (b.0, omega (arith, b.1, length-append first second), b.2 ∙ ap (followed_by before.taken) (sym (take-append-le b.0 first second b.1)))
 
-pub begun-following : (before reported now : SinkState) (first second : Text) → reported.taken ≡ followed_by before.taken first → HasBegun reported second now → HasBegun before (first ++ second) now
-begun-following before reported now first second e b = (
+pub begun-following : (before after now : SinkState) (first second : Text) → after.taken ≡ followed_by before.taken first → HasBegun after second now → HasBegun before (first ++ second) now
+begun-following before after now first second e b = (
   length first + b.0,
   omega (arith, b.1, length-append first second),
   b.2 ∙ ap (λ t. followed_by t (take b.0 second)) e ∙ followed_by-append before.taken first (take b.0 second) ∙ ap (followed_by before.taken) (sym (take-append-add first second b.0)),
 )
 
-pub reports_begun : (line : Text) (wanted status : ℕ) (reported now : SinkState) → ReportsFailure line wanted status reported now → HasBegun reported line now
-reports_begun line wanted status reported now (inl p) = begun-taken reported now line p.1.taken
-reports_begun line wanted status reported now (inr p) = p.1.taken
+pub reports_begun : (line : Text) (wanted status : ℕ) (after now : SinkState) → ReportsFailure line wanted status after now → HasBegun after line now
+reports_begun line wanted status after now (inl p) = begun-taken after now line p.1.taken
+reports_begun line wanted status after now (inr p) = p.1.taken
 
 -- a run that is cut short, by the line that says about it
-pub cut_by : (outcome : RunOutcome) (status : ℕ) (before now : Streams) (reported : SinkState) (line : Text) → IsStatusLine line → HasBegun before.out outcome.output now.out → HasBegun before.err outcome.messages reported → HasBegun reported line now.err
-    → (status ≡ 4 → HandsOn reported out_of_memory now.err) → IsCutShort outcome status before now
-cut_by outcome status before now reported line is output messages begun memory = record { output = output; reported = reported; messages = messages; line = line; line_is = is; begun = begun; memory = memory }
+pub cut_by : (outcome : RunOutcome) (status : ℕ) (before now : Streams) (after : SinkState) (line : Text) → IsStatusLine line → HasBegun before.out outcome.output now.out → HasBegun before.err outcome.messages after → HasBegun after line now.err
+    → (status ≡ 4 → HandsOn after out_of_memory now.err) → IsCutShort outcome status before now
+cut_by outcome status before now after line is output messages begun memory = record { output = output; after = after; messages = messages; line = line; line_is = is; begun = begun; memory = memory }
 
-pub at_memory : (status : ℕ) (reported now : SinkState) → ReportsFailure out_of_memory 4 status reported now → status ≡ 4 → HandsOn reported out_of_memory now
-at_memory status reported now (inl p) e = p.1
-at_memory status reported now (inr p) e = not_four status p.0 e
+pub at_memory : (status : ℕ) (after now : SinkState) → ReportsFailure out_of_memory 4 status after now → status ≡ 4 → HandsOn after out_of_memory now
+at_memory status after now (inl p) e = p.1
+at_memory status after now (inr p) e = not_four status p.0 e
 
-pub memory_status : (status : ℕ) (reported now : SinkState) → ReportsFailure out_of_memory 4 status reported now → 3 ≤ status
-memory_status status reported now (inl p) = omega (arith, p.0)
-memory_status status reported now (inr p) = omega (arith, p.0)
+pub memory_status : (status : ℕ) (after now : SinkState) → ReportsFailure out_of_memory 4 status after now → 3 ≤ status
+memory_status status after now (inl p) = omega (arith, p.0)
+memory_status status after now (inr p) = omega (arith, p.0)
 
-pub memory_most : (status : ℕ) (reported now : SinkState) → ReportsFailure out_of_memory 4 status reported now → status ≤ 4
-memory_most status reported now (inl p) = omega (arith, p.0)
-memory_most status reported now (inr p) = omega (arith, p.0)
+pub memory_most : (status : ℕ) (after now : SinkState) → ReportsFailure out_of_memory 4 status after now → status ≤ 4
+memory_most status after now (inl p) = omega (arith, p.0)
+memory_most status after now (inr p) = omega (arith, p.0)
 
 -- what was refused
 pub refused_cut : (outcome : RunOutcome) (status : ℕ) (before now : Streams) → now.out ≡ before.out → ReportsFailure out_of_memory 4 status before.err now.err → IsCutShort outcome status before now
@@ -87,7 +87,7 @@ report_cut : (outcome : RunOutcome) (status : ℕ) (before now : Streams) → De
 report_cut outcome status before now d (inl e) = elim (d.failed e) [
   | inl f ↦ messages_cut outcome status before now f.untouched e f.messages.taken
   | inr rest ↦ elim rest [
-    | inl f ↦ cut_by outcome status before now f.reported write_failed (inr (inr (inl refl))) f.output.taken (begun-taken before.err f.reported outcome.messages f.messages.taken) (reports_begun write_failed 3 status f.reported now.err f.line) (not_four status e)
+    | inl f ↦ cut_by outcome status before now f.after write_failed (inr (inr (inl refl))) f.output.taken (begun-taken before.err f.after outcome.messages f.messages.taken) (reports_begun write_failed 3 status f.after now.err f.line) (not_four status e)
     | inr f ↦ refused_cut outcome status before now f.untouched f.line
   ]
 ]
@@ -117,9 +117,9 @@ reports_serve outcome said status before now same r = record {
 }
 
 -- messages are the first of what is reported
-opening_first : (messages : Text) (output : Text) (count : ℕ) (fault : Option BlockFault) (err reported : SinkState) → reported.taken ≡ followed_by err.taken messages → HasBegun err (answered_until messages output count fault).messages reported
-opening_first messages output count None err reported e = begun-taken err reported messages e
-opening_first messages output count (Some fault) err reported e = begun-first err reported messages (block_line (number_after count) fault) (begun-taken err reported messages e)
+opening_first : (messages : Text) (output : Text) (count : ℕ) (fault : Option BlockFault) (err after : SinkState) → after.taken ≡ followed_by err.taken messages → HasBegun err (answered_until messages output count fault).messages after
+opening_first messages output count None err after e = begun-taken err after messages e
+opening_first messages output count (Some fault) err after e = begun-first err after messages (block_line (number_after count) fault) (begun-taken err after messages e)
 
 -- the outcome, if the answers are known
 pub outcome_well : (messages : Text) (answer : EventValue → Text) (text : Text) (sent : List Text) → answers_of answer text ≡ well sent → input_outcome messages answer text ≡ record { output = joined sent; messages = messages; status = 0 }
@@ -144,9 +144,9 @@ none_is (Some other) rest h e = let same : other ≡ rest = some_is other rest e
     some_is : (a b : Text) → Some a ≡ Some b → a ≡ b
     some_is a b e = cc
 
-pub sends_output : (out reported out_now : SinkState) (sent : List Text) → Sends out sent reported → out_now ≡ reported → WritesOut out (joined sent) out_now
-sends_output out reported out_now [] s e = inr (refl, e ∙ s)
-sends_output out reported out_now (text ∷ sent) s e = inl (subst (λ sink. HandsOn out (joined (text ∷ sent)) sink) (sym e) s)
+pub sends_output : (out after out_now : SinkState) (sent : List Text) → Sends out sent after → out_now ≡ after → WritesOut out (joined sent) out_now
+sends_output out after out_now [] s e = inr (refl, e ∙ s)
+sends_output out after out_now (text ∷ sent) s e = inl (subst (λ sink. HandsOn out (joined (text ∷ sent)) sink) (sym e) s)
 
 -- the output, whatever the fault
 output_is : (messages output : Text) (count : ℕ) (fault : Option BlockFault) → (answered_until messages output count fault).output ≡ output
@@ -154,47 +154,47 @@ output_is messages output count None = refl
 output_is messages output count (Some fault) = refl
 
 -- the answers sent are the first of all
-sent_begun : (out reported out_now : SinkState) (sent : List Text) (unsent : List Text) (texts : List Text) → texts ≡ sent ++ unsent → Sends out sent reported → HasBegun reported (joined unsent) out_now → HasBegun out (joined texts) out_now
-sent_begun out reported out_now sent unsent texts e s b =
-    subst (λ text. HasBegun out text out_now) (sym (ap joined e ∙ flat_map-append (λ text. text) sent unsent)) (begun-following out reported out_now (joined sent) (joined unsent) (sends_taken out reported sent s) b)
+sent_begun : (out after out_now : SinkState) (sent : List Text) (unsent : List Text) (texts : List Text) → texts ≡ sent ++ unsent → Sends out sent after → HasBegun after (joined unsent) out_now → HasBegun out (joined texts) out_now
+sent_begun out after out_now sent unsent texts e s b =
+    subst (λ text. HasBegun out text out_now) (sym (ap joined e ∙ flat_map-append (λ text. text) sent unsent)) (begun-following out after out_now (joined sent) (joined unsent) (sends_taken out after sent s) b)
 
 read_first : (answer : EventValue → Text) (text : Text) (sent : List Text) → answers_to answer (complete_runs text) ≡ well sent → (answers_of answer text).texts ≡ sent ++ (answers_to answer (not_empty (rest_of text ∷ []))).texts
 read_first answer text sent e = ap (λ a. a.texts) (answers_to-append answer (complete_runs text) (not_empty (rest_of text ∷ [])) sent e)
 
-module _ (messages : Text) (answer : EventValue → Text) (status : ℕ) (before now : Streams) (reported : SinkState) (says : HandsOn before.err messages reported) where
-  first_reported : (text : Text) → HasBegun before.err (input_outcome messages answer text).messages reported
-  first_reported text = opening_first messages (joined (answers_of answer text).texts) (length (answers_of answer text).texts) (answers_of answer text).fault before.err reported says.taken
+module _ (messages : Text) (answer : EventValue → Text) (status : ℕ) (before now : Streams) (after : SinkState) (says : HandsOn before.err messages after) where
+  first_reported : (text : Text) → HasBegun before.err (input_outcome messages answer text).messages after
+  first_reported text = opening_first messages (joined (answers_of answer text).texts) (length (answers_of answer text).texts) (answers_of answer text).fault before.err after says.taken
 
   output_begun : (text : Text) → HasBegun before.out (joined (answers_of answer text).texts) now.out → HasBegun before.out (input_outcome messages answer text).output now.out
   output_begun text b = subst (λ o. HasBegun before.out o now.out) (sym (output_is messages (joined (answers_of answer text).texts) (length (answers_of answer text).texts) (answers_of answer text).fault)) b
 
-  served_well : (t : AnswersInput answer (Ok tt) (devices_of before) (devices_of now)) → Concludes (Ok tt) status reported now.err → Serves (input_outcome messages answer) status before now
+  served_well : (t : AnswersInput answer (Ok tt) (devices_of before) (devices_of now)) → Concludes (Ok tt) status after now.err → Serves (input_outcome messages answer) status before now
   served_well t c =
       let is = outcome_well messages answer (joined t.read) t.sent t.ends.answers in
       record {
         read = t.read;
         pieces = t.pieces;
         whole = λ h. subst (λ o. IsWhole WritesOut o status (outputs before) (outputs now)) (sym is)
-            (record { output = sends_output before.out t.reported now.out t.sent t.sends t.ends.untouched; messages = rw c.1 says; status_is = c.0 });
+            (record { output = sends_output before.out t.after now.out t.sent t.sends t.ends.untouched; messages = rw c.1 says; status_is = c.0 });
         all = λ h text e. let r = rest_reported text (joined t.read) now.input.left (sym e ∙ t.left) in
             ap (input_outcome messages answer) (r.2 ∙ ap (λ rest. joined t.read ++ rest) (none_is now.input.left r.0 t.ends.none_left r.1) ∙ append-nil (joined t.read));
         cut = λ h. absurd (omega (arith, h, c.0));
         failures = record {
           failed = λ e. absurd (omega (arith, e, c.0));
-          well = λ h. (t.counts.well, ap (λ s. s.faults) t.ends.untouched ∙ sends_well before.out t.reported t.sent t.sends, ap (λ s. s.faults) c.1 ∙ says.well);
+          well = λ h. (t.counts.well, ap (λ s. s.faults) t.ends.untouched ∙ sends_well before.out t.after t.sent t.sends, ap (λ s. s.faults) c.1 ∙ says.well);
         };
         statuses = omega (arith, c.0);
       }
 
-  served_read : (t : AnswersInput answer (Err Read) (devices_of before) (devices_of now)) → Concludes (Err Read) status reported now.err → status ≡ 3 → Serves (input_outcome messages answer) status before now
+  served_read : (t : AnswersInput answer (Err Read) (devices_of before) (devices_of now)) → Concludes (Err Read) status after now.err → status ≡ 3 → Serves (input_outcome messages answer) status before now
   served_read t c e = record {
     read = t.read;
     pieces = t.pieces;
     whole = not_under status (omega (arith, e));
     all = not_under status (omega (arith, e));
-    cut = λ h. cut_by (input_outcome messages answer (joined t.read)) status before now reported read_failed (inr (inl refl))
-        (output_begun (joined t.read) (sent_begun before.out t.reported now.out t.sent _ (answers_of answer (joined t.read)).texts (read_first answer (joined t.read) t.sent t.ends.0) t.sends (rw t.ends.1 (begun-none t.reported _))))
-        (first_reported (joined t.read)) (reports_begun read_failed 3 status reported now.err c) (not_four status e);
+    cut = λ h. cut_by (input_outcome messages answer (joined t.read)) status before now after read_failed (inr (inl refl))
+        (output_begun (joined t.read) (sent_begun before.out t.after now.out t.sent _ (answers_of answer (joined t.read)).texts (read_first answer (joined t.read) t.sent t.ends.0) t.sends (rw t.ends.1 (begun-none t.after _))))
+        (first_reported (joined t.read)) (reports_begun read_failed 3 status after now.err c) (not_four status e);
     failures = record {
       failed = λ f. elim t.counts [ inl c ↦ inl c.failed | inr c ↦ inr (inr (inr c.0)) ];
       well = λ h. absurd (h e);
@@ -202,53 +202,53 @@ module _ (messages : Text) (answer : EventValue → Text) (status : ℕ) (before
     statuses = omega (arith, e);
   }
 
-  served_write : (t : AnswersInput answer (Err Write) (devices_of before) (devices_of now)) → Concludes (Err Write) status reported now.err → status ≡ 3 → Serves (input_outcome messages answer) status before now
+  served_write : (t : AnswersInput answer (Err Write) (devices_of before) (devices_of now)) → Concludes (Err Write) status after now.err → status ≡ 3 → Serves (input_outcome messages answer) status before now
   served_write t c e = record {
     read = t.read;
     pieces = t.pieces;
     whole = not_under status (omega (arith, e));
     all = not_under status (omega (arith, e));
-    cut = λ h. cut_by (input_outcome messages answer (joined t.read)) status before now reported write_failed (inr (inr (inl refl)))
-        (output_begun (joined t.read) (sent_begun before.out t.reported now.out t.sent (t.ends.next ∷ t.ends.unsent) (answers_of answer (joined t.read)).texts t.ends.texts_are t.sends (begun-first t.reported now.out t.ends.next (joined t.ends.unsent) t.ends.breaks.taken)))
-        (first_reported (joined t.read)) (reports_begun write_failed 3 status reported now.err c) (not_four status e);
+    cut = λ h. cut_by (input_outcome messages answer (joined t.read)) status before now after write_failed (inr (inr (inl refl)))
+        (output_begun (joined t.read) (sent_begun before.out t.after now.out t.sent (t.ends.next ∷ t.ends.unsent) (answers_of answer (joined t.read)).texts t.ends.texts_are t.sends (begun-first t.after now.out t.ends.next (joined t.ends.unsent) t.ends.breaks.taken)))
+        (first_reported (joined t.read)) (reports_begun write_failed 3 status after now.err c) (not_four status e);
     failures = record {
-      failed = λ f. inr (inl (subst (λ n. Counts 1 n now.out.faults) (sends_well before.out t.reported t.sent t.sends) t.ends.breaks.failed));
+      failed = λ f. inr (inl (subst (λ n. Counts 1 n now.out.faults) (sends_well before.out t.after t.sent t.sends) t.ends.breaks.failed));
       well = λ h. absurd (h e);
     };
     statuses = omega (arith, e);
   }
 
-  served_memory : (t : AnswersInput answer (Err (Session Memory)) (devices_of before) (devices_of now)) → Concludes (Err (Session Memory)) status reported now.err → Serves (input_outcome messages answer) status before now
+  served_memory : (t : AnswersInput answer (Err (Session Memory)) (devices_of before) (devices_of now)) → Concludes (Err (Session Memory)) status after now.err → Serves (input_outcome messages answer) status before now
   served_memory t c = record {
     read = t.read;
     pieces = t.pieces;
-    whole = not_under status (memory_status status reported now.err c);
-    all = not_under status (memory_status status reported now.err c);
-    cut = λ h. cut_by (input_outcome messages answer (joined t.read)) status before now reported out_of_memory (inr (inr (inr refl)))
-        (output_begun (joined t.read) (sent_begun before.out t.reported now.out t.sent t.ends.0.0 (answers_of answer (joined t.read)).texts t.ends.0.1 t.sends (rw t.ends.1 (begun-none t.reported (joined t.ends.0.0)))))
-        (first_reported (joined t.read)) (reports_begun out_of_memory 4 status reported now.err c) (at_memory status reported now.err c);
-    failures = reported_failures c t.counts.well (ap (λ s. s.faults) t.ends.1 ∙ sends_well before.out t.reported t.sent t.sends);
-    statuses = memory_most status reported now.err c;
+    whole = not_under status (memory_status status after now.err c);
+    all = not_under status (memory_status status after now.err c);
+    cut = λ h. cut_by (input_outcome messages answer (joined t.read)) status before now after out_of_memory (inr (inr (inr refl)))
+        (output_begun (joined t.read) (sent_begun before.out t.after now.out t.sent t.ends.0.0 (answers_of answer (joined t.read)).texts t.ends.0.1 t.sends (rw t.ends.1 (begun-none t.after (joined t.ends.0.0)))))
+        (first_reported (joined t.read)) (reports_begun out_of_memory 4 status after now.err c) (at_memory status after now.err c);
+    failures = reported_failures c t.counts.well (ap (λ s. s.faults) t.ends.1 ∙ sends_well before.out t.after t.sent t.sends);
+    statuses = memory_most status after now.err c;
   }
     where
-      reported_failures : ReportsFailure out_of_memory 4 status reported now.err → now.input.faults ≡ before.input.faults → now.out.faults ≡ before.out.faults → ReportsFailures status (length t.read) before now
+      reported_failures : ReportsFailure out_of_memory 4 status after now.err → now.input.faults ≡ before.input.faults → now.out.faults ≡ before.out.faults → ReportsFailures status (length t.read) before now
       reported_failures (inl p) e f = record { failed = λ g. not_four status g p.0; well = λ h. (e, f, p.1.well ∙ says.well) }
       reported_failures (inr p) e f = record { failed = λ g. inr (inr (inl (subst (λ n. Counts 1 n now.err.faults) says.well p.1.failed))); well = λ h. absurd (h p.0) }
 
-  served_block : (number : ℕ) (fault : BlockFault) (t : AnswersInput answer (Err (Session (Block number fault))) (devices_of before) (devices_of now)) → Concludes (Err (Session (Block number fault))) status reported now.err → Serves (input_outcome messages answer) status before now
+  served_block : (number : ℕ) (fault : BlockFault) (t : AnswersInput answer (Err (Session (Block number fault))) (devices_of before) (devices_of now)) → Concludes (Err (Session (Block number fault))) status after now.err → Serves (input_outcome messages answer) status before now
   served_block number fault t (inl p) =
       let is = outcome_faulty messages answer (joined t.read) t.sent number fault t.ends.0.answers t.ends.0.numbered in
       record {
         read = t.read;
         pieces = t.pieces;
         whole = λ h. subst (λ o. IsWhole WritesOut o status (outputs before) (outputs now)) (sym is)
-            (record { output = sends_output before.out t.reported now.out t.sent t.sends t.ends.1; messages = hands_after before.err reported now.err messages (block_line number fault) says p.1; status_is = p.0 });
+            (record { output = sends_output before.out t.after now.out t.sent t.sends t.ends.1; messages = hands_after before.err after now.err messages (block_line number fault) says p.1; status_is = p.0 });
         all = λ h text e. let r = rest_reported text (joined t.read) now.input.left (sym e ∙ t.left) in
             ap (input_outcome messages answer) r.2 ∙ outcome_faulty messages answer (joined t.read ++ r.0) t.sent number fault (t.ends.0.stays r.0 r.1) t.ends.0.numbered ∙ sym is;
         cut = λ h. absurd (omega (arith, h, p.0));
         failures = record {
           failed = λ e. absurd (omega (arith, e, p.0));
-          well = λ h. (t.counts.well, ap (λ s. s.faults) t.ends.1 ∙ sends_well before.out t.reported t.sent t.sends, p.1.well ∙ says.well);
+          well = λ h. (t.counts.well, ap (λ s. s.faults) t.ends.1 ∙ sends_well before.out t.after t.sent t.sends, p.1.well ∙ says.well);
         };
         statuses = omega (arith, p.0);
       }
@@ -261,7 +261,7 @@ module _ (messages : Text) (answer : EventValue → Text) (status : ℕ) (before
         all = not_under status (omega (arith, p.0));
         cut = λ h. subst (λ o. IsCutShort o status before now) (sym is)
             (cut_by (record { output = joined t.sent; messages = messages ++ block_line number fault; status = 1 }) status before now now.err [] (inl refl)
-            (begun-taken before.out now.out (joined t.sent) (ap (λ s. s.taken) t.ends.1 ∙ sends_taken before.out t.reported t.sent t.sends)) (begun-following before.err reported now.err messages (block_line number fault) says.taken p.1.taken) (begun-none now.err []) (not_four status p.0));
+            (begun-taken before.out now.out (joined t.sent) (ap (λ s. s.taken) t.ends.1 ∙ sends_taken before.out t.after t.sent t.sends)) (begun-following before.err after now.err messages (block_line number fault) says.taken p.1.taken) (begun-none now.err []) (not_four status p.0));
         failures = record {
           failed = λ g. inr (inr (inl (subst (λ n. Counts 1 n now.err.faults) says.well p.1.failed)));
           well = λ h. absurd (h p.0);
@@ -269,11 +269,11 @@ module _ (messages : Text) (answer : EventValue → Text) (status : ℕ) (before
         statuses = omega (arith, p.0);
       }
 
-  three : (line : Text) → ReportsFailure line 3 status reported now.err → status ≡ 3
+  three : (line : Text) → ReportsFailure line 3 status after now.err → status ≡ 3
   three line (inl p) = p.0
   three line (inr p) = p.0
 
-  served_after : (end : Result (Unit {0}) TurnFault) → AnswersInput answer end (devices_of before) (devices_of now) → Concludes end status reported now.err → Serves (input_outcome messages answer) status before now
+  served_after : (end : Result (Unit {0}) TurnFault) → AnswersInput answer end (devices_of before) (devices_of now) → Concludes end status after now.err → Serves (input_outcome messages answer) status before now
   served_after (Ok done) t c = served_well t c
   served_after (Err Read) t c = served_read t c (three read_failed c)
   served_after (Err Write) t c = served_write t c (three write_failed c)
@@ -315,4 +315,4 @@ served_before messages answer status before now s = record {
 pub answers_serve : (messages : Text) (answer : EventValue → Text) (status : ℕ) (before now : Streams) → AnswersAll messages answer status before now
     → Serves (input_outcome messages answer) status before now
 answers_serve messages answer status before now (inl s) = served_before messages answer status before now s
-answers_serve messages answer status before now (inr b) = served_after messages answer status before now b.reported b.says b.end b.answers b.concludes
+answers_serve messages answer status before now (inr b) = served_after messages answer status before now b.after b.says b.end b.answers b.concludes

@@ -150,7 +150,7 @@ sent-breaks answer old now next part piece step before sink later s t b = at_ans
     at_answer None e b = absurd b
     at_answer (Some text) e b = record {
       sent = s.texts;
-      reported = sink;
+      after = sink;
       sends = s.sends;
       stops = record {
         next = text;
@@ -173,7 +173,7 @@ pub end_breaks : {A : Type 0} (answer : EventValue → Text) (old now : Held A) 
 end_breaks answer old now None before sink e b = absurd b
 end_breaks answer old now (Some text) before sink e b = record {
   sent = [];
-  reported = before;
+  after = before;
   sends = sends-none before;
   stops = record {
     next = text;

@@ -47,11 +47,11 @@ pub record Served {A : Type 0} (answer : EventValue → Text) (first : Held A) (
   pub proceeds : session.ended ≡ false
   pub answering : session.answering ≡ first.answering
 
-pub led_by-nil : (reported : Option Text) → led_by [] reported ≡ reported
+pub led_by-nil : (shown : Option Text) → led_by [] shown ≡ shown
 led_by-nil None = refl
 led_by-nil (Some rest) = refl
 
-led_by-append : (first second : Text) (reported : Option Text) → led_by first (led_by second reported) ≡ led_by (first ++ second) reported
+led_by-append : (first second : Text) (shown : Option Text) → led_by first (led_by second shown) ≡ led_by (first ++ second) shown
 led_by-append first second None = refl
 led_by-append first second (Some rest) = ap Some (sym (append_assoc first second rest))
 
@@ -71,7 +71,7 @@ due_after answer read piece sent more e =
     (more, ap (λ texts. texts ++ more) (sym (ap (λ pieces. (answers_to answer (complete_runs (joined pieces))).texts) (all_but_last-push read piece) ∙ ap (λ a. a.texts) e)))
 
 pub one_more : (input now later : SourceState) (read : List Text) (piece : Text) → now.pieces ≡ followed_by input.pieces read → later.pieces ≡ followed_by now.pieces (piece ∷ []) → later.pieces ≡ followed_by input.pieces (read ++ piece ∷ [])
-one_more input now later read piece p q = q ∙ ap (λ reported. followed_by reported (piece ∷ [])) p ∙ followed_by-append input.pieces read (piece ∷ [])
+one_more input now later read piece p q = q ∙ ap (λ shown. followed_by shown (piece ∷ [])) p ∙ followed_by-append input.pieces read (piece ∷ [])
 
 pub left_after : (input now later : SourceState) (read : List Text) (piece : Text) → input.left ≡ led_by (joined read) now.left → now.left ≡ led_by piece later.left → input.left ≡ led_by (joined (read ++ piece ∷ [])) later.left
 left_after input now later read piece p q = p ∙ ap (led_by (joined read)) q ∙ led_by-append (joined read) piece later.left ∙ ap (λ text. led_by text later.left) (sym (joined-push read piece))
@@ -200,7 +200,7 @@ finished answer first session next input now later output sink sink_later turns 
   counts = reads_after turns input now later s.read t.piece s.after_turn s.counts t.reads.gives;
   fits = few_after s.read t.piece s.fits;
   sent = s.sent ++ t.sends.texts;
-  reported = sink_later;
+  after = sink_later;
   sends = sends-more output sink sink_later s.sent t.sends.texts s.sends t.sends.sends;
   due = due_after answer s.read t.piece s.sent t.sends.texts s.given.answers;
   ends = record {
@@ -264,7 +264,7 @@ later_none more now later piece rest r e f = rw e at (none_left_after now.left l
 
 stops_at_block : {A : Type 0} (answer : EventValue → Text) (session : Held A) (now later : SourceState) (read : List Text) (more : Bool) (piece : Text) (sent : List Text) (number : ℕ) (fault : BlockFault) (sink sink_later : SinkState)
     → Given answer (joined read) sent session → Reads more now piece later → Refuses (due answer more session.pending piece) session.answered number fault sink sink_later
-    → StopsAtBlock answer (record { text = joined (read ++ piece ∷ []); left = later.left; sent = sent ++ (due answer more session.pending piece).texts; reported = sink_later }) number fault
+    → StopsAtBlock answer (record { text = joined (read ++ piece ∷ []); left = later.left; sent = sent ++ (due answer more session.pending piece).texts; after = sink_later }) number fault
 stops_at_block answer session now later read more piece sent number fault sink sink_later g reads r = record {
   answers = rw append-nil at (faulty_later answer session read more piece [] sent fault g r.faulty (λ h. refl));
   stays = λ rest e. faulty_later answer session read more piece rest sent fault g r.faulty (later_none more now later piece rest reads e);
@@ -287,7 +287,7 @@ failed answer Read first session next input now later output sink sink_later tur
   counts = inl (to_fault turns (length s.read) input now later s.after_turn s.counts f.1);
   fits = few_of s.read s.fits;
   sent = s.sent;
-  reported = sink;
+  after = sink;
   sends = s.sends;
   due = s.due;
   ends = (s.given.answers, f.2);
@@ -302,8 +302,8 @@ failed answer Write first session next input now later output sink sink_later tu
       counts = on.counts;
       fits = on.fits;
       sent = s.sent ++ f.sends.sent;
-      reported = f.sends.reported;
-      sends = sends-more output sink f.sends.reported s.sent f.sends.sent s.sends f.sends.sends;
+      after = f.sends.after;
+      sends = sends-more output sink f.sends.after s.sent f.sends.sent s.sends f.sends.sends;
       due = due_after answer s.read f.piece s.sent f.sends.sent s.given.answers;
       ends = record { next = f.sends.stops.next; unsent = f.sends.stops.unsent ++ all.0; texts_are = all.1; breaks = f.sends.stops.breaks };
     }
@@ -317,7 +317,7 @@ failed answer (Session (Block number fault)) first session next input now later 
       counts = on.counts;
       fits = on.fits;
       sent = s.sent ++ texts;
-      reported = sink_later;
+      after = sink_later;
       sends = sends-more output sink sink_later s.sent texts s.sends f.sends.sends;
       due = due_after answer s.read f.piece s.sent texts s.given.answers;
       ends = (stops_at_block answer session now later s.read f.more f.piece s.sent number fault sink sink_later s.given f.reads f.sends, refl);
@@ -332,7 +332,7 @@ failed answer (Session Memory) first session next input now later output sink si
       counts = on.counts;
       fits = on.fits;
       sent = s.sent ++ f.sends.sent;
-      reported = sink_later;
+      after = sink_later;
       sends = sends-more output sink sink_later s.sent f.sends.sent s.sends f.sends.sends;
       due = due_after answer s.read f.piece s.sent f.sends.sent s.given.answers;
       ends = ((f.sends.first.0 ++ all.0, all.1), refl);
@@ -349,7 +349,7 @@ used_up answer first session input now output sink s = record {
   counts = inr (record { all = s.after_turn; reads = s.counts.reads }, s.counts.well);
   fits = few_of s.read s.fits;
   sent = s.sent;
-  reported = sink;
+  after = sink;
   sends = s.sends;
   due = s.due;
   ends = (s.given.answers, refl);
@@ -364,7 +364,7 @@ unstarted answer input output = record {
   counts = record { reads = counts-none input.reads; well = refl };
   fits = λ n h. absurd (omega (arith, h));
   sent = [];
-  reported = output;
+  after = output;
   sends = sends-none output;
   due = due_at_start answer;
   ends = (((answers_of answer []).texts, refl), refl);

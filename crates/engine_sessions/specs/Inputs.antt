@@ -46,7 +46,7 @@ pub record Progress : Type 0 where
   pub text : Text
   pub left : Option Text
   pub sent : List Text
-  pub reported : SinkState
+  pub after : SinkState
 
 -- The answers sent are all those before a faulty block of this number, and what is left of the input changes nothing of that.
 pub record StopsAtBlock (answer : EventValue → Text) (so_far : Progress) (number : ℕ) (fault : BlockFault) : Type 0 where
@@ -58,16 +58,16 @@ pub record StopsAtBlock (answer : EventValue → Text) (so_far : Progress) (numb
 pub record IsAnswered (answer : EventValue → Text) (so_far : Progress) (now : SinkState) : Type 0 where
   pub answers : answers_of answer so_far.text ≡ well so_far.sent
   pub none_left : NoneLeft so_far.left
-  pub untouched : now ≡ so_far.reported
+  pub untouched : now ≡ so_far.after
 
 -- How it ends, by what was read and sent and the sink at the end: all is answered; or what was read until then is, and no more could be
 -- read; or it stops in an answer, at a faulty block, or because memory runs out.
 abbrev pub EndsBy : (EventValue → Text) → Result (Unit {0}) TurnFault → (so_far : Progress) → (now : SinkState) → Type 0
 EndsBy answer (Ok done) so_far now = IsAnswered answer so_far now
-EndsBy answer (Err Read) so_far now = (answers_to answer (complete_runs so_far.text) ≡ well so_far.sent) × (now ≡ so_far.reported)
-EndsBy answer (Err Write) so_far now = BreaksOffAfter so_far.sent (answers_of answer so_far.text).texts so_far.reported now
-EndsBy answer (Err (Session (Block number fault))) so_far now = StopsAtBlock answer so_far number fault × (now ≡ so_far.reported)
-EndsBy answer (Err (Session Memory)) so_far now = AreFirstOf so_far.sent (answers_of answer so_far.text).texts × (now ≡ so_far.reported)
+EndsBy answer (Err Read) so_far now = (answers_to answer (complete_runs so_far.text) ≡ well so_far.sent) × (now ≡ so_far.after)
+EndsBy answer (Err Write) so_far now = BreaksOffAfter so_far.sent (answers_of answer so_far.text).texts so_far.after now
+EndsBy answer (Err (Session (Block number fault))) so_far now = StopsAtBlock answer so_far number fault × (now ≡ so_far.after)
+EndsBy answer (Err (Session Memory)) so_far now = AreFirstOf so_far.sent (answers_of answer so_far.text).texts × (now ≡ so_far.after)
 EndsBy answer (Err (Session Ended)) so_far now = ⊥
 
 -- So many reads were made from the input, and none failed.
@@ -100,7 +100,7 @@ pub record AnswersInput (answer : EventValue → Text) (end : Result (Unit {0}) 
   pub counts : CountsBy end (length read) before.input now.input
   pub fits : HoldsFew read
   pub sent : List Text
-  pub reported : SinkState
-  pub sends : Sends before.output sent reported
+  pub after : SinkState
+  pub sends : Sends before.output sent after
   pub due : HasSentDue answer read sent
-  pub ends : EndsBy answer end (record { text = joined read; left = now.input.left; sent = sent; reported = reported }) now.output
+  pub ends : EndsBy answer end (record { text = joined read; left = now.input.left; sent = sent; after = after }) now.output

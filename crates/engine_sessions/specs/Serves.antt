@@ -30,16 +30,17 @@ IsStatusLine line = (line ≡ []) ⊎ (line ≡ read_failed) ⊎ (line ≡ write
 -- status 4 that line is the one on memory, and it is whole.
 pub record IsCutShort (outcome : RunOutcome) (status : ℕ) (before now : Streams) : Type 0 where
   pub output : HasBegun before.out outcome.output now.out
-  pub reported : SinkState
-  pub messages : HasBegun before.err outcome.messages reported
+  pub after : SinkState
+  pub messages : HasBegun before.err outcome.messages after
   pub line : Text
   pub line_is : IsStatusLine line
-  pub begun : HasBegun reported line now.err
-  pub memory : status ≡ 4 → HandsOn reported out_of_memory now.err
+  pub begun : HasBegun after line now.err
+  pub memory : status ≡ 4 → HandsOn after out_of_memory now.err
 
 -- Which devices failed: at status 3 one call of one of them, or the input did not end within its turns; at any other status none.
 pub record ReportsFailures (status turns : ℕ) (before now : Streams) : Type 0 where
-  pub failed : status ≡ 3 → Counts 1 before.input.faults now.input.faults ⊎ Counts 1 before.out.faults now.out.faults ⊎ Counts 1 before.err.faults now.err.faults ⊎ UsesUp turns before.input now.input
+  pub failed : status ≡ 3 → Counts 1 before.input.faults now.input.faults ⊎ Counts 1 before.out.faults now.out.faults
+      ⊎ Counts 1 before.err.faults now.err.faults ⊎ UsesUp turns before.input now.input
   pub well : (status ≡ 3 → ⊥) → (now.input.faults ≡ before.input.faults) × (now.out.faults ≡ before.out.faults) × (now.err.faults ≡ before.err.faults)
 
 -- Some pieces of the input were read. Under 3 all of the outcome of their bytes is written, flushed and returned, and
@@ -63,12 +64,13 @@ Concludes (Err (Session Memory)) status err err_now = ReportsFailure out_of_memo
 Concludes (Err (Session Ended)) status err err_now = ⊥
 
 -- The messages are written, then the input is answered, and then its end is reported, in the way that is asked for.
-pub record AnswersAfter (Concluded : Result (Unit {0}) TurnFault → List Text → ℕ → SinkState → SinkState → Type 0) (messages : Text) (answer : EventValue → Text) (status : ℕ) (before now : Streams) : Type 0 where
-  pub reported : SinkState
-  pub says : HandsOn before.err messages reported
+pub record AnswersAfter (Concluded : Result (Unit {0}) TurnFault → List Text → ℕ → SinkState → SinkState → Type 0) (messages : Text)
+    (answer : EventValue → Text) (status : ℕ) (before now : Streams) : Type 0 where
+  pub after : SinkState
+  pub says : HandsOn before.err messages after
   pub end : Result (Unit {0}) TurnFault
   pub answers : AnswersInput answer end (devices_of before) (devices_of now)
-  pub concludes : Concluded end answers.sent status reported now.err
+  pub concludes : Concluded end answers.sent status after now.err
 
 -- Nothing is read or answered: the error output failed at the messages, or memory runs out before them, which its
 -- line says.

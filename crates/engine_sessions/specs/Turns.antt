@@ -38,18 +38,18 @@ abbrev pub AreFirstOf : List Text → List Text → Type 0
 AreFirstOf sent texts = (unsent : List Text) × (texts ≡ sent ++ unsent)
 
 -- These answers are the first of others, and the sink broke off at the next one.
-pub record BreaksOffAfter (sent texts : List Text) (reported now : SinkState) : Type 0 where
+pub record BreaksOffAfter (sent texts : List Text) (after now : SinkState) : Type 0 where
   pub next : Text
   pub unsent : List Text
   pub texts_are : texts ≡ sent ++ next ∷ unsent
-  pub breaks : BreaksOff reported next now
+  pub breaks : BreaksOff after next now
 
 -- The sink took and flushed the first of these answers, some number of them, and then broke off at the next one.
 pub record BreaksOffIn (before : SinkState) (texts : List Text) (now : SinkState) : Type 0 where
   pub sent : List Text
-  pub reported : SinkState
-  pub sends : Sends before sent reported
-  pub stops : BreaksOffAfter sent texts reported now
+  pub after : SinkState
+  pub sends : Sends before sent after
+  pub stops : BreaksOffAfter sent texts after now
 
 -- The sink took and flushed the first of these answers, some number of them, and none of the others.
 pub record SendsSome (before : SinkState) (texts : List Text) (now : SinkState) : Type 0 where

@@ -48,14 +48,10 @@ fn make_turns<A: Answering, R: Source, W: Sink>(
 {
     let mut finds = false;
     for _made in 0..MAX_TURNS {
-        match turn_finding(alloc, session, input, output) {
-            Ok(after_turn) => {
-                finds |= after_turn.finds;
-                if !after_turn.more {
-                    return Ok(finds);
-                }
-            }
-            Err(fault) => return Err(fault),
+        let outcome = turn_finding(alloc, session, input, output)?;
+        finds |= outcome.finds;
+        if !outcome.more {
+            return Ok(finds);
         }
     }
     Err(TurnFault::Read)

@@ -58,7 +58,8 @@ pub fn answers_do_not_depend_on_the_pieces<A: Answering>()
         → TakesAll (answer_of A.answers answering) (opened answering) calls now
         → SessionEnds (answer_of A.answers answering) now answer last
         → GiveAll (answer_of A.answers answering) calls answer }
-    ensures faulty_take { (answering : Asked A) (calls : List (Call (Asked A))) (now last : Held (Asked A)) (piece later : Text) (number : ℕ) (fault : BlockFault)
+    ensures faulty_take { (answering : Asked A) (calls : List (Call (Asked A))) (now last : Held (Asked A)) (piece later : Text) (number : ℕ)
+        (fault : BlockFault)
         → TakesAll (answer_of A.answers answering) (opened answering) calls now
         → CallFailsBy (Block number fault) now (known_blocks true (now.pending ++ piece)) last
         → GiveUntil (answer_of A.answers answering) (used_by calls ++ piece ++ later) (given_by calls) number fault }

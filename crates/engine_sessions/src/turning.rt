@@ -63,10 +63,8 @@ pub fn turn<A: Answering, R: Source, W: Sink>(
     ensures fits { length session.new.pending ≤ most_bytes }
     ensures untouched { session.old.ended ≡ true → (session.new ≡ session.old) × (input.new ≡ input.old) × (output.new ≡ output.old) }
 {
-    match turn_finding(alloc, session, input, output) {
-        Ok(after_turn) => Ok(after_turn.more),
-        Err(fault) => Err(fault),
-    }
+    let outcome = turn_finding(alloc, session, input, output)?;
+    Ok(outcome.more)
 }
 
 /// Does what `turn` does, and also returns whether any of the answers has a byte.
@@ -91,14 +89,14 @@ pub(crate) fn turn_finding<A: Answering, R: Source, W: Sink>(
     }
     let mut piece = [0u8; MAX_READ];
     match input.read(&mut piece) {
-        Ok(0) => match answer_last(alloc, session, output) {
-            Ok(finds) => Ok(TurnOutcome { more: false, finds }),
-            Err(fault) => Err(fault),
-        },
-        Ok(len) => match answer_piece(alloc, session, &piece[..len], output) {
-            Ok(finds) => Ok(TurnOutcome { more: true, finds }),
-            Err(fault) => Err(fault),
-        },
+        Ok(0) => {
+            let finds = answer_last(alloc, session, output)?;
+            Ok(TurnOutcome { more: false, finds })
+        }
+        Ok(len) => {
+            let finds = answer_piece(alloc, session, &piece[..len], output)?;
+            Ok(TurnOutcome { more: true, finds })
+        }
         Err(DeviceFault) => {
             session.close();
             Err(TurnFault::Read)
@@ -115,8 +113,10 @@ fn answer_piece<A: Answering, W: Sink>(
 ) -> Result<bool, TurnFault>
     requires { IsGoing session.old }
     ensures finds { IfOk result (λ finds. finds ≡ say_something (due (answer_of A.answers session.old.answering) true session.old.pending piece.now).texts) }
-    ensures ok { OnOk result (SendsDue (answer_of A.answers session.old.answering) true session.old piece.now session.new (W.shown output.old) (W.shown output.new)) }
-    ensures err { IfErr result (λ fault. SendsUntil fault (due (answer_of A.answers session.old.answering) true session.old.pending piece.now) session.old.answered (W.shown output.old) (W.shown output.new)) }
+    ensures ok { OnOk result (SendsDue (answer_of A.answers session.old.answering) true session.old piece.now session.new (W.shown output.old)
+        (W.shown output.new)) }
+    ensures err { IfErr result (λ fault. SendsUntil fault
+        (due (answer_of A.answers session.old.answering) true session.old.pending piece.now) session.old.answered (W.shown output.old) (W.shown output.new)) }
     ensures ended { OnErr result (HasEnded session.old session.new) }
     ensures fits { length session.new.pending ≤ most_bytes }
 {
@@ -150,7 +150,8 @@ fn answer_last<A: Answering, W: Sink>(
     requires { IsGoing session.old }
     ensures finds { IfOk result (λ finds. finds ≡ say_something (due (answer_of A.answers session.old.answering) false session.old.pending []).texts) }
     ensures ok { OnOk result (SendsDue (answer_of A.answers session.old.answering) false session.old [] session.new (W.shown output.old) (W.shown output.new)) }
-    ensures err { IfErr result (λ fault. SendsUntil fault (due (answer_of A.answers session.old.answering) false session.old.pending []) session.old.answered (W.shown output.old) (W.shown output.new)) }
+    ensures err { IfErr result (λ fault. SendsUntil fault (due (answer_of A.answers session.old.answering) false session.old.pending []) session.old.answered
+        (W.shown output.old) (W.shown output.new)) }
     ensures ended { HasEnded session.old session.new }
 {
     match session.end(alloc) {

@@ -202,10 +202,10 @@ module _ (knows : Known) (names : List Text) (r : Rule) (s : Scene) (manual : s.
   abbrev Comes : Fate → Type 0
   Comes fate = as_predicted fate s (steps knows r s) ≡ steps knows r s
 
-  abbrev Known : Course → Type 0
-  Known course = Comes (predicted (action_place s.state.event.action) (seen names s.state.event) (marks s.state.event) course)
+  abbrev Foretold : Course → Type 0
+  Foretold course = Comes (predicted (action_place s.state.event.action) (seen names s.state.event) (marks s.state.event) course)
 
-  at_guard : (part : PlainMatch) → r.up ≡ [] → IsDone r → r.plain ≡ part ∷ [] → Known (guarded (unequal_check part.wanted.operator (choice_check names part.key part.wanted.choice)))
+  at_guard : (part : PlainMatch) → r.up ≡ [] → IsDone r → r.plain ≡ part ∷ [] → Foretold (guarded (unequal_check part.wanted.operator (choice_check names part.key part.wanted.choice)))
   at_guard part ups is plain = by part.wanted.operator refl (choice_check names part.key part.wanted.choice) refl
     where
       holds_by : (check : Check) → part.wanted.operator ≡ NotEqual → choice_check names part.key part.wanted.choice ≡ Some check → (b : Bool) → is_ruled_out (seen names s.state.event) (Some check) ≡ b → Comes (cond b Reached Unknown)
@@ -214,59 +214,59 @@ module _ (knows : Known) (names : List Text) (r : Rule) (s : Scene) (manual : s.
           sym (ended knows r s ups is (one_walked knows r s part plain misses.0 (misses.1 ∙ ap (λ o. agrees o false) o)))
       holds_by check o c false out = refl
 
-      by : (o : MatchOperator) → part.wanted.operator ≡ o → (c : Option Check) → choice_check names part.key part.wanted.choice ≡ c → Known (guarded (unequal_check o c))
+      by : (o : MatchOperator) → part.wanted.operator ≡ o → (c : Option Check) → choice_check names part.key part.wanted.choice ≡ c → Foretold (guarded (unequal_check o c))
       by Equal o c e = refl
       by NotEqual o None e = refl
       by NotEqual o (Some check) e = holds_by check o e (is_ruled_out (seen names s.state.event) (Some check)) refl
 
-  at_plain : (parts : List PlainMatch) → r.plain ≡ parts → r.up ≡ [] → IsDone r → Known (guard_in names parts)
+  at_plain : (parts : List PlainMatch) → r.plain ≡ parts → r.up ≡ [] → IsDone r → Foretold (guard_in names parts)
   at_plain [] plain ups is = sym (ended knows r s ups is (none_walked knows r s plain))
   at_plain (part ∷ []) plain ups is = at_guard part ups is plain
   at_plain (part ∷ other ∷ parts) plain ups is = refl
 
   -- a search by a mark
-  at_mark : (part : UpMatch) (parts : List UpMatch) (m : ℕ) → r.plain ≡ [] → r.up ≡ part ∷ parts → (is_lacking (slice_get (marks s.state.event) m) ≡ true → found_place (part ∷ parts) s.state ≡ None) → Known (Search m)
+  at_mark : (part : UpMatch) (parts : List UpMatch) (m : ℕ) → r.plain ≡ [] → r.up ≡ part ∷ parts → (is_lacking (slice_get (marks s.state.event) m) ≡ true → found_place (part ∷ parts) s.state ≡ None) → Foretold (Search m)
   at_mark part parts m plain ups none = by (is_lacking (slice_get (marks s.state.event) m)) refl
     where
       by : (b : Bool) → is_lacking (slice_get (marks s.state.event) m) ≡ b → Comes (cond b NotFound Unknown)
       by true lacks = sym (stranded knows r s part parts plain ups (none lacks))
       by false lacks = refl
 
-  at_search : (part : UpMatch) (parts : List UpMatch) → r.up ≡ part ∷ parts → (plain : List PlainMatch) → r.plain ≡ plain → Known (search_in plain (part ∷ parts) part)
+  at_search : (part : UpMatch) (parts : List UpMatch) → r.up ≡ part ∷ parts → (plain : List PlainMatch) → r.plain ≡ plain → Foretold (search_in plain (part ∷ parts) part)
   at_search part parts ups (other ∷ plain) e = refl
   at_search part parts ups [] plain = by_last (slice_get (part ∷ parts) (length (part ∷ parts) - 1)) refl
     where
-      by_first : (o : Option ℕ) → part_mark part ≡ o → Known (searched o)
+      by_first : (o : Option ℕ) → part_mark part ≡ o → Foretold (searched o)
       by_first None e = refl
       by_first (Some m) e = at_mark part parts m plain ups (λ lacks. none_meets s.state manual (part ∷ parts) 0 part refl (absent s.state manual part m e lacks))
 
-      by_mark : (last : UpMatch) → slice_get (part ∷ parts) (length (part ∷ parts) - 1) ≡ Some last → (o : Option ℕ) → part_mark last ≡ o → Known (searched (option_or o (part_mark part)))
+      by_mark : (last : UpMatch) → slice_get (part ∷ parts) (length (part ∷ parts) - 1) ≡ Some last → (o : Option ℕ) → part_mark last ≡ o → Foretold (searched (option_or o (part_mark part)))
       by_mark last at None e = by_first (part_mark part) refl
       by_mark last at (Some m) e = at_mark part parts m plain ups (λ lacks. none_meets s.state manual (part ∷ parts) (length (part ∷ parts) - 1) last at (absent s.state manual last m e lacks))
 
-      by_last : (u : Option UpMatch) → slice_get (part ∷ parts) (length (part ∷ parts) - 1) ≡ u → Known (searched (option_or (mark_in u) (part_mark part)))
+      by_last : (u : Option UpMatch) → slice_get (part ∷ parts) (length (part ∷ parts) - 1) ≡ u → Foretold (searched (option_or (mark_in u) (part_mark part)))
       by_last None e = by_first (part_mark part) refl
       by_last (Some last) e = by_mark last e (part_mark last) refl
 
-  at_after : Known (course_after names r)
+  at_after : Foretold (course_after names r)
   at_after = by r.up refl
     where
-      either : r.up ≡ [] → (b : Bool) → has_no_more r ≡ b → Known (cond b (guard_in names r.plain) Open)
+      either : r.up ≡ [] → (b : Bool) → has_no_more r ≡ b → Foretold (cond b (guard_in names r.plain) Open)
       either ups true more = at_plain r.plain refl ups (done r more)
       either ups false more = refl
 
-      by : (parts : List UpMatch) → r.up ≡ parts → Known (course_in names r parts)
+      by : (parts : List UpMatch) → r.up ≡ parts → Foretold (course_in names r parts)
       by [] ups = either ups (has_no_more r) refl
       by (part ∷ parts) ups = at_search part parts ups r.plain refl
 
-  at_checked : Known (checked_course names r)
+  at_checked : Foretold (checked_course names r)
   at_checked = by (check_of names r) refl
     where
       fails : (check : Check) → check_of names r ≡ Some check → (b : Bool) → is_ruled_out (seen names s.state.event) (Some check) ≡ b → Comes (cond b Failed Unknown)
       fails check e true out = sym (ruled_out knows names r s manual (ap (is_ruled_out (seen names s.state.event)) e ∙ out))
       fails check e false out = refl
 
-      by : (check : Option Check) → check_of names r ≡ check → Known (course_by names r check)
+      by : (check : Option Check) → check_of names r ≡ check → Foretold (course_by names r check)
       by None e = at_after
       by (Some check) e = fails check e (is_ruled_out (seen names s.state.event) (Some check)) refl
 
@@ -301,14 +301,14 @@ module _ (knows : Known) (names : List Text) (r : Rule) (s : Scene) (manual : s.
       by None e = refl
       by (Some place) e = so (slice_get (held_for part.wanted) place) (held_at part.wanted s.state.event.action place e)
 
-  at_course : Known (course_of names r)
+  at_course : Foretold (course_of names r)
   at_course = by r.plain refl
     where
-      by : (parts : List PlainMatch) → r.plain ≡ parts → Known (course_with names r (by_action_in r parts))
+      by : (parts : List PlainMatch) → r.plain ≡ parts → Foretold (course_with names r (by_action_in r parts))
       by [] e = at_checked
       by (part ∷ parts) e = with_key part.key refl
         where
-          with_key : (key : PlainKey) → part.key ≡ key → Known (course_with names r (with_action key part.wanted (is_guard r parts)))
+          with_key : (key : PlainKey) → part.key ≡ key → Foretold (course_with names r (with_action key part.wanted (is_guard r parts)))
           with_key plain.Action k = at_action part parts e k
           with_key other k = at_checked
 

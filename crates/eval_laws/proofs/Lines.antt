@@ -1,5 +1,5 @@
 -- How long each line of an answer is, by what its texts weigh.
-use Rattle.std.proofs.Common.{◌≡◌, ℕ, zero, suc, ◌+◌, ◌*◌, ◌≤◌, ◌/◌, ◌%◌, ◌==◌, Bool, true, false, cond, if◌then◌else◌, List, [], ◌∷◌, ◌++◌, length, Option, Some, None, codes, decimal, flat_map, arith}
+use Rattle.std.proofs.Common.{◌≡◌, ℕ, zero, suc, ◌+◌, ◌*◌, ◌≤◌, ◌/◌, ◌%◌, ◌==◌, Bool, true, false, cond, if◌then◌else◌, List, [], ◌∷◌, ◌++◌, length, Option, Some, None, codes, decimal, flat_map, append-nil, ap, sym, subst, arith}
 use Rattle.std.proofs.lemmas.List.{length-append}
 use Rattle.std.proofs.lemmas.List.Sums.{sum_by-cons}
 use Rattle.std.specs.Fmt.{digits, digits_onto, digit_glyph}
@@ -17,7 +17,10 @@ use Rattle.eval_state.specs.declared.notes.Note.{Note}
 use Rattle.eval_rules.specs.declared.outcome.Command.{Command}
 use Rattle.eval_laws.specs.Weights.{command_weight, note_weight}
 use Rattle.engine_ends.specs.Places.{place_of, word_part}
-use Rattle.engine_answers.specs.Lines.{given_line, is_hidden, line, note_line, pair_line, run_line, shown_line, text_line}
+use Rattle.engine_answers.specs.Lines.{is_hidden, line, note_line, pair_line, run_line, text_line}
+use Rattle.engine_answers.specs.Answers.{lines_after}
+use Rattle.engine_answers.specs.Inner.{shown_line}
+use Rattle.engine_answers.specs.Items.{ItemLine, given_lines}
 
 -- a byte is written as one or as four
 byte_short : (b : ℕ) → length (escape_byte b) ≤ 4
@@ -64,9 +67,17 @@ text_line_short word t short =
     let b = escape_short t in
     omega (arith, a, b, short)
 
-pub given_line_short : (word : Text) (t : Option Text) → length word ≤ 6 → length (given_line word t) ≤ 8 * given_weight t
+-- the lines about items with nothing in front
+abbrev pub alone : List ItemLine → Text
+alone lines = lines_after (λ item. []) lines
+
+-- the line of one item
+pub one_length : (item : Pair) (text : Text) → length (alone ((item, text) ∷ [])) ≡ length text
+one_length item text = ap length (append-nil text)
+
+pub given_line_short : (word : Text) (t : Option Text) → length word ≤ 6 → length (alone (given_lines word t)) ≤ 8 * given_weight t
 given_line_short word None short = omega arith
-given_line_short word (Some t) short = text_line_short word t short
+given_line_short word (Some t) short = subst (λ k. k ≤ 8 * text_weight t) (sym (one_length (word, t) (text_line word t))) (text_line_short word t short)
 
 pub pair_line_short : (word : Text) (pair : Pair) → length word ≤ 13 → length (pair_line word pair) ≤ 8 * pair_weight pair
 unfolding pair_line
@@ -84,7 +95,7 @@ shown_line_short pair = by (is_hidden pair.0)
     by true = omega arith
     by false = pair_line_short (codes "env") pair (omega arith)
 
-pub run_line_short : (command : Command) → length (run_line command.kind command.text) ≤ 8 * command_weight command
+pub run_line_short : (command : Command) → length (run_line command) ≤ 8 * command_weight command
 unfolding run_line
 run_line_short command =
     let a = line_length (codes "run") (run_name command.kind ++ space ∷ escape_text command.text) in

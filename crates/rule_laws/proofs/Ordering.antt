@@ -1,8 +1,9 @@
 -- The messages about a file are in order.
-use Rattle.std.proofs.Common.{◌≡◌, ℕ, ◌≤◌, ◌==◌, Bool, true, false, cond, nat_lt, List, [], ◌∷◌, ◌++◌, length, map, drop, Option, Some, None, Result, Ok, Err, refl, sym, subst, arith, append_assoc}
+use Rattle.std.proofs.Common.{◌≡◌, ℕ, ◌≤◌, ◌==◌, Bool, true, false, cond, nat_lt, List, [], ◌∷◌, ◌++◌, length, map, drop, Option, Some, None, Result, Ok, Err, refl, ap, sym, subst, arith, append_assoc}
 use Rattle.std.specs.List.{filter_map}
 use Rattle.text_bytes.specs.Names.{comma}
 use Rattle.file_messages.specs.declared.message.Message.{Message}
+use Rattle.file_messages.specs.declared.message.MessageKind.{MessageKind}
 use Rattle.file_messages.specs.declared.message.MessageKind.TheVariants.{BlankExpected, CommaExpected, LabelUnused, LineTooLong, NoLaterLabel, ReadAsAssign}
 use Rattle.text_bytes.specs.declared.source_file.SourceFile.{SourceFile}
 use Rattle.rule_tokens.specs.Grammar.{Placed}
@@ -111,13 +112,17 @@ read_within line d e = by_length (nat_lt 16384 (length line)) e
     by_length true e = cc
     by_length false e = by_parts (parts_of Manual line (items_of line)) e
 
+name_kind : (kind : MessageKind) (o : Option NamePlace) → (name_spot kind o).kind ≡ kind
+name_kind kind None = refl
+name_kind kind (Some n) = refl
+
 rule_within : (d : Draft) (k : Landing) → Within 8 13 d.findings → Within 7 14 (findings_of d k)
 rule_within d k w =
     let lost : List Spot = cond k.lost (name_spot NoLaterLabel d.goto ∷ []) [] in
     let unused : List Spot = cond k.unused (name_spot LabelUnused d.label ∷ []) [] in
-    within_both 7 7 14 lost (d.findings ++ unused) (maybe 7 (name_spot NoLaterLabel d.goto) k.lost refl)
+    within_both 7 7 14 lost (d.findings ++ unused) (maybe 7 (name_spot NoLaterLabel d.goto) k.lost (ap rank (name_kind NoLaterLabel d.goto)))
     (within_less 7 8 14 (d.findings ++ unused) (omega arith)
-    (within_both 8 13 14 d.findings unused w (within_less 13 14 14 unused (omega arith) (maybe 14 (name_spot LabelUnused d.label) k.unused refl))))
+    (within_both 8 13 14 d.findings unused w (within_less 13 14 14 unused (omega arith) (maybe 14 (name_spot LabelUnused d.label) k.unused (ap rank (name_kind LabelUnused d.label))))))
 
 -- ---- messages
 

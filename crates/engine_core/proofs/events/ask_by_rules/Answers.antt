@@ -1,6 +1,5 @@
 use Rattle.std.proofs.Common.{rules, ◌≡◌}
 use Rattle.engine_reports.specs.Reports.{shown_rules}
-use Rattle.engine_core.specs.Outcomes.{tables_of}
 use Rattle.engine_core.proofs.Running.{asked_runs}
 use Rattle.engine_core.proofs.events.ask_by_rules.Goals as goal
 
@@ -8,5 +7,5 @@ pub returns : goal.returns
 returns g c =
     let opened = shown_rules c.args.read (g.L.Lookup.entries c.args.lookup) in
     let messages : c.deref.result.now ≡ c.args.read.messages.items = search rules in
-    let tables : c.new-tables.result ≡ tables_of opened = search rules in
+    let tables : c.new-tables.result ≡ (opened.rules, opened.entries) = search rules in
     asked_runs c.args.line.now opened c.deref.result.now c.new-tables.result _ _ _ c.requires messages tables c.answer_after_messages.ensures.steps

@@ -1,0 +1,68 @@
+//! Rules, and what is known beyond an event, as one thing that answers events.
+ghost use Rattle.std.specs.Prelude.{◌≡◌, IfOk};
+ghost use Rattle.engine_answers.specs.Answers.{answer_by};
+
+use crate::answers::answer;
+use builtin_devices::Knowledge;
+use device_core::Event;
+use engine_sessions::Answering;
+use eval_core::{Program, compile};
+use rule_types::RuleSet;
+use std::alloc::{AllocError, Global};
+use std::marker::Model;
+use text_bytes::Bytes;
+
+/// Rules and what is known beyond an event, by which events are answered, each as its profile has it.
+#[derive(Drop)]
+pub struct Tables<K: Knowledge> {
+    program: Program,
+    knowledge: K,
+}
+
+impl<K: Knowledge> Model for Tables<K> {
+    ghost use Rattle.std.specs.Prelude.{List};
+    ghost use Rattle.rule_types.specs.Rules.{Rule};
+
+    ghost Value = { List Rule × K };
+
+    ghost view = { λ t. (t.program, t.knowledge) };
+}
+
+impl<K: Knowledge + Drop> Tables<K> {
+    /// The rules and the knowledge that events are answered by; the rules are laid out once, as a program.
+    ///
+    /// There is an error only if memory runs out; what was passed in is then dropped.
+    pub fn new(alloc: Global, rules: RuleSet, knowledge: K) -> Result<Tables<K>, AllocError>
+        ensures { IfOk result (λ tables. tables ≡ (rules, knowledge)) }
+    {
+        Ok(Tables {
+            program: compile(alloc, rules)?,
+            knowledge,
+        })
+    }
+}
+
+/// The answer to an event by rules and what is known.
+fn answer_by<K: Knowledge>(
+    alloc: Global,
+    program: &Program,
+    knowledge: &K,
+    event: &Event<'_>,
+) -> Result<Bytes, AllocError>
+    ensures { IfOk result (λ text. text ≡ answer_by program.now (K.known knowledge.now) event.now) }
+{
+    let outcome = program.evaluate(alloc, event, knowledge)?;
+    let said = answer(alloc, event, &outcome);
+    drop(outcome);
+    said
+}
+
+impl<K: Knowledge> Answering for Tables<K> {
+    ghost use Rattle.engine_answers.specs.Answers.{answer_by};
+
+    ghost answers = { λ tables. answer_by tables.0 (K.known tables.1) };
+
+    fn answer(&self, alloc: Global, event: &Event<'_>) -> Result<Bytes, AllocError> {
+        answer_by(alloc, &self.program, &self.knowledge, event)
+    }
+}

@@ -1,4 +1,0 @@
-use Rattle.engine_core.proofs.tables.answer_by.Goals as goal
-
-pub returns : goal.returns
-returns g c = rw (← c.in_ok-outcome.ensures) c.answer-said.ensures

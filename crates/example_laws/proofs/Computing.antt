@@ -1,0 +1,149 @@
+-- What a proof unfolds so that an answer computes from texts. A word marked `unfoldable` that an answer is made by is named here:
+-- where one is not, the proofs of the examples that use it fail, as nothing then says what it is.
+use Rattle.std.specs.Prelude.{⊤}
+use Rattle.std.specs.Fmt.{digits}
+use Rattle.rule_templates.specs.Braces.{braced}
+use Rattle.rule_templates.specs.Integers.{size_in, marked, signed, signed_size, integer_of, natural_of}
+use Rattle.rule_templates.specs.Number.{word_of, udev_word_of}
+use Rattle.rule_templates.specs.Reading.{result_piece, argument_of, asked_with, udev_asked, first_at, udev_first, udev_pieces, is_faulty, left_of}
+use Rattle.rule_templates.specs.Reading as rule_templates_reading
+use Rattle.rule_tokens.specs.Grammar.{prefix_quote}
+use Rattle.rule_tokens.specs.Lines.{items_after, items_within, items_left}
+use Rattle.rule_tokens.specs.Prefixes.{quoted_at, letters_at}
+use Rattle.rule_tokens.specs.Reading.{key_at, closed_at, attribute_at, operator_at, head_at, quote_at, escape_first, piece_at, token_at, scan, escape_at}
+use Rattle.rule_tokens.specs.Reading as rule_tokens_reading
+use Rattle.rule_tokens.specs.Values.{letter_means, is_number}
+use Rattle.rule_types.specs.Builtins.{builtin_of}
+use Rattle.rule_types.specs.Names.{key_of, import_type_of, run_type_of}
+use Rattle.rule_types.specs.Operators as rule_types_operators
+use Rattle.rule_types.specs.Roles.{compared, assigned, role_of}
+use Rattle.rule_types.specs.Rules.{rule_tokens}
+use Rattle.rule_types.specs.Topics.{mode_of, topic_of}
+use Rattle.rule_jumps.specs.Jumps.{landings}
+use Rattle.rule_parts.specs.Options.{priority_of, level_of, option_of}
+use Rattle.rule_parts.specs.Options as rule_parts_options
+use Rattle.rule_parts.specs.Parts.{comparison, import_by, part_by, value_part, part_of}
+use Rattle.rule_parts.specs.Parts as rule_parts_parts
+use Rattle.rule_parts.specs.Refusals.{refusal_of}
+use Rattle.rule_parts.specs.Values.{read_choice, read_template, read_option, read_name}
+use Rattle.rule_core.specs.Drafts.{draft_of}
+use Rattle.rule_core.specs.Effects.{has_effect}
+use Rattle.rule_core.specs.Ends.{as_read}
+use Rattle.rule_core.specs.Rules.{set_of_as}
+use Rattle.device_core.specs.Blocks.{texts, pairs, numbers, answers, before_device, groups, device, devices, programs, event}
+use Rattle.device_core.specs.Faults.{device_above, follows_command, row_fault, has_nul, line_fault, given_below, given_by, block_gives}
+use Rattle.device_core.specs.Lines.{kind_of, row_of, begins_answer}
+use Rattle.device_core.specs.Parts.{pair_of, number_below, answer_of, is_device_path, is_parent_path}
+use Rattle.device_core.specs.Parts as device_core_parts
+use Rattle.device_core.specs.RunBlocks.{line_of_excess}
+use Rattle.hwdb_core.specs.Sources.{are_few}
+use Rattle.text_bytes.specs.Numbers.{decimal_below}
+use Rattle.text_bytes.specs.Texts.{split_once}
+use Rattle.text_core.specs.Choices.{choice_by, choice, choice_blind}
+use Rattle.text_core.specs.Classes.{class_of}
+use Rattle.text_core.specs.Elements.{named_class, symbol_len, point, ranged, element_of}
+use Rattle.text_core.specs.Fnmatch.{fnmatch_bracket, fnmatch_first, fnmatch_choice}
+use Rattle.text_core.specs.Sets.{bits_of, set_of}
+use Rattle.text_core.specs.Spell.{bracket, first_item, spell_by, spell, spell_blind}
+use Rattle.text_links.specs.Kernels.{kernel_name}
+use Rattle.text_links.specs.Safe.{sequence_len, is_reached, is_hex_escape, stays, safe_byte, safe}
+use Rattle.text_links.specs.Underscores.{underscored}
+use Rattle.eval_state.specs.Files.{star_place}
+use Rattle.eval_state.specs.Named.{named, named_place}
+use Rattle.eval_state.specs.Start.{start_env}
+use Rattle.eval_rendering.specs.Names.{name_text}
+use Rattle.eval_rendering.specs.Rendering.{render}
+use Rattle.eval_matching.specs.Attributes.{udev_value, is_not_read, udev_subject}
+use Rattle.eval_matching.specs.Holding.{holds}
+use Rattle.eval_matching.specs.Subjects.{holds_at, found_place}
+use Rattle.eval_commands.specs.Hwdb.{hwdb_of}
+use Rattle.eval_commands.specs.UdevHwdb.{udev_hwdb_of}
+use Rattle.eval_commands.specs.Words.{command_words, udev_words}
+use Rattle.eval_acts.specs.Acts.{act_step}
+use Rattle.eval_acts.specs.LookUps.{found}
+use Rattle.eval_acts.specs.Printed.{line_property, printed_properties}
+use Rattle.eval_acts.specs.UsbModalias.{usb_modalias}
+use Rattle.eval_assignments.specs.Escapes.{escape_of}
+use Rattle.eval_assignments.specs.Steps.{set_step}
+use Rattle.eval_rules.specs.Idle.{is_idle_by}
+use Rattle.eval_rules.specs.Jumps.{run}
+use Rattle.eval_rules.specs.Outcomes.{outcome_of}
+use Rattle.eval_rules.specs.Steps.{walk, plain_step, result_step, steps, apply}
+use Rattle.eval_effects.specs.Changes.{run_text}
+use Rattle.eval_effects.specs.Effects.{effect, ending}
+use Rattle.eval_effects.specs.Items.{node_items, items}
+use Rattle.eval_effects.specs.Shown.{cut}
+use Rattle.eval_sources.specs.Reported.{stages_from}
+use Rattle.eval_sources.specs.Sources.{source_of, kept_after, Reports}
+use Rattle.eval_courses.specs.Acts.{property_report, act_report}
+use Rattle.eval_courses.specs.Courses.{walk_reports, key_reports, course}
+use Rattle.eval_courses.specs.Keys.{wanted_text}
+use Rattle.eval_courses.specs.Looks.{plain_report, result_report}
+use Rattle.eval_courses.specs.Upward.{device_report, up_report, partial_report, search_reports}
+use Rattle.engine_reports.specs.Messages.{message_line}
+use Rattle.engine_courses.specs.Asked.{unread, unknown_line, unknown}
+use Rattle.engine_courses.specs.Nearest.{least}
+use Rattle.engine_courses.specs.WhyLines.{why_line, unread_text, reported_from, why_lines}
+use Rattle.engine_questions.specs.Lines.{question_answer}
+use Rattle.engine_questions.specs.Questions.{acts_ask, rule_asks, rules_ask}
+use Rattle.engine_answers.specs.Answers.{lines_with}
+use Rattle.engine_answers.specs.Items.{node_lines, item_lines}
+use Rattle.engine_answers.specs.Lines.{text_line, pair_line, run_line, note_line, event_line}
+use Rattle.example_laws.specs.Answered.{answered_by}
+use Rattle.example_laws.specs.Reported.{sourced, explained, asked}
+
+-- the words by which the text of a rules file is read
+unfoldable reading_rules : ⊤
+unfolding braced size_in marked signed signed_size integer_of natural_of word_of udev_word_of result_piece argument_of
+    asked_with udev_asked first_at udev_first rule_templates_reading.pieces_of udev_pieces is_faulty left_of
+    prefix_quote items_after items_within items_left quoted_at letters_at key_at closed_at attribute_at operator_at
+    head_at quote_at escape_first piece_at rule_tokens_reading.pieces_of token_at scan escape_at letter_means is_number
+    builtin_of key_of import_type_of run_type_of rule_types_operators.is_read_as_assign compared assigned role_of
+    rule_tokens mode_of topic_of landings rule_parts_options.number_of priority_of level_of option_of comparison
+    import_by part_by value_part part_of rule_parts_parts.is_read_as_assign refusal_of read_choice read_template
+    read_option read_name draft_of has_effect as_read set_of_as
+reading_rules = tt
+
+-- those by which the text of a block is read
+unfoldable reading_blocks : ⊤
+unfolding texts pairs numbers answers before_device groups device devices programs event device_above follows_command
+    row_fault has_nul line_fault given_below given_by block_gives kind_of row_of begins_answer pair_of number_below
+    device_core_parts.number_of answer_of is_device_path is_parent_path line_of_excess
+reading_blocks = tt
+
+-- those by which the text of a file of a database is read
+unfoldable reading_databases : ⊤
+unfolding are_few
+reading_databases = tt
+
+-- those of texts and patterns
+unfoldable reading_texts : ⊤
+unfolding decimal_below split_once choice_by choice choice_blind class_of named_class symbol_len point ranged
+    element_of fnmatch_bracket fnmatch_first fnmatch_choice bits_of set_of bracket first_item spell_by spell
+    spell_blind kernel_name sequence_len is_reached is_hex_escape stays safe_byte safe underscored
+reading_texts = tt
+
+-- those by which rules are evaluated
+unfoldable evaluating : ⊤
+unfolding star_place named named_place start_env name_text render udev_value is_not_read udev_subject holds holds_at
+    found_place hwdb_of udev_hwdb_of command_words udev_words act_step found line_property printed_properties
+    usb_modalias escape_of set_step is_idle_by run outcome_of walk plain_step result_step steps apply
+evaluating = tt
+
+-- those by which what happened is told
+unfoldable reporting : ⊤
+unfolding run_text effect ending node_items items cut stages_from source_of kept_after Reports property_report
+    act_report walk_reports key_reports course wanted_text plain_report result_report device_report up_report
+    partial_report search_reports message_line unread unknown_line unknown least why_line unread_text reported_from
+    why_lines question_answer acts_ask rule_asks rules_ask
+reporting = tt
+
+-- those by which an answer is written
+unfoldable writing : ⊤
+unfolding lines_with node_lines item_lines text_line pair_line run_line note_line event_line
+writing = tt
+
+-- all of these
+unfoldable pub computed : ⊤
+unfolding digits answered_by sourced explained asked reading_rules reading_blocks reading_databases reading_texts evaluating reporting writing
+computed = tt

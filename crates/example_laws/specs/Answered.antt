@@ -1,0 +1,74 @@
+-- What `events` answers to one block, by one rules file and one database file: texts in, and a text out.
+use Rattle.std.specs.Prelude.{[], ◌∷◌, ◌++◌, List, codes, flat_map, None, Result, Ok, Err}
+use Rattle.text_bytes.specs.Names.{newline}
+use Rattle.text_bytes.specs.declared.profile.Profile.{Profile}
+use Rattle.text_bytes.specs.declared.profile.Profile.TheVariants.{Manual, Udev}
+use Rattle.text_bytes.specs.declared.source_file.FileKind.{FileKind}
+use Rattle.text_bytes.specs.declared.source_file.FileKind.TheVariants.{Hwdb, Rules}
+use Rattle.text_bytes.specs.declared.source_file.SourceFile.{SourceFile}
+use Rattle.text_tables.specs.Texts.{Text}
+use Rattle.hwdb_lookup.specs.declared.entry.Entry.{Entry}
+use Rattle.hwdb_core.specs.Sources.{entries_of}
+use Rattle.rule_types.specs.Rules.{Rule}
+use Rattle.rule_core.specs.Ends.{file_as_read}
+use Rattle.rule_core.specs.Rules.{ReadRules, set_of_as}
+use Rattle.device_core.specs.Faults.{block_gives}
+use Rattle.device_core.specs.FaultTexts.{fault_text}
+use Rattle.device_core.specs.Values.{EventValue, by_profile}
+use Rattle.device_core.specs.declared.faults.BlockFault.{BlockFault}
+use Rattle.builtin_devices.specs.Knowledge.{Known}
+use Rattle.builtin_devices.specs.Outcomes.{failing}
+use Rattle.eval_rules.specs.Outcomes.{outcome}
+use Rattle.engine_answers.specs.Answers.{answer}
+
+-- the text of lines, each with its newline
+abbrev pub text : List Text → Text
+text lines = flat_map (λ line. line ++ newline ∷ []) lines
+
+-- a file of a kind that has a name and holds a text
+abbrev pub file_with : FileKind → Text → Text → SourceFile
+file_with kind name bytes = record { kind = kind; rank = 0; name = name; bytes = bytes }
+
+-- one file of rules, `r.rules`, as it is read by a profile
+abbrev pub read_by : Profile → Text → ReadRules
+read_by by rules = set_of_as by (file_as_read by (file_with Rules (codes "r.rules") rules) ∷ [])
+
+-- the entries of one file of a database, `d.hwdb`
+abbrev pub entries_in : Text → List Entry
+entries_in database = entries_of (file_with Hwdb (codes "d.hwdb") database ∷ [])
+
+-- what is known beside an event: the entries of a database, and builtins of udev that find nothing, as no example runs one
+abbrev pub only_entries : List Entry → Known
+only_entries entries = record {
+  entries = entries;
+  usb_id = λ event is_bus_set. failing [];
+  path_id = λ event. failing [];
+  input_id = λ event. failing [];
+  net_id = λ event env. failing [];
+  net_lookup = λ event env. None;
+}
+
+-- the answer to an event over which rules are evaluated by a profile, or what is wrong with its block
+abbrev pub answer_to : (EventValue → Text) → Profile → Result EventValue BlockFault → Text
+answer_to answering by (Ok event) = answering (by_profile by event)
+answer_to answering by (Err fault) = fault_text fault
+
+-- the answer to an event, by rules and entries
+abbrev pub plain_answer : List Rule → Known → EventValue → Text
+plain_answer rules known event = answer event (outcome rules known event)
+
+-- what `events` answers, by a profile, the text of a rules file, that of a file of a database, and that of a block
+unfoldable pub answered_by : Profile → Text → Text → Text → Text
+answered_by by rules database block = answer_to (plain_answer (read_by by rules).rules (only_entries (entries_in database))) by (block_gives block)
+
+-- what it answers by the manual
+abbrev pub answered_with_database : Text → Text → Text → Text
+answered_with_database rules database block = answered_by Manual rules database block
+
+-- what it answers by the manual, without a database
+abbrev pub answered : Text → Text → Text
+answered rules block = answered_by Manual rules [] block
+
+-- what it answers as udev does, without a database
+abbrev pub answered_as_udev : Text → Text → Text
+answered_as_udev rules block = answered_by Udev rules [] block

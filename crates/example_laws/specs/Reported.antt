@@ -1,0 +1,45 @@
+-- What `events` answers with `--sources`, `--why` and `--questions`.
+use Rattle.std.specs.Prelude.{[], ◌∷◌, ◌++◌, List, codes}
+use Rattle.text_bytes.specs.Names.{newline}
+use Rattle.text_bytes.specs.declared.profile.Profile.TheVariants.{Manual}
+use Rattle.text_tables.specs.Texts.{Text}
+use Rattle.rule_core.specs.Rules.{ReadRules}
+use Rattle.device_core.specs.Faults.{block_gives}
+use Rattle.device_core.specs.Values.{EventValue}
+use Rattle.builtin_devices.specs.Knowledge.{Known}
+use Rattle.eval_rules.specs.Outcomes.{outcome}
+use Rattle.engine_answers.specs.Answers.{answer_lines, sourced_lines}
+use Rattle.engine_courses.specs.WhyLines.{why_lines}
+use Rattle.engine_questions.specs.Lines.{question_answer}
+use Rattle.example_laws.specs.Answered.{answer_to, only_entries, read_by}
+
+-- the answer to an event in which each line has its source
+abbrev pub sourced_answer : ReadRules → Known → EventValue → Text
+sourced_answer read known event = sourced_lines read.rules known event ++ newline ∷ []
+
+-- the answer to an event with what each rule met
+abbrev pub explained_answer : ReadRules → Known → EventValue → Text
+explained_answer read known event =
+    answer_lines event (outcome read.rules known event)
+    ++ why_lines (codes "r.rules" ∷ []) read.messages read.rules known event
+    ++ newline ∷ []
+
+-- the questions of an event
+abbrev pub asked_answer : ReadRules → Known → EventValue → Text
+asked_answer read known event = question_answer read.rules known event
+
+-- what is answered to a block in such a way, by the text of a rules file, by the manual and without a database
+abbrev pub answered_so : (ReadRules → Known → EventValue → Text) → Text → Text → Text
+answered_so way rules block = answer_to (way (read_by Manual rules) (only_entries [])) Manual (block_gives block)
+
+-- what `events --sources` answers
+unfoldable pub sourced : Text → Text → Text
+sourced rules block = answered_so sourced_answer rules block
+
+-- what `events --why r.rules` answers
+unfoldable pub explained : Text → Text → Text
+explained rules block = answered_so explained_answer rules block
+
+-- what `events --questions` answers
+unfoldable pub asked : Text → Text → Text
+asked rules block = answered_so asked_answer rules block

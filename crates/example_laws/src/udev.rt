@@ -1,0 +1,108 @@
+//! Examples of what udev does and the manual does not say.
+ghost use Rattle.std.specs.Prelude.{◌≡◌, ◌∷◌, [], codes};
+ghost use Rattle.example_laws.specs.Answered.{answered, answered_as_udev, text};
+
+/// The same rule by the manual and as udev: links are cleaned, a mode is a number, an empty owner is none, and a command is made at its
+/// rule.
+pub fn udev_takes_texts_otherwise()
+    ensures manual { answered
+        (text (codes "SYMLINK+=\"/dev/a//b/\", MODE=\"660\", OWNER=\"\", RUN+=\"r$env{X}\"" ∷ codes "ENV{X}=\"1\"" ∷ []))
+        (codes "C: add\nP: /d\nD: 8:1")
+        ≡ text (
+        codes "event add /d" ∷ codes "mode 660" ∷ codes "link /dev/a//b/" ∷ codes "env ACTION=add" ∷ codes "env DEVPATH=/d"
+        ∷ codes "env MAJOR=8" ∷ codes "env MINOR=1" ∷ codes "env X=1" ∷ codes "run program r1" ∷ codes "" ∷ []) }
+    ensures udev { answered_as_udev
+        (text (codes "SYMLINK+=\"/dev/a//b/\", MODE=\"660\", OWNER=\"\", RUN+=\"r$env{X}\"" ∷ codes "ENV{X}=\"1\"" ∷ []))
+        (codes "C: add\nP: /d\nD: 8:1")
+        ≡ text (
+        codes "event add /d" ∷ codes "mode 0660" ∷ codes "link a/b" ∷ codes "env ACTION=add" ∷ codes "env DEVPATH=/d"
+        ∷ codes "env MAJOR=8" ∷ codes "env MINOR=1" ∷ codes "env X=1" ∷ codes "run program r"
+        ∷ codes "note r.rules:1: no value: OWNER" ∷ codes "" ∷ []) }
+{}
+
+/// For udev an attribute that is absent fails `==` and `!=`.
+pub fn an_attribute_that_is_absent_fails_both_for_udev()
+    ensures { answered_as_udev
+        (text (
+        codes "ATTR{a}==\"*\", ENV{A}=\"1\"" ∷ codes "ATTR{a}!=\"1\", ENV{B}=\"1\"" ∷ codes "ATTRS{a}!=\"1\", ENV{C}=\"1\"" ∷ []))
+        (codes "C: add\nP: /d")
+        ≡ codes "event add /d\nenv ACTION=add\nenv DEVPATH=/d\n\n" }
+{}
+
+/// For udev SYMLINK, OWNER, GROUP, MODE and SECLABEL of a device without a number change nothing, with notes.
+pub fn a_device_without_a_number_has_no_node_for_udev()
+    ensures { answered_as_udev
+        (codes "SYMLINK+=\"a\", OWNER=\"o\", GROUP=\"g\", MODE=\"1\", SECLABEL{s}=\"l\", ENV{X}=\"1\"")
+        (codes "C: add\nP: /d")
+        ≡ text (
+        codes "event add /d" ∷ codes "env ACTION=add" ∷ codes "env DEVPATH=/d" ∷ codes "env X=1"
+        ∷ codes "note r.rules:1: no device number: OWNER" ∷ codes "note r.rules:1: no device number: GROUP"
+        ∷ codes "note r.rules:1: no device number: MODE" ∷ codes "note r.rules:1: no device number: SECLABEL{s}"
+        ∷ codes "note r.rules:1: no device number: SYMLINK" ∷ codes "" ∷ []) }
+{}
+
+/// For udev `[SUBSYSTEM/KERNEL]NAME` is the attribute of that device of the chain; one of a device that the block does not have is not
+/// read.
+pub fn an_attribute_may_name_its_device_for_udev()
+    ensures { answered_as_udev
+        (text (
+        codes "ATTR{[u/h]a}==\"1\", ENV{A}=\"$attr{[u/h]a}\"" ∷ codes "ATTR{[u/g]a}==\"1\", ENV{B}=\"1\""
+        ∷ codes "ATTR{[t/h]a}!=\"1\", ENV{C}=\"1\"" ∷ codes "TEST==\"[u/h]a\", ENV{D}=\"1\"" ∷ []))
+        (codes "C: add\nP: /h/d\nP: /h\nU: u\nA: a=1")
+        ≡ text (
+        codes "event add /h/d" ∷ codes "env A=1" ∷ codes "env ACTION=add" ∷ codes "env D=1" ∷ codes "env DEVPATH=/h/d"
+        ∷ codes "note r.rules:2: attribute not read: [u/g]a" ∷ codes "note r.rules:3: attribute not read: [t/h]a" ∷ codes "" ∷ []) }
+{}
+
+/// Udev skips a rule in which nothing counts for the event, and then selects no device.
+pub fn a_rule_in_which_nothing_counts_is_skipped_by_udev()
+    ensures manual { answered
+        (text (codes "SUBSYSTEMS==\"u\", SYMLINK+=\"l\"" ∷ codes "ENV{X}=\"[$id]\"" ∷ []))
+        (codes "C: add\nP: /h/d\nP: /h\nU: u")
+        ≡ codes "event add /h/d\nlink l\nenv ACTION=add\nenv DEVPATH=/h/d\nenv X=[h]\n\n" }
+    ensures udev { answered_as_udev
+        (text (codes "SUBSYSTEMS==\"u\", SYMLINK+=\"l\"" ∷ codes "ENV{X}=\"[$id]\"" ∷ []))
+        (codes "C: add\nP: /h/d\nP: /h\nU: u")
+        ≡ codes "event add /h/d\nenv ACTION=add\nenv DEVPATH=/h/d\nenv X=[]\nnote r.rules:1: no device number: SYMLINK\n\n" }
+{}
+
+/// For udev `subsystem`, `bus` and `class` fit each other, `?*` always holds for tags and reverses a TEST, and a tag that was removed is
+/// still met.
+pub fn udev_compares_some_values_otherwise()
+    ensures udev { answered_as_udev
+        (text (
+        codes "SUBSYSTEM==\"bus\", ENV{A}=\"1\"" ∷ codes "TAG==\"?*\", ENV{B}=\"1\"" ∷ codes "TEST==\"?*\", ENV{C}=\"1\""
+        ∷ codes "TAG-=\"t\"" ∷ codes "TAG==\"t\", ENV{D}=\"1\"" ∷ []))
+        (codes "C: add\nP: /d\nU: class\nG: t")
+        ≡ codes "event add /d\nenv A=1\nenv ACTION=add\nenv B=1\nenv C=1\nenv D=1\nenv DEVPATH=/d\nenv SUBSYSTEM=class\n\n" }
+    ensures manual { answered
+        (text (
+        codes "SUBSYSTEM==\"bus\", ENV{A}=\"1\"" ∷ codes "SYMLINK==\"?*\", ENV{B}=\"1\"" ∷ codes "TEST==\"?*\", ENV{C}=\"1\""
+        ∷ codes "TAG-=\"t\"" ∷ codes "TAG==\"t\", ENV{D}=\"1\"" ∷ []))
+        (codes "C: add\nP: /d\nU: class\nG: t")
+        ≡ codes "event add /d\nenv ACTION=add\nenv DEVPATH=/d\nenv SUBSYSTEM=class\n\n" }
+{}
+
+/// For udev builtins come before programs, and a command is there as often as it is added.
+pub fn udev_runs_builtins_before_programs()
+    ensures manual { answered (codes "RUN+=\"a\", RUN{builtin}+=\"kmod b\", RUN+=\"a\"") (codes "C: add\nP: /d")
+        ≡ codes "event add /d\nenv ACTION=add\nenv DEVPATH=/d\nrun program a\nrun builtin kmod b\n\n" }
+    ensures udev { answered_as_udev (codes "RUN+=\"a\", RUN{builtin}+=\"kmod b\", RUN+=\"a\"") (codes "C: add\nP: /d")
+        ≡ codes "event add /d\nenv ACTION=add\nenv DEVPATH=/d\nrun builtin kmod b\nrun program a\nrun program a\n\n" }
+{}
+
+/// For udev the block answers IMPORT{program} as it answers a PROGRAM: each line that sets a property is taken.
+pub fn udev_imports_what_a_program_prints()
+    ensures { answered_as_udev
+        (codes "IMPORT{program}=\"/p\", ENV{X}=\"1\"")
+        (codes "C: add\nP: /d\nQ: /p\nR: 0 A=1\r# c\rB = \"2 \"\rC")
+        ≡ codes "event add /d\nenv A=1\nenv ACTION=add\nenv B=2 \nenv DEVPATH=/d\nenv X=1\n\n" }
+{}
+
+/// For udev `+=` adds a blank even to nothing, and a label even if it is there.
+pub fn udev_adds_to_properties_and_labels_otherwise()
+    ensures { answered_as_udev
+        (text (codes "ENV{A}+=\"$env{N}\", SECLABEL{m}+=\"l\"" ∷ codes "SECLABEL{m}+=\"l\"" ∷ []))
+        (codes "C: add\nP: /d\nD: 8:1\nE: A=1")
+        ≡ codes "event add /d\nlabel m=l\nlabel m=l\nenv A=1 \nenv ACTION=add\nenv DEVPATH=/d\nenv MAJOR=8\nenv MINOR=1\n\n" }
+{}

@@ -6,8 +6,8 @@ usage: tests/edits.py [TOP]"""
 import pathlib
 import sys
 
-# The most edits that the gate tries.
-MAX_EDITS = 100
+# The most edits that the gate tries: 26 named mistakes, two of them in two crates, and 20 more.
+MAX_EDITS = 48
 
 # How a line of an edit begins; other lines are ignored.
 MARKS = ("file: ", "old: ", "new:")

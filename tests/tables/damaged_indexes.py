@@ -151,6 +151,7 @@ SOURCES = [
 ONE = [
     ("31 bytes", WITHOUT_FILE[:31], "short"),
     ("the first byte changed", with_bytes(WITHOUT_FILE, 0, b"D"), "magic"),
+    ("the number at 8 is 2", with_bytes(WITHOUT_FILE, 8, b"\x02"), "size"),
     ("the number at 8 is 9", with_bytes(WITHOUT_FILE, 8, b"\x09"), "version"),
     ("the first 125 bytes", WITHOUT_FILE[:125], "size"),
     ("the first 143 bytes of version 2", WITH_FILE[:143], "size"),
@@ -167,9 +168,20 @@ def twins(second):
     return index(1, nodes, [(0, 1, 1, 1, 0), (0, 1, 1, 1, second)], b"KV")
 
 
+# The same of ` K=V` and ` L=W` in version 2, as `update` writes it of t.hwdb.
+TWO_KEYS = index(
+    2,
+    [node(ROOT, children=1), node(BYTE, "a", children=1), node(MANY, values=2)],
+    [(0, 1, 1, 1, 0, 4, 6, 2), (2, 1, 3, 1, 1, 4, 6, 3)],
+    b"KVLWt.hwdb",
+)
+ORDER_AT = 32 + 3 * 24 + 32 + 16
+
 ORDERS = [
     asked("two properties of order 0", twins(0), "order"),
     asked("orders 0 and 1", twins(1), "K=V"),
+    asked("orders 0 and 1 in version 2", TWO_KEYS, "K=V\nL=W"),
+    asked("the second order is 0", with_bytes(TWO_KEYS, ORDER_AT, bytes(4)), "order"),
 ]
 
 
@@ -179,6 +191,12 @@ def of_events(name, whole, check):
     return Row(f"events with an index: {name}", words, {"i": whole}, "C: ", messages=f"devdry: index: {check}\n", status=1)
 
 
+OF_EVENTS = [
+    *ONE,
+    ("two properties of order 0", twins(0), "order"),
+    ("the second order is 0", with_bytes(TWO_KEYS, ORDER_AT, bytes(4)), "order"),
+]
+
 ROWS = [
     *cut(),
     *changed(),
@@ -186,5 +204,5 @@ ROWS = [
     *SOURCES,
     *(asked(name, whole, check) for name, whole, check in ONE),
     *ORDERS,
-    *(of_events(name, whole, check) for name, whole, check in [*ONE, ("two properties of order 0", twins(0), "order")]),
+    *(of_events(name, whole, check) for name, whole, check in OF_EVENTS),
 ]

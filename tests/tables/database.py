@@ -42,6 +42,23 @@ FORTY = "*a" * 40 + "\n A=1\n"
 # A pattern of each kind, each with a key of its own; the third has the same beginning as the first.
 KINDS = "ab*\n 0=\n\n*[bc]\n 1=\n\nabb\n 2=\n\na?\n 3=\n\n**b\n 4=\n\n?b*c\n 5=\n\n[!a]*\n 6=\n\na*b?\n 7=\n\n[a-c]?d\n 8=\n"
 
+# What it is asked, and what is answered.
+OF_KINDS = [
+    ("", ""),
+    ("a", ""),
+    ("b", "1=\n4=\n6=\n"),
+    ("ab", "0=\n1=\n3=\n4=\n"),
+    ("ac", "1=\n3=\n"),
+    ("ad", "3=\n"),
+    ("abb", "0=\n1=\n2=\n4=\n7=\n"),
+    ("abc", "0=\n1=\n5=\n7=\n"),
+    ("abd", "0=\n7=\n8=\n"),
+    ("bad", "6=\n8=\n"),
+    ("bbc", "1=\n5=\n6=\n"),
+    ("cab", "1=\n4=\n6=\n"),
+    ("ddd", "6=\n"),
+]
+
 # A file with a message of each kind.
 FAULTY = " A=1\n\nm1\n\nm2\n =x\n B\nm3\n C=1\n\n[[.a.]]\n D=1\n"
 FAULTS = (
@@ -75,23 +92,7 @@ ANSWERS = [
     Row("an empty file", "query x t.hwdb", {"t.hwdb": ""}),
     *queries("forty stars", FORTY, ("a" * 200, "A=1\n")),
     query("forty stars and a last byte that does not fit", FORTY, "a" * 200 + "b", ""),
-    *queries(
-        "each kind of pattern",
-        KINDS,
-        ("", ""),
-        ("a", ""),
-        ("b", "1=\n4=\n6=\n"),
-        ("ab", "0=\n1=\n3=\n4=\n"),
-        ("ac", "1=\n3=\n"),
-        ("ad", "3=\n"),
-        ("abb", "0=\n1=\n2=\n4=\n7=\n"),
-        ("abc", "0=\n1=\n5=\n7=\n"),
-        ("abd", "0=\n7=\n8=\n"),
-        ("bad", "6=\n8=\n"),
-        ("bbc", "1=\n5=\n6=\n"),
-        ("cab", "1=\n4=\n6=\n"),
-        ("ddd", "6=\n"),
-    ),
+    *queries("each kind of pattern", KINDS, *OF_KINDS),
     *queries("a query for the empty text", "*\n A=1\n\n?\n B=2\n\nx\n C=3\n", ("", "A=1\n")),
     query(
         "keys in the order of their bytes",

@@ -187,6 +187,45 @@ CHAIN = index(
 )
 assert len(CHAIN) == 704_058
 
+# Two records, the later of which has the better A for abc.
+RECORDS_FILES = {"t.hwdb": "ab*\n A=1\n B=2\n\na?c\n A=3\n"}
+RECORDS = index(
+    2,
+    [
+        node(ROOT, children=1),
+        node(BYTE, "a", children=2),
+        node(BYTE, "b", children=1),
+        node(ONE, children=1),
+        node(MANY, values=2),
+        node(BYTE, "c", values=1),
+    ],
+    [(0, 1, 1, 1, 0, 6, 6, 2), (2, 1, 3, 1, 1, 6, 6, 3), (4, 1, 5, 1, 2, 6, 6, 6)],
+    b"A1B2A3t.hwdb",
+)
+
+# One pattern with stars and two sets, of which [tT] is the lesser by its bytes.
+TRACKBALL_FILES = {"t.hwdb": "mouse:*:name:*[tT]rack[bB]all*:*\n ID_INPUT_TRACKBALL=1\n"}
+TRACKBALL = index(
+    2,
+    [
+        node(ROOT, children=1),
+        *(node(BYTE, letter, children=1) for letter in "mouse:"),
+        node(MANY, children=1),
+        *(node(BYTE, letter, children=1) for letter in ":name:"),
+        node(MANY, children=1),
+        node(AMONG, number=0, children=1),
+        *(node(BYTE, letter, children=1) for letter in "rack"),
+        node(AMONG, number=1, children=1),
+        *(node(BYTE, letter, children=1) for letter in "all"),
+        node(MANY, children=1),
+        node(BYTE, ":", children=1),
+        node(MANY, values=1),
+    ],
+    [(0, 18, 18, 1, 0, 19, 6, 2)],
+    b"ID_INPUT_TRACKBALL1t.hwdb",
+    [byte_set(b"tT"), byte_set(b"bB")],
+)
+
 # What `update` never writes: labels out of order and twice below one node, texts that share bytes, an empty text at the
 # end, a node that leads nowhere, orders that fall from node to node, and equal ones.
 FOREIGN = index(
@@ -224,6 +263,10 @@ READ = [
     query("no sources in version 1", WITHOUT_FILE, "abc", "K=V\n"),
     query("no sources in version 2", WITH_FILE, "abc", "K=V\n"),
     query("no entry", EMPTY, "x", ""),
+    query("two records", RECORDS, "abc", "A=3\nB=2\n"),
+    *queries("two records", RECORDS, ("ab", "t.hwdb:2: A=1\nt.hwdb:3: B=2\n"), ("x", "")),
+    query("a trackball", TRACKBALL, "mouse:usb:name:My TrackBall:x", "ID_INPUT_TRACKBALL=1\n"),
+    query("a trackball", TRACKBALL, "mouse:usb:name:My Mouse:x", ""),
     *queries(
         "two patterns with a set",
         FOUR,
@@ -285,6 +328,8 @@ WRITTEN = [
     update("one entry", {"t.hwdb": "a*\n K=V\n"}, WITH_FILE),
     update("two patterns with a set", FOUR_FILES, FOUR),
     update("each match with each property", PAIRS_FILES, PAIRS),
+    update("two records", RECORDS_FILES, RECORDS),
+    update("a trackball", TRACKBALL_FILES, TRACKBALL),
     update("each kind of label", LABELS_FILES, LABELS),
     update("ten thousand patterns", NUMBERS_FILES, NUMBERS),
     update("ten thousand times one pattern", LONG_FILES, LONG),

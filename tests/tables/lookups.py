@@ -1,4 +1,5 @@
 """`query -`: modaliases of the standard input, one a line, each answered as `query` answers it, with an empty line after."""
+from tables.database import KINDS, OF_KINDS
 from tables.kinds.index_bytes import BYTE, MANY, ROOT, WITHOUT_FILE, index, node
 from tables.kinds.row import Begins, Row
 
@@ -40,6 +41,7 @@ ANSWERS = [
     asked("an empty line that nothing fits", RECORDS, "\n\nab\n", NONE + NONE + AB),
     asked("a carriage return is part of the line", "ab\n A=1\n\nab?\n B=2\n", "ab\r\nab\n", "B=2\n\nA=1\n\n"),
     asked("blanks are part of the line", "ab\n A=1\n\n?ab\n B=2\n\nab?\n C=3\n", " ab\nab\t\nab\n", "B=2\n\nC=3\n\nA=1\n\n"),
+    asked("each kind of pattern", KINDS, "".join(f"{line}\n" for line, _ in OF_KINDS), "".join(f"{found}\n" for _, found in OF_KINDS)),
     asked("any other byte is part of the line", "a??b\n A=1\n", b"a\0\xffb\na\0b\n", "A=1\n\n\n"),
     asked("a line that is a hyphen", "-\n A=1\n\n?\n B=2\n", "-\nx\n", "A=1\nB=2\n\nB=2\n\n"),
     asked("a line that a database file would skip", "?x\n A=1\n", "#x\n", "A=1\n\n"),

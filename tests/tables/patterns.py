@@ -42,13 +42,13 @@ def name_of(text):
 
 
 def queried(pattern, text, fits):
-    """Whether a text fits, as `query` answers it. A lone hyphen can be asked for only in a line of the input."""
-    is_line = text == "-"
+    """Whether a text fits, as `query` answers it. A lone hyphen and a NUL byte can be asked for only in a line of the input."""
+    is_line = text in ("-", "\0")
     return Row(
         f"query: {name_of(text)} {'fits' if fits else 'does not fit'} {name_of(pattern)}",
-        ["query", "--", text, "t.hwdb"],
+        ["query", "--", "-" if is_line else text, "t.hwdb"],
         {"t.hwdb": f"{pattern}\n HIT=1\n"},
-        input="-\n" if is_line else "",
+        input=f"{text}\n" if is_line else "",
         output=("HIT=1\n" if fits else "") + ("\n" if is_line else ""),
     )
 
@@ -111,6 +111,8 @@ ROWS = [
     queried("[b-a]", "\n", False),
     queried("[--a]", "\n", False),
     queried("?", "\n", True),
+    # nor can a block or a word contain a NUL byte, but a line of the input may
+    *(queried(pattern, "\0", fits) for pattern, fits in [("?", True), ("[!--a]", True), ("[--a]", False), ("[b-a]", False)]),
     queried(MANY_STARS, ENDED, True),
     queried(MANY_STARS, NOT_ENDED, False),
     matched(MANY_STARS, [ENDED], [NOT_ENDED]),

@@ -3,6 +3,7 @@
 Rows of the other tables check one part; here an answer is checked as a whole. The lines of an answer are in this order:
 event, name, owner, group, mode, priority, watch, persist, label, link, tag, env by key, attr, sysctl, run, note.
 """
+from tables.kinds.answered import answered
 from tables.kinds.row import Row
 
 BARE = "C: add\nP: /x\n"
@@ -66,6 +67,8 @@ ENV{X}!="", ENV{N5}="1"
 JUMPS_DOWN_AND_UP = 'GOTO="x"\nENV{A}="1"\nLABEL="x", ENV{E}="1"\nGOTO="x"\nENV{F}="1"\n'
 RULE_AND_JUMP = 'ENV{G}="1"\nGOTO="x"\nENV{H}="1"\nLABEL="x", ENV{I}="1"\n'
 
+OF_DISKS = 'SUBSYSTEM=="block", KERNEL=="sd[a-z]", SYMLINK+="disk/%k"\n'
+
 # (what is asked, rules, block, output)
 ANSWERED = [
     ("each key is assigned", EACH_KEY, DISK, EACH_KEY_ANSWER),
@@ -75,9 +78,66 @@ ANSWERED = [
      bare("link one\nlink two\n", "env Y1=1\nenv Y2=1\nenv Y3=1\nenv Y4=1\n")),
     ("a match of a kernel setting is noted", 'SYSCTL{x}!="1"\n', DISK, disk(after="note r.rules:1: sysctl not read: x\n")),
     ("no rule", "", DISK, disk()),
+    ("a disk by a rule for disks", OF_DISKS, DISK, disk("link disk/sda\n")),
+    ("three equal blocks", OF_DISKS, f"{DISK}\n" * 3, disk("link disk/sda\n") * 3),
     ("no block", 'TAG+="x"\n', "", ""),
     ("only empty lines", 'TAG+="x"\n', "\n" * 10, ""),
     ("empty lines around blocks", 'TAG+="x"\n', "\n\n" + BARE + "\n\n\n" + BARE + "\n\n", bare("tag x\n") * 2),
+]
+
+# A device of USB with a serial number above the event's device, and the same with the two at different devices.
+BELOW_USB = "/devices/b/h/d/t0"
+TOGETHER = ["U: tty", "P: /devices/b/h/d", "U: usb", "A: serial=7", "P: /devices/b/h", "U: pci"]
+APART = ["U: tty", "P: /devices/b/h/d", "U: usb", "P: /devices/b/h", "U: pci", "A: serial=7"]
+
+# A command about the selected device, and how long it stays selected.
+SELECTIONS = [
+    'SUBSYSTEMS=="usb", RUN+="/bin/x $id"', 'ENV{P}="$id"', 'SUBSYSTEMS=="none", ENV{N}="1"', 'ENV{Q}="$id"',
+]
+
+# Steps of rules over one event, each with what it does and what it leaves.
+STEPS = [
+    answered(
+        "all matches upwards hold for one device",
+        ['SUBSYSTEMS=="usb", ATTRS{serial}=="7", ENV{HIT}="$id"'],
+        (TOGETHER, ["env HIT=d", "env SUBSYSTEM=tty"]),
+        (APART, ["env SUBSYSTEM=tty"]),
+        path=BELOW_USB,
+    ),
+    answered(
+        "a device stays selected until a search finds none",
+        SELECTIONS,
+        (TOGETHER, ["env P=d", "env SUBSYSTEM=tty", "run program /bin/x d"]),
+        path=BELOW_USB,
+    ),
+    answered(
+        "a TEST is made after the search, and its text names the selected device",
+        ['TEST=="$id", SUBSYSTEMS=="usb", ENV{T}="1"'],
+        ([TOGETHER[0], "A: d=1", *TOGETHER[1:]], ["env SUBSYSTEM=tty", "env T=1"]),
+        path=BELOW_USB,
+    ),
+    answered(
+        "a command is rendered after the last rule",
+        ['RUN+="/bin/n $env{V}"', 'ENV{V}="2"'],
+        ([], ["env V=2", "run program /bin/n 2"]),
+    ),
+    answered(
+        "an owner and a priority that are final",
+        ['OWNER:="a"', 'OWNER="b"', 'OPTIONS:="link_priority=5"', 'OPTIONS="link_priority=7"'],
+        ([], ["owner a", "priority 5"]),
+    ),
+    answered(
+        "words of the result of a program that is named by its device",
+        ['PROGRAM=="/bin/id %k", RESULT=="a*", ENV{R}="$result{2+}"'],
+        (["Q: /bin/id sda", "R: 0 ab cd ef"], ["env R=cd ef"]),
+        ([], ["note r.rules:1: no answer for program: /bin/id sda"]),
+        path="/a/sda",
+    ),
+    answered(
+        "a device without a parent imports nothing",
+        ['IMPORT{parent}!="*", ENV{Z}="1"', 'IMPORT{parent}="*", ENV{Y}="1"'],
+        ([], ["env Z=1"]),
+    ),
 ]
 
 # (text that is reported, the block's lines after C: add and P: /x, the line)
@@ -146,6 +206,8 @@ LARGE = [
     ("a text of 16,384 bytes is kept", DOUBLING, block_with("v", 8192), answer_with("", "v" * LONGEST, "", "")),
     ("a text of 16,386 bytes is left out", DOUBLING, block_with("v", 8193),
      answer_with("", "v" * 8193, "", "note r.rules:1: text too long: ENV{X}\n")),
+    ("a text is doubled until it would be too long", DOUBLING * 30, BARE + "E: X=" + "v" * 1000,
+     bare(env="env X=" + "v" * 16_000 + "\n", after="".join(f"note r.rules:{line}: text too long: ENV{{X}}\n" for line in range(5, 31)))),
     ("a note shows a command as written", COMMANDS, block_with("v", 8193),
      answer_with("", "v" * 8193, "", "note r.rules:1: text too long: RUN{program}\nnote r.rules:2: text too long: RUN\n")),
     ("a rule matches a thousand properties", THOUSAND_MATCHES, *thousand(["P999=1"], "env HIT=1\n")),
@@ -187,6 +249,12 @@ def of_rules(name, rules, block, output):
 ROWS = [
     *(of_rules(*row) for row in ANSWERED),
     *(of_rules(*row) for row in LARGE),
+    *STEPS,
+    Row("the line after one without a token is a rule", "events -r none r.rules",
+        {"r.rules": 'KERNEL=="sd*\nENV{X}="1" , TAG-="t"\n'}, BARE, bare(env="env X=1\n"),
+        'r.rules:1: V1 bad syntax: KERNEL=="sd*\n'),
+    Row("links that are final stay so in later files", "events -r none 10-a.rules 20-b.rules",
+        {"10-a.rules": 'SYMLINK:="a"\n', "20-b.rules": 'SYMLINK+="b"\n'}, DISK, disk("link a\n")),
     *(Row(f"a block with a fault: {text}", "events -r none r.rules", {"r.rules": ""}, BARE + "\n" + BARE + lines, bare(),
           f"block 2, line {line}: {text}\n", 1) for text, lines, line in FAULTY),
     Row("a block without an action", "events -r none r.rules", {"r.rules": ""}, "C: \n", "", "block 1, line 1: no action\n", 1),

@@ -4,6 +4,7 @@
 //! owns one large value, and returns it by name: if it is returned unnamed, all its parts are visited once
 //! more at each way out.
 use crate::running::{Given, files_of, line, run_by};
+use builtin_core::Builtins;
 use device_core::{Event, read_block};
 use engine_answers::answer;
 use engine_core::Verb;
@@ -14,18 +15,18 @@ use std::alloc::{AllocError, Global};
 use std::test::Fail;
 use text_bytes::FileKind;
 
-/// A database of one file of this text.
-fn database_of(alloc: Global, text: &str) -> Result<PlainDb, Fail> {
+/// The builtins over a database of one file of this text.
+fn database_of(alloc: Global, text: &str) -> Result<Builtins<PlainDb>, Fail> {
     let files = files_of(alloc, &[(FileKind::Hwdb, 1, "a.hwdb", text)])?;
     let database = read_sources(alloc, &files).map_err(|_fault| "no database")?;
-    Ok(PlainDb::new(database.entries))
+    Ok(Builtins::new(PlainDb::new(database.entries)))
 }
 
 /// Whether the rules as they were read answer an event with this text.
 fn plain_answers(
     alloc: Global,
     rules: &RuleSet,
-    database: &PlainDb,
+    database: &Builtins<PlainDb>,
     event: &Event<'_>,
     wanted: &[u8],
 ) -> Result<bool, AllocError> {
@@ -39,7 +40,7 @@ fn plain_answers(
 fn program_answers(
     alloc: Global,
     program: &Program,
-    database: &PlainDb,
+    database: &Builtins<PlainDb>,
     event: &Event<'_>,
     wanted: &[u8],
 ) -> Result<bool, AllocError> {
@@ -53,7 +54,7 @@ fn program_answers(
 fn both_answer(
     alloc: Global,
     rules: RuleSet,
-    database: &PlainDb,
+    database: &Builtins<PlainDb>,
     event: &Event<'_>,
     wanted: &[u8],
 ) -> Result<bool, AllocError> {
@@ -68,7 +69,7 @@ fn both_answer(
 fn both_answer_block(
     alloc: Global,
     rules: RuleSet,
-    database: &PlainDb,
+    database: &Builtins<PlainDb>,
     block: &[u8],
     wanted: &[u8],
 ) -> Result<bool, Fail> {

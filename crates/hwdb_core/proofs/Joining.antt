@@ -3,7 +3,7 @@ use Rattle.std.proofs.Common.{◌≡◌, ℕ, ◌+◌, List, ◌∷◌, [], ◌+
 use Rattle.std.specs.List.{flat_map, sum_by}
 use Rattle.std.proofs.lemmas.List.Sums.{sum_by-append, sum_by-cons}
 use Rattle.std.proofs.lemmas.List.Elements.{filter-append}
-use Rattle.text_bytes.specs.declared.Message.{Message}
+use Rattle.file_messages.specs.declared.message.Message.{Message}
 use Rattle.text_core.specs.Fits.{fits}
 use Rattle.hwdb_lookup.specs.declared.Entry.{Entry}
 use Rattle.hwdb_core.specs.Properties.{Property}

@@ -1,7 +1,7 @@
 -- What is held, one thing more.
 use Rattle.std.proofs.Common.{◌≡◌, ℕ, ◌+◌, ◌-◌, ◌<◌, ◌≤◌, ◌⊎◌, inl, inr, true, false, List, ◌∷◌, [], ◌++◌, Option, Some, None, Result, Ok, Err, refl, sym, ◌∙◌, ap, arith, append-nil, add-zero}
 use Rattle.std.specs.List.{sum_by}
-use Rattle.text_bytes.specs.declared.Message.{Message}
+use Rattle.file_messages.specs.declared.message.Message.{Message}
 use Rattle.hwdb_lookup.specs.declared.Entry.{Entry}
 use Rattle.hwdb_lookup.specs.Bounds.{max_entries, max_match_bytes, max_text_bytes}
 use Rattle.hwdb_core.specs.Properties.{Property}

@@ -5,7 +5,7 @@ use Rattle.std.proofs.lemmas.Bool.{eq-eqb}
 use Rattle.std.proofs.lemmas.List.{length-take-le}
 use Rattle.std.proofs.lemmas.List.Elements.{All-append, All-cons, All-push}
 use Rattle.text_bytes.specs.Names.{equals}
-use Rattle.text_bytes.specs.declared.MessageKind.TheVariants.{EmptyKey}
+use Rattle.file_messages.specs.declared.message.MessageKind.TheVariants.{EmptyKey}
 use Rattle.text_bytes.specs.declared.SourceFile.{SourceFile}
 use Rattle.text_core.specs.Spell.{spell}
 use Rattle.text_core.specs.declared.glob_fault.GlobFault.{GlobFault}

@@ -5,7 +5,7 @@ use Rattle.std.proofs.Math.Seq.{drop-cons}
 use Rattle.std.proofs.lemmas.List.Concat.{flat_map_single}
 use Rattle.text_bytes.specs.Numbers.{capped}
 use Rattle.file_messages.specs.Messages.{message}
-use Rattle.text_bytes.specs.declared.MessageKind.{MessageKind}
+use Rattle.file_messages.specs.declared.message.MessageKind.{MessageKind}
 use Rattle.text_core.specs.Spell.{spell}
 use Rattle.text_core.specs.declared.glob_fault.GlobFault.{GlobFault}
 use Rattle.text_core.specs.declared.item.Item.{Item}

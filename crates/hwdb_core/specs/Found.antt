@@ -1,6 +1,6 @@
 -- Serves inner proofs only: what is found in the parts of files, and what is held of it.
 use Rattle.std.specs.Prelude.{◌≡◌, ℕ, ◌+◌, ◌≤◌, List, [], ◌∷◌, ◌++◌, Bool, true, length, sum_by, Option, Some, None, Result, Ok, Err}
-use Rattle.text_bytes.specs.declared.Message.{Message}
+use Rattle.file_messages.specs.declared.message.Message.{Message}
 use Rattle.text_core.specs.Fits.{fits}
 use Rattle.text_core.specs.declared.item.Item.{Item}
 use Rattle.hwdb_lookup.specs.declared.Entry.{Entry}

@@ -1,9 +1,9 @@
 -- The messages about a paragraph.
 use Rattle.std.specs.Prelude.{ℕ, ◌==◌, if◌then◌else◌, List, [], ◌∷◌, ◌++◌, length, take, map, flat_map, Result, Ok, Err}
 use Rattle.file_messages.specs.Messages.{message}
-use Rattle.text_bytes.specs.declared.Message.{Message}
-use Rattle.text_bytes.specs.declared.MessageKind.{MessageKind}
-use Rattle.text_bytes.specs.declared.MessageKind.TheVariants.{PropertyWithoutMatch, MatchWithoutProperty, UnindentedLine, PatternNotSupported}
+use Rattle.file_messages.specs.declared.message.Message.{Message}
+use Rattle.file_messages.specs.declared.message.MessageKind.{MessageKind}
+use Rattle.file_messages.specs.declared.message.MessageKind.TheVariants.{PropertyWithoutMatch, MatchWithoutProperty, UnindentedLine, PatternNotSupported}
 use Rattle.text_core.specs.Spell.{spell}
 use Rattle.text_core.specs.declared.item.Item.{Item}
 use Rattle.text_core.specs.declared.glob_fault.GlobFault.{GlobFault}

@@ -5,8 +5,8 @@ use Rattle.text_bytes.specs.Names.{equals}
 use Rattle.text_bytes.specs.Lines.{NumberedLine}
 use Rattle.text_bytes.specs.Texts.{unindented}
 use Rattle.text_bytes.specs.Numbers.{capped}
-use Rattle.text_bytes.specs.declared.MessageKind.{MessageKind}
-use Rattle.text_bytes.specs.declared.MessageKind.TheVariants.{NoEquals, EmptyKey}
+use Rattle.file_messages.specs.declared.message.MessageKind.{MessageKind}
+use Rattle.file_messages.specs.declared.message.MessageKind.TheVariants.{NoEquals, EmptyKey}
 use Rattle.text_core.specs.Spell.{spell}
 use Rattle.text_core.specs.declared.item.Item.{Item}
 use Rattle.text_core.specs.declared.glob_fault.GlobFault.{GlobFault}

@@ -1,6 +1,6 @@
 -- What database files say, taken together.
 use Rattle.std.specs.Prelude.{ℕ, ◌+◌, Bool, ◌&&◌, nat_le, IsTrue, List, [], ◌∷◌, length, map, flat_map, sum_by}
-use Rattle.text_bytes.specs.declared.Message.{Message}
+use Rattle.file_messages.specs.declared.message.Message.{Message}
 use Rattle.text_bytes.specs.declared.SourceFile.{SourceFile}
 use Rattle.hwdb_lookup.specs.Bounds.{max_entries, max_match_bytes, max_name_bytes, max_text_bytes}
 use Rattle.hwdb_lookup.specs.declared.Entry.{Entry}

@@ -10,9 +10,9 @@ use Rattle.text_bytes.specs.Names.{equals, newline}
 use Rattle.text_bytes.specs.Lines.{NumberedLine, lines, numbered_from}
 use Rattle.text_bytes.specs.Numbers.{capped}
 use Rattle.file_messages.specs.Messages.{message}
-use Rattle.text_bytes.specs.declared.Message.{Message}
-use Rattle.text_bytes.specs.declared.MessageKind.{MessageKind}
-use Rattle.text_bytes.specs.declared.MessageKind.TheVariants.{MatchWithoutProperty, PatternNotSupported, UnindentedLine, EmptyKey}
+use Rattle.file_messages.specs.declared.message.Message.{Message}
+use Rattle.file_messages.specs.declared.message.MessageKind.{MessageKind}
+use Rattle.file_messages.specs.declared.message.MessageKind.TheVariants.{MatchWithoutProperty, PatternNotSupported, UnindentedLine, EmptyKey}
 use Rattle.text_bytes.specs.declared.SourceFile.{SourceFile}
 use Rattle.text_core.specs.Spell.{spell}
 use Rattle.text_core.specs.declared.glob_fault.GlobFault.{GlobFault}

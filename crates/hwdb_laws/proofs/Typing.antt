@@ -7,7 +7,7 @@ use Rattle.text_core.specs.declared.glob_fault.GlobFault.{GlobFault}
 use Rattle.text_core.specs.declared.item.Item.{Item}
 use Rattle.text_core.specs.declared.item.Item.TheVariants.{One}
 use Rattle.text_bytes.specs.Numbers.{capped}
-use Rattle.text_bytes.specs.declared.MessageKind.{MessageKind}
+use Rattle.file_messages.specs.declared.message.MessageKind.{MessageKind}
 use Rattle.text_bytes.specs.declared.SourceFile.{SourceFile}
 use Rattle.text_bytes.specs.Lines.{NumberedLine}
 use Rattle.hwdb_core.specs.Properties.{Pair, Property, cut_properties, from_line, from_pair, from_spelled, pair_of}

@@ -1,8 +1,8 @@
 -- The order of the messages about a file.
 use Rattle.std.specs.Prelude.{◌≡◌, ◌<◌, ◌⊎◌, ℕ}
-use Rattle.text_bytes.specs.declared.Message.{Message}
-use Rattle.text_bytes.specs.declared.MessageKind.{MessageKind}
-use Rattle.text_bytes.specs.declared.MessageKind.TheVariants.{PropertyWithoutMatch, MatchWithoutProperty, UnindentedLine, NoEquals, EmptyKey, PatternNotSupported}
+use Rattle.file_messages.specs.declared.message.Message.{Message}
+use Rattle.file_messages.specs.declared.message.MessageKind.{MessageKind}
+use Rattle.file_messages.specs.declared.message.MessageKind.TheVariants.{PropertyWithoutMatch, MatchWithoutProperty, UnindentedLine, NoEquals, EmptyKey, PatternNotSupported}
 
 -- the number in the code of a message about the database, such as 3 in H3; the rest are of rules
 abbrev pub code_number : MessageKind → ℕ

@@ -9,7 +9,7 @@ use Rattle.text_core.specs.declared.glob_fault.GlobFault.TheVariants.{TooLong}
 use Rattle.text_core.specs.declared.item.Item.{Item}
 use Rattle.text_core.specs.declared.reading.Reading.TheVariants.{Exact}
 use Rattle.text_core.specs.declared.spell.Head.{Head}
-use Rattle.text_bytes.specs.declared.MessageKind.{MessageKind}
+use Rattle.file_messages.specs.declared.message.MessageKind.{MessageKind}
 use Rattle.text_bytes.specs.declared.SourceFile.{SourceFile}
 use Rattle.text_bytes.specs.Lines.{NumberedLine}
 use Rattle.hwdb_core.specs.Paragraphs.{Cut}

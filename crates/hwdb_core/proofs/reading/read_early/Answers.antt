@@ -1,6 +1,6 @@
 use Rattle.std.proofs.Common.{◌+◌, ◌∙◌, ap, drop}
 use Rattle.std.proofs.lemmas.Result.{err_from_is_err_and}
-use Rattle.text_bytes.specs.declared.MessageKind.TheVariants.{PropertyWithoutMatch}
+use Rattle.file_messages.specs.declared.message.MessageKind.TheVariants.{PropertyWithoutMatch}
 use Rattle.hwdb_core.specs.Properties.{property_text}
 use Rattle.hwdb_core.specs.Parts.{early_found}
 use Rattle.hwdb_core.specs.Found.{onto}

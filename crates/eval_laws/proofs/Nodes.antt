@@ -7,9 +7,8 @@ use Rattle.std.specs.Fmt.{signed_decimal}
 use Rattle.text_tables.specs.Texts.{Text}
 use Rattle.eval_laws.specs.DeviceWeights.{given_weight}
 use Rattle.eval_rules.specs.declared.outcome.Outcome.{Outcome}
-use Rattle.eval_effects.specs.Items.{watch_word}
 use Rattle.engine_answers.specs.Items.{ItemLine, given_lines, node_lines, persist_lines, priority_lines, watch_lines}
-use Rattle.engine_answers.specs.Lines.{bare_line, line}
+use Rattle.engine_answers.specs.Lines.{line}
 use Rattle.eval_laws.proofs.Lines.{alone, given_line_short, line_length, one_length}
 
 watch_short : (watch : Option Bool) → length (alone (watch_lines watch)) ≤ 8

@@ -1,6 +1,6 @@
 -- What is read of a line that a program printed is written there.
-use Rattle.std.proofs.Common.{◌≡◌, ◌⊎◌, inl, inr, ℕ, zero, suc, ◌+◌, ◌-◌, ◌<◌, ◌≤◌, Bool, true, false, nat_lt, ◌==◌, ◌||◌, [], ◌∷◌, ◌++◌, All, length, get_or, take, drop, reverse, Option, Some, None, option_map, position, unwrap_or, if◌then◌else◌, refl, sym, ap, ◌∙◌, subst, length-drop, length-take, take-append-drop, arith}
-use Rattle.std.specs.List.{list_any, prefix_len, suffix_len}
+use Rattle.std.proofs.Common.{◌≡◌, inl, inr, ℕ, zero, suc, ◌+◌, ◌-◌, ◌<◌, ◌≤◌, Bool, true, false, ◌==◌, ◌||◌, [], ◌∷◌, ◌++◌, length, get_or, take, drop, reverse, Option, Some, None, option_map, position, unwrap_or, if◌then◌else◌, refl, sym, ap, ◌∙◌, subst, length-drop, length-take, take-append-drop, arith}
+use Rattle.std.specs.List.{prefix_len, suffix_len}
 use Rattle.std.specs.Option.{option_and_then}
 use Rattle.std.proofs.lemmas.Bool.{eqb-true}
 use Rattle.std.proofs.lemmas.List.{append_assoc, drop_more, get_or-drop, get_or_default, get_or-reverse, get_or-take, take_all, take_more, length-reverse}
@@ -8,7 +8,7 @@ use Rattle.std.proofs.lemmas.List.Folds.{list_any_none}
 use Rattle.std.proofs.lemmas.List.Quantifiers.{position-Some}
 use Rattle.std.proofs.lemmas.List.Sums.{prefix_len-le-length, prefix_len_passes, prefix_len_stops, suffix_len-le-length}
 use Rattle.text_bytes.specs.Names.{equals, hash, is_blank}
-use Rattle.text_bytes.specs.Texts.{begins_with, ends_in, is_empty, split_once, unindented}
+use Rattle.text_bytes.specs.Texts.{begins_with, is_empty, split_once, unindented}
 use Rattle.text_tables.specs.Texts.{Text}
 use Rattle.text_tables.specs.Pairs.{Pair}
 use Rattle.eval_acts.specs.Printed.{bare, before_end, line_property, property_cut, property_of, unquoted}

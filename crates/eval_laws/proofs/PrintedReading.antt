@@ -1,5 +1,5 @@
 -- What a program wrote is read back, a line for each property.
-use Rattle.std.proofs.Common.{◌≡◌, ◌⊎◌, inl, inr, ℕ, suc, ◌+◌, ◌-◌, ◌<◌, ◌≤◌, Bool, true, false, cond, not, nat_lt, ◌==◌, ◌||◌, List, [], ◌∷◌, ◌++◌, All, length, get_or, take, drop, Option, Some, None, option_map, position, flat_map, filter_map, if◌then◌else◌, refl, ap, sym, ◌∙◌, append_assoc, length-append, arith}
+use Rattle.std.proofs.Common.{◌≡◌, inl, inr, ℕ, suc, ◌+◌, ◌-◌, Bool, true, false, cond, not, nat_lt, ◌==◌, ◌||◌, List, [], ◌∷◌, ◌++◌, All, length, get_or, take, drop, Some, None, option_map, position, flat_map, filter_map, if◌then◌else◌, refl, ap, sym, ◌∙◌, append_assoc, length-append, arith}
 use Rattle.std.specs.List.{cons_option, list_any, prefix_len, slice_split, suffix_len}
 use Rattle.std.specs.Option.{option_and_then}
 use Rattle.std.proofs.lemmas.Bool.{eq-eqb, le-ltb}
@@ -8,7 +8,7 @@ use Rattle.std.proofs.lemmas.List.Elements.{All-head, All-tail}
 use Rattle.std.proofs.lemmas.List.Splits.{slice_split_at}
 use Rattle.std.proofs.lemmas.List.Sums.{prefix_len_is, suffix_len_is}
 use Rattle.text_bytes.specs.Names.{equals, hash, is_blank}
-use Rattle.text_bytes.specs.Texts.{begins_with, ends_in, is_empty, split_once, unindented}
+use Rattle.text_bytes.specs.Texts.{begins_with, is_empty, split_once, unindented}
 use Rattle.text_tables.specs.Texts.{Text}
 use Rattle.text_tables.specs.Pairs.{Pair}
 use Rattle.eval_acts.specs.Printed.{bare, before_end, ends_line, line_property, printed_properties, property_cut, property_of, unquoted, unspaced}

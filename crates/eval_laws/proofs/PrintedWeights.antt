@@ -1,5 +1,5 @@
 -- What a program printed gives no more than it weighs, and an answer weighs no more than its event.
-use Rattle.std.proofs.Common.{◌≡◌, ℕ, ◌+◌, ◌<◌, ◌≤◌, ◌-◌, Bool, true, false, ◌==◌, ◌||◌, List, [], ◌∷◌, length, take, drop, Option, Some, None, option_map, if◌then◌else◌, refl, arith, length-take, length-drop}
+use Rattle.std.proofs.Common.{◌≡◌, ℕ, ◌+◌, ◌≤◌, ◌-◌, Bool, true, false, ◌==◌, ◌||◌, List, [], ◌∷◌, length, take, drop, Option, Some, None, option_map, if◌then◌else◌, refl, arith, length-take, length-drop}
 use Rattle.std.specs.List.{cons_option, filter_map, position, prefix_len, slice_split, suffix_len, sum_by}
 use Rattle.std.specs.Option.{option_and_then}
 use Rattle.std.proofs.lemmas.List.Sums.{sum_by-cons}
@@ -9,7 +9,6 @@ use Rattle.text_tables.specs.Texts.{Text, same_text}
 use Rattle.text_tables.specs.Pairs.{Pair, value_of}
 use Rattle.text_core.proofs.Cutting.{position-lt}
 use Rattle.device_core.specs.Values.{AnswerValue, EventValue}
-use Rattle.eval_state.specs.Texts.{or_empty}
 use Rattle.eval_acts.specs.Printed.{bare, before_end, ends_line, line_property, printed_properties, property_cut, property_of, unquoted, unspaced}
 use Rattle.eval_commands.specs.Words.{is_quote}
 use Rattle.eval_laws.specs.DeviceWeights.{answer_weight, event_weight, pair_weight, pairs_weight, text_weight}

@@ -1,11 +1,11 @@
 -- The modalias that is made up for a USB device, and its digits.
-use Rattle.std.proofs.Common.{◌≡◌, ℕ, ◌+◌, ◌*◌, ◌<◌, ◌≤◌, ◌/◌, ◌%◌, Bool, true, false, not, ◌==◌, ◌&&◌, ◌||◌, cond, eqb, nat_le, List, [], ◌∷◌, drop, length, Some, None, option_and_then, codes, if◌then◌else◌, refl, sym, ap, ◌∙◌, arith}
+use Rattle.std.proofs.Common.{◌≡◌, ℕ, ◌+◌, ◌*◌, ◌<◌, ◌≤◌, ◌/◌, ◌%◌, Bool, true, false, not, ◌==◌, ◌&&◌, ◌||◌, cond, eqb, nat_le, List, [], ◌∷◌, drop, length, Some, None, option_and_then, codes, if◌then◌else◌, refl, ap, ◌∙◌, arith}
 use Rattle.std.specs.List.{list_all, prefix_len}
 use Rattle.std.specs.Option.{option_or}
 use Rattle.std.proofs.lemmas.Bool.{agree_below_at, eqb-true, le-leb}
 use Rattle.text_bytes.specs.Escapes.{hex_digit}
 use Rattle.text_bytes.specs.Names.{digit_zero, is_whitespace, minus, plus}
-use Rattle.text_bytes.specs.Texts.{begins_with, is_empty, skip_while}
+use Rattle.text_bytes.specs.Texts.{begins_with, skip_while}
 use Rattle.text_bytes.specs.declared.profile.Profile.{Profile}
 use Rattle.text_bytes.specs.declared.profile.Profile.TheVariants.{Manual, Udev}
 use Rattle.text_tables.specs.Texts.{Text}

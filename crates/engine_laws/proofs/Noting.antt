@@ -1,5 +1,5 @@
 -- The notes of a PROGRAM, and of udev's IMPORT{program}, that say that its command has no answer.
-use Rattle.std.proofs.Common.{◌≡◌, ◌==◌, Bool, true, false, cond, List, [], ◌∷◌, ◌++◌, map, Option, Some, None, is_some, append-nil, refl, ap, sym, ◌∙◌}
+use Rattle.std.proofs.Common.{◌≡◌, ◌==◌, Bool, true, false, cond, [], ◌∷◌, ◌++◌, map, Option, Some, None, is_some, append-nil, ap, sym, ◌∙◌}
 use Rattle.std.specs.List.{filter}
 use Rattle.std.proofs.lemmas.List.Elements.{filter-append}
 use Rattle.text_bytes.specs.declared.profile.Profile.{Profile}
@@ -19,7 +19,6 @@ use Rattle.eval_state.specs.Notes.{note_about, word_of_key}
 use Rattle.eval_state.specs.Properties.{properties_set}
 use Rattle.eval_state.specs.Scenes.{with_env}
 use Rattle.eval_state.specs.declared.note_kind.NoteKind.TheVariants.{NoAnswer, TextTooLong}
-use Rattle.eval_state.specs.declared.notes.Note.{Note}
 use Rattle.eval_state.specs.declared.scene.Scene.{Scene}
 use Rattle.eval_rendering.specs.Bounds.{most_command_bytes}
 use Rattle.eval_rendering.specs.declared.rendered.Rendered.{Rendered}

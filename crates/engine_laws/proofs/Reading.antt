@@ -1,5 +1,5 @@
 -- Which commands the blocks of events answer, and that a question which is filled in is an answer.
-use Rattle.std.proofs.Common.{◌≡◌, ◌↔◌, ℕ, ◌+◌, ◌≤◌, ◌^◌, ◌&&◌, ◌||◌, ◌==◌, Bool, true, false, not, cond, List, [], ◌∷◌, ◌++◌, length, codes, Option, Some, None, is_some, nat_lt, option_map, unwrap_or, Result, Ok, Err, refl, ap, sym, ◌∙◌, true≢false, arith, length-append}
+use Rattle.std.proofs.Common.{◌≡◌, ◌↔◌, ℕ, ◌+◌, ◌≤◌, ◌^◌, ◌&&◌, ◌||◌, ◌==◌, Bool, true, false, not, cond, List, [], ◌∷◌, ◌++◌, length, codes, Option, Some, None, is_some, nat_lt, option_map, unwrap_or, Result, Ok, Err, refl, ap, sym, ◌∙◌, arith, length-append}
 use Rattle.std.specs.List.{filter_map, cons_option, list_all, onto_first, position_or_len, prefix_len, zip}
 use Rattle.std.specs.Option.{option_and_then, option_to_list}
 use Rattle.std.proofs.lemmas.Bool.Decides.{nat_tests}
@@ -10,14 +10,14 @@ use Rattle.text_bytes.specs.Numbers.{decimal_below}
 use Rattle.text_bytes.specs.Texts.{is_empty, split_once}
 use Rattle.text_tables.specs.Texts.{Text}
 use Rattle.device_core.specs.Blocks.{answers, before_device, device, devices, event, groups, is_kind, numbers, pairs, programs, text_in, texts}
-use Rattle.device_core.specs.Faults.{block_gives, device_above, fault_unless, first_of, follows_command, given_below, given_by, given_with, has_nul, is_again, is_half, is_too_deep, is_wrong_number, is_wrong_path, lacks_action, lacks_device, line_fault, row_fault, unless_faulty}
-use Rattle.device_core.specs.Lines.{Row, begins_answer, form, kind_of, letter_of, row_from, row_of}
+use Rattle.device_core.specs.Faults.{block_gives, device_above, fault_unless, follows_command, given_below, given_by, given_with, has_nul, is_half, is_too_deep, is_wrong_number, is_wrong_path, lacks_action, lacks_device, line_fault, row_fault, unless_faulty}
+use Rattle.device_core.specs.Lines.{Row, begins_answer, form, kind_of, row_from, row_of}
 use Rattle.device_core.specs.Parts.{answer_of, is_device_path, number_below}
-use Rattle.device_core.specs.RunBlocks.{is_too_long, line_of_excess, most_bytes}
+use Rattle.device_core.specs.RunBlocks.{is_too_long, line_of_excess}
 use Rattle.device_core.specs.Values.{AnswerValue, DeviceValue, EventValue}
 use Rattle.device_core.specs.declared.faults.BlockFault.{BlockFault}
 use Rattle.device_core.specs.declared.faults.BlockFaultKind.{BlockFaultKind}
-use Rattle.device_core.specs.declared.faults.BlockFaultKind.TheVariants.{NoAction, NoDevice, Nul, Number, Pair, Path, TooDeep, TooLong, Twice}
+use Rattle.device_core.specs.declared.faults.BlockFaultKind.TheVariants.{NoAction, NoDevice, Nul, Number, Pair, Path, TooDeep, TooLong}
 use Rattle.device_core.specs.declared.lines.DeviceField.TheVariants.{Subsystem, Driver, Node, Devnum, Attribute, Property, Tag, Link}
 use Rattle.device_core.specs.declared.lines.LineKind.{LineKind}
 use Rattle.device_core.specs.declared.lines.LineKind.TheVariants.{Action, Device, Field, Constant, Command, Answer}

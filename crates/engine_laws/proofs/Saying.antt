@@ -11,7 +11,6 @@ use Rattle.device_core.specs.Values.{EventValue}
 use Rattle.rule_types.specs.declared.part.Act.{Act}
 use Rattle.rule_types.specs.declared.part.ActKind.{ActKind}
 use Rattle.rule_types.specs.declared.part.ActKind.TheVariants as act_kind
-use Rattle.rule_types.specs.declared.part.Import.{Import}
 use Rattle.rule_types.specs.Rules.{Rule}
 use Rattle.eval_rendering.specs.declared.rendered.Rendered.{Rendered}
 use Rattle.eval_rendering.specs.declared.rendered.Rendered.TheVariants as rendered

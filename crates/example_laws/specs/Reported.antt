@@ -1,5 +1,5 @@
 -- What `events` answers with `--sources`, `--why` and `--questions`.
-use Rattle.std.specs.Prelude.{[], ◌∷◌, ◌++◌, List, codes}
+use Rattle.std.specs.Prelude.{[], ◌∷◌, ◌++◌, codes}
 use Rattle.text_bytes.specs.Names.{newline}
 use Rattle.text_bytes.specs.declared.profile.Profile.TheVariants.{Manual}
 use Rattle.text_tables.specs.Texts.{Text}

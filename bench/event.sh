@@ -8,7 +8,8 @@
 # has them. The program is crates/bench, which is proved first.
 # usage: bench/event.sh [DIR]    DIR holds usr/lib/udev/rules.d, as tools that unpack packages leave it
 set -euo pipefail
-root=$(cd "${1:-/nonexistent}" 2> /dev/null && pwd || true)
+root=''
+if [ -d "${1:-}" ]; then root=$(cd "$1" && pwd); fi
 top=$(cd "$(dirname "$0")/.." && pwd)
 program=$top/crates/bench/out/bench
 (cd "$top/crates/bench" && rt run < stdin > /dev/null)

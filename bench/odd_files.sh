@@ -3,6 +3,8 @@
 # files, inputs and outputs that fail half way: a test of a crate can make none of these. Says which case goes wrong, and
 # then ends in 1.
 # usage: bench/odd_files.sh [PROGRAM]    PROGRAM is build/devdry by default; as root it needs setpriv
+# (functions below are called by name)
+# shellcheck disable=SC2317
 set -euo pipefail
 top=$(cd "$(dirname "$0")/.." && pwd)
 program=${1:-$top/build/devdry}

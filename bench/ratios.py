@@ -21,7 +21,7 @@ from collections import namedtuple
 from pathlib import Path
 
 from devices import REAL
-from timing import MILLION, Run, Taken, counted, least, take
+from timing import MILLION, Run, counted, least, take
 from worst_inputs import Case, each, events, prepared, verify
 
 TOP = Path(__file__).resolve().parent.parent

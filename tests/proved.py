@@ -1,12 +1,12 @@
 #!/usr/bin/env python3
 """Reads docs/proved.md and docs/architecture.md, and reports what they name that the source does not have.
 
-usage: tests/proved.py
+usage: tests/proved.py [--write]    with --write, the list of laws in docs/proved.md is made anew first
 
 - Each `crate::function` or `crate::Type::function` in them is a function of that crate, of that type or trait, and has a
   contract. Names in brackets after it, (`one`, `two`), are clauses of that contract.
-- docs/proved.md names each law: each public function with an empty body and without parameters in the crates of crates.txt,
-  except for examples, which begin with `some_`.
+- docs/proved.md lists each law with the first sentence above it. A law is a public function with an empty body and without
+  parameters in a crate of crates.txt; examples, which begin with `some_`, are not listed.
 - Each block of code in it after ```text PATH is a part of the file PATH, unchanged.
 
 Prints a line `ok CASE` for each of these, or `not ok CASE` with what is missing.
@@ -16,6 +16,9 @@ import sys
 from pathlib import Path
 
 TOP = Path(__file__).resolve().parent.parent
+# What stands directly before and after the list of laws.
+FIRST = "what it says, in the words above its contract.\n\n"
+LAST = "## When something is refused"
 HEAD = re.compile(r"^(?:pub )?(?:impl(?:<[^>]*>)? (?:[\w]+(?:<[^{]*?>)? for )?(\w+)|trait (\w+))|^( *)(?:pub(?:\(crate\))? )?fn (\w+)", re.M)
 
 
@@ -58,27 +61,56 @@ def named_functions(page, crates):
     return wrong, names
 
 
-def laws(crates):
-    """The laws of all crates, except for examples."""
-    for crate, found in crates.items():
-        for name, heads in found.items():
-            law = re.compile(r"pub fn \w+(?:<[^>]*>)?\(\)\s+ensures\b.*^\{\}", re.M | re.S)
-            if not name.startswith("some_") and any(law.match(head) for head in heads):
-                yield f"{crate}::{name}"
+def laws_in(text):
+    """The laws of a source text: name and first sentence of each."""
+    said, name, promises = [], None, False
+    for line in text.splitlines():
+        bare = line.strip()
+        if name is None:
+            head = re.match(r"pub fn (\w+)(?:<[^>]*>)?\(\)", line)
+            if bare.startswith("///"):
+                said.append(bare[3:].strip())
+            elif head:
+                name, promises = head[1], False
+            elif not (said and bare.startswith(("#[", ")")) or bare.endswith(",")):
+                said = []
+        elif bare.startswith("ensures"):
+            promises = True
+        elif bare in ("{}", "{"):
+            if bare == "{}" and promises and not name.startswith("some_"):
+                yield name, re.match(r"(?:The law of [^.:]*\. +)?(.*?\.)(?: |$)", " ".join(said))[1]
+            said, name = [], None
+
+
+def listed_laws(crates):
+    """The list of laws, as docs/proved.md has it: a heading for each crate, and below it a line for each law."""
+    lines = []
+    for crate in crates:
+        paths = sorted((TOP / "crates" / crate / "src").rglob("*.rt"))
+        found = [law for path in paths for law in laws_in(path.read_text(encoding="utf-8"))]
+        if found:
+            lines += [f"### `{crate}`", "", *(f"- `{crate}::{name}`: {sentence}" for name, sentence in found), ""]
+    return "\n".join(lines)
 
 
 def main():
-    page = (TOP / "docs/proved.md").read_text(encoding="utf-8")
     crates = {}
     for line in (TOP / "crates.txt").read_text(encoding="utf-8").splitlines():
         if not line.startswith("#"):
             crates[line.split(":")[0]] = functions(line.split(":")[0])
+    path = TOP / "docs/proved.md"
+    page = path.read_text(encoding="utf-8")
+    start, end = page.index(FIRST) + len(FIRST), page.index(LAST)
+    if sys.argv[1:] == ["--write"]:
+        page = page[:start] + listed_laws(crates) + page[end:]
+        path.write_text(page, encoding="utf-8")
+        end = page.index(LAST)
     wrong, names = named_functions((TOP / "docs/architecture.md").read_text(encoding="utf-8"), crates)
     well = report("docs/architecture.md names functions that have a contract", wrong or ([] if names else ["no function is named"]))
     wrong, names = named_functions(page, crates)
     well &= report("docs/proved.md names functions that have a contract", wrong or ([] if names else ["no function is named"]))
-    reported = {f"{crate}::{name}" for crate, name, _ in names}
-    well &= report("docs/proved.md names each law", [it for it in laws(crates) if it not in reported])
+    unlike = set(listed_laws(crates).splitlines()) ^ set(page[start:end].splitlines())
+    well &= report("docs/proved.md lists the laws as the source has them (tests/proved.py --write)", sorted(unlike))
     quoted = re.findall(r"^```text (\S+)\n(.*?)^```$", page, re.M | re.S)
     well &= report("docs/proved.md quotes the current source", [
         f"{path} does not contain this text:\n{text}" for path, text in quoted

@@ -2,6 +2,8 @@
 # folder, `$sys`, with a disk, a keyboard and a network card, and what udevadm prints about some of them, `$work/db`.
 # shellcheck shell=bash disable=SC2034,SC2154
 
+# (what only its owner may read is for root alone)
+umask 022
 capture=$top/tools/devdry-capture
 sys=$work/sys
 bus=$work/sys/bus

@@ -260,9 +260,3 @@ same "-V" "$("$capture" --version)" "$("$capture" -V)"
 mkdir "$work/alone" && cp "$capture" "$work/alone"
 same "without devdry-capture.awk" "1
 devdry-capture: $work/alone/../share/devdry/devdry-capture.awk: can't be read" "$(ends "$work/alone/devdry-capture" --all)"
-
-if has shellcheck; then
-    goes_well "shellcheck" shellcheck "$capture"
-else
-    skipped "shellcheck" "there is no shellcheck"
-fi

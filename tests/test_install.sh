@@ -48,8 +48,9 @@ goes_well "packaging/deb.sh" "$top/packaging/deb.sh" "$program" "$work/debs"
 goes_well "packaging/deb.sh a second time" "$top/packaging/deb.sh" "$program" "$work/again"
 deb=$(echo "$work"/debs/*.deb)
 goes_well "both packages are equal" cmp "$deb" "$work/again/${deb##*/}"
+mapfile -t examples < <(cd "$top" && find examples -type f)
 docs=$(printf '/usr/share/doc/devdry/%s\n' README.md CHANGELOG.md.gz changelog.gz copyright \
-    docs/{behaviour,writing-rules,messages,differences,format,measures,proved}.md $(cd "$top" && find examples -type f))
+    docs/{behaviour,writing-rules,messages,differences,format,measures,proved}.md "${examples[@]}")
 same "the files of the package" "$({ wanted /usr /usr/share/zsh/vendor-completions .gz; echo "$docs"; } | sorted)" \
     "$(dpkg-deb --fsys-tarfile "$deb" | tar -t | sed 's/^\.//' | grep -v '/$' | sorted)"
 

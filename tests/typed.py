@@ -27,6 +27,7 @@ def blocks(text):
     """The blocks of code, each as its first line's number and its lines."""
     found, open_at, lines = [], None, []
     fenced = False
+    previous = ""
     for number, line in enumerate(text.split("\n") + ["end"], 1):
         if line.lstrip().startswith("```"):
             if fenced:

@@ -110,6 +110,27 @@ function host(    parent, name) {
     lines[key] = kernels[key] = "A: " name "/uevent=DEVTYPE=scsi_host"
 }
 
+# Whether an attribute is a secret, and so in no block, with all records read: by its name, as records have no modes and as
+# the kernel lets everyone open some of these; or as nobody but root may read its file, unless a builtin of udev looks at it.
+function is_secret(path, name,    of, type) {
+    of = substr(lines[path, "U", "U"], 4)
+    type = substr(lines[path, "E", "DEVTYPE"], 12)
+    if (name ~ transports) return 0
+    if (name ~ secret || of == "dmi" && name ~ secret_of_dmi) return 1
+    # (of a service it is the name of a protocol)
+    if (of == "thunderbolt" && name == "key" && type != "thunderbolt_service") return 1
+    return (path "/" name) in guarded && !(of in looked_at && name ~ looked_at[of])
+}
+
+# Removes the secrets of a device.
+function remove_secrets(path,    i, key, part) {
+    for (i = 1; i <= count[path]; i++) {
+        key = keys[path, i]
+        split(key, part, SUBSEP)
+        if (part[2] == "A" && is_secret(path, part[3])) lines[key] = kernels[key] = ""
+    }
+}
+
 # Whether a text is a path as blocks have it.
 function is_path(text) { return text ~ /^\/./ && text !~ /\/\// && text !~ /\/$/ }
 
@@ -118,10 +139,27 @@ BEGIN {
     escapes["b"] = "\b"; escapes["f"] = "\f"; escapes["v"] = "\v"
     # attributes that are not keys: these are in keys above, change with each boot, or count and measure
     passing = "^(subsystem|driver|dev|stat|inflight|statistics/.*|power/runtime_.*_time)$"
+    # attributes that are secrets whatever their mode is, unless they are those of `transports`
+    secret = "(^|/)(username|password|dhchap_)[^/]*$|(password|passphrase)$|secret|(^|/)iscsi_(session|connection)/"
+    secret_of_dmi = "^((board|chassis|product)_serial|product_uuid)$"
+    # attributes that builtins of udev look at: those of transport classes, then others by the subsystem of their device
+    transports = "^(ata_port/[^/]+/port_no|fc_transport/[^/]+/port_name|sas_device/[^/]+/(phy_identifier|sas_address)" \
+        "|sas_port/[^/]+/num_phys|iscsi_session/[^/]+/targetname" \
+        "|connection[^/]+/iscsi_connection/[^/]+/persistent_(address|port))$"
+    looked_at["ap"] = "^(ap_functions|type)$"
+    looked_at["block"] = looked_at["nvme-generic"] = "^nsid$"
+    looked_at["input"] = "^(capabilities/(abs|ev|key|rel)|id/bustype|properties)$"
+    looked_at["net"] = "^(addr_assign_type|address|dev_id|dev_port|iflink|phys_port_name|type)$"
+    looked_at["pci"] = "^(acpi_index|ari_enabled|firmware_node/sun|function_id|index|label|modalias)$"
+    looked_at["scsi"] = "^(ieee1394_id|model|rev|type|vendor)$"
+    looked_at["usb"] = "^(bDeviceProtocol|bInterface(Class|Number|SubClass)|bcdDevice|id(Product|Vendor)" \
+        "|manufacturer|product|serial|speed)$"
+    looked_at["vmbus"] = "^device_id$"
     added = "^(ID|SYSTEMD|UDISKS|UPOWER|LIBINPUT|DM|MD|LVM|SCSI|ACCEL|EVDEV|IEEE1394|KEYBOARD|MOUSE|POINTINGSTICK|SOUND|XKB)_"
 }
 
 { letter = substr($0, 1, 2); text = substr($0, 4) }
+letter == "x:" { guarded[text]; next }
 letter == "w:" { if (text == "") failed = 1; else order[++orders] = text; next }
 letter == "P:" {
     path = text
@@ -212,6 +250,7 @@ function block(path,    out, parent, devices) {
 }
 
 END {
+    for (path in seen) remove_secrets(path)
     for (i = 1; i <= orders; i++) {
         path = order[i] in nodes ? nodes[order[i]] : order[i]
         if (path in printed) continue

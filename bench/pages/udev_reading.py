@@ -488,7 +488,7 @@ class Reader:
 def make(kind, operator, value, data, blind):
     """a token as it is compared with others"""
     match = ORDER.index(kind) <= ORDER.index('RESULT')
-    form, words, empty = None, None, False
+    form, words = None, None
     if match:
         if kind == 'SUBSYSTEM' and value in (b'subsystem', b'bus', b'class'):
             form = 'subsystem'

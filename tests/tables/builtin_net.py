@@ -1,6 +1,6 @@
 """`events --udev`: what net_id makes of a block, as `udevadm test-builtin` of 257 answers it."""
 from tables.kinds.builtin_rows import answered_by
-from tables.kinds.builtin_blocks import (BRIDGE, CARD, DOMAIN, MULTIPLE, PCI_CARD, ROOT, SLOTS, USB_DISK, card, device, event, interface, outside, slots)
+from tables.kinds.builtin_blocks import (BRIDGE, CARD, MULTIPLE, PCI_CARD, ROOT, SLOTS, USB_DISK, card, device, event, interface, outside, slots)
 
 
 def at(*lines, net=(), config=None, bridge=(), beside=SLOTS, path=CARD, **attributes):

@@ -5,7 +5,7 @@ nothing here was taken from the program. tests/read_formats.py reads the formats
 """
 from tables.kinds.index_bytes import EMPTY
 from tables.kinds.marked import FORMATS, gitlab_report, in_formats, messages, read_marks, sentence, summary
-from tables.kinds.row import Begins, Read, Row, as_bytes
+from tables.kinds.row import Begins, Read, Row
 
 # The example of README.md, and what each format says about it.
 MISTAKES = """\

@@ -9,6 +9,7 @@
 //! Functions that allocate return `AllocError` when memory runs out.
 #![tactic(auto)]
 
+use builtin_core::Builtins;
 use device_core::{Event, read_block};
 use eval_core::{Outcome, Program, compile, evaluate_plain};
 use hwdb_lookup::PlainDb;
@@ -53,12 +54,12 @@ impl Rules {
         alloc: Global,
         event: &'a Event<'_>,
     ) -> Result<Outcome<'a>, AllocError> {
-        let lookup = PlainDb::new(Vec::new(alloc));
+        let known = Builtins::new(PlainDb::new(Vec::new(alloc)));
         let outcome = match self {
-            Rules::Plain(rules) => evaluate_plain(alloc, rules, event, &lookup),
-            Rules::Compiled(program) => program.evaluate(alloc, event, &lookup),
+            Rules::Plain(rules) => evaluate_plain(alloc, rules, event, &known),
+            Rules::Compiled(program) => program.evaluate(alloc, event, &known),
         };
-        drop(lookup);
+        drop(known);
         outcome
     }
 }

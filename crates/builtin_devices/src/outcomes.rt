@@ -71,6 +71,16 @@ impl BuiltinOutcome {
     }
 }
 
+/// The outcome of net_id, with a query.
+#[derive(Drop)]
+pub struct NetNames {
+    /// Whether it succeeds, the names, and what the block would have to report.
+    pub outcome: BuiltinOutcome,
+    /// What the hardware database is asked: who made the interface. Its properties are set right after the outcome's
+    /// ID_NET_NAME_MAC.
+    pub lookup: Option<Bytes>,
+}
+
 /// Adds a copy of a name and its value after the properties so far.
 pub fn add_property(
     alloc: Global,

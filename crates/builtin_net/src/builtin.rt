@@ -7,21 +7,11 @@ use crate::address::maker_lookup;
 use crate::identity::{is_identified, naming};
 use crate::names::{lasting_address, name_properties};
 use crate::needs::needs;
-use builtin_devices::{BuiltinOutcome, Devices};
+use builtin_devices::{BuiltinOutcome, Devices, NetNames};
 use device_core::Event;
 use std::alloc::{AllocError, Global};
 use text_bytes::Bytes;
 use text_tables::CowPairs;
-
-/// The outcome of net_id, with a query.
-#[derive(Drop)]
-pub struct NetNames {
-    /// Whether it succeeds, the names, and what the block would have to report.
-    pub outcome: BuiltinOutcome,
-    /// What the hardware database is asked: who made the interface. Its properties are set right after the outcome's
-    /// ID_NET_NAME_MAC.
-    pub lookup: Option<Bytes>,
-}
 
 /// What the hardware database is asked.
 #[tactic(auto, unfolding(crate::specs::NetId::lookup))]

@@ -25,5 +25,5 @@ mod usb;
 mod virtual_functions;
 mod words;
 
-pub use builtin::{NetNames, net_id};
+pub use builtin::net_id;
 pub use laws::{forbidden_interfaces_fail, names_are_short, stacked_interfaces_have_no_names};

@@ -4,6 +4,7 @@ use Rattle.text_tables.specs.Texts.{Text}
 use Rattle.hwdb_lookup.specs.declared.entry.Entry.{Entry}
 use Rattle.rule_types.specs.Rules.{Rule}
 use Rattle.device_core.specs.Values.{EventValue}
+use Rattle.builtin_core.specs.Builtins.{known_by}
 use Rattle.eval_rules.specs.Outcomes.{outcome}
 use Rattle.engine_answers.specs.Answers.{answer}
 use Rattle.engine_questions.specs.Lines.{question_answer}
@@ -15,8 +16,8 @@ pub record TablesValue : Type 0 where
 
 -- the answer to an event: its outcome by these rules and entries, as lines
 abbrev pub answer_by : TablesValue → EventValue → Text
-answer_by tables event = answer event (outcome tables.rules tables.entries event)
+answer_by tables event = answer event (outcome tables.rules (known_by tables.entries) event)
 
 -- the answer to an event that says what these rules ask about it, in place of its outcome
 abbrev pub questions_by : TablesValue → EventValue → Text
-questions_by tables event = question_answer tables.rules tables.entries event
+questions_by tables event = question_answer tables.rules (known_by tables.entries) event

@@ -1,6 +1,7 @@
 //! Rules as they were read and a database, as one thing that says of events what the rules ask.
 ghost use Rattle.std.specs.Prelude.{◌≡◌};
 
+use builtin_core::Builtins;
 use device_core::Event;
 use engine_questions::question_answer;
 use engine_sessions::Answering;
@@ -15,7 +16,7 @@ use text_bytes::Bytes;
 #[derive(Drop)]
 pub struct AskedTables<L: Lookup> {
     rules: RuleSet,
-    lookup: L,
+    builtins: Builtins<L>,
 }
 
 impl<L: Lookup> Model for AskedTables<L> {
@@ -23,7 +24,7 @@ impl<L: Lookup> Model for AskedTables<L> {
 
     ghost Value = { TablesValue };
 
-    ghost view = { λ t. record { rules = t.rules; entries = L.entries t.lookup } };
+    ghost view = { λ t. record { rules = t.rules; entries = t.builtins } };
 }
 
 impl<L: Lookup + Drop> AskedTables<L> {
@@ -31,7 +32,10 @@ impl<L: Lookup + Drop> AskedTables<L> {
     pub fn new(rules: RuleSet, lookup: L) -> AskedTables<L>
         ensures { result ≡ record { rules = rules; entries = L.entries lookup } }
     {
-        AskedTables { rules, lookup }
+        AskedTables {
+            rules,
+            builtins: Builtins::new(lookup),
+        }
     }
 }
 
@@ -41,6 +45,6 @@ impl<L: Lookup> Answering for AskedTables<L> {
     ghost answers = { questions_by };
 
     fn answer(&self, alloc: Global, event: &Event<'_>) -> Result<Bytes, AllocError> {
-        question_answer(alloc, &self.rules, event, &self.lookup)
+        question_answer(alloc, &self.rules, event, &self.builtins)
     }
 }

@@ -3,6 +3,7 @@
 ghost use Rattle.std.specs.Prelude.{◌≡◌, IfOk, map};
 ghost use Rattle.engine_core.specs.Reported.{lines_reported, reported_by};
 
+use builtin_core::Builtins;
 use device_core::Event;
 use engine_answers::answer_lines;
 use engine_courses::push_why_lines;
@@ -23,7 +24,7 @@ pub struct ReportedTables<'b, 'a, L: Lookup> {
     sources: bool,
     why: &'b [&'a str],
     rules: ReadRules,
-    lookup: L,
+    builtins: Builtins<L>,
 }
 
 impl<'b, 'a, L: Lookup> Model for ReportedTables<'b, 'a, L> {
@@ -37,7 +38,7 @@ impl<'b, 'a, L: Lookup> Model for ReportedTables<'b, 'a, L> {
       why = map (λ w. w.now) t.why.now;
       messages = t.rules.messages;
       rules = t.rules.rules;
-      entries = L.entries t.lookup;
+      entries = t.builtins;
     } };
 }
 
@@ -62,7 +63,7 @@ impl<'b, 'a, L: Lookup + Drop> ReportedTables<'b, 'a, L> {
             sources,
             why,
             rules,
-            lookup,
+            builtins: Builtins::new(lookup),
         }
     }
 }
@@ -72,15 +73,15 @@ fn lines_reported<L: Lookup>(
     alloc: Global,
     sources: bool,
     rules: &RuleSet,
-    lookup: &L,
+    builtins: &Builtins<L>,
     event: &Event<'_>,
 ) -> Result<Vec<u8>, AllocError>
-    ensures { IfOk result (λ lines. lines.items ≡ lines_reported sources rules.now (L.entries lookup.now) event.now) }
+    ensures { IfOk result (λ lines. lines.items ≡ lines_reported sources rules.now builtins.now event.now) }
 {
     if sources {
-        return sourced_lines(alloc, rules, event, lookup);
+        return sourced_lines(alloc, rules, event, builtins);
     }
-    let outcome = evaluate_plain(alloc, rules, event, lookup)?;
+    let outcome = evaluate_plain(alloc, rules, event, builtins)?;
     let said = answer_lines(alloc, event, &outcome);
     drop(outcome);
     said
@@ -92,7 +93,7 @@ fn reported_by<L: Lookup>(
     sources: bool,
     why: &[&str],
     rules: &ReadRules,
-    lookup: &L,
+    builtins: &Builtins<L>,
     event: &Event<'_>,
 ) -> Result<Bytes, AllocError>
     ensures { IfOk result (λ text. text ≡ reported_by (record {
@@ -100,11 +101,11 @@ fn reported_by<L: Lookup>(
       why = map (λ w. w.now) why.now;
       messages = rules.now.messages;
       rules = rules.now.rules;
-      entries = L.entries lookup.now;
+      entries = builtins.now;
     }) event.now) }
 {
-    let mut lines = lines_reported(alloc, sources, rules.rules(), lookup, event)?;
-    push_why_lines(alloc, &mut lines, why, rules, event, lookup)?;
+    let mut lines = lines_reported(alloc, sources, rules.rules(), builtins, event)?;
+    push_why_lines(alloc, &mut lines, why, rules, event, builtins)?;
     lines.push(b'\n')?;
     Ok(Bytes::new(lines))
 }
@@ -120,7 +121,7 @@ impl<'b, 'a, L: Lookup> Answering for ReportedTables<'b, 'a, L> {
             self.sources,
             self.why,
             &self.rules,
-            &self.lookup,
+            &self.builtins,
             event,
         )
     }

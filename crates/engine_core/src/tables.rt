@@ -1,8 +1,10 @@
 //! Rules and a database, as one thing that answers events.
 ghost use Rattle.std.specs.Prelude.{◌≡◌, IfOk};
+ghost use Rattle.builtin_core.specs.Builtins.{known_by};
 ghost use Rattle.engine_answers.specs.Answers.{answer};
 ghost use Rattle.eval_rules.specs.Outcomes.{outcome};
 
+use builtin_core::Builtins;
 use device_core::Event;
 use engine_answers::answer;
 use engine_sessions::Answering;
@@ -17,7 +19,7 @@ use text_bytes::Bytes;
 #[derive(Drop)]
 pub struct Tables<L: Lookup> {
     program: Program,
-    lookup: L,
+    builtins: Builtins<L>,
 }
 
 impl<L: Lookup> Model for Tables<L> {
@@ -25,7 +27,7 @@ impl<L: Lookup> Model for Tables<L> {
 
     ghost Value = { TablesValue };
 
-    ghost view = { λ t. record { rules = t.program; entries = L.entries t.lookup } };
+    ghost view = { λ t. record { rules = t.program; entries = t.builtins } };
 }
 
 impl<L: Lookup + Drop> Tables<L> {
@@ -37,7 +39,7 @@ impl<L: Lookup + Drop> Tables<L> {
     {
         Ok(Tables {
             program: compile(alloc, rules)?,
-            lookup,
+            builtins: Builtins::new(lookup),
         })
     }
 }
@@ -46,12 +48,12 @@ impl<L: Lookup + Drop> Tables<L> {
 fn answer_by<L: Lookup>(
     alloc: Global,
     program: &Program,
-    lookup: &L,
+    builtins: &Builtins<L>,
     event: &Event<'_>,
 ) -> Result<Bytes, AllocError>
-    ensures { IfOk result (λ text. text ≡ answer event.now (outcome program.now (L.entries lookup.now) event.now)) }
+    ensures { IfOk result (λ text. text ≡ answer event.now (outcome program.now (known_by builtins.now) event.now)) }
 {
-    let outcome = program.evaluate(alloc, event, lookup)?;
+    let outcome = program.evaluate(alloc, event, builtins)?;
     let said = answer(alloc, event, &outcome);
     drop(outcome);
     said
@@ -63,6 +65,6 @@ impl<L: Lookup> Answering for Tables<L> {
     ghost answers = { answer_by };
 
     fn answer(&self, alloc: Global, event: &Event<'_>) -> Result<Bytes, AllocError> {
-        answer_by(alloc, &self.program, &self.lookup, event)
+        answer_by(alloc, &self.program, &self.builtins, event)
     }
 }

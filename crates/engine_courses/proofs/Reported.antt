@@ -4,7 +4,7 @@ use Rattle.std.specs.List.{filter, flat_map, list_all}
 use Rattle.std.proofs.lemmas.List.Folds.{list_all-append}
 use Rattle.file_messages.specs.declared.message.Message.{Message}
 use Rattle.text_tables.specs.Texts.{Text}
-use Rattle.hwdb_lookup.specs.declared.entry.Entry.{Entry}
+use Rattle.builtin_devices.specs.Knowledge.{Known}
 use Rattle.rule_types.specs.Rules.{Rule}
 use Rattle.device_core.specs.Values.{EventValue}
 use Rattle.eval_state.specs.Scenes.{start}
@@ -31,37 +31,37 @@ module _ (why : List Text) where
   both_asked reported more h g = list_all-append asked reported more ∙ ap (λ a. a && list_all asked more) h ∙ g
 
   -- rules that are not asked for have no line
-  pub asked_alone : (es : List Entry) (since : Since) (jumping : Option Rule) (rules : List Rule) (s : Scene) → list_all asked (reported_from why es since jumping rules s) ≡ true
+  pub asked_alone : (known : Known) (since : Since) (jumping : Option Rule) (rules : List Rule) (s : Scene) → list_all asked (reported_from why known since jumping rules s) ≡ true
   unfolding reported_from
-  asked_alone es since jumping [] s = refl
-  asked_alone es since jumping (r ∷ rs) s =
-      by _ _ (is_passed (sought_by jumping) r) (asked_alone es since jumping rs s)
-      (asked_alone es (since_after since r (apply es r s).0.finals) (jumping_after (apply es r s).1 r) rs (apply es r s).0)
+  asked_alone known since jumping [] s = refl
+  asked_alone known since jumping (r ∷ rs) s =
+      by _ _ (is_passed (sought_by jumping) r) (asked_alone known since jumping rs s)
+      (asked_alone known (since_after since r (apply known r s).0.finals) (jumping_after (apply known r s).1 r) rs (apply known r s).0)
     where
       by : (a b : List (Rule × List Text)) (p : Bool) → list_all asked a ≡ true → list_all asked b ≡ true
-          → list_all asked (cond p (reported_if_asked why r (passed_texts jumping) ++ a) (reported_if_asked why r (course es since r s) ++ b)) ≡ true
+          → list_all asked (cond p (reported_if_asked why r (passed_texts jumping) ++ a) (reported_if_asked why r (course known since r s) ++ b)) ≡ true
       by a b true h g = both_asked (reported_if_asked why r (passed_texts jumping)) a (one_asked r (passed_texts jumping)) h
-      by a b false h g = both_asked (reported_if_asked why r (course es since r s)) b (one_asked r (course es since r s)) g
+      by a b false h g = both_asked (reported_if_asked why r (course known since r s)) b (one_asked r (course known since r s)) g
 
 no_messages : (messages : List Message) (rules : List Rule) → unread [] messages rules ≡ []
 unfolding unread
 no_messages [] rules = refl
 no_messages (m ∷ messages) rules = no_messages messages rules
 
-no_rules : (es : List Entry) (since : Since) (jumping : Option Rule) (rules : List Rule) (s : Scene) → reported_from [] es since jumping rules s ≡ []
+no_rules : (known : Known) (since : Since) (jumping : Option Rule) (rules : List Rule) (s : Scene) → reported_from [] known since jumping rules s ≡ []
 unfolding reported_from
-no_rules es since jumping [] s = refl
-no_rules es since jumping (r ∷ rs) s =
-    by _ _ (is_passed (sought_by jumping) r) (no_rules es since jumping rs s)
-    (no_rules es (since_after since r (apply es r s).0.finals) (jumping_after (apply es r s).1 r) rs (apply es r s).0)
+no_rules known since jumping [] s = refl
+no_rules known since jumping (r ∷ rs) s =
+    by _ _ (is_passed (sought_by jumping) r) (no_rules known since jumping rs s)
+    (no_rules known (since_after since r (apply known r s).0.finals) (jumping_after (apply known r s).1 r) rs (apply known r s).0)
   where
     by : (a b : List (Rule × List Text)) (p : Bool) → a ≡ [] → b ≡ [] → cond p a b ≡ []
     by a b true h g = h
     by a b false h g = g
 
 -- if nothing is asked for, nothing is reported
-pub nothing_reported : (messages : List Message) (rules : List Rule) (entries : List Entry) (event : EventValue) → why_lines [] messages rules entries event ≡ []
+pub nothing_reported : (messages : List Message) (rules : List Rule) (known : Known) (event : EventValue) → why_lines [] messages rules known event ≡ []
 unfolding why_lines
-nothing_reported messages rules entries event =
-    ap (λ ms. flat_map (λ m. why_line m.file m.line (unread_text m)) ms ++ flat_map rule_lines (reported_for [] rules entries event)) (no_messages messages rules)
-    ∙ ap (flat_map rule_lines) (no_rules entries no_since None rules (start event))
+nothing_reported messages rules known event =
+    ap (λ ms. flat_map (λ m. why_line m.file m.line (unread_text m)) ms ++ flat_map rule_lines (reported_for [] rules known event)) (no_messages messages rules)
+    ∙ ap (flat_map rule_lines) (no_rules known no_since None rules (start event))

@@ -4,7 +4,7 @@ use Rattle.std.specs.Prelude.{ℕ, Bool, if◌then◌else◌, is_some, List, [],
 use Rattle.text_bytes.specs.Names.{newline}
 use Rattle.file_messages.specs.declared.message.Message.{Message}
 use Rattle.text_tables.specs.Texts.{Text}
-use Rattle.hwdb_lookup.specs.declared.entry.Entry.{Entry}
+use Rattle.builtin_devices.specs.Knowledge.{Known}
 use Rattle.rule_types.specs.Rules.{Rule}
 use Rattle.device_core.specs.Values.{EventValue}
 use Rattle.eval_state.specs.Scenes.{start}
@@ -49,17 +49,17 @@ jumping_after reached r = if is_some (sought_after reached r) then Some r else N
 
 -- of rules one after another, those that are asked for, each with what is reported for it: which rule's jump skips
 -- it, or its course; since when keys are final is known from all rules
-unfoldable pub reported_from : List Text → List Entry → Since → Option Rule → List Rule → Scene → List (Rule × List Text)
-reported_from why entries since jumping [] s = []
-reported_from why entries since jumping (r ∷ rs) s =
-    if is_passed (sought_by jumping) r then reported_if_asked why r (passed_texts jumping) ++ reported_from why entries since jumping rs s
+unfoldable pub reported_from : List Text → Known → Since → Option Rule → List Rule → Scene → List (Rule × List Text)
+reported_from why known since jumping [] s = []
+reported_from why known since jumping (r ∷ rs) s =
+    if is_passed (sought_by jumping) r then reported_if_asked why r (passed_texts jumping) ++ reported_from why known since jumping rs s
     else
-    reported_if_asked why r (course entries since r s)
-    ++ reported_from why entries (since_after since r (apply entries r s).0.finals) (jumping_after (apply entries r s).1 r) rs (apply entries r s).0
+    reported_if_asked why r (course known since r s)
+    ++ reported_from why known (since_after since r (apply known r s).0.finals) (jumping_after (apply known r s).1 r) rs (apply known r s).0
 
 -- the rules of an event that are asked for, each with what is reported for it
-abbrev pub reported_for : List Text → List Rule → List Entry → EventValue → List (Rule × List Text)
-reported_for why rules entries event = reported_from why entries no_since None rules (start event)
+abbrev pub reported_for : List Text → List Rule → Known → EventValue → List (Rule × List Text)
+reported_for why rules known event = reported_from why known no_since None rules (start event)
 
 -- the lines on a rule
 abbrev pub rule_lines : Rule × List Text → Text
@@ -67,5 +67,5 @@ rule_lines reported = flat_map (why_line reported.0.file reported.0.line) report
 
 -- the lines of `--why` after the answer to an event: those on lines that were not read, then those on rules in the order of
 -- evaluation
-unfoldable pub why_lines : List Text → List Message → List Rule → List Entry → EventValue → Text
-why_lines why messages rules entries event = unread_lines (unread why messages rules) ++ flat_map rule_lines (reported_for why rules entries event)
+unfoldable pub why_lines : List Text → List Message → List Rule → Known → EventValue → Text
+why_lines why messages rules known event = unread_lines (unread why messages rules) ++ flat_map rule_lines (reported_for why rules known event)

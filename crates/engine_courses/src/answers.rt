@@ -6,9 +6,9 @@ ghost use Rattle.engine_courses.specs.WhyLines.{unread_lines, why_lines};
 use crate::lines::push_unread;
 use crate::reporting::report_event;
 use crate::unread::is_unread;
+use builtin_devices::Knowledge;
 use device_core::Event;
 use file_messages::Message;
-use hwdb_lookup::Lookup;
 use rule_core::ReadRules;
 use rule_types::Rule;
 use std::alloc::{AllocError, Global};
@@ -40,16 +40,16 @@ fn push_unread_lines(
 /// The rules are evaluated once more for this, as for the answer. Fails if memory runs out; the lines added until
 /// then stay.
 #[tactic(auto, unfolding(crate::specs::WhyLines::why_lines))]
-pub fn push_why_lines<L: Lookup>(
+pub fn push_why_lines<K: Knowledge>(
     alloc: Global,
     lines: &mut Vec<u8>,
     why: &[&str],
     rules: &ReadRules,
     event: &Event<'_>,
-    lookup: &L,
+    knowledge: &K,
 ) -> Result<(), AllocError>
-    ensures { OnOk result (lines.new.items ≡ lines.old.items ++ why_lines (map (λ t. t.now) why.now) rules.now.messages rules.now.rules (L.entries lookup.now) event.now) }
+    ensures { OnOk result (lines.new.items ≡ lines.old.items ++ why_lines (map (λ t. t.now) why.now) rules.now.messages rules.now.rules (K.known knowledge.now) event.now) }
 {
     push_unread_lines(alloc, lines, why, rules.messages(), rules.rules().rules())?;
-    report_event(alloc, lines, why, rules.rules().rules(), event, lookup)
+    report_event(alloc, lines, why, rules.rules().rules(), event, knowledge)
 }

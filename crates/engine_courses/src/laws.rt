@@ -3,7 +3,7 @@ ghost use Rattle.std.specs.Prelude.{◌≡◌, ◌||◌, true, is_none, if◌the
 ghost use Rattle.std.specs.List.{list_all, list_any};
 ghost use Rattle.file_messages.specs.declared.message.Message as messages;
 ghost use Rattle.text_tables.specs.Texts.{Text};
-ghost use Rattle.hwdb_lookup.specs.declared.entry.Entry as entries;
+ghost use Rattle.builtin_devices.specs.Knowledge.{Known};
 ghost use Rattle.rule_types.specs.Rules as rules;
 ghost use Rattle.device_core.specs.Values.{EventValue};
 ghost use Rattle.engine_courses.specs.Asked.{is_asked, unknown};
@@ -24,11 +24,11 @@ pub fn first_unknown_is_reported()
 /// Rules that are not asked for have no line.
 #[tactic(auto, using(crate::proofs::Reported::asked_alone))]
 pub fn rules_are_reported_where_asked()
-    ensures { (why : List Text) (read : List rules.Rule) (entries : List entries.Entry) (event : EventValue) → list_all (λ reported. is_asked why reported.0.file reported.0.line) (reported_for why read entries event) ≡ true }
+    ensures { (why : List Text) (read : List rules.Rule) (known : Known) (event : EventValue) → list_all (λ reported. is_asked why reported.0.file reported.0.line) (reported_for why read known event) ≡ true }
 {}
 
 /// If nothing is asked for, nothing is reported.
 #[tactic(auto, using(crate::proofs::Reported::nothing_reported))]
 pub fn nothing_is_reported_unasked()
-    ensures { (reported : List messages.Message) (read : List rules.Rule) (entries : List entries.Entry) (event : EventValue) → why_lines [] reported read entries event ≡ [] }
+    ensures { (reported : List messages.Message) (read : List rules.Rule) (known : Known) (event : EventValue) → why_lines [] reported read known event ≡ [] }
 {}

@@ -7,12 +7,12 @@ ghost use Rattle.engine_courses.specs.WhyLines.{jumping_after, passed_texts, rep
 
 use crate::asked::is_asked;
 use crate::lines::{push_course, push_passed};
+use builtin_devices::Knowledge;
 use device_core::Event;
 use eval_courses::report_course;
 use eval_effects::Since;
 use eval_rules::{apply, is_passed, sought_after};
 use eval_state::Scene;
-use hwdb_lookup::Lookup;
 use rule_types::Rule;
 use std::alloc::{AllocError, Global};
 
@@ -51,36 +51,36 @@ fn report_passed(
 }
 
 /// Evaluates a rule, and adds its course, if it is asked for. Returns whether the rule's end was reached.
-fn report_rule<'a, L: Lookup>(
+fn report_rule<'a, K: Knowledge>(
     alloc: Global,
     lines: &mut Vec<u8>,
     why: &[&str],
     rule: &'a Rule,
-    lookup: &L,
+    knowledge: &K,
     since: &Since<'a>,
     scene: &mut Scene<'a>,
 ) -> Result<bool, AllocError>
-    ensures scene { IfOk result (λ on. (scene.new, on) ≡ apply (L.entries lookup.now) rule.now scene.old) }
-    ensures lines { OnOk result (lines.new.items ≡ lines.old.items ++ flat_map rule_lines (reported_if_asked (map (λ t. t.now) why.now) rule.now (course (L.entries lookup.now) since.now rule.now scene.old))) }
+    ensures scene { IfOk result (λ on. (scene.new, on) ≡ apply (K.known knowledge.now) rule.now scene.old) }
+    ensures lines { OnOk result (lines.new.items ≡ lines.old.items ++ flat_map rule_lines (reported_if_asked (map (λ t. t.now) why.now) rule.now (course (K.known knowledge.now) since.now rule.now scene.old))) }
 {
     if !is_asked(why, rule.file(), rule.line()) {
-        return apply(alloc, rule, lookup, scene);
+        return apply(alloc, rule, knowledge, scene);
     }
-    let course = report_course(alloc, rule, lookup, since, scene)?;
+    let course = report_course(alloc, rule, knowledge, since, scene)?;
     push_course(alloc, lines, rule, &course.texts)?;
     Ok(course.reached)
 }
 
 /// Evaluates rules, one after another, and adds what is reported for those that are asked for.
-fn report_rules<'a, L: Lookup>(
+fn report_rules<'a, K: Knowledge>(
     alloc: Global,
     lines: &mut Vec<u8>,
     why: &[&str],
     rules: &'a [Rule],
-    lookup: &L,
+    knowledge: &K,
     scene: &mut Scene<'a>,
 ) -> Result<(), AllocError>
-    ensures { OnOk result (lines.new.items ≡ lines.old.items ++ flat_map rule_lines (reported_from (map (λ t. t.now) why.now) (L.entries lookup.now) no_since None rules.now scene.old)) }
+    ensures { OnOk result (lines.new.items ≡ lines.old.items ++ flat_map rule_lines (reported_from (map (λ t. t.now) why.now) (K.known knowledge.now) no_since None rules.now scene.old)) }
 {
     let mut since = Since::new();
     let mut jumping = None;
@@ -89,7 +89,7 @@ fn report_rules<'a, L: Lookup>(
             report_passed(alloc, lines, why, jumping, rule)?;
             continue;
         }
-        let reached = report_rule(alloc, lines, why, rule, lookup, &since, scene)?;
+        let reached = report_rule(alloc, lines, why, rule, knowledge, &since, scene)?;
         since.report(rule, scene.finals);
         jumping = jumping_after(reached, rule);
     }
@@ -97,18 +97,18 @@ fn report_rules<'a, L: Lookup>(
 }
 
 /// Evaluates the rules of an event, and adds what is reported for those that are asked for.
-pub(crate) fn report_event<'a, L: Lookup>(
+pub(crate) fn report_event<'a, K: Knowledge>(
     alloc: Global,
     lines: &mut Vec<u8>,
     why: &[&str],
     rules: &'a [Rule],
     event: &'a Event<'_>,
-    lookup: &L,
+    knowledge: &K,
 ) -> Result<(), AllocError>
-    ensures { OnOk result (lines.new.items ≡ lines.old.items ++ flat_map rule_lines (reported_for (map (λ t. t.now) why.now) rules.now (L.entries lookup.now) event.now)) }
+    ensures { OnOk result (lines.new.items ≡ lines.old.items ++ flat_map rule_lines (reported_for (map (λ t. t.now) why.now) rules.now (K.known knowledge.now) event.now)) }
 {
     let mut scene = Scene::new(alloc, event)?;
-    let reported = report_rules(alloc, lines, why, rules, lookup, &mut scene);
+    let reported = report_rules(alloc, lines, why, rules, knowledge, &mut scene);
     drop(scene);
     reported
 }

@@ -3,7 +3,7 @@ use Rattle.std.proofs.Common.{◌≡◌, ℤ, Bool, true, false, List, [], ◌�
 use Rattle.std.proofs.lemmas.List.Concat.{flat_map-append, flat_map-cons}
 use Rattle.text_tables.specs.Texts.{Text}
 use Rattle.text_tables.specs.Pairs.{Pair}
-use Rattle.hwdb_lookup.specs.declared.entry.Entry.{Entry}
+use Rattle.builtin_devices.specs.Knowledge.{Known}
 use Rattle.rule_types.specs.Rules.{Rule}
 use Rattle.device_core.specs.Values.{EventValue}
 use Rattle.eval_rendering.specs.declared.rendered.Rendered.{Rendered}
@@ -82,10 +82,10 @@ made_lines (m ∷ made) =
     ∙ sym (flat_map-cons (λ (c : Command). run_line c.kind c.text) (made_command m) (map made_command made))
 
 -- an event's commands without their rules
-event_lines : (rules : List Rule) (entries : List Entry) (event : EventValue) → command_lines nothing (event_commands rules entries event) ≡ run_lines (outcome rules entries event).runs
+event_lines : (rules : List Rule) (known : Known) (event : EventValue) → command_lines nothing (event_commands rules known event) ≡ run_lines (outcome rules known event).runs
 unfolding outcome_of
-event_lines rules entries event =
-    let end = run entries None rules (start event) in
+event_lines rules known event =
+    let end = run known None rules (start event) in
     flat_map-append (command_line nothing) (sourced_commands end.state end.runs) (map sourced_made end.made)
     ∙ ap (λ first. first ++ command_lines nothing (map sourced_made end.made)) (all_commands end.state end.runs)
     ∙ ap (λ rest. run_lines (commands end.state end.runs) ++ rest) (made_lines end.made)
@@ -104,9 +104,9 @@ around event o node runs =
     ++ runs
     ++ note_lines o.notes
 
-pub lines_alone : (rules : List Rule) (entries : List Entry) (event : EventValue) → lines_by nothing rules entries event ≡ answer_lines event (outcome rules entries event)
+pub lines_alone : (rules : List Rule) (known : Known) (event : EventValue) → lines_by nothing rules known event ≡ answer_lines event (outcome rules known event)
 unfolding lines_after answer_lines label_line member_line value_line
-lines_alone rules entries event =
-    let o = outcome rules entries event in
-    ap (λ n. around event o n (command_lines nothing (event_commands rules entries event))) (node (source_of (stages rules entries event)) o)
-    ∙ ap (around event o (node_lines o)) (event_lines rules entries event)
+lines_alone rules known event =
+    let o = outcome rules known event in
+    ap (λ n. around event o n (command_lines nothing (event_commands rules known event))) (node (source_of (stages rules known event)) o)
+    ∙ ap (around event o (node_lines o)) (event_lines rules known event)

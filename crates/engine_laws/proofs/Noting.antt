@@ -6,7 +6,7 @@ use Rattle.text_bytes.specs.declared.profile.Profile.{Profile}
 use Rattle.text_bytes.specs.declared.profile.Profile.TheVariants.{Manual, Udev}
 use Rattle.text_tables.specs.Texts.{Text}
 use Rattle.text_tables.specs.Pairs.{value_of}
-use Rattle.hwdb_lookup.specs.declared.entry.Entry.{Entry}
+use Rattle.builtin_devices.specs.Knowledge.{Known}
 use Rattle.device_core.specs.Values.{AnswerValue}
 use Rattle.rule_templates.specs.Template.{Parts}
 use Rattle.rule_types.specs.WrittenParts.{attribute_of_act_kind, key_of_act_kind}
@@ -48,11 +48,11 @@ by_text r d (rendered.Text command) s = by_answer r command (value_of s.state.ev
 by_text r d rendered.TooLong s = filter-append is_no_answer s.notes (note_about r TextTooLong (word_of_key (key_of_act_kind d) (attribute_of_act_kind d)) ∷ [])
 
 -- they are those of the commands that the block does not answer
-pub program_noted : (es : List Entry) (r : Rule) (act : Act) (template : Parts) (s : Scene) → act.kind ≡ act_kind.Program template
-    → filter is_no_answer (act_step es r act s).0.notes ≡ filter is_no_answer s.notes ++ map (note_about r NoAnswer) (act_asks act.kind s.state)
+pub program_noted : (known : Known) (r : Rule) (act : Act) (template : Parts) (s : Scene) → act.kind ≡ act_kind.Program template
+    → filter is_no_answer (act_step known r act s).0.notes ≡ filter is_no_answer s.notes ++ map (note_about r NoAnswer) (act_asks act.kind s.state)
 unfolding act_step
-program_noted es r act template s is =
-    ap (λ (d : ActKind). filter is_no_answer (left r d (performed es r d s)).notes) is
+program_noted known r act template s is =
+    ap (λ (d : ActKind). filter is_no_answer (left r d (performed known r d s)).notes) is
     ∙ by_text r (act_kind.Program template) (program_text template s.state) s
     ∙ ap (λ (d : ActKind). filter is_no_answer s.notes ++ map (note_about r NoAnswer) (act_asks d s.state)) (sym is)
 
@@ -70,16 +70,16 @@ by_command : (r : Rule) (d : ActKind) (text : Rendered) (s : Scene)
 by_command r d (rendered.Text command) s = by_print r command (value_of s.state.event.programs command) s
 by_command r d rendered.TooLong s = filter-append is_no_answer s.notes (note_about r TextTooLong (word_of_key (key_of_act_kind d) (attribute_of_act_kind d)) ∷ [])
 
-by_profile : (p : Profile) (es : List Entry) (r : Rule) (d : ActKind) (template : Parts) (s : Scene) → p ≡ Udev
-    → filter is_no_answer (left r d (imported p es r (import.Program template) s)).notes ≡ filter is_no_answer s.notes ++ map (note_about r NoAnswer) (import_asks p (import.Program template) s.state)
-by_profile Manual es r d template s udev = absurd (cc)
-by_profile Udev es r d template s udev = by_command r d (import_text most_command_bytes template s.state) s
+by_profile : (p : Profile) (known : Known) (r : Rule) (d : ActKind) (template : Parts) (s : Scene) → p ≡ Udev
+    → filter is_no_answer (left r d (imported p known r (import.Program template) s)).notes ≡ filter is_no_answer s.notes ++ map (note_about r NoAnswer) (import_asks p (import.Program template) s.state)
+by_profile Manual known r d template s udev = absurd (cc)
+by_profile Udev known r d template s udev = by_command r d (import_text most_command_bytes template s.state) s
 
 -- of udev's IMPORT{program} it is the same
-pub import_noted : (es : List Entry) (r : Rule) (act : Act) (template : Parts) (s : Scene) → act.kind ≡ act_kind.Import (import.Program template) → s.state.event.profile ≡ Udev
-    → filter is_no_answer (act_step es r act s).0.notes ≡ filter is_no_answer s.notes ++ map (note_about r NoAnswer) (act_asks act.kind s.state)
+pub import_noted : (known : Known) (r : Rule) (act : Act) (template : Parts) (s : Scene) → act.kind ≡ act_kind.Import (import.Program template) → s.state.event.profile ≡ Udev
+    → filter is_no_answer (act_step known r act s).0.notes ≡ filter is_no_answer s.notes ++ map (note_about r NoAnswer) (act_asks act.kind s.state)
 unfolding act_step
-import_noted es r act template s is udev =
-    ap (λ (d : ActKind). filter is_no_answer (left r d (performed es r d s)).notes) is
-    ∙ by_profile s.state.event.profile es r (act_kind.Import (import.Program template)) template s udev
+import_noted known r act template s is udev =
+    ap (λ (d : ActKind). filter is_no_answer (left r d (performed known r d s)).notes) is
+    ∙ by_profile s.state.event.profile known r (act_kind.Import (import.Program template)) template s udev
     ∙ ap (λ (d : ActKind). filter is_no_answer s.notes ++ map (note_about r NoAnswer) (act_asks d s.state)) (sym is)

@@ -3,7 +3,7 @@ use Rattle.std.proofs.Common.{◌≡◌, ◌||◌, Bool, true, false, cond, List
 use Rattle.std.specs.Cmp.Lexicographic.{bytes_decides}
 use Rattle.std.specs.List.{AllByRecursion, IsDistinct, filter}
 use Rattle.text_tables.specs.Texts.{AreOnce, Text, is_among, same_text, with_text, with_texts}
-use Rattle.hwdb_lookup.specs.declared.entry.Entry.{Entry}
+use Rattle.builtin_devices.specs.Knowledge.{Known}
 use Rattle.device_core.specs.Values.{EventValue}
 use Rattle.rule_types.specs.Rules.{Rule}
 use Rattle.eval_state.specs.Scenes.{start}
@@ -49,5 +49,5 @@ unfolding IsDistinct
 none_once = tt
 
 -- no command is asked twice
-pub asked_once : (rules : List Rule) (es : List Entry) (event : EventValue) → AreOnce (questions rules es event)
-asked_once rules es event = all_once [] (filter can_be_asked (rules_ask es None rules (start event))) none_once
+pub asked_once : (rules : List Rule) (known : Known) (event : EventValue) → AreOnce (questions rules known event)
+asked_once rules known event = all_once [] (filter can_be_asked (rules_ask known None rules (start event))) none_once

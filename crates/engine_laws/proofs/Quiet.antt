@@ -8,12 +8,8 @@ use Rattle.text_bytes.specs.declared.profile.Profile.{Profile}
 use Rattle.text_bytes.specs.declared.profile.Profile.TheVariants.{Manual, Udev}
 use Rattle.text_tables.specs.Texts.{Text}
 use Rattle.text_tables.specs.Pairs.{Pair, value_of}
-use Rattle.hwdb_lookup.specs.declared.entry.Entry.{Entry}
+use Rattle.builtin_devices.specs.Knowledge.{Known}
 use Rattle.builtin_devices.specs.Outcomes.{OutcomeValue}
-use Rattle.builtin_input.specs.Input.{input_id}
-use Rattle.builtin_net.specs.NetId.{lookup, net_id}
-use Rattle.builtin_path.specs.Path.{path_id}
-use Rattle.builtin_usb.specs.UsbId.{usb_id}
 use Rattle.device_core.specs.Values.{DeviceValue, EventValue}
 use Rattle.rule_types.specs.Builtins.{builtin_name}
 use Rattle.rule_types.specs.declared.builtins.Builtin.TheVariants.{InputId, NetId, PathId, UsbId}
@@ -59,8 +55,8 @@ use Rattle.eval_acts.specs.BuiltinRuns.{looked_up, most_set, need_noted, need_wo
 use Rattle.eval_acts.specs.Imports.{builtin_run, from_parent, run_builtin}
 use Rattle.eval_acts.specs.Questions.{tested, tested_at, tested_by, tested_by_udev}
 use Rattle.eval_acts.specs.Reaching.{match_reached}
-use Rattle.eval_acts.specs.declared.builtin.Builtin.{Builtin}
-use Rattle.eval_acts.specs.declared.builtin.Builtin.TheVariants as builtin
+use Rattle.eval_commands.specs.declared.builtin.Builtin.{Builtin}
+use Rattle.eval_commands.specs.declared.builtin.Builtin.TheVariants as builtin
 use Rattle.eval_matching.specs.Attributes.{is_not_read}
 use Rattle.eval_assignments.specs.Assigning.{assigned, with_option}
 use Rattle.eval_assignments.specs.Escapes.{escape_of}
@@ -121,40 +117,40 @@ outcome_quiet r name o properties s =
 taken_quiet : (r : Rule) (name : Text) (o : OutcomeValue) (s : Scene) → Quiet s (outcome_taken r name o s).0
 taken_quiet r name o s = outcome_quiet r name o o.properties s
 
-usb_quiet : (ran : Option Bool) (r : Rule) (s : Scene) → Quiet s (usb_id_run ran r s).0
-usb_quiet None r s = taken_quiet r (builtin_name UsbId) (usb_id s.state.event (is_some (value_of s.state.env (codes "ID_BUS")))) s
-usb_quiet (Some done) r s = refl
+usb_quiet : (known : Known) (ran : Option Bool) (r : Rule) (s : Scene) → Quiet s (usb_id_run known ran r s).0
+usb_quiet known None r s = taken_quiet r (builtin_name UsbId) (known.usb_id s.state.event (is_some (value_of s.state.env (codes "ID_BUS")))) s
+usb_quiet known (Some done) r s = refl
 
-path_quiet : (ran : Option Bool) (r : Rule) (s : Scene) → Quiet s (path_id_run ran r s).0
-path_quiet None r s = taken_quiet r (builtin_name PathId) (path_id s.state.event) s
-path_quiet (Some done) r s = refl
+path_quiet : (known : Known) (ran : Option Bool) (r : Rule) (s : Scene) → Quiet s (path_id_run known ran r s).0
+path_quiet known None r s = taken_quiet r (builtin_name PathId) (known.path_id s.state.event) s
+path_quiet known (Some done) r s = refl
 
-builtin_quiet : (es : List Entry) (r : Rule) (t : Text) (b : Builtin) (s : Scene) → Quiet s (builtin_run es r t b s).0
-builtin_quiet es r t (builtin.Hwdb h) s = refl
-builtin_quiet es r t builtin.InputId s = taken_quiet r (builtin_name InputId) (input_id s.state.event) s
-builtin_quiet es r t builtin.NetId s =
-    let names : OutcomeValue = net_id s.state.event s.state.env in
-    outcome_quiet r (builtin_name NetId) names (with_maker (looked_up es (lookup s.state.event s.state.env)) names.properties) s
-builtin_quiet es r t builtin.PathId s = path_quiet s.ran.path_id r s
-builtin_quiet es r t builtin.UsbId s = usb_quiet s.ran.usb_id r s
-builtin_quiet es r t (builtin.Other name) s = note_quiet r BuiltinNotRun name s refl
-builtin_quiet es r t builtin.BadArguments s = note_quiet r BadHwdbArguments t s refl
+builtin_quiet : (known : Known) (r : Rule) (t : Text) (b : Builtin) (s : Scene) → Quiet s (builtin_run known r t b s).0
+builtin_quiet known r t (builtin.Hwdb h) s = refl
+builtin_quiet known r t builtin.InputId s = taken_quiet r (builtin_name InputId) (known.input_id s.state.event) s
+builtin_quiet known r t builtin.NetId s =
+    let names : OutcomeValue = known.net_id s.state.event s.state.env in
+    outcome_quiet r (builtin_name NetId) names (with_maker (looked_up known (known.net_lookup s.state.event s.state.env)) names.properties) s
+builtin_quiet known r t builtin.PathId s = path_quiet known s.ran.path_id r s
+builtin_quiet known r t builtin.UsbId s = usb_quiet known s.ran.usb_id r s
+builtin_quiet known r t (builtin.Other name) s = note_quiet r BuiltinNotRun name s refl
+builtin_quiet known r t builtin.BadArguments s = note_quiet r BadHwdbArguments t s refl
 
 parent_quiet : (names : _) (d : Option DeviceValue) (s : Scene) → Quiet s (from_parent names d s).0
 parent_quiet names None s = refl
 parent_quiet names (Some d) s = refl
 
-built_quiet : (es : List Entry) (r : Rule) (d : ActKind) (text : Rendered) (s : Scene) → Quiet s (left r d (on_text (run_builtin es r) text s))
-built_quiet es r d text s = text_quiet r d (run_builtin es r) (λ c u. builtin_quiet es r c _ u) text s
+built_quiet : (known : Known) (r : Rule) (d : ActKind) (text : Rendered) (s : Scene) → Quiet s (left r d (on_text (run_builtin known r) text s))
+built_quiet known r d text s = text_quiet r d (run_builtin known r) (λ c u. builtin_quiet known r c _ u) text s
 
-pub imported_quiet : (p : Profile) (es : List Entry) (r : Rule) (d : ActKind) (i : Import) (s : Scene) → p ≡ Manual → Quiet s (left r d (imported p es r i s))
-imported_quiet Manual es r d (import.Builtin t) s m = built_quiet es r d _ s
-imported_quiet Manual es r d (import.Parent names text) s m = parent_quiet names (device_at s.state.event 1) s
-imported_quiet Manual es r d (import.Program t) s m = note_quiet r ImportNotRun (import_name import_of.Program) s refl
-imported_quiet Manual es r d (import.File t) s m = note_quiet r ImportNotRun (import_name import_of.File) s refl
-imported_quiet Manual es r d (import.Cmdline name) s m = note_quiet r ImportNotRun (import_name import_of.Cmdline) s refl
-imported_quiet Manual es r d (import.Db name) s m = note_quiet r ImportNotRun (import_name import_of.Db) s refl
-imported_quiet Udev es r d i s m = absurd (cc)
+pub imported_quiet : (p : Profile) (known : Known) (r : Rule) (d : ActKind) (i : Import) (s : Scene) → p ≡ Manual → Quiet s (left r d (imported p known r i s))
+imported_quiet Manual known r d (import.Builtin t) s m = built_quiet known r d _ s
+imported_quiet Manual known r d (import.Parent names text) s m = parent_quiet names (device_at s.state.event 1) s
+imported_quiet Manual known r d (import.Program t) s m = note_quiet r ImportNotRun (import_name import_of.Program) s refl
+imported_quiet Manual known r d (import.File t) s m = note_quiet r ImportNotRun (import_name import_of.File) s refl
+imported_quiet Manual known r d (import.Cmdline name) s m = note_quiet r ImportNotRun (import_name import_of.Cmdline) s refl
+imported_quiet Manual known r d (import.Db name) s m = note_quiet r ImportNotRun (import_name import_of.Db) s refl
+imported_quiet Udev known r d i s m = absurd (cc)
 
 -- ---- matches
 

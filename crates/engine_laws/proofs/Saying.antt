@@ -6,7 +6,7 @@ use Rattle.std.proofs.lemmas.List.Elements.{filter-append}
 use Rattle.text_bytes.specs.Texts.{word_of}
 use Rattle.text_bytes.specs.declared.profile.Profile.TheVariants.{Manual}
 use Rattle.text_tables.specs.Texts.{Text}
-use Rattle.hwdb_lookup.specs.declared.entry.Entry.{Entry}
+use Rattle.builtin_devices.specs.Knowledge.{Known}
 use Rattle.device_core.specs.Values.{EventValue}
 use Rattle.rule_types.specs.declared.part.Act.{Act}
 use Rattle.rule_types.specs.declared.part.ActKind.{ActKind}
@@ -69,19 +69,19 @@ words_are : (r : Rule) (asked : List Text) → map word (map (note_about r NoAns
 words_are r [] = refl
 words_are r (command ∷ asked) = ap (λ words. word_of command ∷ words) (words_are r asked)
 
-act_kind_says : (es : List Entry) (r : Rule) (d : ActKind) (s : Scene) → s.state.event.profile ≡ Manual → Says s (act_asks d s.state) (left r d (performed es r d s))
-act_kind_says es r (act_kind.Test mask t) s m = quiet_says s (left r (act_kind.Test mask t) (on_text (tested r mask) (test_text t s.state) s)) (text_quiet r (act_kind.Test mask t) (tested r mask) (tested_quiet r mask) (test_text t s.state) s)
-act_kind_says es r (act_kind.Program t) s m =
+act_kind_says : (known : Known) (r : Rule) (d : ActKind) (s : Scene) → s.state.event.profile ≡ Manual → Says s (act_asks d s.state) (left r d (performed known r d s))
+act_kind_says known r (act_kind.Test mask t) s m = quiet_says s (left r (act_kind.Test mask t) (on_text (tested r mask) (test_text t s.state) s)) (text_quiet r (act_kind.Test mask t) (tested r mask) (tested_quiet r mask) (test_text t s.state) s)
+act_kind_says known r (act_kind.Program t) s m =
     ap (map word) (by_text r (act_kind.Program t) (program_text t s.state) s)
     ∙ map-append word (filter is_no_answer s.notes) (map (note_about r NoAnswer) (act_asks (act_kind.Program t) s.state))
     ∙ ap (λ words. no_answers s ++ words) (words_are r (act_asks (act_kind.Program t) s.state))
-act_kind_says es r (act_kind.Import i) s m =
-    quiet_says s (left r (act_kind.Import i) (imported s.state.event.profile es r i s)) (imported_quiet s.state.event.profile es r (act_kind.Import i) i s m)
+act_kind_says known r (act_kind.Import i) s m =
+    quiet_says s (left r (act_kind.Import i) (imported s.state.event.profile known r i s)) (imported_quiet s.state.event.profile known r (act_kind.Import i) i s m)
     ∙ ap (λ asked. no_answers s ++ map word_of asked) (sym (ap (λ p. import_asks p i s.state) m))
 
-act_says : (es : List Entry) (r : Rule) (act : Act) (s : Scene) → s.state.event.profile ≡ Manual → Says s (act_asks act.kind s.state) (act_step es r act s).0
+act_says : (known : Known) (r : Rule) (act : Act) (s : Scene) → s.state.event.profile ≡ Manual → Says s (act_asks act.kind s.state) (act_step known r act s).0
 unfolding act_step
-act_says es r act s m = act_kind_says es r act.kind s m
+act_says known r act s m = act_kind_says known r act.kind s m
 
 if_proceeding_says : (f : Scene → List Text) (g : Scene → Went) → ((t : Scene) → t.state.event.profile ≡ Manual → Says t (f t) (g t).0) → (w : Went) → w.0.state.event.profile ≡ Manual
     → Says w.0 (asked_if_proceeding f w) (if_proceeding g w).0
@@ -91,47 +91,47 @@ if_proceeding_says f g h w m = by w.1
     by true = h w.0 m
     by false = says_nothing w.0
 
-acts_say : (es : List Entry) (r : Rule) (acts : List Act) (s : Scene) → s.state.event.profile ≡ Manual → Says s (acts_ask es r acts s) (walk (act_step es r) acts s).0
+acts_say : (known : Known) (r : Rule) (acts : List Act) (s : Scene) → s.state.event.profile ≡ Manual → Says s (acts_ask known r acts s) (walk (act_step known r) acts s).0
 unfolding acts_ask walk
-acts_say es r [] s m = says_nothing s
-acts_say es r (act ∷ acts) s m =
-    both_say s (act_step es r act s).0 (if_proceeding (walk (act_step es r) acts) (act_step es r act s)).0 (act_asks act.kind s.state) (asked_if_proceeding (acts_ask es r acts) (act_step es r act s)) (act_says es r act s m)
-    (if_proceeding_says (acts_ask es r acts) (walk (act_step es r) acts) (acts_say es r acts) (act_step es r act s) (ap (λ (e : EventValue). e.profile) (act_stays es r act s) ∙ m))
+acts_say known r [] s m = says_nothing s
+acts_say known r (act ∷ acts) s m =
+    both_say s (act_step known r act s).0 (if_proceeding (walk (act_step known r) acts) (act_step known r act s)).0 (act_asks act.kind s.state) (asked_if_proceeding (acts_ask known r acts) (act_step known r act s)) (act_says known r act s m)
+    (if_proceeding_says (acts_ask known r acts) (walk (act_step known r) acts) (acts_say known r acts) (act_step known r act s) (ap (λ (e : EventValue). e.profile) (act_stays known r act s) ∙ m))
 
-keys_say : (es : List Entry) (r : Rule) (s : Scene) → s.state.event.profile ≡ Manual → Says s (rule_asks es r s) (before_sets es r s).0
+keys_say : (known : Known) (r : Rule) (s : Scene) → s.state.event.profile ≡ Manual → Says s (rule_asks known r s) (before_sets known r s).0
 unfolding rule_asks
-keys_say es r s m =
-    let acted : Went = if_proceeding (walk (act_step es r) r.acts) (before_acts r s) in
-    quiet_last s acted.0 (before_sets es r s).0 (asked_if_proceeding (acts_ask es r r.acts) (before_acts r s))
-    (quiet_first s (before_acts r s).0 acted.0 (asked_if_proceeding (acts_ask es r r.acts) (before_acts r s)) (before_quiet r s)
-    (if_proceeding_says (acts_ask es r r.acts) (walk (act_step es r) r.acts) (acts_say es r r.acts) (before_acts r s) (ap (λ (e : EventValue). e.profile) (before_stays r s) ∙ m)))
+keys_say known r s m =
+    let acted : Went = if_proceeding (walk (act_step known r) r.acts) (before_acts r s) in
+    quiet_last s acted.0 (before_sets known r s).0 (asked_if_proceeding (acts_ask known r r.acts) (before_acts r s))
+    (quiet_first s (before_acts r s).0 acted.0 (asked_if_proceeding (acts_ask known r r.acts) (before_acts r s)) (before_quiet r s)
+    (if_proceeding_says (acts_ask known r r.acts) (walk (act_step known r) r.acts) (acts_say known r r.acts) (before_acts r s) (ap (λ (e : EventValue). e.profile) (before_stays r s) ∙ m)))
     (if_proceeding_quiet (walk result_step r.results) (results_quiet r.results) acted.0 acted refl)
 
-steps_say : (es : List Entry) (r : Rule) (s : Scene) → s.state.event.profile ≡ Manual → Says s (rule_asks es r s) (steps es r s).0
+steps_say : (known : Known) (r : Rule) (s : Scene) → s.state.event.profile ≡ Manual → Says s (rule_asks known r s) (steps known r s).0
 unfolding steps
-steps_say es r s m = quiet_last s (before_sets es r s).0 (if_proceeding (set_all r) (before_sets es r s)).0 (rule_asks es r s) (keys_say es r s m) (by (before_sets es r s).1)
+steps_say known r s m = quiet_last s (before_sets known r s).0 (if_proceeding (set_all r) (before_sets known r s)).0 (rule_asks known r s) (keys_say known r s m) (by (before_sets known r s).1)
   where
-    by : (b : Bool) → Quiet (before_sets es r s).0 (cond b (set_all r (before_sets es r s).0) (before_sets es r s)).0
-    by true = sets_quiet r r.sets (before_sets es r s).0 (ap (λ (e : EventValue). e.profile) (tried_stays es r s) ∙ m)
+    by : (b : Bool) → Quiet (before_sets known r s).0 (cond b (set_all r (before_sets known r s).0) (before_sets known r s)).0
+    by true = sets_quiet r r.sets (before_sets known r s).0 (ap (λ (e : EventValue). e.profile) (tried_stays known r s) ∙ m)
     by false = refl
 
 never_idle : (r : Rule) (event : EventValue) → is_idle_by Manual r event ≡ false
 unfolding is_idle_by
 never_idle r event = refl
 
-rule_says : (es : List Entry) (r : Rule) (s : Scene) → s.state.event.profile ≡ Manual → Says s (rule_asks es r s) (apply es r s).0
+rule_says : (known : Known) (r : Rule) (s : Scene) → s.state.event.profile ≡ Manual → Says s (rule_asks known r s) (apply known r s).0
 unfolding apply
-rule_says es r s m =
+rule_says known r s m =
     let idle : is_idle_by s.state.event.profile r s.state.event ≡ false = ap (λ p. is_idle_by p r s.state.event) m ∙ never_idle r s.state.event in
-    ap (λ b. no_answers (cond b (only_noted es r s) (steps es r s)).0) idle ∙ steps_say es r s m
+    ap (λ b. no_answers (cond b (only_noted known r s) (steps known r s)).0) idle ∙ steps_say known r s m
 
-rules_say : (es : List Entry) (sought : Option Text) (rules : List Rule) (s : Scene) → s.state.event.profile ≡ Manual → Says s (rules_ask es sought rules s) (run es sought rules s)
+rules_say : (known : Known) (sought : Option Text) (rules : List Rule) (s : Scene) → s.state.event.profile ≡ Manual → Says s (rules_ask known sought rules s) (run known sought rules s)
 unfolding rules_ask run
-rules_say es sought [] s m = says_nothing s
-rules_say es sought (r ∷ rs) s m =
-    by (rules_ask es sought rs s) _ (run es sought rs s) _ (is_passed sought r) (rules_say es sought rs s m)
-    (both_say s (apply es r s).0 (run es (sought_after (apply es r s).1 r) rs (apply es r s).0) (rule_asks es r s) (rules_ask es (sought_after (apply es r s).1 r) rs (apply es r s).0) (rule_says es r s m)
-    (rules_say es (sought_after (apply es r s).1 r) rs (apply es r s).0 (ap (λ (e : EventValue). e.profile) (event_stays es r s) ∙ m)))
+rules_say known sought [] s m = says_nothing s
+rules_say known sought (r ∷ rs) s m =
+    by (rules_ask known sought rs s) _ (run known sought rs s) _ (is_passed sought r) (rules_say known sought rs s m)
+    (both_say s (apply known r s).0 (run known (sought_after (apply known r s).1 r) rs (apply known r s).0) (rule_asks known r s) (rules_ask known (sought_after (apply known r s).1 r) rs (apply known r s).0) (rule_says known r s m)
+    (rules_say known (sought_after (apply known r s).1 r) rs (apply known r s).0 (ap (λ (e : EventValue). e.profile) (event_stays known r s) ∙ m)))
   where
     by : (xs ys : List Text) (t u : Scene) (p : Bool) → Says s xs t → Says s ys u → Says s (cond p xs ys) (cond p t u)
     by xs ys t u true h k = h
@@ -153,6 +153,6 @@ ended s =
     ∙ append-nil (filter is_no_answer s.notes)
 
 -- the notes of an event that a command has no answer are those of what its rules ask
-pub asked_is_noted : (rules : List Rule) (es : List Entry) (event : EventValue) → event.profile ≡ Manual
-    → map (λ (n : Note). n.word) (filter is_no_answer (outcome rules es event).notes) ≡ map word_of (rules_ask es None rules (start event))
-asked_is_noted rules es event m = ap (map word) (ended (run es None rules (start event))) ∙ rules_say es None rules (start event) m
+pub asked_is_noted : (rules : List Rule) (known : Known) (event : EventValue) → event.profile ≡ Manual
+    → map (λ (n : Note). n.word) (filter is_no_answer (outcome rules known event).notes) ≡ map word_of (rules_ask known None rules (start event))
+asked_is_noted rules known event m = ap (map word) (ended (run known None rules (start event))) ∙ rules_say known None rules (start event) m

@@ -2,7 +2,7 @@
 use Rattle.std.proofs.Common.{◌≡◌, Bool, true, false, not, ◌&&◌, is_some, List, [], ◌∷◌, ◌++◌, Option, Some, None, cond, refl, ap, sym, ◌∙◌}
 use Rattle.text_tables.specs.Texts.{Text}
 use Rattle.text_tables.specs.Pairs.{Pair}
-use Rattle.hwdb_lookup.specs.declared.entry.Entry.{Entry}
+use Rattle.builtin_devices.specs.Knowledge.{Known}
 use Rattle.rule_types.specs.Rules.{Rule}
 use Rattle.eval_state.specs.declared.scene.Scene.{Scene}
 use Rattle.eval_rules.specs.Jumps.{is_passed, run, sought_after}
@@ -78,32 +78,32 @@ module _ (item : Pair) where
   from_then_on (first ∷ before) later last stage h all =
       ap (λ b. cond b first.0 (source_of (before ++ last ∷ stage ∷ later) item)) (not_throughout (first ∷ before) (stage ∷ later) last h) ∙ from_then_on before later last stage h all
 
-module _ (es : List Entry) where
+module _ (known : Known) where
   -- the stages after rules
-  pub are_rules : (sought : Option Text) (rules : List Rule) (s : Scene) → AreRules (stages_from es sought rules s)
+  pub are_rules : (sought : Option Text) (rules : List Rule) (s : Scene) → AreRules (stages_from known sought rules s)
   unfolding stages_from
   are_rules sought [] s = tt
-  are_rules sought (r ∷ rs) s = by (is_passed sought r) (are_rules sought rs s) (are_rules (sought_after (apply es r s).1 r) rs (apply es r s).0)
+  are_rules sought (r ∷ rs) s = by (is_passed sought r) (are_rules sought rs s) (are_rules (sought_after (apply known r s).1 r) rs (apply known r s).0)
     where
-      by : (b : Bool) → AreRules (stages_from es sought rs s) → AreRules (stages_from es (sought_after (apply es r s).1 r) rs (apply es r s).0)
-          → AreRules (cond b (stages_from es sought rs s) ((Some r, items (apply es r s).0) ∷ stages_from es (sought_after (apply es r s).1 r) rs (apply es r s).0))
+      by : (b : Bool) → AreRules (stages_from known sought rs s) → AreRules (stages_from known (sought_after (apply known r s).1 r) rs (apply known r s).0)
+          → AreRules (cond b (stages_from known sought rs s) ((Some r, items (apply known r s).0) ∷ stages_from known (sought_after (apply known r s).1 r) rs (apply known r s).0))
       by true passed come = passed
       by false passed come = (refl, come)
 
   -- the last of them is the stage at which the rules end
-  pub ends : (sought : Option Text) (rules : List Rule) (s : Scene) → last_of (items s) (stages_from es sought rules s) ≡ items (run es sought rules s)
+  pub ends : (sought : Option Text) (rules : List Rule) (s : Scene) → last_of (items s) (stages_from known sought rules s) ≡ items (run known sought rules s)
   unfolding stages_from run
   ends sought [] s = refl
-  ends sought (r ∷ rs) s = by (is_passed sought r) (ends sought rs s) (ends (sought_after (apply es r s).1 r) rs (apply es r s).0)
+  ends sought (r ∷ rs) s = by (is_passed sought r) (ends sought rs s) (ends (sought_after (apply known r s).1 r) rs (apply known r s).0)
     where
-      by : (b : Bool) → last_of (items s) (stages_from es sought rs s) ≡ items (run es sought rs s)
-          → last_of (items (apply es r s).0) (stages_from es (sought_after (apply es r s).1 r) rs (apply es r s).0) ≡ items (run es (sought_after (apply es r s).1 r) rs (apply es r s).0)
-          → last_of (items s) (cond b (stages_from es sought rs s) ((Some r, items (apply es r s).0) ∷ stages_from es (sought_after (apply es r s).1 r) rs (apply es r s).0))
-          ≡ items (cond b (run es sought rs s) (run es (sought_after (apply es r s).1 r) rs (apply es r s).0))
+      by : (b : Bool) → last_of (items s) (stages_from known sought rs s) ≡ items (run known sought rs s)
+          → last_of (items (apply known r s).0) (stages_from known (sought_after (apply known r s).1 r) rs (apply known r s).0) ≡ items (run known (sought_after (apply known r s).1 r) rs (apply known r s).0)
+          → last_of (items s) (cond b (stages_from known sought rs s) ((Some r, items (apply known r s).0) ∷ stages_from known (sought_after (apply known r s).1 r) rs (apply known r s).0))
+          ≡ items (cond b (run known sought rs s) (run known (sought_after (apply known r s).1 r) rs (apply known r s).0))
       by true passed come = passed
       by false passed come = come
 
-  pub from_no_rule : (rules : List Rule) (s : Scene) (item : Pair) → is_some (source_of (stages_over es rules s) item) ≡ (is_present item (items (run es None rules s)) && not (is_present_throughout item (stages_over es rules s)))
+  pub from_no_rule : (rules : List Rule) (s : Scene) (item : Pair) → is_some (source_of (stages_over known rules s) item) ≡ (is_present item (items (run known None rules s)) && not (is_present_throughout item (stages_over known rules s)))
   from_no_rule rules s item =
-      none_where item (items s) (stages_from es None rules s) (are_rules None rules s)
-      ∙ ap (λ end. is_present item end && not (is_present_throughout item (stages_over es rules s))) (ends None rules s)
+      none_where item (items s) (stages_from known None rules s) (are_rules None rules s)
+      ∙ ap (λ end. is_present item end && not (is_present_throughout item (stages_over known rules s))) (ends None rules s)

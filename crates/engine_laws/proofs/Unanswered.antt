@@ -6,7 +6,7 @@ use Rattle.text_bytes.specs.declared.profile.Profile.{Profile}
 use Rattle.text_bytes.specs.declared.profile.Profile.TheVariants.{Manual, Udev}
 use Rattle.text_tables.specs.Texts.{Text, is_among, with_text, with_texts}
 use Rattle.text_tables.specs.Pairs.{value_of}
-use Rattle.hwdb_lookup.specs.declared.entry.Entry.{Entry}
+use Rattle.builtin_devices.specs.Knowledge.{Known}
 use Rattle.device_core.specs.Values.{AnswerValue, EventValue}
 use Rattle.rule_types.specs.declared.part.Act.{Act}
 use Rattle.rule_types.specs.declared.part.ActKind.{ActKind}
@@ -104,24 +104,24 @@ module _ (event : EventValue) where
       by true = h w.0 e
       by false = refl
 
-  acts_fine : (es : List Entry) (r : Rule) (acts : List Act) (s : Scene) → s.state.event ≡ event → list_all is_fine (acts_ask es r acts s) ≡ true
+  acts_fine : (known : Known) (r : Rule) (acts : List Act) (s : Scene) → s.state.event ≡ event → list_all is_fine (acts_ask known r acts s) ≡ true
   unfolding acts_ask
-  acts_fine es r [] s e = refl
-  acts_fine es r (act ∷ acts) s e =
-      both_fine (act_asks act.kind s.state) (asked_if_proceeding (acts_ask es r acts) (act_step es r act s)) (act_kind_fine act.kind s.state e)
-      (if_proceeding_fine (acts_ask es r acts) (acts_fine es r acts) (act_step es r act s) (act_stays es r act s ∙ e))
+  acts_fine known r [] s e = refl
+  acts_fine known r (act ∷ acts) s e =
+      both_fine (act_asks act.kind s.state) (asked_if_proceeding (acts_ask known r acts) (act_step known r act s)) (act_kind_fine act.kind s.state e)
+      (if_proceeding_fine (acts_ask known r acts) (acts_fine known r acts) (act_step known r act s) (act_stays known r act s ∙ e))
 
-  rule_fine : (es : List Entry) (r : Rule) (s : Scene) → s.state.event ≡ event → list_all is_fine (rule_asks es r s) ≡ true
+  rule_fine : (known : Known) (r : Rule) (s : Scene) → s.state.event ≡ event → list_all is_fine (rule_asks known r s) ≡ true
   unfolding rule_asks
-  rule_fine es r s e = if_proceeding_fine (acts_ask es r r.acts) (acts_fine es r r.acts) (before_acts r s) (before_stays r s ∙ e)
+  rule_fine known r s e = if_proceeding_fine (acts_ask known r r.acts) (acts_fine known r r.acts) (before_acts r s) (before_stays r s ∙ e)
 
-  rules_fine : (es : List Entry) (sought : Option Text) (rules : List Rule) (s : Scene) → s.state.event ≡ event → list_all is_fine (rules_ask es sought rules s) ≡ true
+  rules_fine : (known : Known) (sought : Option Text) (rules : List Rule) (s : Scene) → s.state.event ≡ event → list_all is_fine (rules_ask known sought rules s) ≡ true
   unfolding rules_ask
-  rules_fine es sought [] s e = refl
-  rules_fine es sought (r ∷ rs) s e =
-      by _ _ (is_passed sought r) (rules_fine es sought rs s e)
-      (both_fine (rule_asks es r s) (rules_ask es (sought_after (apply es r s).1 r) rs (apply es r s).0) (rule_fine es r s e)
-      (rules_fine es (sought_after (apply es r s).1 r) rs (apply es r s).0 (event_stays es r s ∙ e)))
+  rules_fine known sought [] s e = refl
+  rules_fine known sought (r ∷ rs) s e =
+      by _ _ (is_passed sought r) (rules_fine known sought rs s e)
+      (both_fine (rule_asks known r s) (rules_ask known (sought_after (apply known r s).1 r) rs (apply known r s).0) (rule_fine known r s e)
+      (rules_fine known (sought_after (apply known r s).1 r) rs (apply known r s).0 (event_stays known r s ∙ e)))
     where
       by : (xs ys : List Text) (p : Bool) → list_all is_fine xs ≡ true → list_all is_fine ys ≡ true → list_all is_fine (cond p xs ys) ≡ true
       by xs ys true h k = h
@@ -149,10 +149,10 @@ both_left p q (text ∷ texts) h = by (q text) refl (both_left p q texts (second
     by false e more = more
 
 -- all that is asked of an event
-pub all_unanswered : (rules : List Rule) (es : List Entry) (event : EventValue) → list_all (λ command. is_none (value_of event.programs command) && can_be_asked command) (questions rules es event) ≡ true
-all_unanswered rules es event =
-    all_added (λ command. is_fine event command && can_be_asked command) [] (filter can_be_asked (rules_ask es None rules (start event))) refl
-    (both_left (is_fine event) can_be_asked (rules_ask es None rules (start event)) (rules_fine event es None rules (start event) refl))
+pub all_unanswered : (rules : List Rule) (known : Known) (event : EventValue) → list_all (λ command. is_none (value_of event.programs command) && can_be_asked command) (questions rules known event) ≡ true
+all_unanswered rules known event =
+    all_added (λ command. is_fine event command && can_be_asked command) [] (filter can_be_asked (rules_ask known None rules (start event))) refl
+    (both_left (is_fine event) can_be_asked (rules_ask known None rules (start event)) (rules_fine event known None rules (start event) refl))
 
 -- ---- rules that ask nothing
 
@@ -160,18 +160,18 @@ reversed : (b : Bool) → not b ≡ true → b ≡ false
 reversed true h = cc h
 reversed false h = refl
 
-rules_silent : (es : List Entry) (sought : Option Text) (rules : List Rule) (s : Scene) → list_all (λ r. not (list_any (λ act. act_kind_counts act.kind) r.acts)) rules ≡ true → rules_ask es sought rules s ≡ []
+rules_silent : (known : Known) (sought : Option Text) (rules : List Rule) (s : Scene) → list_all (λ r. not (list_any (λ act. act_kind_counts act.kind) r.acts)) rules ≡ true → rules_ask known sought rules s ≡ []
 unfolding rules_ask
-rules_silent es sought [] s h = refl
-rules_silent es sought (r ∷ rs) s h =
+rules_silent known sought [] s h = refl
+rules_silent known sought (r ∷ rs) s h =
     let rest : list_all (λ r. not (list_any (λ act. act_kind_counts act.kind) r.acts)) rs ≡ true = second_so (not (list_any (λ act. act_kind_counts act.kind) r.acts)) _ h in
-    by (is_passed sought r) (rules_silent es sought rs s rest)
-    (ap (λ xs. xs ++ rules_ask es (sought_after (apply es r s).1 r) rs (apply es r s).0) (rule_silent es r s (reversed _ (first_so (not (list_any (λ act. act_kind_counts act.kind) r.acts)) _ h)))
-    ∙ rules_silent es (sought_after (apply es r s).1 r) rs (apply es r s).0 rest)
+    by (is_passed sought r) (rules_silent known sought rs s rest)
+    (ap (λ xs. xs ++ rules_ask known (sought_after (apply known r s).1 r) rs (apply known r s).0) (rule_silent known r s (reversed _ (first_so (not (list_any (λ act. act_kind_counts act.kind) r.acts)) _ h)))
+    ∙ rules_silent known (sought_after (apply known r s).1 r) rs (apply known r s).0 rest)
   where
     by : {xs ys : List Text} (p : Bool) → xs ≡ [] → ys ≡ [] → cond p xs ys ≡ []
     by true h k = h
     by false h k = k
 
-pub nothing_asked : (rules : List Rule) (es : List Entry) (event : EventValue) → list_all (λ r. not (list_any (λ act. act_kind_counts act.kind) r.acts)) rules ≡ true → questions rules es event ≡ []
-nothing_asked rules es event h = ap (with_asked []) (rules_silent es None rules (start event) h)
+pub nothing_asked : (rules : List Rule) (known : Known) (event : EventValue) → list_all (λ r. not (list_any (λ act. act_kind_counts act.kind) r.acts)) rules ≡ true → questions rules known event ≡ []
+nothing_asked rules known event h = ap (with_asked []) (rules_silent known None rules (start event) h)

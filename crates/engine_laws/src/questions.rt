@@ -5,7 +5,7 @@ ghost use Rattle.text_bytes.specs.Texts.{word_of};
 ghost use Rattle.text_bytes.specs.declared.profile.Profile.TheVariants.{Manual, Udev};
 ghost use Rattle.text_tables.specs.Texts.{AreOnce, Text};
 ghost use Rattle.text_tables.specs.Pairs.{value_of};
-ghost use Rattle.hwdb_lookup.specs.declared.entry.Entry.{Entry};
+ghost use Rattle.builtin_devices.specs.Knowledge.{Known};
 ghost use Rattle.rule_templates.specs.Template as templates;
 ghost use Rattle.rule_types.specs.Rules as rules;
 ghost use Rattle.rule_types.specs.declared.part.Act.{Act};
@@ -27,27 +27,27 @@ ghost use Rattle.engine_questions.specs.Questions.{act_asks, can_be_asked, quest
 /// No command is asked that the event's block answers, and none that no line of a block can have.
 #[tactic(auto, using(crate::proofs::Unanswered::all_unanswered))]
 pub fn no_answered_command_is_asked()
-    ensures { (read : List rules.Rule) (entries : List Entry) (event : EventValue) → list_all (λ command. is_none (value_of event.programs command) && can_be_asked command) (questions read entries event) ≡ true }
+    ensures { (read : List rules.Rule) (known : Known) (event : EventValue) → list_all (λ command. is_none (value_of event.programs command) && can_be_asked command) (questions read known event) ≡ true }
 {}
 
 /// No command is asked twice.
 #[tactic(auto, using(crate::proofs::Once::asked_once))]
 pub fn each_command_is_asked_once()
-    ensures { (read : List rules.Rule) (entries : List Entry) (event : EventValue) → AreOnce (questions read entries event) }
+    ensures { (read : List rules.Rule) (known : Known) (event : EventValue) → AreOnce (questions read known event) }
 {}
 
 /// Rules without PROGRAM and IMPORT ask nothing.
 #[tactic(auto, using(crate::proofs::Unanswered::nothing_asked))]
 pub fn rules_without_programs_ask_nothing()
-    ensures { (read : List rules.Rule) (entries : List Entry) (event : EventValue) → list_all (λ r. not (list_any (λ act. act_kind_counts act.kind) r.acts)) read ≡ true → questions read entries event ≡ [] }
+    ensures { (read : List rules.Rule) (known : Known) (event : EventValue) → list_all (λ r. not (list_any (λ act. act_kind_counts act.kind) r.acts)) read ≡ true → questions read known event ≡ [] }
 {}
 
 /// The notes of a PROGRAM that its command has no answer are those of the commands that it looks up and the block does
 /// not answer. Of udev's IMPORT{program} it is the same.
 #[tactic(auto, using(crate::proofs::Noting::program_noted, crate::proofs::Noting::import_noted))]
 pub fn programs_ask_where_they_have_no_answer()
-    ensures program { (entries : List Entry) (r : rules.Rule) (act : Act) (template : templates.Parts) (s : Scene) → act.kind ≡ act_kind.Program template → filter is_no_answer (act_step entries r act s).0.notes ≡ filter is_no_answer s.notes ++ map (note_about r NoAnswer) (act_asks act.kind s.state) }
-    ensures imported { (entries : List Entry) (r : rules.Rule) (act : Act) (template : templates.Parts) (s : Scene) → act.kind ≡ act_kind.Import (import.Program template) → s.state.event.profile ≡ Udev → filter is_no_answer (act_step entries r act s).0.notes ≡ filter is_no_answer s.notes ++ map (note_about r NoAnswer) (act_asks act.kind s.state) }
+    ensures program { (known : Known) (r : rules.Rule) (act : Act) (template : templates.Parts) (s : Scene) → act.kind ≡ act_kind.Program template → filter is_no_answer (act_step known r act s).0.notes ≡ filter is_no_answer s.notes ++ map (note_about r NoAnswer) (act_asks act.kind s.state) }
+    ensures imported { (known : Known) (r : rules.Rule) (act : Act) (template : templates.Parts) (s : Scene) → act.kind ≡ act_kind.Import (import.Program template) → s.state.event.profile ≡ Udev → filter is_no_answer (act_step known r act s).0.notes ≡ filter is_no_answer s.notes ++ map (note_about r NoAnswer) (act_asks act.kind s.state) }
 {}
 
 /// A command can be asked just where a block that asks and answers it has that answer under it. So every command that any
@@ -62,5 +62,5 @@ pub fn filled_in_questions_are_answers()
 /// each time that they do.
 #[tactic(auto, using(crate::proofs::Saying::asked_is_noted))]
 pub fn rules_ask_what_their_notes_say()
-    ensures { (read : List rules.Rule) (entries : List Entry) (event : EventValue) → event.profile ≡ Manual → map (λ note. note.word) (filter is_no_answer (outcome read entries event).notes) ≡ map word_of (rules_ask entries None read (start event)) }
+    ensures { (read : List rules.Rule) (known : Known) (event : EventValue) → event.profile ≡ Manual → map (λ note. note.word) (filter is_no_answer (outcome read known event).notes) ≡ map word_of (rules_ask known None read (start event)) }
 {}

@@ -3,7 +3,7 @@
 //! Each function here is empty: its contract is the law.
 ghost use Rattle.std.specs.Prelude.{◌≡◌, ◌&&◌, ◌++◌, [], ◌∷◌, false, is_some, List, not, true};
 ghost use Rattle.text_tables.specs.Pairs.{Pair};
-ghost use Rattle.hwdb_lookup.specs.declared.entry.Entry.{Entry};
+ghost use Rattle.builtin_devices.specs.Knowledge.{Known};
 ghost use Rattle.rule_types.specs.Rules.{Rule};
 ghost use Rattle.device_core.specs.Values.{EventValue};
 ghost use Rattle.eval_state.specs.Scenes.{start};
@@ -19,13 +19,13 @@ ghost use Rattle.engine_sources.specs.Answers.{lines_by};
 /// Taking the sources away gives the answer: with nothing before any line, the lines are those of the
 /// answer, each once and in their order.
 pub fn without_their_sources_the_lines_are_the_answer()
-    ensures { (rules : List Rule) (entries : List Entry) (event : EventValue) → lines_by (λ source. []) rules entries event ≡ answer_lines event (outcome rules entries event) }
+    ensures { (rules : List Rule) (known : Known) (event : EventValue) → lines_by (λ source. []) rules known event ≡ answer_lines event (outcome rules known event) }
 {}
 
 /// An item comes from a rule if and only if it is there at the end and was not there like this at all stages from
 /// the start on.
 pub fn what_was_there_from_the_start_comes_from_no_rule()
-    ensures { (rules : List Rule) (entries : List Entry) (event : EventValue) (item : Pair) → is_some (source_of (stages rules entries event) item) ≡ (is_present item (items (run_all entries rules (start event))) && not (is_present_throughout item (stages rules entries event))) }
+    ensures { (rules : List Rule) (known : Known) (event : EventValue) (item : Pair) → is_some (source_of (stages rules known event) item) ≡ (is_present item (items (run_all known rules (start event))) && not (is_present_throughout item (stages rules known event))) }
 {}
 
 /// An item comes from a stage if it is there at this stage and all later ones, and not at the stage before.

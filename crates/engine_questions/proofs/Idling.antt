@@ -4,7 +4,7 @@ use Rattle.std.specs.List.{list_any}
 use Rattle.text_bytes.specs.declared.profile.Profile.{Profile}
 use Rattle.text_bytes.specs.declared.profile.Profile.TheVariants.{Manual, Udev}
 use Rattle.text_tables.specs.Texts.{Text}
-use Rattle.hwdb_lookup.specs.declared.entry.Entry.{Entry}
+use Rattle.builtin_devices.specs.Knowledge.{Known}
 use Rattle.device_core.specs.Values.{EventValue}
 use Rattle.rule_types.specs.declared.part.Act.{Act}
 use Rattle.rule_types.specs.declared.part.ActKind.{ActKind}
@@ -37,17 +37,17 @@ if_proceeding_silent f h w = by w.1
     by true = h w.0
     by false = refl
 
-acts_silent : (es : List Entry) (r : Rule) (acts : List Act) (s : Scene) → list_any (λ act. act_kind_counts act.kind) acts ≡ false → acts_ask es r acts s ≡ []
+acts_silent : (known : Known) (r : Rule) (acts : List Act) (s : Scene) → list_any (λ act. act_kind_counts act.kind) acts ≡ false → acts_ask known r acts s ≡ []
 unfolding acts_ask
-acts_silent es r [] s h = refl
-acts_silent es r (act ∷ acts) s h =
-    ap (λ xs. xs ++ asked_if_proceeding (acts_ask es r acts) (act_step es r act s)) (act_kind_silent act.kind s.state (neither_first (act_kind_counts act.kind) _ h))
-    ∙ if_proceeding_silent (acts_ask es r acts) (λ t. acts_silent es r acts t (neither_second (act_kind_counts act.kind) _ h)) (act_step es r act s)
+acts_silent known r [] s h = refl
+acts_silent known r (act ∷ acts) s h =
+    ap (λ xs. xs ++ asked_if_proceeding (acts_ask known r acts) (act_step known r act s)) (act_kind_silent act.kind s.state (neither_first (act_kind_counts act.kind) _ h))
+    ∙ if_proceeding_silent (acts_ask known r acts) (λ t. acts_silent known r acts t (neither_second (act_kind_counts act.kind) _ h)) (act_step known r act s)
 
 -- a rule of which no act counts asks nothing
-pub rule_silent : (es : List Entry) (r : Rule) (s : Scene) → list_any (λ act. act_kind_counts act.kind) r.acts ≡ false → rule_asks es r s ≡ []
+pub rule_silent : (known : Known) (r : Rule) (s : Scene) → list_any (λ act. act_kind_counts act.kind) r.acts ≡ false → rule_asks known r s ≡ []
 unfolding rule_asks
-rule_silent es r s h = if_proceeding_silent (acts_ask es r r.acts) (λ t. acts_silent es r r.acts t h) (before_acts r s)
+rule_silent known r s h = if_proceeding_silent (acts_ask known r r.acts) (λ t. acts_silent known r r.acts t h) (before_acts r s)
 
 no_act_counts : (p : Profile) (r : Rule) (event : EventValue) → is_idle_by p r event ≡ true → list_any (λ act. act_kind_counts act.kind) r.acts ≡ false
 unfolding is_idle_by
@@ -60,10 +60,10 @@ no_act_counts Udev r event h = by (is_some r.goto) (list_any (λ act. act_kind_c
     by false false c h = refl
 
 -- a rule that is skipped asks nothing
-pub idle_asks : (es : List Entry) (r : Rule) (s : Scene) (asked : List Text) → is_idle r s.state.event ≡ true → asked ≡ with_asked asked (rule_asks es r s)
-idle_asks es r s asked h = ap (with_asked asked) (sym (rule_silent es r s (no_act_counts s.state.event.profile r s.state.event h)))
+pub idle_asks : (known : Known) (r : Rule) (s : Scene) (asked : List Text) → is_idle r s.state.event ≡ true → asked ≡ with_asked asked (rule_asks known r s)
+idle_asks known r s asked h = ap (with_asked asked) (sym (rule_silent known r s (no_act_counts s.state.event.profile r s.state.event h)))
 
 -- any other rule is evaluated step by step
-pub steps_come : (es : List Entry) (r : Rule) (s : Scene) → is_idle r s.state.event ≡ false → steps es r s ≡ apply es r s
+pub steps_come : (known : Known) (r : Rule) (s : Scene) → is_idle r s.state.event ≡ false → steps known r s ≡ apply known r s
 unfolding apply
-steps_come es r s h = ap (λ b. cond b (only_noted es r s) (steps es r s)) (sym h)
+steps_come known r s h = ap (λ b. cond b (only_noted known r s) (steps known r s)) (sym h)

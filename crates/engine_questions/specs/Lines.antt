@@ -2,7 +2,7 @@
 use Rattle.std.specs.Prelude.{List, [], ◌∷◌, ◌++◌, codes, flat_map}
 use Rattle.text_bytes.specs.Names.{newline}
 use Rattle.text_tables.specs.Texts.{Text}
-use Rattle.hwdb_lookup.specs.declared.entry.Entry.{Entry}
+use Rattle.builtin_devices.specs.Knowledge.{Known}
 use Rattle.rule_types.specs.Rules.{Rule}
 use Rattle.device_core.specs.Values.{EventValue}
 use Rattle.engine_answers.specs.Lines.{event_line}
@@ -17,6 +17,6 @@ abbrev pub question_lines : List Text → Text
 question_lines commands = flat_map question_line commands
 
 -- the event as in any answer, what rules ask of it, and an empty line
-unfoldable pub question_answer : List Rule → List Entry → EventValue → Text
-question_answer rules entries event =
-    event_line event.action event.device.path ++ question_lines (questions rules entries event) ++ newline ∷ []
+unfoldable pub question_answer : List Rule → Known → EventValue → Text
+question_answer rules known event =
+    event_line event.action event.device.path ++ question_lines (questions rules known event) ++ newline ∷ []

@@ -7,7 +7,7 @@ use Rattle.text_bytes.specs.declared.profile.Profile.{Profile}
 use Rattle.text_bytes.specs.declared.profile.Profile.TheVariants.{Manual, Udev}
 use Rattle.text_tables.specs.Texts.{Text, with_texts}
 use Rattle.text_tables.specs.Pairs.{value_of}
-use Rattle.hwdb_lookup.specs.declared.entry.Entry.{Entry}
+use Rattle.builtin_devices.specs.Knowledge.{Known}
 use Rattle.rule_types.specs.Rules.{Rule}
 use Rattle.rule_types.specs.declared.part.Act.{Act}
 use Rattle.rule_types.specs.declared.part.ActKind.{ActKind}
@@ -55,29 +55,29 @@ abbrev pub asked_if_proceeding : (Scene → List Text) → Went → List Text
 asked_if_proceeding asked went = if went.1 then asked went.0 else []
 
 -- what acts of a rule ask, one after another, up to the first that stops the rule
-unfoldable pub acts_ask : List Entry → Rule → List Act → Scene → List Text
-acts_ask entries r [] s = []
-acts_ask entries r (act ∷ acts) s = act_asks act.kind s.state ++ asked_if_proceeding (acts_ask entries r acts) (act_step entries r act s)
+unfoldable pub acts_ask : Known → Rule → List Act → Scene → List Text
+acts_ask known r [] s = []
+acts_ask known r (act ∷ acts) s = act_asks act.kind s.state ++ asked_if_proceeding (acts_ask known r acts) (act_step known r act s)
 
 -- a rule up to its acts: the matches of the event, and the search for one device
 abbrev pub before_acts : Rule → Scene → Went
 before_acts r s = if_proceeding (search r.up) (walk (plain_step r) r.plain s)
 
 -- what a rule asks: what its acts ask, if its matches let it go on to them
-unfoldable pub rule_asks : List Entry → Rule → Scene → List Text
-rule_asks entries r s = asked_if_proceeding (acts_ask entries r r.acts) (before_acts r s)
+unfoldable pub rule_asks : Known → Rule → Scene → List Text
+rule_asks known r s = asked_if_proceeding (acts_ask known r r.acts) (before_acts r s)
 
 -- what rules ask, one after another, perhaps while a label is sought: a rule that is skipped asks nothing
-unfoldable pub rules_ask : List Entry → Option Text → List Rule → Scene → List Text
-rules_ask entries sought [] s = []
-rules_ask entries sought (r ∷ rs) s =
-    if is_passed sought r then rules_ask entries sought rs s
-    else rule_asks entries r s ++ rules_ask entries (sought_after (apply entries r s).1 r) rs (apply entries r s).0
+unfoldable pub rules_ask : Known → Option Text → List Rule → Scene → List Text
+rules_ask known sought [] s = []
+rules_ask known sought (r ∷ rs) s =
+    if is_passed sought r then rules_ask known sought rs s
+    else rule_asks known r s ++ rules_ask known (sought_after (apply known r s).1 r) rs (apply known r s).0
 
 -- commands, and after them others that can be asked, each once
 abbrev pub with_asked : List Text → List Text → List Text
 with_asked asked commands = with_texts asked (filter can_be_asked commands)
 
 -- the questions of an event: what rules ask about it and can be asked, each command once, at the place where it is first asked
-abbrev pub questions : List Rule → List Entry → EventValue → List Text
-questions rules entries event = with_asked [] (rules_ask entries None rules (start event))
+abbrev pub questions : List Rule → Known → EventValue → List Text
+questions rules known event = with_asked [] (rules_ask known None rules (start event))

@@ -3,9 +3,9 @@ ghost use Rattle.std.specs.Prelude.{◌≡◌, ◌++◌, IfOk, OnOk};
 ghost use Rattle.engine_questions.specs.Lines.{question_answer, question_line, question_lines};
 
 use crate::rules::questions;
+use builtin_devices::Knowledge;
 use device_core::Event;
 use engine_answers::push_event;
-use hwdb_lookup::Lookup;
 use rule_types::RuleSet;
 use std::alloc::{AllocError, Global};
 use text_bytes::Bytes;
@@ -35,15 +35,15 @@ fn push_questions(lines: &mut Vec<u8>, commands: &OwnedTexts) -> Result<(), Allo
 /// ask and the event's block does not answer, as `questions` gives them, and an empty line. The commands are as a block
 /// has them, not escaped; with a line `R: STATUS TEXT` after each, the lines can be put at the end of the block.
 #[tactic(auto, unfolding(crate::specs::Lines::question_answer))]
-pub fn question_answer<L: Lookup>(
+pub fn question_answer<K: Knowledge>(
     alloc: Global,
     rules: &RuleSet,
     event: &Event<'_>,
-    lookup: &L,
+    knowledge: &K,
 ) -> Result<Bytes, AllocError>
-    ensures { IfOk result (λ text. text ≡ question_answer rules.now (L.entries lookup.now) event.now) }
+    ensures { IfOk result (λ text. text ≡ question_answer rules.now (K.known knowledge.now) event.now) }
 {
-    let asked = questions(alloc, rules.rules(), event, lookup)?;
+    let asked = questions(alloc, rules.rules(), event, knowledge)?;
     let mut lines = Vec::new(alloc);
     push_event(alloc, &mut lines, event.action(), event.device().path())?;
     push_questions(&mut lines, &asked)?;

@@ -9,12 +9,12 @@ ghost use Rattle.eval_rules.specs.Steps.{apply, before_sets, plain_step, result_
 ghost use Rattle.engine_questions.specs.Questions.{act_asks, acts_ask, before_acts, rule_asks, with_asked};
 
 use crate::acts::ask;
+use builtin_devices::Knowledge;
 use eval_acts::act_step;
 use eval_assignments::set_all;
 use eval_matching::result_holds;
 use eval_rules::{apply, is_idle, plain_step, search};
 use eval_state::{Scene, State};
-use hwdb_lookup::Lookup;
 use rule_types::{Act, Comparison, PlainMatch, Rule};
 use std::alloc::{AllocError, Global};
 use text_tables::OwnedTexts;
@@ -47,35 +47,35 @@ fn reach_acts(alloc: Global, rule: &Rule, scene: &mut Scene<'_>) -> Result<bool,
 }
 
 /// Adds what an act asks, and does it.
-fn ask_act<L: Lookup>(
+fn ask_act<K: Knowledge>(
     alloc: Global,
     rule: &Rule,
     act: &Act,
-    lookup: &L,
+    knowledge: &K,
     scene: &mut Scene<'_>,
     asked: &mut OwnedTexts,
 ) -> Result<bool, AllocError>
-    ensures scene { IfOk result (λ on. (scene.new, on) ≡ act_step (L.entries lookup.now) rule.now act.now scene.old) }
+    ensures scene { IfOk result (λ on. (scene.new, on) ≡ act_step (K.known knowledge.now) rule.now act.now scene.old) }
     ensures asked { OnOk result (asked.new ≡ with_asked asked.old (act_asks act.now.kind scene.old.state)) }
 {
     ask(alloc, &act.kind, &mut scene.state, asked)?;
-    act_step(alloc, rule, act, lookup, scene)
+    act_step(alloc, rule, act, knowledge, scene)
 }
 
 /// Adds what acts ask, and does them, up to the first that stops the rule.
-fn ask_acts<L: Lookup>(
+fn ask_acts<K: Knowledge>(
     alloc: Global,
     rule: &Rule,
     parts: &[Act],
-    lookup: &L,
+    knowledge: &K,
     scene: &mut Scene<'_>,
     asked: &mut OwnedTexts,
 ) -> Result<bool, AllocError>
-    ensures scene { IfOk result (λ on. (scene.new, on) ≡ walk (act_step (L.entries lookup.now) rule.now) parts.now scene.old) }
-    ensures asked { OnOk result (asked.new ≡ with_asked asked.old (acts_ask (L.entries lookup.now) rule.now parts.now scene.old)) }
+    ensures scene { IfOk result (λ on. (scene.new, on) ≡ walk (act_step (K.known knowledge.now) rule.now) parts.now scene.old) }
+    ensures asked { OnOk result (asked.new ≡ with_asked asked.old (acts_ask (K.known knowledge.now) rule.now parts.now scene.old)) }
 {
     for part in parts {
-        if !ask_act(alloc, rule, part, lookup, scene, asked)? {
+        if !ask_act(alloc, rule, part, knowledge, scene, asked)? {
             return Ok(false);
         }
     }
@@ -98,37 +98,37 @@ fn match_results(parts: &[Comparison], scene: &Scene<'_>) -> bool
 }
 
 /// Adds what a rule asks, and goes through it up to its assignments; answers whether it goes on to them.
-fn ask_keys<L: Lookup>(
+fn ask_keys<K: Knowledge>(
     alloc: Global,
     rule: &Rule,
-    lookup: &L,
+    knowledge: &K,
     scene: &mut Scene<'_>,
     asked: &mut OwnedTexts,
 ) -> Result<bool, AllocError>
-    ensures scene { IfOk result (λ on. (scene.new, on) ≡ before_sets (L.entries lookup.now) rule.now scene.old) }
-    ensures asked { OnOk result (asked.new ≡ with_asked asked.old (rule_asks (L.entries lookup.now) rule.now scene.old)) }
+    ensures scene { IfOk result (λ on. (scene.new, on) ≡ before_sets (K.known knowledge.now) rule.now scene.old) }
+    ensures asked { OnOk result (asked.new ≡ with_asked asked.old (rule_asks (K.known knowledge.now) rule.now scene.old)) }
 {
     if !reach_acts(alloc, rule, scene)? {
         return Ok(false);
     }
-    if !ask_acts(alloc, rule, rule.acts(), lookup, scene, asked)? {
+    if !ask_acts(alloc, rule, rule.acts(), knowledge, scene, asked)? {
         return Ok(false);
     }
     Ok(match_results(rule.results(), scene))
 }
 
 /// Adds what a rule asks, and goes through its steps; answers whether its end was reached.
-fn ask_steps<'a, L: Lookup>(
+fn ask_steps<'a, K: Knowledge>(
     alloc: Global,
     rule: &'a Rule,
-    lookup: &L,
+    knowledge: &K,
     scene: &mut Scene<'a>,
     asked: &mut OwnedTexts,
 ) -> Result<bool, AllocError>
-    ensures scene { IfOk result (λ on. (scene.new, on) ≡ steps (L.entries lookup.now) rule.now scene.old) }
-    ensures asked { OnOk result (asked.new ≡ with_asked asked.old (rule_asks (L.entries lookup.now) rule.now scene.old)) }
+    ensures scene { IfOk result (λ on. (scene.new, on) ≡ steps (K.known knowledge.now) rule.now scene.old) }
+    ensures asked { OnOk result (asked.new ≡ with_asked asked.old (rule_asks (K.known knowledge.now) rule.now scene.old)) }
 {
-    if !ask_keys(alloc, rule, lookup, scene, asked)? {
+    if !ask_keys(alloc, rule, knowledge, scene, asked)? {
         return Ok(false);
     }
     set_all(alloc, rule, scene)?;
@@ -138,18 +138,18 @@ fn ask_steps<'a, L: Lookup>(
 /// Evaluates a rule as `apply` does, adds what it asks to what was asked before, and answers whether its end was
 /// reached. A rule in which nothing counts for the event has no act that asks.
 #[tactic(auto, using(crate::proofs::Idling::idle_asks, crate::proofs::Idling::steps_come))]
-pub(crate) fn ask_rule<'a, L: Lookup>(
+pub(crate) fn ask_rule<'a, K: Knowledge>(
     alloc: Global,
     rule: &'a Rule,
-    lookup: &L,
+    knowledge: &K,
     scene: &mut Scene<'a>,
     asked: &mut OwnedTexts,
 ) -> Result<bool, AllocError>
-    ensures scene { IfOk result (λ on. (scene.new, on) ≡ apply (L.entries lookup.now) rule.now scene.old) }
-    ensures asked { OnOk result (asked.new ≡ with_asked asked.old (rule_asks (L.entries lookup.now) rule.now scene.old)) }
+    ensures scene { IfOk result (λ on. (scene.new, on) ≡ apply (K.known knowledge.now) rule.now scene.old) }
+    ensures asked { OnOk result (asked.new ≡ with_asked asked.old (rule_asks (K.known knowledge.now) rule.now scene.old)) }
 {
     if is_idle(rule, scene.state.event.event()) {
-        return apply(alloc, rule, lookup, scene);
+        return apply(alloc, rule, knowledge, scene);
     }
-    ask_steps(alloc, rule, lookup, scene, asked)
+    ask_steps(alloc, rule, knowledge, scene, asked)
 }

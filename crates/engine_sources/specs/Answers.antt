@@ -2,7 +2,7 @@
 use Rattle.std.specs.Prelude.{List, ◌++◌, codes}
 use Rattle.text_tables.specs.Texts.{Text}
 use Rattle.text_tables.specs.Pairs.{Pair}
-use Rattle.hwdb_lookup.specs.declared.entry.Entry.{Entry}
+use Rattle.builtin_devices.specs.Knowledge.{Known}
 use Rattle.rule_types.specs.Rules.{Rule}
 use Rattle.device_core.specs.Values.{EventValue}
 use Rattle.eval_rules.specs.Outcomes.{outcome}
@@ -40,10 +40,10 @@ lines_after part source event outcome commands =
     ++ note_lines outcome.notes
 
 -- the lines of the answer to an event by rules and entries, each after such a part on the rule that it comes from
-abbrev pub lines_by : (Source → Text) → List Rule → List Entry → EventValue → Text
-lines_by part rules entries event =
-    lines_after part (source_of (stages rules entries event)) event (outcome rules entries event) (event_commands rules entries event)
+abbrev pub lines_by : (Source → Text) → List Rule → Known → EventValue → Text
+lines_by part rules known event =
+    lines_after part (source_of (stages rules known event)) event (outcome rules known event) (event_commands rules known event)
 
 -- the lines of the answer to an event, each after the place of the rule that it comes from
-abbrev pub sourced_lines : List Rule → List Entry → EventValue → Text
-sourced_lines rules entries event = lines_by source_part rules entries event
+abbrev pub sourced_lines : List Rule → Known → EventValue → Text
+sourced_lines rules known event = lines_by source_part rules known event

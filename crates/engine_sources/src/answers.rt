@@ -6,11 +6,11 @@ ghost use Rattle.engine_sources.specs.Lines.{source_part};
 
 use crate::lines::{push_given, push_sourced_persist, push_sourced_priority, push_sourced_watch};
 use crate::lists::{push_commands, push_env, push_labels, push_members, push_values};
+use builtin_devices::Knowledge;
 use device_core::Event;
 use engine_answers::{push_event, push_notes};
 use eval_rules::Outcome;
 use eval_sources::{Sourced, Sources, evaluate_sources};
-use hwdb_lookup::Lookup;
 use rule_types::RuleSet;
 use std::alloc::{AllocError, Global};
 
@@ -61,15 +61,15 @@ fn lines_of(alloc: Global, event: &Event<'_>, found: &Sourced<'_>) -> Result<Vec
 }
 
 /// The same; rules and event are borrowed for the same lifetime.
-fn lines_for<'a, L: Lookup>(
+fn lines_for<'a, K: Knowledge>(
     alloc: Global,
     rules: &'a RuleSet,
     event: &'a Event<'_>,
-    lookup: &L,
+    knowledge: &K,
 ) -> Result<Vec<u8>, AllocError>
-    ensures { IfOk result (λ lines. lines.items ≡ sourced_lines rules.now (L.entries lookup.now) event.now) }
+    ensures { IfOk result (λ lines. lines.items ≡ sourced_lines rules.now (K.known knowledge.now) event.now) }
 {
-    let found = evaluate_sources(alloc, rules, event, lookup)?;
+    let found = evaluate_sources(alloc, rules, event, knowledge)?;
     let said = lines_of(alloc, event, &found);
     drop(found);
     said
@@ -77,13 +77,13 @@ fn lines_for<'a, L: Lookup>(
 
 /// The lines of the answer to an event by the rules as they are read, each after the place of the rule that it comes
 /// from. The first line and those of notes stay as they are.
-pub fn sourced_lines<L: Lookup>(
+pub fn sourced_lines<K: Knowledge>(
     alloc: Global,
     rules: &RuleSet,
     event: &Event<'_>,
-    lookup: &L,
+    knowledge: &K,
 ) -> Result<Vec<u8>, AllocError>
-    ensures { IfOk result (λ lines. lines.items ≡ sourced_lines rules.now (L.entries lookup.now) event.now) }
+    ensures { IfOk result (λ lines. lines.items ≡ sourced_lines rules.now (K.known knowledge.now) event.now) }
 {
-    lines_for(alloc, rules, event, lookup)
+    lines_for(alloc, rules, event, knowledge)
 }

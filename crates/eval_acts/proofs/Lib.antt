@@ -5,5 +5,3 @@ pub mod Plain
 pub mod Runs
 pub mod Seeing
 pub mod Setting
-pub mod Requests
-pub mod Spacing

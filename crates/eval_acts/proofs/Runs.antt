@@ -4,27 +4,27 @@ use Rattle.std.specs.Prelude.{Some}
 use Rattle.text_bytes.specs.declared.profile.Profile.{Profile}
 use Rattle.text_tables.specs.Texts.{Text}
 use Rattle.text_tables.specs.Pairs.{Pair}
-use Rattle.hwdb_lookup.specs.declared.entry.Entry.{Entry}
+use Rattle.builtin_devices.specs.Knowledge.{Known}
 use Rattle.rule_types.specs.Rules.{Rule}
 use Rattle.eval_state.specs.Scenes.{noted}
 use Rattle.eval_state.specs.declared.note_kind.NoteKind.TheVariants.{BuiltinNotRun}
 use Rattle.eval_state.specs.declared.scene.Scene.{Scene}
-use Rattle.eval_acts.specs.Builtins.{builtin}
+use Rattle.eval_commands.specs.Builtins.{builtin}
 use Rattle.eval_acts.specs.Imports.{builtin_run, run_builtin, taken}
 use Rattle.eval_acts.specs.LookUps.{found}
-use Rattle.eval_acts.specs.Unquoted.{asked_of, other_name}
-use Rattle.eval_acts.specs.declared.hwdb.Hwdb.{Hwdb}
-use Rattle.eval_acts.proofs.Requests.{hwdb_is, other_is}
+use Rattle.eval_commands.specs.Unquoted.{asked_of, other_name}
+use Rattle.eval_commands.specs.declared.hwdb.Hwdb.{Hwdb}
+use Rattle.eval_commands.proofs.Requests.{hwdb_is, other_is}
 
 -- another builtin is noted
-pub other_runs : (entries : List Entry) (rule : Rule) (profile : Profile) (command name : Text) (scene : Scene) → profile ≡ scene.state.event.profile → Some name ≡ other_name profile command
-    → (noted rule BuiltinNotRun name scene, false) ≡ run_builtin entries rule command scene
-other_runs entries rule profile command name scene p e =
-    sym (ap (λ asked. builtin_run entries rule command asked scene) (ap (λ by. builtin by command) (sym p) ∙ other_is profile command name e))
+pub other_runs : (known : Known) (rule : Rule) (profile : Profile) (command name : Text) (scene : Scene) → profile ≡ scene.state.event.profile → Some name ≡ other_name profile command
+    → (noted rule BuiltinNotRun name scene, false) ≡ run_builtin known rule command scene
+other_runs known rule profile command name scene p e =
+    sym (ap (λ asked. builtin_run known rule command asked scene) (ap (λ by. builtin by command) (sym p) ∙ other_is profile command name e))
 
 -- what a request finds is taken
-pub hwdb_runs : (entries : List Entry) (rule : Rule) (profile : Profile) (command : Text) (request : Hwdb) (properties : List Pair) (scene : Scene) → profile ≡ scene.state.event.profile
-    → Some request ≡ asked_of profile command → properties ≡ found entries request scene.state → taken properties scene ≡ run_builtin entries rule command scene
-hwdb_runs entries rule profile command request properties scene p e is =
+pub hwdb_runs : (known : Known) (rule : Rule) (profile : Profile) (command : Text) (request : Hwdb) (properties : List Pair) (scene : Scene) → profile ≡ scene.state.event.profile
+    → Some request ≡ asked_of profile command → properties ≡ found known request scene.state → taken properties scene ≡ run_builtin known rule command scene
+hwdb_runs known rule profile command request properties scene p e is =
     ap (λ given. taken given scene) is
-    ∙ sym (ap (λ asked. builtin_run entries rule command asked scene) (ap (λ by. builtin by command) (sym p) ∙ hwdb_is profile command request e))
+    ∙ sym (ap (λ asked. builtin_run known rule command asked scene) (ap (λ by. builtin by command) (sym p) ∙ hwdb_is profile command request e))

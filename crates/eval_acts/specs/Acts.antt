@@ -5,7 +5,7 @@ use Rattle.text_bytes.specs.declared.profile.Profile.TheVariants.{Manual, Udev}
 use Rattle.text_tables.specs.Texts.{Text}
 use Rattle.text_core.specs.Fnmatch.{fnmatch_items}
 use Rattle.text_core.specs.declared.reading.Reading.TheVariants.{Exact}
-use Rattle.hwdb_lookup.specs.declared.entry.Entry.{Entry}
+use Rattle.builtin_devices.specs.Knowledge.{Known}
 use Rattle.rule_types.specs.WrittenParts.{attribute_of_act_kind, key_of_act_kind, type_of}
 use Rattle.rule_types.specs.declared.part.Act.{Act}
 use Rattle.rule_types.specs.declared.part.ActKind.{ActKind}
@@ -44,19 +44,19 @@ from_parent_by text s = from_parent (fnmatch_items Exact text 0 ∷ []) (device_
 -- IMPORT, by where it takes properties from: for the manual a value of IMPORT{parent} is read with the rule, and for udev
 -- it is rendered. A program is run for udev alone: the event's block answers its command. Other types are never run, though
 -- udev renders the path of a file.
-abbrev pub imported : Profile → List Entry → Rule → Import → Scene → Scene × Option Bool
-imported profile entries r (import.Builtin template) s = on_text (run_builtin entries r) (import_text most_command_bytes template s.state) s
-imported Manual entries r (import.Parent names text) s = tried (from_parent names (device_at s.state.event 1) s)
-imported Udev entries r (import.Parent names text) s = on_text from_parent_by (names_text text s.state) s
-imported Udev entries r (import.Program template) s = on_text (from_program r) (import_text most_command_bytes template s.state) s
-imported Udev entries r (import.File template) s = on_text (λ path. not_run r File) (import_text most_path_bytes template s.state) s
-imported profile entries r other s = tried (not_run r (type_of other) s)
+abbrev pub imported : Profile → Known → Rule → Import → Scene → Scene × Option Bool
+imported profile known r (import.Builtin template) s = on_text (run_builtin known r) (import_text most_command_bytes template s.state) s
+imported Manual known r (import.Parent names text) s = tried (from_parent names (device_at s.state.event 1) s)
+imported Udev known r (import.Parent names text) s = on_text from_parent_by (names_text text s.state) s
+imported Udev known r (import.Program template) s = on_text (from_program r) (import_text most_command_bytes template s.state) s
+imported Udev known r (import.File template) s = on_text (λ path. not_run r File) (import_text most_path_bytes template s.state) s
+imported profile known r other s = tried (not_run r (type_of other) s)
 
 -- the scene after an act, and whether it was done; PROGRAM empties the result before its command is looked at
-abbrev pub performed : List Entry → Rule → ActKind → Scene → Scene × Option Bool
-performed entries r (act_kind.Test mask template) s = on_text (tested r mask) (test_text template s.state) s
-performed entries r (act_kind.Program template) s = on_text (answered_by_block r) (program_text template s.state) (with_result [] s)
-performed entries r (act_kind.Import from) s = imported s.state.event.profile entries r from s
+abbrev pub performed : Known → Rule → ActKind → Scene → Scene × Option Bool
+performed known r (act_kind.Test mask template) s = on_text (tested r mask) (test_text template s.state) s
+performed known r (act_kind.Program template) s = on_text (answered_by_block r) (program_text template s.state) (with_result [] s)
+performed known r (act_kind.Import from) s = imported s.state.event.profile known r from s
 
 -- a note on the text of an act, if it is too long
 abbrev pub too_long_noted : Rule → ActKind → (done : Option Bool) → Scene → Scene
@@ -71,7 +71,7 @@ proceeds None Manual operator = agrees operator false
 proceeds None Udev operator = false
 
 -- the scene after an act of a rule, and whether the rule goes on; what was changed stays either way
-unfoldable pub act_step : List Entry → Rule → Act → Scene → Scene × Bool
-act_step entries r act s =
-    let after = performed entries r act.kind s in
+unfoldable pub act_step : Known → Rule → Act → Scene → Scene × Bool
+act_step known r act s =
+    let after = performed known r act.kind s in
     (too_long_noted r act.kind after.1 after.0, proceeds after.1 s.state.event.profile act.operator)

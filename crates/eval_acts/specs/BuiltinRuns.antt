@@ -5,15 +5,11 @@ use Rattle.std.specs.List.{sum_by}
 use Rattle.text_tables.specs.Texts.{Text, same_text}
 use Rattle.text_tables.specs.Pairs.{Pair, value_of}
 use Rattle.hwdb_lookup.specs.Query.{query}
-use Rattle.hwdb_lookup.specs.declared.entry.Entry.{Entry}
+use Rattle.builtin_devices.specs.Knowledge.{Known}
 use Rattle.rule_types.specs.Builtins.{builtin_name}
 use Rattle.rule_types.specs.declared.builtins.Builtin.TheVariants.{InputId, NetId, PathId, UsbId}
 use Rattle.rule_types.specs.Rules.{Rule}
 use Rattle.builtin_devices.specs.Outcomes.{OutcomeValue}
-use Rattle.builtin_input.specs.Input.{input_id}
-use Rattle.builtin_net.specs.NetId.{lookup, net_id}
-use Rattle.builtin_path.specs.Path.{path_id}
-use Rattle.builtin_usb.specs.UsbId.{usb_id}
 use Rattle.eval_state.specs.Properties.{properties_set}
 use Rattle.eval_state.specs.Scenes.{noted, with_env}
 use Rattle.eval_state.specs.declared.note_kind.NoteKind.TheVariants.{BuiltinNeeds, TextTooLong}
@@ -60,23 +56,23 @@ abbrev pub path_id_ran : Scene × Bool → Scene × Bool
 path_id_ran after = (record after.0 { ran = record after.0.ran { path_id = Some after.1 } }, after.1)
 
 -- usb_id, by whether it has run before: then it does nothing, and was done if it was the first time
-abbrev pub usb_id_run : (ran : Option Bool) → Rule → Scene → Scene × Bool
-usb_id_run (Some done) r s = (s, done)
-usb_id_run None r s = usb_id_ran (outcome_taken r (builtin_name UsbId) (usb_id s.state.event (is_some (value_of s.state.env (codes "ID_BUS")))) s)
+abbrev pub usb_id_run : Known → (ran : Option Bool) → Rule → Scene → Scene × Bool
+usb_id_run known (Some done) r s = (s, done)
+usb_id_run known None r s = usb_id_ran (outcome_taken r (builtin_name UsbId) (known.usb_id s.state.event (is_some (value_of s.state.env (codes "ID_BUS")))) s)
 
 -- path_id, by whether it has run before
-abbrev pub path_id_run : (ran : Option Bool) → Rule → Scene → Scene × Bool
-path_id_run (Some done) r s = (s, done)
-path_id_run None r s = path_id_ran (outcome_taken r (builtin_name PathId) (path_id s.state.event) s)
+abbrev pub path_id_run : Known → (ran : Option Bool) → Rule → Scene → Scene × Bool
+path_id_run known (Some done) r s = (s, done)
+path_id_run known None r s = path_id_ran (outcome_taken r (builtin_name PathId) (known.path_id s.state.event) s)
 
 -- input_id
-abbrev pub input_id_run : Rule → Scene → Scene × Bool
-input_id_run r s = outcome_taken r (builtin_name InputId) (input_id s.state.event) s
+abbrev pub input_id_run : Known → Rule → Scene → Scene × Bool
+input_id_run known r s = outcome_taken r (builtin_name InputId) (known.input_id s.state.event) s
 
 -- what the hardware database says about a text, if there is one
-abbrev pub looked_up : List Entry → Option Text → List Pair
-looked_up entries None = []
-looked_up entries (Some text) = query entries text
+abbrev pub looked_up : Known → Option Text → List Pair
+looked_up known None = []
+looked_up known (Some text) = query known.entries text
 
 -- whether a property is the name by an address
 abbrev pub is_address_name : Pair → Bool
@@ -90,7 +86,7 @@ with_maker found (property ∷ properties) =
     else property ∷ with_maker found properties
 
 -- net_id; right after the name by the device's address it sets what the hardware database says about the address
-abbrev pub net_id_run : List Entry → Rule → Scene → Scene × Bool
-net_id_run entries r s =
-    let names = net_id s.state.event s.state.env in
-    outcome_set r (builtin_name NetId) names (with_maker (looked_up entries (lookup s.state.event s.state.env)) names.properties) s
+abbrev pub net_id_run : Known → Rule → Scene → Scene × Bool
+net_id_run known r s =
+    let names = known.net_id s.state.event s.state.env in
+    outcome_set r (builtin_name NetId) names (with_maker (looked_up known (known.net_lookup s.state.event s.state.env)) names.properties) s

@@ -6,17 +6,17 @@ use Rattle.text_tables.specs.Texts.{Text}
 use Rattle.text_tables.specs.Pairs.{Pair, value_of, with_values}
 use Rattle.text_core.specs.Choices.{choice_fits}
 use Rattle.text_core.specs.declared.item.Item.{Item}
-use Rattle.hwdb_lookup.specs.declared.entry.Entry.{Entry}
+use Rattle.builtin_devices.specs.Knowledge.{Known}
 use Rattle.device_core.specs.Values.{AnswerValue, DeviceValue}
 use Rattle.rule_types.specs.Names.{import_name}
 use Rattle.rule_types.specs.declared.types.ImportType.{ImportType}
 use Rattle.rule_types.specs.Rules.{Rule}
-use Rattle.eval_acts.specs.Builtins.{builtin}
+use Rattle.eval_commands.specs.Builtins.{builtin}
 use Rattle.eval_acts.specs.BuiltinRuns.{input_id_run, net_id_run, path_id_run, usb_id_run}
 use Rattle.eval_acts.specs.LookUps.{found}
 use Rattle.eval_acts.specs.Printed.{printed_properties}
-use Rattle.eval_acts.specs.declared.builtin.Builtin.{Builtin}
-use Rattle.eval_acts.specs.declared.builtin.Builtin.TheVariants as asked
+use Rattle.eval_commands.specs.declared.builtin.Builtin.{Builtin}
+use Rattle.eval_commands.specs.declared.builtin.Builtin.TheVariants as asked
 use Rattle.eval_state.specs.Properties.{properties_set}
 use Rattle.eval_state.specs.Scenes.{noted, with_env}
 use Rattle.eval_state.specs.declared.note_kind.NoteKind.TheVariants.{BadHwdbArguments, BuiltinNotRun, ImportNotRun, NoAnswer}
@@ -33,18 +33,18 @@ taken properties s = (with_env (with_found s.state.event.profile s.state.env pro
 
 -- the builtin of a command: `hwdb` takes what it finds, four builtins of udev look at the devices, and others are not
 -- run
-abbrev pub builtin_run : List Entry → Rule → Text → Builtin → Scene → Scene × Bool
-builtin_run entries r command (asked.Hwdb hwdb) s = taken (found entries hwdb s.state) s
-builtin_run entries r command asked.InputId s = input_id_run r s
-builtin_run entries r command asked.NetId s = net_id_run entries r s
-builtin_run entries r command asked.PathId s = path_id_run s.ran.path_id r s
-builtin_run entries r command asked.UsbId s = usb_id_run s.ran.usb_id r s
-builtin_run entries r command (asked.Other name) s = (noted r BuiltinNotRun name s, false)
-builtin_run entries r command asked.BadArguments s = (noted r BadHwdbArguments command s, false)
+abbrev pub builtin_run : Known → Rule → Text → Builtin → Scene → Scene × Bool
+builtin_run known r command (asked.Hwdb hwdb) s = taken (found known hwdb s.state) s
+builtin_run known r command asked.InputId s = input_id_run known r s
+builtin_run known r command asked.NetId s = net_id_run known r s
+builtin_run known r command asked.PathId s = path_id_run known s.ran.path_id r s
+builtin_run known r command asked.UsbId s = usb_id_run known s.ran.usb_id r s
+builtin_run known r command (asked.Other name) s = (noted r BuiltinNotRun name s, false)
+builtin_run known r command asked.BadArguments s = (noted r BadHwdbArguments command s, false)
 
 -- IMPORT{builtin} of a command
-abbrev pub run_builtin : List Entry → Rule → Text → Scene → Scene × Bool
-run_builtin entries r command s = builtin_run entries r command (builtin s.state.event.profile command) s
+abbrev pub run_builtin : Known → Rule → Text → Scene → Scene × Bool
+run_builtin known r command s = builtin_run known r command (builtin s.state.event.profile command) s
 
 -- the properties whose names fit
 abbrev pub names_fitting : List (List Item) → List Pair → List Pair

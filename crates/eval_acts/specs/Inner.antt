@@ -7,7 +7,7 @@ use Rattle.text_bytes.specs.declared.profile.Profile.{Profile}
 use Rattle.text_bytes.specs.declared.profile.Profile.TheVariants.{Manual}
 use Rattle.text_tables.specs.Texts.{Text}
 use Rattle.text_tables.specs.Pairs.{Pair}
-use Rattle.hwdb_lookup.specs.declared.entry.Entry.{Entry}
+use Rattle.builtin_devices.specs.Knowledge.{Known}
 use Rattle.device_core.specs.Values.{DeviceValue}
 use Rattle.builtin_devices.specs.Devices.{is_text}
 use Rattle.rule_templates.specs.declared.piece.Piece.{Piece}
@@ -17,7 +17,7 @@ use Rattle.rule_types.specs.Rules.{Rule}
 use Rattle.eval_rendering.specs.Bounds.{most_command_bytes}
 use Rattle.eval_state.specs.declared.scene.Scene.{Scene}
 use Rattle.eval_state.specs.declared.state.State.{State}
-use Rattle.eval_acts.specs.declared.hwdb.Hwdb.{Hwdb}
+use Rattle.eval_commands.specs.declared.hwdb.Hwdb.{Hwdb}
 use Rattle.eval_acts.specs.Acts.{too_long_noted}
 use Rattle.eval_acts.specs.LookUps.{Candidate, candidate, counted_properties, first_found, is_usb_device}
 
@@ -75,5 +75,5 @@ abbrev pub seen_before : Seen → List Text → List Text
 seen_before s more = cons_option s.modalias (if s.is_last then [] else more)
 
 -- the answer to the first of these modaliases that has one
-abbrev pub answer_of : List Entry → Hwdb → List Text → List Pair
-answer_of entries hwdb modaliases = first_found (map (counted_properties entries hwdb) (map (λ modalias. hwdb.prefix ++ modalias) modaliases))
+abbrev pub answer_of : Known → Hwdb → List Text → List Pair
+answer_of known hwdb modaliases = first_found (map (counted_properties known hwdb) (map (λ modalias. hwdb.prefix ++ modalias) modaliases))

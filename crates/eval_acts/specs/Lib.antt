@@ -1,7 +1,4 @@
 pub mod LookUps
-pub mod Builtins
-pub mod Words
-pub mod Hwdb
 pub mod BuiltinRuns
 pub mod Imports
 pub mod Reaching
@@ -10,6 +7,4 @@ pub mod Questions
 pub mod ActTexts
 pub mod Printed
 pub mod UsbModalias
-pub mod UdevHwdb
-pub mod Unquoted
 pub mod Inner

@@ -10,12 +10,12 @@ use Rattle.text_tables.specs.Pairs.{Pair, value_of}
 use Rattle.text_core.specs.Fits.{fits}
 use Rattle.text_core.specs.declared.item.Item.{Item}
 use Rattle.hwdb_lookup.specs.Query.{query}
-use Rattle.hwdb_lookup.specs.declared.entry.Entry.{Entry}
+use Rattle.builtin_devices.specs.Knowledge.{Known}
 use Rattle.device_core.specs.Values.{DeviceValue}
 use Rattle.builtin_devices.specs.Devices.{is_text, type_of}
 use Rattle.eval_state.specs.declared.state.State.{State}
 use Rattle.eval_acts.specs.UsbModalias.{made_up}
-use Rattle.eval_acts.specs.declared.hwdb.Hwdb.{Hwdb}
+use Rattle.eval_commands.specs.declared.hwdb.Hwdb.{Hwdb}
 
 -- what `hwdb` looks at in a device
 pub record Candidate : Type 0 where
@@ -96,13 +96,13 @@ counts None key = true
 counts (Some pattern) key = fits pattern key
 
 -- the properties of a text that count
-abbrev pub counted_properties : List Entry → Hwdb → Text → List Pair
-counted_properties entries hwdb text = filter (λ property. counts hwdb.filter property.0) (query entries text)
+abbrev pub counted_properties : Known → Hwdb → Text → List Pair
+counted_properties known hwdb text = filter (λ property. counts hwdb.filter property.0) (query known.entries text)
 
 -- the first list that is not empty; empty if there is none
 abbrev pub first_found : List (List Pair) → List Pair
 first_found answers = unwrap_or (find (λ properties. not (is_empty properties)) answers) []
 
 -- what is found: the answer to the first text that has one
-unfoldable pub found : List Entry → Hwdb → State → List Pair
-found entries hwdb state = first_found (map (counted_properties entries hwdb) (texts hwdb state))
+unfoldable pub found : Known → Hwdb → State → List Pair
+found known hwdb state = first_found (map (counted_properties known hwdb) (texts hwdb state))

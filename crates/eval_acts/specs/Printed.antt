@@ -6,7 +6,7 @@ use Rattle.text_bytes.specs.Names.{carriage_return, equals, hash, is_blank, newl
 use Rattle.text_bytes.specs.Texts.{begins_with, ends_in, is_empty, split_once, unindented}
 use Rattle.text_tables.specs.Texts.{Text}
 use Rattle.text_tables.specs.Pairs.{Pair}
-use Rattle.eval_acts.specs.Words.{is_quote}
+use Rattle.eval_commands.specs.Words.{is_quote}
 
 -- a byte that ends a line
 abbrev pub ends_line : ℕ → Bool

@@ -11,10 +11,10 @@ ghost use Rattle.eval_acts.specs.Questions.{answered_by_block, tested, with_resu
 use crate::act_texts::{import_text, names_text, plain_command, program_text, test_text};
 use crate::imports::{import_named, import_parent, import_printed, not_run, run_builtin};
 use crate::questions::{ask, clear_result, look_for};
+use builtin_devices::Knowledge;
 use eval_matching::agrees;
 use eval_rendering::{MAX_COMMAND_BYTES, MAX_PATH_BYTES, Rendered};
 use eval_state::Scene;
-use hwdb_lookup::Lookup;
 use rule_templates::Template;
 use rule_types::{Act, ActKind, Import, ImportType, MatchOperator, Rule};
 use std::alloc::{AllocError, Global};
@@ -59,23 +59,23 @@ fn program(
 }
 
 /// IMPORT{builtin}.
-fn builtin<L: Lookup>(
+fn builtin<K: Knowledge>(
     alloc: Global,
     rule: &Rule,
     template: &Template,
-    database: &L,
+    knowledge: &K,
     scene: &mut Scene<'_>,
 ) -> Result<Option<bool>, AllocError>
-    ensures scene { IfOk result (λ done. (scene.new, done) ≡ on_text (run_builtin (L.entries database.now) rule.now) (import_text most_command_bytes template.now scene.old.state) scene.old) }
+    ensures scene { IfOk result (λ done. (scene.new, done) ≡ on_text (run_builtin (K.known knowledge.now) rule.now) (import_text most_command_bytes template.now scene.old.state) scene.old) }
     ensures refused { OnErr result (scene.new.state.event ≡ scene.old.state.event) }
 {
     if let Some(command) = plain_command(template) {
-        let done = run_builtin(alloc, rule, command, database, scene)?;
+        let done = run_builtin(alloc, rule, command, knowledge, scene)?;
         return Ok(Some(done));
     }
     match import_text(alloc, MAX_COMMAND_BYTES, template, &scene.state)? {
         Rendered::Text(command) => {
-            let done = run_builtin(alloc, rule, command.as_slice(), database, scene)?;
+            let done = run_builtin(alloc, rule, command.as_slice(), knowledge, scene)?;
             Ok(Some(done))
         }
         Rendered::TooLong => Ok(None),
@@ -133,36 +133,36 @@ fn file_named(
 }
 
 /// IMPORT by the manual, by where it takes properties from.
-fn import_manual<L: Lookup>(
+fn import_manual<K: Knowledge>(
     alloc: Global,
     rule: &Rule,
     from: &Import,
-    database: &L,
+    knowledge: &K,
     scene: &mut Scene<'_>,
 ) -> Result<Option<bool>, AllocError>
-    ensures scene { IfOk result (λ done. (scene.new, done) ≡ imported Profile.Manual (L.entries database.now) rule.now from.now scene.old) }
+    ensures scene { IfOk result (λ done. (scene.new, done) ≡ imported Profile.Manual (K.known knowledge.now) rule.now from.now scene.old) }
     ensures refused { OnErr result (scene.new.state.event ≡ scene.old.state.event) }
 {
     match from {
-        Import::Builtin(template) => builtin(alloc, rule, template, database, scene),
+        Import::Builtin(template) => builtin(alloc, rule, template, knowledge, scene),
         Import::Parent(names, _) => Ok(Some(import_parent(alloc, names, scene)?)),
         other => Ok(Some(not_run(alloc, rule, other.import_type(), scene)?)),
     }
 }
 
 /// IMPORT for udev, by where it takes properties from.
-fn import_udev<L: Lookup>(
+fn import_udev<K: Knowledge>(
     alloc: Global,
     rule: &Rule,
     from: &Import,
-    database: &L,
+    knowledge: &K,
     scene: &mut Scene<'_>,
 ) -> Result<Option<bool>, AllocError>
-    ensures scene { IfOk result (λ done. (scene.new, done) ≡ imported Profile.Udev (L.entries database.now) rule.now from.now scene.old) }
+    ensures scene { IfOk result (λ done. (scene.new, done) ≡ imported Profile.Udev (K.known knowledge.now) rule.now from.now scene.old) }
     ensures refused { OnErr result (scene.new.state.event ≡ scene.old.state.event) }
 {
     match from {
-        Import::Builtin(template) => builtin(alloc, rule, template, database, scene),
+        Import::Builtin(template) => builtin(alloc, rule, template, knowledge, scene),
         Import::Parent(_, text) => parent_named(alloc, text.as_slice(), scene),
         Import::Program(template) => program_answered(alloc, rule, template, scene),
         Import::File(template) => file_named(alloc, rule, template, scene),
@@ -171,37 +171,37 @@ fn import_udev<L: Lookup>(
 }
 
 /// IMPORT.
-fn import<L: Lookup>(
+fn import<K: Knowledge>(
     alloc: Global,
     rule: &Rule,
     from: &Import,
-    database: &L,
+    knowledge: &K,
     scene: &mut Scene<'_>,
 ) -> Result<Option<bool>, AllocError>
-    ensures scene { IfOk result (λ done. (scene.new, done) ≡ imported scene.old.state.event.profile (L.entries database.now) rule.now from.now scene.old) }
+    ensures scene { IfOk result (λ done. (scene.new, done) ≡ imported scene.old.state.event.profile (K.known knowledge.now) rule.now from.now scene.old) }
     ensures refused { OnErr result (scene.new.state.event ≡ scene.old.state.event) }
 {
     match scene.state.event.event().profile() {
-        Profile::Manual => import_manual(alloc, rule, from, database, scene),
-        Profile::Udev => import_udev(alloc, rule, from, database, scene),
+        Profile::Manual => import_manual(alloc, rule, from, knowledge, scene),
+        Profile::Udev => import_udev(alloc, rule, from, knowledge, scene),
     }
 }
 
 /// Does what an act asks for, and returns whether it was done; `None` if its text is too long.
-fn perform<L: Lookup>(
+fn perform<K: Knowledge>(
     alloc: Global,
     rule: &Rule,
     act_kind: &ActKind,
-    database: &L,
+    knowledge: &K,
     scene: &mut Scene<'_>,
 ) -> Result<Option<bool>, AllocError>
-    ensures scene { IfOk result (λ done. (scene.new, done) ≡ performed (L.entries database.now) rule.now act_kind.now scene.old) }
+    ensures scene { IfOk result (λ done. (scene.new, done) ≡ performed (K.known knowledge.now) rule.now act_kind.now scene.old) }
     ensures refused { OnErr result (scene.new.state.event ≡ scene.old.state.event) }
 {
     match act_kind {
         ActKind::Test(mask, template) => test(alloc, rule, mask.as_ref(), template, scene),
         ActKind::Program(template) => program(alloc, rule, template, scene),
-        ActKind::Import(from) => import(alloc, rule, from, database, scene),
+        ActKind::Import(from) => import(alloc, rule, from, knowledge, scene),
     }
 }
 
@@ -235,17 +235,17 @@ fn proceeds(done: Option<bool>, profile: Profile, operator: MatchOperator) -> bo
 }
 
 /// Does what an act asks for, and returns whether it was done; if its text is too long, leaves a note and returns `None`.
-fn act_noted<L: Lookup>(
+fn act_noted<K: Knowledge>(
     alloc: Global,
     rule: &Rule,
     act_kind: &ActKind,
-    database: &L,
+    knowledge: &K,
     scene: &mut Scene<'_>,
 ) -> Result<Option<bool>, AllocError>
-    ensures scene { IfOk result (λ done. (scene.new ≡ too_long_noted rule.now act_kind.now done (performed (L.entries database.now) rule.now act_kind.now scene.old).0) × (done ≡ (performed (L.entries database.now) rule.now act_kind.now scene.old).1)) }
+    ensures scene { IfOk result (λ done. (scene.new ≡ too_long_noted rule.now act_kind.now done (performed (K.known knowledge.now) rule.now act_kind.now scene.old).0) × (done ≡ (performed (K.known knowledge.now) rule.now act_kind.now scene.old).1)) }
     ensures refused { OnErr result (scene.new.state.event ≡ scene.old.state.event) }
 {
-    let done = perform(alloc, rule, act_kind, database, scene)?;
+    let done = perform(alloc, rule, act_kind, knowledge, scene)?;
     note_too_long(alloc, rule, act_kind, done, scene)?;
     Ok(done)
 }
@@ -275,18 +275,18 @@ fn act_noted<L: Lookup>(
 ///
 /// If memory runs out, nothing is left of the scene but its event.
 #[tactic(auto, unfolding(crate::specs::Acts::act_step))]
-pub fn act_step<L: Lookup>(
+pub fn act_step<K: Knowledge>(
     alloc: Global,
     rule: &Rule,
     act: &Act,
-    database: &L,
+    knowledge: &K,
     scene: &mut Scene<'_>,
 ) -> Result<bool, AllocError>
-    ensures scene { IfOk result (λ on. (scene.new, on) ≡ act_step (L.entries database.now) rule.now act.now scene.old) }
+    ensures scene { IfOk result (λ on. (scene.new, on) ≡ act_step (K.known knowledge.now) rule.now act.now scene.old) }
     ensures refused { OnErr result (scene.new ≡ blank scene.old.state.event) }
 {
     let profile = scene.state.event.event().profile();
-    match act_noted(alloc, rule, &act.kind, database, scene) {
+    match act_noted(alloc, rule, &act.kind, knowledge, scene) {
         Ok(done) => Ok(proceeds(done, profile, act.operator)),
         Err(refused) => {
             scene.clear(alloc);

@@ -7,13 +7,8 @@ ghost use Rattle.eval_state.specs.Properties.{properties_set};
 ghost use Rattle.eval_acts.specs.BuiltinRuns.{input_id_run, is_address_name, looked_up, most_set, need_noted, need_word, net_id_run, outcome_set, outcome_taken, path_id_run, properties_size, property_size, usb_id_run, with_maker};
 
 use crate::imports::set_as_udev;
-use builtin_devices::BuiltinOutcome;
-use builtin_input::input_id;
-use builtin_net::net_id;
-use builtin_path::path_id;
-use builtin_usb::usb_id;
+use builtin_devices::{BuiltinOutcome, Knowledge};
 use eval_state::{NoteKind, Scene, set_property};
-use hwdb_lookup::Lookup;
 use rule_types::{Builtin, Rule};
 use std::alloc::{AllocError, Global};
 use text_bytes::Bytes;
@@ -116,65 +111,68 @@ fn take_outcome(
 }
 
 /// Runs `usb_id`, unless it has run before.
-pub(crate) fn run_usb_id(
+pub(crate) fn run_usb_id<K: Knowledge>(
     alloc: Global,
     rule: &Rule,
+    knowledge: &K,
     scene: &mut Scene<'_>,
 ) -> Result<bool, AllocError>
-    ensures scene { IfOk result (λ done. (scene.new, done) ≡ usb_id_run scene.old.ran.usb_id rule.now scene.old) }
+    ensures scene { IfOk result (λ done. (scene.new, done) ≡ usb_id_run (K.known knowledge.now) scene.old.ran.usb_id rule.now scene.old) }
     ensures refused { OnErr result (scene.new.state.event ≡ scene.old.state.event) }
 {
     if let Some(done) = scene.ran.usb_id {
         return Ok(done);
     }
     let is_bus_set = scene.state.env.get(b"ID_BUS").is_some();
-    let outcome = usb_id(alloc, scene.state.event.event(), is_bus_set)?;
+    let outcome = knowledge.usb_id(alloc, scene.state.event.event(), is_bus_set)?;
     let done = take_outcome(alloc, rule, Builtin::UsbId, &outcome, scene)?;
     scene.ran.usb_id = Some(done);
     Ok(done)
 }
 
 /// Runs `path_id`, unless it has run before.
-pub(crate) fn run_path_id(
+pub(crate) fn run_path_id<K: Knowledge>(
     alloc: Global,
     rule: &Rule,
+    knowledge: &K,
     scene: &mut Scene<'_>,
 ) -> Result<bool, AllocError>
-    ensures scene { IfOk result (λ done. (scene.new, done) ≡ path_id_run scene.old.ran.path_id rule.now scene.old) }
+    ensures scene { IfOk result (λ done. (scene.new, done) ≡ path_id_run (K.known knowledge.now) scene.old.ran.path_id rule.now scene.old) }
     ensures refused { OnErr result (scene.new.state.event ≡ scene.old.state.event) }
 {
     if let Some(done) = scene.ran.path_id {
         return Ok(done);
     }
-    let outcome = path_id(alloc, scene.state.event.event())?;
+    let outcome = knowledge.path_id(alloc, scene.state.event.event())?;
     let done = take_outcome(alloc, rule, Builtin::PathId, &outcome, scene)?;
     scene.ran.path_id = Some(done);
     Ok(done)
 }
 
 /// Runs `input_id`.
-pub(crate) fn run_input_id(
+pub(crate) fn run_input_id<K: Knowledge>(
     alloc: Global,
     rule: &Rule,
+    knowledge: &K,
     scene: &mut Scene<'_>,
 ) -> Result<bool, AllocError>
-    ensures scene { IfOk result (λ done. (scene.new, done) ≡ input_id_run rule.now scene.old) }
+    ensures scene { IfOk result (λ done. (scene.new, done) ≡ input_id_run (K.known knowledge.now) rule.now scene.old) }
     ensures refused { OnErr result (scene.new.state.event ≡ scene.old.state.event) }
 {
-    let outcome = input_id(alloc, scene.state.event.event())?;
+    let outcome = knowledge.input_id(alloc, scene.state.event.event())?;
     take_outcome(alloc, rule, Builtin::InputId, &outcome, scene)
 }
 
 /// What the hardware database says about a text, if there is one.
-fn found_for<'l, L: Lookup>(
+fn found_for<'k, K: Knowledge>(
     alloc: Global,
-    database: &'l L,
+    knowledge: &'k K,
     text: Option<&[u8]>,
-) -> Result<Vec<(&'l [u8], &'l [u8])>, AllocError>
-    ensures { IfOk result (λ found. shown found.items ≡ looked_up (L.entries database.now) (option_map (λ t. t.now) text.entry)) }
+) -> Result<Vec<(&'k [u8], &'k [u8])>, AllocError>
+    ensures { IfOk result (λ found. shown found.items ≡ looked_up (K.known knowledge.now) (option_map (λ t. t.now) text.entry)) }
 {
     match text {
-        Some(text) => database.query(alloc, text),
+        Some(text) => knowledge.query(alloc, text),
         None => Ok(Vec::new(alloc)),
     }
 }
@@ -231,17 +229,17 @@ fn take_names(
 
 /// Runs `net_id`; right after the name by the device's address it sets what the hardware database says about the
 /// address.
-pub(crate) fn run_net_id<L: Lookup>(
+pub(crate) fn run_net_id<K: Knowledge>(
     alloc: Global,
     rule: &Rule,
-    database: &L,
+    knowledge: &K,
     scene: &mut Scene<'_>,
 ) -> Result<bool, AllocError>
-    ensures scene { IfOk result (λ done. (scene.new, done) ≡ net_id_run (L.entries database.now) rule.now scene.old) }
+    ensures scene { IfOk result (λ done. (scene.new, done) ≡ net_id_run (K.known knowledge.now) rule.now scene.old) }
     ensures refused { OnErr result (scene.new.state.event ≡ scene.old.state.event) }
 {
-    let names = net_id(alloc, scene.state.event.event(), &scene.state.env)?;
+    let names = knowledge.net_id(alloc, scene.state.event.event(), &scene.state.env)?;
     let text = names.lookup.as_ref().map(Bytes::as_slice);
-    let found = found_for(alloc, database, text)?;
+    let found = found_for(alloc, knowledge, text)?;
     take_names(alloc, rule, &names.outcome, &found, scene)
 }

@@ -8,14 +8,13 @@ ghost use Rattle.text_core.specs.Choices.{choice_fits};
 ghost use Rattle.eval_acts.specs.Acts.{from_parent_by};
 ghost use Rattle.eval_acts.specs.Imports.{from_answer, from_parent, from_program, names_fitting, not_run, run_builtin, taken, with_found};
 
-use crate::builtin::Builtin;
 use crate::builtin_runs::{run_input_id, run_net_id, run_path_id, run_usb_id};
 use crate::lookups::{look_up, look_up_request};
 use crate::printed::set_printed;
-use crate::request::{other_name, request_of};
+use builtin_devices::Knowledge;
 use device_core::ProgramAnswer;
+use eval_commands::{Builtin, other_name, request_of};
 use eval_state::{NoteKind, Scene, set_property};
-use hwdb_lookup::Lookup;
 use rule_types::{ImportType, Rule};
 use std::alloc::{AllocError, Global};
 use text_bytes::Profile;
@@ -76,14 +75,14 @@ fn take(alloc: Global, found: &[(&[u8], &[u8])], scene: &mut Scene<'_>) -> Resul
 }
 
 /// Runs the builtin of a command, if it is one that is run.
-pub(crate) fn run_builtin<L: Lookup>(
+pub(crate) fn run_builtin<K: Knowledge>(
     alloc: Global,
     rule: &Rule,
     command: &[u8],
-    database: &L,
+    knowledge: &K,
     scene: &mut Scene<'_>,
 ) -> Result<bool, AllocError>
-    ensures scene { IfOk result (λ done. (scene.new, done) ≡ run_builtin (L.entries database.now) rule.now command.now scene.old) }
+    ensures scene { IfOk result (λ done. (scene.new, done) ≡ run_builtin (K.known knowledge.now) rule.now command.now scene.old) }
     ensures refused { OnErr result (scene.new.state.event ≡ scene.old.state.event) }
 {
     let profile = scene.state.event.event().profile();
@@ -92,18 +91,18 @@ pub(crate) fn run_builtin<L: Lookup>(
         return Ok(false);
     }
     if let Some(request) = request_of(profile, command) {
-        let found = look_up_request(alloc, &request, &scene.state, database)?;
+        let found = look_up_request(alloc, &request, &scene.state, knowledge)?;
         return take(alloc, &found, scene);
     }
     match Builtin::read(alloc, profile, command)? {
         Builtin::Hwdb(hwdb) => {
-            let found = look_up(alloc, &hwdb, &scene.state, database)?;
+            let found = look_up(alloc, &hwdb, &scene.state, knowledge)?;
             take(alloc, &found, scene)
         }
-        Builtin::InputId => run_input_id(alloc, rule, scene),
-        Builtin::NetId => run_net_id(alloc, rule, database, scene),
-        Builtin::PathId => run_path_id(alloc, rule, scene),
-        Builtin::UsbId => run_usb_id(alloc, rule, scene),
+        Builtin::InputId => run_input_id(alloc, rule, knowledge, scene),
+        Builtin::NetId => run_net_id(alloc, rule, knowledge, scene),
+        Builtin::PathId => run_path_id(alloc, rule, knowledge, scene),
+        Builtin::UsbId => run_usb_id(alloc, rule, knowledge, scene),
         Builtin::Other(name) => {
             scene.note(alloc, rule, NoteKind::BuiltinNotRun, name.as_slice())?;
             Ok(false)

@@ -1,4 +1,4 @@
-//! What `hwdb` finds in a hardware database.
+//! What `hwdb` finds in the hardware database.
 ghost use Rattle.std.specs.Prelude.{◌≡◌, ◌++◌, map, option_map, filter, IfOk};
 ghost use Rattle.hwdb_lookup.specs.Query.{query, shown};
 ghost use Rattle.text_core.specs.Fits.{fits};
@@ -6,11 +6,10 @@ ghost use Rattle.eval_acts.specs.Inner.{answer_of, candidates_as};
 ghost use Rattle.eval_acts.specs.LookUps.{candidates, counted_properties, counts, found, modaliases_by, modaliases_of, udev_modaliases_of};
 
 use crate::candidates::{candidates, udev_modaliases_of};
-use crate::hwdb::Hwdb;
-use crate::request::Request;
 use crate::seen::modaliases_of;
+use builtin_devices::Knowledge;
+use eval_commands::{Hwdb, Request};
 use eval_state::State;
-use hwdb_lookup::Lookup;
 use std::alloc::{AllocError, Global};
 use text_bytes::Profile;
 use text_core::Pattern;
@@ -26,27 +25,27 @@ fn prefixed(alloc: Global, prefix: &[u8], modalias: &[u8]) -> Result<Vec<u8>, Al
 }
 
 /// The properties of a modalias after a prefix.
-fn properties<'l, L: Lookup>(
+fn properties<'k, K: Knowledge>(
     alloc: Global,
     prefix: &[u8],
     modalias: &[u8],
-    database: &'l L,
-) -> Result<Vec<(&'l [u8], &'l [u8])>, AllocError>
-    ensures { IfOk result (λ found. shown found.items ≡ query (L.entries database.now) (prefix.now ++ modalias.now)) }
+    knowledge: &'k K,
+) -> Result<Vec<(&'k [u8], &'k [u8])>, AllocError>
+    ensures { IfOk result (λ found. shown found.items ≡ query (K.known knowledge.now).entries (prefix.now ++ modalias.now)) }
 {
     if prefix.is_empty() {
-        return database.query(alloc, modalias);
+        return knowledge.query(alloc, modalias);
     }
     let text = prefixed(alloc, prefix, modalias)?;
-    database.query(alloc, &text)
+    knowledge.query(alloc, &text)
 }
 
 /// Those of these properties whose keys fit a pattern.
-fn fitting<'l>(
+fn fitting<'k>(
     alloc: Global,
     pattern: &Pattern,
-    found: &[(&'l [u8], &'l [u8])],
-) -> Result<Vec<(&'l [u8], &'l [u8])>, AllocError>
+    found: &[(&'k [u8], &'k [u8])],
+) -> Result<Vec<(&'k [u8], &'k [u8])>, AllocError>
     ensures { IfOk result (λ kept. shown kept.items ≡ filter (λ property. fits pattern.now property.0) (shown found.now)) }
 {
     let mut kept = Vec::new(alloc);
@@ -59,11 +58,11 @@ fn fitting<'l>(
 }
 
 /// Those of these properties that count: those whose keys fit the filter, if there is one.
-fn counted<'l>(
+fn counted<'k>(
     alloc: Global,
     pattern: Option<&Pattern>,
-    found: Vec<(&'l [u8], &'l [u8])>,
-) -> Result<Vec<(&'l [u8], &'l [u8])>, AllocError>
+    found: Vec<(&'k [u8], &'k [u8])>,
+) -> Result<Vec<(&'k [u8], &'k [u8])>, AllocError>
     ensures { IfOk result (λ kept. shown kept.items ≡ filter (λ property. counts (option_map (λ p. p.now) pattern.entry) property.0) (shown found.entry.items)) }
 {
     match pattern {
@@ -73,29 +72,29 @@ fn counted<'l>(
 }
 
 /// The properties of a modalias that count.
-fn counted_properties<'l, L: Lookup>(
+fn counted_properties<'k, K: Knowledge>(
     alloc: Global,
     request: &Request<'_>,
     modalias: &[u8],
-    database: &'l L,
-) -> Result<Vec<(&'l [u8], &'l [u8])>, AllocError>
-    ensures { IfOk result (λ kept. shown kept.items ≡ counted_properties (L.entries database.now) request.now (request.now.prefix ++ modalias.now)) }
+    knowledge: &'k K,
+) -> Result<Vec<(&'k [u8], &'k [u8])>, AllocError>
+    ensures { IfOk result (λ kept. shown kept.items ≡ counted_properties (K.known knowledge.now) request.now (request.now.prefix ++ modalias.now)) }
 {
-    let found = properties(alloc, request.prefix, modalias, database)?;
+    let found = properties(alloc, request.prefix, modalias, knowledge)?;
     counted(alloc, request.filter, found)
 }
 
 /// The answer to the first of these modaliases that has one.
-fn first_answer<'l, L: Lookup>(
+fn first_answer<'k, K: Knowledge>(
     alloc: Global,
     request: &Request<'_>,
     modaliases: &[&[u8]],
-    database: &'l L,
-) -> Result<Vec<(&'l [u8], &'l [u8])>, AllocError>
-    ensures { IfOk result (λ properties. shown properties.items ≡ answer_of (L.entries database.now) request.now (map (λ m. m.now) modaliases.now)) }
+    knowledge: &'k K,
+) -> Result<Vec<(&'k [u8], &'k [u8])>, AllocError>
+    ensures { IfOk result (λ properties. shown properties.items ≡ answer_of (K.known knowledge.now) request.now (map (λ m. m.now) modaliases.now)) }
 {
     for modalias in modaliases {
-        let properties = counted_properties(alloc, request, modalias, database)?;
+        let properties = counted_properties(alloc, request, modalias, knowledge)?;
         if !properties.as_slice().is_empty() {
             return Ok(properties);
         }
@@ -104,60 +103,60 @@ fn first_answer<'l, L: Lookup>(
 }
 
 /// What is found for the devices of an event by the manual.
-fn found_by_manual<'l, L: Lookup>(
+fn found_by_manual<'k, K: Knowledge>(
     alloc: Global,
     request: &Request<'_>,
     state: &State<'_>,
-    database: &'l L,
-) -> Result<Vec<(&'l [u8], &'l [u8])>, AllocError>
-    ensures { IfOk result (λ properties. shown properties.items ≡ answer_of (L.entries database.now) request.now (modaliases_of request.now.subsystem (candidates_as Profile.Manual state.now))) }
+    knowledge: &'k K,
+) -> Result<Vec<(&'k [u8], &'k [u8])>, AllocError>
+    ensures { IfOk result (λ properties. shown properties.items ≡ answer_of (K.known knowledge.now) request.now (modaliases_of request.now.subsystem (candidates_as Profile.Manual state.now))) }
 {
     let modaliases = modaliases_of(alloc, request.subsystem, state)?;
-    first_answer(alloc, request, &modaliases, database)
+    first_answer(alloc, request, &modaliases, knowledge)
 }
 
 /// What is found for the devices of an event as udev looks at them.
-fn found_by_udev<'l, L: Lookup>(
+fn found_by_udev<'k, K: Knowledge>(
     alloc: Global,
     request: &Request<'_>,
     state: &State<'_>,
-    database: &'l L,
-) -> Result<Vec<(&'l [u8], &'l [u8])>, AllocError>
-    ensures { IfOk result (λ properties. shown properties.items ≡ answer_of (L.entries database.now) request.now (udev_modaliases_of request.now.subsystem (candidates_as Profile.Udev state.now))) }
+    knowledge: &'k K,
+) -> Result<Vec<(&'k [u8], &'k [u8])>, AllocError>
+    ensures { IfOk result (λ properties. shown properties.items ≡ answer_of (K.known knowledge.now) request.now (udev_modaliases_of request.now.subsystem (candidates_as Profile.Udev state.now))) }
 {
     let devices = candidates(alloc, state)?;
     let modaliases = udev_modaliases_of(alloc, request.subsystem, &devices)?;
-    first_answer(alloc, request, &modaliases, database)
+    first_answer(alloc, request, &modaliases, knowledge)
 }
 
 /// What is found for the devices of an event.
-fn found_for_devices<'l, L: Lookup>(
+fn found_for_devices<'k, K: Knowledge>(
     alloc: Global,
     request: &Request<'_>,
     state: &State<'_>,
-    database: &'l L,
-) -> Result<Vec<(&'l [u8], &'l [u8])>, AllocError>
-    ensures { IfOk result (λ properties. shown properties.items ≡ answer_of (L.entries database.now) request.now (modaliases_by state.now.event.profile request.now.subsystem (candidates state.now))) }
+    knowledge: &'k K,
+) -> Result<Vec<(&'k [u8], &'k [u8])>, AllocError>
+    ensures { IfOk result (λ properties. shown properties.items ≡ answer_of (K.known knowledge.now) request.now (modaliases_by state.now.event.profile request.now.subsystem (candidates state.now))) }
 {
     match state.event.event().profile() {
-        Profile::Manual => found_by_manual(alloc, request, state, database),
-        Profile::Udev => found_by_udev(alloc, request, state, database),
+        Profile::Manual => found_by_manual(alloc, request, state, knowledge),
+        Profile::Udev => found_by_udev(alloc, request, state, knowledge),
     }
 }
 
 /// What is found for an event by a request.
 #[tactic(auto, unfolding(crate::specs::LookUps::found))]
-pub(crate) fn look_up_request<'l, L: Lookup>(
+pub(crate) fn look_up_request<'k, K: Knowledge>(
     alloc: Global,
     request: &Request<'_>,
     state: &State<'_>,
-    database: &'l L,
-) -> Result<Vec<(&'l [u8], &'l [u8])>, AllocError>
-    ensures { IfOk result (λ properties. shown properties.items ≡ found (L.entries database.now) request.now state.now) }
+    knowledge: &'k K,
+) -> Result<Vec<(&'k [u8], &'k [u8])>, AllocError>
+    ensures { IfOk result (λ properties. shown properties.items ≡ found (K.known knowledge.now) request.now state.now) }
 {
     match request.modalias {
-        Some(modalias) => first_answer(alloc, request, &[modalias], database),
-        None => found_for_devices(alloc, request, state, database),
+        Some(modalias) => first_answer(alloc, request, &[modalias], knowledge),
+        None => found_for_devices(alloc, request, state, knowledge),
     }
 }
 
@@ -171,13 +170,13 @@ pub(crate) fn look_up_request<'l, L: Lookup>(
 /// In an event of udev's (systemd 257) DEVTYPE is what the kernel said, and a USB device without MODALIAS has
 /// `usb:vVVVVpPPPP:NAME`, made of its attributes idVendor, idProduct and product, if the first two are numbers in
 /// base 16 up to FFFF. If it does not have these either, the next device with a modalias is the last one looked at.
-pub fn look_up<'l, L: Lookup>(
+pub fn look_up<'k, K: Knowledge>(
     alloc: Global,
     hwdb: &Hwdb,
     state: &State<'_>,
-    database: &'l L,
-) -> Result<Vec<(&'l [u8], &'l [u8])>, AllocError>
-    ensures { IfOk result (λ properties. shown properties.items ≡ found (L.entries database.now) hwdb.now state.now) }
+    knowledge: &'k K,
+) -> Result<Vec<(&'k [u8], &'k [u8])>, AllocError>
+    ensures { IfOk result (λ properties. shown properties.items ≡ found (K.known knowledge.now) hwdb.now state.now) }
 {
-    look_up_request(alloc, &Request::of(hwdb), state, database)
+    look_up_request(alloc, &Request::of(hwdb), state, knowledge)
 }

@@ -5,7 +5,7 @@ ghost use Rattle.text_bytes.specs.Names.{is_blank};
 ghost use Rattle.eval_state.specs.Properties.{properties_set};
 ghost use Rattle.eval_acts.specs.Printed.{bare, before_end, ends_line, line_property, property_of, printed_properties, unquoted};
 
-use crate::words::is_quote;
+use eval_commands::is_quote;
 use eval_state::set_property;
 use std::alloc::{AllocError, Global};
 use text_bytes::{begins_with, ends_in, is_blank, split_once, unindented};

@@ -12,7 +12,7 @@ use Rattle.text_bytes.specs.declared.profile.Profile.{Profile}
 use Rattle.text_bytes.specs.declared.profile.Profile.TheVariants.{Manual, Udev}
 use Rattle.text_tables.specs.Texts.{Text, same_text}
 use Rattle.text_tables.specs.Pairs.{value_of}
-use Rattle.hwdb_lookup.specs.declared.entry.Entry.{Entry}
+use Rattle.builtin_devices.specs.Knowledge.{Known}
 use Rattle.rule_types.specs.declared.roles.MatchOperator.{MatchOperator}
 use Rattle.rule_types.specs.declared.roles.MatchOperator.TheVariants.{Equal, NotEqual}
 use Rattle.rule_types.specs.declared.roles.PlainKey.{PlainKey}
@@ -75,14 +75,14 @@ done r h =
     let rest = both (is_empty r.acts) (is_empty r.results) last.0 in
     record { acts = none_left r.acts rest.0; results = none_left r.results rest.1; sets = none_left r.sets last.1 }
 
-module _ (es : List Entry) (r : Rule) (s : Scene) where
+module _ (knows : Known) (r : Rule) (s : Scene) where
   -- what follows the matches of the event
-  ended : r.up ≡ [] → IsDone r → walk (plain_step r) r.plain s ≡ (s, true) → steps es r s ≡ (s, true)
+  ended : r.up ≡ [] → IsDone r → walk (plain_step r) r.plain s ≡ (s, true) → steps knows r s ≡ (s, true)
   unfolding steps walk
   ended none is first =
-      ap (λ (w : Went). if_proceeding (set_all r) (if_proceeding (walk result_step r.results) (if_proceeding (walk (act_step es r) r.acts) (if_proceeding (search r.up) w)))) first
-      ∙ ap (λ (parts : List UpMatch). if_proceeding (set_all r) (if_proceeding (walk result_step r.results) (if_proceeding (walk (act_step es r) r.acts) (search parts s)))) none
-      ∙ ap (λ (parts : List Act). if_proceeding (set_all r) (if_proceeding (walk result_step r.results) (walk (act_step es r) parts s))) is.acts
+      ap (λ (w : Went). if_proceeding (set_all r) (if_proceeding (walk result_step r.results) (if_proceeding (walk (act_step knows r) r.acts) (if_proceeding (search r.up) w)))) first
+      ∙ ap (λ (parts : List UpMatch). if_proceeding (set_all r) (if_proceeding (walk result_step r.results) (if_proceeding (walk (act_step knows r) r.acts) (search parts s)))) none
+      ∙ ap (λ (parts : List Act). if_proceeding (set_all r) (if_proceeding (walk result_step r.results) (walk (act_step knows r) parts s))) is.acts
       ∙ ap (λ (parts : List Comparison). if_proceeding (set_all r) (walk result_step parts s)) is.results
       ∙ ap (λ (parts : List Assignment). (fold (set_step r) s parts, true)) is.sets
 
@@ -98,12 +98,12 @@ module _ (es : List Entry) (r : Rule) (s : Scene) where
       ∙ ap (λ b. if_proceeding (walk (plain_step r) []) (s, b)) holds_so
 
   -- a rule that searches for one device and finds none
-  stranded : (part : UpMatch) (parts : List UpMatch) → r.plain ≡ [] → r.up ≡ part ∷ parts → found_place (part ∷ parts) s.state ≡ None → steps es r s ≡ (record s { state = with_selected None s.state }, false)
+  stranded : (part : UpMatch) (parts : List UpMatch) → r.plain ≡ [] → r.up ≡ part ∷ parts → found_place (part ∷ parts) s.state ≡ None → steps knows r s ≡ (record s { state = with_selected None s.state }, false)
   unfolding steps walk
   stranded part parts plain ups none =
-      ap (λ (w : Went). if_proceeding (set_all r) (if_proceeding (walk result_step r.results) (if_proceeding (walk (act_step es r) r.acts) (if_proceeding (search r.up) w)))) (none_walked plain)
-      ∙ ap (λ (us : List UpMatch). if_proceeding (set_all r) (if_proceeding (walk result_step r.results) (if_proceeding (walk (act_step es r) r.acts) (search us s)))) ups
-      ∙ ap (λ (place : Option ℕ). if_proceeding (set_all r) (if_proceeding (walk result_step r.results) (if_proceeding (walk (act_step es r) r.acts) (record s { state = with_selected place s.state }, is_some place)))) none
+      ap (λ (w : Went). if_proceeding (set_all r) (if_proceeding (walk result_step r.results) (if_proceeding (walk (act_step knows r) r.acts) (if_proceeding (search r.up) w)))) (none_walked plain)
+      ∙ ap (λ (us : List UpMatch). if_proceeding (set_all r) (if_proceeding (walk result_step r.results) (if_proceeding (walk (act_step knows r) r.acts) (search us s)))) ups
+      ∙ ap (λ (place : Option ℕ). if_proceeding (set_all r) (if_proceeding (walk result_step r.results) (if_proceeding (walk (act_step knows r) r.acts) (record s { state = with_selected place s.state }, is_some place)))) none
 
 -- ---- what no device has
 
@@ -197,10 +197,10 @@ held_at wanted action place e b at =
 
 -- ---- a rule by its course
 
-module _ (es : List Entry) (names : List Text) (r : Rule) (s : Scene) (manual : s.state.event.profile ≡ Manual) where
+module _ (knows : Known) (names : List Text) (r : Rule) (s : Scene) (manual : s.state.event.profile ≡ Manual) where
   -- what a fate says
   abbrev Comes : Fate → Type 0
-  Comes fate = as_predicted fate s (steps es r s) ≡ steps es r s
+  Comes fate = as_predicted fate s (steps knows r s) ≡ steps knows r s
 
   abbrev Known : Course → Type 0
   Known course = Comes (predicted (action_place s.state.event.action) (seen names s.state.event) (marks s.state.event) course)
@@ -211,7 +211,7 @@ module _ (es : List Entry) (names : List Text) (r : Rule) (s : Scene) (manual : 
       holds_by : (check : Check) → part.wanted.operator ≡ NotEqual → choice_check names part.key part.wanted.choice ≡ Some check → (b : Bool) → is_ruled_out (seen names s.state.event) (Some check) ≡ b → Comes (cond b Reached Unknown)
       holds_by check o c true out =
           let misses = missed names r s manual part.key part.wanted (ap (is_ruled_out (seen names s.state.event)) c ∙ out) in
-          sym (ended es r s ups is (one_walked es r s part plain misses.0 (misses.1 ∙ ap (λ o. agrees o false) o)))
+          sym (ended knows r s ups is (one_walked knows r s part plain misses.0 (misses.1 ∙ ap (λ o. agrees o false) o)))
       holds_by check o c false out = refl
 
       by : (o : MatchOperator) → part.wanted.operator ≡ o → (c : Option Check) → choice_check names part.key part.wanted.choice ≡ c → Known (guarded (unequal_check o c))
@@ -220,7 +220,7 @@ module _ (es : List Entry) (names : List Text) (r : Rule) (s : Scene) (manual : 
       by NotEqual o (Some check) e = holds_by check o e (is_ruled_out (seen names s.state.event) (Some check)) refl
 
   at_plain : (parts : List PlainMatch) → r.plain ≡ parts → r.up ≡ [] → IsDone r → Known (guard_in names parts)
-  at_plain [] plain ups is = sym (ended es r s ups is (none_walked es r s plain))
+  at_plain [] plain ups is = sym (ended knows r s ups is (none_walked knows r s plain))
   at_plain (part ∷ []) plain ups is = at_guard part ups is plain
   at_plain (part ∷ other ∷ parts) plain ups is = refl
 
@@ -229,7 +229,7 @@ module _ (es : List Entry) (names : List Text) (r : Rule) (s : Scene) (manual : 
   at_mark part parts m plain ups none = by (is_lacking (slice_get (marks s.state.event) m)) refl
     where
       by : (b : Bool) → is_lacking (slice_get (marks s.state.event) m) ≡ b → Comes (cond b NotFound Unknown)
-      by true lacks = sym (stranded es r s part parts plain ups (none lacks))
+      by true lacks = sym (stranded knows r s part parts plain ups (none lacks))
       by false lacks = refl
 
   at_search : (part : UpMatch) (parts : List UpMatch) → r.up ≡ part ∷ parts → (plain : List PlainMatch) → r.plain ≡ plain → Known (search_in plain (part ∷ parts) part)
@@ -263,7 +263,7 @@ module _ (es : List Entry) (names : List Text) (r : Rule) (s : Scene) (manual : 
   at_checked = by (check_of names r) refl
     where
       fails : (check : Check) → check_of names r ≡ Some check → (b : Bool) → is_ruled_out (seen names s.state.event) (Some check) ≡ b → Comes (cond b Failed Unknown)
-      fails check e true out = sym (ruled_out es names r s manual (ap (is_ruled_out (seen names s.state.event)) e ∙ out))
+      fails check e true out = sym (ruled_out knows names r s manual (ap (is_ruled_out (seen names s.state.event)) e ∙ out))
       fails check e false out = refl
 
       by : (check : Option Check) → check_of names r ≡ check → Known (course_by names r check)
@@ -290,12 +290,12 @@ module _ (es : List Entry) (names : List Text) (r : Rule) (s : Scene) (manual : 
           let last = both (is_empty parts && is_empty r.up) (has_no_more r) e in
           let first = both (is_empty parts) (is_empty r.up) last.0 in
           let only : r.plain ≡ part ∷ [] = plain ∙ ap (λ (ps : List PlainMatch). part ∷ ps) (none_left parts first.0) in
-          sym (ended es r s (none_left r.up first.1) (done r last.1) (one_walked es r s part only leaves (met ∙ is)))
+          sym (ended knows r s (none_left r.up first.1) (done r last.1) (one_walked knows r s part only leaves (met ∙ is)))
 
       so : (held : Option Bool) → ((b : Bool) → held ≡ Some b → holds (one s.state.event.action) part.wanted ≡ b) → Comes (told held alone)
       so None is = refl
       so (Some true) is = reached (is true refl) alone refl
-      so (Some false) is = sym (stops es r s part parts plain leaves (met ∙ is false refl))
+      so (Some false) is = sym (stops knows r s part parts plain leaves (met ∙ is false refl))
 
       by : (place : Option ℕ) → action_place s.state.event.action ≡ place → Comes (told_by place (record { held = held_for part.wanted; is_guard = alone }))
       by None e = refl
@@ -313,38 +313,38 @@ module _ (es : List Entry) (names : List Text) (r : Rule) (s : Scene) (manual : 
           with_key other k = at_checked
 
 -- by the manual a rule goes through its steps
-passes_through : (es : List Entry) (r : Rule) (s : Scene) → s.state.event.profile ≡ Manual → apply es r s ≡ steps es r s
+passes_through : (knows : Known) (r : Rule) (s : Scene) → s.state.event.profile ≡ Manual → apply knows r s ≡ steps knows r s
 unfolding apply is_idle_by
-passes_through es r s manual = ap (λ by. cond (is_idle_by by r s.state.event) (only_noted es r s) (steps es r s)) manual
+passes_through knows r s manual = ap (λ by. cond (is_idle_by by r s.state.event) (only_noted knows r s) (steps knows r s)) manual
 
 -- what is known of a rule by its course comes so
-pub comes_so : (es : List Entry) (names : List Text) (event : EventValue) (r : Rule) (s : Scene) → s.state.event ≡ event
-    → as_predicted (predicted_by event.profile (action_place event.action) (seen names event) (marks event) (course_of names r)) s (apply es r s) ≡ apply es r s
-comes_so es names event r s same = by event.profile refl
+pub comes_so : (knows : Known) (names : List Text) (event : EventValue) (r : Rule) (s : Scene) → s.state.event ≡ event
+    → as_predicted (predicted_by event.profile (action_place event.action) (seen names event) (marks event) (course_of names r)) s (apply knows r s) ≡ apply knows r s
+comes_so knows names event r s same = by event.profile refl
   where
-    by : (profile : Profile) → event.profile ≡ profile → as_predicted (predicted_by profile (action_place event.action) (seen names event) (marks event) (course_of names r)) s (apply es r s) ≡ apply es r s
+    by : (profile : Profile) → event.profile ≡ profile → as_predicted (predicted_by profile (action_place event.action) (seen names event) (marks event) (course_of names r)) s (apply knows r s) ≡ apply knows r s
     by Udev e = refl
     by Manual e =
         let manual : s.state.event.profile ≡ Manual = ap (λ (v : EventValue). v.profile) same ∙ e in
-        let through : apply es r s ≡ steps es r s = passes_through es r s manual in
+        let through : apply knows r s ≡ steps knows r s = passes_through knows r s manual in
         ap (as_predicted (predicted (action_place event.action) (seen names event) (marks event) (course_of names r)) s) through
-        ∙ ap (λ (v : EventValue). as_predicted (predicted (action_place v.action) (seen names v) (marks v) (course_of names r)) s (steps es r s)) (sym same)
-        ∙ at_course es names r s manual
+        ∙ ap (λ (v : EventValue). as_predicted (predicted (action_place v.action) (seen names v) (marks v) (course_of names r)) s (steps knows r s)) (sym same)
+        ∙ at_course knows names r s manual
         ∙ sym through
 
 -- what is foretold of the rule at a place comes so
-pub predicted_so : (es : List Entry) (names : List Text) (event : EventValue) (rules : List Rule) (courses : List Course) (reported : List (Option ℕ)) (found : List Bool) (profile : Profile) (action : Option ℕ) (place : ℕ) (r : Rule) (d : Course) (s : Scene) (fate : Fate)
+pub predicted_so : (knows : Known) (names : List Text) (event : EventValue) (rules : List Rule) (courses : List Course) (reported : List (Option ℕ)) (found : List Bool) (profile : Profile) (action : Option ℕ) (place : ℕ) (r : Rule) (d : Course) (s : Scene) (fate : Fate)
     → place < length rules → s.state.event ≡ event → courses ≡ map (course_of names) rules → reported ≡ seen names event → found ≡ marks event → profile ≡ event.profile → action ≡ action_place event.action
     → fate ≡ predicted_by profile action reported found (get_or courses place d)
-    → as_predicted fate s (apply es (get_or rules place r) s) ≡ apply es (get_or rules place r) s
-predicted_so es names event rules courses reported found profile action place r d s fate within same known is are by acts to =
+    → as_predicted fate s (apply knows (get_or rules place r) s) ≡ apply knows (get_or rules place r) s
+predicted_so knows names event rules courses reported found profile action place r d s fate within same known is are by acts to =
     let rule : Rule = get_or rules place r in
     let course : get_or courses place d ≡ course_of names rule = ap (λ cs. get_or cs place d) known ∙ get_or-map (course_of names) rules place r d within in
-    ap (λ f. as_predicted f s (apply es rule s))
+    ap (λ f. as_predicted f s (apply knows rule s))
     (to
     ∙ ap (λ p. predicted_by p action reported found (get_or courses place d)) by
     ∙ ap (λ a. predicted_by event.profile a reported found (get_or courses place d)) acts
     ∙ ap (λ t. predicted_by event.profile (action_place event.action) t found (get_or courses place d)) is
     ∙ ap (λ k. predicted_by event.profile (action_place event.action) (seen names event) k (get_or courses place d)) are
     ∙ ap (predicted_by event.profile (action_place event.action) (seen names event) (marks event)) course)
-    ∙ comes_so es names event rule s same
+    ∙ comes_so knows names event rule s same

@@ -13,7 +13,7 @@ use Rattle.text_tables.specs.Pairs.{value_of}
 use Rattle.text_core.specs.Choices.{choice_fits}
 use Rattle.text_core.specs.declared.item.Item.{Item}
 use Rattle.text_core.specs.declared.item.Item.TheVariants as item
-use Rattle.hwdb_lookup.specs.declared.entry.Entry.{Entry}
+use Rattle.builtin_devices.specs.Knowledge.{Known}
 use Rattle.rule_types.specs.declared.roles.MatchOperator.{MatchOperator}
 use Rattle.rule_types.specs.declared.roles.MatchOperator.TheVariants.{Equal, NotEqual}
 use Rattle.rule_types.specs.declared.roles.PlainKey.{PlainKey}
@@ -167,26 +167,26 @@ module _ (names : List Text) (r : Rule) (s : Scene) (manual : s.state.event.prof
 -- ---- a rule
 
 -- a rule whose first match leaves nothing and does not hold
-pub stops : (es : List Entry) (r : Rule) (s : Scene) (part : PlainMatch) (parts : List PlainMatch) → r.plain ≡ part ∷ parts → match_reached r part.key s ≡ s → holds (plain_subject part.key s.state) part.wanted ≡ false
-    → steps es r s ≡ (s, false)
+pub stops : (known : Known) (r : Rule) (s : Scene) (part : PlainMatch) (parts : List PlainMatch) → r.plain ≡ part ∷ parts → match_reached r part.key s ≡ s → holds (plain_subject part.key s.state) part.wanted ≡ false
+    → steps known r s ≡ (s, false)
 unfolding steps walk plain_step
-stops es r s part parts plain leaves fails =
+stops known r s part parts plain leaves fails =
     let first : walk (plain_step r) r.plain s ≡ (s, false) =
     ap (λ ps. walk (plain_step r) ps s) plain
     ∙ ap (λ (t : Scene). if_proceeding (walk (plain_step r) parts) (t, holds (plain_subject part.key s.state) part.wanted)) leaves
     ∙ ap (λ b. if_proceeding (walk (plain_step r) parts) (s, b)) fails in
-    ap (λ w. if_proceeding (set_all r) (if_proceeding (walk result_step r.results) (if_proceeding (walk (act_step es r) r.acts) (if_proceeding (search r.up) w)))) first
+    ap (λ w. if_proceeding (set_all r) (if_proceeding (walk result_step r.results) (if_proceeding (walk (act_step known r) r.acts) (if_proceeding (search r.up) w)))) first
 
 -- a rule that is ruled out changes nothing, and its end is not reached
-pub ruled_out : (es : List Entry) (names : List Text) (r : Rule) (s : Scene) → s.state.event.profile ≡ Manual → is_ruled_out (seen names s.state.event) (check_of names r) ≡ true → steps es r s ≡ (s, false)
-ruled_out es names r s manual h = by r.plain refl h
+pub ruled_out : (known : Known) (names : List Text) (r : Rule) (s : Scene) → s.state.event.profile ≡ Manual → is_ruled_out (seen names s.state.event) (check_of names r) ≡ true → steps known r s ≡ (s, false)
+ruled_out known names r s manual h = by r.plain refl h
   where
-    by : (parts : List PlainMatch) → r.plain ≡ parts → is_ruled_out (seen names s.state.event) (check_in names parts) ≡ true → steps es r s ≡ (s, false)
+    by : (parts : List PlainMatch) → r.plain ≡ parts → is_ruled_out (seen names s.state.event) (check_in names parts) ≡ true → steps known r s ≡ (s, false)
     by [] plain k = nothing_known k
     by (part ∷ parts) plain k = fails part.wanted.operator refl k
       where
-        fails : (o : MatchOperator) → part.wanted.operator ≡ o → is_ruled_out (seen names s.state.event) (equal_check o (choice_check names part.key part.wanted.choice)) ≡ true → steps es r s ≡ (s, false)
+        fails : (o : MatchOperator) → part.wanted.operator ≡ o → is_ruled_out (seen names s.state.event) (equal_check o (choice_check names part.key part.wanted.choice)) ≡ true → steps known r s ≡ (s, false)
         fails Equal e k =
             let misses = missed names r s manual part.key part.wanted k in
-            stops es r s part parts plain misses.0 (misses.1 ∙ ap (λ o. agrees o false) e)
+            stops known r s part parts plain misses.0 (misses.1 ∙ ap (λ o. agrees o false) e)
         fails NotEqual e k = nothing_known k

@@ -27,12 +27,12 @@ mod running;
 mod seen;
 mod sketches;
 
+pub use builtin_devices::Knowledge;
 pub use device_core::Event;
 pub use eval_rendering::{Mode, Rendered, render};
 pub use eval_rules::{Command, Commands, Outcome, apply, evaluate_plain, finish};
 pub use eval_state::{Chain, Label, Labels, Note, NoteKind, Notes, Scene, State};
 pub use heads::{exact_head, first_byte};
-pub use hwdb_lookup::Lookup;
 pub use program::{Program, compile};
 pub use rule_types::{Rule, RuleSet, RunType};
 pub use sketches::{exact_sketch, sketch};

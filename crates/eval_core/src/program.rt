@@ -6,10 +6,10 @@ ghost use Rattle.eval_core.specs.Layout.{IsLaidOut};
 use crate::checks::first_attributes;
 use crate::courses::{Course, courses};
 use crate::running::{Layout, run};
+use builtin_devices::Knowledge;
 use device_core::Event;
 use eval_rules::{Outcome, finish};
 use eval_state::Scene;
-use hwdb_lookup::Lookup;
 use rule_jumps::skipped;
 use rule_types::{Rule, RuleSet};
 use std::alloc::{AllocError, Global};
@@ -56,17 +56,17 @@ pub fn compile(alloc: Global, rules: RuleSet) -> Result<Program, AllocError>
 }
 
 /// The outcome of an event; the rules and the event are borrowed for the same lifetime.
-fn evaluate<'a, L: Lookup>(
+fn evaluate<'a, K: Knowledge>(
     alloc: Global,
     layout: Layout<'a>,
     event: &'a Event<'_>,
-    lookup: &L,
+    knowledge: &K,
 ) -> Result<Outcome<'a>, AllocError>
     requires { IsLaidOut layout.rules.now layout.passes.now layout.names.now layout.courses.now }
-    ensures { IfOk result (λ answer. answer ≡ outcome layout.entry.rules.now (L.entries lookup.now) event.now) }
+    ensures { IfOk result (λ answer. answer ≡ outcome layout.entry.rules.now (K.known knowledge.now) event.now) }
 {
     let mut scene = Scene::new(alloc, event)?;
-    match run(alloc, layout, lookup, &mut scene) {
+    match run(alloc, layout, knowledge, &mut scene) {
         Ok(()) => finish(alloc, scene),
         Err(refused) => {
             drop(scene);
@@ -77,13 +77,13 @@ fn evaluate<'a, L: Lookup>(
 
 impl Program {
     /// The outcome of an event by the rules, as `evaluate_plain` has it.
-    pub fn evaluate<'a, L: Lookup>(
+    pub fn evaluate<'a, K: Knowledge>(
         &'a self,
         alloc: Global,
         event: &'a Event<'_>,
-        lookup: &L,
+        knowledge: &K,
     ) -> Result<Outcome<'a>, AllocError>
-        ensures { IfOk result (λ answer. answer ≡ outcome self.now (L.entries lookup.now) event.now) }
+        ensures { IfOk result (λ answer. answer ≡ outcome self.now (K.known knowledge.now) event.now) }
     {
         let layout = Layout {
             rules: &self.rules,
@@ -91,6 +91,6 @@ impl Program {
             names: &self.names,
             courses: &self.courses,
         };
-        evaluate(alloc, layout, event, lookup)
+        evaluate(alloc, layout, event, knowledge)
     }
 }

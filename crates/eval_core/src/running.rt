@@ -10,9 +10,9 @@ use crate::actions::action_place;
 use crate::courses::{Course, Fate, predicted_by};
 use crate::marks::marks;
 use crate::seen::seen;
+use builtin_devices::Knowledge;
 use eval_rules::apply;
 use eval_state::Scene;
-use hwdb_lookup::Lookup;
 use rule_types::Rule;
 use std::alloc::{AllocError, Global};
 use text_bytes::Bytes;
@@ -43,18 +43,18 @@ fn following(rules: &[Rule], passes: &[usize], place: usize, reached: bool) -> u
 }
 
 /// Evaluates a rule whose outcome is known as far as `fate` says, and returns whether its end was reached.
-fn step<'a, L: Lookup>(
+fn step<'a, K: Knowledge>(
     alloc: Global,
     rule: &'a Rule,
     fate: Fate,
-    lookup: &L,
+    knowledge: &K,
     scene: &mut Scene<'a>,
 ) -> Result<bool, AllocError>
-    requires { as_predicted fate scene.old (apply (L.entries lookup.now) rule.now scene.old) ≡ apply (L.entries lookup.now) rule.now scene.old }
-    ensures { IfOk result (λ on. (scene.new, on) ≡ apply (L.entries lookup.now) rule.now scene.old) }
+    requires { as_predicted fate scene.old (apply (K.known knowledge.now) rule.now scene.old) ≡ apply (K.known knowledge.now) rule.now scene.old }
+    ensures { IfOk result (λ on. (scene.new, on) ≡ apply (K.known knowledge.now) rule.now scene.old) }
 {
     match fate {
-        Fate::Unknown => apply(alloc, rule, lookup, scene),
+        Fate::Unknown => apply(alloc, rule, knowledge, scene),
         Fate::Failed => Ok(false),
         Fate::Reached => Ok(true),
         Fate::NotFound => {
@@ -66,14 +66,14 @@ fn step<'a, L: Lookup>(
 
 /// Evaluates rules, one after another: those that are ruled out are skipped, and so are those between a rule that
 /// jumps and the one to which it does.
-pub(crate) fn run<'a, L: Lookup>(
+pub(crate) fn run<'a, K: Knowledge>(
     alloc: Global,
     layout: Layout<'a>,
-    lookup: &L,
+    knowledge: &K,
     scene: &mut Scene<'a>,
 ) -> Result<(), AllocError>
     requires { IsLaidOut layout.rules.now layout.passes.now layout.names.now layout.courses.now }
-    ensures { OnOk result (scene.new ≡ run (L.entries lookup.now) None layout.entry.rules.now scene.old) }
+    ensures { OnOk result (scene.new ≡ run (K.known knowledge.now) None layout.entry.rules.now scene.old) }
 {
     let seen = seen(alloc, layout.names, &scene.state.event)?;
     let found = marks(scene.state.event.event());
@@ -82,7 +82,7 @@ pub(crate) fn run<'a, L: Lookup>(
     let mut place = 0;
     while place < layout.rules.len() {
         let fate = predicted_by(profile, action, &seen, &found, layout.courses[place]);
-        let reached = step(alloc, &layout.rules[place], fate, lookup, scene)?;
+        let reached = step(alloc, &layout.rules[place], fate, knowledge, scene)?;
         place = following(layout.rules, layout.passes, place, reached);
     }
     Ok(())

@@ -3,7 +3,7 @@ use Rattle.std.proofs.Common.{◌≡◌, ◌↔◌, Bool, true, false, cond, Lis
 use Rattle.std.specs.List.{fold}
 use Rattle.std.specs.Prelude.{unwrap_or}
 use Rattle.text_tables.specs.Texts.{Text}
-use Rattle.hwdb_lookup.specs.declared.entry.Entry.{Entry}
+use Rattle.builtin_devices.specs.Knowledge.{Known}
 use Rattle.rule_types.specs.Rules.{Rule}
 use Rattle.eval_state.specs.declared.scene.Scene.{Scene}
 use Rattle.eval_assignments.specs.Steps.{set_step}
@@ -50,91 +50,91 @@ ends idle since r s true = (λ e. absurd (end_not_stopped idle since r s (ap (λ
 ends idle since r s false = (λ e. refl, λ h. refl)
 
 -- what is reported last
-last_is : (entries : List Entry) (since : Since) (r : Rule) (s : Scene) → last_of (course entries since r s) ≡ Some (end_of (is_idle r s.state.event) since r (before_sets entries r s))
+last_is : (known : Known) (since : Since) (r : Rule) (s : Scene) → last_of (course known since r s) ≡ Some (end_of (is_idle r s.state.event) since r (before_sets known r s))
 unfolding course
-last_is entries since r s = after_all (key_reports entries r s) (end_of (is_idle r s.state.event) since r (before_sets entries r s))
+last_is known since r s = after_all (key_reports known r s) (end_of (is_idle r s.state.event) since r (before_sets known r s))
 
 -- a rule ends where its keys end, unless it is skipped
-rule_ends : (entries : List Entry) (r : Rule) (s : Scene) → is_idle r s.state.event ≡ false → (apply entries r s).1 ≡ (before_sets entries r s).1
+rule_ends : (known : Known) (r : Rule) (s : Scene) → is_idle r s.state.event ≡ false → (apply known r s).1 ≡ (before_sets known r s).1
 unfolding apply steps
-rule_ends entries r s h = ap (λ b. (cond b (only_noted entries r s) (steps entries r s)).1) h ∙ by (before_sets entries r s).0 (before_sets entries r s).1
+rule_ends known r s h = ap (λ b. (cond b (only_noted known r s) (steps known r s)).1) h ∙ by (before_sets known r s).0 (before_sets known r s).1
   where
     by : (t : Scene) (b : Bool) → (if_proceeding (set_all r) (t, b)).1 ≡ b
     by t true = refl
     by t false = refl
 
 -- the last text says whether a key stopped the rule
-pub course_ends_so : (entries : List Entry) (since : Since) (r : Rule) (s : Scene) → is_idle r s.state.event ≡ false
-    → (last_of (course entries since r s) ≡ Some (codes "stops there")) ↔ ((apply entries r s).1 ≡ false)
-course_ends_so entries since r s h =
-    let went : Went = before_sets entries r s in
+pub course_ends_so : (known : Known) (since : Since) (r : Rule) (s : Scene) → is_idle r s.state.event ≡ false
+    → (last_of (course known since r s) ≡ Some (codes "stops there")) ↔ ((apply known r s).1 ≡ false)
+course_ends_so known since r s h =
+    let went : Went = before_sets known r s in
     let both = ends (is_idle r s.state.event) since r went.0 went.1 in
-    (λ e. rule_ends entries r s h ∙ both.0 (sym (last_is entries since r s) ∙ e), λ n. last_is entries since r s ∙ both.1 (sym (rule_ends entries r s h) ∙ n))
+    (λ e. rule_ends known r s h ∙ both.0 (sym (last_is known since r s) ∙ e), λ n. last_is known since r s ∙ both.1 (sym (rule_ends known r s h) ∙ n))
 
 passed : (since : Since) (r : Rule) (s : Scene) (b : Bool) → (Some (end_of true since r (s, b)) ≡ Some (codes "nothing in it counts for this device")) ↔ (b ≡ true)
 passed since r s true = (λ e. refl, λ h. refl)
 passed since r s false = (λ e. absurd (true≢false (sym (ap (λ (o : Option Text). below_stops (unwrap_or o [])) e))), λ h. absurd (true≢false (sym h)))
 
 -- the last text says that a rule is skipped
-pub skipped_ends : (entries : List Entry) (since : Since) (r : Rule) (s : Scene) → is_idle r s.state.event ≡ true
-    → (last_of (course entries since r s) ≡ Some (codes "nothing in it counts for this device")) ↔ ((before_sets entries r s).1 ≡ true)
-skipped_ends entries since r s h =
-    let went : Went = before_sets entries r s in
+pub skipped_ends : (known : Known) (since : Since) (r : Rule) (s : Scene) → is_idle r s.state.event ≡ true
+    → (last_of (course known since r s) ≡ Some (codes "nothing in it counts for this device")) ↔ ((before_sets known r s).1 ≡ true)
+skipped_ends known since r s h =
+    let went : Went = before_sets known r s in
     let both = passed since r went.0 went.1 in
-    let last : last_of (course entries since r s) ≡ Some (end_of true since r went) = last_is entries since r s ∙ ap (λ b. Some (end_of b since r went)) h in
+    let last : last_of (course known since r s) ≡ Some (end_of true since r went) = last_is known since r s ∙ ap (λ b. Some (end_of b since r went)) h in
     (λ e. both.0 (sym last ∙ e), λ n. last ∙ both.1 n)
 
 -- the course of a rule in which nothing counts
-pub idle_course : (entries : List Entry) (since : Since) (r : Rule) (s : Scene) → is_idle r s.state.event ≡ true → idle_reports entries r s ≡ course entries since r s
+pub idle_course : (known : Known) (since : Since) (r : Rule) (s : Scene) → is_idle r s.state.event ≡ true → idle_reports known r s ≡ course known since r s
 unfolding course idle_reports
-idle_course entries since r s h = ap (λ b. key_reports entries r s ++ end_of b since r (before_sets entries r s) ∷ []) (sym h)
+idle_course known since r s h = ap (λ b. key_reports known r s ++ end_of b since r (before_sets known r s) ∷ []) (sym h)
 
 -- the course of any other
-pub steps_course : (entries : List Entry) (since : Since) (r : Rule) (s : Scene) → is_idle r s.state.event ≡ false → step_reports entries since r s ≡ course entries since r s
+pub steps_course : (known : Known) (since : Since) (r : Rule) (s : Scene) → is_idle r s.state.event ≡ false → step_reports known since r s ≡ course known since r s
 unfolding course step_reports
-steps_course entries since r s h = ap (λ b. key_reports entries r s ++ end_of b since r (before_sets entries r s) ∷ []) (sym h)
+steps_course known since r s h = ap (λ b. key_reports known r s ++ end_of b since r (before_sets known r s) ∷ []) (sym h)
 
 -- what becomes of a rule that is skipped, and of any other
-pub idle_comes : (entries : List Entry) (r : Rule) (s : Scene) → is_idle r s.state.event ≡ true → only_noted entries r s ≡ apply entries r s
+pub idle_comes : (known : Known) (r : Rule) (s : Scene) → is_idle r s.state.event ≡ true → only_noted known r s ≡ apply known r s
 unfolding apply
-idle_comes entries r s h = ap (λ b. cond b (only_noted entries r s) (steps entries r s)) (sym h)
+idle_comes known r s h = ap (λ b. cond b (only_noted known r s) (steps known r s)) (sym h)
 
-pub steps_come : (entries : List Entry) (r : Rule) (s : Scene) → is_idle r s.state.event ≡ false → steps entries r s ≡ apply entries r s
+pub steps_come : (known : Known) (r : Rule) (s : Scene) → is_idle r s.state.event ≡ false → steps known r s ≡ apply known r s
 unfolding apply
-steps_come entries r s h = ap (λ b. cond b (only_noted entries r s) (steps entries r s)) (sym h)
+steps_come known r s h = ap (λ b. cond b (only_noted known r s) (steps known r s)) (sym h)
 
-module _ (entries : List Entry) (r : Rule) (s t : Scene) (on : Bool) (is : (t, on) ≡ before_sets entries r s) where
+module _ (known : Known) (r : Rule) (s t : Scene) (on : Bool) (is : (t, on) ≡ before_sets known r s) where
   -- if a key stops a rule, the rule ends there
-  pub stops : on ≡ false → (t, false) ≡ steps entries r s
+  pub stops : on ≡ false → (t, false) ≡ steps known r s
   unfolding steps
   stops e = ap (if_proceeding (set_all r)) (ap {B = Went} (λ b. (t, b)) (sym e) ∙ is)
 
   -- if all keys let it go on, its assignments are made
-  pub proceeds : (u : Scene) → on ≡ true → u ≡ fold (set_step r) t r.sets → (u, true) ≡ steps entries r s
+  pub proceeds : (u : Scene) → on ≡ true → u ≡ fold (set_step r) t r.sets → (u, true) ≡ steps known r s
   unfolding steps
   proceeds u e made = ap {B = Went} (λ v. (v, true)) made ∙ ap (if_proceeding (set_all r)) (ap {B = Went} (λ b. (t, b)) (sym e) ∙ is)
 
   -- the event stays
   pub event_kept : (u : Scene) → on ≡ true → u ≡ fold (set_step r) t r.sets → u.state.event ≡ s.state.event
-  event_kept u e made = ap (λ (w : Went). w.0.state.event) (proceeds u e made) ∙ steps_stay entries r s
+  event_kept u e made = ap (λ (w : Went). w.0.state.event) (proceeds u e made) ∙ steps_stay known r s
 
   -- the course is what was reported for the keys, and the end
-  pub course_is : (since : Since) (before reported now : List Text) (b : Bool) (text : Text) → on ≡ b → reported ≡ before ++ key_reports entries r s → text ≡ end_of false since r (t, b) → now ≡ reported ++ text ∷ []
-      → now ≡ before ++ step_reports entries since r s
+  pub course_is : (since : Since) (before reported now : List Text) (b : Bool) (text : Text) → on ≡ b → reported ≡ before ++ key_reports known r s → text ≡ end_of false since r (t, b) → now ≡ reported ++ text ∷ []
+      → now ≡ before ++ step_reports known since r s
   unfolding step_reports
   course_is since before reported now b text e keys ends all =
       all
       ∙ ap (λ x. reported ++ x ∷ []) ends
       ∙ ap (λ ts. ts ++ end_of false since r (t, b) ∷ []) keys
-      ∙ append_assoc before (key_reports entries r s) (end_of false since r (t, b) ∷ [])
-      ∙ ap (λ (w : Went). before ++ (key_reports entries r s ++ end_of false since r w ∷ [])) (ap {B = Went} (λ c. (t, c)) (sym e) ∙ is)
+      ∙ append_assoc before (key_reports known r s) (end_of false since r (t, b) ∷ [])
+      ∙ ap (λ (w : Went). before ++ (key_reports known r s ++ end_of false since r w ∷ [])) (ap {B = Went} (λ c. (t, c)) (sym e) ∙ is)
 
   -- the same for a rule that is skipped
-  pub idle_is : (before reported now : List Text) (text : Text) → reported ≡ before ++ key_reports entries r s → text ≡ idle_end on → now ≡ reported ++ text ∷ [] → now ≡ before ++ idle_reports entries r s
+  pub idle_is : (before reported now : List Text) (text : Text) → reported ≡ before ++ key_reports known r s → text ≡ idle_end on → now ≡ reported ++ text ∷ [] → now ≡ before ++ idle_reports known r s
   unfolding idle_reports
   idle_is before reported now text keys ends all =
       all
       ∙ ap (λ x. reported ++ x ∷ []) ends
       ∙ ap (λ ts. ts ++ idle_end on ∷ []) keys
-      ∙ append_assoc before (key_reports entries r s) (idle_end on ∷ [])
-      ∙ ap (λ (w : Went). before ++ (key_reports entries r s ++ idle_end w.1 ∷ [])) is
+      ∙ append_assoc before (key_reports known r s) (idle_end on ∷ [])
+      ∙ ap (λ (w : Went). before ++ (key_reports known r s ++ idle_end w.1 ∷ [])) is

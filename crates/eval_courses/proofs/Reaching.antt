@@ -2,7 +2,7 @@
 use Rattle.std.proofs.Common.{◌≡◌, Bool, true, false, List, [], ◌++◌, append_assoc, ap, sym, ◌∙◌}
 use Rattle.std.proofs.lemmas.List.{append-nil}
 use Rattle.text_tables.specs.Texts.{Text}
-use Rattle.hwdb_lookup.specs.declared.entry.Entry.{Entry}
+use Rattle.builtin_devices.specs.Knowledge.{Known}
 use Rattle.rule_types.specs.Rules.{Rule}
 use Rattle.eval_state.specs.declared.scene.Scene.{Scene}
 use Rattle.eval_acts.specs.Acts.{act_step}
@@ -41,37 +41,37 @@ module _ (f g h : Scene → List Text) (second third : Scene → Went) (before r
 with_truth : (s : Scene) (on b : Bool) (went : Went) → (s, on) ≡ went → on ≡ b → (s, b) ≡ went
 with_truth s on b went is e = ap {B = Went} (λ c. (s, c)) (sym e) ∙ is
 
-module _ (entries : List Entry) (r : Rule) (s t : Scene) (on : Bool) (first : (t, on) ≡ walk (plain_step r) r.plain s) (before now : List Text) (reported : now ≡ before ++ event_reports r r.plain s) where
+module _ (known : Known) (r : Rule) (s t : Scene) (on : Bool) (first : (t, on) ≡ walk (plain_step r) r.plain s) (before now : List Text) (reported : now ≡ before ++ event_reports r r.plain s) where
   -- a match of the event stops the rule
-  pub reported_first : on ≡ false → now ≡ before ++ key_reports entries r s
+  pub reported_first : on ≡ false → now ≡ before ++ key_reports known r s
   unfolding key_reports
   reported_first e =
       reported
-      ∙ after_first (λ u. search_reports r.up u.state) (act_reports entries r r.acts) (result_reports r.results) (steps.search r.up) (walk (act_step entries r) r.acts) before (event_reports r r.plain s)
+      ∙ after_first (λ u. search_reports r.up u.state) (act_reports known r r.acts) (result_reports r.results) (steps.search r.up) (walk (act_step known r) r.acts) before (event_reports r r.plain s)
       t (walk (plain_step r) r.plain s) (with_truth t on false (walk (plain_step r) r.plain s) first e)
 
   module _ (advances : on ≡ true) (u : Scene) (still : Bool) (second : (u, still) ≡ steps.search r.up t) (later : List Text) (reported_too : later ≡ now ++ search_reports r.up t.state) where
     -- the search stops the rule
-    pub reported_second : still ≡ false → later ≡ before ++ key_reports entries r s
+    pub reported_second : still ≡ false → later ≡ before ++ key_reports known r s
     unfolding key_reports
     reported_second e =
         reported_too ∙ ap (λ xs. xs ++ search_reports r.up t.state) reported
-        ∙ after_second (λ w. search_reports r.up w.state) (act_reports entries r r.acts) (result_reports r.results) (steps.search r.up) (walk (act_step entries r) r.acts) before (event_reports r r.plain s)
+        ∙ after_second (λ w. search_reports r.up w.state) (act_reports known r r.acts) (result_reports r.results) (steps.search r.up) (walk (act_step known r) r.acts) before (event_reports r r.plain s)
         t u (walk (plain_step r) r.plain s) (with_truth t on true (walk (plain_step r) r.plain s) first advances) (with_truth u still false (steps.search r.up t) second e)
 
-    module _ (proceeds : still ≡ true) (v : Scene) (further : Bool) (third : (v, further) ≡ walk (act_step entries r) r.acts u) (last : List Text) (reported_then : last ≡ later ++ act_reports entries r r.acts u) where
-      so_far : (b : Bool) → further ≡ b → last ++ reports_if_proceeding (result_reports r.results) (v, b) ≡ before ++ key_reports entries r s
+    module _ (proceeds : still ≡ true) (v : Scene) (further : Bool) (third : (v, further) ≡ walk (act_step known r) r.acts u) (last : List Text) (reported_then : last ≡ later ++ act_reports known r r.acts u) where
+      so_far : (b : Bool) → further ≡ b → last ++ reports_if_proceeding (result_reports r.results) (v, b) ≡ before ++ key_reports known r s
       unfolding key_reports
       so_far b e =
-          ap (λ xs. xs ++ reports_if_proceeding (result_reports r.results) (v, b)) (reported_then ∙ ap (λ xs. xs ++ act_reports entries r r.acts u) (reported_too ∙ ap (λ xs. xs ++ search_reports r.up t.state) reported))
-          ∙ after_third (λ w. search_reports r.up w.state) (act_reports entries r r.acts) (result_reports r.results) (steps.search r.up) (walk (act_step entries r) r.acts) before (event_reports r r.plain s)
+          ap (λ xs. xs ++ reports_if_proceeding (result_reports r.results) (v, b)) (reported_then ∙ ap (λ xs. xs ++ act_reports known r r.acts u) (reported_too ∙ ap (λ xs. xs ++ search_reports r.up t.state) reported))
+          ∙ after_third (λ w. search_reports r.up w.state) (act_reports known r r.acts) (result_reports r.results) (steps.search r.up) (walk (act_step known r) r.acts) before (event_reports r r.plain s)
           t u v b (walk (plain_step r) r.plain s) (with_truth t on true (walk (plain_step r) r.plain s) first advances) (with_truth u still true (steps.search r.up t) second proceeds)
-          (with_truth v further b (walk (act_step entries r) r.acts u) third e)
+          (with_truth v further b (walk (act_step known r) r.acts u) third e)
 
       -- something that acts stops the rule
-      pub reported_third : further ≡ false → last ≡ before ++ key_reports entries r s
+      pub reported_third : further ≡ false → last ≡ before ++ key_reports known r s
       reported_third e = sym (append-nil last) ∙ so_far false e
 
       -- all of these let it go on
-      pub reported_all : further ≡ true → (all : List Text) → all ≡ last ++ result_reports r.results v → all ≡ before ++ key_reports entries r s
+      pub reported_all : further ≡ true → (all : List Text) → all ≡ last ++ result_reports r.results v → all ≡ before ++ key_reports known r s
       reported_all e all reported_last = reported_last ∙ so_far true e

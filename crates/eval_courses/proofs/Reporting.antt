@@ -3,7 +3,7 @@ use Rattle.std.proofs.Common.{◌≡◌, ℕ, ◌+◌, ◌<◌, ◌≤◌, Bool,
 use Rattle.std.proofs.lemmas.List.{drop_more, drop_all, append-nil}
 use Rattle.text_tables.specs.Texts.{Text}
 use Rattle.text_tables.specs.Pairs.{Pair}
-use Rattle.hwdb_lookup.specs.declared.entry.Entry.{Entry}
+use Rattle.builtin_devices.specs.Knowledge.{Known}
 use Rattle.rule_types.specs.declared.part.Act.{Act}
 use Rattle.rule_types.specs.Rules.{Rule}
 use Rattle.eval_state.specs.declared.scene.Scene.{Scene}
@@ -45,7 +45,7 @@ unfolding done_report
 done_is act before t on went e = ap (λ (w : Went). act_key act ++ met w.1 ++ report_after before w.0.state.env) e
 
 -- what is reported for an act is what was reported before it, and what it set
-pub act_is : (entries : List Entry) (r : Rule) (act : Act) (s : Scene) (before : ReportBefore)
-    → ((env : List Pair) → report_after before env ≡ act_kind_report act.kind s.state env) → done_report act before (act_step entries r act s) ≡ act_report entries r act s
+pub act_is : (known : Known) (r : Rule) (act : Act) (s : Scene) (before : ReportBefore)
+    → ((env : List Pair) → report_after before env ≡ act_kind_report act.kind s.state env) → done_report act before (act_step known r act s) ≡ act_report known r act s
 unfolding act_report done_report
-act_is entries r act s before reported = ap (λ text. act_key act ++ met (act_step entries r act s).1 ++ text) (reported (act_step entries r act s).0.state.env)
+act_is known r act s before reported = ap (λ text. act_key act ++ met (act_step known r act s).1 ++ text) (reported (act_step known r act s).0.state.env)

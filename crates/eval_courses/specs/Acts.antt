@@ -7,7 +7,7 @@ use Rattle.text_bytes.specs.declared.profile.Profile.{Profile}
 use Rattle.text_bytes.specs.declared.profile.Profile.TheVariants as profile
 use Rattle.text_tables.specs.Texts.{Text}
 use Rattle.text_tables.specs.Pairs.{Pair, value_of}
-use Rattle.hwdb_lookup.specs.declared.entry.Entry.{Entry}
+use Rattle.builtin_devices.specs.Knowledge.{Known}
 use Rattle.device_core.specs.Values.{AnswerValue, EventValue}
 use Rattle.rule_templates.specs.Template.{Parts as Template}
 use Rattle.rule_types.specs.declared.part.Act.{Act}
@@ -120,5 +120,5 @@ abbrev pub act_met : Act → State → Scene × Bool → Text
 act_met act s went = act_key act ++ met went.1 ++ act_kind_report act.kind s went.0.state.env
 
 -- an act, and what it met
-unfoldable pub act_report : List Entry → Rule → Act → Scene → Text
-act_report entries r act s = act_met act s.state (act_step entries r act s)
+unfoldable pub act_report : Known → Rule → Act → Scene → Text
+act_report known r act s = act_met act s.state (act_step known r act s)

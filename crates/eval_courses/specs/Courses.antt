@@ -1,7 +1,7 @@
 -- The course of a rule over a scene: the keys that were reached, each with what it met, and how the rule ended.
 use Rattle.std.specs.Prelude.{Bool, if◌then◌else◌, List, [], ◌∷◌, ◌++◌, codes}
 use Rattle.text_tables.specs.Texts.{Text}
-use Rattle.hwdb_lookup.specs.declared.entry.Entry.{Entry}
+use Rattle.builtin_devices.specs.Knowledge.{Known}
 use Rattle.rule_types.specs.Rules.{Rule}
 use Rattle.rule_types.specs.declared.part.Act.{Act}
 use Rattle.rule_types.specs.declared.part.Comparison.{Comparison}
@@ -30,8 +30,8 @@ abbrev pub event_reports : Rule → List PlainMatch → Scene → List Text
 event_reports r parts s = walk_reports (plain_step r) (λ part s. plain_report part s.state) parts s
 
 -- what acts
-abbrev pub act_reports : List Entry → Rule → List Act → Scene → List Text
-act_reports entries r parts s = walk_reports (act_step entries r) (act_report entries r) parts s
+abbrev pub act_reports : Known → Rule → List Act → Scene → List Text
+act_reports known r parts s = walk_reports (act_step known r) (act_report known r) parts s
 
 -- the matches of the result of the last program
 abbrev pub result_reports : List Comparison → Scene → List Text
@@ -44,16 +44,16 @@ matched r s = walk (plain_step r) r.plain s
 abbrev pub searched : Rule → Scene → Went
 searched r s = if_proceeding (search r.up) (matched r s)
 
-abbrev pub acted : List Entry → Rule → Scene → Went
-acted entries r s = if_proceeding (walk (act_step entries r) r.acts) (searched r s)
+abbrev pub acted : Known → Rule → Scene → Went
+acted known r s = if_proceeding (walk (act_step known r) r.acts) (searched r s)
 
 -- the keys of a rule that were reached, in the order of evaluation
-unfoldable pub key_reports : List Entry → Rule → Scene → List Text
-key_reports entries r s =
+unfoldable pub key_reports : Known → Rule → Scene → List Text
+key_reports known r s =
     event_reports r r.plain s
     ++ reports_if_proceeding (λ t. search_reports r.up t.state) (matched r s)
-    ++ reports_if_proceeding (act_reports entries r r.acts) (searched r s)
-    ++ reports_if_proceeding (result_reports r.results) (acted entries r s)
+    ++ reports_if_proceeding (act_reports known r r.acts) (searched r s)
+    ++ reports_if_proceeding (result_reports r.results) (acted known r s)
 
 -- how a rule whose keys let it go on ended: nothing in it counts for the event, so that it is skipped, or its end was
 -- reached
@@ -65,5 +65,5 @@ abbrev pub end_of : Bool → Since → Rule → Went → Text
 end_of idle since r went = if went.1 then end_reached idle since r went.0 else codes "stops there"
 
 -- the course of a rule
-unfoldable pub course : List Entry → Since → Rule → Scene → List Text
-course entries since r s = key_reports entries r s ++ end_of (is_idle r s.state.event) since r (before_sets entries r s) ∷ []
+unfoldable pub course : Known → Since → Rule → Scene → List Text
+course known since r s = key_reports known r s ++ end_of (is_idle r s.state.event) since r (before_sets known r s) ∷ []

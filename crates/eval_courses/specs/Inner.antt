@@ -3,7 +3,7 @@
 use Rattle.std.specs.Prelude.{Bool, false, if◌then◌else◌, List, [], ◌∷◌, ◌++◌, map, option_map, codes}
 use Rattle.text_tables.specs.Texts.{Text}
 use Rattle.text_tables.specs.Pairs.{Pair}
-use Rattle.hwdb_lookup.specs.declared.entry.Entry.{Entry}
+use Rattle.builtin_devices.specs.Knowledge.{Known}
 use Rattle.rule_types.specs.declared.part.Act.{Act}
 use Rattle.rule_types.specs.Rules.{Rule}
 use Rattle.eval_state.specs.declared.scene.Scene.{Scene}
@@ -46,9 +46,9 @@ abbrev pub idle_end : Bool → Text
 idle_end proceeds = if proceeds then codes "nothing in it counts for this device" else codes "stops there"
 
 -- the course of such a rule
-unfoldable pub idle_reports : List Entry → Rule → Scene → List Text
-idle_reports entries r s = key_reports entries r s ++ idle_end (before_sets entries r s).1 ∷ []
+unfoldable pub idle_reports : Known → Rule → Scene → List Text
+idle_reports known r s = key_reports known r s ++ idle_end (before_sets known r s).1 ∷ []
 
 -- the course of any other
-unfoldable pub step_reports : List Entry → Since → Rule → Scene → List Text
-step_reports entries since r s = key_reports entries r s ++ end_of false since r (before_sets entries r s) ∷ []
+unfoldable pub step_reports : Known → Since → Rule → Scene → List Text
+step_reports known since r s = key_reports known r s ++ end_of false since r (before_sets known r s) ∷ []

@@ -19,11 +19,11 @@ use crate::answers::{answer_to, answered_start, command_asked, unanswered};
 use crate::keys::push_act_key;
 use crate::plain::push_met;
 use crate::properties::{copied, newly_set, push_set};
+use builtin_devices::Knowledge;
 use eval_acts::{act_step, import_text, names_text, program_text, test_text};
 use eval_effects::push_shown;
 use eval_rendering::{MAX_COMMAND_BYTES, MAX_PATH_BYTES, Rendered};
 use eval_state::{Chain, Named, Scene, State};
-use hwdb_lookup::Lookup;
 use rule_templates::Template;
 use rule_types::{Act, ActKind, Import, Rule};
 use std::alloc::{AllocError, Global};
@@ -312,39 +312,39 @@ fn act_met(
 
 /// Does what an act asks for, and adds what it met to the texts, by what was known before.
 #[tactic(auto, using(eval_rules::proofs::Staying::act_stays, crate::proofs::Reporting::done_is))]
-fn report_done<L: Lookup>(
+fn report_done<K: Knowledge>(
     alloc: Global,
     rule: &Rule,
     act: &Act,
     before: &ReportBefore,
-    lookup: &L,
+    knowledge: &K,
     scene: &mut Scene<'_>,
     texts: &mut Vec<Bytes>,
 ) -> Result<bool, AllocError>
-    ensures scene { IfOk result (λ on. (scene.new, on) ≡ act_step (L.entries lookup.now) rule.now act.now scene.old) }
-    ensures text { OnOk result (texts.new.items ≡ texts.old.items ++ done_report act.now before.now (act_step (L.entries lookup.now) rule.now act.now scene.old) ∷ []) }
+    ensures scene { IfOk result (λ on. (scene.new, on) ≡ act_step (K.known knowledge.now) rule.now act.now scene.old) }
+    ensures text { OnOk result (texts.new.items ≡ texts.old.items ++ done_report act.now before.now (act_step (K.known knowledge.now) rule.now act.now scene.old) ∷ []) }
     ensures event { scene.new.state.event ≡ scene.old.state.event }
 {
-    let proceeds = act_step(alloc, rule, act, lookup, scene)?;
+    let proceeds = act_step(alloc, rule, act, knowledge, scene)?;
     texts.push(act_met(alloc, act, proceeds, before, &scene.state.env)?)?;
     Ok(proceeds)
 }
 
 /// Does what an act asks for, and adds what it met to the texts.
-pub(crate) fn report_act<L: Lookup>(
+pub(crate) fn report_act<K: Knowledge>(
     alloc: Global,
     rule: &Rule,
     act: &Act,
-    lookup: &L,
+    knowledge: &K,
     scene: &mut Scene<'_>,
     texts: &mut Vec<Bytes>,
 ) -> Result<bool, AllocError>
-    ensures scene { IfOk result (λ on. (scene.new, on) ≡ act_step (L.entries lookup.now) rule.now act.now scene.old) }
-    ensures text { OnOk result (texts.new.items ≡ texts.old.items ++ act_report (L.entries lookup.now) rule.now act.now scene.old ∷ []) }
+    ensures scene { IfOk result (λ on. (scene.new, on) ≡ act_step (K.known knowledge.now) rule.now act.now scene.old) }
+    ensures text { OnOk result (texts.new.items ≡ texts.old.items ++ act_report (K.known knowledge.now) rule.now act.now scene.old ∷ []) }
     ensures event { scene.new.state.event ≡ scene.old.state.event }
 {
     let before = report_before(alloc, &act.kind, &mut scene.state)?;
-    let proceeds = report_done(alloc, rule, act, &before, lookup, scene, texts);
+    let proceeds = report_done(alloc, rule, act, &before, knowledge, scene, texts);
     drop(before);
     proceeds
 }

@@ -10,10 +10,10 @@ ghost use Rattle.eval_courses.specs.Inner.{idle_end, idle_reports, step_reports}
 use crate::acts::report_act;
 use crate::plain::{report_match, report_result};
 use crate::upward::report_search;
+use builtin_devices::Knowledge;
 use eval_effects::{Since, end_and_report};
 use eval_rules::{is_idle, note_all};
 use eval_state::Scene;
-use hwdb_lookup::Lookup;
 use rule_types::{Act, Comparison, PlainMatch, Rule};
 use std::alloc::{AllocError, Global};
 use text_bytes::Bytes;
@@ -49,20 +49,20 @@ fn report_event(
 }
 
 /// Adds the texts of what acts, up to the first that stops the rule.
-fn report_acts<L: Lookup>(
+fn report_acts<K: Knowledge>(
     alloc: Global,
     rule: &Rule,
     parts: &[Act],
-    lookup: &L,
+    knowledge: &K,
     scene: &mut Scene<'_>,
     texts: &mut Vec<Bytes>,
 ) -> Result<bool, AllocError>
-    ensures scene { IfOk result (λ on. (scene.new, on) ≡ walk (act_step (L.entries lookup.now) rule.now) parts.now scene.old) }
-    ensures texts { OnOk result (texts.new.items ≡ texts.old.items ++ act_reports (L.entries lookup.now) rule.now parts.now scene.old) }
+    ensures scene { IfOk result (λ on. (scene.new, on) ≡ walk (act_step (K.known knowledge.now) rule.now) parts.now scene.old) }
+    ensures texts { OnOk result (texts.new.items ≡ texts.old.items ++ act_reports (K.known knowledge.now) rule.now parts.now scene.old) }
     ensures event { scene.new.state.event ≡ scene.old.state.event }
 {
     for part in parts {
-        if !report_act(alloc, rule, part, lookup, scene, texts)? {
+        if !report_act(alloc, rule, part, knowledge, scene, texts)? {
             return Ok(false);
         }
     }
@@ -88,15 +88,15 @@ fn report_results(
 }
 
 /// Adds the texts of the keys of a rule, up to the first that stops it, and returns whether all let it go on.
-fn report_keys<L: Lookup>(
+fn report_keys<K: Knowledge>(
     alloc: Global,
     rule: &Rule,
-    lookup: &L,
+    knowledge: &K,
     scene: &mut Scene<'_>,
     texts: &mut Vec<Bytes>,
 ) -> Result<bool, AllocError>
-    ensures scene { IfOk result (λ on. (scene.new, on) ≡ before_sets (L.entries lookup.now) rule.now scene.old) }
-    ensures texts { OnOk result (texts.new.items ≡ texts.old.items ++ key_reports (L.entries lookup.now) rule.now scene.old) }
+    ensures scene { IfOk result (λ on. (scene.new, on) ≡ before_sets (K.known knowledge.now) rule.now scene.old) }
+    ensures texts { OnOk result (texts.new.items ≡ texts.old.items ++ key_reports (K.known knowledge.now) rule.now scene.old) }
     ensures event { scene.new.state.event ≡ scene.old.state.event }
 {
     if !report_event(alloc, rule, rule.plain(), scene, texts)? {
@@ -105,7 +105,7 @@ fn report_keys<L: Lookup>(
     if !report_search(alloc, rule.up(), scene, texts)? {
         return Ok(false);
     }
-    if !report_acts(alloc, rule, rule.acts(), lookup, scene, texts)? {
+    if !report_acts(alloc, rule, rule.acts(), knowledge, scene, texts)? {
         return Ok(false);
     }
     report_results(alloc, rule.results(), scene, texts)
@@ -123,21 +123,21 @@ fn idle_end(proceeds: bool) -> &'static [u8]
 }
 
 /// Skips a rule in which nothing counts for the event, and adds the texts of its keys and of how it ends.
-fn report_idle<'a, L: Lookup>(
+fn report_idle<'a, K: Knowledge>(
     alloc: Global,
     rule: &'a Rule,
-    lookup: &L,
+    knowledge: &K,
     scene: &mut Scene<'a>,
     texts: &mut Vec<Bytes>,
 ) -> Result<(), AllocError>
     requires { is_idle rule.now scene.old.state.event ≡ true }
-    ensures scene { OnOk result ((scene.new, false) ≡ only_noted (L.entries lookup.now) rule.now scene.old) }
-    ensures texts { OnOk result (texts.new.items ≡ texts.old.items ++ idle_reports (L.entries lookup.now) rule.now scene.old) }
+    ensures scene { OnOk result ((scene.new, false) ≡ only_noted (K.known knowledge.now) rule.now scene.old) }
+    ensures texts { OnOk result (texts.new.items ≡ texts.old.items ++ idle_reports (K.known knowledge.now) rule.now scene.old) }
     ensures refused { OnErr result (scene.new.state.event ≡ scene.old.state.event) }
 {
     let selected = scene.state.selected;
     let finals = scene.finals;
-    let proceeds = report_keys(alloc, rule, lookup, scene, texts)?;
+    let proceeds = report_keys(alloc, rule, knowledge, scene, texts)?;
     texts.push(Bytes::copy_of(alloc, idle_end(proceeds))?)?;
     note_all(alloc, rule, proceeds, scene)?;
     scene.state.selected = selected;
@@ -147,19 +147,19 @@ fn report_idle<'a, L: Lookup>(
 
 /// Evaluates a rule in which something counts, adds the texts of its keys and of how it ends, and returns whether
 /// its end was reached.
-fn report_steps<'a, L: Lookup>(
+fn report_steps<'a, K: Knowledge>(
     alloc: Global,
     rule: &'a Rule,
-    lookup: &L,
+    knowledge: &K,
     since: &Since<'a>,
     scene: &mut Scene<'a>,
     texts: &mut Vec<Bytes>,
 ) -> Result<bool, AllocError>
-    ensures scene { IfOk result (λ on. (scene.new, on) ≡ steps (L.entries lookup.now) rule.now scene.old) }
-    ensures texts { OnOk result (texts.new.items ≡ texts.old.items ++ step_reports (L.entries lookup.now) since.now rule.now scene.old) }
+    ensures scene { IfOk result (λ on. (scene.new, on) ≡ steps (K.known knowledge.now) rule.now scene.old) }
+    ensures texts { OnOk result (texts.new.items ≡ texts.old.items ++ step_reports (K.known knowledge.now) since.now rule.now scene.old) }
     ensures refused { OnErr result (scene.new.state.event ≡ scene.old.state.event) }
 {
-    if !report_keys(alloc, rule, lookup, scene, texts)? {
+    if !report_keys(alloc, rule, knowledge, scene, texts)? {
         texts.push(Bytes::copy_of(alloc, b"stops there")?)?;
         return Ok(false);
     }
@@ -169,23 +169,23 @@ fn report_steps<'a, L: Lookup>(
 
 /// Evaluates a rule, adds the texts of its course, and returns whether its end was reached.
 #[tactic(auto, using(crate::proofs::Ending::idle_comes, crate::proofs::Ending::steps_come, crate::proofs::Ending::idle_course, crate::proofs::Ending::steps_course))]
-fn report_rule<'a, L: Lookup>(
+fn report_rule<'a, K: Knowledge>(
     alloc: Global,
     rule: &'a Rule,
-    lookup: &L,
+    knowledge: &K,
     since: &Since<'a>,
     scene: &mut Scene<'a>,
     texts: &mut Vec<Bytes>,
 ) -> Result<bool, AllocError>
-    ensures scene { IfOk result (λ on. (scene.new, on) ≡ apply (L.entries lookup.now) rule.now scene.old) }
-    ensures texts { OnOk result (texts.new.items ≡ texts.old.items ++ course (L.entries lookup.now) since.now rule.now scene.old) }
+    ensures scene { IfOk result (λ on. (scene.new, on) ≡ apply (K.known knowledge.now) rule.now scene.old) }
+    ensures texts { OnOk result (texts.new.items ≡ texts.old.items ++ course (K.known knowledge.now) since.now rule.now scene.old) }
     ensures refused { OnErr result (scene.new.state.event ≡ scene.old.state.event) }
 {
     if is_idle(rule, scene.state.event.event()) {
-        report_idle(alloc, rule, lookup, scene, texts)?;
+        report_idle(alloc, rule, knowledge, scene, texts)?;
         return Ok(false);
     }
-    report_steps(alloc, rule, lookup, since, scene, texts)
+    report_steps(alloc, rule, knowledge, since, scene, texts)
 }
 
 /// Evaluates a rule as `apply` does, and returns its course: a text for each key that was reached, with what it
@@ -199,19 +199,19 @@ fn report_rule<'a, L: Lookup>(
 /// which rule each key is final.
 ///
 /// If memory runs out, nothing is left of the scene but its event.
-pub fn report_course<'a, L: Lookup>(
+pub fn report_course<'a, K: Knowledge>(
     alloc: Global,
     rule: &'a Rule,
-    lookup: &L,
+    knowledge: &K,
     since: &Since<'a>,
     scene: &mut Scene<'a>,
 ) -> Result<Course, AllocError>
-    ensures scene { IfOk result (λ c. (scene.new, c.reached) ≡ apply (L.entries lookup.now) rule.now scene.old) }
-    ensures texts { IfOk result (λ c. c.texts.items ≡ course (L.entries lookup.now) since.now rule.now scene.old) }
+    ensures scene { IfOk result (λ c. (scene.new, c.reached) ≡ apply (K.known knowledge.now) rule.now scene.old) }
+    ensures texts { IfOk result (λ c. c.texts.items ≡ course (K.known knowledge.now) since.now rule.now scene.old) }
     ensures refused { OnErr result (scene.new ≡ blank scene.old.state.event) }
 {
     let mut texts = Vec::new(alloc);
-    match report_rule(alloc, rule, lookup, since, scene, &mut texts) {
+    match report_rule(alloc, rule, knowledge, since, scene, &mut texts) {
         Ok(reached) => Ok(Course { texts, reached }),
         Err(refused) => {
             scene.clear(alloc);

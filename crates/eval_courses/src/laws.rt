@@ -1,7 +1,7 @@
 //! What holds for courses, whatever the rule. Each function here is empty: its contract is the law.
 ghost use Rattle.std.specs.Prelude.{◌≡◌, ◌↔◌, ◌∷◌, ◌++◌, ℕ, List, Some, codes, true, false};
 ghost use Rattle.text_tables.specs.Texts.{Text};
-ghost use Rattle.hwdb_lookup.specs.declared.entry.Entry.{Entry};
+ghost use Rattle.builtin_devices.specs.Knowledge.{Known};
 ghost use Rattle.rule_types.specs.declared.part.UpMatch.{UpMatch};
 ghost use Rattle.rule_types.specs.Rules as rules;
 ghost use Rattle.eval_state.specs.declared.scene.Scene.{Scene};
@@ -17,12 +17,12 @@ ghost use Rattle.eval_courses.specs.Laws.{last_of};
 /// The last text of a course is `stops there` exactly if the rule's end was not reached, unless the rule is
 /// skipped.
 pub fn course_ends_as_its_rule()
-    ensures { (entries : List Entry) (since : finals.Since) (r : rules.Rule) (s : Scene) → is_idle r s.state.event ≡ false → (last_of (course entries since r s) ≡ Some (codes "stops there")) ↔ ((apply entries r s).1 ≡ false) }
+    ensures { (known : Known) (since : finals.Since) (r : rules.Rule) (s : Scene) → is_idle r s.state.event ≡ false → (last_of (course known since r s) ≡ Some (codes "stops there")) ↔ ((apply known r s).1 ≡ false) }
 {}
 
 /// The last text of the course of a rule that is skipped says so exactly if all its keys let it go on.
 pub fn course_says_what_is_skipped()
-    ensures { (entries : List Entry) (since : finals.Since) (r : rules.Rule) (s : Scene) → is_idle r s.state.event ≡ true → (last_of (course entries since r s) ≡ Some (codes "nothing in it counts for this device")) ↔ ((before_sets entries r s).1 ≡ true) }
+    ensures { (known : Known) (since : finals.Since) (r : rules.Rule) (s : Scene) → is_idle r s.state.event ≡ true → (last_of (course known since r s) ≡ Some (codes "nothing in it counts for this device")) ↔ ((before_sets known r s).1 ≡ true) }
 {}
 
 /// What is reported for a search names the nearest device that meets all of the matches.

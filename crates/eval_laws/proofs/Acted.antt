@@ -13,7 +13,7 @@ use Rattle.text_core.specs.Choices.{choice_fits}
 use Rattle.text_core.specs.Fnmatch.{fnmatch_items}
 use Rattle.text_core.specs.declared.item.Item.{Item}
 use Rattle.text_core.specs.declared.reading.Reading.TheVariants.{Exact}
-use Rattle.hwdb_lookup.specs.declared.entry.Entry.{Entry}
+use Rattle.builtin_devices.specs.Knowledge.{Known}
 use Rattle.rule_types.specs.Names.{import_name}
 use Rattle.rule_types.specs.WrittenParts.{attribute_of_act_kind, key_of_act_kind}
 use Rattle.rule_types.specs.declared.part.Act.{Act}
@@ -39,18 +39,14 @@ use Rattle.hwdb_lookup.specs.Query.{query}
 use Rattle.rule_types.specs.Builtins.{builtin_name}
 use Rattle.rule_types.specs.declared.builtins.Builtin.TheVariants.{InputId, NetId, PathId, UsbId}
 use Rattle.builtin_devices.specs.Outcomes.{OutcomeValue}
-use Rattle.builtin_input.specs.Input.{input_id}
-use Rattle.builtin_net.specs.NetId.{lookup, net_id}
-use Rattle.builtin_path.specs.Path.{path_id}
-use Rattle.builtin_usb.specs.UsbId.{usb_id}
 use Rattle.eval_acts.specs.BuiltinRuns.{is_address_name, looked_up, most_set, need_noted, need_word, net_id_run, outcome_set, outcome_taken, path_id_run, properties_size, property_size, usb_id_run, with_maker}
-use Rattle.eval_acts.specs.Builtins.{builtin, builtin_of, hwdb_asked}
-use Rattle.eval_acts.specs.Hwdb.{hwdb_of}
-use Rattle.eval_acts.specs.Words.{command_words}
-use Rattle.eval_acts.specs.declared.hwdb.Hwdb.{Hwdb}
+use Rattle.eval_commands.specs.Builtins.{builtin, builtin_of, hwdb_asked}
+use Rattle.eval_commands.specs.Hwdb.{hwdb_of}
+use Rattle.eval_commands.specs.Words.{command_words}
+use Rattle.eval_commands.specs.declared.hwdb.Hwdb.{Hwdb}
 use Rattle.eval_acts.specs.LookUps.{found}
-use Rattle.eval_acts.specs.declared.builtin.Builtin.{Builtin}
-use Rattle.eval_acts.specs.declared.builtin.Builtin.TheVariants as asked_for
+use Rattle.eval_commands.specs.declared.builtin.Builtin.{Builtin}
+use Rattle.eval_commands.specs.declared.builtin.Builtin.TheVariants as asked_for
 use Rattle.eval_state.specs.Named.{NamedValue, named, named_place}
 use Rattle.eval_state.specs.Properties.{properties_set, property_set}
 use Rattle.eval_acts.specs.ActTexts.{import_text, names_text, program_text, test_text}
@@ -99,11 +95,11 @@ unfolding event_weight
 parent_light event = let a = second_light event.device event.parents in omega (arith, a)
 
 -- what the database says about a text
-looked_up_light : (entries : List Entry) (text : Option Text) → properties_size (looked_up entries text) ≤ entries_weight entries
-looked_up_light entries None = omega arith
-looked_up_light entries (Some text) =
-    let a = query_light entries text in
-    let b : pairs_weight (query entries text) ≡ properties_size (query entries text) = refl in
+looked_up_light : (known : Known) (text : Option Text) → properties_size (looked_up known text) ≤ entries_weight known.entries
+looked_up_light known None = omega arith
+looked_up_light known (Some text) =
+    let a = query_light known.entries text in
+    let b : pairs_weight (query known.entries text) ≡ properties_size (query known.entries text) = refl in
     omega (arith, a, b)
 
 -- properties with others after one of them
@@ -208,59 +204,59 @@ module _ (event : EventValue) where
         let a = filter_light pair_weight (λ property. choice_fits names property.0) parent.env in
         more_env Manual (names_fitting names parent.env) (omega (arith, a, light))
 
-    hwdb_within : (entries : List Entry) (command : Text) (hwdb : Option Hwdb) → entries_weight entries ≤ most → Within event (n + most) (builtin_run entries r command (hwdb_asked hwdb) s).0
-    hwdb_within entries command None light = notes BadHwdbArguments command
-    hwdb_within entries command (Some hwdb) light =
-        let a = found_light entries hwdb s.state in
-        more_env s.state.event.profile (found entries hwdb s.state) (omega (arith, a, light))
+    hwdb_within : (known : Known) (command : Text) (hwdb : Option Hwdb) → entries_weight known.entries ≤ most → Within event (n + most) (builtin_run known r command (hwdb_asked hwdb) s).0
+    hwdb_within known command None light = notes BadHwdbArguments command
+    hwdb_within known command (Some hwdb) light =
+        let a = found_light known hwdb s.state in
+        more_env s.state.event.profile (found known hwdb s.state) (omega (arith, a, light))
 
-    manual_within : (entries : List Entry) (command : Text) (words : Option (List Text)) → entries_weight entries ≤ most → Within event (n + most) (builtin_run entries r command (builtin_of words) s).0
-    manual_within entries command None light = notes BadHwdbArguments command
-    manual_within entries command (Some []) light = notes BuiltinNotRun []
-    manual_within entries command (Some (name ∷ words)) light = by (same_text name (codes "hwdb"))
+    manual_within : (known : Known) (command : Text) (words : Option (List Text)) → entries_weight known.entries ≤ most → Within event (n + most) (builtin_run known r command (builtin_of words) s).0
+    manual_within known command None light = notes BadHwdbArguments command
+    manual_within known command (Some []) light = notes BuiltinNotRun []
+    manual_within known command (Some (name ∷ words)) light = by (same_text name (codes "hwdb"))
       where
-        by : (b : Bool) → Within event (n + most) (builtin_run entries r command (if b then hwdb_asked (hwdb_of words) else asked_for.Other name) s).0
-        by true = hwdb_within entries command (hwdb_of words) light
+        by : (b : Bool) → Within event (n + most) (builtin_run known r command (if b then hwdb_asked (hwdb_of words) else asked_for.Other name) s).0
+        by true = hwdb_within known command (hwdb_of words) light
         by false = notes BuiltinNotRun name
 
     taken_within : (name : Text) (outcome : OutcomeValue) → most_set + (length r.file + 56) ≤ most → Within event (n + most) (outcome_taken r name outcome s).0
     taken_within name outcome light =
         more event (n + (0 + (most_set + (length r.file + 56)))) (n + most) _ (omega (arith, light)) (outcome_within event n 0 r name outcome outcome.properties s (omega arith) h)
 
-    usb_within : (ran : Option Bool) → most_set + (length r.file + 56) ≤ most → Within event (n + most) (usb_id_run ran r s).0
+    usb_within : (known : Known) (ran : Option Bool) → most_set + (length r.file + 56) ≤ most → Within event (n + most) (usb_id_run known ran r s).0
     unfolding scene_weight
-    usb_within (Some done) light = stays
-    usb_within None light =
-        let after = taken_within (builtin_name UsbId) (usb_id s.state.event (is_some (value_of s.state.env (codes "ID_BUS")))) light in
+    usb_within known (Some done) light = stays
+    usb_within known None light =
+        let after = taken_within (builtin_name UsbId) (known.usb_id s.state.event (is_some (value_of s.state.env (codes "ID_BUS")))) light in
         record { same = after.same; light = after.light }
 
-    path_within : (ran : Option Bool) → most_set + (length r.file + 56) ≤ most → Within event (n + most) (path_id_run ran r s).0
+    path_within : (known : Known) (ran : Option Bool) → most_set + (length r.file + 56) ≤ most → Within event (n + most) (path_id_run known ran r s).0
     unfolding scene_weight
-    path_within (Some done) light = stays
-    path_within None light = let after = taken_within (builtin_name PathId) (path_id s.state.event) light in record { same = after.same; light = after.light }
+    path_within known (Some done) light = stays
+    path_within known None light = let after = taken_within (builtin_name PathId) (known.path_id s.state.event) light in record { same = after.same; light = after.light }
 
-    net_within : (entries : List Entry) → entries_weight entries + (most_set + (length r.file + 56)) ≤ most → Within event (n + most) (net_id_run entries r s).0
-    net_within entries light =
-        let names : OutcomeValue = net_id s.state.event s.state.env in
-        let found : List Pair = looked_up entries (lookup s.state.event s.state.env) in
+    net_within : (known : Known) → entries_weight known.entries + (most_set + (length r.file + 56)) ≤ most → Within event (n + most) (net_id_run known r s).0
+    net_within known light =
+        let names : OutcomeValue = known.net_id s.state.event s.state.env in
+        let found : List Pair = looked_up known (known.net_lookup s.state.event s.state.env) in
         let a = with_maker_light found names.properties in
-        let b = looked_up_light entries (lookup s.state.event s.state.env) in
-        more event (n + (entries_weight entries + (most_set + (length r.file + 56)))) (n + most) _ (omega (arith, light))
-        (outcome_within event n (entries_weight entries) r (builtin_name NetId) names (with_maker found names.properties) s (omega (arith, a, b)) h)
+        let b = looked_up_light known (known.net_lookup s.state.event s.state.env) in
+        more event (n + (entries_weight known.entries + (most_set + (length r.file + 56)))) (n + most) _ (omega (arith, light))
+        (outcome_within event n (entries_weight known.entries) r (builtin_name NetId) names (with_maker found names.properties) s (omega (arith, a, b)) h)
 
-    meant_within : (entries : List Entry) (command : Text) (wanted : Builtin) → entries_weight entries + (most_set + (length r.file + 56)) ≤ most → Within event (n + most) (builtin_run entries r command wanted s).0
-    meant_within entries command (asked_for.Hwdb hwdb) light = hwdb_within entries command (Some hwdb) (omega (arith, light))
-    meant_within entries command asked_for.InputId light = taken_within (builtin_name InputId) (input_id s.state.event) (omega (arith, light))
-    meant_within entries command asked_for.NetId light = net_within entries light
-    meant_within entries command asked_for.PathId light = path_within s.ran.path_id (omega (arith, light))
-    meant_within entries command asked_for.UsbId light = usb_within s.ran.usb_id (omega (arith, light))
-    meant_within entries command (asked_for.Other name) light = notes BuiltinNotRun name
-    meant_within entries command asked_for.BadArguments light = notes BadHwdbArguments command
+    meant_within : (known : Known) (command : Text) (wanted : Builtin) → entries_weight known.entries + (most_set + (length r.file + 56)) ≤ most → Within event (n + most) (builtin_run known r command wanted s).0
+    meant_within known command (asked_for.Hwdb hwdb) light = hwdb_within known command (Some hwdb) (omega (arith, light))
+    meant_within known command asked_for.InputId light = taken_within (builtin_name InputId) (known.input_id s.state.event) (omega (arith, light))
+    meant_within known command asked_for.NetId light = net_within known light
+    meant_within known command asked_for.PathId light = path_within known s.ran.path_id (omega (arith, light))
+    meant_within known command asked_for.UsbId light = usb_within known s.ran.usb_id (omega (arith, light))
+    meant_within known command (asked_for.Other name) light = notes BuiltinNotRun name
+    meant_within known command asked_for.BadArguments light = notes BadHwdbArguments command
 
-    builtin_within : (profile : Profile) (entries : List Entry) (command : Text) → entries_weight entries + (builtin_allowance profile + (length r.file + 56)) ≤ most
-        → Within event (n + most) (builtin_run entries r command (builtin profile command) s).0
-    builtin_within Manual entries command light = manual_within entries command (command_words command) (omega (arith, light))
-    builtin_within Udev entries command light = meant_within entries command (builtin Udev command) light
+    builtin_within : (profile : Profile) (known : Known) (command : Text) → entries_weight known.entries + (builtin_allowance profile + (length r.file + 56)) ≤ most
+        → Within event (n + most) (builtin_run known r command (builtin profile command) s).0
+    builtin_within Manual known command light = manual_within known command (command_words command) (omega (arith, light))
+    builtin_within Udev known command light = meant_within known command (builtin Udev command) light
 
     not_run_within : (type : ImportType) → Within event (n + most) (not_run r type s).0
     not_run_within type = notes ImportNotRun (import_name type)
@@ -285,47 +281,47 @@ module _ (event : EventValue) where
         let b = ap (λ e. pairs_weight (env_of (device_at e 1))) h.same in
         parent_within names (device_at s.state.event 1) (omega (arith, a, b, short))
 
-    built_within : (d : ActKind) (entries : List Entry) (given : Rendered) → entries_weight entries + (builtin_allowance event.profile + (length r.file + 56)) ≤ most
-        → Within event (n + most) (left r d (on_text (run_builtin entries r) given s))
-    built_within d entries given light =
-        on_text_within d (run_builtin entries r) given
-        (λ command. builtin_within s.state.event.profile entries command (let same = ap (λ e. builtin_allowance e.profile) h.same in omega (arith, same, light)))
+    built_within : (d : ActKind) (known : Known) (given : Rendered) → entries_weight known.entries + (builtin_allowance event.profile + (length r.file + 56)) ≤ most
+        → Within event (n + most) (left r d (on_text (run_builtin known r) given s))
+    built_within d known given light =
+        on_text_within d (run_builtin known r) given
+        (λ command. builtin_within s.state.event.profile known command (let same = ap (λ e. builtin_allowance e.profile) h.same in omega (arith, same, light)))
 
-    import_within : (profile : Profile) (d : ActKind) (entries : List Entry) (from : Import) → entries_weight entries + (builtin_allowance event.profile + (length r.file + 56)) ≤ most → event_weight event ≤ most
-        → Within event (n + most) (left r d (imported profile entries r from s))
-    import_within Manual d entries (import.Builtin template) light short = built_within d entries _ light
-    import_within Udev d entries (import.Builtin template) light short = built_within d entries _ light
-    import_within Manual d entries (import.Parent names text) light short = second_within names short
-    import_within Udev d entries (import.Parent names text) light short =
+    import_within : (profile : Profile) (d : ActKind) (known : Known) (from : Import) → entries_weight known.entries + (builtin_allowance event.profile + (length r.file + 56)) ≤ most → event_weight event ≤ most
+        → Within event (n + most) (left r d (imported profile known r from s))
+    import_within Manual d known (import.Builtin template) light short = built_within d known _ light
+    import_within Udev d known (import.Builtin template) light short = built_within d known _ light
+    import_within Manual d known (import.Parent names text) light short = second_within names short
+    import_within Udev d known (import.Parent names text) light short =
         on_text_within d from_parent_by (names_text text s.state) (λ found. second_within (fnmatch_items Exact found 0 ∷ []) short)
-    import_within Manual d entries (import.Program template) light short = not_run_within import_of.Program
-    import_within Udev d entries (import.Program template) light short =
+    import_within Manual d known (import.Program template) light short = not_run_within import_of.Program
+    import_within Udev d known (import.Program template) light short =
         on_text_within d (from_program r) (import_text most_command_bytes template s.state) (λ command. program_within command short)
-    import_within Manual d entries (import.File template) light short = not_run_within import_of.File
-    import_within Udev d entries (import.File template) light short =
+    import_within Manual d known (import.File template) light short = not_run_within import_of.File
+    import_within Udev d known (import.File template) light short =
         on_text_within d (λ path. not_run r import_of.File) (import_text most_path_bytes template s.state) (λ path. not_run_within import_of.File)
-    import_within Manual d entries (import.Cmdline name) light short = not_run_within import_of.Cmdline
-    import_within Udev d entries (import.Cmdline name) light short = not_run_within import_of.Cmdline
-    import_within Manual d entries (import.Db name) light short = not_run_within import_of.Db
-    import_within Udev d entries (import.Db name) light short = not_run_within import_of.Db
+    import_within Manual d known (import.Cmdline name) light short = not_run_within import_of.Cmdline
+    import_within Udev d known (import.Cmdline name) light short = not_run_within import_of.Cmdline
+    import_within Manual d known (import.Db name) light short = not_run_within import_of.Db
+    import_within Udev d known (import.Db name) light short = not_run_within import_of.Db
 
   emptied : (n : ℕ) (s : Scene) → Within event n s → Within event n (with_result [] s)
   unfolding scene_weight
   emptied n s h = record { same = h.same; light = h.light }
 
-  module _ (len : ℕ) (short : event_weight event ≤ len) (entries : List Entry) where
-    act_kind_within : (n : ℕ) (r : Rule) (s : Scene) → Within event n s → (d : ActKind) → Within event (n + act_kind_allowance event.profile len entries r d) (left r d (performed entries r d s))
+  module _ (len : ℕ) (short : event_weight event ≤ len) (known : Known) where
+    act_kind_within : (n : ℕ) (r : Rule) (s : Scene) → Within event n s → (d : ActKind) → Within event (n + act_kind_allowance event.profile len known.entries r d) (left r d (performed known r d s))
     act_kind_within n r s h (act_kind.Test mask template) =
-        let most : ℕ = act_kind_allowance event.profile len entries r (act_kind.Test mask template) in
+        let most : ℕ = act_kind_allowance event.profile len known.entries r (act_kind.Test mask template) in
         on_text_within n r s h most (omega arith) (act_kind.Test mask template) (tested r mask) (test_text template s.state) (tested_within n r s h most (omega arith) mask)
     act_kind_within n r s h (act_kind.Program template) =
-        let most : ℕ = act_kind_allowance event.profile len entries r (act_kind.Program template) in
+        let most : ℕ = act_kind_allowance event.profile len known.entries r (act_kind.Program template) in
         on_text_within n r (with_result [] s) (emptied n s h) most (omega arith) (act_kind.Program template) (answered_by_block r) (program_text template s.state)
         (asked_within n r (with_result [] s) (emptied n s h) most (omega arith))
     act_kind_within n r s h (act_kind.Import from) =
-        import_within n r s h (act_kind_allowance event.profile len entries r (act_kind.Import from)) (omega arith) s.state.event.profile (act_kind.Import from) entries from (omega arith) (omega (arith, short))
+        import_within n r s h (act_kind_allowance event.profile len known.entries r (act_kind.Import from)) (omega arith) s.state.event.profile (act_kind.Import from) known from (omega arith) (omega (arith, short))
 
     -- an act
-    pub act_within : (r : Rule) (act : Act) (n : ℕ) (s : Scene) → Within event n s → Within event (n + act_kind_allowance event.profile len entries r act.kind) (act_step entries r act s).0
+    pub act_within : (r : Rule) (act : Act) (n : ℕ) (s : Scene) → Within event n s → Within event (n + act_kind_allowance event.profile len known.entries r act.kind) (act_step known r act s).0
     unfolding act_step
     act_within r act n s h = act_kind_within n r s h act.kind

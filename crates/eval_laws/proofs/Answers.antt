@@ -7,7 +7,7 @@ use Rattle.text_bytes.specs.Escapes.{escape_text}
 use Rattle.text_bytes.specs.declared.profile.Profile.{Profile}
 use Rattle.text_bytes.specs.declared.source_file.SourceFile.{SourceFile}
 use Rattle.text_tables.specs.Texts.{Text}
-use Rattle.hwdb_lookup.specs.declared.entry.Entry.{Entry}
+use Rattle.builtin_devices.specs.Knowledge.{Known}
 use Rattle.rule_core.specs.Rules.{set_of_as}
 use Rattle.device_core.specs.Faults.{block_gives}
 use Rattle.device_core.specs.Values.{DeviceValue, EventValue, by_profile}
@@ -62,8 +62,8 @@ block_answer_short profile block event o given fits =
     let c = weight_by profile event in
     omega (arith, a, b, c)
 
-pub files_answer_short : (read profile : Profile) (files : List SourceFile) (entries : List Entry) (block : Text) (event : EventValue) → block_gives block ≡ Ok event
-    → length (answer (by_profile profile event) (outcome (set_of_as read files).rules entries (by_profile profile event)))
-    ≤ 8 * outcome_weight (outcome (set_of_as read files).rules entries (by_profile profile event)) + 4 * length block + 64
-files_answer_short read profile files entries block event given =
-    block_answer_short profile block event (outcome (set_of_as read files).rules entries (by_profile profile event)) given (outcome_small read files entries (by_profile profile event))
+pub files_answer_short : (read profile : Profile) (files : List SourceFile) (known : Known) (block : Text) (event : EventValue) → block_gives block ≡ Ok event
+    → length (answer (by_profile profile event) (outcome (set_of_as read files).rules known (by_profile profile event)))
+    ≤ 8 * outcome_weight (outcome (set_of_as read files).rules known (by_profile profile event)) + 4 * length block + 64
+files_answer_short read profile files known block event given =
+    block_answer_short profile block event (outcome (set_of_as read files).rules known (by_profile profile event)) given (outcome_small read files known (by_profile profile event))

@@ -4,7 +4,7 @@ use Rattle.std.proofs.lemmas.Bool.{eqb-true}
 use Rattle.text_tables.specs.Texts.{Text}
 use Rattle.text_tables.specs.Pairs.{value_of}
 use Rattle.device_core.specs.Values.{AnswerValue}
-use Rattle.hwdb_lookup.specs.declared.entry.Entry.{Entry}
+use Rattle.builtin_devices.specs.Knowledge.{Known}
 use Rattle.rule_templates.specs.Template.{Parts as Template}
 use Rattle.rule_types.specs.declared.part.ActKind.TheVariants as act_kind
 use Rattle.rule_types.specs.Rules.{Rule}
@@ -67,27 +67,27 @@ module _ (r : Rule) (template : Template) (s : Scene) where
   by_command (outcome.Text command) e = by_answer command e (value_of s.state.event.programs command) refl
   by_command outcome.TooLong e = inr (record { stops = too_long_stops s.state.event.profile; empty = refl })
 
-  module _ (entries : List Entry) where
-    pub answered : (text : Text) → IsAnswered template s text → act_step entries r (program template) s ≡ (with_result (result_of s.state.event.profile text) s, true)
+  module _ (known : Known) where
+    pub answered : (text : Text) → IsAnswered template s text → act_step known r (program template) s ≡ (with_result (result_of s.state.event.profile text) s, true)
     unfolding act_step
     answered text h =
         ap (λ given. after (on_text (answered_by_block r) given (with_result [] s))) h.rendered
         ∙ ap (λ answer. after (acts.tried (answered_or_noted r h.command answer (with_result [] s)))) h.answered
 
-    is_answered : ((text : Text) × IsAnswered template s text) ⊎ Fails (act_step entries r (program template) s)
+    is_answered : ((text : Text) × IsAnswered template s text) ⊎ Fails (act_step known r (program template) s)
     unfolding act_step came
     is_answered = by_command (program_text template s.state) refl
 
-    pub holds : (act_step entries r (program template) s).1 ≡ true → (text : Text) × IsAnswered template s text
+    pub holds : (act_step known r (program template) s).1 ≡ true → (text : Text) × IsAnswered template s text
     holds e = by is_answered
       where
-        by : ((text : Text) × IsAnswered template s text) ⊎ Fails (act_step entries r (program template) s) → (text : Text) × IsAnswered template s text
+        by : ((text : Text) × IsAnswered template s text) ⊎ Fails (act_step known r (program template) s) → (text : Text) × IsAnswered template s text
         by (inl h) = h
         by (inr f) = absurd (true≢false (sym e ∙ f.stops))
 
-    pub failed : (act_step entries r (program template) s).1 ≡ false → (act_step entries r (program template) s).0.state.result ≡ []
+    pub failed : (act_step known r (program template) s).1 ≡ false → (act_step known r (program template) s).0.state.result ≡ []
     failed e = by is_answered
       where
-        by : ((text : Text) × IsAnswered template s text) ⊎ Fails (act_step entries r (program template) s) → (act_step entries r (program template) s).0.state.result ≡ []
+        by : ((text : Text) × IsAnswered template s text) ⊎ Fails (act_step known r (program template) s) → (act_step known r (program template) s).0.state.result ≡ []
         by (inl h) = absurd (true≢false (sym (ap (λ went. went.1) (answered h.0 h.1)) ∙ e))
         by (inr f) = f.empty

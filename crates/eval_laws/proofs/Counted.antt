@@ -4,7 +4,7 @@ use Rattle.std.proofs.lemmas.List.{length-append}
 use Rattle.std.proofs.lemmas.List.Sums.{sum_by-cons}
 use Rattle.std.specs.List.{sum_by}
 use Rattle.text_tables.specs.Texts.{Text}
-use Rattle.hwdb_lookup.specs.declared.entry.Entry.{Entry}
+use Rattle.builtin_devices.specs.Knowledge.{Known}
 use Rattle.rule_types.specs.declared.roles.PlainKey.{PlainKey}
 use Rattle.rule_types.specs.declared.roles.PlainKey.TheVariants as plain
 use Rattle.rule_types.specs.declared.part.Act.{Act}
@@ -112,22 +112,22 @@ module _ (w : Note → ℕ) (v : RunValue → ℕ) (c : Rule → ℕ) (light : (
         omega (arith, one, rest, b)
 
   -- a rule with its assignments, however these are made
-  went_counts : (entries : List Entry) (r : Rule) (step : Scene → Assignment → Scene) → ((s : Scene) (a : Assignment) → counted (step s a) ≤ counted s + c r)
-      → (s : Scene) → counted (if_proceeding (λ (t : Scene). (fold step t r.sets, true)) (before_sets entries r s)).0 ≤ counted s + parts_most (c r) r
-  went_counts entries r step each s =
+  went_counts : (known : Known) (r : Rule) (step : Scene → Assignment → Scene) → ((s : Scene) (a : Assignment) → counted (step s a) ≤ counted s + c r)
+      → (s : Scene) → counted (if_proceeding (λ (t : Scene). (fold step t r.sets, true)) (before_sets known r s)).0 ≤ counted s + parts_most (c r) r
+  went_counts known r step each s =
       let most : ℕ = c r in
       let p : ℕ = counted s + sum_by (λ (x : PlainMatch). most) r.plain in
       let a : ℕ = p + sum_by (λ (x : Act). most) r.acts in
       let b : ℕ = a + sum_by (λ (x : Comparison). most) r.results in
       let plainly : Went = walk (plain_step r) r.plain s in
       let found : Went = if_proceeding (search r.up) plainly in
-      let acted : Went = if_proceeding (walk (act_step entries r) r.acts) found in
+      let acted : Went = if_proceeding (walk (act_step known r) r.acts) found in
       let after_plain = walk_counts most (plain_step r) (plain_counts r) r.plain s in
       let after_up = if_proceeding_counts (search r.up) 0 p plainly after_plain (search_counts r r.up) in
       let after_acts =
-      if_proceeding_counts (walk (act_step entries r) r.acts) (sum_by (λ (x : Act). most) r.acts) p found (omega (arith, after_up)) (walk_counts most (act_step entries r) (act_counts w v c light entries r) r.acts) in
+      if_proceeding_counts (walk (act_step known r) r.acts) (sum_by (λ (x : Act). most) r.acts) p found (omega (arith, after_up)) (walk_counts most (act_step known r) (act_counts w v c light known r) r.acts) in
       let after_results = if_proceeding_counts (walk result_step r.results) (sum_by (λ (x : Comparison). most) r.results) a acted after_acts (walk_counts most result_step (result_counts r) r.results) in
-      let after_sets = if_proceeding_counts (λ (t : Scene). (fold step t r.sets, true)) (sum_by (λ (x : Assignment). most) r.sets) b (before_sets entries r s) after_results (sets_count r step each r.sets) in
+      let after_sets = if_proceeding_counts (λ (t : Scene). (fold step t r.sets, true)) (sum_by (λ (x : Assignment). most) r.sets) b (before_sets known r s) after_results (sets_count r step each r.sets) in
       omega (arith, after_sets)
 
   note_counts : (r : Rule) (s : Scene) (a : Assignment) → counted (note_step r s a) ≤ counted s + c r
@@ -138,20 +138,20 @@ module _ (w : Note → ℕ) (v : RunValue → ℕ) (c : Rule → ℕ) (light : (
       by false = set_counts w v c light late r s a
 
   -- a rule that is not skipped, and one that is, whose notes are kept
-  steps_count : (entries : List Entry) (r : Rule) (s : Scene) → counted (steps entries r s).0 ≤ counted s + parts_most (c r) r
+  steps_count : (known : Known) (r : Rule) (s : Scene) → counted (steps known r s).0 ≤ counted s + parts_most (c r) r
   unfolding steps
-  steps_count entries r s = went_counts entries r (set_step r) (set_counts w v c light late r) s
+  steps_count known r s = went_counts known r (set_step r) (set_counts w v c light late r) s
 
-  notes_count : (entries : List Entry) (r : Rule) (s : Scene) → counted (if_proceeding (note_all r) (before_sets entries r s)).0 ≤ counted s + parts_most (c r) r
-  notes_count entries r s = went_counts entries r (note_step r) (note_counts r) s
+  notes_count : (known : Known) (r : Rule) (s : Scene) → counted (if_proceeding (note_all r) (before_sets known r s)).0 ≤ counted s + parts_most (c r) r
+  notes_count known r s = went_counts known r (note_step r) (note_counts r) s
 
 -- ---- rules one after another
 
 module _ (w : Note → ℕ) (c : Rule → ℕ) (light : (r : Rule) (kind : NoteKind) (text : Text) → w (note_about r kind text) ≤ c r) where
   -- the notes of a rule that is skipped
-  pub noted_counts : (entries : List Entry) (r : Rule) (s : Scene) → sum_by w (only_noted entries r s).0.notes ≤ sum_by w s.notes + parts_most (c r) r
-  noted_counts entries r s =
-      let a = notes_count w (λ run. 0) c light (λ run. omega arith) entries r s in
+  pub noted_counts : (known : Known) (r : Rule) (s : Scene) → sum_by w (only_noted known r s).0.notes ≤ sum_by w s.notes + parts_most (c r) r
+  noted_counts known r s =
+      let a = notes_count w (λ run. 0) c light (λ run. omega arith) known r s in
       let b = no_sum s.runs in
       omega (arith, a, b)
 
@@ -160,33 +160,33 @@ module _ (w : Note → ℕ) (v : RunValue → ℕ) (c : Rule → ℕ) (light : (
   all s = sum_by w s.notes + sum_by v s.runs
 
   -- a rule
-  rule_counts : (entries : List Entry) (r : Rule) (s : Scene) → all (apply entries r s).0 ≤ all s + parts_most (c r) r
+  rule_counts : (known : Known) (r : Rule) (s : Scene) → all (apply known r s).0 ≤ all s + parts_most (c r) r
   unfolding apply
-  rule_counts entries r s = by (is_idle r s.state.event)
+  rule_counts known r s = by (is_idle r s.state.event)
     where
-      by : (b : Bool) → all (if b then only_noted entries r s else steps entries r s).0 ≤ all s + parts_most (c r) r
-      by true = let a = noted_counts w c light entries r s in omega (arith, a)
-      by false = steps_count w v c light late entries r s
+      by : (b : Bool) → all (if b then only_noted known r s else steps known r s).0 ≤ all s + parts_most (c r) r
+      by true = let a = noted_counts w c light known r s in omega (arith, a)
+      by false = steps_count w v c light late known r s
 
   -- all rules
-  run_counts : (entries : List Entry) (rules : List Rule) (sought : Option Text) (s : Scene) → all (run entries sought rules s) ≤ all s + sum_by (λ (r : Rule). parts_most (c r) r) rules
+  run_counts : (known : Known) (rules : List Rule) (sought : Option Text) (s : Scene) → all (run known sought rules s) ≤ all s + sum_by (λ (r : Rule). parts_most (c r) r) rules
   unfolding run
-  run_counts entries [] sought s = omega arith
-  run_counts entries (r ∷ rules) sought s = by (is_passed sought r) (run_counts entries rules)
+  run_counts known [] sought s = omega arith
+  run_counts known (r ∷ rules) sought s = by (is_passed sought r) (run_counts known rules)
     where
       own : Rule → ℕ
       own q = parts_most (c q) q
 
-      by : (b : Bool) → ((sought : Option Text) (s : Scene) → all (run entries sought rules s) ≤ all s + sum_by own rules)
-          → all (if b then run entries sought rules s else run entries (sought_after (apply entries r s).1 r) rules (apply entries r s).0) ≤ all s + sum_by own (r ∷ rules)
+      by : (b : Bool) → ((sought : Option Text) (s : Scene) → all (run known sought rules s) ≤ all s + sum_by own rules)
+          → all (if b then run known sought rules s else run known (sought_after (apply known r s).1 r) rules (apply known r s).0) ≤ all s + sum_by own (r ∷ rules)
       by true following =
           let whole = sum_by-cons own r rules in
           let a = following sought s in
           omega (arith, whole, a)
       by false following =
           let whole = sum_by-cons own r rules in
-          let first = rule_counts entries r s in
-          let a = following (sought_after (apply entries r s).1 r) (apply entries r s).0 in
+          let first = rule_counts known r s in
+          let a = following (sought_after (apply known r s).1 r) (apply known r s).0 in
           omega (arith, whole, first, a)
 
 -- ---- the end
@@ -212,11 +212,11 @@ parts_count r =
     let d = ones r.sets in
     omega (arith, a, b, c, d)
 
-pub notes_counted : (rules : List Rule) (entries : List Entry) (event : EventValue) → length (outcome rules entries event).notes ≤ sum_by part_count rules
+pub notes_counted : (rules : List Rule) (known : Known) (event : EventValue) → length (outcome rules known event).notes ≤ sum_by part_count rules
 unfolding outcome_of
-notes_counted rules entries event =
-    let s : Scene = run entries None rules (start event) in
-    let a = run_counts (λ note. 1) (λ run. 1) (λ r. 1) (λ r kind text. omega arith) (λ run. omega arith) entries rules None (start event) in
+notes_counted rules known event =
+    let s : Scene = run known None rules (start event) in
+    let a = run_counts (λ note. 1) (λ run. 1) (λ r. 1) (λ r kind text. omega arith) (λ run. omega arith) known rules None (start event) in
     let b = lates_count s.state s.runs in
     let c = length-append s.notes (late_notes s.state s.runs) in
     let d = ones s.notes in

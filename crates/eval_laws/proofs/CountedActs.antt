@@ -9,7 +9,7 @@ use Rattle.text_tables.specs.Pairs.{Pair, value_of}
 use Rattle.text_core.specs.Fnmatch.{fnmatch_items}
 use Rattle.text_core.specs.declared.item.Item.{Item}
 use Rattle.text_core.specs.declared.reading.Reading.TheVariants.{Exact}
-use Rattle.hwdb_lookup.specs.declared.entry.Entry.{Entry}
+use Rattle.builtin_devices.specs.Knowledge.{Known}
 use Rattle.rule_types.specs.Names.{import_name}
 use Rattle.rule_types.specs.WrittenParts.{attribute_of_act_kind, key_of_act_kind}
 use Rattle.rule_types.specs.declared.part.Act.{Act}
@@ -37,14 +37,10 @@ use Rattle.eval_state.specs.declared.scene.Scene.{Scene}
 use Rattle.rule_types.specs.Builtins.{builtin_name}
 use Rattle.rule_types.specs.declared.builtins.Builtin.TheVariants.{InputId, NetId, PathId, UsbId}
 use Rattle.builtin_devices.specs.Outcomes.{OutcomeValue}
-use Rattle.builtin_input.specs.Input.{input_id}
-use Rattle.builtin_net.specs.NetId.{lookup, net_id}
-use Rattle.builtin_path.specs.Path.{path_id}
-use Rattle.builtin_usb.specs.UsbId.{usb_id}
 use Rattle.eval_acts.specs.BuiltinRuns.{looked_up, most_set, need_noted, need_word, outcome_set, outcome_taken, path_id_run, properties_size, usb_id_run, with_maker}
-use Rattle.eval_acts.specs.Builtins.{builtin}
-use Rattle.eval_acts.specs.declared.builtin.Builtin.{Builtin}
-use Rattle.eval_acts.specs.declared.builtin.Builtin.TheVariants as asked_for
+use Rattle.eval_commands.specs.Builtins.{builtin}
+use Rattle.eval_commands.specs.declared.builtin.Builtin.{Builtin}
+use Rattle.eval_commands.specs.declared.builtin.Builtin.TheVariants as asked_for
 use Rattle.eval_acts.specs.ActTexts.{import_text, names_text, program_text, test_text}
 use Rattle.eval_acts.specs.Acts.{act_step, from_parent_by, imported, on_text, performed}
 use Rattle.eval_acts.specs.Inner.{left}
@@ -74,13 +70,13 @@ module _ (w : Note → ℕ) (v : RunValue → ℕ) (c : Rule → ℕ) (light : (
   taken_counts : (r : Rule) (name : Text) (outcome : OutcomeValue) (s : Scene) → counted (outcome_taken r name outcome s).0 ≤ counted s + c r
   taken_counts r name outcome s = outcome_counts r name outcome outcome.properties s
 
-  usb_counts : (r : Rule) (ran : Option Bool) (s : Scene) → counted (usb_id_run ran r s).0 ≤ counted s + c r
-  usb_counts r (Some done) s = omega arith
-  usb_counts r None s = taken_counts r (builtin_name UsbId) (usb_id s.state.event (is_some (value_of s.state.env (codes "ID_BUS")))) s
+  usb_counts : (known : Known) (r : Rule) (ran : Option Bool) (s : Scene) → counted (usb_id_run known ran r s).0 ≤ counted s + c r
+  usb_counts known r (Some done) s = omega arith
+  usb_counts known r None s = taken_counts r (builtin_name UsbId) (known.usb_id s.state.event (is_some (value_of s.state.env (codes "ID_BUS")))) s
 
-  path_counts : (r : Rule) (ran : Option Bool) (s : Scene) → counted (path_id_run ran r s).0 ≤ counted s + c r
-  path_counts r (Some done) s = omega arith
-  path_counts r None s = taken_counts r (builtin_name PathId) (path_id s.state.event) s
+  path_counts : (known : Known) (r : Rule) (ran : Option Bool) (s : Scene) → counted (path_id_run known ran r s).0 ≤ counted s + c r
+  path_counts known r (Some done) s = omega arith
+  path_counts known r None s = taken_counts r (builtin_name PathId) (known.path_id s.state.event) s
 
   module _ (r : Rule) (s : Scene) where
     notes : (kind : NoteKind) (text : Text) → counted (noted r kind text s) ≤ counted s + c r
@@ -117,16 +113,16 @@ module _ (w : Note → ℕ) (v : RunValue → ℕ) (c : Rule → ℕ) (light : (
         by true = omega arith
         by false = omega arith
 
-    builtin_counts : (entries : List Entry) (command : Text) (wanted : Builtin) → counted (builtin_run entries r command wanted s).0 ≤ counted s + c r
-    builtin_counts entries command (asked_for.Hwdb hwdb) = omega arith
-    builtin_counts entries command asked_for.InputId = taken_counts r (builtin_name InputId) (input_id s.state.event) s
-    builtin_counts entries command asked_for.NetId =
-        let names : OutcomeValue = net_id s.state.event s.state.env in
-        outcome_counts r (builtin_name NetId) names (with_maker (looked_up entries (lookup s.state.event s.state.env)) names.properties) s
-    builtin_counts entries command asked_for.PathId = path_counts r s.ran.path_id s
-    builtin_counts entries command asked_for.UsbId = usb_counts r s.ran.usb_id s
-    builtin_counts entries command (asked_for.Other name) = notes BuiltinNotRun name
-    builtin_counts entries command asked_for.BadArguments = notes BadHwdbArguments command
+    builtin_counts : (known : Known) (command : Text) (wanted : Builtin) → counted (builtin_run known r command wanted s).0 ≤ counted s + c r
+    builtin_counts known command (asked_for.Hwdb hwdb) = omega arith
+    builtin_counts known command asked_for.InputId = taken_counts r (builtin_name InputId) (known.input_id s.state.event) s
+    builtin_counts known command asked_for.NetId =
+        let names : OutcomeValue = known.net_id s.state.event s.state.env in
+        outcome_counts r (builtin_name NetId) names (with_maker (looked_up known (known.net_lookup s.state.event s.state.env)) names.properties) s
+    builtin_counts known command asked_for.PathId = path_counts known r s.ran.path_id s
+    builtin_counts known command asked_for.UsbId = usb_counts known r s.ran.usb_id s
+    builtin_counts known command (asked_for.Other name) = notes BuiltinNotRun name
+    builtin_counts known command asked_for.BadArguments = notes BadHwdbArguments command
 
     parent_counts : (names : List (List Item)) (parent : Option DeviceValue) → counted (from_parent names parent s).0 ≤ counted s + c r
     parent_counts names None = omega arith
@@ -143,33 +139,33 @@ module _ (w : Note → ℕ) (v : RunValue → ℕ) (c : Rule → ℕ) (light : (
         by true = omega arith
         by false = omega arith
 
-    built_counts : (d : ActKind) (entries : List Entry) (given : Rendered) → counted (left r d (on_text (run_builtin entries r) given s)) ≤ counted s + c r
-    built_counts d entries given = on_text_counts d (run_builtin entries r) given (λ command. builtin_counts entries command (builtin s.state.event.profile command))
+    built_counts : (d : ActKind) (known : Known) (given : Rendered) → counted (left r d (on_text (run_builtin known r) given s)) ≤ counted s + c r
+    built_counts d known given = on_text_counts d (run_builtin known r) given (λ command. builtin_counts known command (builtin s.state.event.profile command))
 
-    import_counts : (profile : Profile) (d : ActKind) (entries : List Entry) (from : Import) → counted (left r d (imported profile entries r from s)) ≤ counted s + c r
-    import_counts Manual d entries (import.Builtin template) = built_counts d entries _
-    import_counts Udev d entries (import.Builtin template) = built_counts d entries _
-    import_counts Manual d entries (import.Parent names text) = parent_counts names (device_at s.state.event 1)
-    import_counts Udev d entries (import.Parent names text) =
+    import_counts : (profile : Profile) (d : ActKind) (known : Known) (from : Import) → counted (left r d (imported profile known r from s)) ≤ counted s + c r
+    import_counts Manual d known (import.Builtin template) = built_counts d known _
+    import_counts Udev d known (import.Builtin template) = built_counts d known _
+    import_counts Manual d known (import.Parent names text) = parent_counts names (device_at s.state.event 1)
+    import_counts Udev d known (import.Parent names text) =
         on_text_counts d from_parent_by (names_text text s.state) (λ found. parent_counts (fnmatch_items Exact found 0 ∷ []) (device_at s.state.event 1))
-    import_counts Manual d entries (import.Program template) = not_run_counts import_of.Program
-    import_counts Udev d entries (import.Program template) =
+    import_counts Manual d known (import.Program template) = not_run_counts import_of.Program
+    import_counts Udev d known (import.Program template) =
         on_text_counts d (from_program r) (import_text most_command_bytes template s.state) (λ command. printed_counts command (value_of s.state.event.programs command))
-    import_counts Manual d entries (import.File template) = not_run_counts import_of.File
-    import_counts Udev d entries (import.File template) = on_text_counts d (λ path. not_run r import_of.File) (import_text most_path_bytes template s.state) (λ text. not_run_counts import_of.File)
-    import_counts Manual d entries (import.Cmdline name) = not_run_counts import_of.Cmdline
-    import_counts Udev d entries (import.Cmdline name) = not_run_counts import_of.Cmdline
-    import_counts Manual d entries (import.Db name) = not_run_counts import_of.Db
-    import_counts Udev d entries (import.Db name) = not_run_counts import_of.Db
+    import_counts Manual d known (import.File template) = not_run_counts import_of.File
+    import_counts Udev d known (import.File template) = on_text_counts d (λ path. not_run r import_of.File) (import_text most_path_bytes template s.state) (λ text. not_run_counts import_of.File)
+    import_counts Manual d known (import.Cmdline name) = not_run_counts import_of.Cmdline
+    import_counts Udev d known (import.Cmdline name) = not_run_counts import_of.Cmdline
+    import_counts Manual d known (import.Db name) = not_run_counts import_of.Db
+    import_counts Udev d known (import.Db name) = not_run_counts import_of.Db
 
-  act_kind_counts : (entries : List Entry) (r : Rule) (s : Scene) (d : ActKind) → counted (left r d (performed entries r d s)) ≤ counted s + c r
-  act_kind_counts entries r s (act_kind.Test mask template) = on_text_counts r s (act_kind.Test mask template) (tested r mask) (test_text template s.state) (tested_counts r s mask)
-  act_kind_counts entries r s (act_kind.Program template) =
+  act_kind_counts : (known : Known) (r : Rule) (s : Scene) (d : ActKind) → counted (left r d (performed known r d s)) ≤ counted s + c r
+  act_kind_counts known r s (act_kind.Test mask template) = on_text_counts r s (act_kind.Test mask template) (tested r mask) (test_text template s.state) (tested_counts r s mask)
+  act_kind_counts known r s (act_kind.Program template) =
       on_text_counts r (with_result [] s) (act_kind.Program template) (answered_by_block r) (program_text template s.state)
       (λ command. answered_counts r (with_result [] s) command (value_of s.state.event.programs command))
-  act_kind_counts entries r s (act_kind.Import from) = import_counts r s s.state.event.profile (act_kind.Import from) entries from
+  act_kind_counts known r s (act_kind.Import from) = import_counts r s s.state.event.profile (act_kind.Import from) known from
 
   -- an act of a rule
-  pub act_counts : (entries : List Entry) (r : Rule) (act : Act) (s : Scene) → counted (act_step entries r act s).0 ≤ counted s + c r
+  pub act_counts : (known : Known) (r : Rule) (act : Act) (s : Scene) → counted (act_step known r act s).0 ≤ counted s + c r
   unfolding act_step
-  act_counts entries r act s = act_kind_counts entries r s act.kind
+  act_counts known r act s = act_kind_counts known r s act.kind

@@ -7,10 +7,10 @@ use Rattle.text_bytes.specs.declared.profile.Profile.{Profile}
 use Rattle.text_bytes.specs.declared.profile.Profile.TheVariants.{Manual, Udev}
 use Rattle.text_tables.specs.Texts.{Text}
 use Rattle.text_tables.specs.Pairs.{Pair}
-use Rattle.hwdb_lookup.specs.declared.entry.Entry.{Entry}
+use Rattle.builtin_devices.specs.Knowledge.{Known}
 use Rattle.eval_state.specs.declared.state.State.{State}
 use Rattle.eval_acts.specs.LookUps.{Candidate, candidates, count_before_usb, counted_properties, first_found, found, is_last, modaliases, modaliases_by, modaliases_in, texts, through, udev_modaliases_of}
-use Rattle.eval_acts.specs.declared.hwdb.Hwdb.{Hwdb}
+use Rattle.eval_commands.specs.declared.hwdb.Hwdb.{Hwdb}
 use Rattle.eval_laws.specs.LookUps.{IsFirstAnswer, texts_of}
 
 -- ---- answers
@@ -86,18 +86,18 @@ module _ (f : Text → List Pair) where
   none_found [] e = refl
   none_found (t ∷ ts) e = skipped t ts (empty_is (f t) (prefix_empty (f t) (flat_map f ts) e)) ∙ none_found ts (back_empty (f t) (flat_map f ts) e)
 
-pub first_is_found : (entries : List Entry) (hwdb : Hwdb) (state : State) (properties : List Pair) → is_empty properties ≡ false
-    → (found entries hwdb state ≡ properties) ↔ IsFirstAnswer entries hwdb (texts hwdb state) properties
+pub first_is_found : (known : Known) (hwdb : Hwdb) (state : State) (properties : List Pair) → is_empty properties ≡ false
+    → (found known hwdb state ≡ properties) ↔ IsFirstAnswer known hwdb (texts hwdb state) properties
 unfolding found
-first_is_found entries hwdb state properties some = (
-  λ e. let h = first (counted_properties entries hwdb) (texts hwdb state) properties some e in
+first_is_found known hwdb state properties some = (
+  λ e. let h = first (counted_properties known hwdb) (texts hwdb state) properties some e in
       record { before = h.before; text = h.text; following = h.following; whole = h.whole; nothing = h.nothing; gives = h.gives },
-  λ h. first_back (counted_properties entries hwdb) (texts hwdb state) properties some (record { before = h.before; text = h.text; following = h.following; whole = h.whole; nothing = h.nothing; gives = h.gives }),
+  λ h. first_back (counted_properties known hwdb) (texts hwdb state) properties some (record { before = h.before; text = h.text; following = h.following; whole = h.whole; nothing = h.nothing; gives = h.gives }),
 )
 
-pub none_is_found : (entries : List Entry) (hwdb : Hwdb) (state : State) → (found entries hwdb state ≡ []) ↔ (flat_map (counted_properties entries hwdb) (texts hwdb state) ≡ [])
+pub none_is_found : (known : Known) (hwdb : Hwdb) (state : State) → (found known hwdb state ≡ []) ↔ (flat_map (counted_properties known hwdb) (texts hwdb state) ≡ [])
 unfolding found
-none_is_found entries hwdb state = (none_given (counted_properties entries hwdb) (texts hwdb state), none_found (counted_properties entries hwdb) (texts hwdb state))
+none_is_found known hwdb state = (none_given (counted_properties known hwdb) (texts hwdb state), none_found (counted_properties known hwdb) (texts hwdb state))
 
 -- ---- devices
 

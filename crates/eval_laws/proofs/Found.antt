@@ -7,10 +7,11 @@ use Rattle.text_tables.specs.Pairs.{Pair}
 use Rattle.text_core.specs.Fits.{fits}
 use Rattle.hwdb_lookup.specs.Query.{fitting, property, put, query, winner, winners}
 use Rattle.hwdb_lookup.specs.declared.entry.Entry.{Entry}
+use Rattle.builtin_devices.specs.Knowledge.{Known}
 use Rattle.eval_laws.specs.DeviceWeights.{pair_weight, pairs_weight}
 use Rattle.eval_state.specs.declared.state.State.{State}
 use Rattle.eval_acts.specs.LookUps.{counted_properties, counts, first_found, found, texts}
-use Rattle.eval_acts.specs.declared.hwdb.Hwdb.{Hwdb}
+use Rattle.eval_commands.specs.declared.hwdb.Hwdb.{Hwdb}
 use Rattle.eval_laws.specs.Allowances.{entries_weight, entry_weight}
 use Rattle.eval_laws.proofs.Sums.{filter_light, fold_light, put_light}
 
@@ -41,10 +42,10 @@ query_light entries text =
     let b = winners_light entries text in
     omega (arith, a, b)
 
-answer_light : (entries : List Entry) (hwdb : Hwdb) (text : Text) → pairs_weight (counted_properties entries hwdb text) ≤ entries_weight entries
-answer_light entries hwdb text =
-    let a = filter_light pair_weight (λ p. counts hwdb.filter p.0) (query entries text) in
-    let b = query_light entries text in
+answer_light : (known : Known) (hwdb : Hwdb) (text : Text) → pairs_weight (counted_properties known hwdb text) ≤ entries_weight known.entries
+answer_light known hwdb text =
+    let a = filter_light pair_weight (λ p. counts hwdb.filter p.0) (query known.entries text) in
+    let b = query_light known.entries text in
     omega (arith, a, b)
 
 first_light : (most : ℕ) (give : Text → List Pair) → ((text : Text) → pairs_weight (give text) ≤ most) → (texts : List Text) → pairs_weight (first_found (map give texts)) ≤ most
@@ -56,6 +57,6 @@ first_light most give each (text ∷ texts) = by (not (is_empty (give text))) (f
     by true more = each text
     by false more = more
 
-pub found_light : (entries : List Entry) (hwdb : Hwdb) (state : State) → pairs_weight (found entries hwdb state) ≤ entries_weight entries
+pub found_light : (known : Known) (hwdb : Hwdb) (state : State) → pairs_weight (found known hwdb state) ≤ entries_weight known.entries
 unfolding found
-found_light entries hwdb state = first_light (entries_weight entries) (counted_properties entries hwdb) (answer_light entries hwdb) (texts hwdb state)
+found_light known hwdb state = first_light (entries_weight known.entries) (counted_properties known hwdb) (answer_light known hwdb) (texts hwdb state)

@@ -10,7 +10,7 @@ use Rattle.text_tables.specs.Pairs.{Pair, value_of}
 use Rattle.text_core.specs.Fnmatch.{fnmatch_items}
 use Rattle.text_core.specs.declared.item.Item.{Item}
 use Rattle.text_core.specs.declared.reading.Reading.TheVariants.{Exact}
-use Rattle.hwdb_lookup.specs.declared.entry.Entry.{Entry}
+use Rattle.builtin_devices.specs.Knowledge.{Known}
 use Rattle.device_core.specs.Values.{AnswerValue, DeviceValue}
 use Rattle.rule_types.specs.declared.roles.PlainKey.{PlainKey}
 use Rattle.rule_types.specs.declared.roles.PlainKey.TheVariants as plain
@@ -35,12 +35,8 @@ use Rattle.eval_rendering.specs.declared.rendered.Rendered.TheVariants as render
 use Rattle.rule_types.specs.Builtins.{builtin_name}
 use Rattle.rule_types.specs.declared.builtins.Builtin.TheVariants.{InputId, NetId, PathId, UsbId}
 use Rattle.builtin_devices.specs.Outcomes.{OutcomeValue}
-use Rattle.builtin_input.specs.Input.{input_id}
-use Rattle.builtin_net.specs.NetId.{lookup, net_id}
-use Rattle.builtin_path.specs.Path.{path_id}
-use Rattle.builtin_usb.specs.UsbId.{usb_id}
-use Rattle.eval_acts.specs.declared.builtin.Builtin.{Builtin}
-use Rattle.eval_acts.specs.declared.builtin.Builtin.TheVariants as builtin
+use Rattle.eval_commands.specs.declared.builtin.Builtin.{Builtin}
+use Rattle.eval_commands.specs.declared.builtin.Builtin.TheVariants as builtin
 use Rattle.eval_state.specs.Finals.{is_final}
 use Rattle.eval_state.specs.declared.finals.FinalKey.{FinalKey}
 use Rattle.eval_state.specs.declared.finals.FinalKey.TheVariants as key
@@ -135,24 +131,24 @@ outcome_same r name o properties s = by (nat_le (properties_size o.properties) m
 taken_same : (r : Rule) (name : Text) (o : OutcomeValue) (s : Scene) → Same s (outcome_taken r name o s).0
 taken_same r name o s = outcome_same r name o o.properties s
 
-usb_same : (ran : Option Bool) (r : Rule) (s : Scene) → Same s (usb_id_run ran r s).0
-usb_same None r s = through s _ _ (taken_same r (builtin_name UsbId) (usb_id s.state.event (is_some (value_of s.state.env (codes "ID_BUS")))) s) refl
-usb_same (Some done) r s = refl
+usb_same : (known : Known) (ran : Option Bool) (r : Rule) (s : Scene) → Same s (usb_id_run known ran r s).0
+usb_same known None r s = through s _ _ (taken_same r (builtin_name UsbId) (known.usb_id s.state.event (is_some (value_of s.state.env (codes "ID_BUS")))) s) refl
+usb_same known (Some done) r s = refl
 
-path_same : (ran : Option Bool) (r : Rule) (s : Scene) → Same s (path_id_run ran r s).0
-path_same None r s = through s _ _ (taken_same r (builtin_name PathId) (path_id s.state.event) s) refl
-path_same (Some done) r s = refl
+path_same : (known : Known) (ran : Option Bool) (r : Rule) (s : Scene) → Same s (path_id_run known ran r s).0
+path_same known None r s = through s _ _ (taken_same r (builtin_name PathId) (known.path_id s.state.event) s) refl
+path_same known (Some done) r s = refl
 
-builtin_same : (es : List Entry) (r : Rule) (t : Text) (b : Builtin) (s : Scene) → Same s (builtin_run es r t b s).0
-builtin_same es r t (builtin.Hwdb h) s = refl
-builtin_same es r t builtin.InputId s = taken_same r (builtin_name InputId) (input_id s.state.event) s
-builtin_same es r t builtin.NetId s =
-    let names : OutcomeValue = net_id s.state.event s.state.env in
-    outcome_same r (builtin_name NetId) names (with_maker (looked_up es (lookup s.state.event s.state.env)) names.properties) s
-builtin_same es r t builtin.PathId s = path_same s.ran.path_id r s
-builtin_same es r t builtin.UsbId s = usb_same s.ran.usb_id r s
-builtin_same es r t (builtin.Other name) s = refl
-builtin_same es r t builtin.BadArguments s = refl
+builtin_same : (known : Known) (r : Rule) (t : Text) (b : Builtin) (s : Scene) → Same s (builtin_run known r t b s).0
+builtin_same known r t (builtin.Hwdb h) s = refl
+builtin_same known r t builtin.InputId s = taken_same r (builtin_name InputId) (known.input_id s.state.event) s
+builtin_same known r t builtin.NetId s =
+    let names : OutcomeValue = known.net_id s.state.event s.state.env in
+    outcome_same r (builtin_name NetId) names (with_maker (looked_up known (known.net_lookup s.state.event s.state.env)) names.properties) s
+builtin_same known r t builtin.PathId s = path_same known s.ran.path_id r s
+builtin_same known r t builtin.UsbId s = usb_same known s.ran.usb_id r s
+builtin_same known r t (builtin.Other name) s = refl
+builtin_same known r t builtin.BadArguments s = refl
 
 parent_same : (names : List (List Item)) (d : Option DeviceValue) (s : Scene) → Same s (from_parent names d s).0
 parent_same names None s = refl
@@ -162,40 +158,40 @@ printed_same : (r : Rule) (t : Text) (a : Option AnswerValue) (s : Scene) → Sa
 printed_same r t None s = refl
 printed_same r t (Some a) s = chosen s (with_env (properties_set s.state.env (printed_properties a.text)) s) s true false _ refl refl
 
-built_same : (es : List Entry) (r : Rule) (text : Rendered) (s : Scene) → Same s (on_text (run_builtin es r) text s).0
-built_same es r text s = on_text_same (run_builtin es r) (λ c u. builtin_same es r c _ u) text s
+built_same : (known : Known) (r : Rule) (text : Rendered) (s : Scene) → Same s (on_text (run_builtin known r) text s).0
+built_same known r text s = on_text_same (run_builtin known r) (λ c u. builtin_same known r c _ u) text s
 
-imported_same : (profile : Profile) (es : List Entry) (r : Rule) (i : Import) (s : Scene) → Same s (imported profile es r i s).0
-imported_same Manual es r (import.Builtin t) s = built_same es r _ s
-imported_same Udev es r (import.Builtin t) s = built_same es r _ s
-imported_same Manual es r (import.Parent names text) s = parent_same names (device_at s.state.event 1) s
-imported_same Udev es r (import.Parent names text) s =
+imported_same : (profile : Profile) (known : Known) (r : Rule) (i : Import) (s : Scene) → Same s (imported profile known r i s).0
+imported_same Manual known r (import.Builtin t) s = built_same known r _ s
+imported_same Udev known r (import.Builtin t) s = built_same known r _ s
+imported_same Manual known r (import.Parent names text) s = parent_same names (device_at s.state.event 1) s
+imported_same Udev known r (import.Parent names text) s =
     on_text_same from_parent_by (λ found u. parent_same (fnmatch_items Exact found 0 ∷ []) (device_at u.state.event 1) u) (names_text text s.state) s
-imported_same Manual es r (import.Program t) s = refl
-imported_same Udev es r (import.Program t) s =
+imported_same Manual known r (import.Program t) s = refl
+imported_same Udev known r (import.Program t) s =
     on_text_same (from_program r) (λ c u. printed_same r c (value_of u.state.event.programs c) u) (import_text most_command_bytes t s.state) s
-imported_same Manual es r (import.File t) s = refl
-imported_same Udev es r (import.File t) s = on_text_same (λ path. not_run r File) (λ text u. refl) (import_text most_path_bytes t s.state) s
-imported_same Manual es r (import.Cmdline name) s = refl
-imported_same Udev es r (import.Cmdline name) s = refl
-imported_same Manual es r (import.Db name) s = refl
-imported_same Udev es r (import.Db name) s = refl
+imported_same Manual known r (import.File t) s = refl
+imported_same Udev known r (import.File t) s = on_text_same (λ path. not_run r File) (λ text u. refl) (import_text most_path_bytes t s.state) s
+imported_same Manual known r (import.Cmdline name) s = refl
+imported_same Udev known r (import.Cmdline name) s = refl
+imported_same Manual known r (import.Db name) s = refl
+imported_same Udev known r (import.Db name) s = refl
 
-performed_same : (es : List Entry) (r : Rule) (d : ActKind) (s : Scene) → Same s (performed es r d s).0
-performed_same es r (act_kind.Test mask t) s = on_text_same (tested r mask) (tested_same r mask) _ s
-performed_same es r (act_kind.Program t) s =
+performed_same : (known : Known) (r : Rule) (d : ActKind) (s : Scene) → Same s (performed known r d s).0
+performed_same known r (act_kind.Test mask t) s = on_text_same (tested r mask) (tested_same r mask) _ s
+performed_same known r (act_kind.Program t) s =
     let text : Rendered = program_text t s.state in
     through s (with_result [] s) (on_text (answered_by_block r) text (with_result [] s)).0 refl
     (on_text_same (answered_by_block r) (λ c u. answered_same r c (value_of u.state.event.programs c) u) text (with_result [] s))
-performed_same es r (act_kind.Import i) s = imported_same s.state.event.profile es r i s
+performed_same known r (act_kind.Import i) s = imported_same s.state.event.profile known r i s
 
 late_same : (r : Rule) (d : ActKind) (done : Option Bool) (s t : Scene) → Same s t → Same s (too_long_noted r d done t)
 late_same r d None s t h = through s t (too_long_noted r d None t) h refl
 late_same r d (Some done) s t h = h
 
-act_same : (es : List Entry) (r : Rule) (act : Act) (s : Scene) → Same s (act_step es r act s).0
+act_same : (known : Known) (r : Rule) (act : Act) (s : Scene) → Same s (act_step known r act s).0
 unfolding act_step
-act_same es r act s = late_same r act.kind (performed es r act.kind s).1 s (performed es r act.kind s).0 (performed_same es r act.kind s)
+act_same known r act s = late_same r act.kind (performed known r act.kind s).1 s (performed known r act.kind s).0 (performed_same known r act.kind s)
 
 -- ---- matches
 
@@ -235,71 +231,71 @@ walk_same step h [] s = refl
 walk_same step h (p ∷ ps) s = if_proceeding_same (walk step ps) (walk_same step h ps) s (step p s) (h p s)
 
 -- the scene before a rule's assignments
-pub before_same : (es : List Entry) (r : Rule) (s : Scene) → Same s (before_sets es r s).0
-before_same es r s =
+pub before_same : (known : Known) (r : Rule) (s : Scene) → Same s (before_sets known r s).0
+before_same known r s =
     if_proceeding_same (walk result_step r.results) (walk_same result_step result_same r.results) s _
-    (if_proceeding_same (walk (act_step es r) r.acts) (walk_same (act_step es r) (act_same es r) r.acts) s _
+    (if_proceeding_same (walk (act_step known r) r.acts) (walk_same (act_step known r) (act_same known r) r.acts) s _
     (if_proceeding_same (search r.up) (search_same r.up) s _
     (walk_same (plain_step r) (plain_same r) r.plain s)))
 
-module _ (es : List Entry) (r : Rule) where
+module _ (known : Known) (r : Rule) where
   -- a rule leaves the event as it is
-  pub steps_event : (s : Scene) → (steps es r s).0.state.event ≡ s.state.event
+  pub steps_event : (s : Scene) → (steps known r s).0.state.event ≡ s.state.event
   unfolding steps
-  steps_event s = by (before_sets es r s).1
+  steps_event s = by (before_sets known r s).1
     where
-      before : (before_sets es r s).0.state.event ≡ s.state.event
-      before = ap (λ (x : Scene). x.state.event) (before_same es r s)
+      before : (before_sets known r s).0.state.event ≡ s.state.event
+      before = ap (λ (x : Scene). x.state.event) (before_same known r s)
 
-      by : (b : Bool) → (cond b (set_all r (before_sets es r s).0) (before_sets es r s)).0.state.event ≡ s.state.event
-      by true = fold_event r r.sets (before_sets es r s).0 ∙ before
+      by : (b : Bool) → (cond b (set_all r (before_sets known r s).0) (before_sets known r s)).0.state.event ≡ s.state.event
+      by true = fold_event r r.sets (before_sets known r s).0 ∙ before
       by false = before
 
-  apply_event : (s : Scene) → (apply es r s).0.state.event ≡ s.state.event
+  apply_event : (s : Scene) → (apply known r s).0.state.event ≡ s.state.event
   unfolding apply
   apply_event s = by (is_idle r s.state.event)
     where
-      by : (b : Bool) → (cond b (only_noted es r s) (steps es r s)).0.state.event ≡ s.state.event
+      by : (b : Bool) → (cond b (only_noted known r s) (steps known r s)).0.state.event ≡ s.state.event
       by true = refl
       by false = steps_event s
 
-  steps_keeps : (k : FinalKey) (s : Scene) → Lasts k s → is_final s.finals k ≡ true → Keeps k s (steps es r s).0
+  steps_keeps : (k : FinalKey) (s : Scene) → Lasts k s → is_final s.finals k ≡ true → Keeps k s (steps known r s).0
   unfolding steps
-  steps_keeps k s lasts f = by (before_sets es r s).1
+  steps_keeps k s lasts f = by (before_sets known r s).1
     where
       t : Scene
-      t = (before_sets es r s).0
+      t = (before_sets known r s).0
 
       held : Keeps k s t
-      held = keeps k s t (before_same es r s) f
+      held = keeps k s t (before_same known r s) f
 
-      by : (b : Bool) → Keeps k s (cond b (set_all r t) (before_sets es r s)).0
-      by true = both k s t (fold (set_step r) t r.sets) held (fold_keeps k r r.sets t (lasts_on k s t (ap (λ (x : Scene). x.state.event) (before_same es r s)) lasts) held.stays)
+      by : (b : Bool) → Keeps k s (cond b (set_all r t) (before_sets known r s)).0
+      by true = both k s t (fold (set_step r) t r.sets) held (fold_keeps k r r.sets t (lasts_on k s t (ap (λ (x : Scene). x.state.event) (before_same known r s)) lasts) held.stays)
       by false = held
 
-  apply_keeps : (k : FinalKey) (s : Scene) → Lasts k s → is_final s.finals k ≡ true → Keeps k s (apply es r s).0
+  apply_keeps : (k : FinalKey) (s : Scene) → Lasts k s → is_final s.finals k ≡ true → Keeps k s (apply known r s).0
   unfolding apply
   apply_keeps k s lasts f = by (is_idle r s.state.event)
     where
-      by : (b : Bool) → Keeps k s (cond b (only_noted es r s) (steps es r s)).0
+      by : (b : Bool) → Keeps k s (cond b (only_noted known r s) (steps known r s)).0
       by true = record { same = same_notes (value k) s _; stays = f }
       by false = steps_keeps k s lasts f
 
-pub run_keeps : (es : List Entry) (sought : Option Text) (rules : List Rule) (k : FinalKey) (s : Scene) → Lasts k s → is_final s.finals k ≡ true → Keeps k s (run es sought rules s)
+pub run_keeps : (known : Known) (sought : Option Text) (rules : List Rule) (k : FinalKey) (s : Scene) → Lasts k s → is_final s.finals k ≡ true → Keeps k s (run known sought rules s)
 unfolding run
-run_keeps es sought [] k s lasts f = record { same = itself (value k) s; stays = f }
-run_keeps es sought (r ∷ rs) k s lasts f =
-    by (is_passed sought r) (run_keeps es sought rs k s lasts f) (both k s t (run es next rs t) held (run_keeps es next rs k t (lasts_on k s t (apply_event es r s) lasts) held.stays))
+run_keeps known sought [] k s lasts f = record { same = itself (value k) s; stays = f }
+run_keeps known sought (r ∷ rs) k s lasts f =
+    by (is_passed sought r) (run_keeps known sought rs k s lasts f) (both k s t (run known next rs t) held (run_keeps known next rs k t (lasts_on k s t (apply_event known r s) lasts) held.stays))
   where
     t : Scene
-    t = (apply es r s).0
+    t = (apply known r s).0
 
     held : Keeps k s t
-    held = apply_keeps es r k s lasts f
+    held = apply_keeps known r k s lasts f
 
     next : Option Text
-    next = sought_after (apply es r s).1 r
+    next = sought_after (apply known r s).1 r
 
-    by : (b : Bool) → Keeps k s (run es sought rs s) → Keeps k s (run es next rs t) → Keeps k s (cond b (run es sought rs s) (run es next rs t))
+    by : (b : Bool) → Keeps k s (run known sought rs s) → Keeps k s (run known next rs t) → Keeps k s (cond b (run known sought rs s) (run known next rs t))
     by true x y = x
     by false x y = y

@@ -2,7 +2,7 @@
 use Rattle.std.proofs.Common.{◌≡◌, suc, Bool, true, false, cond, not, List, [], ◌∷◌, ◌++◌, Option, Some, None, refl, ap, ◌∙◌, arith}
 use Rattle.std.specs.Cmp.Lexicographic.{bytes_decides}
 use Rattle.text_tables.specs.Texts.{Text, same_text}
-use Rattle.hwdb_lookup.specs.declared.entry.Entry.{Entry}
+use Rattle.builtin_devices.specs.Knowledge.{Known}
 use Rattle.rule_laws.specs.Outcomes.{HasLabel}
 use Rattle.rule_types.specs.Rules.{Rule}
 use Rattle.eval_state.specs.declared.scene.Scene.{Scene}
@@ -20,25 +20,25 @@ other name (Some l) h = by (same_text l name) refl
     by true e = absurd (h (ap Some ((bytes_decides l name).0 e)))
     by false e = refl
 
-module _ (es : List Entry) (name : Text) (landing : Rule) (following : List Rule) (label : landing.label ≡ Some name) where
-  found : (s : Scene) → run es (Some name) (landing ∷ following) s ≡ run es None (landing ∷ following) s
+module _ (known : Known) (name : Text) (landing : Rule) (following : List Rule) (label : landing.label ≡ Some name) where
+  found : (s : Scene) → run known (Some name) (landing ∷ following) s ≡ run known None (landing ∷ following) s
   unfolding run
   found s =
-      ap (λ b. cond (not b) (run es (Some name) following s) (run es (sought_after (apply es landing s).1 landing) following (apply es landing s).0)) (bears name landing.label label)
+      ap (λ b. cond (not b) (run known (Some name) following s) (run known (sought_after (apply known landing s).1 landing) following (apply known landing s).0)) (bears name landing.label label)
 
-  pub lands : (between : List Rule) (s : Scene) → (HasLabel name between → ⊥) → run es (Some name) (between ++ landing ∷ following) s ≡ run es None (landing ∷ following) s
+  pub lands : (between : List Rule) (s : Scene) → (HasLabel name between → ⊥) → run known (Some name) (between ++ landing ∷ following) s ≡ run known None (landing ∷ following) s
   unfolding run
   lands [] s none = found s
   lands (r ∷ rs) s none =
-      ap (λ b. cond (not b) (run es (Some name) (rs ++ landing ∷ following) s) (run es (sought_after (apply es r s).1 r) (rs ++ landing ∷ following) (apply es r s).0))
+      ap (λ b. cond (not b) (run known (Some name) (rs ++ landing ∷ following) s) (run known (sought_after (apply known r s).1 r) (rs ++ landing ∷ following) (apply known r s).0))
       (other name r.label (λ h. none (0, r, omega arith, refl, h)))
       ∙ lands rs s (λ h. none (suc h.0, h.1, omega (arith, h.2), h.3, h.4))
 
   -- a rule that jumps
-  pub jumps : (r : Rule) (between : List Rule) (s : Scene) → r.goto ≡ Some name → (apply es r s).1 ≡ true → (HasLabel name between → ⊥)
-      → run es None (r ∷ (between ++ landing ∷ following)) s ≡ run es None (landing ∷ following) (apply es r s).0
+  pub jumps : (r : Rule) (between : List Rule) (s : Scene) → r.goto ≡ Some name → (apply known r s).1 ≡ true → (HasLabel name between → ⊥)
+      → run known None (r ∷ (between ++ landing ∷ following)) s ≡ run known None (landing ∷ following) (apply known r s).0
   unfolding run
   jumps r between s goto end none =
-      ap (λ b. run es (sought_after b r) (between ++ landing ∷ following) (apply es r s).0) end
-      ∙ ap (λ l. run es l (between ++ landing ∷ following) (apply es r s).0) goto
-      ∙ lands between (apply es r s).0 none
+      ap (λ b. run known (sought_after b r) (between ++ landing ∷ following) (apply known r s).0) end
+      ∙ ap (λ l. run known l (between ++ landing ∷ following) (apply known r s).0) goto
+      ∙ lands between (apply known r s).0 none

@@ -9,9 +9,9 @@ use Rattle.text_bytes.specs.Texts.{is_empty}
 use Rattle.text_bytes.specs.declared.profile.Profile.{Profile}
 use Rattle.text_bytes.specs.declared.profile.Profile.TheVariants.{Manual, Udev}
 use Rattle.text_tables.specs.Texts.{Text}
-use Rattle.eval_acts.specs.declared.words.Place.{Place}
-use Rattle.eval_acts.specs.declared.words.Place.TheVariants.{Between, InWord, Quoted}
-use Rattle.eval_acts.specs.Words.{Cut, begun, closed, command_words, finished_words, is_quote, separates, unread_command, took, udev_words}
+use Rattle.eval_commands.specs.declared.words.Place.{Place}
+use Rattle.eval_commands.specs.declared.words.Place.TheVariants.{Between, InWord, Quoted}
+use Rattle.eval_commands.specs.Words.{Cut, begun, closed, command_words, finished_words, is_quote, separates, unread_command, took, udev_words}
 use Rattle.eval_laws.specs.Grammar.{Piece, gap, byte, group, written, meant, HasNo, IsPiece, is_gap, words_of, HasWords, HasOpenQuote, HasWordsToEnd, IsRead, IsReadToEnd}
 
 -- a command of which a part was read

@@ -1,7 +1,7 @@
 -- Where a rule goes on after its search, one device meets all matches along the chain.
 use Rattle.std.proofs.Common.{◌≡◌, ℕ, Bool, true, false, cond, List, [], ◌∷◌, Option, Some, None, is_some, length, refl, ap, sym, subst, ◌∙◌, true≢false}
 use Rattle.std.specs.List.{list_all}
-use Rattle.hwdb_lookup.specs.declared.entry.Entry.{Entry}
+use Rattle.builtin_devices.specs.Knowledge.{Known}
 use Rattle.device_core.specs.Values.{chain}
 use Rattle.rule_types.specs.declared.part.UpMatch.{UpMatch}
 use Rattle.rule_types.specs.Rules.{Rule}
@@ -36,25 +36,25 @@ went_on f s true h = (refl, h)
 went_on f s false h = absurd (true≢false (sym h))
 
 -- a rule whose end is reached
-steps_end : (es : List Entry) (r : Rule) (s : Scene) (part : UpMatch) (parts : List UpMatch) → r.up ≡ part ∷ parts → (steps es r s).1 ≡ true → IsMetByOneDevice r.up s.state
+steps_end : (known : Known) (r : Rule) (s : Scene) (part : UpMatch) (parts : List UpMatch) → r.up ≡ part ∷ parts → (steps known r s).1 ≡ true → IsMetByOneDevice r.up s.state
 unfolding steps
-steps_end es r s part parts up h =
+steps_end known r s part parts up h =
     let a : Went = walk (plain_step r) r.plain s in
     let b : Went = if_proceeding (search r.up) a in
-    let c : Went = if_proceeding (walk (act_step es r) r.acts) b in
+    let c : Went = if_proceeding (walk (act_step known r) r.acts) b in
     let d : Went = if_proceeding (walk result_step r.results) c in
     let on_d = went_on (set_all r) d.0 d.1 h in
     let on_c = went_on (walk result_step r.results) c.0 c.1 on_d.0 in
-    let on_b = went_on (walk (act_step es r) r.acts) b.0 b.1 on_c.0 in
+    let on_b = went_on (walk (act_step known r) r.acts) b.0 b.1 on_c.0 in
     let on_a = went_on (search r.up) a.0 a.1 on_b.0 in
     let found : IsMetByOneDevice (part ∷ parts) a.0.state = searched part parts a.0 (ap (λ ps. (search ps a.0).1) (sym up) ∙ on_a.1) in
     let state : a.0.state ≡ s.state = ap (λ (t : Scene). t.state) (walk_same r r.plain [] s) in
     subst (λ ps. IsMetByOneDevice ps s.state) (sym up) (subst (IsMetByOneDevice (part ∷ parts)) state found)
 
-pub reached_end : (es : List Entry) (r : Rule) (s : Scene) (part : UpMatch) (parts : List UpMatch) → r.up ≡ part ∷ parts → (apply es r s).1 ≡ true → IsMetByOneDevice r.up s.state
+pub reached_end : (known : Known) (r : Rule) (s : Scene) (part : UpMatch) (parts : List UpMatch) → r.up ≡ part ∷ parts → (apply known r s).1 ≡ true → IsMetByOneDevice r.up s.state
 unfolding apply
-reached_end es r s part parts up = by (is_idle r s.state.event)
+reached_end known r s part parts up = by (is_idle r s.state.event)
   where
-    by : (b : Bool) → (cond b (only_noted es r s) (steps es r s)).1 ≡ true → IsMetByOneDevice r.up s.state
+    by : (b : Bool) → (cond b (only_noted known r s) (steps known r s)).1 ≡ true → IsMetByOneDevice r.up s.state
     by true h = absurd (true≢false (sym h))
-    by false h = steps_end es r s part parts up h
+    by false h = steps_end known r s part parts up h

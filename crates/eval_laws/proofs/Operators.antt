@@ -2,7 +2,7 @@
 use Rattle.std.proofs.Common.{◌≡◌, Bool, true, false, not, ◌&&◌, List, Option, Some, None, refl}
 use Rattle.text_bytes.specs.declared.profile.Profile.{Profile}
 use Rattle.text_bytes.specs.declared.profile.Profile.TheVariants.{Manual, Udev}
-use Rattle.hwdb_lookup.specs.declared.entry.Entry.{Entry}
+use Rattle.builtin_devices.specs.Knowledge.{Known}
 use Rattle.rule_types.specs.declared.roles.MatchOperator.TheVariants.{Equal, NotEqual}
 use Rattle.rule_types.specs.declared.part.ActKind.{ActKind}
 use Rattle.rule_types.specs.Rules.{Rule}
@@ -15,10 +15,10 @@ reversed profile (Some done) e = refl
 reversed Manual None e = refl
 reversed Udev None e = cc
 
-pub operator_turns : (es : List Entry) (r : Rule) (d : ActKind) (s : Scene) → s.state.event.profile ≡ Manual
-    → (act_step es r (record { operator = NotEqual; kind = d }) s).1 ≡ not (act_step es r (record { operator = Equal; kind = d }) s).1
+pub operator_turns : (known : Known) (r : Rule) (d : ActKind) (s : Scene) → s.state.event.profile ≡ Manual
+    → (act_step known r (record { operator = NotEqual; kind = d }) s).1 ≡ not (act_step known r (record { operator = Equal; kind = d }) s).1
 unfolding act_step
-operator_turns es r d s manual = reversed s.state.event.profile (performed es r d s).1 manual
+operator_turns known r d s manual = reversed s.state.event.profile (performed known r d s).1 manual
 
 apart : (profile : Profile) (done : Option Bool) → (proceeds done profile NotEqual && proceeds done profile Equal) ≡ false
 apart profile (Some true) = refl
@@ -26,12 +26,12 @@ apart profile (Some false) = refl
 apart Manual None = refl
 apart Udev None = refl
 
-pub at_most_one : (es : List Entry) (r : Rule) (d : ActKind) (s : Scene)
-    → ((act_step es r (record { operator = NotEqual; kind = d }) s).1 && (act_step es r (record { operator = Equal; kind = d }) s).1) ≡ false
+pub at_most_one : (known : Known) (r : Rule) (d : ActKind) (s : Scene)
+    → ((act_step known r (record { operator = NotEqual; kind = d }) s).1 && (act_step known r (record { operator = Equal; kind = d }) s).1) ≡ false
 unfolding act_step
-at_most_one es r d s = apart s.state.event.profile (performed es r d s).1
+at_most_one known r d s = apart s.state.event.profile (performed known r d s).1
 
-pub same_changes : (es : List Entry) (r : Rule) (d : ActKind) (s : Scene)
-    → (act_step es r (record { operator = NotEqual; kind = d }) s).0 ≡ (act_step es r (record { operator = Equal; kind = d }) s).0
+pub same_changes : (known : Known) (r : Rule) (d : ActKind) (s : Scene)
+    → (act_step known r (record { operator = NotEqual; kind = d }) s).0 ≡ (act_step known r (record { operator = Equal; kind = d }) s).0
 unfolding act_step
-same_changes es r d s = refl
+same_changes known r d s = refl

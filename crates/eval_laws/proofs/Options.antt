@@ -14,8 +14,8 @@ use Rattle.text_core.specs.Spell.{spell}
 use Rattle.text_core.specs.declared.glob_fault.GlobFault.{GlobFault}
 use Rattle.text_core.specs.declared.item.Item.{Item}
 use Rattle.eval_state.specs.Texts.{or_empty}
-use Rattle.eval_acts.specs.Hwdb.{filter_option, hwdb_of, is_bad, last_value, operands, pattern_of, prefix_option, subsystem_option, value_beside, value_in}
-use Rattle.eval_acts.specs.declared.hwdb.Hwdb.{Hwdb}
+use Rattle.eval_commands.specs.Hwdb.{filter_option, hwdb_of, is_bad, last_value, operands, pattern_of, prefix_option, subsystem_option, value_beside, value_in}
+use Rattle.eval_commands.specs.declared.hwdb.Hwdb.{Hwdb}
 use Rattle.eval_laws.specs.LookUps.{HasNoValue, IsLastValue, option_word}
 
 -- ---- one word

@@ -6,7 +6,7 @@ use Rattle.text_bytes.specs.declared.profile.Profile.TheVariants.{Udev}
 use Rattle.text_tables.specs.Texts.{Text}
 use Rattle.text_tables.specs.Pairs.{value_of}
 use Rattle.device_core.specs.Values.{AnswerValue}
-use Rattle.hwdb_lookup.specs.declared.entry.Entry.{Entry}
+use Rattle.builtin_devices.specs.Knowledge.{Known}
 use Rattle.rule_templates.specs.Template.{Parts as Template}
 use Rattle.rule_types.specs.declared.part.ActKind.{ActKind}
 use Rattle.rule_types.specs.declared.part.ActKind.TheVariants as act_kind
@@ -53,9 +53,9 @@ module _ (r : Rule) (operator : MatchOperator) (template : Template) (s : Scene)
   went_by : Scene × Bool → Scene × Bool
   went_by went = after (acts.tried went)
 
-  step_is : (entries : List Entry) → s.state.event.profile ≡ Udev → act_step entries r (program_import operator template) s ≡ came (import_text most_command_bytes template s.state)
+  step_is : (known : Known) → s.state.event.profile ≡ Udev → act_step known r (program_import operator template) s ≡ came (import_text most_command_bytes template s.state)
   unfolding act_step came
-  step_is entries e = ap (λ p. after (imported p entries r (import.Program template) s)) e
+  step_is known e = ap (λ p. after (imported p known r (import.Program template) s)) e
 
   came_answered : (text : Text) → IsPrinted template s text → came (import_text most_command_bytes template s.state) ≡ (taken text, agrees operator true)
   unfolding came
@@ -63,9 +63,9 @@ module _ (r : Rule) (operator : MatchOperator) (template : Template) (s : Scene)
       ap (λ given. after (on_text (from_program r) given s)) h.rendered
       ∙ ap (λ answer. after (acts.tried (from_answer_or_noted r h.command answer s))) h.answered
 
-  pub answered : (entries : List Entry) (text : Text) → s.state.event.profile ≡ Udev → IsPrinted template s text
-      → act_step entries r (program_import operator template) s ≡ (taken text, agrees operator true)
-  answered entries text e h = step_is entries e ∙ came_answered text h
+  pub answered : (known : Known) (text : Text) → s.state.event.profile ≡ Udev → IsPrinted template s text
+      → act_step known r (program_import operator template) s ≡ (taken text, agrees operator true)
+  answered known text e h = step_is known e ∙ came_answered text h
 
 -- with `==`
 module _ (r : Rule) (template : Template) (s : Scene) where
@@ -95,20 +95,20 @@ module _ (r : Rule) (template : Template) (s : Scene) where
   by_command p (outcome.Text command) e = by_answer command e (value_of s.state.event.programs command) refl
   by_command p outcome.TooLong e = inr (record { stops = ap (λ profile. proceeds None profile Equal) p; same = refl })
 
-  module _ (entries : List Entry) (p : s.state.event.profile ≡ Udev) where
+  module _ (known : Known) (p : s.state.event.profile ≡ Udev) where
     is_printed : ((text : Text) × IsPrinted template s text) ⊎ Fails (came r Equal template s (import_text most_command_bytes template s.state))
     is_printed = by_command p (import_text most_command_bytes template s.state) refl
 
-    pub holds : (act_step entries r (program_import Equal template) s).1 ≡ true → (text : Text) × IsPrinted template s text
+    pub holds : (act_step known r (program_import Equal template) s).1 ≡ true → (text : Text) × IsPrinted template s text
     holds e = by is_printed
       where
         by : ((text : Text) × IsPrinted template s text) ⊎ Fails (came r Equal template s (import_text most_command_bytes template s.state)) → (text : Text) × IsPrinted template s text
         by (inl h) = h
-        by (inr f) = absurd (true≢false (sym e ∙ ap (λ went. went.1) (step_is r Equal template s entries p) ∙ f.stops))
+        by (inr f) = absurd (true≢false (sym e ∙ ap (λ went. went.1) (step_is r Equal template s known p) ∙ f.stops))
 
-    pub failed : (act_step entries r (program_import Equal template) s).1 ≡ false → (act_step entries r (program_import Equal template) s).0.state ≡ s.state
+    pub failed : (act_step known r (program_import Equal template) s).1 ≡ false → (act_step known r (program_import Equal template) s).0.state ≡ s.state
     failed e = by is_printed
       where
-        by : ((text : Text) × IsPrinted template s text) ⊎ Fails (came r Equal template s (import_text most_command_bytes template s.state)) → (act_step entries r (program_import Equal template) s).0.state ≡ s.state
-        by (inl h) = absurd (true≢false (sym (ap (λ went. went.1) (answered r Equal template s entries h.0 p h.1)) ∙ e))
-        by (inr f) = ap (λ went. went.0.state) (step_is r Equal template s entries p) ∙ f.same
+        by : ((text : Text) × IsPrinted template s text) ⊎ Fails (came r Equal template s (import_text most_command_bytes template s.state)) → (act_step known r (program_import Equal template) s).0.state ≡ s.state
+        by (inl h) = absurd (true≢false (sym (ap (λ went. went.1) (answered r Equal template s known h.0 p h.1)) ∙ e))
+        by (inr f) = ap (λ went. went.0.state) (step_is r Equal template s known p) ∙ f.same

@@ -4,7 +4,7 @@ use Rattle.std.specs.List.{fold}
 use Rattle.text_bytes.specs.declared.profile.Profile.{Profile}
 use Rattle.text_bytes.specs.declared.source_file.SourceFile.{SourceFile}
 use Rattle.text_tables.specs.Texts.{Text}
-use Rattle.hwdb_lookup.specs.declared.entry.Entry.{Entry}
+use Rattle.builtin_devices.specs.Knowledge.{Known}
 use Rattle.rule_types.specs.declared.roles.AssignOperator.{AssignOperator}
 use Rattle.rule_types.specs.declared.roles.Target.{Target}
 use Rattle.rule_types.specs.declared.roles.Target.TheVariants as target
@@ -85,44 +85,44 @@ sets_kept r (a ∷ sets) s fits h = sets_kept r sets (set_step r s a) fits.1 (se
 
 -- ---- rules one after another
 
-steps_kept : (es : List Entry) (r : Rule) (s : Scene) → SetsFit r.sets → Fits s → Fits (steps es r s).0
+steps_kept : (known : Known) (r : Rule) (s : Scene) → SetsFit r.sets → Fits s → Fits (steps known r s).0
 unfolding steps
-steps_kept es r s fits h = by (before_sets es r s).1
+steps_kept known r s fits h = by (before_sets known r s).1
   where
     t : Scene
-    t = (before_sets es r s).0
+    t = (before_sets known r s).0
 
     held : Fits t
-    held = kept s t (ap (λ (x : Scene). x.priority) (before_same es r s)) h
+    held = kept s t (ap (λ (x : Scene). x.priority) (before_same known r s)) h
 
-    by : (b : Bool) → Fits (cond b (set_all r t) (before_sets es r s)).0
+    by : (b : Bool) → Fits (cond b (set_all r t) (before_sets known r s)).0
     by true = sets_kept r r.sets t fits held
     by false = held
 
-rule_kept : (es : List Entry) (r : Rule) (s : Scene) → SetsFit r.sets → Fits s → Fits (apply es r s).0
+rule_kept : (known : Known) (r : Rule) (s : Scene) → SetsFit r.sets → Fits s → Fits (apply known r s).0
 unfolding apply
-rule_kept es r s fits h = by (is_idle r s.state.event)
+rule_kept known r s fits h = by (is_idle r s.state.event)
   where
-    by : (b : Bool) → Fits (cond b (only_noted es r s) (steps es r s)).0
+    by : (b : Bool) → Fits (cond b (only_noted known r s) (steps known r s)).0
     by true = h
-    by false = steps_kept es r s fits h
+    by false = steps_kept known r s fits h
 
-rules_kept : (es : List Entry) (sought : Option Text) (rules : List Rule) (s : Scene) → RulesFit rules → Fits s → Fits (run es sought rules s)
+rules_kept : (known : Known) (sought : Option Text) (rules : List Rule) (s : Scene) → RulesFit rules → Fits s → Fits (run known sought rules s)
 unfolding run
-rules_kept es sought [] s fits h = h
-rules_kept es sought (r ∷ rs) s fits h = by (is_passed sought r) (rules_kept es sought rs s fits.1 h) (rules_kept es next rs t fits.1 (rule_kept es r s fits.0 h))
+rules_kept known sought [] s fits h = h
+rules_kept known sought (r ∷ rs) s fits h = by (is_passed sought r) (rules_kept known sought rs s fits.1 h) (rules_kept known next rs t fits.1 (rule_kept known r s fits.0 h))
   where
     t : Scene
-    t = (apply es r s).0
+    t = (apply known r s).0
 
     next : Option Text
-    next = sought_after (apply es r s).1 r
+    next = sought_after (apply known r s).1 r
 
-    by : (b : Bool) → Fits (run es sought rs s) → Fits (run es next rs t) → Fits (cond b (run es sought rs s) (run es next rs t))
+    by : (b : Bool) → Fits (run known sought rs s) → Fits (run known next rs t) → Fits (cond b (run known sought rs s) (run known next rs t))
     by true x y = x
     by false x y = y
 
 -- the priority of the outcome of an event
-pub outcome_small : (profile : Profile) (files : List SourceFile) (entries : List Entry) (event : EventValue) → IfSome (outcome (set_of_as profile files).rules entries event).priority IsSmall
+pub outcome_small : (profile : Profile) (files : List SourceFile) (known : Known) (event : EventValue) → IfSome (outcome (set_of_as profile files).rules known event).priority IsSmall
 unfolding outcome_of
-outcome_small profile files entries event = rules_kept entries None (set_of_as profile files).rules (start event) (set_fits profile files) tt
+outcome_small profile files known event = rules_kept known None (set_of_as profile files).rules (start event) (set_fits profile files) tt

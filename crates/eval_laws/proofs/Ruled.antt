@@ -3,7 +3,7 @@ use Rattle.std.proofs.Common.{◌≡◌, ℕ, ◌+◌, ◌≤◌, Bool, true, fa
 use Rattle.std.proofs.lemmas.List.Sums.{sum_by-cons}
 use Rattle.std.specs.List.{sum_by}
 use Rattle.text_tables.specs.Texts.{Text}
-use Rattle.hwdb_lookup.specs.declared.entry.Entry.{Entry}
+use Rattle.builtin_devices.specs.Knowledge.{Known}
 use Rattle.rule_types.specs.Written.{attribute_of_plain}
 use Rattle.rule_types.specs.declared.roles.PlainKey.{PlainKey}
 use Rattle.rule_types.specs.declared.roles.PlainKey.TheVariants as plain
@@ -93,13 +93,13 @@ module _ (event : EventValue) where
         let all = sum_by-cons own a sets in
         more event (n + own a + sum_by own sets) (n + sum_by own (a ∷ sets)) _ (omega (arith, all)) (sets_within r sets (n + own a) (set_step r s a) (set_within event len short n r s h a))
 
-  module _ (len : ℕ) (short : event_weight event ≤ len) (entries : List Entry) where
+  module _ (len : ℕ) (short : event_weight event ≤ len) (known : Known) where
     -- a rule that is not skipped
-    steps_within : (r : Rule) (n : ℕ) (s : Scene) → Within event n s → Within event (n + rule_allowance event.profile len entries r) (steps entries r s).0
+    steps_within : (r : Rule) (n : ℕ) (s : Scene) → Within event n s → Within event (n + rule_allowance event.profile len known.entries r) (steps known r s).0
     unfolding steps rule_allowance
     steps_within r n s h =
         let plain_own : PlainMatch → ℕ = λ m. part_allowance r (attribute_of_plain m.key) in
-        let act_own : Act → ℕ = λ act. act_kind_allowance event.profile len entries r act.kind in
+        let act_own : Act → ℕ = λ act. act_kind_allowance event.profile len known.entries r act.kind in
         let result_own : Comparison → ℕ = λ c. part_allowance r None in
         let set_own : Assignment → ℕ = set_allowance event.profile len r in
         let p : ℕ = n + sum_by plain_own r.plain in
@@ -109,58 +109,58 @@ module _ (event : EventValue) where
         let after_plain = walk_within (plain_step r) plain_own (plain_within r) r.plain n s h in
         let after_up = if_proceeding_within (search r.up) 0 p (walk (plain_step r) r.plain s) after_plain (λ t within. more event p (p + 0) _ (omega arith) (search_within r r.up p t within)) in
         let after_acts =
-        if_proceeding_within (walk (act_step entries r) r.acts) (sum_by act_own r.acts) p _ (more event (p + 0) p _ (omega arith) after_up)
-        (λ t within. walk_within (act_step entries r) act_own (λ act m u inside. act_within event len short entries r act m u inside) r.acts p t within) in
+        if_proceeding_within (walk (act_step known r) r.acts) (sum_by act_own r.acts) p _ (more event (p + 0) p _ (omega arith) after_up)
+        (λ t within. walk_within (act_step known r) act_own (λ act m u inside. act_within event len short known r act m u inside) r.acts p t within) in
         let after_results = if_proceeding_within (walk result_step r.results) (sum_by result_own r.results) a _ after_acts (λ t within. walk_within result_step result_own (result_within r) r.results a t within) in
         let after_sets = if_proceeding_within (set_all r) (sum_by set_own r.sets) q _ after_results (λ t within. sets_within len short r r.sets q t within) in
-        more event b (n + rule_allowance event.profile len entries r) _ (omega arith) after_sets
+        more event b (n + rule_allowance event.profile len known.entries r) _ (omega arith) after_sets
 
     -- what the notes of all parts weigh
-    notes_fit : (r : Rule) → parts_most (length r.file + 56) r ≤ rule_allowance event.profile len entries r
+    notes_fit : (r : Rule) → parts_most (length r.file + 56) r ≤ rule_allowance event.profile len known.entries r
     unfolding rule_allowance
     notes_fit r =
         let most : ℕ = length r.file + 56 in
         let a = sum_less (λ (m : PlainMatch). most) (λ m. part_allowance r (attribute_of_plain m.key)) (λ m. omega arith) r.plain in
-        let b = sum_less (λ (m : Act). most) (λ act. act_kind_allowance event.profile len entries r act.kind) (λ act. omega arith) r.acts in
+        let b = sum_less (λ (m : Act). most) (λ act. act_kind_allowance event.profile len known.entries r act.kind) (λ act. omega arith) r.acts in
         let c = sum_less (λ (m : Comparison). most) (λ m. part_allowance r None) (λ m. omega arith) r.results in
         let d = sum_less (λ (m : Assignment). most) (set_allowance event.profile len r) (λ a. omega arith) r.sets in
         omega (arith, a, b, c, d)
 
     -- a rule that is skipped
-    passed_within : (r : Rule) (n : ℕ) (s : Scene) → Within event n s → Within event (n + rule_allowance event.profile len entries r) (only_noted entries r s).0
+    passed_within : (r : Rule) (n : ℕ) (s : Scene) → Within event n s → Within event (n + rule_allowance event.profile len known.entries r) (only_noted known r s).0
     unfolding scene_weight
     passed_within r n s h =
         let a = h.light in
-        let b = noted_counts note_weight (λ q. length q.file + 56) note_light entries r s in
+        let b = noted_counts note_weight (λ q. length q.file + 56) note_light known r s in
         let c = notes_fit r in
         record { same = h.same; light = omega (arith, a, b, c) }
 
-    rule_within : (r : Rule) (n : ℕ) (s : Scene) → Within event n s → Within event (n + rule_allowance event.profile len entries r) (apply entries r s).0
+    rule_within : (r : Rule) (n : ℕ) (s : Scene) → Within event n s → Within event (n + rule_allowance event.profile len known.entries r) (apply known r s).0
     unfolding apply
     rule_within r n s h = by (is_idle r s.state.event)
       where
-        by : (b : Bool) → Within event (n + rule_allowance event.profile len entries r) (if b then only_noted entries r s else steps entries r s).0
+        by : (b : Bool) → Within event (n + rule_allowance event.profile len known.entries r) (if b then only_noted known r s else steps known r s).0
         by true = passed_within r n s h
         by false = steps_within r n s h
 
     -- all rules
-    pub run_within : (rules : List Rule) (sought : Option Text) (n : ℕ) (s : Scene) → Within event n s → Within event (n + sum_by (rule_allowance event.profile len entries) rules) (run entries sought rules s)
+    pub run_within : (rules : List Rule) (sought : Option Text) (n : ℕ) (s : Scene) → Within event n s → Within event (n + sum_by (rule_allowance event.profile len known.entries) rules) (run known sought rules s)
     unfolding run
-    run_within [] sought n s h = more event n (n + sum_by (rule_allowance event.profile len entries) []) s (omega arith) h
+    run_within [] sought n s h = more event n (n + sum_by (rule_allowance event.profile len known.entries) []) s (omega arith) h
     run_within (r ∷ rules) sought n s h = by (is_passed sought r) (run_within rules)
       where
         own : ℕ
-        own = rule_allowance event.profile len entries r
+        own = rule_allowance event.profile len known.entries r
 
         rest : ℕ
-        rest = sum_by (rule_allowance event.profile len entries) rules
+        rest = sum_by (rule_allowance event.profile len known.entries) rules
 
-        all : own + rest ≡ sum_by (rule_allowance event.profile len entries) (r ∷ rules)
-        all = let a = sum_by-cons (rule_allowance event.profile len entries) r rules in omega (arith, a)
+        all : own + rest ≡ sum_by (rule_allowance event.profile len known.entries) (r ∷ rules)
+        all = let a = sum_by-cons (rule_allowance event.profile len known.entries) r rules in omega (arith, a)
 
-        by : (b : Bool) → ((sought : Option Text) (n : ℕ) (s : Scene) → Within event n s → Within event (n + rest) (run entries sought rules s))
-            → Within event (n + sum_by (rule_allowance event.profile len entries) (r ∷ rules)) (if b then run entries sought rules s else run entries (sought_after (apply entries r s).1 r) rules (apply entries r s).0)
-        by true following = more event (n + rest) (n + sum_by (rule_allowance event.profile len entries) (r ∷ rules)) _ (omega (arith, all)) (following sought n s h)
+        by : (b : Bool) → ((sought : Option Text) (n : ℕ) (s : Scene) → Within event n s → Within event (n + rest) (run known sought rules s))
+            → Within event (n + sum_by (rule_allowance event.profile len known.entries) (r ∷ rules)) (if b then run known sought rules s else run known (sought_after (apply known r s).1 r) rules (apply known r s).0)
+        by true following = more event (n + rest) (n + sum_by (rule_allowance event.profile len known.entries) (r ∷ rules)) _ (omega (arith, all)) (following sought n s h)
         by false following =
-            more event (n + own + rest) (n + sum_by (rule_allowance event.profile len entries) (r ∷ rules)) _ (omega (arith, all))
-            (following (sought_after (apply entries r s).1 r) (n + own) (apply entries r s).0 (rule_within r n s h))
+            more event (n + own + rest) (n + sum_by (rule_allowance event.profile len known.entries) (r ∷ rules)) _ (omega (arith, all))
+            (following (sought_after (apply known r s).1 r) (n + own) (apply known r s).0 (rule_within r n s h))

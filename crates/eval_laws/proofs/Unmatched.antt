@@ -1,7 +1,7 @@
 -- Matches change nothing but the notes, so that a rule whose matches do not hold changes nothing else.
 use Rattle.std.proofs.Common.{◌≡◌, Bool, true, false, cond, ◌||◌, ◌&&◌, List, [], ◌∷◌, None, refl, ap, sym, ◌∙◌}
 use Rattle.std.specs.List.{list_all, list_any}
-use Rattle.hwdb_lookup.specs.declared.entry.Entry.{Entry}
+use Rattle.builtin_devices.specs.Knowledge.{Known}
 use Rattle.rule_types.specs.declared.roles.PlainKey.{PlainKey}
 use Rattle.rule_types.specs.declared.roles.PlainKey.TheVariants as plain
 use Rattle.rule_types.specs.declared.part.PlainMatch.{PlainMatch}
@@ -70,48 +70,48 @@ walk_holds r (part ∷ parts) s = by (holds (plain_subject part.key s.state) par
 stopped : (f g h i : Scene → Went) (w : Went) → w.1 ≡ false → if_proceeding f (if_proceeding g (if_proceeding h (if_proceeding i w))) ≡ w
 stopped f g h i w n = ap (λ b. if_proceeding f (if_proceeding g (if_proceeding h (if_proceeding i (w.0, b))))) n ∙ ap (λ b. (w.0, b)) (sym n)
 
-steps_stop : (es : List Entry) (r : Rule) (s : Scene) → plain_hold s.state r ≡ false → steps es r s ≡ walk (plain_step r) r.plain s
+steps_stop : (known : Known) (r : Rule) (s : Scene) → plain_hold s.state r ≡ false → steps known r s ≡ walk (plain_step r) r.plain s
 unfolding steps
-steps_stop es r s h =
-    stopped (set_all r) (walk result_step r.results) (walk (act_step es r) r.acts) (search r.up) (walk (plain_step r) r.plain s) (walk_holds r r.plain s ∙ h)
+steps_stop known r s h =
+    stopped (set_all r) (walk result_step r.results) (walk (act_step known r) r.acts) (search r.up) (walk (plain_step r) r.plain s) (walk_holds r r.plain s ∙ h)
 
 -- a rule whose matches of the event do not all hold
-pub unmatched : (es : List Entry) (r : Rule) (s : Scene) → plain_hold s.state r ≡ false → SameButNotes s (apply es r s).0
+pub unmatched : (known : Known) (r : Rule) (s : Scene) → plain_hold s.state r ≡ false → SameButNotes s (apply known r s).0
 unfolding apply
-unmatched es r s h = by (is_idle r s.state.event)
+unmatched known r s h = by (is_idle r s.state.event)
   where
-    by : (b : Bool) → SameButNotes s (cond b (only_noted es r s) (steps es r s)).0
+    by : (b : Bool) → SameButNotes s (cond b (only_noted known r s) (steps known r s)).0
     by true = refl
-    by false = ap (λ (w : Went). noting s.notes w.0) (steps_stop es r s h) ∙ walk_same r r.plain s.notes s
+    by false = ap (λ (w : Went). noting s.notes w.0) (steps_stop known r s h) ∙ walk_same r r.plain s.notes s
 
 -- its end is not reached
-unmatched_stops : (es : List Entry) (r : Rule) (s : Scene) → plain_hold s.state r ≡ false → (apply es r s).1 ≡ false
+unmatched_stops : (known : Known) (r : Rule) (s : Scene) → plain_hold s.state r ≡ false → (apply known r s).1 ≡ false
 unfolding apply
-unmatched_stops es r s h = by (is_idle r s.state.event)
+unmatched_stops known r s h = by (is_idle r s.state.event)
   where
-    by : (b : Bool) → (cond b (only_noted es r s) (steps es r s)).1 ≡ false
+    by : (b : Bool) → (cond b (only_noted known r s) (steps known r s)).1 ≡ false
     by true = refl
-    by false = ap (λ (w : Went). w.1) (steps_stop es r s h) ∙ walk_holds r r.plain s ∙ h
+    by false = ap (λ (w : Went). w.1) (steps_stop known r s h) ∙ walk_holds r r.plain s ∙ h
 
-none_holds : (es : List Entry) (rules : List Rule) (s : Scene) → list_any (plain_hold s.state) rules ≡ false → SameButNotes s (run es None rules s)
+none_holds : (known : Known) (rules : List Rule) (s : Scene) → list_any (plain_hold s.state) rules ≡ false → SameButNotes s (run known None rules s)
 unfolding run
-none_holds es [] s h = refl
-none_holds es (r ∷ rs) s h = by (none_holds es rs) (plain_hold s.state r) refl h
+none_holds known [] s h = refl
+none_holds known (r ∷ rs) s h = by (none_holds known rs) (plain_hold s.state r) refl h
   where
     t : Scene
-    t = (apply es r s).0
+    t = (apply known r s).0
 
-    by : ((u : Scene) → list_any (plain_hold u.state) rs ≡ false → SameButNotes u (run es None rs u)) → (b : Bool) → plain_hold s.state r ≡ b → (b || list_any (plain_hold s.state) rs) ≡ false
-        → SameButNotes s (run es (sought_after (apply es r s).1 r) rs t)
+    by : ((u : Scene) → list_any (plain_hold u.state) rs ≡ false → SameButNotes u (run known None rs u)) → (b : Bool) → plain_hold s.state r ≡ b → (b || list_any (plain_hold s.state) rs) ≡ false
+        → SameButNotes s (run known (sought_after (apply known r s).1 r) rs t)
     by more true e none = cc none
     by more false e none =
-        let same : SameButNotes s t = unmatched es r s e in
+        let same : SameButNotes s t = unmatched known r s e in
         let state : t.state ≡ s.state = ap (λ (u : Scene). u.state) same in
-        let on : (apply es r s).1 ≡ false = unmatched_stops es r s e in
-        let rest : SameButNotes t (run es None rs t) = more t (ap (λ u. list_any (plain_hold u) rs) state ∙ none) in
-        ap (λ b. noting s.notes (run es (sought_after b r) rs t)) on ∙ ap (noting s.notes) rest ∙ same
+        let on : (apply known r s).1 ≡ false = unmatched_stops known r s e in
+        let rest : SameButNotes t (run known None rs t) = more t (ap (λ u. list_any (plain_hold u) rs) state ∙ none) in
+        ap (λ b. noting s.notes (run known (sought_after b r) rs t)) on ∙ ap (noting s.notes) rest ∙ same
 
 -- rules of which none has matches that hold
-pub nothing_matches : (es : List Entry) (rules : List Rule) (s : Scene) → list_any (plain_hold s.state) rules ≡ false → SameOutcomeButNotes (outcome_of s) (outcome_of (run es None rules s))
+pub nothing_matches : (known : Known) (rules : List Rule) (s : Scene) → list_any (plain_hold s.state) rules ≡ false → SameOutcomeButNotes (outcome_of s) (outcome_of (run known None rules s))
 unfolding outcome_of
-nothing_matches es rules s h = ap (λ (u : Scene). record (outcome_of u) { notes = (outcome_of s).notes }) (none_holds es rules s h)
+nothing_matches known rules s h = ap (λ (u : Scene). record (outcome_of u) { notes = (outcome_of s).notes }) (none_holds known rules s h)

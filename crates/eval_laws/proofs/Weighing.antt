@@ -2,7 +2,7 @@
 use Rattle.std.proofs.Common.{◌≡◌, ℕ, ◌+◌, ◌≤◌, List, length, None, Ok, refl, arith}
 use Rattle.text_bytes.specs.declared.profile.Profile.{Profile}
 use Rattle.text_tables.specs.Texts.{Text}
-use Rattle.hwdb_lookup.specs.declared.entry.Entry.{Entry}
+use Rattle.builtin_devices.specs.Knowledge.{Known}
 use Rattle.rule_types.specs.Rules.{Rule}
 use Rattle.device_core.specs.Faults.{block_gives}
 use Rattle.device_core.specs.Values.{EventValue, by_profile}
@@ -17,10 +17,10 @@ use Rattle.eval_laws.proofs.Starts.{start_within}
 use Rattle.eval_laws.proofs.Ruled.{run_within}
 use Rattle.eval_laws.proofs.Ends.{outcome_light}
 
-answer_within : (len : ℕ) (rules : List Rule) (entries : List Entry) (event : EventValue) → event_weight event ≤ len → outcome_weight (outcome rules entries event) ≤ most_weight event.profile len entries rules
-answer_within len rules entries event short =
-    let a = (run_within event len short entries rules None (event_weight event + 50) (start event) (start_within event)).light in
-    let b = outcome_light (run entries None rules (start event)) in
+answer_within : (len : ℕ) (rules : List Rule) (known : Known) (event : EventValue) → event_weight event ≤ len → outcome_weight (outcome rules known event) ≤ most_weight event.profile len known.entries rules
+answer_within len rules known event short =
+    let a = (run_within event len short known rules None (event_weight event + 50) (start event) (start_within event)).light in
+    let b = outcome_light (run known None rules (start event)) in
     omega (arith, a, b, short)
 
 -- whose word rules are evaluated by has no weight
@@ -28,9 +28,9 @@ pub weight_by : (profile : Profile) (event : EventValue) → event_weight (by_pr
 unfolding event_weight
 weight_by profile event = refl
 
-pub block_answer : (profile : Profile) (rules : List Rule) (entries : List Entry) (block : Text) (event : EventValue) → block_gives block ≡ Ok event
-    → outcome_weight (outcome rules entries (by_profile profile event)) ≤ most_weight profile (length block) entries rules
-block_answer profile rules entries block event given =
+pub block_answer : (profile : Profile) (rules : List Rule) (known : Known) (block : Text) (event : EventValue) → block_gives block ≡ Ok event
+    → outcome_weight (outcome rules known (by_profile profile event)) ≤ most_weight profile (length block) known.entries rules
+block_answer profile rules known block event given =
     let a = weight_by profile event in
     let b = event_within block event given in
-    answer_within (length block) rules entries (by_profile profile event) (omega (arith, a, b))
+    answer_within (length block) rules known (by_profile profile event) (omega (arith, a, b))

@@ -4,18 +4,18 @@ use Rattle.std.specs.List.{flat_map}
 use Rattle.text_bytes.specs.Names.{equals}
 use Rattle.text_tables.specs.Texts.{Text}
 use Rattle.text_tables.specs.Pairs.{Pair}
-use Rattle.hwdb_lookup.specs.declared.entry.Entry.{Entry}
+use Rattle.builtin_devices.specs.Knowledge.{Known}
 use Rattle.eval_acts.specs.LookUps.{Candidate, counted_properties, is_wanted}
-use Rattle.eval_acts.specs.declared.hwdb.Hwdb.{Hwdb}
+use Rattle.eval_commands.specs.declared.hwdb.Hwdb.{Hwdb}
 
 -- One of the texts is answered with these properties, and those before it give none.
-pub record IsFirstAnswer (entries : List Entry) (hwdb : Hwdb) (texts : List Text) (properties : List Pair) : Type 0 where
+pub record IsFirstAnswer (known : Known) (hwdb : Hwdb) (texts : List Text) (properties : List Pair) : Type 0 where
   pub before : List Text
   pub text : Text
   pub following : List Text
   pub whole : texts ≡ before ++ text ∷ following
-  pub nothing : flat_map (counted_properties entries hwdb) before ≡ []
-  pub gives : counted_properties entries hwdb text ≡ properties
+  pub nothing : flat_map (counted_properties known hwdb) before ≡ []
+  pub gives : counted_properties known hwdb text ≡ properties
 
 -- the texts of devices, nearest first: the modalias of each that is wanted and has one, after the prefix
 abbrev pub texts_of : Hwdb → List Candidate → List Text

@@ -12,7 +12,7 @@ use Rattle.rule_types.specs.declared.part.ActKind.TheVariants as act_kind
 use Rattle.rule_types.specs.declared.part.Import.TheVariants as import
 use Rattle.eval_state.specs.declared.scene.Scene.{Scene}
 use Rattle.eval_acts.specs.ActTexts.{import_text}
-use Rattle.eval_acts.specs.Words.{is_quote}
+use Rattle.eval_commands.specs.Words.{is_quote}
 use Rattle.eval_rendering.specs.Bounds.{most_command_bytes}
 use Rattle.eval_rendering.specs.declared.rendered.Rendered.TheVariants as outcome
 

@@ -5,7 +5,7 @@ ghost use Rattle.std.specs.Prelude.{◌≡◌, ◌≤◌, ◌+◌, ◌*◌, ◌^
 ghost use Rattle.text_tables.specs.Texts.{Text};
 ghost use Rattle.text_bytes.specs.declared.profile.Profile.{Profile};
 ghost use Rattle.text_bytes.specs.declared.source_file.SourceFile.{SourceFile};
-ghost use Rattle.hwdb_lookup.specs.declared.entry.Entry.{Entry};
+ghost use Rattle.builtin_devices.specs.Knowledge.{Known};
 ghost use Rattle.rule_core.specs.Rules.{set_of_as};
 ghost use Rattle.device_core.specs.Faults.{block_gives};
 ghost use Rattle.device_core.specs.Values.{EventValue, by_profile};
@@ -16,9 +16,9 @@ ghost use Rattle.engine_answers.specs.Answers.{answer};
 
 /// The answer to an event that a block gives has at most eight times the weight of the event's outcome, four times
 /// the length of the block, and 64 bytes. That holds by the rules of any files, read and evaluated by either
-/// profile, and any entries of a database, and for every other outcome whose priority, if it has one, is a number
-/// of 32 bits.
+/// profile, whatever a database and the builtins say, and for every other outcome whose priority, if it has one, is
+/// a number of 32 bits.
 pub fn an_answer_is_no_longer_than_its_weight()
-    ensures files { (read profile : Profile) (files : List SourceFile) (entries : List Entry) (block : Text) (event : EventValue) → block_gives block ≡ Ok event → length (answer (by_profile profile event) (outcome (set_of_as read files).rules entries (by_profile profile event))) ≤ 8 * outcome_weight (outcome (set_of_as read files).rules entries (by_profile profile event)) + 4 * length block + 64 }
+    ensures files { (read profile : Profile) (files : List SourceFile) (known : Known) (block : Text) (event : EventValue) → block_gives block ≡ Ok event → length (answer (by_profile profile event) (outcome (set_of_as read files).rules known (by_profile profile event))) ≤ 8 * outcome_weight (outcome (set_of_as read files).rules known (by_profile profile event)) + 4 * length block + 64 }
     ensures others { (profile : Profile) (block : Text) (event : EventValue) (other : Outcome) → block_gives block ≡ Ok event → IfSome other.priority (λ priority. unsigned_abs priority ≤ 2 ^ 31) → length (answer (by_profile profile event) other) ≤ 8 * outcome_weight other + 4 * length block + 64 }
 {}

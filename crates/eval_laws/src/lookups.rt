@@ -9,24 +9,24 @@ ghost use Rattle.text_tables.specs.Texts.{Text};
 ghost use Rattle.text_tables.specs.Pairs.{Pair, value_of};
 ghost use Rattle.text_core.specs.Spell.{spell};
 ghost use Rattle.text_core.specs.declared.item.Item.{Item};
-ghost use Rattle.hwdb_lookup.specs.declared.entry.Entry.{Entry};
+ghost use Rattle.builtin_devices.specs.Knowledge.{Known};
 ghost use Rattle.device_core.specs.Values.{DeviceValue};
 ghost use Rattle.builtin_devices.specs.Devices.{is_of};
 ghost use Rattle.builtin_devices.specs.Numbers.{number_in};
 ghost use Rattle.builtin_devices.specs.declared.numbers.Base.TheVariants.{Hexadecimal};
 ghost use Rattle.eval_state.specs.Texts.{or_empty};
 ghost use Rattle.eval_state.specs.declared.state.State.{State};
-ghost use Rattle.eval_acts.specs.Hwdb.{hwdb_of};
+ghost use Rattle.eval_commands.specs.Hwdb.{hwdb_of};
 ghost use Rattle.eval_acts.specs.LookUps.{Candidate, candidate, candidates, counted_properties, found, is_last, texts};
 ghost use Rattle.eval_acts.specs.UsbModalias.{four_digits, number_of};
-ghost use Rattle.eval_acts.specs.declared.hwdb.Hwdb.{Hwdb};
+ghost use Rattle.eval_commands.specs.declared.hwdb.Hwdb.{Hwdb};
 ghost use Rattle.eval_laws.specs.LookUps.{HasNoValue, IsFirstAnswer, IsLastValue, texts_of};
 
 /// The properties that are found are the whole answer to the first text that has one, and none are found if and
 /// only if no text has one.
 pub fn the_first_answer_is_found()
-    ensures some { (entries : List Entry) (hwdb : Hwdb) (state : State) (properties : List Pair) → is_empty properties ≡ false → (found entries hwdb state ≡ properties) ↔ IsFirstAnswer entries hwdb (texts hwdb state) properties }
-    ensures none { (entries : List Entry) (hwdb : Hwdb) (state : State) → (found entries hwdb state ≡ []) ↔ (flat_map (counted_properties entries hwdb) (texts hwdb state) ≡ []) }
+    ensures some { (known : Known) (hwdb : Hwdb) (state : State) (properties : List Pair) → is_empty properties ≡ false → (found known hwdb state ≡ properties) ↔ IsFirstAnswer known hwdb (texts hwdb state) properties }
+    ensures none { (known : Known) (hwdb : Hwdb) (state : State) → (found known hwdb state ≡ []) ↔ (flat_map (counted_properties known hwdb) (texts hwdb state) ≡ []) }
 {}
 
 /// A modalias that is given is the only text, after the prefix. Without one, the texts are the modaliases

@@ -5,7 +5,7 @@ ghost use Rattle.text_bytes.specs.Names.{equals, hash, is_blank};
 ghost use Rattle.text_bytes.specs.declared.profile.Profile.TheVariants.{Udev};
 ghost use Rattle.text_tables.specs.Texts.{Text};
 ghost use Rattle.text_tables.specs.Pairs.{Pair};
-ghost use Rattle.hwdb_lookup.specs.declared.entry.Entry.{Entry};
+ghost use Rattle.builtin_devices.specs.Knowledge.{Known};
 ghost use Rattle.rule_templates.specs.Template as templates;
 ghost use Rattle.rule_types.specs.Rules.{Rule};
 ghost use Rattle.rule_types.specs.declared.roles.MatchOperator.{MatchOperator};
@@ -34,7 +34,7 @@ pub fn a_written_property_is_read_back()
 /// status 0, and nothing else: neither the result of a PROGRAM nor a link, with either operator. If it fails, the
 /// properties are as they were.
 pub fn a_program_that_is_imported_sets_what_it_printed()
-    ensures answered { (entries : List Entry) (rule : Rule) (operator : MatchOperator) (template : templates.Parts) (scene : Scene) (text : Text) → scene.state.event.profile ≡ Udev → IsPrinted template scene text → (act_step entries rule (program_import operator template) scene).0 ≡ with_env (properties_set scene.state.env (printed_properties text)) scene }
-    ensures holds { (entries : List Entry) (rule : Rule) (template : templates.Parts) (scene : Scene) → scene.state.event.profile ≡ Udev → ((act_step entries rule (program_import Equal template) scene).1 ≡ true) ↔ ((text : Text) × IsPrinted template scene text) }
-    ensures failed { (entries : List Entry) (rule : Rule) (template : templates.Parts) (scene : Scene) → scene.state.event.profile ≡ Udev → (act_step entries rule (program_import Equal template) scene).1 ≡ false → (act_step entries rule (program_import Equal template) scene).0.state ≡ scene.state }
+    ensures answered { (known : Known) (rule : Rule) (operator : MatchOperator) (template : templates.Parts) (scene : Scene) (text : Text) → scene.state.event.profile ≡ Udev → IsPrinted template scene text → (act_step known rule (program_import operator template) scene).0 ≡ with_env (properties_set scene.state.env (printed_properties text)) scene }
+    ensures holds { (known : Known) (rule : Rule) (template : templates.Parts) (scene : Scene) → scene.state.event.profile ≡ Udev → ((act_step known rule (program_import Equal template) scene).1 ≡ true) ↔ ((text : Text) × IsPrinted template scene text) }
+    ensures failed { (known : Known) (rule : Rule) (template : templates.Parts) (scene : Scene) → scene.state.event.profile ≡ Udev → (act_step known rule (program_import Equal template) scene).1 ≡ false → (act_step known rule (program_import Equal template) scene).0.state ≡ scene.state }
 {}

@@ -1,7 +1,7 @@
 //! What a PROGRAM leaves. The function here is empty: its contract is the law.
-ghost use Rattle.std.specs.Prelude.{◌≡◌, ◌↔◌, [], List, true, false};
+ghost use Rattle.std.specs.Prelude.{◌≡◌, ◌↔◌, [], true, false};
 ghost use Rattle.text_tables.specs.Texts.{Text};
-ghost use Rattle.hwdb_lookup.specs.declared.entry.Entry.{Entry};
+ghost use Rattle.builtin_devices.specs.Knowledge.{Known};
 ghost use Rattle.rule_templates.specs.Template as templates;
 ghost use Rattle.rule_types.specs.Rules.{Rule};
 ghost use Rattle.eval_state.specs.declared.scene.Scene.{Scene};
@@ -14,7 +14,7 @@ ghost use Rattle.eval_laws.specs.Answered.{IsAnswered, program};
 /// result is empty, whatever it was before: if the command is too long, if the block has no answer to it, or if the
 /// answer has another status.
 pub fn a_program_that_fails_leaves_no_result()
-    ensures holds { (entries : List Entry) (rule : Rule) (template : templates.Parts) (scene : Scene) → ((act_step entries rule (program template) scene).1 ≡ true) ↔ ((text : Text) × IsAnswered template scene text) }
-    ensures answered { (entries : List Entry) (rule : Rule) (template : templates.Parts) (scene : Scene) (text : Text) → IsAnswered template scene text → act_step entries rule (program template) scene ≡ (with_result (result_of scene.state.event.profile text) scene, true) }
-    ensures failed { (entries : List Entry) (rule : Rule) (template : templates.Parts) (scene : Scene) → (act_step entries rule (program template) scene).1 ≡ false → (act_step entries rule (program template) scene).0.state.result ≡ [] }
+    ensures holds { (known : Known) (rule : Rule) (template : templates.Parts) (scene : Scene) → ((act_step known rule (program template) scene).1 ≡ true) ↔ ((text : Text) × IsAnswered template scene text) }
+    ensures answered { (known : Known) (rule : Rule) (template : templates.Parts) (scene : Scene) (text : Text) → IsAnswered template scene text → act_step known rule (program template) scene ≡ (with_result (result_of scene.state.event.profile text) scene, true) }
+    ensures failed { (known : Known) (rule : Rule) (template : templates.Parts) (scene : Scene) → (act_step known rule (program template) scene).1 ≡ false → (act_step known rule (program template) scene).0.state.result ≡ [] }
 {}

@@ -7,7 +7,7 @@ ghost use Rattle.text_bytes.specs.declared.profile.Profile.TheVariants.{Manual};
 ghost use Rattle.text_tables.specs.Texts.{Text, AreOnce};
 ghost use Rattle.text_tables.specs.Pairs.{Pair, names, value_of};
 ghost use Rattle.text_tables.specs.Sorted.{by_name};
-ghost use Rattle.hwdb_lookup.specs.declared.entry.Entry.{Entry};
+ghost use Rattle.builtin_devices.specs.Knowledge.{Known};
 ghost use Rattle.rule_types.specs.Rules.{Rule};
 ghost use Rattle.eval_state.specs.Runs.{RunValue, run_kind};
 ghost use Rattle.eval_state.specs.declared.scene.Scene.{Scene};
@@ -23,14 +23,14 @@ ghost use Rattle.eval_rules.specs.Steps.{apply};
 /// A rule of assignments alone makes them, one after another, and its end is reached. udev does so if it does not
 /// skip the rule.
 pub fn a_rule_of_assignments_makes_them()
-    ensures manual { (entries : List Entry) (r : Rule) (s : Scene) → s.state.event.profile ≡ Manual → r.plain ≡ [] → r.up ≡ [] → r.acts ≡ [] → r.results ≡ [] → apply entries r s ≡ (fold (set_step r) s r.sets, true) }
-    ensures counts { (entries : List Entry) (r : Rule) (s : Scene) → is_idle r s.state.event ≡ false → r.plain ≡ [] → r.up ≡ [] → r.acts ≡ [] → r.results ≡ [] → apply entries r s ≡ (fold (set_step r) s r.sets, true) }
+    ensures manual { (known : Known) (r : Rule) (s : Scene) → s.state.event.profile ≡ Manual → r.plain ≡ [] → r.up ≡ [] → r.acts ≡ [] → r.results ≡ [] → apply known r s ≡ (fold (set_step r) s r.sets, true) }
+    ensures counts { (known : Known) (r : Rule) (s : Scene) → is_idle r s.state.event ≡ false → r.plain ≡ [] → r.up ≡ [] → r.acts ≡ [] → r.results ≡ [] → apply known r s ≡ (fold (set_step r) s r.sets, true) }
 {}
 
 /// A rule whose end is not reached, or that has no jump, is followed by the next one.
 pub fn the_next_rule_follows()
-    ensures stopped { (entries : List Entry) (r : Rule) (rules : List Rule) (s : Scene) → (apply entries r s).1 ≡ false → run_all entries (r ∷ rules) s ≡ run_all entries rules (apply entries r s).0 }
-    ensures plain { (entries : List Entry) (r : Rule) (rules : List Rule) (s : Scene) → r.goto ≡ None → run_all entries (r ∷ rules) s ≡ run_all entries rules (apply entries r s).0 }
+    ensures stopped { (known : Known) (r : Rule) (rules : List Rule) (s : Scene) → (apply known r s).1 ≡ false → run_all known (r ∷ rules) s ≡ run_all known rules (apply known r s).0 }
+    ensures plain { (known : Known) (r : Rule) (rules : List Rule) (s : Scene) → r.goto ≡ None → run_all known (r ∷ rules) s ≡ run_all known rules (apply known r s).0 }
 {}
 
 /// Properties have the same values when they are sorted.

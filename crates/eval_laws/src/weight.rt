@@ -6,7 +6,7 @@ ghost use Rattle.std.specs.Prelude.{◌≡◌, ◌≤◌, List, length, Ok};
 ghost use Rattle.std.specs.List.{sum_by};
 ghost use Rattle.text_bytes.specs.declared.profile.Profile.{Profile};
 ghost use Rattle.text_tables.specs.Texts.{Text};
-ghost use Rattle.hwdb_lookup.specs.declared.entry.Entry.{Entry};
+ghost use Rattle.builtin_devices.specs.Knowledge.{Known};
 ghost use Rattle.rule_types.specs.Rules.{Rule};
 ghost use Rattle.device_core.specs.Faults.{block_gives};
 ghost use Rattle.device_core.specs.Values.{EventValue, by_profile};
@@ -20,11 +20,11 @@ ghost use Rattle.eval_laws.specs.Weights.{outcome_weight};
 /// each IMPORT twice the block and all keys and values of the database, each with one more. For udev the outcome
 /// may have more: the text of each SECLABEL as it is written, the block for each ATTR, and 65,536 for each IMPORT.
 pub fn an_answer_weighs_no_more_than_is_allowed()
-    ensures { (profile : Profile) (rules : List Rule) (entries : List Entry) (block : Text) (event : EventValue) → block_gives block ≡ Ok event → outcome_weight (outcome rules entries (by_profile profile event)) ≤ most_weight profile (length block) entries rules }
+    ensures { (profile : Profile) (rules : List Rule) (known : Known) (block : Text) (event : EventValue) → block_gives block ≡ Ok event → outcome_weight (outcome rules known (by_profile profile event)) ≤ most_weight profile (length block) known.entries rules }
 {}
 
 /// The outcome of an event has no more notes than its rules have parts: each part is met at most once, and leaves
 /// at most one note.
 pub fn each_part_leaves_at_most_one_note()
-    ensures { (rules : List Rule) (entries : List Entry) (event : EventValue) → length (outcome rules entries event).notes ≤ sum_by part_count rules }
+    ensures { (rules : List Rule) (known : Known) (event : EventValue) → length (outcome rules known event).notes ≤ sum_by part_count rules }
 {}

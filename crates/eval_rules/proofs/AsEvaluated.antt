@@ -4,7 +4,7 @@ use Rattle.std.proofs.Common.{◌≡◌, Bool, true, false, cond, not, ◌&&◌,
 use Rattle.std.specs.List.{fold, list_any}
 use Rattle.text_bytes.specs.declared.profile.Profile.{Profile}
 use Rattle.text_bytes.specs.declared.profile.Profile.TheVariants.{Manual, Udev}
-use Rattle.hwdb_lookup.specs.declared.entry.Entry.{Entry}
+use Rattle.builtin_devices.specs.Knowledge.{Known}
 use Rattle.device_core.specs.Values.{EventValue}
 use Rattle.rule_types.specs.declared.roles.AssignOperator.{AssignOperator}
 use Rattle.rule_types.specs.declared.roles.AssignOperator.TheVariants.{AssignFinal}
@@ -74,7 +74,7 @@ no_set_counts Udev r event h = by (is_some r.goto) (list_any (λ act. act_kind_c
     by false false true h = cc h
     by false false false h = refl
 
-module _ (entries : List Entry) (r : Rule) (s : Scene) (idle : is_idle r s.state.event ≡ true) where
+module _ (known : Known) (r : Rule) (s : Scene) (idle : is_idle r s.state.event ≡ true) where
   ends_as : (w : Went) → Still s w.0 → is_removal s.state.event ≡ false → (if_proceeding (note_all r) w).0 ≡ (if_proceeding (set_all r) w).0
   ends_as w h g = by w.1
     where
@@ -89,14 +89,14 @@ module _ (entries : List Entry) (r : Rule) (s : Scene) (idle : is_idle r s.state
 
   -- a rule that is skipped
   pub passed_as : is_removal s.state.event ≡ false
-      → apply entries r s ≡ (record (steps entries r s).0 { finals = s.finals; state = with_selected s.state.selected (steps entries r s).0.state }, false)
+      → apply known r s ≡ (record (steps known r s).0 { finals = s.finals; state = with_selected s.state.selected (steps known r s).0.state }, false)
   unfolding apply steps
   passed_as g =
-      ap (λ b. cond b (only_noted entries r s) (steps entries r s)) idle
-      ∙ ap (λ (t : Scene). (t, false)) (sym (still_noted s (if_proceeding (note_all r) (before_sets entries r s)).0 (noted_still entries r s idle)))
-      ∙ ap (λ (t : Scene). (record t { finals = s.finals; state = with_selected s.state.selected t.state }, false)) (ends_as (before_sets entries r s) (tried_idle entries r s idle) g)
+      ap (λ b. cond b (only_noted known r s) (steps known r s)) idle
+      ∙ ap (λ (t : Scene). (t, false)) (sym (still_noted s (if_proceeding (note_all r) (before_sets known r s)).0 (noted_still known r s idle)))
+      ∙ ap (λ (t : Scene). (record t { finals = s.finals; state = with_selected s.state.selected t.state }, false)) (ends_as (before_sets known r s) (tried_idle known r s idle) g)
 
 -- a rule by the manual
-pub manual_evaluates : (entries : List Entry) (r : Rule) (s : Scene) → s.state.event.profile ≡ Manual → apply entries r s ≡ steps entries r s
+pub manual_evaluates : (known : Known) (r : Rule) (s : Scene) → s.state.event.profile ≡ Manual → apply known r s ≡ steps known r s
 unfolding apply is_idle_by
-manual_evaluates entries r s h = ap (λ p. cond (is_idle_by p r s.state.event) (only_noted entries r s) (steps entries r s)) h
+manual_evaluates known r s h = ap (λ p. cond (is_idle_by p r s.state.event) (only_noted known r s) (steps known r s)) h

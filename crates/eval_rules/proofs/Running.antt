@@ -3,41 +3,41 @@ use Rattle.std.proofs.Common.{◌≡◌, ℕ, suc, ◌+◌, ◌<◌, ◌≤◌, 
 use Rattle.std.specs.List.{prefix_len}
 use Rattle.std.proofs.lemmas.List.{drop_more, drop_all, drop-drop}
 use Rattle.text_tables.specs.Texts.{Text}
-use Rattle.hwdb_lookup.specs.declared.entry.Entry.{Entry}
+use Rattle.builtin_devices.specs.Knowledge.{Known}
 use Rattle.rule_types.specs.Rules.{Rule}
 use Rattle.eval_state.specs.declared.scene.Scene.{Scene}
 use Rattle.eval_rules.specs.Steps.{Went, apply}
 use Rattle.eval_rules.specs.Jumps.{is_passed, run, sought_after}
 use Rattle.eval_rules.specs.Inner.{landing}
 
-module _ (es : List Entry) where
+module _ (known : Known) where
   -- rules are skipped up to the first that is not
-  passed : (sought : Option Text) (rules : List Rule) (s : Scene) → run es sought rules s ≡ run es None (drop (prefix_len (is_passed sought) rules) rules) s
+  passed : (sought : Option Text) (rules : List Rule) (s : Scene) → run known sought rules s ≡ run known None (drop (prefix_len (is_passed sought) rules) rules) s
   unfolding run
   passed sought [] s = refl
   passed sought (r ∷ rs) s = by (is_passed sought r) (passed sought rs s)
     where
-      by : (b : Bool) → run es sought rs s ≡ run es None (drop (prefix_len (is_passed sought) rs) rs) s
-          → cond b (run es sought rs s) (run es (sought_after (apply es r s).1 r) rs (apply es r s).0) ≡ run es None (drop (cond b (1 + prefix_len (is_passed sought) rs) 0) (r ∷ rs)) s
+      by : (b : Bool) → run known sought rs s ≡ run known None (drop (prefix_len (is_passed sought) rs) rs) s
+          → cond b (run known sought rs s) (run known (sought_after (apply known r s).1 r) rs (apply known r s).0) ≡ run known None (drop (cond b (1 + prefix_len (is_passed sought) rs) 0) (r ∷ rs)) s
       by true h =
           let one : 1 + prefix_len (is_passed sought) rs ≡ suc (prefix_len (is_passed sought) rs) = omega arith in
-          h ∙ ap (λ n. run es None (drop n (r ∷ rs)) s) (sym one)
+          h ∙ ap (λ n. run known None (drop n (r ∷ rs)) s) (sym one)
       by false h = refl
 
   -- a rule that is evaluated, and where it leads
-  pub run_on : (rules : List Rule) (i : ℕ) (r : Rule) (s t : Scene) (reached : Bool) (next : Option Text) (j : ℕ) → i < length rules → r ≡ get_or rules i r → (t, reached) ≡ apply es r s
-      → next ≡ sought_after reached r → j ≡ landing next rules (i + 1) → run es None (drop j rules) t ≡ run es None (drop i rules) s
+  pub run_on : (rules : List Rule) (i : ℕ) (r : Rule) (s t : Scene) (reached : Bool) (next : Option Text) (j : ℕ) → i < length rules → r ≡ get_or rules i r → (t, reached) ≡ apply known r s
+      → next ≡ sought_after reached r → j ≡ landing next rules (i + 1) → run known None (drop j rules) t ≡ run known None (drop i rules) s
   unfolding run
   run_on rules i r s t reached next j within is e to at =
       let rest : List Rule = drop (i + 1) rules in
-      ap (λ n. run es None (drop n rules) t) at
-      ∙ ap (λ rs. run es None rs t) (sym (drop-drop (prefix_len (is_passed next) rest) (i + 1) rules))
+      ap (λ n. run known None (drop n rules) t) at
+      ∙ ap (λ rs. run known None rs t) (sym (drop-drop (prefix_len (is_passed next) rest) (i + 1) rules))
       ∙ sym (passed next rest t)
-      ∙ ap (λ l. run es l rest t) to
-      ∙ ap (λ (w : Went). run es (sought_after w.1 r) rest w.0) e
-      ∙ ap (λ rs. run es None rs s) (sym (drop_more rules i r within ∙ ap (λ x. x ∷ rest) (sym is)))
+      ∙ ap (λ l. run known l rest t) to
+      ∙ ap (λ (w : Went). run known (sought_after w.1 r) rest w.0) e
+      ∙ ap (λ rs. run known None rs s) (sym (drop_more rules i r within ∙ ap (λ x. x ∷ rest) (sym is)))
 
 -- no rule is left
-pub run_end : (es : List Entry) (rules : List Rule) (i : ℕ) (s : Scene) → length rules ≤ i → run es None (drop i rules) s ≡ s
+pub run_end : (known : Known) (rules : List Rule) (i : ℕ) (s : Scene) → length rules ≤ i → run known None (drop i rules) s ≡ s
 unfolding run
-run_end es rules i s h = ap (λ rs. run es None rs s) (drop_all i rules h)
+run_end known rules i s h = ap (λ rs. run known None rs s) (drop_all i rules h)

@@ -6,7 +6,7 @@ use Rattle.text_bytes.specs.Texts.{begins_with}
 use Rattle.text_bytes.specs.declared.profile.Profile.{Profile}
 use Rattle.text_bytes.specs.declared.profile.Profile.TheVariants.{Manual, Udev}
 use Rattle.text_tables.specs.Texts.{Text}
-use Rattle.hwdb_lookup.specs.declared.entry.Entry.{Entry}
+use Rattle.builtin_devices.specs.Knowledge.{Known}
 use Rattle.device_core.specs.Values.{EventValue, NumberValue}
 use Rattle.rule_types.specs.Written.{attribute_of_target, key_of_target}
 use Rattle.rule_types.specs.declared.roles.PlainKey.{PlainKey}
@@ -127,14 +127,14 @@ shown_still : (r : Rule) (d : ActKind) (act : Text → Scene → Scene × Bool) 
 shown_still r d act h (rendered.Text t) s = h t s
 shown_still r d act h rendered.TooLong s = refl
 
-performed_still : (es : List Entry) (r : Rule) (d : ActKind) (s : Scene) → act_kind_counts d ≡ false → Still s (left r d (performed es r d s))
-performed_still es r (act_kind.Test mask t) s h = shown_still r (act_kind.Test mask t) (tested r mask) (tested_still r mask) _ s
-performed_still es r (act_kind.Program t) s h = cc h
-performed_still es r (act_kind.Import i) s h = cc h
+performed_still : (known : Known) (r : Rule) (d : ActKind) (s : Scene) → act_kind_counts d ≡ false → Still s (left r d (performed known r d s))
+performed_still known r (act_kind.Test mask t) s h = shown_still r (act_kind.Test mask t) (tested r mask) (tested_still r mask) _ s
+performed_still known r (act_kind.Program t) s h = cc h
+performed_still known r (act_kind.Import i) s h = cc h
 
-act_still : (es : List Entry) (r : Rule) (act : Act) (s : Scene) → act_kind_counts act.kind ≡ false → Still s (act_step es r act s).0
+act_still : (known : Known) (r : Rule) (act : Act) (s : Scene) → act_kind_counts act.kind ≡ false → Still s (act_step known r act s).0
 unfolding act_step
-act_still es r act s h = performed_still es r act.kind s h
+act_still known r act s h = performed_still known r act.kind s h
 
 neither_first : (a b : Bool) → (a || b) ≡ false → a ≡ false
 neither_first false b h = refl
@@ -144,12 +144,12 @@ neither_second : (a b : Bool) → (a || b) ≡ false → b ≡ false
 neither_second false b h = h
 neither_second true b h = cc h
 
-acts_still : (es : List Entry) (r : Rule) (acts : List Act) (s : Scene) → list_any (λ act. act_kind_counts act.kind) acts ≡ false → Still s (walk (act_step es r) acts s).0
+acts_still : (known : Known) (r : Rule) (acts : List Act) (s : Scene) → list_any (λ act. act_kind_counts act.kind) acts ≡ false → Still s (walk (act_step known r) acts s).0
 unfolding walk
-acts_still es r [] s h = refl
-acts_still es r (act ∷ acts) s h =
-    if_proceeding_still (walk (act_step es r) acts) (λ t. acts_still es r acts t (neither_second (act_kind_counts act.kind) _ h)) s (act_step es r act s)
-    (act_still es r act s (neither_first (act_kind_counts act.kind) _ h))
+acts_still known r [] s h = refl
+acts_still known r (act ∷ acts) s h =
+    if_proceeding_still (walk (act_step known r) acts) (λ t. acts_still known r acts t (neither_second (act_kind_counts act.kind) _ h)) s (act_step known r act s)
+    (act_still known r act s (neither_first (act_kind_counts act.kind) _ h))
 
 -- ---- assignments whose keys do not apply to the device
 
@@ -252,16 +252,16 @@ no_act_counts Udev r event h = by (is_some r.goto) (list_any (λ act. act_kind_c
     by false true c h = cc h
     by false false c h = refl
 
-tried_still : (es : List Entry) (r : Rule) (s : Scene) → list_any (λ act. act_kind_counts act.kind) r.acts ≡ false → Still s (before_sets es r s).0
-tried_still es r s h =
+tried_still : (known : Known) (r : Rule) (s : Scene) → list_any (λ act. act_kind_counts act.kind) r.acts ≡ false → Still s (before_sets known r s).0
+tried_still known r s h =
     if_proceeding_still (walk result_step r.results) (walk_still result_step result_still r.results) s _
-    (if_proceeding_still (walk (act_step es r) r.acts) (λ t. acts_still es r r.acts t h) s _
+    (if_proceeding_still (walk (act_step known r) r.acts) (λ t. acts_still known r r.acts t h) s _
     (if_proceeding_still (search r.up) (search_still r.up) s _
     (walk_still (plain_step r) (plain_still r) r.plain s)))
 
 -- its keys
-pub tried_idle : (es : List Entry) (r : Rule) (s : Scene) → is_idle r s.state.event ≡ true → Still s (before_sets es r s).0
-tried_idle es r s idle = tried_still es r s (no_act_counts s.state.event.profile r s.state.event idle)
+pub tried_idle : (known : Known) (r : Rule) (s : Scene) → is_idle r s.state.event ≡ true → Still s (before_sets known r s).0
+tried_idle known r s idle = tried_still known r s (no_act_counts s.state.event.profile r s.state.event idle)
 
 end_still : (r : Rule) (s : Scene) (w : Went) → s.state.event.profile ≡ Udev → Still s w.0 → Still s (if_proceeding (note_all r) w).0
 end_still r s w udev h = by w.1
@@ -271,17 +271,17 @@ end_still r s w udev h = by w.1
     by false = h
 
 -- its keys and its end
-pub noted_still : (es : List Entry) (r : Rule) (s : Scene) → is_idle r s.state.event ≡ true → Still s (if_proceeding (note_all r) (before_sets es r s)).0
-noted_still es r s idle = end_still r s (before_sets es r s) (by_udev s.state.event.profile r s.state.event idle) (tried_idle es r s idle)
+pub noted_still : (known : Known) (r : Rule) (s : Scene) → is_idle r s.state.event ≡ true → Still s (if_proceeding (note_all r) (before_sets known r s)).0
+noted_still known r s idle = end_still r s (before_sets known r s) (by_udev s.state.event.profile r s.state.event idle) (tried_idle known r s idle)
 
 -- all that it leaves is notes
 pub still_noted : (s t : Scene) → Still s t → (record t { finals = s.finals; state = with_selected s.state.selected t.state }) ≡ (record s { notes = t.notes })
 still_noted s t h = ap (λ (u : Scene). record u { notes = t.notes }) h
 
 -- a rule that is skipped, once the device is selected again that was selected before, and the keys are final again that were so before
-pub passed_is : (es : List Entry) (r : Rule) (s t u : Scene) (on : Bool) → is_idle r s.state.event ≡ true → (t, on) ≡ before_sets es r s → u ≡ (if_proceeding (note_all r) (t, on)).0
-    → (record u { finals = s.finals; state = with_selected s.state.selected u.state }, false) ≡ only_noted es r s
-passed_is es r s t u on idle to made =
-    let whole : u ≡ (if_proceeding (note_all r) (before_sets es r s)).0 = made ∙ ap (λ (w : Went). (if_proceeding (note_all r) w).0) to in
-    let still : Still s u = ap (stilled s) whole ∙ noted_still es r s idle in
+pub passed_is : (known : Known) (r : Rule) (s t u : Scene) (on : Bool) → is_idle r s.state.event ≡ true → (t, on) ≡ before_sets known r s → u ≡ (if_proceeding (note_all r) (t, on)).0
+    → (record u { finals = s.finals; state = with_selected s.state.selected u.state }, false) ≡ only_noted known r s
+passed_is known r s t u on idle to made =
+    let whole : u ≡ (if_proceeding (note_all r) (before_sets known r s)).0 = made ∙ ap (λ (w : Went). (if_proceeding (note_all r) w).0) to in
+    let still : Still s u = ap (stilled s) whole ∙ noted_still known r s idle in
     ap (λ (v : Scene). (v, false)) (still_noted s u still ∙ ap (λ (v : Scene). record s { notes = v.notes }) whole)

@@ -9,7 +9,7 @@ use Rattle.text_core.specs.Fnmatch.{fnmatch_items}
 use Rattle.text_core.specs.declared.reading.Reading.TheVariants.{Exact}
 use Rattle.text_tables.specs.Texts.{Text}
 use Rattle.text_tables.specs.Pairs.{Pair, value_of}
-use Rattle.hwdb_lookup.specs.declared.entry.Entry.{Entry}
+use Rattle.builtin_devices.specs.Knowledge.{Known}
 use Rattle.device_core.specs.Values.{AnswerValue, DeviceValue}
 use Rattle.rule_types.specs.declared.roles.PlainKey.{PlainKey}
 use Rattle.rule_types.specs.declared.roles.PlainKey.TheVariants as plain
@@ -27,14 +27,10 @@ use Rattle.rule_types.specs.Rules.{Rule}
 use Rattle.eval_rendering.specs.declared.rendered.Rendered.{Rendered}
 use Rattle.eval_rendering.specs.declared.rendered.Rendered.TheVariants as rendered
 use Rattle.builtin_devices.specs.Outcomes.{OutcomeValue}
-use Rattle.builtin_input.specs.Input.{input_id}
-use Rattle.builtin_net.specs.NetId.{lookup, net_id}
-use Rattle.builtin_path.specs.Path.{path_id}
-use Rattle.builtin_usb.specs.UsbId.{usb_id}
 use Rattle.rule_types.specs.Builtins.{builtin_name}
 use Rattle.rule_types.specs.declared.builtins.Builtin.TheVariants.{InputId, NetId, PathId, UsbId}
-use Rattle.eval_acts.specs.declared.builtin.Builtin.{Builtin}
-use Rattle.eval_acts.specs.declared.builtin.Builtin.TheVariants as builtin
+use Rattle.eval_commands.specs.declared.builtin.Builtin.{Builtin}
+use Rattle.eval_commands.specs.declared.builtin.Builtin.TheVariants as builtin
 use Rattle.eval_matching.specs.Attributes.{is_not_read}
 use Rattle.eval_state.specs.Chains.{device_at}
 use Rattle.eval_state.specs.Named.{NamedValue, named, named_place}
@@ -94,24 +90,24 @@ outcome_stays r name o properties s =
 taken_stays : (r : Rule) (name : Text) (o : OutcomeValue) (s : Scene) → Stays s (outcome_taken r name o s).0
 taken_stays r name o s = outcome_stays r name o o.properties s
 
-usb_stays : (ran : Option Bool) (r : Rule) (s : Scene) → Stays s (usb_id_run ran r s).0
-usb_stays None r s = taken_stays r (builtin_name UsbId) (usb_id s.state.event (is_some (value_of s.state.env (codes "ID_BUS")))) s
-usb_stays (Some done) r s = refl
+usb_stays : (known : Known) (ran : Option Bool) (r : Rule) (s : Scene) → Stays s (usb_id_run known ran r s).0
+usb_stays known None r s = taken_stays r (builtin_name UsbId) (known.usb_id s.state.event (is_some (value_of s.state.env (codes "ID_BUS")))) s
+usb_stays known (Some done) r s = refl
 
-path_stays : (ran : Option Bool) (r : Rule) (s : Scene) → Stays s (path_id_run ran r s).0
-path_stays None r s = taken_stays r (builtin_name PathId) (path_id s.state.event) s
-path_stays (Some done) r s = refl
+path_stays : (known : Known) (ran : Option Bool) (r : Rule) (s : Scene) → Stays s (path_id_run known ran r s).0
+path_stays known None r s = taken_stays r (builtin_name PathId) (known.path_id s.state.event) s
+path_stays known (Some done) r s = refl
 
-builtin_stays : (es : List Entry) (r : Rule) (t : Text) (b : Builtin) (s : Scene) → Stays s (builtin_run es r t b s).0
-builtin_stays es r t (builtin.Hwdb h) s = refl
-builtin_stays es r t builtin.InputId s = taken_stays r (builtin_name InputId) (input_id s.state.event) s
-builtin_stays es r t builtin.NetId s =
-    let names : OutcomeValue = net_id s.state.event s.state.env in
-    outcome_stays r (builtin_name NetId) names (with_maker (looked_up es (lookup s.state.event s.state.env)) names.properties) s
-builtin_stays es r t builtin.PathId s = path_stays s.ran.path_id r s
-builtin_stays es r t builtin.UsbId s = usb_stays s.ran.usb_id r s
-builtin_stays es r t (builtin.Other name) s = refl
-builtin_stays es r t builtin.BadArguments s = refl
+builtin_stays : (known : Known) (r : Rule) (t : Text) (b : Builtin) (s : Scene) → Stays s (builtin_run known r t b s).0
+builtin_stays known r t (builtin.Hwdb h) s = refl
+builtin_stays known r t builtin.InputId s = taken_stays r (builtin_name InputId) (known.input_id s.state.event) s
+builtin_stays known r t builtin.NetId s =
+    let names : OutcomeValue = known.net_id s.state.event s.state.env in
+    outcome_stays r (builtin_name NetId) names (with_maker (looked_up known (known.net_lookup s.state.event s.state.env)) names.properties) s
+builtin_stays known r t builtin.PathId s = path_stays known s.ran.path_id r s
+builtin_stays known r t builtin.UsbId s = usb_stays known s.ran.usb_id r s
+builtin_stays known r t (builtin.Other name) s = refl
+builtin_stays known r t builtin.BadArguments s = refl
 
 parent_stays : (names : _) (d : Option DeviceValue) (s : Scene) → Stays s (from_parent names d s).0
 parent_stays names None s = refl
@@ -121,36 +117,36 @@ printed_stays : (r : Rule) (t : Text) (a : Option AnswerValue) (s : Scene) → S
 printed_stays r t None s = refl
 printed_stays r t (Some a) s = either s (a.status == 0) (with_env (properties_set s.state.env (printed_properties a.text)) s, true) (s, false) refl refl
 
-built_stays : (es : List Entry) (r : Rule) (text : Rendered) (s : Scene) → Stays s (on_text (run_builtin es r) text s).0
-built_stays es r text s = text_stays (run_builtin es r) (λ c u. builtin_stays es r c _ u) text s
+built_stays : (known : Known) (r : Rule) (text : Rendered) (s : Scene) → Stays s (on_text (run_builtin known r) text s).0
+built_stays known r text s = text_stays (run_builtin known r) (λ c u. builtin_stays known r c _ u) text s
 
-imported_stays : (p : Profile) (es : List Entry) (r : Rule) (i : Import) (s : Scene) → Stays s (imported p es r i s).0
-imported_stays Manual es r (import.Builtin t) s = built_stays es r _ s
-imported_stays Udev es r (import.Builtin t) s = built_stays es r _ s
-imported_stays Manual es r (import.Parent names text) s = parent_stays names _ s
-imported_stays Udev es r (import.Parent names text) s = text_stays from_parent_by (λ t u. parent_stays (fnmatch_items Exact t 0 ∷ []) (device_at u.state.event 1) u) _ s
-imported_stays Manual es r (import.Program t) s = refl
-imported_stays Udev es r (import.Program t) s = text_stays (from_program r) (λ c u. printed_stays r c (value_of u.state.event.programs c) u) _ s
-imported_stays Manual es r (import.File t) s = refl
-imported_stays Udev es r (import.File t) s = text_stays (λ path. not_run r File) (λ t u. refl) _ s
-imported_stays Manual es r (import.Cmdline name) s = refl
-imported_stays Udev es r (import.Cmdline name) s = refl
-imported_stays Manual es r (import.Db name) s = refl
-imported_stays Udev es r (import.Db name) s = refl
+imported_stays : (p : Profile) (known : Known) (r : Rule) (i : Import) (s : Scene) → Stays s (imported p known r i s).0
+imported_stays Manual known r (import.Builtin t) s = built_stays known r _ s
+imported_stays Udev known r (import.Builtin t) s = built_stays known r _ s
+imported_stays Manual known r (import.Parent names text) s = parent_stays names _ s
+imported_stays Udev known r (import.Parent names text) s = text_stays from_parent_by (λ t u. parent_stays (fnmatch_items Exact t 0 ∷ []) (device_at u.state.event 1) u) _ s
+imported_stays Manual known r (import.Program t) s = refl
+imported_stays Udev known r (import.Program t) s = text_stays (from_program r) (λ c u. printed_stays r c (value_of u.state.event.programs c) u) _ s
+imported_stays Manual known r (import.File t) s = refl
+imported_stays Udev known r (import.File t) s = text_stays (λ path. not_run r File) (λ t u. refl) _ s
+imported_stays Manual known r (import.Cmdline name) s = refl
+imported_stays Udev known r (import.Cmdline name) s = refl
+imported_stays Manual known r (import.Db name) s = refl
+imported_stays Udev known r (import.Db name) s = refl
 
-performed_stays : (es : List Entry) (r : Rule) (d : ActKind) (s : Scene) → Stays s (performed es r d s).0
-performed_stays es r (act_kind.Test mask t) s = text_stays (tested r mask) (tested_stays r mask) _ s
-performed_stays es r (act_kind.Program t) s = text_stays (answered_by_block r) (λ c u. answered_stays r c (value_of u.state.event.programs c) u) _ (with_result [] s)
-performed_stays es r (act_kind.Import i) s = imported_stays s.state.event.profile es r i s
+performed_stays : (known : Known) (r : Rule) (d : ActKind) (s : Scene) → Stays s (performed known r d s).0
+performed_stays known r (act_kind.Test mask t) s = text_stays (tested r mask) (tested_stays r mask) _ s
+performed_stays known r (act_kind.Program t) s = text_stays (answered_by_block r) (λ c u. answered_stays r c (value_of u.state.event.programs c) u) _ (with_result [] s)
+performed_stays known r (act_kind.Import i) s = imported_stays s.state.event.profile known r i s
 
 late_stays : (r : Rule) (d : ActKind) (done : Option Bool) (s t : Scene) → Stays s t → Stays s (too_long_noted r d done t)
 late_stays r d None s t h = h
 late_stays r d (Some done) s t h = h
 
 -- an act
-pub act_stays : (es : List Entry) (r : Rule) (act : Act) (s : Scene) → Stays s (act_step es r act s).0
+pub act_stays : (known : Known) (r : Rule) (act : Act) (s : Scene) → Stays s (act_step known r act s).0
 unfolding act_step
-act_stays es r act s = late_stays r act.kind (performed es r act.kind s).1 s (performed es r act.kind s).0 (performed_stays es r act.kind s)
+act_stays known r act s = late_stays r act.kind (performed known r act.kind s).1 s (performed known r act.kind s).0 (performed_stays known r act.kind s)
 
 -- ---- matches
 
@@ -205,23 +201,23 @@ walk_stays step h [] s = refl
 walk_stays step h (p ∷ ps) s = if_proceeding_stays (walk step ps) (walk_stays step h ps) s (step p s) (h p s)
 
 -- a rule up to its assignments
-pub tried_stays : (es : List Entry) (r : Rule) (s : Scene) → Stays s (before_sets es r s).0
-tried_stays es r s =
+pub tried_stays : (known : Known) (r : Rule) (s : Scene) → Stays s (before_sets known r s).0
+tried_stays known r s =
     if_proceeding_stays (walk result_step r.results) (walk_stays result_step result_stays r.results) s _
-    (if_proceeding_stays (walk (act_step es r) r.acts) (walk_stays (act_step es r) (act_stays es r) r.acts) s _
+    (if_proceeding_stays (walk (act_step known r) r.acts) (walk_stays (act_step known r) (act_stays known r) r.acts) s _
     (if_proceeding_stays (search r.up) (search_stays r.up) s _
     (walk_stays (plain_step r) (plain_stays r) r.plain s)))
 
 -- a rule in its steps
-pub steps_stay : (es : List Entry) (r : Rule) (s : Scene) → Stays s (steps es r s).0
+pub steps_stay : (known : Known) (r : Rule) (s : Scene) → Stays s (steps known r s).0
 unfolding steps
-steps_stay es r s = if_proceeding_stays (set_all r) (sets_stay r r.sets) s (before_sets es r s) (tried_stays es r s)
+steps_stay known r s = if_proceeding_stays (set_all r) (sets_stay r r.sets) s (before_sets known r s) (tried_stays known r s)
 
 -- a rule
-pub event_stays : (es : List Entry) (r : Rule) (s : Scene) → Stays s (apply es r s).0
+pub event_stays : (known : Known) (r : Rule) (s : Scene) → Stays s (apply known r s).0
 unfolding apply
-event_stays es r s = by (is_idle r s.state.event)
+event_stays known r s = by (is_idle r s.state.event)
   where
-    by : (b : Bool) → Stays s (cond b (only_noted es r s) (steps es r s)).0
+    by : (b : Bool) → Stays s (cond b (only_noted known r s) (steps known r s)).0
     by true = refl
-    by false = steps_stay es r s
+    by false = steps_stay known r s

@@ -1,7 +1,7 @@
 -- Rules one after another, those of all files as one list, with their jumps.
 use Rattle.std.specs.Prelude.{Bool, false, not, if◌then◌else◌, List, [], ◌∷◌, Option, Some, None}
 use Rattle.text_tables.specs.Texts.{Text, same_text}
-use Rattle.hwdb_lookup.specs.declared.entry.Entry.{Entry}
+use Rattle.builtin_devices.specs.Knowledge.{Known}
 use Rattle.rule_types.specs.Rules.{Rule}
 use Rattle.eval_state.specs.declared.scene.Scene.{Scene}
 use Rattle.eval_rules.specs.Steps.{apply}
@@ -22,12 +22,12 @@ sought_after reached r = if reached then r.goto else None
 
 -- rules one after another, perhaps while a label is sought: the first that has it is evaluated, and those above it
 -- are skipped
-unfoldable pub run : List Entry → Option Text → List Rule → Scene → Scene
-run entries sought [] s = s
-run entries sought (r ∷ rs) s =
-    if is_passed sought r then run entries sought rs s
-    else run entries (sought_after (apply entries r s).1 r) rs (apply entries r s).0
+unfoldable pub run : Known → Option Text → List Rule → Scene → Scene
+run known sought [] s = s
+run known sought (r ∷ rs) s =
+    if is_passed sought r then run known sought rs s
+    else run known (sought_after (apply known r s).1 r) rs (apply known r s).0
 
 -- all of these rules, one after another: at their start no label is sought
-abbrev pub run_all : List Entry → List Rule → Scene → Scene
-run_all entries rules s = run entries None rules s
+abbrev pub run_all : Known → List Rule → Scene → Scene
+run_all known rules s = run known None rules s

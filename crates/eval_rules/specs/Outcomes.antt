@@ -1,7 +1,7 @@
 -- The outcome of an event.
 use Rattle.std.specs.Prelude.{List, [], ◌∷◌, ◌++◌, map, option_map, flat_map}
 use Rattle.text_tables.specs.Sorted.{by_name}
-use Rattle.hwdb_lookup.specs.declared.entry.Entry.{Entry}
+use Rattle.builtin_devices.specs.Knowledge.{Known}
 use Rattle.rule_types.specs.Names.{run_name}
 use Rattle.rule_types.specs.declared.keys.Key.TheVariants as key
 use Rattle.rule_types.specs.Rules.{Rule}
@@ -73,5 +73,5 @@ outcome_of s = record {
 }
 
 -- the outcome of an event: all rules run over it from its start, and at the end what they keep is rendered
-abbrev pub outcome : List Rule → List Entry → EventValue → Outcome
-outcome rules entries event = outcome_of (run_all entries rules (start event))
+abbrev pub outcome : List Rule → Known → EventValue → Outcome
+outcome rules known event = outcome_of (run_all known rules (start event))

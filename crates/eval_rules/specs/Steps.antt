@@ -1,6 +1,6 @@
 -- One rule, step by step.
 use Rattle.std.specs.Prelude.{ℕ, Bool, true, false, if◌then◌else◌, is_some, List, [], ◌∷◌, Option, fold}
-use Rattle.hwdb_lookup.specs.declared.entry.Entry.{Entry}
+use Rattle.builtin_devices.specs.Knowledge.{Known}
 use Rattle.rule_types.specs.declared.part.Comparison.{Comparison}
 use Rattle.rule_types.specs.declared.part.PlainMatch.{PlainMatch}
 use Rattle.rule_types.specs.declared.part.UpMatch.{UpMatch}
@@ -52,19 +52,19 @@ set_all r s = (fold (set_step r) s r.sets, true)
 
 -- a rule up to its assignments: the matches of the event, the search for one device, what acts, the matches of the
 -- result; and whether all of them let the rule go on
-abbrev pub before_sets : List Entry → Rule → Scene → Went
-before_sets entries r s =
+abbrev pub before_sets : Known → Rule → Scene → Went
+before_sets known r s =
     fold (λ went step. if_proceeding step went) (s, true)
-    (walk (plain_step r) r.plain ∷ search r.up ∷ walk (act_step entries r) r.acts ∷ walk result_step r.results ∷ [])
+    (walk (plain_step r) r.plain ∷ search r.up ∷ walk (act_step known r) r.acts ∷ walk result_step r.results ∷ [])
 
 -- a rule in its five steps, the assignments last; and whether its end was reached
-unfoldable pub steps : List Entry → Rule → Scene → Went
-steps entries r s = if_proceeding (set_all r) (before_sets entries r s)
+unfoldable pub steps : Known → Rule → Scene → Went
+steps known r s = if_proceeding (set_all r) (before_sets known r s)
 
 -- a rule that is skipped: it leaves its notes and changes nothing else, and its end is not reached
-abbrev pub only_noted : List Entry → Rule → Scene → Went
-only_noted entries r s = (record s { notes = (if_proceeding (note_all r) (before_sets entries r s)).0.notes }, false)
+abbrev pub only_noted : Known → Rule → Scene → Went
+only_noted known r s = (record s { notes = (if_proceeding (note_all r) (before_sets known r s)).0.notes }, false)
 
 -- a rule over a scene: udev skips it if nothing in it counts for the event
-unfoldable pub apply : List Entry → Rule → Scene → Went
-apply entries r s = if is_idle r s.state.event then only_noted entries r s else steps entries r s
+unfoldable pub apply : Known → Rule → Scene → Went
+apply known r s = if is_idle r s.state.event then only_noted known r s else steps known r s

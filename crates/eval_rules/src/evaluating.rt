@@ -9,10 +9,10 @@ ghost use Rattle.eval_rules.specs.Inner.{made_from, unselected, with_notes};
 
 use crate::outcome::{Command, Commands, Outcome};
 use crate::rules::run;
+use builtin_devices::Knowledge;
 use device_core::Event;
 use eval_rendering::{Mode, Rendered, render};
 use eval_state::{MadeRun, Run, Runs, Scene, State};
-use hwdb_lookup::Lookup;
 use rule_types::{Key, RuleSet};
 use std::alloc::{AllocError, Global};
 use std::mem;
@@ -214,16 +214,16 @@ pub fn finish(alloc: Global, mut scene: Scene<'_>) -> Result<Outcome<'_>, AllocE
 }
 
 /// The outcome of an event, with the rules and the event borrowed for the same lifetime.
-fn evaluate<'a, L: Lookup>(
+fn evaluate<'a, K: Knowledge>(
     alloc: Global,
     rules: &'a RuleSet,
     event: &'a Event<'_>,
-    lookup: &L,
+    knowledge: &K,
 ) -> Result<Outcome<'a>, AllocError>
-    ensures { IfOk result (λ answer. answer ≡ outcome rules.now (L.entries lookup.now) event.now) }
+    ensures { IfOk result (λ answer. answer ≡ outcome rules.now (K.known knowledge.now) event.now) }
 {
     let mut scene = Scene::new(alloc, event)?;
-    match run(alloc, rules.rules(), lookup, &mut scene) {
+    match run(alloc, rules.rules(), knowledge, &mut scene) {
         Ok(()) => finish(alloc, scene),
         Err(refused) => {
             drop(scene);
@@ -236,13 +236,13 @@ fn evaluate<'a, L: Lookup>(
 /// before it left, with its jumps, the database asked if a rule imports from it; then each RUN rendered with what
 /// is known at the end. Programs, builtins other than `hwdb` and files are not run or read, and leave notes unless
 /// the event's block has their answer. For udev, the event is evaluated as udev of systemd 257 does it.
-pub fn evaluate_plain<'a, L: Lookup>(
+pub fn evaluate_plain<'a, K: Knowledge>(
     alloc: Global,
     rules: &'a RuleSet,
     event: &'a Event<'_>,
-    lookup: &L,
+    knowledge: &K,
 ) -> Result<Outcome<'a>, AllocError>
-    ensures { IfOk result (λ answer. answer ≡ outcome rules.now (L.entries lookup.now) event.now) }
+    ensures { IfOk result (λ answer. answer ≡ outcome rules.now (K.known knowledge.now) event.now) }
 {
-    evaluate(alloc, rules, event, lookup)
+    evaluate(alloc, rules, event, knowledge)
 }

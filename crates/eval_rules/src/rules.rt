@@ -8,8 +8,8 @@ ghost use Rattle.eval_rules.specs.Jumps.{is_passed, run_all, sought_after};
 ghost use Rattle.eval_rules.specs.Inner.{landing};
 
 use crate::steps::apply;
+use builtin_devices::Knowledge;
 use eval_state::Scene;
-use hwdb_lookup::Lookup;
 use rule_types::Rule;
 use std::alloc::{AllocError, Global};
 
@@ -55,18 +55,18 @@ fn landing(sought: Option<&[u8]>, rules: &[Rule], from: usize) -> usize
 /// Evaluates rules, one after another. After a rule that jumps and whose end was reached, those between it and the
 /// next one with the label are skipped.
 #[tactic(auto, using(crate::proofs::Running::run_end))]
-pub(crate) fn run<'a, L: Lookup>(
+pub(crate) fn run<'a, K: Knowledge>(
     alloc: Global,
     rules: &'a [Rule],
-    lookup: &L,
+    knowledge: &K,
     scene: &mut Scene<'a>,
 ) -> Result<(), AllocError>
-    ensures { OnOk result (scene.new ≡ run_all (L.entries lookup.now) rules.now scene.old) }
+    ensures { OnOk result (scene.new ≡ run_all (K.known knowledge.now) rules.now scene.old) }
 {
     let mut place = 0;
     while place < rules.len() {
         let rule = &rules[place];
-        let reached = apply(alloc, rule, lookup, scene)?;
+        let reached = apply(alloc, rule, knowledge, scene)?;
         place = landing(sought_after(reached, rule), rules, place + 1);
     }
     Ok(())

@@ -10,11 +10,11 @@ ghost use Rattle.eval_rules.specs.Idle.{is_idle};
 ghost use Rattle.eval_rules.specs.Steps.{apply, only_noted, plain_step, result_step, search, steps, before_sets, walk};
 
 use crate::idle::{is_idle, note_all};
+use builtin_devices::Knowledge;
 use eval_acts::{act_step, match_reached};
 use eval_assignments::set_all;
 use eval_matching::{found_place, plain_holds, result_holds};
 use eval_state::{Scene, State};
-use hwdb_lookup::Lookup;
 use rule_types::{Act, Comparison, PlainMatch, Rule, UpMatch};
 use std::alloc::{AllocError, Global};
 
@@ -73,18 +73,18 @@ pub fn search(parts: &[UpMatch], scene: &mut Scene<'_>) -> bool
 
 /// Acts part by part, up to the first that stops the rule.
 #[inline(never)]
-fn act_all<L: Lookup>(
+fn act_all<K: Knowledge>(
     alloc: Global,
     rule: &Rule,
     parts: &[Act],
-    lookup: &L,
+    knowledge: &K,
     scene: &mut Scene<'_>,
 ) -> Result<bool, AllocError>
-    ensures scene { IfOk result (λ on. (scene.new, on) ≡ walk (act_step (L.entries lookup.now) rule.now) parts.now scene.old) }
+    ensures scene { IfOk result (λ on. (scene.new, on) ≡ walk (act_step (K.known knowledge.now) rule.now) parts.now scene.old) }
     ensures event { scene.new.state.event ≡ scene.old.state.event }
 {
     for part in parts {
-        if !act_step(alloc, rule, part, lookup, scene)? {
+        if !act_step(alloc, rule, part, knowledge, scene)? {
             return Ok(false);
         }
     }
@@ -109,13 +109,13 @@ fn match_results(parts: &[Comparison], scene: &Scene<'_>) -> bool
 /// Goes through a rule up to its assignments, and returns whether it goes on to them: the matches of the event, the
 /// search for one device, what acts, the matches of the result.
 #[inline(always)]
-fn try_rule<L: Lookup>(
+fn try_rule<K: Knowledge>(
     alloc: Global,
     rule: &Rule,
-    lookup: &L,
+    knowledge: &K,
     scene: &mut Scene<'_>,
 ) -> Result<bool, AllocError>
-    ensures scene { IfOk result (λ on. (scene.new, on) ≡ before_sets (L.entries lookup.now) rule.now scene.old) }
+    ensures scene { IfOk result (λ on. (scene.new, on) ≡ before_sets (K.known knowledge.now) rule.now scene.old) }
     ensures event { scene.new.state.event ≡ scene.old.state.event }
 {
     if !match_event(alloc, rule, rule.plain(), scene)? {
@@ -124,7 +124,7 @@ fn try_rule<L: Lookup>(
     if !search(rule.up(), scene) {
         return Ok(false);
     }
-    if !act_all(alloc, rule, rule.acts(), lookup, scene)? {
+    if !act_all(alloc, rule, rule.acts(), knowledge, scene)? {
         return Ok(false);
     }
     Ok(match_results(rule.results(), scene))
@@ -133,16 +133,16 @@ fn try_rule<L: Lookup>(
 /// Goes through a rule's five steps, up to the first that stops it, and returns whether its end was reached.
 #[tactic(auto, unfolding(crate::specs::Steps::steps))]
 #[inline(always)]
-fn take_steps<'a, L: Lookup>(
+fn take_steps<'a, K: Knowledge>(
     alloc: Global,
     rule: &'a Rule,
-    lookup: &L,
+    knowledge: &K,
     scene: &mut Scene<'a>,
 ) -> Result<bool, AllocError>
-    ensures scene { IfOk result (λ on. (scene.new, on) ≡ steps (L.entries lookup.now) rule.now scene.old) }
+    ensures scene { IfOk result (λ on. (scene.new, on) ≡ steps (K.known knowledge.now) rule.now scene.old) }
     ensures refused { OnErr result (scene.new.state.event ≡ scene.old.state.event) }
 {
-    if !try_rule(alloc, rule, lookup, scene)? {
+    if !try_rule(alloc, rule, knowledge, scene)? {
         return Ok(false);
     }
     set_all(alloc, rule, scene)?;
@@ -152,19 +152,19 @@ fn take_steps<'a, L: Lookup>(
 /// Skips a rule in which nothing counts for the event: it leaves its notes; the device that was selected before is
 /// selected again, and the keys that were final before are the final ones.
 #[inline(never)]
-fn pass_over<'a, L: Lookup>(
+fn pass_over<'a, K: Knowledge>(
     alloc: Global,
     rule: &'a Rule,
-    lookup: &L,
+    knowledge: &K,
     scene: &mut Scene<'a>,
 ) -> Result<(), AllocError>
     requires { is_idle rule.now scene.old.state.event ≡ true }
-    ensures scene { OnOk result ((scene.new, false) ≡ only_noted (L.entries lookup.now) rule.now scene.old) }
+    ensures scene { OnOk result ((scene.new, false) ≡ only_noted (K.known knowledge.now) rule.now scene.old) }
     ensures refused { OnErr result (scene.new.state.event ≡ scene.old.state.event) }
 {
     let selected = scene.state.selected;
     let finals = scene.finals;
-    let proceeds = try_rule(alloc, rule, lookup, scene)?;
+    let proceeds = try_rule(alloc, rule, knowledge, scene)?;
     note_all(alloc, rule, proceeds, scene)?;
     scene.state.selected = selected;
     scene.finals = finals;
@@ -174,20 +174,20 @@ fn pass_over<'a, L: Lookup>(
 /// Evaluates a rule, or skips it, and returns whether its end was reached.
 #[tactic(auto, unfolding(crate::specs::Steps::apply))]
 #[inline(always)]
-fn evaluate<'a, L: Lookup>(
+fn evaluate<'a, K: Knowledge>(
     alloc: Global,
     rule: &'a Rule,
-    lookup: &L,
+    knowledge: &K,
     scene: &mut Scene<'a>,
 ) -> Result<bool, AllocError>
-    ensures scene { IfOk result (λ on. (scene.new, on) ≡ apply (L.entries lookup.now) rule.now scene.old) }
+    ensures scene { IfOk result (λ on. (scene.new, on) ≡ apply (K.known knowledge.now) rule.now scene.old) }
     ensures refused { OnErr result (scene.new.state.event ≡ scene.old.state.event) }
 {
     if is_idle(rule, scene.state.event.event()) {
-        pass_over(alloc, rule, lookup, scene)?;
+        pass_over(alloc, rule, knowledge, scene)?;
         return Ok(false);
     }
-    take_steps(alloc, rule, lookup, scene)
+    take_steps(alloc, rule, knowledge, scene)
 }
 
 /// Evaluates a rule, and returns whether its end was reached: the matches of the event, the search for one device,
@@ -197,16 +197,16 @@ fn evaluate<'a, L: Lookup>(
 ///
 /// If memory runs out, nothing is left of the scene but its event.
 #[inline(never)]
-pub fn apply<'a, L: Lookup>(
+pub fn apply<'a, K: Knowledge>(
     alloc: Global,
     rule: &'a Rule,
-    lookup: &L,
+    knowledge: &K,
     scene: &mut Scene<'a>,
 ) -> Result<bool, AllocError>
-    ensures scene { IfOk result (λ on. (scene.new, on) ≡ apply (L.entries lookup.now) rule.now scene.old) }
+    ensures scene { IfOk result (λ on. (scene.new, on) ≡ apply (K.known knowledge.now) rule.now scene.old) }
     ensures refused { OnErr result (scene.new ≡ blank scene.old.state.event) }
 {
-    let went = evaluate(alloc, rule, lookup, scene);
+    let went = evaluate(alloc, rule, knowledge, scene);
     if went.is_err() {
         scene.clear(alloc);
     }

@@ -1,7 +1,7 @@
 -- A rule that can have changed no item leaves all of them.
 use Rattle.std.proofs.Common.{◌≡◌, Bool, true, false, not, ◌||◌, ◌&&◌, List, [], ◌∷◌, None, fold, cond, refl, ap, sym, ◌∙◌}
 use Rattle.text_bytes.specs.Texts.{is_empty}
-use Rattle.hwdb_lookup.specs.declared.entry.Entry.{Entry}
+use Rattle.builtin_devices.specs.Knowledge.{Known}
 use Rattle.rule_types.specs.declared.roles.PlainKey.{PlainKey}
 use Rattle.rule_types.specs.declared.roles.PlainKey.TheVariants as plain
 use Rattle.rule_types.specs.declared.part.Act.{Act}
@@ -63,10 +63,10 @@ unfolding walk
 walk_quiet step h [] s = refl
 walk_quiet step h (part ∷ parts) s = if_proceeding_quiet (walk step parts) (walk_quiet step h parts) s (step part s) (h part s)
 
-acts_quiet : (entries : List Entry) (r : Rule) (acts : List Act) (s : Scene) → not (is_empty acts) ≡ false → quiet (walk (act_step entries r) acts s).0 ≡ quiet s
+acts_quiet : (known : Known) (r : Rule) (acts : List Act) (s : Scene) → not (is_empty acts) ≡ false → quiet (walk (act_step known r) acts s).0 ≡ quiet s
 unfolding walk
-acts_quiet entries r [] s h = refl
-acts_quiet entries r (act ∷ acts) s h = cc
+acts_quiet known r [] s h = refl
+acts_quiet known r (act ∷ acts) s h = cc
 
 sets_quiet : (r : Rule) (sets : List Assignment) (s : Scene) → not (is_empty sets) ≡ false → fold (set_step r) s sets ≡ s
 sets_quiet r [] s h = refl
@@ -86,26 +86,26 @@ neither false b h = (refl, h)
 abbrev Quietly : Rule → Scene → Went → Type 0
 Quietly r s w = can_change w.1 r ≡ false → quiet w.0 ≡ quiet s
 
-steps_quiet : (entries : List Entry) (r : Rule) (s : Scene) → Quietly r s (steps entries r s)
+steps_quiet : (known : Known) (r : Rule) (s : Scene) → Quietly r s (steps known r s)
 unfolding steps
-steps_quiet entries r s h =
-    let none = neither (not (is_empty r.acts)) ((steps entries r s).1 && not (is_empty r.sets)) h in
+steps_quiet known r s h =
+    let none = neither (not (is_empty r.acts)) ((steps known r s).1 && not (is_empty r.sets)) h in
     let plains = walk_quiet (plain_step r) (plain_quiet r) r.plain s in
     let ups = if_proceeding_quiet (search r.up) (search_quiet r.up) s _ plains in
-    let acted = if_proceeding_quiet (walk (act_step entries r) r.acts) (λ u. acts_quiet entries r r.acts u none.0) s _ ups in
+    let acted = if_proceeding_quiet (walk (act_step known r) r.acts) (λ u. acts_quiet known r r.acts u none.0) s _ ups in
     let results = if_proceeding_quiet (walk result_step r.results) (walk_quiet result_step result_quiet r.results) s _ acted in
-    end_quiet r s (before_sets entries r s) results none.1
+    end_quiet r s (before_sets known r s) results none.1
 
-apply_quiet : (entries : List Entry) (r : Rule) (s : Scene) → Quietly r s (apply entries r s)
+apply_quiet : (known : Known) (r : Rule) (s : Scene) → Quietly r s (apply known r s)
 unfolding apply
-apply_quiet entries r s = by (is_idle r s.state.event)
+apply_quiet known r s = by (is_idle r s.state.event)
   where
-    by : (b : Bool) → Quietly r s (cond b (only_noted entries r s) (steps entries r s))
+    by : (b : Bool) → Quietly r s (cond b (only_noted known r s) (steps known r s))
     by true h = refl
-    by false h = steps_quiet entries r s h
+    by false h = steps_quiet known r s h
 
 -- such a rule leaves all items
-pub items_stay : (entries : List Entry) (r : Rule) (s t : Scene) (on : Bool) → (t, on) ≡ apply entries r s → can_change on r ≡ false → items t ≡ items s
-items_stay entries r s t on e h =
-    let all = apply_quiet entries r s (ap (λ (w : Went). can_change w.1 r) (sym e) ∙ h) in
-    ap (λ (w : Went). items w.0) e ∙ sym (items_quiet (apply entries r s).0) ∙ ap items all ∙ items_quiet s
+pub items_stay : (known : Known) (r : Rule) (s t : Scene) (on : Bool) → (t, on) ≡ apply known r s → can_change on r ≡ false → items t ≡ items s
+items_stay known r s t on e h =
+    let all = apply_quiet known r s (ap (λ (w : Went). can_change w.1 r) (sym e) ∙ h) in
+    ap (λ (w : Went). items w.0) e ∙ sym (items_quiet (apply known r s).0) ∙ ap items all ∙ items_quiet s

@@ -3,7 +3,7 @@ use Rattle.std.specs.Prelude.{◌≡◌, Bool, not, ◌||◌, ◌&&◌, List, []
 use Rattle.text_bytes.specs.Texts.{is_empty}
 use Rattle.text_tables.specs.Texts.{Text}
 use Rattle.text_tables.specs.Pairs.{Pair, value_of}
-use Rattle.hwdb_lookup.specs.declared.entry.Entry.{Entry}
+use Rattle.builtin_devices.specs.Knowledge.{Known}
 use Rattle.rule_types.specs.Rules.{Rule}
 use Rattle.eval_state.specs.declared.scene.Scene.{Scene}
 use Rattle.eval_rules.specs.Jumps.{run, run_all}
@@ -26,9 +26,9 @@ can_change reached r = not (is_empty r.acts) || (reached && not (is_empty r.sets
 
 -- Rules were evaluated up to these, over a scene that became this one: for all stages so far, where each item that is
 -- there comes from is kept, and those that are left are still to come.
-pub record Halfway (entries : List Entry) (rules left : List Rule) (sought : Option Text) (first s : Scene) (held : List (Text × Kept)) : Type 0 where
+pub record Halfway (known : Known) (rules left : List Rule) (sought : Option Text) (first s : Scene) (held : List (Text × Kept)) : Type 0 where
   pub before : List Stage
   pub last : Source
   pub keeps : Keeps (before ++ (last, items s) ∷ []) (items s) held
-  pub whole : before ++ (last, items s) ∷ stages_from entries sought left s ≡ stages_over entries rules first
-  pub ran : run entries sought left s ≡ run_all entries rules first
+  pub whole : before ++ (last, items s) ∷ stages_from known sought left s ≡ stages_over known rules first
+  pub ran : run known sought left s ≡ run_all known rules first

@@ -1,7 +1,7 @@
 -- The stages and the commands of an event, and where they come from.
 use Rattle.std.specs.Prelude.{if◌then◌else◌, List, [], ◌∷◌, ◌++◌, Option, Some, None, map, flat_map}
 use Rattle.text_tables.specs.Texts.{Text}
-use Rattle.hwdb_lookup.specs.declared.entry.Entry.{Entry}
+use Rattle.builtin_devices.specs.Knowledge.{Known}
 use Rattle.rule_types.specs.Rules.{Rule}
 use Rattle.device_core.specs.Values.{EventValue}
 use Rattle.eval_state.specs.Runs.{RunValue}
@@ -17,19 +17,19 @@ use Rattle.eval_effects.specs.Items.{items}
 use Rattle.eval_sources.specs.Sources.{Stage}
 
 -- a stage for each rule that is reached, perhaps while a label is looked for, with the items that are there after it
-unfoldable pub stages_from : List Entry → Option Text → List Rule → Scene → List Stage
-stages_from entries sought [] s = []
-stages_from entries sought (r ∷ rs) s =
-    if is_passed sought r then stages_from entries sought rs s
-    else (Some r, items (apply entries r s).0) ∷ stages_from entries (sought_after (apply entries r s).1 r) rs (apply entries r s).0
+unfoldable pub stages_from : Known → Option Text → List Rule → Scene → List Stage
+stages_from known sought [] s = []
+stages_from known sought (r ∷ rs) s =
+    if is_passed sought r then stages_from known sought rs s
+    else (Some r, items (apply known r s).0) ∷ stages_from known (sought_after (apply known r s).1 r) rs (apply known r s).0
 
 -- all stages from a scene on: at the start, and after each rule that is reached
-abbrev pub stages_over : List Entry → List Rule → Scene → List Stage
-stages_over entries rules s = (None, items s) ∷ stages_from entries None rules s
+abbrev pub stages_over : Known → List Rule → Scene → List Stage
+stages_over known rules s = (None, items s) ∷ stages_from known None rules s
 
 -- the stages of an event
-abbrev pub stages : List Rule → List Entry → EventValue → List Stage
-stages rules entries event = stages_over entries rules (start event)
+abbrev pub stages : List Rule → Known → EventValue → List Stage
+stages rules known event = stages_over known rules (start event)
 
 -- the commands of RUNs, each with the rule that added it
 abbrev pub sourced_commands : State → List RunValue → List (Command × Rule)
@@ -40,10 +40,10 @@ abbrev pub sourced_made : MadeRun → Command × Rule
 sourced_made made = (made_command made, made.run.rule)
 
 -- the commands after the last rule, from a scene on, each with the rule that added it
-abbrev pub commands_over : List Entry → List Rule → Scene → List (Command × Rule)
-commands_over entries rules s =
-    let end = run_all entries rules s in sourced_commands end.state end.runs ++ map sourced_made end.made
+abbrev pub commands_over : Known → List Rule → Scene → List (Command × Rule)
+commands_over known rules s =
+    let end = run_all known rules s in sourced_commands end.state end.runs ++ map sourced_made end.made
 
 -- the commands of an event, each with the rule that added it
-abbrev pub event_commands : List Rule → List Entry → EventValue → List (Command × Rule)
-event_commands rules entries event = commands_over entries rules (start event)
+abbrev pub event_commands : List Rule → Known → EventValue → List (Command × Rule)
+event_commands rules known event = commands_over known rules (start event)

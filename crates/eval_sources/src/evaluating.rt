@@ -9,10 +9,10 @@ ghost use Rattle.eval_sources.specs.Reported.{commands_over, event_commands, sta
 use crate::commands::{SourcedCommand, add_made, sourced_commands};
 use crate::reporting::{begin, run};
 use crate::sources::Sources;
+use builtin_devices::Knowledge;
 use device_core::Event;
 use eval_rules::{Outcome, finish};
 use eval_state::Scene;
-use hwdb_lookup::Lookup;
 use rule_types::{Rule, RuleSet};
 use std::alloc::{AllocError, Global};
 
@@ -29,18 +29,18 @@ pub struct Sourced<'a> {
 
 /// Runs rules over a scene in which none has run yet; returns where the items at the end come from, and the
 /// commands. Another device may then be selected.
-fn run_sourced<'a, L: Lookup>(
+fn run_sourced<'a, K: Knowledge>(
     alloc: Global,
     rules: &'a [Rule],
-    lookup: &L,
+    knowledge: &K,
     scene: &mut Scene<'a>,
 ) -> Result<(Sources<'a>, Vec<SourcedCommand<'a>>), AllocError>
-    ensures scene { OnOk result (unselected scene.new ≡ unselected (run_all (L.entries lookup.now) rules.now scene.old)) }
-    ensures sources { IfOk result (λ reported. Reports (stages_over (L.entries lookup.now) rules.now scene.old) reported.0) }
-    ensures commands { IfOk result (λ reported. reported.1.items ≡ commands_over (L.entries lookup.now) rules.now scene.old) }
+    ensures scene { OnOk result (unselected scene.new ≡ unselected (run_all (K.known knowledge.now) rules.now scene.old)) }
+    ensures sources { IfOk result (λ reported. Reports (stages_over (K.known knowledge.now) rules.now scene.old) reported.0) }
+    ensures commands { IfOk result (λ reported. reported.1.items ≡ commands_over (K.known knowledge.now) rules.now scene.old) }
 {
     let mut sources = begin(alloc, scene)?;
-    run(alloc, rules, lookup, scene, &mut sources)?;
+    run(alloc, rules, knowledge, scene, &mut sources)?;
     let mut commands = sourced_commands(alloc, scene.runs.as_slice(), &mut scene.state)?;
     add_made(alloc, scene.made.as_slice(), &mut commands)?;
     Ok((sources, commands))
@@ -50,18 +50,18 @@ fn run_sourced<'a, L: Lookup>(
 /// item (a link, a tag, the value of a property or anything else that has a line) comes from the first rule after
 /// which it is there, unchanged, until the end; it comes from none if it was there like this from the start. A
 /// command comes from the rule that added it.
-pub fn evaluate_sources<'a, L: Lookup>(
+pub fn evaluate_sources<'a, K: Knowledge>(
     alloc: Global,
     rules: &'a RuleSet,
     event: &'a Event<'_>,
-    lookup: &L,
+    knowledge: &K,
 ) -> Result<Sourced<'a>, AllocError>
-    ensures outcome { IfOk result (λ s. s.outcome ≡ outcome rules.now (L.entries lookup.now) event.now) }
-    ensures sources { IfOk result (λ s. Reports (stages rules.now (L.entries lookup.now) event.now) s.sources) }
-    ensures commands { IfOk result (λ s. s.commands.items ≡ event_commands rules.now (L.entries lookup.now) event.now) }
+    ensures outcome { IfOk result (λ s. s.outcome ≡ outcome rules.now (K.known knowledge.now) event.now) }
+    ensures sources { IfOk result (λ s. Reports (stages rules.now (K.known knowledge.now) event.now) s.sources) }
+    ensures commands { IfOk result (λ s. s.commands.items ≡ event_commands rules.now (K.known knowledge.now) event.now) }
 {
     let mut scene = Scene::new(alloc, event)?;
-    match run_sourced(alloc, rules.rules(), lookup, &mut scene) {
+    match run_sourced(alloc, rules.rules(), knowledge, &mut scene) {
         Ok((sources, commands)) => {
             let outcome = finish(alloc, scene)?;
             Ok(Sourced {

@@ -8,10 +8,10 @@ ghost use Rattle.eval_sources.specs.Sources.{Reports};
 ghost use Rattle.eval_sources.specs.Reported.{stages_over};
 
 use crate::sources::Sources;
+use builtin_devices::Knowledge;
 use eval_effects::items_of;
 use eval_rules::{apply, is_passed, sought_after};
 use eval_state::Scene;
-use hwdb_lookup::Lookup;
 use rule_types::Rule;
 use std::alloc::{AllocError, Global};
 
@@ -33,17 +33,17 @@ pub(crate) fn begin<'a>(alloc: Global, scene: &Scene<'_>) -> Result<Sources<'a>,
 }
 
 /// Evaluates a rule, keeps what is there after it, and returns whether its end was reached.
-fn step<'a, L: Lookup>(
+fn step<'a, K: Knowledge>(
     alloc: Global,
     rule: &'a Rule,
-    lookup: &L,
+    knowledge: &K,
     scene: &mut Scene<'a>,
     sources: &mut Sources<'a>,
 ) -> Result<bool, AllocError>
-    ensures scene { IfOk result (λ on. (scene.new, on) ≡ apply (L.entries lookup.now) rule.now scene.old) }
+    ensures scene { IfOk result (λ on. (scene.new, on) ≡ apply (K.known knowledge.now) rule.now scene.old) }
     ensures sources { OnOk result (Proceeds (items scene.old) (Some rule.now) (items scene.new) sources.old sources.new) }
 {
-    let reached = apply(alloc, rule, lookup, scene)?;
+    let reached = apply(alloc, rule, knowledge, scene)?;
     if !can_change(reached, rule) {
         return Ok(reached);
     }
@@ -54,23 +54,23 @@ fn step<'a, L: Lookup>(
 
 /// Evaluates rules, one after another, and keeps where each item that is there comes from. After a rule whose end
 /// was reached and that jumps, those between it and the next one with the label are skipped.
-pub(crate) fn run<'a, L: Lookup>(
+pub(crate) fn run<'a, K: Knowledge>(
     alloc: Global,
     rules: &'a [Rule],
-    lookup: &L,
+    knowledge: &K,
     scene: &mut Scene<'a>,
     sources: &mut Sources<'a>,
 ) -> Result<(), AllocError>
     requires { Keeps ((None, items scene.old) ∷ []) (items scene.old) sources.old }
-    ensures scene { OnOk result (scene.new ≡ run_all (L.entries lookup.now) rules.now scene.old) }
-    ensures sources { OnOk result (Reports (stages_over (L.entries lookup.now) rules.now scene.old) sources.new) }
+    ensures scene { OnOk result (scene.new ≡ run_all (K.known knowledge.now) rules.now scene.old) }
+    ensures sources { OnOk result (Reports (stages_over (K.known knowledge.now) rules.now scene.old) sources.new) }
 {
     let mut sought = None;
     for rule in rules {
         if is_passed(sought, rule) {
             continue;
         }
-        let reached = step(alloc, rule, lookup, scene, sources)?;
+        let reached = step(alloc, rule, knowledge, scene, sources)?;
         sought = sought_after(reached, rule);
     }
     Ok(())

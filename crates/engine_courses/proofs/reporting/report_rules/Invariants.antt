@@ -6,5 +6,5 @@ use Rattle.engine_courses.proofs.reporting.report_rules.Given as goal
 
 abbrev pub invariant-loop-rule : goal.invariant-loop-rule
 invariant-loop-rule g l =
-    l.lines.items ++ flat_map rule_lines (reported_from (map (λ t. t.now) l.why) (g.L.Lookup.entries l.lookup) l.since (option_map (λ r. r.now) l.jumping) (drop l.rule-index l.rules) l.scene)
-    ≡ l.initial.lines.items ++ flat_map rule_lines (reported_from (map (λ t. t.now) l.why) (g.L.Lookup.entries l.lookup) no_since None l.fn.rules l.fn.scene)
+    l.lines.items ++ flat_map rule_lines (reported_from (map (λ t. t.now) l.why) (g.K.Knowledge.known l.knowledge) l.since (option_map (λ r. r.now) l.jumping) (drop l.rule-index l.rules) l.scene)
+    ≡ l.initial.lines.items ++ flat_map rule_lines (reported_from (map (λ t. t.now) l.why) (g.K.Knowledge.known l.knowledge) no_since None l.fn.rules l.fn.scene)

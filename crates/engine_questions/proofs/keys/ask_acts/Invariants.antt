@@ -6,6 +6,6 @@ use Rattle.engine_questions.proofs.keys.ask_acts.Given as goal
 
 abbrev pub invariant-loop-part : goal.invariant-loop-part
 invariant-loop-part g l = record {
-  walks : walk (act_step (g.L.Lookup.entries l.lookup) l.rule) (drop l.part-index l.parts) l.scene ≡ walk (act_step (g.L.Lookup.entries l.fn.lookup) l.fn.rule) l.fn.parts l.fn.scene;
-  asked : with_asked l.asked (acts_ask (g.L.Lookup.entries l.lookup) l.rule (drop l.part-index l.parts) l.scene) ≡ with_asked l.fn.asked (acts_ask (g.L.Lookup.entries l.fn.lookup) l.fn.rule l.fn.parts l.fn.scene);
+  walks : walk (act_step (g.K.Knowledge.known l.knowledge) l.rule) (drop l.part-index l.parts) l.scene ≡ walk (act_step (g.K.Knowledge.known l.fn.knowledge) l.fn.rule) l.fn.parts l.fn.scene;
+  asked : with_asked l.asked (acts_ask (g.K.Knowledge.known l.knowledge) l.rule (drop l.part-index l.parts) l.scene) ≡ with_asked l.fn.asked (acts_ask (g.K.Knowledge.known l.fn.knowledge) l.fn.rule l.fn.parts l.fn.scene);
 }

@@ -7,30 +7,30 @@ use Rattle.engine_questions.proofs.keys.ask_keys.Goals as goal
 
 pub returns-then-not-branch : goal.returns-then-not-branch
 returns-then-not-branch g c = record {
-  scene = keys_stop (g.L.Lookup.entries c.args.lookup.now) c.args.rule.now c.args.scene.now c.reach_acts.new.scene c.in_ok-reach_acts.field-0 c.in_ok-reach_acts.ensures c.if-not-branch.true;
-  asked = asks_nothing (g.L.Lookup.entries c.args.lookup.now) c.args.rule.now c.args.scene.now c.reach_acts.new.scene c.in_ok-reach_acts.field-0 c.in_ok-reach_acts.ensures c.args.asked.now c.if-not-branch.true;
+  scene = keys_stop (g.K.Knowledge.known c.args.knowledge.now) c.args.rule.now c.args.scene.now c.reach_acts.new.scene c.in_ok-reach_acts.field-0 c.in_ok-reach_acts.ensures c.if-not-branch.true;
+  asked = asks_nothing (g.K.Knowledge.known c.args.knowledge.now) c.args.rule.now c.args.scene.now c.reach_acts.new.scene c.in_ok-reach_acts.field-0 c.in_ok-reach_acts.ensures c.args.asked.now c.if-not-branch.true;
 }
 
 pub returns-then-not-branch-2 : goal.returns-then-not-branch-2
 returns-then-not-branch-2 g c = record {
   scene =
-      acts_stop (g.L.Lookup.entries c.args.lookup.now) c.args.rule.now c.args.scene.now c.reach_acts.new.scene c.in_ok-reach_acts.field-0 c.in_ok-reach_acts.ensures c.if-not-branch.false
+      acts_stop (g.K.Knowledge.known c.args.knowledge.now) c.args.rule.now c.args.scene.now c.reach_acts.new.scene c.in_ok-reach_acts.field-0 c.in_ok-reach_acts.ensures c.if-not-branch.false
       c.ask_acts.new.scene c.in_ok-ask_acts.field-0
-      (c.in_ok-ask_acts.ensures.scene ∙ ap (λ parts. walk (act_step (g.L.Lookup.entries c.args.lookup.now) c.args.rule.now) parts c.reach_acts.new.scene) c.acts.ensures) c.if-not-branch-2.true;
+      (c.in_ok-ask_acts.ensures.scene ∙ ap (λ parts. walk (act_step (g.K.Knowledge.known c.args.knowledge.now) c.args.rule.now) parts c.reach_acts.new.scene) c.acts.ensures) c.if-not-branch-2.true;
   asked =
-      asks_as_acts (g.L.Lookup.entries c.args.lookup.now) c.args.rule.now c.args.scene.now c.reach_acts.new.scene c.in_ok-reach_acts.field-0 c.in_ok-reach_acts.ensures c.args.asked.now c.ask_acts.new.asked c.if-not-branch.false
-      (c.in_ok-ask_acts.ensures.asked ∙ ap (λ parts. with_asked c.args.asked.now (acts_ask (g.L.Lookup.entries c.args.lookup.now) c.args.rule.now parts c.reach_acts.new.scene)) c.acts.ensures);
+      asks_as_acts (g.K.Knowledge.known c.args.knowledge.now) c.args.rule.now c.args.scene.now c.reach_acts.new.scene c.in_ok-reach_acts.field-0 c.in_ok-reach_acts.ensures c.args.asked.now c.ask_acts.new.asked c.if-not-branch.false
+      (c.in_ok-ask_acts.ensures.asked ∙ ap (λ parts. with_asked c.args.asked.now (acts_ask (g.K.Knowledge.known c.args.knowledge.now) c.args.rule.now parts c.reach_acts.new.scene)) c.acts.ensures);
 }
 
 pub returns : goal.returns
 returns g c = record {
   scene =
-      results_decide (g.L.Lookup.entries c.args.lookup.now) c.args.rule.now c.args.scene.now c.reach_acts.new.scene c.in_ok-reach_acts.field-0 c.in_ok-reach_acts.ensures c.if-not-branch.false
+      results_decide (g.K.Knowledge.known c.args.knowledge.now) c.args.rule.now c.args.scene.now c.reach_acts.new.scene c.in_ok-reach_acts.field-0 c.in_ok-reach_acts.ensures c.if-not-branch.false
       c.ask_acts.new.scene c.in_ok-ask_acts.field-0
-      (c.in_ok-ask_acts.ensures.scene ∙ ap (λ parts. walk (act_step (g.L.Lookup.entries c.args.lookup.now) c.args.rule.now) parts c.reach_acts.new.scene) c.acts.ensures)
+      (c.in_ok-ask_acts.ensures.scene ∙ ap (λ parts. walk (act_step (g.K.Knowledge.known c.args.knowledge.now) c.args.rule.now) parts c.reach_acts.new.scene) c.acts.ensures)
       c.match_results.result c.if-not-branch-2.false
       (c.match_results.ensures ∙ ap (λ parts. walk result_step parts c.ask_acts.new.scene) c.results.ensures);
   asked =
-      asks_as_acts (g.L.Lookup.entries c.args.lookup.now) c.args.rule.now c.args.scene.now c.reach_acts.new.scene c.in_ok-reach_acts.field-0 c.in_ok-reach_acts.ensures c.args.asked.now c.ask_acts.new.asked c.if-not-branch.false
-      (c.in_ok-ask_acts.ensures.asked ∙ ap (λ parts. with_asked c.args.asked.now (acts_ask (g.L.Lookup.entries c.args.lookup.now) c.args.rule.now parts c.reach_acts.new.scene)) c.acts.ensures);
+      asks_as_acts (g.K.Knowledge.known c.args.knowledge.now) c.args.rule.now c.args.scene.now c.reach_acts.new.scene c.in_ok-reach_acts.field-0 c.in_ok-reach_acts.ensures c.args.asked.now c.ask_acts.new.asked c.if-not-branch.false
+      (c.in_ok-ask_acts.ensures.asked ∙ ap (λ parts. with_asked c.args.asked.now (acts_ask (g.K.Knowledge.known c.args.knowledge.now) c.args.rule.now parts c.reach_acts.new.scene)) c.acts.ensures);
 }

@@ -4,5 +4,5 @@ use Rattle.engine_questions.proofs.rules.ask_rules.Given as goal
 
 abbrev pub invariant-loop-rule : goal.invariant-loop-rule
 invariant-loop-rule g l =
-    with_asked l.asked (rules_ask (g.L.Lookup.entries l.lookup) (option_map (λ t. t.now) l.sought) (drop l.rule-index l.rules) l.scene)
-    ≡ with_asked l.fn.asked (rules_ask (g.L.Lookup.entries l.fn.lookup) None l.fn.rules l.fn.scene)
+    with_asked l.asked (rules_ask (g.K.Knowledge.known l.knowledge) (option_map (λ t. t.now) l.sought) (drop l.rule-index l.rules) l.scene)
+    ≡ with_asked l.fn.asked (rules_ask (g.K.Knowledge.known l.fn.knowledge) None l.fn.rules l.fn.scene)

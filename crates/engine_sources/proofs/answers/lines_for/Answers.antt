@@ -10,9 +10,9 @@ use Rattle.engine_sources.proofs.answers.lines_for.Goals as goal
 
 pub returns : goal.returns
 returns g c =
-    let source = source_of (stages c.args.rules.now (g.L.Lookup.entries c.args.lookup.now) c.args.event.now) in
+    let source = source_of (stages c.args.rules.now (g.K.Knowledge.known c.args.knowledge.now) c.args.event.now) in
     let rest =
     lines_are _ _ c.args.event.now c.in_ok-found.found.outcome c.in_ok-found.found.commands.items c.in_ok-found.ensures.sources
     ∙ ap (λ o. lines_after source_part source c.args.event.now o c.in_ok-found.found.commands.items) c.in_ok-found.ensures.outcome
-    ∙ ap (lines_after source_part source c.args.event.now (outcome c.args.rules.now (g.L.Lookup.entries c.args.lookup.now) c.args.event.now)) c.in_ok-found.ensures.commands in
+    ∙ ap (lines_after source_part source c.args.event.now (outcome c.args.rules.now (g.K.Knowledge.known c.args.knowledge.now) c.args.event.now)) c.in_ok-found.ensures.commands in
     IfOk-weaker c.lines_of-said.result _ _ (λ lines e. e ∙ rest) c.lines_of-said.ensures

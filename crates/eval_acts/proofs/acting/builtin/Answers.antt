@@ -7,5 +7,5 @@ use Rattle.eval_acts.proofs.acting.builtin.Goals as goal
 pub returns-in-Some-clause-scene : goal.returns-in-Some-clause-scene
 returns-in-Some-clause-scene g c =
     ap tried c.in_ok-done.ensures.scene
-    ∙ ap (λ text. on_text (run_builtin (g.L.Lookup.entries c.args.database.now) c.args.rule.now) text c.args.scene.now)
+    ∙ ap (λ text. on_text (run_builtin (g.K.Knowledge.known c.args.knowledge.now) c.args.rule.now) text c.args.scene.now)
     (sym (is_its_text c.args.template.now c.args.scene.now.state c.in-Some.command.now c.in-Some.ensures))

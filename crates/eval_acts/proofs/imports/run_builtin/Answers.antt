@@ -8,12 +8,12 @@ use Rattle.eval_acts.proofs.imports.run_builtin.Goals as goal
 pub returns-in-Some-clause-scene : goal.returns-in-Some-clause-scene
 returns-in-Some-clause-scene g c =
     ap (λ scene. (scene, false)) c.in_ok-note.ensures.scene
-    ∙ other_runs (g.L.Lookup.entries c.args.database.now) c.args.rule.now c.profile-profile.result c.args.command.now c.in-Some.name.now c.args.scene.now
+    ∙ other_runs (g.K.Knowledge.known c.args.knowledge.now) c.args.rule.now c.profile-profile.result c.args.command.now c.in-Some.name.now c.args.scene.now
     (c.profile-profile.ensures ∙ ap (λ event. event.profile) c.event.ensures) c.in-Some.ensures
 
 pub returns-in-Some-request_of-clause-scene : goal.returns-in-Some-request_of-clause-scene
 returns-in-Some-request_of-clause-scene g c =
     subst (λ (after : Scene × Bool). IfOk c.take.result (λ done. (c.take.new.scene, done) ≡ after))
-    (hwdb_runs (g.L.Lookup.entries c.args.database.now) c.args.rule.now c.profile-profile.result c.args.command.now c.in-Some-request_of.request _ c.args.scene.now
+    (hwdb_runs (g.K.Knowledge.known c.args.knowledge.now) c.args.rule.now c.profile-profile.result c.args.command.now c.in-Some-request_of.request _ c.args.scene.now
     (c.profile-profile.ensures ∙ ap (λ event. event.profile) c.event.ensures) c.in-Some-request_of.ensures (ap shown c.deref.ensures.value ∙ c.in_ok-found.ensures))
     c.take.ensures.scene

@@ -6,7 +6,7 @@ use Rattle.eval_acts.proofs.lookups.first_answer.Goals as goal
 pub returns-then-not-is_empty : goal.returns-then-not-is_empty
 returns-then-not-is_empty g c =
     let hwdb = c.args.request.now in
-    first_here (counted_properties (g.L.Lookup.entries c.args.database.now) hwdb) hwdb.prefix c.args.modaliases.now c.loop-modalias.modalias-index (record { ref_ptr = (0, 0); now = [] })
+    first_here (counted_properties (g.K.Knowledge.known c.args.knowledge.now) hwdb) hwdb.prefix c.args.modaliases.now c.loop-modalias.modalias-index (record { ref_ptr = (0, 0); now = [] })
     c.in_ok-properties.properties.items _
     c.loop-modalias-test.true
     c.in_ok-properties.ensures

@@ -4,5 +4,5 @@ use Rattle.eval_acts.proofs.lookups.first_answer.Given as goal
 
 abbrev pub invariant-loop-modalias : goal.invariant-loop-modalias
 invariant-loop-modalias g l =
-    answer_of (g.L.Lookup.entries l.database) l.request (map (λ m. m.now) (drop l.modalias-index l.modaliases))
-    ≡ answer_of (g.L.Lookup.entries l.fn.database) l.fn.request (map (λ m. m.now) l.fn.modaliases)
+    answer_of (g.K.Knowledge.known l.knowledge) l.request (map (λ m. m.now) (drop l.modalias-index l.modaliases))
+    ≡ answer_of (g.K.Knowledge.known l.fn.knowledge) l.fn.request (map (λ m. m.now) l.fn.modaliases)

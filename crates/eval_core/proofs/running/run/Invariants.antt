@@ -7,7 +7,7 @@ use Rattle.eval_core.proofs.running.run.Given as goal
 
 abbrev pub invariant-loop-place : goal.invariant-loop-place
 invariant-loop-place g l = record {
-  whole : run (g.L.Lookup.entries l.lookup) None (drop l.place l.layout.rules.now) l.scene ≡ run (g.L.Lookup.entries l.fn.lookup) None l.fn.layout.rules.now l.fn.scene;
+  whole : run (g.K.Knowledge.known l.knowledge) None (drop l.place l.layout.rules.now) l.scene ≡ run (g.K.Knowledge.known l.fn.knowledge) None l.fn.layout.rules.now l.fn.scene;
   event : l.scene.state.event ≡ l.fn.scene.state.event;
   seen : l.seen.items ≡ seen l.layout.names.now l.fn.scene.state.event;
   found : l.found ≡ marks l.fn.scene.state.event;

@@ -6,7 +6,7 @@ use Rattle.eval_courses.proofs.course.report_acts.Given as goal
 
 abbrev pub invariant-loop-part : goal.invariant-loop-part
 invariant-loop-part g l = record {
-  walks : walk (act_step (g.L.Lookup.entries l.lookup) l.rule) (drop l.part-index l.parts) l.scene ≡ walk (act_step (g.L.Lookup.entries l.fn.lookup) l.fn.rule) l.fn.parts l.fn.scene;
-  reported : l.texts.items ++ act_reports (g.L.Lookup.entries l.lookup) l.rule (drop l.part-index l.parts) l.scene ≡ l.fn.texts.items ++ act_reports (g.L.Lookup.entries l.fn.lookup) l.fn.rule l.fn.parts l.fn.scene;
+  walks : walk (act_step (g.K.Knowledge.known l.knowledge) l.rule) (drop l.part-index l.parts) l.scene ≡ walk (act_step (g.K.Knowledge.known l.fn.knowledge) l.fn.rule) l.fn.parts l.fn.scene;
+  reported : l.texts.items ++ act_reports (g.K.Knowledge.known l.knowledge) l.rule (drop l.part-index l.parts) l.scene ≡ l.fn.texts.items ++ act_reports (g.K.Knowledge.known l.fn.knowledge) l.fn.rule l.fn.parts l.fn.scene;
   event : l.scene.state.event ≡ l.fn.scene.state.event;
 }

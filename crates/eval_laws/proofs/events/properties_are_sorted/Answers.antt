@@ -7,4 +7,4 @@ use Rattle.eval_laws.proofs.events.properties_are_sorted.Goals as goal
 
 pub returns : goal.returns
 unfolding outcome_of
-returns c = λ rules entries event. by_name_rises (run entries None rules (start event)).state.env
+returns c = λ rules known event. by_name_rises (run known None rules (start event)).state.env

@@ -3,4 +3,4 @@ use Rattle.eval_laws.proofs.Unmatched.{nothing_matches}
 use Rattle.eval_laws.proofs.events.unmatched_events_stay_as_they_are.Goals as goal
 
 pub returns : goal.returns
-returns c = λ entries rules event h. nothing_matches entries rules (start event) h
+returns c = λ known rules event h. nothing_matches known rules (start event) h

@@ -5,6 +5,6 @@ use Rattle.eval_rules.proofs.steps.act_all.Given as goal
 
 abbrev pub invariant-loop-part : goal.invariant-loop-part
 invariant-loop-part g l = record {
-  walks : walk (act_step (g.L.Lookup.entries l.lookup) l.rule) (drop l.part-index l.parts) l.scene ≡ walk (act_step (g.L.Lookup.entries l.fn.lookup) l.fn.rule) l.fn.parts l.fn.scene;
+  walks : walk (act_step (g.K.Knowledge.known l.knowledge) l.rule) (drop l.part-index l.parts) l.scene ≡ walk (act_step (g.K.Knowledge.known l.fn.knowledge) l.fn.rule) l.fn.parts l.fn.scene;
   event : l.scene.state.event ≡ l.fn.scene.state.event;
 }

@@ -9,5 +9,5 @@ pub returns-in_ok-outcome-in-Ok-clause-outcome : goal.returns-in_ok-outcome-in-O
 returns-in_ok-outcome-in-Ok-clause-outcome g c =
     c.in_ok-outcome-in-Ok.ensures
     ∙ one_outcome _ _ c.in-Ok.ensures.scene
-    ∙ ap (λ s. outcome_of (run (g.L.Lookup.entries c.args.lookup.now) None c.rules.result.now s)) c.in_ok-scene.ensures
-    ∙ ap (λ rs. outcome_of (run (g.L.Lookup.entries c.args.lookup.now) None rs (start c.args.event.now))) c.rules.ensures.borrowed
+    ∙ ap (λ s. outcome_of (run (g.K.Knowledge.known c.args.knowledge.now) None c.rules.result.now s)) c.in_ok-scene.ensures
+    ∙ ap (λ rs. outcome_of (run (g.K.Knowledge.known c.args.knowledge.now) None rs (start c.args.event.now))) c.rules.ensures.borrowed

@@ -1,0 +1,5 @@
+pub mod Builtins
+pub mod Words
+pub mod Hwdb
+pub mod UdevHwdb
+pub mod Unquoted

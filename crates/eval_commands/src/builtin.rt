@@ -1,0 +1,115 @@
+//! What a builtin's command asks for.
+ghost use Rattle.std.specs.Prelude.{◌≡◌, IfOk, drop};
+ghost use Rattle.rule_types.specs.Builtins as udev;
+ghost use Rattle.eval_commands.specs.Builtins.{builtin, builtin_meant, builtin_of, builtin_of_words, hwdb_asked};
+ghost use Rattle.eval_commands.specs.Hwdb.{hwdb_of};
+ghost use Rattle.eval_commands.specs.UdevHwdb.{udev_hwdb_of};
+ghost use Rattle.eval_commands.specs.Words.{command_words, udev_words};
+
+use crate::hwdb::{Hwdb, hwdb_of};
+use crate::udev_hwdb::udev_hwdb_of;
+use crate::words::{command_words, udev_words};
+use rule_types::builtin_of;
+use std::alloc::{AllocError, Global};
+use text_bytes::{Bytes, Profile};
+
+/// What the command of an IMPORT{builtin} asks for, as udev(7) has it.
+#[derive(Drop)]
+pub enum Builtin {
+    /// The hardware database is looked up.
+    Hwdb(Hwdb),
+    /// For udev only: `input_id`.
+    InputId,
+    /// For udev only: `net_id`.
+    NetId,
+    /// For udev only: `path_id`.
+    PathId,
+    /// For udev only: `usb_id`.
+    UsbId,
+    /// Another builtin, which is not run: the first word of the command, empty if it has none; for udev the whole
+    /// name of the builtin, or the command if it means none.
+    Other(Bytes),
+    /// A quote stays open, whatever the builtin; or the words after `hwdb` are not its arguments.
+    BadArguments,
+}
+
+/// What the options of `hwdb` ask for, if they are valid.
+fn hwdb_asked(hwdb: Option<Hwdb>) -> Builtin
+    ensures { result ≡ hwdb_asked hwdb }
+{
+    match hwdb {
+        Some(hwdb) => Builtin::Hwdb(hwdb),
+        None => Builtin::BadArguments,
+    }
+}
+
+/// What words ask for.
+fn builtin_of_words(alloc: Global, words: &[Bytes]) -> Result<Builtin, AllocError>
+    ensures { IfOk result (λ b. b ≡ builtin_of_words words.now) }
+{
+    let Some((name, arguments)) = words.split_first() else {
+        return Ok(Builtin::Other(Bytes::new(Vec::new(alloc))));
+    };
+    if name.as_slice() != b"hwdb".as_slice() {
+        return Ok(Builtin::Other(Bytes::copy_of(alloc, name.as_slice())?));
+    }
+    Ok(hwdb_asked(hwdb_of(alloc, arguments)?))
+}
+
+/// What a command asks for by the manual.
+fn read_as_manual(alloc: Global, command: &[u8]) -> Result<Builtin, AllocError>
+    ensures { IfOk result (λ b. b ≡ builtin_of (command_words command.now)) }
+{
+    match command_words(alloc, command)? {
+        Some(words) => builtin_of_words(alloc, &words),
+        None => Ok(Builtin::BadArguments),
+    }
+}
+
+/// What a command of `hwdb` asks for as udev has it, whose first word is the name.
+fn read_hwdb(alloc: Global, command: &[u8]) -> Result<Builtin, AllocError>
+    ensures { IfOk result (λ b. b ≡ hwdb_asked (udev_hwdb_of (drop 1 (udev_words command.now)))) }
+{
+    let words = udev_words(alloc, command)?;
+    match words.split_first() {
+        Some((_, arguments)) => Ok(hwdb_asked(udev_hwdb_of(alloc, arguments)?)),
+        None => Ok(hwdb_asked(udev_hwdb_of(alloc, &[])?)),
+    }
+}
+
+/// What a command asks for as udev has it.
+fn read_as_udev(alloc: Global, command: &[u8]) -> Result<Builtin, AllocError>
+    ensures { IfOk result (λ b. b ≡ builtin_meant (udev.builtin_of command.now) command.now) }
+{
+    match builtin_of(command) {
+        Some(rule_types::Builtin::Hwdb) => read_hwdb(alloc, command),
+        Some(rule_types::Builtin::InputId) => Ok(Builtin::InputId),
+        Some(rule_types::Builtin::NetId) => Ok(Builtin::NetId),
+        Some(rule_types::Builtin::PathId) => Ok(Builtin::PathId),
+        Some(rule_types::Builtin::UsbId) => Ok(Builtin::UsbId),
+        Some(other) => Ok(Builtin::Other(Bytes::copy_of(alloc, other.name())?)),
+        None => Ok(Builtin::Other(Bytes::copy_of(alloc, command)?)),
+    }
+}
+
+impl Builtin {
+    /// Reads a command as udev(7) splits it into words: at spaces, where `'` or `"` at any place of a word groups
+    /// everything up to the same quote, both quotes dropped, so that `''` is an empty word.
+    ///
+    /// The first word is the builtin's name. `hwdb` takes `--subsystem=NAME`, `--lookup-prefix=TEXT` and
+    /// `--filter=PATTERN`, of each the last, and at most one modalias; a word that begins with `-` and is not such
+    /// an option, a second modalias and a last filter that is not a pattern are bad arguments. For udev (systemd
+    /// 257) the first word is the beginning of a name, that of the first builtin with this beginning, and another
+    /// builtin has its whole name. The command of `hwdb` is then split at spaces, tabs, newlines and carriage
+    /// returns, and a quote that stays open ends with it. Its options are read as getopt_long(3) does: `--NAME VALUE`,
+    /// the beginning of a name, and the letters `-s`, `-p` and `-f` are options too; unknown options and words after
+    /// the modalias are skipped. Bad arguments are then `--device` and a last filter that is not a pattern.
+    pub fn read(alloc: Global, profile: Profile, command: &[u8]) -> Result<Builtin, AllocError>
+        ensures { IfOk result (λ b. b ≡ builtin profile command.now) }
+    {
+        match profile {
+            Profile::Manual => read_as_manual(alloc, command),
+            Profile::Udev => read_as_udev(alloc, command),
+        }
+    }
+}

@@ -172,7 +172,10 @@ pub(crate) const OF_DISKS: [Given<'static>; 1] = [(
     "SUBSYSTEM==\"block\", KERNEL==\"sd[a-z]\", SYMLINK+=\"disk/%k\"\n",
 )];
 
-/// A disk, with the empty line after its block.
+/// A disk.
+pub(crate) const DISK: &[u8] = b"C: add\nP: /devices/pci0/block/sda\nU: block\nN: sda\nD: 8:0\n";
+
+/// The same, with the empty line after its block.
 pub(crate) const BLOCK: &[u8] = b"C: add\nP: /devices/pci0/block/sda\nU: block\nN: sda\nD: 8:0\n\n";
 
 /// The answer to it.
@@ -195,7 +198,7 @@ fn answers(
 
 /// Whether answering the disk, whose block ends without an empty line, goes well with an output of so much room.
 fn goes_well(alloc: Global, each: usize, room: Room) -> Result<bool, Fail> {
-    let mut input = input_of(alloc, &BLOCK[..BLOCK.len() - 1], each)?;
+    let mut input = input_of(alloc, DISK, each)?;
     let wanted = Expected {
         output: ANSWER,
         messages: b"",
@@ -215,11 +218,11 @@ fn is_broken_off(alloc: Global, room: Room, taken: &[u8]) -> Result<bool, Fail> 
     answers(alloc, &mut input, room, wanted)
 }
 
-/// A rules file with one message, and a database file with an entry and one message.
-const FAULTY: [Given<'static>; 2] = [
-    (FileKind::Rules, "60-x.rules", "KERNEL==\"sd*\n"),
-    (FileKind::Hwdb, "s.hwdb", "m\n B=2\n\n A=1\n"),
-];
+/// A rules file with one message.
+const RULES: Given<'static> = (FileKind::Rules, "60-x.rules", "KERNEL==\"sd*\n");
+
+/// A database file with an entry and one message.
+const SOURCE: Given<'static> = (FileKind::Hwdb, "s.hwdb", "m\n B=2\n\n A=1\n");
 
 /// The message about the rules file.
 const ABOUT_RULES: &str = "60-x.rules:1: V1 bad syntax: KERNEL==\"sd*\n";
@@ -235,7 +238,7 @@ fn fails(
     error_room: Room,
     reported: &str,
 ) -> Result<bool, Fail> {
-    let files = files_of(alloc, &FAULTY)?;
+    let files = files_of(alloc, &[RULES, SOURCE])?;
     let mut input = input_of(alloc, b"C: add\nP: /x\n", 4096)?;
     let asked = line(alloc, verb, "m");
     let done = run_in(alloc, &asked, files, None, &mut input, (room, error_room))?;
@@ -298,7 +301,7 @@ fn goes_out(alloc: Global, read: usize, output: &[u8]) -> Result<bool, Fail> {
 #[test]
 fn inputs_may_be_cut_and_fail_after_each_byte(rt: HostRuntime) -> Result<(), Fail> {
     let alloc = rt.alloc();
-    for each in 1..BLOCK.len() {
+    for each in 1..=DISK.len() {
         assert!(rt; goes_well(alloc, each, AMPLE)?);
     }
     for read in 0..BLOCK.len() {
@@ -312,7 +315,7 @@ fn inputs_may_be_cut_and_fail_after_each_byte(rt: HostRuntime) -> Result<(), Fai
 const EMPTY_INDEX: &[u8] = b"devdryhw\x02\0\0\0\x01\0\0\0\0\0\0\0\0\0\0\0\0\0\0\0\0\0\0\0\
     \0\0\0\0\0\0\0\0\x01\0\0\0\0\0\0\0\0\0\0\0\0\0\0\0";
 
-/// Whether a command over files and an index that is no index has this outcome.
+/// Whether a command over files, with an index that is no index, has this outcome.
 fn ends_beside_an_index(
     alloc: Global,
     verb: Verb,
@@ -327,34 +330,29 @@ fn ends_beside_an_index(
     Ok(is_outcome(&done, wanted))
 }
 
-/// What `query` and `events` refuse is not looked at by others; the database's files, which stand back for an index,
-/// are then not read.
+/// `query` and `events` refuse it, and do not read the database's files, which stand back for an index; the other
+/// commands do not look at it.
 #[test]
 fn an_index_is_looked_at_by_query_and_events_alone(rt: HostRuntime) -> Result<(), Fail> {
-    for (verb, given, output, messages, status) in [
-        (Verb::Update, [].as_slice(), EMPTY_INDEX, b"".as_slice(), 0),
-        (
-            Verb::Verify,
-            &[],
-            b"0 files checked, 0 good, 0 bad\n",
-            b"",
-            0,
-        ),
-        (Verb::Query, &FAULTY[1..], b"", b"devdry: index: short\n", 1),
-        (
-            Verb::Events,
-            &FAULTY[1..],
-            b"",
-            b"devdry: index: short\n",
-            1,
-        ),
-    ] {
-        let wanted = Expected {
-            output,
-            messages,
-            status,
-        };
-        assert!(rt; ends_beside_an_index(rt.alloc(), verb, given, wanted)?);
-    }
+    let alloc = rt.alloc();
+    let written = Expected {
+        output: EMPTY_INDEX,
+        messages: b"",
+        status: 0,
+    };
+    let checked = Expected {
+        output: b"0 files checked, 0 good, 0 bad\n",
+        messages: b"",
+        status: 0,
+    };
+    let refused = Expected {
+        output: b"",
+        messages: b"devdry: index: short\n",
+        status: 1,
+    };
+    assert!(rt; ends_beside_an_index(alloc, Verb::Update, &[], written)?);
+    assert!(rt; ends_beside_an_index(alloc, Verb::Verify, &[], checked)?);
+    assert!(rt; ends_beside_an_index(alloc, Verb::Query, &[SOURCE], refused)?);
+    assert!(rt; ends_beside_an_index(alloc, Verb::Events, &[SOURCE], refused)?);
     Ok(())
 }

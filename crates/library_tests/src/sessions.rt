@@ -1,6 +1,6 @@
 //! Sessions that get an input piece by piece, and turns that answer a block with its last byte.
 use crate::events::block_with;
-use crate::runs::{AMPLE, ANSWER, BLOCK, Given, OF_DISKS, files_of, input_of, output_of};
+use crate::runs::{AMPLE, ANSWER, BLOCK, DISK, Given, OF_DISKS, files_of, input_of, output_of};
 use device_core::{BlockFault, BlockFaultKind};
 use engine_core::{MemorySink, MemorySource, Session, SessionFault, Tables, turn};
 use hwdb_core::{PlainDb, read_sources};
@@ -97,8 +97,7 @@ fn each_block_is_answered(alloc: Global, tables: &Tables<PlainDb>) -> Result<boo
 /// Whether a block without the empty line after it is answered at the end, and not before.
 fn the_last_block_is_answered(alloc: Global, tables: &Tables<PlainDb>) -> Result<bool, Fail> {
     let mut session = Session::new(alloc, tables)?;
-    let (block, _) = BLOCK.split_at(57);
-    let answered = takes(alloc, &mut session, block, 57, None)
+    let answered = takes(alloc, &mut session, DISK, 57, None)
         && ends(alloc, &mut session, Some(ANSWER));
     drop(session);
     Ok(answered)

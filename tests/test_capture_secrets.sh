@@ -84,7 +84,7 @@ printed=(
     "$dock unique_id 444"
     "$dock/0-1.1 key 444"
     "$dmi modalias 444"
-    "$card key 444"
+    "$card "{key,product_serial}" 444"
     "$card for_a_group 640"
     "$card for_others 604"
     "$card deep/er/open 644"

@@ -244,7 +244,19 @@ fn nodes_are_walked_in_line_with_the_text(rt: HostRuntime) -> Result<(), Fail> {
     let alloc = rt.alloc();
     assert!(rt; forty_stars_are_walked(alloc)?);
     assert!(rt; longest_is_listed(alloc)?);
-    assert!(rt; longest_is_walked(alloc)?);
-    assert!(rt; one_of_many_is_walked(alloc)?);
+    Ok(())
+}
+
+/// Apart from the others, as each test has a minute.
+#[test]
+fn the_longest_pattern_is_walked(rt: HostRuntime) -> Result<(), Fail> {
+    assert!(rt; longest_is_walked(rt.alloc())?);
+    Ok(())
+}
+
+/// Apart from the others, as each test has a minute.
+#[test]
+fn one_of_ten_thousand_patterns_is_walked(rt: HostRuntime) -> Result<(), Fail> {
+    assert!(rt; one_of_many_is_walked(rt.alloc())?);
     Ok(())
 }

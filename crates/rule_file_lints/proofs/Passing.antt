@@ -115,7 +115,7 @@ given_more given above r same name =
 
 pub down_past : (above next : RulesAbove) (spots more : List FileSpot) (names : FileNames) (rules : List FileRule) (i : ℕ) (r : FileRule) → Descends above spots rules i
     → i < length rules → r ≡ get_or rules i r → names.imported ≡ with_texts [] (imported_names rules) → names.compared ≡ with_texts [] (compared_texts rules)
-    → more ≡ spots ++ map (file_spot r.rule) (spots_by names.imported names.compared above.given above.jump r) → next ≡ with_rule above r
+    → more ≡ spots ++ map (file_spot r) (spots_by names.imported names.compared above.given above.jump r) → next ≡ with_rule above r
     → Descends next more rules (i + 1)
 down_past above next spots more names rules i r before h e imported compared m n =
     let past : List FileRule = reverse (take i rules) in
@@ -130,9 +130,9 @@ down_past above next spots more names rules i r before h e imported compared m n
       jump = ap (λ (a : RulesAbove). a.jump) n ∙ ap jumps_above (sym reversed);
       so_far =
           ap (λ x. x ++ spots_below rules (reverse (take (i + 1) rules)) (drop (i + 1) rules)) m
-          ∙ ap (λ rs. (spots ++ map (file_spot r.rule) (spots_by names.imported names.compared above.given above.jump r)) ++ spots_below rules rs (drop (i + 1) rules)) reversed
-          ∙ append_assoc spots (map (file_spot r.rule) (spots_by names.imported names.compared above.given above.jump r)) (spots_below rules (r ∷ past) (drop (i + 1) rules))
-          ∙ ap (λ x. spots ++ (map (file_spot r.rule) x ++ spots_below rules (r ∷ past) (drop (i + 1) rules))) own
+          ∙ ap (λ rs. (spots ++ map (file_spot r) (spots_by names.imported names.compared above.given above.jump r)) ++ spots_below rules rs (drop (i + 1) rules)) reversed
+          ∙ append_assoc spots (map (file_spot r) (spots_by names.imported names.compared above.given above.jump r)) (spots_below rules (r ∷ past) (drop (i + 1) rules))
+          ∙ ap (λ x. spots ++ (map (file_spot r) x ++ spots_below rules (r ∷ past) (drop (i + 1) rules))) own
           ∙ ap (λ rs. spots ++ spots_below rules past rs) (sym (rule_item rules i r h e))
           ∙ before.so_far;
     }

@@ -108,7 +108,8 @@ fn rule_spots(
 ) -> Result<Vec<LintSpot>, AllocError>
     ensures { IfOk result (λ spots. spots.items ≡ spots_by names.now.imported names.now.compared above.now.given above.now.jump rule.now) }
 {
-    let tokens = &rule.draft.parts;
+    let draft = rule.draft;
+    let tokens = &draft.parts;
     let mut spots = lints_of_rule(alloc, tokens)?;
     add_imported_below(alloc, &mut spots, &names.imported, &above.given, tokens)?;
     add_meant(alloc, &mut spots, &names.compared, tokens)?;
@@ -125,8 +126,9 @@ impl<'a> FileNames<'a> {
         let mut imported = Texts::new(alloc);
         let mut compared = OwnedTexts::new(alloc);
         for rule in rules {
-            add_imported(&mut imported, &rule.draft.parts)?;
-            add_compared(alloc, &mut compared, &rule.draft.parts)?;
+            let draft = rule.draft;
+            add_imported(&mut imported, &draft.parts)?;
+            add_compared(alloc, &mut compared, &draft.parts)?;
         }
         Ok(FileNames { imported, compared })
     }
@@ -147,7 +149,8 @@ impl<'a> RulesAbove<'a> {
     fn take(&mut self, rule: &'a FileRule<'_, '_>) -> Result<(), AllocError>
         ensures { OnOk result (self.new ≡ with_rule self.old rule.now) }
     {
-        add_given(&mut self.given, &rule.draft.parts)?;
+        let draft = rule.draft;
+        add_given(&mut self.given, &draft.parts)?;
         self.jump = jumps_to(rule);
         Ok(())
     }

@@ -15,13 +15,13 @@ use std::alloc::{AllocError, Global};
 pub(crate) fn jumps_to<'a>(rule: &'a FileRule<'_, '_>) -> Option<&'a [u8]>
     ensures { option_map (λ t. t.now) result ≡ jumps_to rule.now }
 {
+    let draft = rule.draft;
     if may_go_on(rule) {
-        None
-    } else {
-        match &rule.draft.goto {
-            None => None,
-            Some(place) => Some(place.name.as_slice()),
-        }
+        return None;
+    }
+    match &draft.goto {
+        None => None,
+        Some(place) => Some(place.name.as_slice()),
     }
 }
 
@@ -30,7 +30,8 @@ pub(crate) fn jumps_to<'a>(rule: &'a FileRule<'_, '_>) -> Option<&'a [u8]>
 fn may_go_on(rule: &FileRule<'_, '_>) -> bool
     ensures { result ≡ may_go_on rule.now }
 {
-    rule.landing.lost || may_end(&rule.draft.parts)
+    let draft = rule.draft;
+    rule.landing.lost || may_end(&draft.parts)
 }
 
 /// Whether a rule may end at one of these tokens.
@@ -55,7 +56,8 @@ pub(crate) fn add_never_reached(
             if is_labelled(rule) {
                 Ok(())
             } else {
-                add_first(alloc, spots, name, &rule.draft.parts)
+                let draft = rule.draft;
+                add_first(alloc, spots, name, &draft.parts)
             }
         }
     }
@@ -65,7 +67,8 @@ pub(crate) fn add_never_reached(
 fn is_labelled(rule: &FileRule<'_, '_>) -> bool
     ensures { result ≡ is_labelled rule.now }
 {
-    rule.draft.label.is_some()
+    let draft = rule.draft;
+    draft.label.is_some()
 }
 
 /// Adds the first of these tokens, reported with a label.

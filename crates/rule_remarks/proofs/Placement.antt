@@ -199,15 +199,16 @@ slices line (Err fault ∷ items) parts e h = absurd (wrong_first (parts_of Udev
     wrong_first : (rest : Result (List WrittenPart) Spot) → with_part (Err (token_spot fault.kind fault.at line)) rest ≡ Ok parts → ⊥
     wrong_first (Ok more) g = cc
     wrong_first (Err other) g = cc
-slices line (Ok t ∷ items) parts e h = by (part_of Udev t) (parts_of Udev line items) refl e
+slices line (Ok t ∷ items) parts e h = by (part_of Udev t) (parts_of Udev line items) refl e (λ more f. slices line items more f h.1)
   where
-    by : (x : Result Part Finding) (rest : Result (List WrittenPart) Spot) → parts_of Udev line items ≡ rest → with_part (written_part t x) rest ≡ Ok parts → AllByRecursion (IsSlice line) (tokens_in parts)
-    by (Ok p) (Ok more) f g =
+    by : (x : Result Part Finding) (rest : Result (List WrittenPart) Spot) → parts_of Udev line items ≡ rest → with_part (written_part t x) rest ≡ Ok parts
+        → ((more : List WrittenPart) → parts_of Udev line items ≡ Ok more → AllByRecursion (IsSlice line) (tokens_in more)) → AllByRecursion (IsSlice line) (tokens_in parts)
+    by (Ok p) (Ok more) f g others =
         let all : record { token = t; part = p } ∷ more ≡ parts = cc in
-        subst (λ (ps : List WrittenPart). AllByRecursion (IsSlice line) (tokens_in ps)) all (h.0, slices line items more f h.1)
-    by (Ok p) (Err wrong) f g = absurd (cc)
-    by (Err found) (Ok more) f g = absurd (cc)
-    by (Err found) (Err wrong) f g = absurd (cc)
+        subst (λ (ps : List WrittenPart). AllByRecursion (IsSlice line) (tokens_in ps)) all (h.0, others more f)
+    by (Ok p) (Err wrong) f g others = absurd (cc)
+    by (Err found) (Ok more) f g others = absurd (cc)
+    by (Err found) (Err wrong) f g others = absurd (cc)
 
 line_reported : (accounts : Accounts) (line : List ℕ) → AllPresent line (line_remarks accounts (draft_of Udev line))
 unfolding draft_of

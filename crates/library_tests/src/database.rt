@@ -1,29 +1,11 @@
-//! Entries in a list, in a trie and in an index: what their calls return besides the properties that are found.
+//! Entries in a list, in a trie and in an index: which of them answers, and how many nodes are walked for it.
 use hwdb_lookup::{Entry, Lookup, PlainDb, SharedBytes, Sourced, rising};
-use index_reading::{Header, NodeRecord, Places, Span, ValueRecord, check, kinds};
 use std::alloc::{AllocError, Global};
 use std::cmp::Ordering;
 use std::test::Fail;
 use text_core::{Bytes, Item, PackedPattern};
 use trie_build::{compare_from, compare_labels};
 use trie_core::{Index, Nodes, Trie, write_index};
-
-/// The index of `a*` with ` K=V`, from line 2 of t.hwdb, as docs/format.md prints it.
-const WITH_FILE: &[u8; 144] = b"devdryhw\x02\0\0\0\x03\0\0\0\x01\0\0\0\0\0\0\0\x08\0\0\0\0\0\0\0\
-    \0\0\0\0\0\0\0\0\x01\0\0\0\x01\0\0\0\0\0\0\0\0\0\0\0\
-    \x01a\0\0\0\0\0\0\x02\0\0\0\x01\0\0\0\0\0\0\0\0\0\0\0\
-    \x03\0\0\0\0\0\0\0\x03\0\0\0\0\0\0\0\0\0\0\0\x01\0\0\0\
-    \0\0\0\0\x01\0\0\0\x01\0\0\0\x01\0\0\0\0\0\0\0\x02\0\0\0\x06\0\0\0\x02\0\0\0KVt.hwdb";
-
-/// The header of that index.
-const HEADER: Header = Header {
-    version: 2,
-    nodes: 3,
-    values: 1,
-    sets: 0,
-    text: 8,
-    reserved: 0,
-};
 
 /// A property: its pattern, its key and its value.
 type Property<'a> = (&'a [u8], &'a [u8], &'a [u8]);
@@ -67,13 +49,17 @@ fn list_of(alloc: Global, properties: &[Property<'_>]) -> Result<PlainDb, Fail> 
     Ok(PlainDb::new(listed))
 }
 
-/// The trie of the entries of some properties.
-fn trie_of(alloc: Global, properties: &[Property<'_>]) -> Result<Trie, Fail> {
-    let listed = entries(alloc, properties)?;
+/// The trie of entries that rise.
+fn trie_from(alloc: Global, listed: Vec<Entry>) -> Result<Trie, Fail> {
     if !rising(&listed) {
         return Err("the entries do not rise")?;
     }
     Ok(Trie::build(alloc, listed)?)
+}
+
+/// The trie of the entries of some properties.
+fn trie_of(alloc: Global, properties: &[Property<'_>]) -> Result<Trie, Fail> {
+    trie_from(alloc, entries(alloc, properties)?)
 }
 
 /// Two records, the later of which has another A for abc.
@@ -93,55 +79,60 @@ fn answers(
     Ok(list.query(alloc, modalias)?.as_slice() == wanted)
 }
 
+/// Whether a list answers by the later entry, with the line of that one.
+fn answers_by_the_later_entry(alloc: Global, list: &PlainDb) -> Result<bool, Fail> {
+    let found = list.query_sources(alloc, b"abc")?;
+    let later = Sourced {
+        key: b"A",
+        value: b"3",
+        file: b"t.hwdb",
+        line: 2,
+    };
+    let is_sourced = found.len() == 2 && found.first() == Some(&later);
+    Ok(
+        is_sourced
+            && answers(alloc, list, b"abc", &[(b"A", b"3"), (b"B", b"2")])?
+            && answers(alloc, list, b"ab", &[(b"A", b"1"), (b"B", b"2")])?
+            && answers(alloc, list, b"x", &[])?,
+    )
+}
+
+/// Whether entries with rising orders and with keys are told from others.
+fn rising_is_told(alloc: Global) -> Result<bool, Fail> {
+    let mut listed = Vec::new(alloc);
+    let is_none_rising = rising(&listed);
+    listed.push(entry(alloc, (b"*", b"A", b"1"), 4)?)?;
+    let is_one_rising = rising(&listed);
+    listed.push(entry(alloc, (b"*", b"A", b"2"), 4)?)?;
+    let is_rising = rising(&listed);
+    Ok(
+        is_none_rising
+            && is_one_rising
+            && !is_rising
+            && !rising(&entries(alloc, &[(b"*", b"", b"1")])?),
+    )
+}
+
+/// Whether a byte comes before a star, and a star before its end.
+fn labels_are_ordered(alloc: Global) -> Result<bool, Fail> {
+    let byte = packed(alloc, b"\xff")?;
+    let star = packed(alloc, b"*?")?;
+    let alone = packed(alloc, b"*")?;
+    Ok(
+        compare_from(&byte, 0, &star, 0) == Ordering::Less
+            && compare_from(&star, 0, &alone, 0) == Ordering::Greater
+            && compare_labels(&Item::Many, &Item::One) == Ordering::Greater,
+    )
+}
+
 #[test]
 fn a_list_answers_by_the_later_entry(rt: HostRuntime) -> Result<(), Fail> {
     let alloc = rt.alloc();
     let list = list_of(alloc, &RECORDS)?;
-    assert!(rt; answers(alloc, &list, b"abc", &[(b"A", b"3"), (b"B", b"2")])?);
-    assert!(rt; answers(alloc, &list, b"ab", &[(b"A", b"1"), (b"B", b"2")])?);
-    assert!(rt; answers(alloc, &list, b"x", &[])?);
-    assert_eq!(rt; list.into_entries().len(), 3);
-    Ok(())
-}
-
-#[test]
-fn a_list_names_the_line_of_the_later_entry(rt: HostRuntime) -> Result<(), Fail> {
-    let list = list_of(rt.alloc(), &RECORDS)?;
-    let found = list.query_sources(rt.alloc(), b"abc")?;
-    assert_eq!(rt; found.len(), 2);
-    assert!(rt;
-        found[0]
-            == Sourced {
-                key: b"A",
-                value: b"3",
-                file: b"t.hwdb",
-                line: 2
-            }
-    );
-    Ok(())
-}
-
-#[test]
-fn entries_rise_by_their_orders_and_have_keys(rt: HostRuntime) -> Result<(), Fail> {
-    let alloc = rt.alloc();
-    let mut listed = Vec::new(alloc);
-    assert!(rt; rising(&listed));
-    listed.push(entry(alloc, (b"*", b"A", b"1"), 4)?)?;
-    assert!(rt; rising(&listed));
-    listed.push(entry(alloc, (b"*", b"A", b"2"), 4)?)?;
-    assert!(rt; !rising(&listed));
-    assert!(rt; !rising(&entries(alloc, &[(b"*", b"", b"1")])?));
-    Ok(())
-}
-
-#[test]
-fn bytes_come_before_stars(rt: HostRuntime) -> Result<(), Fail> {
-    let byte = packed(rt.alloc(), b"\xff")?;
-    let star = packed(rt.alloc(), b"*?")?;
-    let alone = packed(rt.alloc(), b"*")?;
-    assert_eq!(rt; compare_from(&byte, 0, &star, 0), Ordering::Less);
-    assert_eq!(rt; compare_from(&star, 0, &alone, 0), Ordering::Greater);
-    assert_eq!(rt; compare_labels(&Item::Many, &Item::One), Ordering::Greater);
+    assert!(rt; answers_by_the_later_entry(alloc, &list)?);
+    assert!(rt; list.into_entries().len() == 3);
+    assert!(rt; rising_is_told(alloc)?);
+    assert!(rt; labels_are_ordered(alloc)?);
     Ok(())
 }
 
@@ -154,57 +145,42 @@ fn letters_and_stars(alloc: Global) -> Result<Vec<u8>, AllocError> {
     Ok(pattern)
 }
 
-#[test]
-fn forty_stars_are_walked_in_line_with_the_text(rt: HostRuntime) -> Result<(), Fail> {
-    let pattern = letters_and_stars(rt.alloc())?;
-    let trie = trie_of(rt.alloc(), &[(&pattern, b"K", b"V")])?;
-    let mut modalias = vec![in rt.alloc(); b'a'; 200]?;
+/// Two hundred times `a` and a `b`.
+fn letters(alloc: Global) -> Result<Vec<u8>, AllocError> {
+    let mut modalias = vec![in alloc; b'a'; 200]?;
     modalias.push(b'b')?;
-    let (active, sum) = trie.visits(rt.alloc(), &modalias)?;
-    assert!(rt; trie.len() == 81 && active.len() == 40 && sum == 14_521);
+    Ok(modalias)
+}
+
+/// Whether the nodes that are active are those after each of the forty stars.
+fn are_after_stars(active: &[u32]) -> bool {
     for (place, node) in active.iter().enumerate() {
-        assert_eq!(rt; *node as usize, place.wrapping_mul(2).wrapping_add(1));
-    }
-    Ok(())
-}
-
-/// Whether a trie answers a modalias as a list does.
-fn same_answer(alloc: Global, trie: &Trie, list: &PlainDb, modalias: &[u8]) -> Result<bool, Fail> {
-    let found = trie.query_sources(alloc, modalias)?;
-    let wanted = list.query_sources(alloc, modalias)?;
-    Ok(found.as_slice() == wanted.as_slice())
-}
-
-/// Patterns of each kind of label, some of them twice or with the same beginning.
-const PATTERNS: [Property<'static>; 10] = [
-    (b"ab*", b"A", b"0"),
-    (b"*[bc]", b"A", b"1"),
-    (b"ab*", b"A", b"2"),
-    (b"a?", b"A", b"3"),
-    (b"**b", b"A", b"4"),
-    (b"?b*c", b"A", b"5"),
-    (b"[!a]*", b"A", b"6"),
-    (b"a*b?", b"A", b"7"),
-    (b"", b"A", b"8"),
-    (b"[a-c]?d", b"A", b"9"),
-];
-
-#[test]
-fn a_trie_answers_as_a_list(rt: HostRuntime) -> Result<(), Fail> {
-    let alloc = rt.alloc();
-    let trie = trie_of(alloc, &PATTERNS)?;
-    let list = list_of(alloc, &PATTERNS)?;
-    for first in b'a'..b'e' {
-        for second in b'a'..b'e' {
-            for third in b'a'..b'e' {
-                let modalias = [first, second, third];
-                for len in 0..4 {
-                    assert!(rt; same_answer(alloc, &trie, &list, &modalias[..len])?);
-                }
-            }
+        if *node as usize != place.wrapping_mul(2).wrapping_add(1) {
+            return false;
         }
     }
-    Ok(())
+    active.len() == 40
+}
+
+/// The nodes of a trie that are active at the end of a modalias, and how many are at all of its lengths, if there are
+/// as many in its index.
+fn visits(alloc: Global, trie: &Trie, modalias: &[u8]) -> Result<(Vec<u32>, u128), Fail> {
+    let bytes = write_index(alloc, trie)?;
+    let index = Index::open(&bytes).map_err(|_fault| "no index")?;
+    let (active, sum) = index.visits(alloc, modalias)?;
+    let (active_in_trie, sum_in_trie) = trie.visits(alloc, modalias)?;
+    if active.as_slice() != active_in_trie.as_slice() || sum != sum_in_trie {
+        Err("a trie and its index differ")?;
+    }
+    Ok((active, sum))
+}
+
+/// Whether forty stars are walked in line with a text.
+fn forty_stars_are_walked(alloc: Global) -> Result<bool, Fail> {
+    let pattern = letters_and_stars(alloc)?;
+    let trie = trie_of(alloc, &[(&pattern, b"K", b"V")])?;
+    let (active, sum) = visits(alloc, &trie, &letters(alloc)?)?;
+    Ok(trie.len() == 81 && are_after_stars(&active) && sum == 14_521)
 }
 
 /// The longest pattern: for ten bytes it has the root active at first and never again, and each of its other 16,384
@@ -218,152 +194,69 @@ fn answers_ten<L: Lookup>(alloc: Global, database: &L) -> Result<bool, Fail> {
     Ok(database.query(alloc, b"aaaaaaaaaa")?.len() == 1)
 }
 
-#[test]
-fn a_list_answers_the_longest_pattern(rt: HostRuntime) -> Result<(), Fail> {
-    let pattern = stars(rt.alloc())?;
-    let list = list_of(rt.alloc(), &[(&pattern, b"K", b"V")])?;
-    assert!(rt; answers_ten(rt.alloc(), &list)?);
-    Ok(())
+/// Whether a list answers by the longest pattern.
+fn longest_is_listed(alloc: Global) -> Result<bool, Fail> {
+    let pattern = stars(alloc)?;
+    let list = list_of(alloc, &[(&pattern, b"K", b"V")])?;
+    answers_ten(alloc, &list)
 }
 
-#[test]
-fn a_trie_and_its_index_walk_the_longest_pattern(rt: HostRuntime) -> Result<(), Fail> {
-    let alloc = rt.alloc();
+/// Whether a trie and its index walk along the longest pattern.
+fn longest_is_walked(alloc: Global) -> Result<bool, Fail> {
     let pattern = stars(alloc)?;
     let trie = trie_of(alloc, &[(&pattern, b"K", b"V")])?;
-    assert_eq!(rt; trie.len(), 16_385);
-    assert!(rt; answers_ten(alloc, &trie)?);
-    assert_eq!(rt; trie.visits(alloc, b"aaaaaaaaaa")?.1, 180_225);
-    let bytes = write_index(alloc, &trie)?;
-    let index = Index::open(&bytes).map_err(|_fault| "no index")?;
-    assert!(rt; answers_ten(alloc, &index)?);
-    assert_eq!(rt; index.visits(alloc, b"aaaaaaaaaa")?.1, 180_225);
-    Ok(())
+    let (active, sum) = visits(alloc, &trie, b"aaaaaaaaaa")?;
+    Ok(
+        trie.len() == 16_385
+            && active.len() == 16_384
+            && sum == 180_225
+            && answers_ten(alloc, &trie)?,
+    )
 }
 
-/// How many nodes below the root the chain has.
-const LAST: u32 = 16_000;
-
-/// Adds numbers of 32 bits, the least significant byte first.
-fn push_numbers(bytes: &mut Vec<u8>, numbers: &[u32]) -> Result<(), AllocError> {
-    for number in numbers {
-        bytes.extend_from_slice(&number.to_le_bytes())?;
-    }
-    Ok(())
+/// The pattern of a number of four digits.
+fn numbered(alloc: Global, number: u32) -> Result<Vec<u8>, AllocError> {
+    let digits = number.wrapping_add(10_000).to_string(alloc)?;
+    let mut pattern = Vec::from_slice(alloc, b"usb:v")?;
+    pattern.extend_from_slice(digits.as_bytes().get(1..).unwrap_or(b""))?;
+    Ok(pattern)
 }
 
-/// The index, in version 1, of nodes one below another, each except the root after `a` and with `K=V`.
-fn chain(alloc: Global) -> Result<Vec<u8>, AllocError> {
-    let mut bytes = Vec::from_slice(alloc, b"devdryhw")?;
-    push_numbers(&mut bytes, &[1, LAST + 1, LAST, 0, 2, 0])?;
-    push_numbers(&mut bytes, &[0, 0, 1, 1, 0, 0])?;
-    let byte = u32::from_le_bytes([1, b'a', 0, 0]);
-    for i in 1..LAST {
-        push_numbers(&mut bytes, &[byte, 0, i + 1, 1, i - 1, 1])?;
+/// Ten thousand entries, from `usb:v0000` to `usb:v9999`.
+fn ten_thousand(alloc: Global) -> Result<Vec<Entry>, Fail> {
+    let mut listed = Vec::new(alloc);
+    for number in 0..10_000 {
+        let pattern = numbered(alloc, number)?;
+        listed.push(entry(alloc, (&pattern, b"K", b"V"), number)?)?;
     }
-    push_numbers(&mut bytes, &[byte, 0, LAST + 1, 0, LAST - 1, 1])?;
-    for _value in 0..LAST {
-        push_numbers(&mut bytes, &[0, 1, 1, 1, 0])?;
-    }
-    bytes.extend_from_slice(b"KV")?;
-    Ok(bytes)
+    Ok(listed)
 }
 
-/// A thousand queries, which have to end within the minute that a test has: comparing pattern by pattern would take
-/// 128,008,000,000 steps for them.
+/// Whether one of ten thousand patterns is found by a step for each byte.
+fn one_of_many_is_walked(alloc: Global) -> Result<bool, Fail> {
+    let trie = trie_from(alloc, ten_thousand(alloc)?)?;
+    let (active, sum) = visits(alloc, &trie, b"usb:v1234")?;
+    Ok(trie.len() == 11_116 && active.len() == 1 && sum == 10)
+}
+
 #[test]
-fn a_chain_is_walked_a_thousand_times(rt: HostRuntime) -> Result<(), Fail> {
+fn nodes_are_walked_in_line_with_the_text(rt: HostRuntime) -> Result<(), Fail> {
     let alloc = rt.alloc();
-    let bytes = chain(alloc)?;
-    assert_eq!(rt; bytes.len(), 704_058);
-    let modalias = vec![in alloc; b'a'; 16_000]?;
-    let Ok(index) = Index::open(&bytes) else {
-        return Err("no index")?;
-    };
-    let (active, sum) = index.visits(alloc, &modalias)?;
-    assert!(rt; active.as_slice() == [16_000].as_slice());
-    assert_eq!(rt; sum, 16_001);
-    for _time in 0..1000 {
-        let found = index.query(alloc, &modalias)?;
-        assert!(rt; found.as_slice() == [(b"K".as_slice(), b"V".as_slice())].as_slice());
-    }
+    assert!(rt; forty_stars_are_walked(alloc)?);
+    assert!(rt; longest_is_listed(alloc)?);
     Ok(())
 }
 
-/// The file of the index with the byte at a place set to 0.
-fn with_zero(alloc: Global, at: usize) -> Result<Vec<u8>, AllocError> {
-    let mut bytes = Vec::from_slice(alloc, WITH_FILE)?;
-    if let Some(byte) = bytes.get_mut(at) {
-        *byte = 0;
-    }
-    Ok(bytes)
-}
-
-/// What the program can't show: how many nodes were active, a modalias with a NUL byte, and the line of a property
-/// whose file has no name.
+/// Apart from the others, as each test has a minute.
 #[test]
-fn an_index_answers_its_caller(rt: HostRuntime) -> Result<(), Fail> {
-    let alloc = rt.alloc();
-    let index = Index::open(WITH_FILE).map_err(|_fault| "no index")?;
-    // the root alone, the byte and the star after a, the star after b and after c
-    let (active, sum) = index.visits(alloc, b"abc")?;
-    assert!(rt; active.last() == Some(&2) && sum == 5);
-    let after_nul = with_zero(alloc, 57)?;
-    let index = Index::open(&after_nul).map_err(|_fault| "no index")?;
-    assert_eq!(rt; index.query(alloc, b"\0bc")?.len(), 1);
-    let nameless = with_zero(alloc, 128)?;
-    let index = Index::open(&nameless).map_err(|_fault| "no index")?;
-    let found = index.query_sources(alloc, b"abc")?;
-    assert!(rt; found.len() == 1 && found[0].file.is_empty() && found[0].line == 2);
+fn the_longest_pattern_is_walked(rt: HostRuntime) -> Result<(), Fail> {
+    assert!(rt; longest_is_walked(rt.alloc())?);
     Ok(())
 }
 
+/// Apart from the others, as each test has a minute.
 #[test]
-fn a_header_is_read_and_written(rt: HostRuntime) -> Result<(), Fail> {
-    let header = Header::read(WITH_FILE);
-    assert!(rt; header == HEADER);
-    let places = Places {
-        values: 104,
-        sets: 136,
-        text: 136,
-        end: 144,
-    };
-    assert!(rt; header.places() == places);
-    let mut out = Vec::new(rt.alloc());
-    header.write(&mut out)?;
-    let whole = WITH_FILE.as_slice();
-    assert!(rt; out.as_slice() == &whole[..32]);
-    let first = Header {
-        version: 1,
-        ..HEADER
-    };
-    assert_eq!(rt; first.values_len(2), 40);
-    Ok(())
-}
-
-#[test]
-fn records_are_read_and_written(rt: HostRuntime) -> Result<(), Fail> {
-    let star = NodeRecord::read(WITH_FILE, 80);
-    assert!(rt; star.kind == kinds::MANY && star.first == 3 && star.values == 1);
-    let value = ValueRecord::read(2, WITH_FILE, 104);
-    assert!(rt; value.file == Span { place: 2, len: 6 } && value.line == 2);
-    let whole = WITH_FILE.as_slice();
-    let mut out = Vec::new(rt.alloc());
-    star.write(&mut out)?;
-    value.write(&mut out)?;
-    assert!(rt; out.as_slice() == &whole[80..136]);
-    let first = ValueRecord::read(1, WITH_FILE, 104);
-    assert!(rt; first.file == Span { place: 0, len: 0 } && first.line == 0);
-    Ok(())
-}
-
-#[test]
-fn records_are_found_by_number(rt: HostRuntime) -> Result<(), Fail> {
-    let records = check(WITH_FILE).map_err(|_fault| "no index")?;
-    let header = records.header();
-    assert!(rt; header.nodes == 3 && header.values == 1 && header.text == 8);
-    let name = Span { place: 2, len: 6 };
-    assert!(rt; records.text_of(name) == b"t.hwdb".as_slice());
-    assert!(rt; records.node(1).byte == b'a' && records.value(0).line == 2);
+fn one_of_ten_thousand_patterns_is_walked(rt: HostRuntime) -> Result<(), Fail> {
+    assert!(rt; one_of_many_is_walked(rt.alloc())?);
     Ok(())
 }

@@ -54,8 +54,7 @@ fn is_answer(answer: &Option<Bytes>, wanted: Option<&[u8]>) -> bool {
     }
 }
 
-/// A turn. All tests use this one: a function that calls `turn` itself is slow to check, because of its long
-/// contract.
+/// A turn, and nothing else: a function that calls `turn` itself is slow to check, because of its long contract.
 fn one_turn(
     alloc: Global,
     session: &mut Session<'_, Brief>,
@@ -65,27 +64,36 @@ fn one_turn(
     turn(alloc, session, input, output)
 }
 
-#[test]
-fn a_caller_answers_in_its_own_way(rt: HostRuntime) -> Result<(), Fail> {
+/// Whether a session answers a block once it is whole, after empty lines.
+fn block_is_answered(alloc: Global) -> Result<bool, Fail> {
     let brief = Brief;
-    let mut session = Session::new(rt.alloc(), &brief)?;
-    assert!(rt; takes(rt.alloc(), &mut session, b"\n\n\n\n\n\n\n\n\n\n", 10, None));
-    assert!(rt; takes(rt.alloc(), &mut session, DISK, 58, Some(DISK_ANSWER)));
-    Ok(())
+    let mut session = Session::new(alloc, &brief)?;
+    let answered = takes(alloc, &mut session, b"\n\n\n\n\n\n\n\n\n\n", 10, None)
+        && takes(alloc, &mut session, DISK, 58, Some(DISK_ANSWER));
+    drop(session);
+    Ok(answered)
+}
+
+/// Whether a turn of a session that has ended says so, and writes nothing.
+fn ended_session_stays(alloc: Global) -> Result<bool, Fail> {
+    let brief = Brief;
+    let mut session = Session::new(alloc, &brief)?;
+    let ended = matches!(session.end(alloc), Ok(None));
+    let mut input = MemorySource::new(alloc, Vec::from_slice(alloc, DISK)?, 9, 99, 99)?;
+    let mut output = MemorySink::new(alloc, 99, 99)?;
+    let turned = one_turn(alloc, &mut session, &mut input, &mut output);
+    drop(session);
+    Ok(
+        ended
+            && turned == Err(TurnFault::Session(SessionFault::Ended))
+            && output.bytes_taken().is_empty(),
+    )
 }
 
 #[test]
-fn a_turn_of_an_ended_session_does_nothing(rt: HostRuntime) -> Result<(), Fail> {
+fn a_caller_answers_in_its_own_way(rt: HostRuntime) -> Result<(), Fail> {
     let alloc = rt.alloc();
-    let brief = Brief;
-    let mut session = Session::new(alloc, &brief)?;
-    assert!(rt; matches!(session.end(alloc), Ok(None)));
-    let mut input = MemorySource::new(alloc, Vec::from_slice(alloc, DISK)?, 9, 99, 99)?;
-    let mut output = MemorySink::new(alloc, 99, 99)?;
-    assert_eq!(rt;
-        one_turn(alloc, &mut session, &mut input, &mut output),
-        Err(TurnFault::Session(SessionFault::Ended))
-    );
-    assert!(rt; output.bytes_taken().is_empty());
+    assert!(rt; block_is_answered(alloc)?);
+    assert!(rt; ended_session_stays(alloc)?);
     Ok(())
 }

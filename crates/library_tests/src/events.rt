@@ -41,94 +41,106 @@ fn blocks_of(
     Ok((blocks, None))
 }
 
-#[test]
-fn blocks_do_not_depend_on_the_pieces(rt: HostRuntime) -> Result<(), Fail> {
+/// Whether blocks are cut out of an input in pieces of a size, however many empty lines are around them.
+fn blocks_are_cut(alloc: Global, size: usize) -> Result<bool, AllocError> {
     let input = b"\n\nC: add\nP: /a\n\n\nC: remove\n\n \n\nC: move\nP: /b".as_slice();
-    for size in [1, 2, 3, 7, 8, 99] {
-        let (blocks, fault) = blocks_of(rt.alloc(), input, size)?;
-        assert!(rt; fault.is_none());
-        assert_eq!(rt;
-            blocks.as_slice(),
-            b"C: add\nP: /a\n|C: remove\n| \n|C: move\nP: /b|".as_slice()
-        );
-    }
-    Ok(())
+    let (blocks, fault) = blocks_of(alloc, input, size)?;
+    Ok(
+        fault.is_none()
+            && blocks.as_slice() == b"C: add\nP: /a\n|C: remove\n| \n|C: move\nP: /b|".as_slice(),
+    )
 }
 
-#[test]
-fn a_block_has_at_most_65536_bytes(rt: HostRuntime) -> Result<(), Fail> {
-    let alloc = rt.alloc();
-    for (filling, fault) in [
-        (65_509, None),
-        (65_510, Some(SplitFault::TooLong { line: 3 })),
-    ] {
-        let mut input = Vec::from_slice(alloc, b"C: add\nP: /devices/x\nE: X=")?;
-        input.extend_from_slice(vec![in alloc; b'x'; filling]?.as_slice())?;
-        input.extend_from_slice(b"\n\n")?;
-        for size in [1, 4096, 65_537] {
-            let (blocks, found) = blocks_of(alloc, input.as_slice(), size)?;
-            assert_eq!(rt; found, fault);
-            assert_eq!(rt; blocks.len(), if fault.is_none() { 65_537 } else { 0 });
-        }
-    }
-    Ok(())
+/// A block with a property of so many letters: 27 bytes more.
+pub(crate) fn block_with(alloc: Global, letters: usize) -> Result<Vec<u8>, AllocError> {
+    let mut block = Vec::from_slice(alloc, b"C: add\nP: /devices/x\nE: X=")?;
+    block.extend_from_slice(vec![in alloc; b'x'; letters]?.as_slice())?;
+    block.push(b'\n')?;
+    Ok(block)
 }
 
-#[test]
-fn each_call_ends_at_the_first_complete_block(rt: HostRuntime) -> Result<(), Fail> {
-    let mut splitter = Splitter::new(rt.alloc())?;
-    assert!(rt;
-        splitter.take(b"\n\n\n\n\n\n\n\n\n\n")
-            == Ok(Taken {
-                used: 10,
-                whole: false
-            })
-    );
-    let mut input = Vec::new(rt.alloc());
+/// Whether a block of 65,536 bytes is cut out of an input in pieces of a size, and one with a byte more is too long.
+fn longest_is_cut(alloc: Global, size: usize) -> Result<bool, AllocError> {
+    let mut longest = block_with(alloc, 65_509)?;
+    longest.push(b'\n')?;
+    let (blocks, fault) = blocks_of(alloc, &longest, size)?;
+    let mut too_long = block_with(alloc, 65_510)?;
+    too_long.push(b'\n')?;
+    let (none, found) = blocks_of(alloc, &too_long, size)?;
+    Ok(
+        fault.is_none()
+            && blocks.len() == 65_537
+            && found == Some(SplitFault::TooLong { line: 3 })
+            && none.is_empty(),
+    )
+}
+
+/// Whether a call takes so many bytes, and whether it ends a block with them.
+fn takes(splitter: &mut Splitter, piece: &[u8], used: usize, whole: bool) -> bool {
+    splitter.take(piece) == Ok(Taken { used, whole })
+}
+
+/// Whether each call ends at the first complete block.
+fn each_call_ends_a_block(alloc: Global) -> Result<bool, AllocError> {
+    let mut splitter = Splitter::new(alloc)?;
+    let mut input = Vec::new(alloc);
     let block = b"C: add\nP: /devices/pci0000:00/0000:00:14.0\nU: pci\nN: 123\n".as_slice();
     for _ in 0..3 {
         input.extend_from_slice(block)?;
         input.push(b'\n')?;
     }
+    let mut well = takes(&mut splitter, b"\n\n\n\n\n\n\n\n\n\n", 10, false);
     for k in 0..3usize {
-        let taken = splitter.take(input.get(k * 58..).unwrap_or(b""));
-        assert!(rt;
-            taken
-                == Ok(Taken {
-                    used: 58,
-                    whole: true
-                })
-        );
-        assert_eq!(rt; splitter.block(), block);
+        let following = input.get(k * 58..).unwrap_or(b"");
+        well = takes(&mut splitter, following, 58, true) && splitter.block() == block && well;
     }
-    assert!(rt; splitter.end() == Ok(false));
-    Ok(())
+    Ok(well && splitter.end() == Ok(false))
+}
+
+/// Whether nothing is taken after the end, and nothing is lent.
+fn nothing_follows_the_end(alloc: Global) -> Result<bool, AllocError> {
+    let mut splitter = Splitter::new(alloc)?;
+    let well = splitter.take(b"C: add").is_ok()
+        && splitter.end() == Ok(true)
+        && splitter.block() == b"C: add".as_slice()
+        && splitter.take(b"x") == Err(SplitFault::Ended)
+        && splitter.block() == b"".as_slice()
+        && splitter.end() == Err(SplitFault::Ended)
+        && splitter.block() == b"".as_slice();
+    Ok(well)
 }
 
 #[test]
-fn nothing_comes_after_the_end(rt: HostRuntime) -> Result<(), Fail> {
-    let mut splitter = Splitter::new(rt.alloc())?;
-    assert!(rt; splitter.take(b"C: add").is_ok());
-    assert!(rt; splitter.end() == Ok(true));
-    assert_eq!(rt; splitter.block(), b"C: add".as_slice());
-    assert!(rt; splitter.take(b"x") == Err(SplitFault::Ended));
-    assert_eq!(rt; splitter.block(), b"".as_slice());
-    assert!(rt; splitter.end() == Err(SplitFault::Ended));
-    assert_eq!(rt; splitter.block(), b"".as_slice());
+fn blocks_do_not_depend_on_the_pieces(rt: HostRuntime) -> Result<(), Fail> {
+    let alloc = rt.alloc();
+    for size in [1, 2, 3, 7, 8, 99] {
+        assert!(rt; blocks_are_cut(alloc, size)?);
+    }
+    for size in [1, 4096, 65_537] {
+        assert!(rt; longest_is_cut(alloc, size)?);
+    }
+    assert!(rt; each_call_ends_a_block(alloc)?);
+    assert!(rt; nothing_follows_the_end(alloc)?);
     Ok(())
 }
 
-/// Whether a block is refused because its first line has no action.
-fn has_no_action(alloc: Global, block: &[u8]) -> bool {
+/// The line and the kind of what is wrong with a block, if anything is.
+fn fault_of(alloc: Global, block: &[u8]) -> Option<(usize, BlockFaultKind)> {
     match read_block(alloc, block) {
-        Ok(_) => false,
-        Err(fault) => fault.line == 1 && fault.kind == BlockFaultKind::NoAction,
+        Ok(_event) => None,
+        Err(fault) => Some((fault.line, fault.kind)),
     }
 }
 
-#[test]
-fn an_empty_text_is_no_block(rt: HostRuntime) {
-    assert!(rt; has_no_action(rt.alloc(), b""));
+/// Whether a block of 65,536 bytes is read, and one with a byte more is too long in its last line.
+fn longest_is_read(alloc: Global) -> Result<bool, AllocError> {
+    let longest = block_with(alloc, 65_509)?;
+    let too_long = block_with(alloc, 65_510)?;
+    Ok(
+        longest.len() == 65_536
+            && fault_of(alloc, &longest).is_none()
+            && fault_of(alloc, &too_long) == Some((3, BlockFaultKind::TooLong)),
+    )
 }
 
 /// A block with a constant, two programs and a parent that has only one attribute.
@@ -184,11 +196,6 @@ fn is_read(alloc: Global) -> bool {
     }
 }
 
-#[test]
-fn an_event_lends_what_its_block_says(rt: HostRuntime) {
-    assert!(rt; is_read(rt.alloc()));
-}
-
 /// Whether what is known begins with the event's own properties and links, and nothing is selected.
 fn is_begun(state: &State<'_>) -> bool {
     state.property(b"ACTION") == b"change".as_slice()
@@ -229,8 +236,13 @@ fn block_begins_and_clears(alloc: Global) -> bool {
 }
 
 #[test]
-fn what_is_known_begins_with_the_event_and_is_cleared(rt: HostRuntime) {
-    assert!(rt; block_begins_and_clears(rt.alloc()));
+fn an_event_is_read_and_what_is_known_begins_with_it(rt: HostRuntime) -> Result<(), Fail> {
+    let alloc = rt.alloc();
+    assert!(rt; fault_of(alloc, b"") == Some((1, BlockFaultKind::NoAction)));
+    assert!(rt; longest_is_read(alloc)?);
+    assert!(rt; is_read(alloc));
+    assert!(rt; block_begins_and_clears(alloc));
+    Ok(())
 }
 
 /// A note that a name was not given.
@@ -243,18 +255,18 @@ fn note(alloc: Global, line: u32) -> Result<Note, AllocError> {
     })
 }
 
-#[test]
-fn a_list_of_notes_is_given_and_taken(rt: HostRuntime) -> Result<(), Fail> {
-    let alloc = rt.alloc();
+/// Whether notes are made from a list, and give it back with one more.
+fn notes_are_given(alloc: Global) -> Result<bool, AllocError> {
     let mut notes = Notes::from_vec(vec![in alloc; note(alloc, 2)?, note(alloc, 1)?]?);
     notes.add(note(alloc, 3)?)?;
-    assert!(rt; notes.as_slice().len() == 3);
+    let count = notes.as_slice().len();
     let held = notes.into_vec();
-    assert!(rt; held.len() == 3);
-    for (note, line) in held.iter().zip([2, 1, 3]) {
-        assert!(rt; note.line == line);
-    }
-    Ok(())
+    Ok(match held.as_slice() {
+        [first, second, third] => {
+            count == 3 && first.line == 2 && second.line == 1 && third.line == 3
+        }
+        _ => false,
+    })
 }
 
 /// A program to be run.
@@ -265,18 +277,27 @@ fn command(alloc: Global, text: &[u8]) -> Result<Command, AllocError> {
     })
 }
 
-#[test]
-fn a_list_of_commands_is_given_and_taken(rt: HostRuntime) -> Result<(), Fail> {
-    let alloc = rt.alloc();
+/// Whether commands are made from a list, and give it back.
+fn commands_are_given(alloc: Global) -> Result<bool, AllocError> {
     let commands = Commands::from_vec(vec![in alloc;
         command(alloc, b"b")?,
         command(alloc, b"a")?,
     ]?);
-    assert!(rt; commands.as_slice().len() == 2);
+    let count = commands.as_slice().len();
     let held = commands.into_vec();
-    assert!(rt; held.len() == 2);
-    for (command, text) in held.iter().zip([b"b".as_slice(), b"a"]) {
-        assert!(rt; command.text.as_slice() == text);
-    }
+    Ok(match held.as_slice() {
+        [first, second] => {
+            count == 2
+                && first.text.as_slice() == b"b".as_slice()
+                && second.text.as_slice() == b"a".as_slice()
+        }
+        _ => false,
+    })
+}
+
+#[test]
+fn notes_and_commands_are_given_and_taken(rt: HostRuntime) -> Result<(), Fail> {
+    assert!(rt; notes_are_given(rt.alloc())?);
+    assert!(rt; commands_are_given(rt.alloc())?);
     Ok(())
 }

@@ -26,46 +26,50 @@ const PATH: SessionFault = SessionFault::Block(
     },
 );
 
-#[test]
-fn faults_with_places_report_them(rt: HostRuntime) -> Result<(), Fail> {
-    let alloc = rt.alloc();
-    assert!(rt;
-        says(
-            alloc,
-            &GlobFault::Class { at: 3 },
-            "class not supported at byte 3"
-        )?
-    );
+/// Whether faults with places say them.
+fn places_are_said(alloc: Global) -> Result<bool, AllocError> {
     let token = TokenFault {
         at: 7,
         kind: TokenFaultKind::Prefix,
     };
-    assert!(rt; says(alloc, &token, "bad quote prefix at byte 7")?);
-    assert!(rt; says(alloc, &SplitFault::TooLong { line: 3 }, "line 3: too long")?);
-    assert!(rt; says(alloc, &PATH, "block 2, line 3: path")?);
-    assert!(rt; says(alloc, &TurnFault::Session(PATH), "block 2, line 3: path")?);
-    Ok(())
+    let class = GlobFault::Class { at: 3 };
+    Ok(
+        says(alloc, &class, "class not supported at byte 3")?
+            && says(alloc, &token, "bad quote prefix at byte 7")?
+            && says(alloc, &SplitFault::TooLong { line: 3 }, "line 3: too long")?
+            && says(alloc, &PATH, "block 2, line 3: path")?
+            && says(alloc, &TurnFault::Session(PATH), "block 2, line 3: path")?,
+    )
 }
 
-#[test]
-fn faults_are_reported_in_words(rt: HostRuntime) -> Result<(), Fail> {
-    let alloc = rt.alloc();
-    assert!(rt; says(alloc, &HwdbFault::TooMany, "too many entries")?);
-    assert!(rt; says(alloc, &TrieFault::TooLarge, "trie too large")?);
-    assert!(rt; says(alloc, &IndexFault::Magic, "magic")?);
-    assert!(rt; says(alloc, &TemplateFault::Unknown, "unknown substitution")?);
-    assert!(rt; says(alloc, &RulesFault::TooMany, "too many tokens")?);
-    assert!(rt; says(alloc, &DeviceFault, "device failed")?);
-    assert!(rt; says(alloc, &DiskFault::Absent, "not found")?);
-    Ok(())
+/// Whether faults without a place say what is wrong.
+fn words_are_said(alloc: Global) -> Result<bool, AllocError> {
+    Ok(
+        says(alloc, &HwdbFault::TooMany, "too many entries")?
+            && says(alloc, &TrieFault::TooLarge, "trie too large")?
+            && says(alloc, &IndexFault::Magic, "magic")?
+            && says(alloc, &TemplateFault::Unknown, "unknown substitution")?
+            && says(alloc, &RulesFault::TooMany, "too many tokens")?
+            && says(alloc, &DeviceFault, "device failed")?
+            && says(alloc, &DiskFault::Absent, "not found")?,
+    )
 }
 
-#[test]
-fn faults_print_the_texts_that_they_hold(rt: HostRuntime) -> Result<(), Fail> {
-    let alloc = rt.alloc();
+/// Whether faults say the texts that they hold.
+fn texts_are_said(alloc: Global) -> Result<bool, AllocError> {
     let usage = LineFault::Usage(format!(in alloc; "no such option")?);
-    assert!(rt; says(alloc, &usage, "no such option")?);
     let path = ReadFault::Path(format!(in alloc; "/etc/udev/rules.d")?);
-    assert!(rt; says(alloc, &path, "cannot read /etc/udev/rules.d")?);
+    Ok(
+        says(alloc, &usage, "no such option")?
+            && says(alloc, &path, "cannot read /etc/udev/rules.d")?,
+    )
+}
+
+#[test]
+fn faults_are_printed(rt: HostRuntime) -> Result<(), Fail> {
+    let alloc = rt.alloc();
+    assert!(rt; places_are_said(alloc)?);
+    assert!(rt; words_are_said(alloc)?);
+    assert!(rt; texts_are_said(alloc)?);
     Ok(())
 }

@@ -1,12 +1,12 @@
 //! A disk over memory.
-
+use crate::runs::line;
 use devdry_files::{
     Disk, DiskFault, DiskNode, MemoryDisk, MemoryEntry, MemoryPlace, ReadFault, read_all, wanted,
 };
-use engine_ends::{Format, Line, Verb};
-use std::alloc::{AllocError, Global};
+use engine_ends::Verb;
+use std::alloc::Global;
 use std::test::Fail;
-use text_bytes::{Profile, SourceFile};
+use text_bytes::SourceFile;
 
 const ENTRIES: [MemoryEntry; 4] = [
     MemoryEntry {
@@ -52,77 +52,65 @@ const PLACES: [MemoryPlace; 5] = [
 
 const DISK: MemoryDisk = MemoryDisk { places: &PLACES };
 
-// The files that a check of all rules below a root reads from the disk.
+/// The files that a check of all rules below a root reads from the disk.
 fn read(alloc: Global, root: &str) -> Result<Vec<SourceFile>, ReadFault> {
-    let line = Line {
-        verb: Verb::Verify,
-        root,
-        files: Vec::new(alloc),
-        index: None,
-        strict: false,
-        sources: false,
-        why: Vec::new(alloc),
-        questions: false,
-        modalias: "",
-        summary: true,
-        style: true,
-        lint: false,
-        format: Format::Plain,
-        all: false,
-        ignored: Vec::new(alloc),
-        profile: Profile::Manual,
-        users: None,
-        groups: None,
-    };
+    let mut line = line(alloc, Verb::Verify, "");
+    line.root = root;
     let wanted = wanted(alloc, &line)?;
     read_all(alloc, &DISK, &wanted)
 }
 
-fn fault_path(alloc: Global, root: &str) -> Result<Option<String>, AllocError> {
+/// Whether a file has this name and these bytes.
+fn is_file(file: Option<&SourceFile>, name: &[u8], bytes: &[u8]) -> bool {
+    match file {
+        Some(file) => file.name.as_slice() == name && file.bytes.as_slice() == bytes,
+        None => false,
+    }
+}
+
+/// Whether the files that it holds are read in the order of their names, folders and other files left out.
+fn files_are_read(alloc: Global) -> Result<bool, ReadFault> {
+    let files = read(alloc, "/r")?;
+    Ok(
+        files.len() == 2
+            && is_file(files.first(), b".rules", b"dot")
+            && is_file(files.last(), b"b.rules", b"B")
+            && read(alloc, "/absent")?.is_empty(),
+    )
+}
+
+/// Whether a check below a root fails at this path.
+fn fails_at(alloc: Global, root: &str, path: &str) -> bool {
     match read(alloc, root) {
-        Err(ReadFault::Path(path)) => Ok(Some(path)),
-        _ => Ok(None),
+        Err(ReadFault::Path(found)) => found.as_str() == path,
+        _ => false,
     }
 }
 
-#[test]
-fn answers_what_it_holds(rt: HostRuntime) -> Result<(), Fail> {
-    let files = read(rt.alloc(), "/r")?;
-    assert_eq!(rt; files.len(), 2);
-    assert_eq!(rt; files[0].name.as_slice(), b".rules".as_slice());
-    assert_eq!(rt; files[0].bytes.as_slice(), b"dot".as_slice());
-    assert_eq!(rt; files[1].name.as_slice(), b"b.rules".as_slice());
-    assert_eq!(rt; files[1].bytes.as_slice(), b"B".as_slice());
-    assert!(rt; read(rt.alloc(), "/absent")?.is_empty());
-    let unlisted = fault_path(rt.alloc(), "/s")?;
-    assert_eq!(rt; unlisted.as_deref(), Some("/s/run/udev/rules.d"));
-    let absent = fault_path(rt.alloc(), "/t")?;
-    assert_eq!(rt; absent.as_deref(), Some("/t/usr/lib/udev/rules.d/.rules"));
-    Ok(())
+/// Whether a path is neither listed nor read, for these reasons.
+fn has_no_answer(alloc: Global, path: &str, unlisted: DiskFault, unread: DiskFault) -> bool {
+    DISK.list(alloc, path).err() == Some(unlisted) && DISK.read(alloc, path).err() == Some(unread)
 }
 
 #[test]
-fn says_why_it_has_no_answer(rt: HostRuntime) -> Result<(), Fail> {
-    for (path, unlisted, unread) in [
-        ("/r", DiskFault::Absent, DiskFault::Absent),
-        (
-            "/s/run/udev/rules.d",
+fn a_disk_answers_what_it_holds(rt: HostRuntime) -> Result<(), Fail> {
+    let alloc = rt.alloc();
+    assert!(rt; files_are_read(alloc)?);
+    assert!(rt; fails_at(alloc, "/s", "/s/run/udev/rules.d"));
+    assert!(rt; fails_at(alloc, "/t", "/t/usr/lib/udev/rules.d/.rules"));
+    assert!(rt; has_no_answer(alloc, "/r", DiskFault::Absent, DiskFault::Absent));
+    let unreadable = "/s/run/udev/rules.d";
+    assert!(rt;
+        has_no_answer(
+            alloc,
+            unreadable,
             DiskFault::Unreadable,
-            DiskFault::Unreadable,
-        ),
-    ] {
-        assert_eq!(rt; DISK.list(rt.alloc(), path).err(), Some(unlisted), "{path}");
-        assert_eq!(rt; DISK.read(rt.alloc(), path).err(), Some(unread), "{path}");
-    }
+            DiskFault::Unreadable
+        )
+    );
     let file = "/r/etc/udev/rules.d/b.rules";
-    assert_eq!(rt;
-        DISK.list(rt.alloc(), file).err(),
-        Some(DiskFault::Unreadable)
-    );
+    assert!(rt; DISK.list(alloc, file).err() == Some(DiskFault::Unreadable));
     let folder = "/r/etc/udev/rules.d";
-    assert_eq!(rt;
-        DISK.read(rt.alloc(), folder).err(),
-        Some(DiskFault::Unreadable)
-    );
+    assert!(rt; DISK.read(alloc, folder).err() == Some(DiskFault::Unreadable));
     Ok(())
 }

@@ -1,9 +1,8 @@
 //! What tokens, templates and rules show only to a caller.
 use rule_core::{ReadRules, Rule, read_rules};
 use rule_templates::{Piece, Template, TemplateFault};
-use rule_tokens::{Operator, Quote, Span, TokenFault, TokenFaultKind, Tokens, unquote};
+use rule_tokens::{Operator, Quote, Span, Token, TokenFault, TokenFaultKind, Tokens};
 use std::alloc::{AllocError, Global};
-use std::process::Abort;
 use std::test::Fail;
 use text_bytes::{Bytes, FileKind, SourceFile};
 
@@ -18,6 +17,11 @@ fn ending(line: &[u8]) -> (u32, Option<TokenFault>) {
         }
     }
     (count, fault)
+}
+
+/// Whether a line ends after so many tokens with a fault of this kind at this place.
+fn ends_with(line: &[u8], tokens: u32, at: usize, kind: TokenFaultKind) -> bool {
+    ending(line) == (tokens, Some(TokenFault { at, kind }))
 }
 
 /// How many bytes of a line its tokens take up, each cut from the line by its span; if a span leaves the line, a
@@ -37,50 +41,32 @@ fn token_bytes(line: &[u8]) -> usize {
     count
 }
 
-fn refuses(rt: &impl Abort, line: &[u8], kind: TokenFaultKind) {
-    assert_eq!(rt; ending(line), (0, Some(TokenFault { at: 0, kind })));
+/// Whether a token is a match of the kernel's name `a"b`, from the first byte of the line on.
+fn is_match(token: &Token<'_>) -> bool {
+    token.key() == b"KERNEL".as_slice()
+        && token.attribute().is_none()
+        && token.operator() == Operator::Equal
+        && token.quote() == Quote::Plain
+        && token.value() == br#"a\"b"#.as_slice()
+        && token.span() == Span { start: 0, end: 14 }
 }
 
-#[test]
-fn two_tokens(rt: HostRuntime) -> Result<(), Fail> {
-    let line = br#"KERNEL=="a\"b", ENV{k}=e"\x41\102\n""#;
+/// Whether a token assigns a text with escapes to the property k.
+fn is_assignment(token: &Token<'_>) -> bool {
+    token.key() == b"ENV".as_slice()
+        && token.attribute() == Some(b"k".as_slice())
+        && token.operator() == Operator::Assign
+        && token.quote() == Quote::Escaped
+        && token.span() == Span { start: 16, end: 36 }
+}
+
+/// Whether a line has these two tokens and no other.
+fn has_two_tokens(line: &[u8]) -> bool {
     let mut tokens = Tokens::new(line);
-    let first = tokens.next().ok_or("no first token")??;
-    assert_eq!(rt; first.key(), b"KERNEL".as_slice());
-    assert_eq!(rt; first.attribute(), None);
-    assert_eq!(rt; first.operator(), Operator::Equal);
-    assert_eq!(rt; first.quote(), Quote::Plain);
-    assert_eq!(rt; first.value(), br#"a\"b"#.as_slice());
-    assert_eq!(rt; first.span(), Span { start: 0, end: 14 });
-    let second = tokens.next().ok_or("no second token")??;
-    assert_eq!(rt; second.key(), b"ENV".as_slice());
-    assert_eq!(rt; second.attribute(), Some(b"k".as_slice()));
-    assert_eq!(rt; second.operator(), Operator::Assign);
-    assert_eq!(rt; second.quote(), Quote::Escaped);
-    assert_eq!(rt; second.span(), Span { start: 16, end: 36 });
-    assert!(rt; tokens.next().is_none());
-    Ok(())
-}
-
-/// Whether what the value of a line's first token means is this.
-fn first_means(alloc: Global, line: &[u8], wanted: &[u8]) -> Result<bool, Fail> {
-    let token = Tokens::new(line).next().ok_or("no item")??;
-    let meaning = unquote(alloc, &token)?;
-    Ok(meaning.as_slice() == wanted)
-}
-
-#[test]
-fn values_are_unquoted(rt: HostRuntime) -> Result<(), Fail> {
-    for (line, wanted) in [
-        (br#"KERNEL=="a\"b""#.as_slice(), br#"a"b"#.as_slice()),
-        (br#"ENV{k}=e"\x41\102\n""#, b"AB\n"),
-        (br#"A=e"\s\u00E9""#, b" \xC3\xA9"),
-        (br#"KERNEL==ie"\x41""#, b"A"),
-        (br#"KERNEL!=i"\x41""#, br#"\x41"#),
-    ] {
-        assert!(rt; first_means(rt.alloc(), line, wanted)?);
-    }
-    Ok(())
+    let (Some(Ok(first)), Some(Ok(second))) = (tokens.next(), tokens.next()) else {
+        return false;
+    };
+    is_match(&first) && is_assignment(&second) && tokens.next().is_none()
 }
 
 /// How the value of a line's first token is quoted, if there is one.
@@ -92,61 +78,39 @@ fn first_quote(line: &[u8]) -> Option<Quote> {
 }
 
 #[test]
-fn quotes_that_ignore_case(rt: HostRuntime) {
+fn tokens_show_their_parts_and_the_place_of_a_fault(rt: HostRuntime) {
+    assert!(rt; has_two_tokens(br#"KERNEL=="a\"b", ENV{k}=e"\x41\102\n""#));
     assert!(rt; first_quote(br#"KERNEL==ie"\x41""#) == Some(Quote::BlindEscaped));
     assert!(rt; first_quote(br#"KERNEL==ei"\x41""#) == Some(Quote::BlindEscaped));
     assert!(rt; first_quote(br#"KERNEL!=i"\x41""#) == Some(Quote::Blind));
-}
-
-#[test]
-fn a_fault_is_at_the_first_byte_of_its_token(rt: HostRuntime) {
-    refuses(&rt, b"", TokenFaultKind::Syntax);
-    refuses(&rt, br#" A="x""#, TokenFaultKind::Syntax);
-    refuses(&rt, br#"KERNEL=="a"#, TokenFaultKind::Syntax);
-    refuses(&rt, br#"KERNEL=="a\\"#, TokenFaultKind::Syntax);
-    refuses(&rt, br#"A=e"\400""#, TokenFaultKind::Syntax);
-    refuses(&rt, br#"A=e"\uD800""#, TokenFaultKind::Syntax);
-    refuses(&rt, br#"KERNEL==x"a""#, TokenFaultKind::Prefix);
-    let fault = TokenFault {
-        at: 12,
-        kind: TokenFaultKind::Syntax,
-    };
-    assert_eq!(rt; ending(br#"KERNEL=="a" "b""#), (1, Some(fault)));
-}
-
-#[test]
-fn spans_cut_the_line(rt: HostRuntime) {
-    assert_eq!(rt; token_bytes(br#"A="1", B=="22" ,"#), 12);
-    assert_eq!(rt; token_bytes(br#"A="1", B="#), 5);
-}
-
-#[test]
-fn a_template_lends_its_text_and_its_pieces(rt: HostRuntime) -> Result<(), Fail> {
-    let template = Template::read(rt.alloc(), b"%c{2+}$kernelx%%%c{02}")?;
-    assert_eq!(rt; template.written(), b"%c{2+}$kernelx%%%c{02}".as_slice());
-    assert!(rt; template.pieces().len() == 5);
-    assert!(rt; matches!(template.pieces().first(), Some(Piece::From(2))));
-    assert!(rt; matches!(template.pieces().last(), Some(Piece::Word(2))));
-    Ok(())
-}
-
-#[test]
-fn a_template_has_its_first_fault(rt: HostRuntime) {
-    for (text, fault) in [
-        (b"$nope".as_slice(), TemplateFault::Unknown),
-        (b"$sysfs", TemplateFault::Unknown),
-        (b"50%", TemplateFault::Unknown),
-        (b"$attr", TemplateFault::Brace),
-        (b"$env{}", TemplateFault::Brace),
-        (b"%s{a", TemplateFault::Brace),
-        (b"%c{2", TemplateFault::Brace),
-        (b"%c{0}", TemplateFault::Number),
-        (b"%c{65536}", TemplateFault::Number),
-        (b"%c{+}", TemplateFault::Number),
-        (b"%k$env{}$nope", TemplateFault::Brace),
+    assert!(rt; token_bytes(br#"A="1", B=="22" ,"#) == 12);
+    assert!(rt; token_bytes(br#"A="1", B="#) == 5);
+    for line in [
+        b"".as_slice(),
+        br#" A="x""#,
+        br#"KERNEL=="a"#,
+        br#"A=e"\400""#,
     ] {
-        assert!(rt; Template::read(rt.alloc(), text).err() == Some(fault));
+        assert!(rt; ends_with(line, 0, 0, TokenFaultKind::Syntax));
     }
+    assert!(rt; ends_with(br#"KERNEL==x"a""#, 0, 0, TokenFaultKind::Prefix));
+    assert!(rt; ends_with(br#"KERNEL=="a" "b""#, 1, 12, TokenFaultKind::Syntax));
+}
+
+/// Whether a template lends its text and its five pieces.
+fn template_is_lent(alloc: Global, text: &[u8]) -> Result<bool, Fail> {
+    let template = Template::read(alloc, text)?;
+    Ok(
+        template.written() == text
+            && template.pieces().len() == 5
+            && matches!(template.pieces().first(), Some(Piece::From(2)))
+            && matches!(template.pieces().last(), Some(Piece::Word(2))),
+    )
+}
+
+/// Whether a text is no template, for this reason.
+fn template_has_fault(alloc: Global, text: &[u8], fault: TemplateFault) -> bool {
+    Template::read(alloc, text).err() == Some(fault)
 }
 
 /// One file of rules.
@@ -177,37 +141,64 @@ fn has_one_of_each(rule: &Rule) -> bool {
         && rule.sets().len() == 1
 }
 
-/// The set of one file of rules.
-fn set_of(alloc: Global, name: &[u8], text: &[u8]) -> Result<ReadRules, Fail> {
+/// What is read of one file of rules.
+fn read(alloc: Global, name: &[u8], text: &[u8]) -> Result<ReadRules, Fail> {
     match read_rules(alloc, &files(alloc, name, text)?) {
-        Ok(set) => Ok(set),
+        Ok(read) => Ok(read),
         Err(_fault) => Err(Fail::from("no rules")),
     }
 }
 
-#[test]
-fn a_rule_lends_what_it_holds(rt: HostRuntime) -> Result<(), Fail> {
-    let text =
-        b"\nLABEL=\"l\", GOTO=\"g\", KERNEL==\"a\", KERNELS==\"b\", TEST==\"c\", RESULT==\"d\", ENV{A}=\"1\"\nLABEL=\"g\"";
-    let set = set_of(rt.alloc(), b"p.rules", text)?;
-    let [rule, _] = set.rules().rules() else {
-        return Err(Fail::from("there are two rules"));
-    };
-    assert!(rt; rule.file() == b"p.rules".as_slice());
-    assert!(rt; rule.line() == 2);
-    assert!(rt; is_name(rule.label(), b"l"));
-    assert!(rt; is_name(rule.goto(), b"g"));
-    assert!(rt; has_one_of_each(rule));
-    Ok(())
+/// A rule with a part of each kind, and the rule that it jumps to.
+const WITH_EACH: &[u8] =
+    b"\nLABEL=\"l\", GOTO=\"g\", KERNEL==\"a\", KERNELS==\"b\", TEST==\"c\", RESULT==\"d\", ENV{A}=\"1\"\nLABEL=\"g\"";
+
+/// Whether a rule lends all that it holds.
+fn rule_is_lent(alloc: Global) -> Result<bool, Fail> {
+    let read = read(alloc, b"p.rules", WITH_EACH)?;
+    Ok(match read.rules().rules() {
+        [rule, _] => {
+            rule.file() == b"p.rules".as_slice()
+                && rule.line() == 2
+                && is_name(rule.label(), b"l")
+                && is_name(rule.goto(), b"g")
+                && has_one_of_each(rule)
+        }
+        _ => false,
+    })
+}
+
+/// Whether rules are given away, the one with a jump that is reported without it.
+fn rules_are_given(alloc: Global) -> Result<bool, Fail> {
+    let read = read(alloc, b"g.rules", b"GOTO=\"y\", ENV{D}=\"1\"")?;
+    let count = read.messages().len();
+    let rules = read.into_rules().into_rules();
+    Ok(match rules.as_slice() {
+        [rule] => count == 1 && rule.goto().is_none() && rule.sets().len() == 1,
+        _ => false,
+    })
 }
 
 #[test]
-fn a_set_of_rules_gives_its_rules_away(rt: HostRuntime) -> Result<(), Fail> {
-    let set = set_of(rt.alloc(), b"g.rules", b"GOTO=\"y\", ENV{D}=\"1\"")?;
-    assert!(rt; set.messages().len() == 1);
-    let rules = set.into_rules().into_rules();
-    assert_eq!(rt; rules.len(), 1);
-    assert!(rt; rules[0].goto().is_none());
-    assert_eq!(rt; rules[0].sets().len(), 1);
+fn templates_and_rules_lend_what_they_hold(rt: HostRuntime) -> Result<(), Fail> {
+    let alloc = rt.alloc();
+    assert!(rt; template_is_lent(alloc, b"%c{2+}$kernelx%%%c{02}")?);
+    for (text, fault) in [
+        (b"$nope".as_slice(), TemplateFault::Unknown),
+        (b"$sysfs", TemplateFault::Unknown),
+        (b"50%", TemplateFault::Unknown),
+        (b"$attr", TemplateFault::Brace),
+        (b"$env{}", TemplateFault::Brace),
+        (b"%s{a", TemplateFault::Brace),
+        (b"%c{2", TemplateFault::Brace),
+        (b"%c{0}", TemplateFault::Number),
+        (b"%c{65536}", TemplateFault::Number),
+        (b"%c{+}", TemplateFault::Number),
+        (b"%k$env{}$nope", TemplateFault::Brace),
+    ] {
+        assert!(rt; template_has_fault(alloc, text, fault));
+    }
+    assert!(rt; rule_is_lent(alloc)?);
+    assert!(rt; rules_are_given(alloc)?);
     Ok(())
 }

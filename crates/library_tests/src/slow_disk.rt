@@ -6,12 +6,12 @@ use std::fs::{Files, Metadata, OpenFile, OpenOptions};
 use std::io::{self, Empty, Read, Seek, SeekFrom, Write};
 use std::test::Fail;
 
-// What is never asked for when a disk reads a file.
+/// What is never asked for when a disk reads a file.
 fn unsupported<T>() -> io::Result<T> {
     Err(io::Error::from(io::ErrorKind::Unsupported))
 }
 
-// A file that gives one byte in a call, is interrupted before each, and fails at its end or not.
+/// A file that gives one byte in a call, is interrupted before each, and fails at its end or not.
 #[derive(Drop)]
 struct SlowFile {
     left: u32,
@@ -73,7 +73,7 @@ impl OpenFile for SlowFile {
     }
 }
 
-// A runtime with such a file of 100,000 bytes at each path.
+/// A runtime with such a file of 100,000 bytes at each path.
 #[derive(Clone, Copy)]
 struct SlowFiles {
     fails: bool,

@@ -59,95 +59,108 @@ fn sizes_read<R: Source>(alloc: Global, source: &mut R) -> Result<(Vec<usize>, b
     Ok((sizes, false))
 }
 
+/// Whether a source gives pieces of these sizes, and whether it then ends or fails.
+fn gives<R: Source>(
+    alloc: Global,
+    source: &mut R,
+    wanted: &[usize],
+    ends: bool,
+) -> Result<bool, Fail> {
+    let (sizes, at_end) = sizes_read(alloc, source)?;
+    Ok(sizes.as_slice() == wanted && at_end == ends)
+}
+
+/// The six bytes abcdef, of which so many reads give at most so many each, and fail at a place.
+fn six(alloc: Global, reads: usize, each: usize, fails_at: usize) -> Result<MemorySource, Fail> {
+    let bytes = Vec::from_slice(alloc, b"abcdef")?;
+    Ok(MemorySource::new(alloc, bytes, reads, each, fails_at)?)
+}
+
 #[test]
 fn sources_give_pieces_up_to_the_end(rt: HostRuntime) -> Result<(), Fail> {
     let alloc = rt.alloc();
-    for (each, fails_at, want, ends) in [
-        (9, 99, [4, 2].as_slice(), true),
-        (3, 99, [3, 3].as_slice(), true),
-        (3, 5, [3, 2].as_slice(), false),
-        (0, 99, [].as_slice(), false),
-        (9, 6, [4, 2].as_slice(), true),
+    for (reads, each, fails_at, wanted, ends) in [
+        (9, 9, 99, [4, 2].as_slice(), true),
+        (9, 3, 99, [3, 3].as_slice(), true),
+        (9, 3, 5, [3, 2].as_slice(), false),
+        (9, 0, 99, [].as_slice(), false),
+        (9, 9, 6, [4, 2].as_slice(), true),
+        (1, 9, 99, [4].as_slice(), false),
     ] {
-        let bytes = Vec::from_slice(alloc, b"abcdef")?;
-        let mut source = MemorySource::new(alloc, bytes, 9, each, fails_at)?;
-        let (sizes, at_end) = sizes_read(alloc, &mut source)?;
-        assert_eq!(rt; sizes.as_slice(), want);
-        assert_eq!(rt; at_end, ends);
+        let mut source = six(alloc, reads, each, fails_at)?;
+        assert!(rt; gives(alloc, &mut source, wanted, ends)?);
     }
-    let mut short = MemorySource::new(alloc, Vec::from_slice(alloc, b"abcdef")?, 1, 9, 99)?;
-    let (sizes, at_end) = sizes_read(alloc, &mut short)?;
-    assert_eq!(rt; sizes.as_slice(), [4].as_slice());
-    assert!(rt; !at_end);
     let text: &[u8] = b"abcdef";
-    let (sizes, at_end) = sizes_read(alloc, &mut SourceOver::new(text))?;
-    assert_eq!(rt; sizes.as_slice(), [4, 2].as_slice());
-    assert!(rt; at_end);
+    assert!(rt; gives(alloc, &mut SourceOver::new(text), &[4, 2], true)?);
+    let mut failing = SourceOver::new(Failing { calls: 2 });
+    assert!(rt; gives(alloc, &mut failing, &[1, 1], false)?);
     Ok(())
 }
 
-#[test]
-fn whole_texts_go_out(rt: HostRuntime) -> Result<(), Fail> {
-    let alloc = rt.alloc();
+/// Whether a sink of so much room takes this of a text, and shows it once it is flushed.
+fn takes(alloc: Global, room: usize, each: usize, wanted: &[u8]) -> Result<bool, Fail> {
     let text = b"abcdef".as_slice();
-    for (room, each, want) in [
-        (9, 9, text),
-        (9, 1, text),
-        (6, 4, text),
-        (4, 3, b"abcd".as_slice()),
-        (9, 0, b"".as_slice()),
-        (0, 9, b"".as_slice()),
-    ] {
-        let mut sink = MemorySink::new(alloc, room, each)?;
-        let whole = want.len() == text.len();
-        assert_eq!(rt; write_all(&mut sink, text).is_ok(), whole);
-        assert_eq!(rt; sink.bytes_taken(), want);
-        assert_eq!(rt; sink.faults() > 0, !whole);
-        assert!(rt; sink.bytes_flushed().is_empty());
-        assert!(rt; sink.flush().is_ok());
-        assert_eq!(rt; sink.bytes_flushed(), want);
-    }
-    let mut over = SinkOver::new(Vec::new(alloc));
-    assert!(rt; write_all(&mut over, text).is_ok());
-    assert!(rt; over.flush().is_ok());
-    Ok(())
+    let mut sink = MemorySink::new(alloc, room, each)?;
+    let is_whole = wanted.len() == text.len();
+    let is_taken = write_all(&mut sink, text).is_ok() == is_whole
+        && sink.bytes_taken() == wanted
+        && (sink.faults() > 0) != is_whole
+        && sink.bytes_flushed().is_empty();
+    Ok(is_taken && sink.flush().is_ok() && sink.bytes_flushed() == wanted)
 }
 
-#[test]
-fn texts_are_flushed_one_after_another(rt: HostRuntime) -> Result<(), Fail> {
-    let mut sink = MemorySink::new(rt.alloc(), 9, 2)?;
-    assert!(rt; hand_on(&mut sink, b"abc").is_ok());
-    assert_eq!(rt; sink.bytes_flushed(), b"abc".as_slice());
-    assert!(rt; hand_on_each(&mut sink, &[b"de", b"", b"f"]).is_ok());
-    assert_eq!(rt; sink.bytes_flushed(), b"abcdef".as_slice());
-    assert!(rt; hand_on_each(&mut sink, &[b"g", b"hij"]).is_err());
-    assert_eq!(rt; sink.bytes_taken(), b"abcdefghi".as_slice());
-    assert_eq!(rt; sink.bytes_flushed(), b"abcdef".as_slice());
-    Ok(())
+/// Whether texts that are handed on are flushed one after another, up to one that has no room.
+fn each_is_flushed(alloc: Global) -> Result<bool, Fail> {
+    let mut sink = MemorySink::new(alloc, 9, 2)?;
+    let is_first_flushed = hand_on(&mut sink, b"abc").is_ok()
+        && sink.bytes_flushed() == b"abc".as_slice();
+    let are_flushed = hand_on_each(&mut sink, &[b"de", b"", b"f"]).is_ok()
+        && sink.bytes_flushed() == b"abcdef".as_slice();
+    Ok(
+        is_first_flushed
+            && are_flushed
+            && hand_on_each(&mut sink, &[b"g", b"hij"]).is_err()
+            && sink.bytes_taken() == b"abcdefghi".as_slice()
+            && sink.bytes_flushed() == b"abcdef".as_slice(),
+    )
 }
 
-#[test]
-fn a_flush_can_be_made_to_fail(rt: HostRuntime) -> Result<(), Fail> {
-    let mut sink = MemorySink::new(rt.alloc(), 9, 9)?;
-    assert!(rt; write_all(&mut sink, b"ab").is_ok());
+/// Whether a flush that is made to fail does so, and shows nothing.
+fn flush_fails(alloc: Global) -> Result<bool, Fail> {
+    let mut sink = MemorySink::new(alloc, 9, 9)?;
+    let is_taken = write_all(&mut sink, b"ab").is_ok();
     sink.set_flushes_fail(true);
-    assert!(rt; sink.flush().is_err());
-    assert_eq!(rt; sink.faults(), 1);
-    assert!(rt; sink.bytes_flushed().is_empty());
-    Ok(())
+    Ok(is_taken && sink.flush().is_err() && sink.faults() == 1 && sink.bytes_flushed().is_empty())
+}
+
+/// Whether a text goes out over a stream that works for so many calls, and a flush after it.
+fn goes_out(calls: u8) -> (bool, bool) {
+    let mut sink = SinkOver::new(Failing { calls });
+    let is_written = write_all(&mut sink, b"abc").is_ok();
+    (is_written, sink.flush().is_ok())
 }
 
 #[test]
-fn failures_of_std_streams_are_faults(rt: HostRuntime) -> Result<(), Fail> {
-    let (sizes, at_end) = sizes_read(rt.alloc(), &mut SourceOver::new(Failing { calls: 2 }))?;
-    assert_eq!(rt; sizes.as_slice(), [1, 1].as_slice());
-    assert!(rt; !at_end);
-    let mut sink = SinkOver::new(Failing { calls: 2 });
-    assert!(rt; write_all(&mut sink, b"abc").is_err());
-    // a flush reaches the writer: it is the fourth call, and then the fifth, which fails
-    let mut sink = SinkOver::new(Failing { calls: 4 });
-    assert!(rt; write_all(&mut sink, b"abc").is_ok());
-    assert!(rt; sink.flush().is_ok());
-    assert!(rt; sink.flush().is_err());
+fn sinks_take_and_flush_up_to_a_fault(rt: HostRuntime) -> Result<(), Fail> {
+    let alloc = rt.alloc();
+    for (room, each, wanted) in [
+        (9, 9, b"abcdef".as_slice()),
+        (9, 1, b"abcdef"),
+        (6, 4, b"abcdef"),
+        (4, 3, b"abcd"),
+        (9, 0, b""),
+        (0, 9, b""),
+    ] {
+        assert!(rt; takes(alloc, room, each, wanted)?);
+    }
+    assert!(rt; each_is_flushed(alloc)?);
+    assert!(rt; flush_fails(alloc)?);
+    // a flush reaches the writer: after three bytes it is the fourth call
+    assert!(rt; goes_out(2) == (false, false));
+    assert!(rt; goes_out(3) == (true, false));
+    assert!(rt; goes_out(4) == (true, true));
+    let mut over = SinkOver::new(Vec::new(alloc));
+    assert!(rt; write_all(&mut over, b"abcdef").is_ok());
+    assert!(rt; over.flush().is_ok());
     Ok(())
 }

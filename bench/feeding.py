@@ -22,10 +22,10 @@ def peak_of(process):
     return int(kb) / 1024
 
 
-def feed(command, block, count, answers=os.devnull):
+def feed(command, block, count, answers=os.devnull, status=0):
     """The seconds of a run over so many copies of a block, and the peak memory in MB when the last was read.
 
-    `block` is bytes, and `answers` the path of the file for what the run prints.
+    `block` is bytes, `answers` the path of the file for what the run prints, and `status` the one that it has to end with.
     """
     source, pipe = os.pipe()
     begin = time.monotonic()
@@ -45,7 +45,7 @@ def feed(command, block, count, answers=os.devnull):
     except (BrokenPipeError, StopIteration):
         pass  # it ended early, and its status says how
     os.close(pipe)
-    status = os.waitstatus_to_exitcode(os.waitpid(child, 0)[1])
-    if status:
-        sys.exit(f"status {status}: {' '.join(command)}")
+    ended = os.waitstatus_to_exitcode(os.waitpid(child, 0)[1])
+    if ended != status:
+        sys.exit(f"status {ended}: {' '.join(command)}")
     return time.monotonic() - begin, peak

@@ -1,5 +1,5 @@
 #!/usr/bin/env bash
-# What the built program does when it is treated badly: blocks without end through a pipe, in constant memory; files,
+# What the built program does when it is treated badly: inputs without end through a pipe, in constant memory; files,
 # folders and pipes that fail half way (bench/odd_files.sh); the most expensive inputs of each kind, of which ten times as
 # much may take no more than fifteen times as long (bench/worst_inputs.py); and rules files, blocks, database files and
 # indexes that are damaged from a seed. Each of these runs has to end by itself with a status of the table in README.md,

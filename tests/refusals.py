@@ -15,11 +15,15 @@ which has to end in status 4.
 The same is done with the Nth call that opens, looks at, lists, reads or writes, alone and with all calls from there on:
 status 3, the beginning of the output, and the beginning of the messages with a line about what failed, as far as the error
 output accepts it. A name in a folder that can't be looked at is read as a file. If the system lacks memory for such a
-call, the status is 4, except for the input and the outputs, which have failed. Last, each read and write moves a single
-byte, which changes nothing.
+call, the status is 4, except for the input and the outputs, which have failed. A run with `--all`, and `files`, go on where
+a file or a folder can't be read: what they say then begins otherwise, and a line says what can't be read, and why; but a
+folder below lib, whose files are only counted, then has none.
 
-Prints for each row a line `ok ROW`, with how many growths were refused, how many of them were ahead of need, and how many
-calls; or `not ok ROW` with the first run that does otherwise.
+Last, each read and write moves a single byte, which changes nothing; and in one row of each command the Nth of these calls
+fails, for N = 1, 2, .., so that files, the input and the outputs fail at each byte.
+
+Prints for each row a line `ok ROW`, with how many growths were refused, how many of them were ahead of need, how many calls,
+and how many at single bytes; or `not ok ROW` with the first run that does otherwise.
 """
 import errno
 import os
@@ -32,6 +36,7 @@ from concurrent.futures import ThreadPoolExecutor
 OUT_OF_MEMORY = b"devdry: out of memory\n"
 FAILED = re.compile(rb"devdry: (write failed|read failed|cannot read [^\n]*)\n$")
 STREAM_FAILED = re.compile(rb"devdry: (write|read) failed\n$")
+UNREAD = re.compile(rb"^devdry: cannot read [^\n]*: [^\n]*\n", re.M)
 ALL = 2**63
 
 FIRST, SECOND = "usr/lib/udev/hwdb.d", "etc/udev/hwdb.d"
@@ -211,6 +216,19 @@ EMPTY_INDEX = bytes.fromhex("""\
 6465766472796877 02000000 01000000 00000000 00000000 00000000 00000000
 00000000 00000000 01000000 00000000 00000000 00000000""")
 
+RULES = "etc/udev/rules.d/r.rules"
+RULES_FOLDERS = ["etc/udev/rules.d", "run/udev/rules.d", "usr/local/lib/udev/rules.d", "usr/lib/udev/rules.d"]
+COMPARED = "event add /a\n-tag a\n+tag b\n\nevent add /b\n-tag a\n+tag b\n\n"
+LATER, EARLIER = "usr/lib/udev/rules.d", "etc/udev/rules.d"
+LISTED = f"""\
+./{EARLIER}/README: passed over: name does not end in .rules
+./{EARLIER}/a.rules: used
+./{LATER}/a.rules: hidden by ./{EARLIER}/a.rules
+./{EARLIER}/b.rules: used
+./{SECOND}/c.hwdb: used
+"""
+
+
 def as_bytes(text):
     return text.encode() if isinstance(text, str) else text
 
@@ -219,19 +237,21 @@ class Row:
     """A run: its words, the files that it finds, its input, and its result if memory is ample.
 
     `line` is the last line of the error output if the run fails. An output or a line of None is that of the run itself.
+    `each_byte` says whether calls that move single bytes are refused, too.
     """
 
-    def __init__(self, name, words, files=(), events="", output="", messages="", line="", status=0):
+    def __init__(self, name, words, files=(), events="", output="", messages="", line="", status=0, each_byte=False):
         self.name, self.words, self.files = name, words, dict(files)
         self.events, self.output, self.messages, self.line = map(as_bytes, (events, output, messages, line))
-        self.status = status
+        self.status, self.each_byte = status, each_byte
+        self.goes_on = words[0] == "files" or "--all" in words
 
 
 ROWS = [
     Row(
         "two files of one rank", ["query", "-r", ".", "mx"],
         {f"{FIRST}/60-a.hwdb": "m*\n A=1\n", f"{FIRST}/70-b.hwdb": "m*\n A=2\n", f"{FIRST}/80-c.txt": "m*\n A=3\n"},
-        output="A=2\n"),
+        output="A=2\n", each_byte=True),
     Row(
         "two files of one name", ["query", "--sources", "-r", ".", "mx"],
         {
@@ -242,7 +262,7 @@ ROWS = [
             f"{SECOND}/75-c.hwdb/inner": "",
         },
         output="60-a.hwdb:2: A=1\n"),
-    Row("a disk", ["events", "-r", "none", "r.rules"], {"r.rules": DISK_RULE}, DISK, DISK_ANSWER),
+    Row("a disk", ["events", "-r", "none", "r.rules"], {"r.rules": DISK_RULE}, DISK, DISK_ANSWER, each_byte=True),
     Row(
         "a disk with sources", ["events", "--sources", "-r", "none", "r.rules"], {"r.rules": DISK_RULE + 'RUN+="/bin/a"\n'},
         DISK, SOURCED_ANSWER),
@@ -286,7 +306,7 @@ ROWS = [
     Row(
         "a faulty database file", ["update", "-s", "s.hwdb"], {"s.hwdb": FAULTY_SOURCE},
         output=EMPTY_INDEX, messages=FAULTY_SOURCE_REPORTED, status=1),
-    Row("an index written", ["update", "t.hwdb"], {"t.hwdb": "a*\n K=V\n"}, output=INDEX),
+    Row("an index written", ["update", "t.hwdb"], {"t.hwdb": "a*\n K=V\n"}, output=INDEX, each_byte=True),
     Row("an index", ["query", "--index", "a.index", "abc"], {"a.index": INDEX}, output="K=V\n"),
     Row("an index, line by line", ["query", "--index", "a.index", "-"], {"a.index": INDEX}, "abc\nb\na", "K=V\n\n\nK=V\n\n"),
     Row("files, line by line", ["query", "--sources", "-", "t.hwdb"], {"t.hwdb": "a*\n K=V\n"}, "abc\nb", "t.hwdb:2: K=V\n\n\n"),
@@ -300,7 +320,49 @@ ROWS = [
     Row(
         "an absent file with an escaped name", ["verify", "a\n\x1bb\\"], line="devdry: cannot read a\\x0A\\x1Bb\\x5C\n",
         status=3),
-    Row("help", ["query", "--help"], output=None),
+    Row(
+        "two roots compared", ["compare", "old", "new"],
+        {f"old/{RULES}": 'FOO="1"\nTAG+="a", SYMLINK+="s"\n', f"new/{RULES}": 'TAG+="b", SYMLINK+="s"\n'},
+        "C: add\nP: /a\n\nC: add\nP: /b\n", COMPARED, "r.rules:1: V2 unknown key: FOO\n", status=1, each_byte=True),
+    Row(
+        "two roots compared as udev does, with an index", ["compare", "--udev", "--index", "a.index", "old", "new"],
+        {"a.index": INDEX, f"new/{RULES}": 'IMPORT{builtin}="hwdb abc"\n'}, "C: add\nP: /a\n", "event add /a\n+env K=V\n\n", status=1),
+    Row(
+        "a faulty block after a difference", ["compare", "old", "new"], {f"new/{RULES}": 'TAG+="a"\n'},
+        "C: add\nP: /a\n\nC: add\n", "event add /a\n+tag a\n\n", line="block 2, line 1: no device\n", status=1),
+    Row(
+        "modaliases after messages", ["query", "-", "s.hwdb"], {"s.hwdb": "m1\n\nm*\n A=1\n"}, "mx\n\nm", "A=1\n\n\nA=1\n\n",
+        "s.hwdb:1: H2 match without a property: m1\n", each_byte=True),
+    Row(
+        "a modalias that is too long", ["query", "-", "t.hwdb"], {"t.hwdb": "m*\n A=1\n"}, "mx\n" + "a" * 65537, "A=1\n\n",
+        line="devdry: line 2: too long\n", status=1),
+    Row(
+        "the files of folders", ["files", "-r", "."],
+        {f"{LATER}/a.rules": "", f"{EARLIER}/a.rules": "x", f"{EARLIER}/b.rules": "x", f"{EARLIER}/README": "", f"{SECOND}/c.hwdb": "x"},
+        output=LISTED, each_byte=True),
+    Row("a section on a code", ["explain", "S2"], output=None, each_byte=True),
+    Row(
+        "rules that are read as far as they can be", ["verify", "--all", "none.rules", "v.rules"], {"v.rules": "A\n"},
+        output="1 files checked, 0 good, 1 bad\n", messages="devdry: cannot read none.rules: no such file\nv.rules:1: V1 bad syntax: A\n", status=3,
+        each_byte=True),
+    Row(
+        "database files that are read as far as they can be", ["update", "--all", "-r", "."], {f"{FIRST}/60-a.hwdb": "a*\n K=V\n", f"{SECOND}/b.hwdb": "m\n"},
+        output=None, messages="b.hwdb:1: H2 match without a property: m\n"),
+    Row(
+        "no file to read", ["verify", "--all", "-r", "none"], output="0 files checked, 0 good, 0 bad\n",
+        messages="devdry: no files\n" + "".join(f"devdry: none/{folder}: absent\n" for folder in RULES_FOLDERS), status=1),
+    Row(
+        "rules read as udev does, with its accounts", ["verify", "--udev", "--users", "passwd", "--groups", "group", "o.rules"],
+        {"passwd": "root:x:0:0:::\n", "group": "disk:x:6:\n", "o.rules": 'OWNER="root", GROUP="disk"\nOWNER="nobody"\n'}, output=None, line=None,
+        status=None, each_byte=True),
+    *(Row(
+        f"faulty rules as {form}", ["verify", f"--format={form}", "--ignore", "S2", "f.rules"],
+        {"f.rules": 'FOO="x"\nKERNEL=="a",TAG+="t" NAME="b"\n'}, output=None, line=None, status=1) for form in ("gcc", "github", "gitlab", "json", "human")),
+    Row("a faulty database file as JSON", ["update", "--format", "json", "--ignore", "H5", "s.hwdb"], {"s.hwdb": "m1\n\nm2\n =x\n"}, output=EMPTY_INDEX, line=None),
+    Row(
+        "as udev does, with sources and what rules met", ["events", "--udev", "--sources", "--why", "w.rules", "-r", ".", "w.rules"], REPORTED_FILES, REPORTED,
+        None),
+    Row("help", ["query", "--help"], output=None, each_byte=True),
     Row("an unknown option", ["verify", "--none"], line=None, status=2),
 ]
 
@@ -358,6 +420,8 @@ def check_refused(which, done, row):
 def check_failed(which, done, row, call):
     """Checks a run in which a call failed."""
     check(which, done, done.returncode == 3, "the status is not 3")
+    if row.goes_on and call != "write" and UNREAD.search(done.stderr):
+        return
     check(which, done, row.output.startswith(done.stdout), "the output is not the beginning of the row's")
     line = FAILED.search(done.stderr)
     check(which, done, line or call == "write", "no message about the failure")
@@ -383,6 +447,12 @@ def refuse_growths(runs, row):
         growth += 1
 
 
+def goes_on_whole(done, row, call):
+    """Whether a run did everything although this call was refused: the look at a name in a folder, or, where a run goes on, a
+    folder that is only counted."""
+    return is_whole(done, row) and (call == "look" or row.goes_on and call in ("open", "list"))
+
+
 def refuse_calls(runs, row):
     """How many calls there were."""
     call = 1
@@ -390,7 +460,7 @@ def refuse_calls(runs, row):
         done, met = runs.without_calls(call, call, errno.EIO)
         if not met:
             return call - 1
-        if not (met == "look" and is_whole(done, row)):
+        if not goes_on_whole(done, row, met):
             check_failed(f"call {call} ({met})", done, row, met)
         done, met = runs.without_calls(call, ALL, errno.EIO)
         check_failed(f"each call from {call} on", done, row, "write")
@@ -399,6 +469,18 @@ def refuse_calls(runs, row):
             check_failed(f"call {call} ({met}) without memory", done, row, met)
         else:
             check_refused(f"call {call} ({met}) without memory", done, row)
+        call += 1
+
+
+def refuse_bytes(runs, row):
+    """How many calls there were if each read and write moves a byte."""
+    call = 1
+    while True:
+        done, met = runs.run(SHORT=1, CALLS_FROM=call, CALLS_TO=call, CALLS_FAULT=errno.EIO)
+        if not met:
+            return call - 1
+        if not goes_on_whole(done, row, met):
+            check_failed(f"call {call} ({met}) of a byte", done, row, met)
         call += 1
 
 
@@ -420,6 +502,7 @@ def tried(program, library, row):
         whole, _met = runs.run()
         row.output = whole.stdout if row.output is None else row.output
         row.line = whole.stderr if row.line is None else row.line
+        row.status = whole.returncode if row.status is None else row.status
         try:
             check("nothing refused", whole, is_whole(whole, row), "the result is not that of the row")
             growths, ahead = refuse_growths(runs, row)
@@ -427,9 +510,10 @@ def tried(program, library, row):
             done, _met = runs.run(SHORT=1)
             check("a byte in each call", done, is_whole(done, row), "the result is not that of the row")
             check("in all", done, growths and calls, "no growth or no call was refused")
+            moved = refuse_bytes(runs, row) if row.each_byte else 0
         except Wrong as wrong:
             return f"not ok {row.name}\n    {wrong}"
-    return f"ok {row.name} ({growths} growths, {ahead} of them ahead of need, {calls} calls)"
+    return f"ok {row.name} ({growths} growths, {ahead} of them ahead of need, {calls} calls" + (f", {moved} at single bytes)" if moved else ")")
 
 
 def main(program, library):

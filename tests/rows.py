@@ -9,6 +9,7 @@ usage: tests/rows.py PROGRAM [TABLE..]    without TABLE all of them
 import importlib
 import os
 import shutil
+import stat
 import subprocess
 import sys
 import tempfile
@@ -17,7 +18,7 @@ from pathlib import Path
 
 HERE = Path(__file__).resolve().parent
 sys.path.insert(0, str(HERE))
-from tables.kinds.row import FOLDER, PIPE, Begins, Link, Moded, Read, as_bytes  # noqa: E402
+from tables.kinds.row import FOLDER, PIPE, Begins, Device, Link, Moded, Read, as_bytes  # noqa: E402
 
 SECONDS = 60
 
@@ -38,6 +39,8 @@ def make_files(folder, files):
             path.mkdir()
         elif text is PIPE:
             os.mkfifo(path)
+        elif isinstance(text, Device):
+            os.mknod(path, 0o600 | (stat.S_IFBLK if text.is_block else stat.S_IFCHR), os.makedev(text.major, text.minor))
         elif isinstance(text, Link):
             path.symlink_to(text)
         else:
@@ -76,20 +79,26 @@ def run(started, row, folder):
     if row.plain:
         os.chmod(folder, 0o755)
     return started and subprocess.run(
-        [*started, *words], input=as_bytes(row.input), capture_output=True, cwd=folder, timeout=SECONDS)
+        [*started, *words], input=as_bytes(row.input), stdout=subprocess.PIPE, stderr=subprocess.STDOUT if row.together else subprocess.PIPE,
+        cwd=folder, timeout=SECONDS)
 
 
 def run_row(started, table, row):
     """Runs one row, and returns the lines that report it."""
     with tempfile.TemporaryDirectory() as folder:
-        make_files(folder, row.files)
+        try:
+            make_files(folder, row.files)
+        except PermissionError:
+            if not any(isinstance(text, Device) for text in row.files.values()):
+                raise
+            return [f"skipped {table}: {row.name}: only root makes device nodes"]
         try:
             came = run(started, row, folder)
         except subprocess.TimeoutExpired:
             return [f"not ok {table}: {row.name}", f"    not finished after {SECONDS} seconds"]
     if came is None:
         return [f"skipped {table}: {row.name}: root needs setpriv"]
-    wrong = differences("output", row.output, came.stdout) + differences("messages", row.messages, came.stderr)
+    wrong = differences("output", row.output, came.stdout) + differences("messages", row.messages, came.stderr or b"")
     if came.returncode != row.status:
         wrong.append(f"    status wanted: {row.status}, got: {came.returncode}")
     return [f"{'not ok' if wrong else 'ok'} {table}: {row.name}", *wrong]

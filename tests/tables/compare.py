@@ -115,11 +115,20 @@ ROOTS = [
         status=3),
 ]
 
+# Both outputs in one stream: the messages come before any difference, and what ended the run after all of them.
+TOGETHER = [
+    Row("messages come before the differences in one stream", ["compare", OLD, NEW], {placed(OLD): 'FOO="1"\n', placed(NEW): 'BAR="1"\nTAG+="t"\n'}, block(D),
+        "r.rules:1: V2 unknown key: FOO\nr.rules:1: V2 unknown key: BAR\n" + START + "+tag t\n\n", status=1, together=True),
+    Row("a faulty block comes after the differences in one stream", ["compare", OLD, NEW], {placed(NEW): 'FOO="1"\nTAG+="t"\n'}, block(D) + b"C: add\n",
+        "r.rules:1: V2 unknown key: FOO\n" + START + "+tag t\n\nblock 2, line 1: no device\n", status=1, together=True),
+]
+
 ROWS = [
     *CHANGES,
     *NOTES,
     *EVENTS,
     *ROOTS,
+    *TOGETHER,
     Row("only one root", ["compare", OLD], {},
         messages=Begins(b"error: the following required arguments were not provided:\n"), status=2),
     Row("an empty old root", ["compare", "", NEW], {}, block(D),

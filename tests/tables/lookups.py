@@ -95,4 +95,12 @@ BOUNDS = [
     Row("a line that is too long, with an index", "query --index i -", {"i": INDEX}, f"m\n{LONG}a\nm\n", output="A=1\nB=2\n\n", messages="devdry: line 2: too long\n", status=1),
 ]
 
-ROWS = ANSWERS + INDEXES + BOUNDS
+# Both outputs in one stream: the messages come before any answer, and what ended the run after all of them.
+TOGETHER = [
+    Row("messages come before the answers in one stream", "query - t.hwdb", {"t.hwdb": " A=1\n\nm\n B=2\n"}, "m\nx\n",
+        output="t.hwdb:1: H1 property without a match: A=1\nB=2\n\n\n", together=True),
+    Row("a line that is too long comes after the answers in one stream", "query - t.hwdb", {"t.hwdb": "m\n\nab\n A=1\n"}, f"ab\n{LONG}a\nab\n",
+        output="t.hwdb:1: H2 match without a property: m\nA=1\n\ndevdry: line 2: too long\n", status=1, together=True),
+]
+
+ROWS = ANSWERS + INDEXES + BOUNDS + TOGETHER

@@ -1,5 +1,8 @@
 -- What an error of the system means for a disk.
-use Rattle.std.specs.Prelude.{ℕ, List, None, Option, Some, Result, Ok, Err, alloc_error, codes}
+use Rattle.std.specs.Prelude.{◌≡◌, ◌⊎◌, ℕ, Bool, true, false, List, None, Option, Some, Result, Ok, Err, alloc_error, codes, map}
+use Rattle.std.specs.IoError.{error_kind}
+use Rattle.std.specs.Iterator.{YieldsThen}
+use Rattle.std.specs.declared.io.Error.{Error}
 use Rattle.std.specs.declared.alloc.AllocError.{AllocError}
 use Rattle.std.specs.declared.io.ErrorKind.{ErrorKind}
 use Rattle.std.specs.declared.io.ErrorKind.TheVariants as kind
@@ -22,6 +25,28 @@ entry_fault_from kind.NotFound = Absent
 entry_fault_from kind.OutOfMemory = OutOfMemory
 entry_fault_from _ = Unreadable
 
+-- whether what can't be looked at is a folder: it is none, so that reading it says why; or memory ran out
+abbrev pub unseen_folder : ErrorKind → Result Bool DiskFault
+unseen_folder kind.OutOfMemory = Err OutOfMemory
+unseen_folder _ = Ok false
+
+-- what it means that a file that was opened could not be read: that memory ran out, or that it can't be read; nothing else is an
+-- absence
+abbrev pub read_fault_from : ErrorKind → DiskFault
+read_fault_from kind.OutOfMemory = OutOfMemory
+read_fault_from _ = Unreadable
+
+-- the number of the null device, 1:3 as the system writes it
+abbrev pub null_device : ℕ
+null_device = 259
+
+-- whether what a look shows is opened, so that one that may not be opened is recognized: folders and files, and nothing else, since a
+-- FIFO would be waited for
+abbrev pub is_opened : Look → Bool
+is_opened look.Folder = true
+is_opened look.File = true
+is_opened _ = false
+
 -- What a look that failed shows, or nothing if memory ran out. Nothing that can be read is below a file, and links
 -- that lead to one another lead nowhere: neither is an absence.
 abbrev pub look_from : ErrorKind → Option Look
@@ -37,3 +62,9 @@ abbrev pub target_unread : ErrorKind → Result (Option (List ℕ)) AllocError
 target_unread kind.OutOfMemory = Err alloc_error
 target_unread kind.InvalidFilename = Ok (Some (codes "?"))
 target_unread _ = Ok None
+
+-- Why the entries of a listing can't be given: memory ran out, or one could not be taken, after some that could.
+abbrev pub IsEntriesFault : {S A : Type 0} → (S → Option (Result A Error) → S → Type 0) → S → DiskFault → Type 0
+IsEntriesFault {S} {A} next_gives listing fault = (fault ≡ OutOfMemory)
+    ⊎ ((found : List A) × (error : Error) × (later : S)
+    × YieldsThen next_gives listing (map Ok found) (Some (Err error)) later × (fault ≡ entry_fault_from (error_kind error)))

@@ -3,23 +3,22 @@
 //! This is the one place where files are opened. Its `may_answer` allows each answer, since no contract can say
 //! what the system gives; that the answers are those of the disk is shown by tests. So it is kept thin: what is
 //! made from an answer of the system (a listing, an open file or an error) is said by clauses of their own.
-ghost use Rattle.std.specs.Fs.{dir_entry_name};
+ghost use Rattle.std.specs.Fs.{IsDir, dir_entry_name, file_type};
 ghost use Rattle.std.specs.IoError.{error_kind};
 ghost use Rattle.std.specs.Iterator.{Drains, IsFinite};
 ghost use Rattle.std.specs.declared.alloc.Global.{Global};
 ghost use Rattle.std.specs.declared.fs.DirEntry.{DirEntry};
-ghost use Rattle.std.specs.Prelude.{◌≡◌, ⊤, Err, IfErr, IfOk, IfSome, List, MatchResult, Ok, false, map, string_bytes};
-ghost use Rattle.devdry_files.specs.Errors.{entry_fault_from, fault_from};
-ghost use Rattle.devdry_files.specs.declared.disk.DiskFault.TheVariants.{OutOfMemory};
+ghost use Rattle.std.specs.Prelude.{◌≡◌, ◌↔◌, ◌⊎◌, ⊤, Err, IfErr, IfOk, IfSome, IsTrue, List, MatchResult, Ok, map, string_bytes};
+ghost use Rattle.devdry_files.specs.Errors.{IsEntriesFault, entry_fault_from, fault_from, read_fault_from, unseen_folder};
+ghost use Rattle.devdry_files.specs.declared.disk.DiskFault.TheVariants.{OutOfMemory, Unreadable};
 
 use crate::disk::{Disk, DiskFault, Entry};
 use crate::look::Look;
 use crate::real_looks::{look_at, target_from};
 use std::alloc::{AllocError, Global};
 use std::fs;
-use std::fs::{DirEntry, File};
+use std::fs::{DirEntry, File, Metadata};
 use std::io::{self, Read};
-use std::path::Path;
 use std::rt::Files;
 use text_bytes::Bytes;
 
@@ -36,33 +35,30 @@ impl<'r, R> RealDisk<'r, R> {
     }
 }
 
-/// Whether there is a folder at a path, by the look at it. What can't be looked at is not one, so that reading it
-/// says why; but running out of memory in the look itself is reported.
-fn folder_by(looked: Result<bool, DiskFault>) -> Result<bool, DiskFault>
-    ensures { MatchResult looked (λ is. result ≡ Ok is)
-        (λ fault. (fault ≡ OutOfMemory → result ≡ Err OutOfMemory)
-        × ((fault ≡ OutOfMemory → ⊥) → result ≡ Ok false)) }
+/// Whether there is a folder at a path, by the system's answer to a look at it. What can't be looked at is not one, so
+/// that reading it says why; but running out of memory in the look itself is reported.
+fn folder_by(looked: io::Result<Metadata>) -> Result<bool, DiskFault>
+    ensures seen { IfOk looked (λ metadata. IfOk result (λ is. IsTrue is ↔ IsDir (file_type metadata))) }
+    ensures unseen { IfErr looked (λ error. result ≡ unseen_folder (error_kind error)) }
+    ensures memory { IfErr result (λ fault. fault ≡ OutOfMemory) }
 {
     match looked {
-        Ok(is) => Ok(is),
-        Err(DiskFault::OutOfMemory) => Err(DiskFault::OutOfMemory),
-        Err(_) => Ok(false),
+        Ok(metadata) => Ok(metadata.is_dir()),
+        Err(error) => match error.kind() {
+            io::ErrorKind::OutOfMemory => Err(DiskFault::OutOfMemory),
+            _ => Ok(false),
+        },
     }
 }
 
-/// Whether there is a folder at the path, or a symlink to one.
-fn is_folder<R: Files>(rt: &R, path: Path<'_>) -> Result<bool, DiskFault> {
-    let looked = fs::metadata(rt, path).map(|metadata| metadata.is_dir());
-    folder_by(looked.map_err(DiskFault::from))
-}
-
-/// An entry of a listing, looked at.
+/// An entry of a listing, looked at: a symlink to a folder is one.
 fn entry_of<R: Files>(alloc: Global, rt: &R, found: &DirEntry<R>) -> Result<Entry, DiskFault>
-    ensures { IfOk result (λ e. string_bytes e.name ≡ dir_entry_name found.now) }
+    ensures entry { IfOk result (λ e. string_bytes e.name ≡ dir_entry_name found.now) }
+    ensures memory { IfErr result (λ fault. fault ≡ OutOfMemory) }
 {
     Ok(Entry {
         name: String::from_str(alloc, found.file_name())?,
-        is_folder: is_folder(rt, found.path())?,
+        is_folder: folder_by(fs::metadata(rt, found.path()))?,
     })
 }
 
@@ -85,6 +81,7 @@ fn entry_from<R: Files + Drop>(
     ensures entry { IfOk result (λ e. (found : DirEntry R Global R.File R.Dir) × (taken ≡ Ok found)
         × (string_bytes e.name ≡ dir_entry_name found)) }
     ensures fault { IfErr taken (λ error. result ≡ Err (entry_fault_from (error_kind error))) }
+    ensures memory { IfOk taken (λ _. IfErr result (λ fault. fault ≡ OutOfMemory)) }
 {
     match taken {
         Ok(found) => entry_of(alloc, rt, &found),
@@ -100,9 +97,10 @@ fn entries_of<R: Files + Drop, I: Iterator<Item = io::Result<DirEntry<R>>> + Dro
 ) -> Result<Vec<Entry>, DiskFault>
     requires can { I.can_next listing }
     requires ends { IsFinite (I.remaining listing) }
-    ensures { IfOk result (λ entries. (found : List (DirEntry R Global R.File R.Dir))
+    ensures entries { IfOk result (λ entries. (found : List (DirEntry R Global R.File R.Dir))
         × Drains I.next_gives listing (map Ok found)
         × (map (λ e. string_bytes e.name) entries.items ≡ map dir_entry_name found)) }
+    ensures fault { IfErr result (IsEntriesFault I.next_gives listing) }
 {
     let mut entries = Vec::new(alloc);
     for found in listing {
@@ -119,11 +117,12 @@ fn entries_from<R: Files + Drop, I: Iterator<Item = io::Result<DirEntry<R>>> + D
 ) -> Result<Vec<Entry>, DiskFault>
     requires can { IfOk opened (λ listing. I.can_next listing) }
     requires ends { IfOk opened (λ listing. IsFinite (I.remaining listing)) }
-    ensures { MatchResult opened
+    ensures entries { MatchResult opened
         (λ listing. IfOk result (λ entries. (found : List (DirEntry R Global R.File R.Dir))
         × Drains I.next_gives listing (map Ok found)
         × (map (λ e. string_bytes e.name) entries.items ≡ map dir_entry_name found)))
         (λ error. result ≡ Err (fault_from (error_kind error))) }
+    ensures fault { IfOk opened (λ listing. IfErr result (IsEntriesFault I.next_gives listing)) }
 {
     match opened {
         Ok(listing) => entries_of(alloc, rt, listing),
@@ -140,14 +139,25 @@ pub(crate) fn bytes_of<F: Read + Drop>(alloc: Global, mut file: F) -> io::Result
     Ok(Bytes::new(bytes))
 }
 
-/// The bytes of a file, or why it could not be opened.
+/// Why a file that was opened could not be read.
+fn read_fault(error: io::Error) -> DiskFault
+    ensures { result ≡ read_fault_from (error_kind error) }
+{
+    match error.kind() {
+        io::ErrorKind::OutOfMemory => DiskFault::OutOfMemory,
+        _ => DiskFault::Unreadable,
+    }
+}
+
+/// The bytes of a file, or why it could not be opened or read.
 fn bytes_from<F: Read + Drop>(alloc: Global, opened: io::Result<F>) -> Result<Bytes, DiskFault>
-    ensures { MatchResult opened
+    ensures bytes { MatchResult opened
         (λ file. IfOk result (λ read. IfSome (F.remaining file) (λ bytes. read ≡ bytes)))
         (λ error. result ≡ Err (fault_from (error_kind error))) }
+    ensures fault { IfOk opened (λ _. IfErr result (λ fault. (fault ≡ Unreadable) ⊎ (fault ≡ OutOfMemory))) }
 {
     match opened {
-        Ok(file) => Ok(bytes_of(alloc, file)?),
+        Ok(file) => bytes_of(alloc, file).map_err(read_fault),
         Err(error) => Err(DiskFault::from(error)),
     }
 }

@@ -4,9 +4,9 @@
 ghost use Rattle.std.specs.Fs.{IsDir, IsFile, file_type};
 ghost use Rattle.std.specs.IoError.{error_kind};
 ghost use Rattle.std.specs.Path.{path_buf_bytes};
-ghost use Rattle.std.specs.Prelude.{◌≡◌, ◌≢◌, ◌&&◌, ◌==◌, IfOk, MatchResult, Ok, Some, alloc_error, if◌then◌else◌, ok_or, option_map};
+ghost use Rattle.std.specs.Prelude.{◌≡◌, ◌≢◌, ◌&&◌, ◌==◌, IfErr, IfOk, IfSome, MatchResult, None, Ok, Some, alloc_error, if◌then◌else◌, ok_or, option_map};
 ghost use Rattle.std.specs.declared.io.ErrorKind.{ErrorKind};
-ghost use Rattle.devdry_files.specs.Errors.{look_from, target_unread};
+ghost use Rattle.devdry_files.specs.Errors.{is_opened, look_from, null_device, target_unread};
 
 use crate::look::Look;
 use std::alloc::{AllocError, Global};
@@ -36,7 +36,7 @@ fn failed_look(error: &io::Error) -> Option<Look>
 /// Whether a device is the null device, which hides a file if a link leads to it: a character device with that
 /// number.
 fn is_null(is_char_device: bool, number: u64) -> bool
-    ensures { result ≡ (is_char_device && number == NULL_DEVICE) }
+    ensures { result ≡ (is_char_device && number == null_device) }
 {
     is_char_device & (number == NULL_DEVICE)
 }
@@ -58,38 +58,49 @@ fn look_of(metadata: &Metadata, is_null: bool) -> Look
     }
 }
 
-/// What a look shows, by whether what it saw could be opened.
-fn opened_look<F: Drop>(look: Look, opened: io::Result<F>) -> Result<Look, AllocError>
-    ensures { MatchResult opened (λ _. result ≡ Ok look)
-        (λ error. result ≡ ok_or (look_from (error_kind error)) alloc_error) }
+/// What a look shows before anything is opened, by the system's answer to it, and whether that is about the null
+/// device.
+fn look_by(looked: io::Result<Metadata>, is_null: bool) -> Result<Look, AllocError>
+    ensures folder { IfOk looked (λ metadata. IsDir (file_type metadata) → result ≡ Ok Look.Folder) }
+    ensures file { IfOk looked (λ metadata. IsFile (file_type metadata) → result ≡ Ok Look.File) }
+    ensures other { IfOk looked (λ metadata. (IsDir (file_type metadata) → ⊥) → (IsFile (file_type metadata) → ⊥)
+        → result ≡ Ok (if is_null then Look.File else Look.Other)) }
+    ensures failed { IfErr looked (λ error. result ≡ ok_or (look_from (error_kind error)) alloc_error) }
+{
+    match looked {
+        Ok(metadata) => Ok(look_of(&metadata, is_null)),
+        Err(error) => failed_look(&error).ok_or(AllocError),
+    }
+}
+
+/// Whether what a look shows is opened: a folder or a file, so that one that may not be opened is recognized.
+fn is_opened(look: Look) -> bool
+    ensures { result ≡ is_opened look }
+{
+    matches!(look, Look::Folder | Look::File)
+}
+
+/// What a look shows, by whether what it saw could be opened, if it was to be.
+fn tried_look<F: Drop>(look: Look, opened: Option<io::Result<F>>) -> Result<Look, AllocError>
+    ensures unopened { opened ≡ None → result ≡ Ok look }
+    ensures opened { IfSome opened (λ answer. MatchResult answer (λ _. result ≡ Ok look)
+        (λ error. result ≡ ok_or (look_from (error_kind error)) alloc_error)) }
 {
     match opened {
-        Ok(_) => Ok(look),
-        Err(error) => failed_look(&error).ok_or(AllocError),
+        None | Some(Ok(_)) => Ok(look),
+        Some(Err(error)) => failed_look(&error).ok_or(AllocError),
     }
 }
 
-/// What a look at a path shows, by whether what it saw there can be opened. What is neither a folder nor a file is
-/// not opened.
-fn tried_look<R: Files>(rt: &R, path: &str, look: Look) -> Result<Look, AllocError>
-    ensures { look ≡ Look.Other → result ≡ Ok look }
-{
-    match look {
-        Look::Folder | Look::File => opened_look(look, File::open(rt, path)),
-        _ => Ok(look),
-    }
-}
-
-/// What is at a path: what is there is looked at, and a folder or a file is opened, so that one that may not be
-/// opened is recognized.
+/// What is at a path: what is there is looked at, and what is to be opened is opened.
 pub(crate) fn look_at<R: Files>(rt: &R, path: &str) -> Result<Look, AllocError> {
-    match fs::metadata(rt, path) {
-        Ok(metadata) => {
-            let is_null = is_null(metadata.file_type().is_char_device(), metadata.rdev());
-            tried_look(rt, path, look_of(&metadata, is_null))
-        }
-        Err(error) => failed_look(&error).ok_or(AllocError),
-    }
+    let looked = fs::metadata(rt, path);
+    let is_null = looked.as_ref().is_ok_and(|metadata| {
+        is_null(metadata.file_type().is_char_device(), metadata.rdev())
+    });
+    let look = look_by(looked, is_null)?;
+    let opened = is_opened(look).then(|| File::open(rt, path));
+    tried_look(look, opened)
 }
 
 /// Where a symlink leads, if it could be read.

@@ -13,10 +13,10 @@ use Rattle.engine_ends.specs.Sources.{Gives, SourceFails, SourceState}
 use Rattle.engine_ends.specs.Sinks.{HandsOn, SinkState}
 use Rattle.engine_ends.proofs.Counting.{counts-none}
 use Rattle.engine_ends.proofs.Reported.{followed_by-nil}
-use Rattle.engine_sessions.specs.Inputs.{ReadsWell, UsesUp, all_but_last, most_turns}
+use Rattle.engine_sessions.specs.Inputs.{BeforeReads, GoesOn, ReadsWell, UsesUp, all_but_last, most_turns}
 use Rattle.engine_sessions.specs.Serves.{WritesOut}
 use Rattle.engine_sessions.specs.Turns.{Reads, joined, most_read}
-use Rattle.engine_sessions.proofs.Turns.{all_but_last-push, joined-push, later_none, led_by-nil, left_after, none_left_after, one_more, reads_more, shown}
+use Rattle.engine_sessions.proofs.Turns.{all_but_last-push, goes_on-few, goes_on-push, joined-push, later_none, led_by-nil, left_after, none_left_after, one_more, reads_after, reads_more, shown, some_byte, to_fault, went_on}
 use Rattle.engine_lookups.specs.Outcomes.{most_bytes}
 use Rattle.engine_lookups.specs.Runs.{HasAnswered, HasFlushed, HoldsFew, ended_lines, unended}
 use Rattle.engine_lookups.specs.Taking.{Answers, HeldLine, IsOpen, Leads, StopsBy, StopsIn, first_line}
@@ -38,6 +38,7 @@ pub record AfterTurns (answer : Text → Text) (turns : ℕ) (held : HeldLine) (
   pub left : input.left ≡ led_by (joined read) now.left
   pub counts : ReadsWell turns input now
   pub turn_count : length read ≡ turns
+  pub goes_on : GoesOn read
   pub fits : HoldsUpTo read
   pub answers : Answers answer first_line (joined read) held output sink
   pub due : HasAnswered answer (all_but_last read) output sink
@@ -80,6 +81,11 @@ has_answered answer read held output sink after now more a w e =
 has_answered_due : (answer : Text → Text) (read : List Text) (piece : Text) (output now : SinkState) → HasAnswered answer read output now → HasAnswered answer (all_but_last (read ++ piece ∷ [])) output now
 has_answered_due answer read piece output now h = subst (λ pieces. HasAnswered answer pieces output now) (sym (all_but_last-push read piece)) h
 
+-- and before each read, if none failed
+had_answered : (answer : Text → Text) (read : List Text) (piece : Text) (input input_now : SourceState) (output now : SinkState) → input_now.faults ≡ input.faults → HasAnswered answer read output now
+    → BeforeReads (λ pieces. HasAnswered answer pieces output now) (read ++ piece ∷ []) input input_now
+had_answered answer read piece input input_now output now well h = (has_answered_due answer read piece output now h, λ f. absurd (f well))
+
 pub turns_at_start : (answer : Text → Text) (held : HeldLine) (input : SourceState) (output : SinkState) → held ≡ first_line → AfterTurns answer 0 held input input output output
 turns_at_start answer held input output e = rw e (record {
   read = [];
@@ -87,6 +93,7 @@ turns_at_start answer held input output e = rw e (record {
   left = sym (led_by-nil input.left);
   counts = record { reads = counts-none input.reads; well = refl };
   turn_count = refl;
+  goes_on = tt;
   fits = none_at_start;
   answers = answers-none answer first_line output first_open;
   due = inl refl;
@@ -106,6 +113,7 @@ turns_more answer turns held next input now later output sink sink_later t g =
       left = left_after input now later t.read g.piece t.left g.reads.gives.left;
       counts = reads_more turns input now later t.counts g.reads.gives.reads g.reads.gives.well;
       turn_count = length-append t.read (g.piece ∷ []) ∙ ap (λ n. n + 1) t.turn_count;
+      goes_on = goes_on-push t.read g.piece t.goes_on (some_byte now later g.piece g.reads);
       fits = up_to_after t.read g.piece t.fits (held_few answer (joined (t.read ++ g.piece ∷ [])) next output sink_later both);
       answers = both;
       due = has_answered_due answer t.read g.piece output sink_later (has_answered answer t.read held output sink sink_later sink_later (flat_map answer g.answers.ended) t.answers g.answers.writes refl);
@@ -125,9 +133,11 @@ finished answer turns held input now later output sink sink_later t e =
       pieces = one_more input now later t.read e.piece t.pieces e.reads.gives.pieces;
       left = left_after input now later t.read e.piece t.left e.reads.gives.left;
       faults = e.reads.gives.well ∙ t.counts.well;
+      reads = inl (reads_after turns input now later t.read e.piece t.turn_count t.counts e.reads.gives);
+      goes_on = went_on t.read e.piece input later t.goes_on (e.reads.gives.well ∙ t.counts.well);
       fits = few_after t.read e.piece t.fits;
-      due = has_answered_due answer t.read e.piece output sink_later (has_answered answer t.read held output sink sink_later sink_later (flat_map answer (lines held.bytes)) t.answers e.writes refl);
-      due_at_fault = λ f. absurd (f (e.reads.gives.well ∙ t.counts.well));
+      due = had_answered answer t.read e.piece input later output sink_later (e.reads.gives.well ∙ t.counts.well)
+          (has_answered answer t.read held output sink sink_later sink_later (flat_map answer (lines held.bytes)) t.answers e.writes refl);
       ends = record {
         leads = subst (Leads answer) (sym last) (leads-after answer t.answers.ended (lines held.bytes) t.answers.leads e.leads);
         writes = subst (λ said. WritesOut output said sink_later) (sym (ap (flat_map answer) last ∙ text)) all;
@@ -154,9 +164,11 @@ after_read answer fault turns held input now later output sink sink_later t f en
       pieces = one_more input now later t.read f.piece t.pieces f.reads.gives.pieces;
       left = left_after input now later t.read f.piece t.left f.reads.gives.left;
       faults = faults well;
+      reads = inl (reads_after turns input now later t.read f.piece t.turn_count t.counts f.reads.gives);
+      goes_on = went_on t.read f.piece input later t.goes_on well;
       fits = few_after t.read f.piece t.fits;
-      due = has_answered_due answer t.read f.piece output sink_later (has_answered answer t.read held output sink f.stops.after sink_later (flat_map answer f.stops.ended) t.answers f.stops.writes flushed);
-      due_at_fault = λ g. absurd (g well);
+      due = had_answered answer t.read f.piece input later output sink_later well
+          (has_answered answer t.read held output sink f.stops.after sink_later (flat_map answer f.stops.ended) t.answers f.stops.writes flushed);
       ends = ends (record {
         more = f.more;
         stops = subst (λ text. StopsIn answer fault f.more 1 text output sink_later) (sym (joined-push t.read f.piece)) stops;
@@ -170,9 +182,11 @@ failed answer Read turns held input now later output sink sink_later t f = recor
   pieces = f.0.pieces ∙ t.pieces;
   left = t.left ∙ ap (led_by (joined t.read)) (sym f.0.left);
   faults = inl (subst (λ n. Counts 1 n later.faults) t.counts.well f.0.failed);
+  reads = inr (to_fault turns (length t.read) input now later t.turn_count t.counts f.0);
+  goes_on = (goes_on-few t.read t.goes_on, λ failed. t.goes_on);
   fits = few_of t.read t.fits;
-  due = subst (λ s. HasAnswered answer (all_but_last t.read) output s) (sym f.1) t.due;
-  due_at_fault = λ g. has_answered answer t.read held output sink sink sink_later [] t.answers (writes-none sink) (ap (λ s. s.flushed) f.1);
+  due = (subst (λ s. HasAnswered answer (all_but_last t.read) output s) (sym f.1) t.due,
+  λ failed. has_answered answer t.read held output sink sink sink_later [] t.answers (writes-none sink) (ap (λ s. s.flushed) f.1));
   ends = subst (λ s. IsAnsweredSoFar answer (joined t.read) output s) (sym f.1) (record { held = held; answers = t.answers });
 }
 failed answer Write turns held input now later output sink sink_later t f = after_read answer Write turns held input now later output sink sink_later t f (λ s. s) (λ e. e)
@@ -186,9 +200,10 @@ used_up answer held input now output sink t = record {
   pieces = t.pieces;
   left = t.left;
   faults = inr (record { all = t.turn_count; reads = t.counts.reads });
+  reads = inl (subst (λ n. ReadsWell n input now) (sym t.turn_count) t.counts);
+  goes_on = (goes_on-few t.read t.goes_on, λ failed. t.goes_on);
   fits = few_of t.read t.fits;
-  due = t.due;
-  due_at_fault = λ g. absurd (g t.counts.well);
+  due = (t.due, λ failed. absurd (failed t.counts.well));
   ends = record { held = held; answers = t.answers };
 }
 

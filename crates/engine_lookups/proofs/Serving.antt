@@ -9,6 +9,7 @@ use Rattle.engine_ends.specs.Sinks.{BreaksOff, HandsOn, HasBegun, SinkState}
 use Rattle.engine_ends.specs.declared.line.Line.{Line}
 use Rattle.engine_ends.specs.Streams.{Streams, outputs}
 use Rattle.engine_ends.specs.Delivery.{Delivers, IsWhole, ReportsFailure, ReportsFaults, RunOutcome, out_of_memory, write_failed}
+use Rattle.engine_ends.proofs.Counting.{counts-none}
 use Rattle.engine_ends.proofs.Reported.{followed_by-nil}
 use Rattle.engine_reports.specs.Databases.{DatabaseValue}
 use Rattle.engine_reports.specs.Indexes.{refused_index}
@@ -16,16 +17,16 @@ use Rattle.engine_reports.specs.Outcomes.{too_many_entries, too_many_rules}
 use Rattle.engine_reports.specs.Reports.{IsRefused, IsSaid}
 use Rattle.engine_reports.specs.declared.refusal.Refusal.{Refusal}
 use Rattle.engine_reports.specs.declared.refusal.Refusal.TheVariants as Refused
-use Rattle.engine_sessions.specs.Serves.{IsCutShort, ReportsFailures, Serves, WritesOut, read_failed}
+use Rattle.engine_sessions.specs.Serves.{IsCutShort, ReportsFailures, Serves, StopsBefore, WritesOut, read_failed}
 use Rattle.engine_sessions.specs.Inputs.{devices_of}
 use Rattle.engine_sessions.specs.Turns.{joined}
 use Rattle.engine_sessions.proofs.SendLemmas.{hands_after}
 use Rattle.engine_sessions.proofs.Serving.{at_memory, begun-first, begun-following, begun-none, begun-taken, cut_by, memory_most, memory_status, messages_cut, none_is, not_four, not_under, refused_cut, reports_begun, rest_reported}
 use Rattle.engine_lookups.specs.Outcomes.{after_answer, after_messages, answer_to, answered_from, lines_outcome, too_long_line}
 use Rattle.engine_lookups.specs.Databases.{LooksUpBy}
-use Rattle.engine_lookups.specs.Runs.{LooksUp}
-use Rattle.engine_lookups.specs.Taking.{Answers, Leads, StopsAt, StopsIn}
-use Rattle.engine_lookups.specs.Inputs.{AnswersInput, Concludes}
+use Rattle.engine_lookups.specs.Runs.{AnswersFirst, BreaksOffAtFirst, LooksThrough, LooksUp}
+use Rattle.engine_lookups.specs.Taking.{Answers, Leads, StopsAt, StopsBy, StopsIn}
+use Rattle.engine_lookups.specs.Inputs.{AnswersInput, Concludes, StopsInput}
 use Rattle.engine_lookups.specs.declared.held.LookupFault.{LookupFault}
 use Rattle.engine_lookups.specs.declared.held.LookupFault.TheVariants.{Read, Write, TooLong, Memory}
 use Rattle.engine_lookups.proofs.LineLemmas.{cut_lines}
@@ -65,13 +66,17 @@ module _ (messages : Text) (answer : Text → Text) (status : ℕ) (before now :
   messages_begun : (text : Text) → HasBegun before.err (lines_outcome messages answer text).messages after
   messages_begun text = begun-first before.err after messages (answered_from answer 1 (lines text)).messages (begun-taken before.err after messages says.taken)
 
-  looked_well : (t : AnswersInput answer (Ok tt) (devices_of before) (devices_of now)) → Concludes (Ok tt) status after now.err → LooksUp messages answer status before now
+  -- that it serves, with these pieces read
+  abbrev ServesOver : List Text → Type 0
+  ServesOver read = (s : Serves (lines_outcome messages answer) status before now) × (s.read ≡ read)
+
+  looked_well : (t : AnswersInput answer (Ok tt) (devices_of before) (devices_of now)) → Concludes (Ok tt) status after now.err → ServesOver t.read
   looked_well t c =
       let is : lines_outcome messages answer (joined t.read) ≡ record { output = flat_map answer (lines (joined t.read)); messages = messages; status = 0 } =
       ap (after_messages messages) (answered_all answer 1 (lines (joined t.read)) t.ends.leads)
       ∙ ap (λ said. record { output = flat_map answer (lines (joined t.read)); messages = said; status = 0 }) (append-nil messages) in
-      record {
-        serves = record {
+      (
+        record {
           read = t.read;
           pieces = t.pieces;
           whole = λ h. subst (λ o. IsWhole WritesOut o status (outputs before) (outputs now)) (sym is) (record { output = t.ends.writes; messages = rw c.1 says; status_is = c.0 });
@@ -83,17 +88,15 @@ module _ (messages : Text) (answer : Text → Text) (status : ℕ) (before now :
             well = λ h. (t.faults, writes_well before.out now.out (flat_map answer (lines (joined t.read))) t.ends.writes, ap (λ s. s.faults) c.1 ∙ says.well);
           };
           statuses = omega (arith, c.0);
-        };
-        due = t.due;
-        due_at_fault = t.due_at_fault;
-        fits = t.fits;
-      }
+        },
+        refl,
+      )
 
-  looked_read : (t : AnswersInput answer (Err Read) (devices_of before) (devices_of now)) → Concludes (Err Read) status after now.err → status ≡ 3 → LooksUp messages answer status before now
+  looked_read : (t : AnswersInput answer (Err Read) (devices_of before) (devices_of now)) → Concludes (Err Read) status after now.err → status ≡ 3 → ServesOver t.read
   looked_read t c e =
       let a = t.ends.answers in
-      record {
-        serves = record {
+      (
+        record {
           read = t.read;
           pieces = t.pieces;
           whole = not_under status (omega (arith, e));
@@ -106,19 +109,17 @@ module _ (messages : Text) (answer : Text → Text) (status : ℕ) (before now :
             well = λ h. absurd (h e);
           };
           statuses = omega (arith, e);
-        };
-        due = t.due;
-        due_at_fault = t.due_at_fault;
-        fits = t.fits;
-      }
+        },
+        refl,
+      )
 
-  looked_write : (t : AnswersInput answer (Err Write) (devices_of before) (devices_of now)) → Concludes (Err Write) status after now.err → status ≡ 3 → LooksUp messages answer status before now
+  looked_write : (t : AnswersInput answer (Err Write) (devices_of before) (devices_of now)) → Concludes (Err Write) status after now.err → status ≡ 3 → ServesOver t.read
   looked_write t c e =
       let s = t.ends.stops in
       let there = s.at [] (λ f. refl) in
       let stops = there.stops in
-      record {
-        serves = record {
+      (
+        record {
           read = t.read;
           pieces = t.pieces;
           whole = not_under status (omega (arith, e));
@@ -132,18 +133,16 @@ module _ (messages : Text) (answer : Text → Text) (status : ℕ) (before now :
             well = λ h. absurd (h e);
           };
           statuses = omega (arith, e);
-        };
-        due = t.due;
-        due_at_fault = t.due_at_fault;
-        fits = t.fits;
-      }
+        },
+        refl,
+      )
 
-  looked_memory : (t : AnswersInput answer (Err Memory) (devices_of before) (devices_of now)) → Concludes (Err Memory) status after now.err → LooksUp messages answer status before now
+  looked_memory : (t : AnswersInput answer (Err Memory) (devices_of before) (devices_of now)) → Concludes (Err Memory) status after now.err → ServesOver t.read
   looked_memory t c =
       let s = t.ends.stops in
       let there = s.at [] (λ f. refl) in
-      record {
-        serves = record {
+      (
+        record {
           read = t.read;
           pieces = t.pieces;
           whole = not_under status (memory_status status after now.err c);
@@ -153,11 +152,9 @@ module _ (messages : Text) (answer : Text → Text) (status : ℕ) (before now :
               (messages_begun (joined t.read)) (reports_begun out_of_memory 4 status after now.err c) (at_memory status after now.err c);
           failures = reported_failures c t.faults (ap (λ sink. sink.faults) there.stops ∙ writes_well before.out s.after (flat_map answer s.ended) s.writes);
           statuses = memory_most status after now.err c;
-        };
-        due = t.due;
-        due_at_fault = t.due_at_fault;
-        fits = t.fits;
-      }
+        },
+        refl,
+      )
     where
       reported_failures : ReportsFailure out_of_memory 4 status after now.err → now.input.faults ≡ before.input.faults → now.out.faults ≡ before.out.faults → ReportsFailures status (length t.read) before now
       reported_failures (inl p) e f = record { failed = λ g. not_four status g p.0; well = λ h. (e, f, p.1.well ∙ says.well) }
@@ -167,7 +164,7 @@ module _ (messages : Text) (answer : Text → Text) (status : ℕ) (before now :
   long_outcome : (counted : ℕ) (text : Text) (ended : List Text) (sink : SinkState) → Leads answer ended → StopsAt answer (TooLong counted) 1 ended text sink now.out → lines_outcome messages answer text ≡ record { output = flat_map answer ended; messages = messages ++ too_long_line counted; status = 1 }
   long_outcome counted text ended sink l s = ap (after_messages messages) (long_text answer counted text ended sink now.out l s)
 
-  looked_long : (counted : ℕ) (t : AnswersInput answer (Err (TooLong counted)) (devices_of before) (devices_of now)) → Concludes (Err (TooLong counted)) status after now.err → LooksUp messages answer status before now
+  looked_long : (counted : ℕ) (t : AnswersInput answer (Err (TooLong counted)) (devices_of before) (devices_of now)) → Concludes (Err (TooLong counted)) status after now.err → ServesOver t.read
   looked_long counted t (inl p) =
       let s = t.ends.stops in
       let there = s.at [] (λ f. refl) in
@@ -175,8 +172,8 @@ module _ (messages : Text) (answer : Text → Text) (status : ℕ) (before now :
       λ rest e. long_outcome counted (joined t.read ++ rest) s.ended s.after s.leads (s.at rest (t.ends.last rest e)) in
       let is : lines_outcome messages answer (joined t.read) ≡ record { output = flat_map answer s.ended; messages = messages ++ too_long_line counted; status = 1 } =
       ap (lines_outcome messages answer) (sym (append-nil (joined t.read))) ∙ long_outcome counted (joined t.read ++ []) s.ended s.after s.leads there in
-      record {
-        serves = record {
+      (
+        record {
           read = t.read;
           pieces = t.pieces;
           whole = λ h. subst (λ o. IsWhole WritesOut o status (outputs before) (outputs now)) (sym is)
@@ -189,18 +186,16 @@ module _ (messages : Text) (answer : Text → Text) (status : ℕ) (before now :
             well = λ h. (t.faults, ap (λ sink. sink.faults) there.stops.untouched ∙ writes_well before.out s.after (flat_map answer s.ended) s.writes, p.1.well ∙ says.well);
           };
           statuses = omega (arith, p.0);
-        };
-        due = t.due;
-        due_at_fault = t.due_at_fault;
-        fits = t.fits;
-      }
+        },
+        refl,
+      )
   looked_long counted t (inr p) =
       let s = t.ends.stops in
       let there = s.at [] (λ f. refl) in
       let is : lines_outcome messages answer (joined t.read) ≡ record { output = flat_map answer s.ended; messages = messages ++ too_long_line counted; status = 1 } =
       ap (lines_outcome messages answer) (sym (append-nil (joined t.read))) ∙ long_outcome counted (joined t.read ++ []) s.ended s.after s.leads there in
-      record {
-        serves = record {
+      (
+        record {
           read = t.read;
           pieces = t.pieces;
           whole = not_under status (omega (arith, p.0));
@@ -214,18 +209,75 @@ module _ (messages : Text) (answer : Text → Text) (status : ℕ) (before now :
             well = λ h. absurd (h p.0);
           };
           statuses = omega (arith, p.0);
-        };
-        due = t.due;
-        due_at_fault = t.due_at_fault;
-        fits = t.fits;
+        },
+        refl,
+      )
+
+  served_over : (end : Result (Unit {0}) LookupFault) (t : AnswersInput answer end (devices_of before) (devices_of now)) → Concludes end status after now.err → ServesOver t.read
+  served_over (Ok done) t c = looked_well t c
+  served_over (Err Read) t c = looked_read t c (three read_failed status after now.err c)
+  served_over (Err Write) t c = looked_write t c (three write_failed status after now.err c)
+  served_over (Err (TooLong counted)) t c = looked_long counted t c
+  served_over (Err Memory) t c = looked_memory t c
+
+  -- how it stops in the answers
+  stops_first : (fault : LookupFault) (number : ℕ) (others : List Text) (sink : SinkState) → StopsBy answer fault number others sink now.out → (now.out ≡ sink) ⊎ BreaksOffAtFirst answer others sink now.out
+  stops_first Read number others sink s = absurd s
+  stops_first Write number others sink s = inr (subst (λ ls. BreaksOffAtFirst answer ls sink now.out) (sym s.lines_are) s.breaks)
+  stops_first (TooLong counted) number others sink s = inl s.untouched
+  stops_first Memory number others sink s = inl s
+
+  stopped_first : (fault : LookupFault) (text : Text) (left : Option Text) → StopsInput answer fault text left before.out now.out → AnswersFirst answer text before.out now.out
+  stopped_first fault text left t =
+      let s = t.stops in
+      let there = s.at [] (λ f. refl) in
+      record {
+        answered = s.ended;
+        others = there.others;
+        lines_are = ap lines (sym (append-nil text)) ∙ there.lines_are;
+        after = s.after;
+        writes = s.writes;
+        ends = stops_first fault (1 + length s.ended) there.others s.after there.stops;
       }
 
+  answered_first : (end : Result (Unit {0}) LookupFault) (t : AnswersInput answer end (devices_of before) (devices_of now)) → AnswersFirst answer (joined t.read) before.out now.out
+  answered_first (Ok done) t =
+      record { answered = lines (joined t.read); others = []; lines_are = sym (append-nil (lines (joined t.read))); after = now.out; writes = t.ends.writes; ends = inl refl }
+  answered_first (Err Read) t =
+      let a = t.ends.answers in
+      record { answered = a.ended; others = lines t.ends.held.bytes; lines_are = cut_lines (joined t.read) a.ended t.ends.held.bytes a.cut; after = now.out; writes = a.writes; ends = inl refl }
+  answered_first (Err Write) t = stopped_first Write (joined t.read) now.input.left t.ends
+  answered_first (Err (TooLong counted)) t = stopped_first (TooLong counted) (joined t.read) now.input.left t.ends
+  answered_first (Err Memory) t = stopped_first Memory (joined t.read) now.input.left t.ends
+
+  concluded : (end : Result (Unit {0}) LookupFault) → Concludes end status after now.err → (now.err ≡ after) ⊎ ((line : Text) × (wanted : ℕ) × ReportsFailure line wanted status after now.err)
+  concluded (Ok done) c = inl c.1
+  concluded (Err Read) c = inr (read_failed, 3, c)
+  concluded (Err Write) c = inr (write_failed, 3, c)
+  concluded (Err (TooLong counted)) c = inr (too_long_line counted, 1, c)
+  concluded (Err Memory) c = inr (out_of_memory, 4, c)
+
   pub looked_up : (end : Result (Unit {0}) LookupFault) → AnswersInput answer end (devices_of before) (devices_of now) → Concludes end status after now.err → LooksUp messages answer status before now
-  looked_up (Ok done) t c = looked_well t c
-  looked_up (Err Read) t c = looked_read t c (three read_failed status after now.err c)
-  looked_up (Err Write) t c = looked_write t c (three write_failed status after now.err c)
-  looked_up (Err (TooLong counted)) t c = looked_long counted t c
-  looked_up (Err Memory) t c = looked_memory t c
+  looked_up end t c =
+      let s = served_over end t c in
+      let steps : LooksThrough messages answer t.read status before now = record {
+        order = inr (record { after = after; says = says; answers = answered_first end t; concludes = concluded end c });
+        reads = t.reads;
+        goes_on = t.goes_on;
+        due = t.due;
+        fits = t.fits;
+      } in
+      record { serves = s.0; steps = subst (λ read. LooksThrough messages answer read status before now) (sym s.1) steps }
+
+-- nothing is read
+through_nothing : (messages : Text) (answer : Text → Text) (status : ℕ) (before now : Streams) → StopsBefore messages status before now → LooksThrough messages answer [] status before now
+through_nothing messages answer status before now stops = record {
+  order = inl stops;
+  reads = inl (rw stops.unread (record { reads = counts-none before.input.reads; well = refl }));
+  goes_on = (tt, λ failed. tt);
+  due = (inl refl, λ failed. inl refl);
+  fits = λ n h. absurd (omega (arith, h));
+}
 
 -- nothing is read or answered: the error output failed at the messages
 pub looked_at_messages : (messages : Text) (answer : Text → Text) (status : ℕ) (before now : Streams) → now.input ≡ before.input → now.out ≡ before.out → status ≡ 3 → BreaksOff before.err messages now.err → LooksUp messages answer status before now
@@ -239,9 +291,7 @@ looked_at_messages messages answer status before now unread untouched e breaks =
     failures = record { failed = λ f. inr (inr (inl breaks.failed)); well = λ h. absurd (h e) };
     statuses = omega (arith, e);
   };
-  due = inl refl;
-  due_at_fault = λ f. inl refl;
-  fits = λ n h. absurd (omega (arith, h));
+  steps = through_nothing messages answer status before now (record { unread = unread; unanswered = untouched; reports = inl (e, breaks) });
 }
 
 -- or memory runs out before them
@@ -256,9 +306,7 @@ looked_refused messages answer status before now unread untouched reports = reco
     failures = fails reports;
     statuses = memory_most status before.err now.err reports;
   };
-  due = inl refl;
-  due_at_fault = λ f. inl refl;
-  fits = λ n h. absurd (omega (arith, h));
+  steps = through_nothing messages answer status before now (record { unread = unread; unanswered = untouched; reports = inr reports });
 }
   where
     fails : ReportsFailure out_of_memory 4 status before.err now.err → ReportsFailures status 0 before now

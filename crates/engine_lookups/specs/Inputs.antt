@@ -7,7 +7,7 @@ use Rattle.engine_ends.specs.Counts.{Counts}
 use Rattle.engine_ends.specs.Sources.{SourceFails, SourceState}
 use Rattle.engine_ends.specs.Sinks.{SinkState}
 use Rattle.engine_ends.specs.Delivery.{ReportsFailure, out_of_memory, write_failed}
-use Rattle.engine_sessions.specs.Inputs.{Devices, UsesUp, all_but_last}
+use Rattle.engine_sessions.specs.Inputs.{BeforeReads, Devices, GoesOn, ReadsToFault, ReadsWell, UsesUp}
 use Rattle.engine_sessions.specs.Serves.{WritesOut, read_failed}
 use Rattle.engine_sessions.specs.Turns.{Reads, joined}
 use Rattle.engine_lookups.specs.Outcomes.{too_long_line}
@@ -80,9 +80,10 @@ pub record AnswersInput (answer : Text → Text) (end : Result (Unit {0}) Lookup
   pub pieces : now.input.pieces ≡ followed_by before.input.pieces read
   pub left : before.input.left ≡ led_by (joined read) now.input.left
   pub faults : FaultsBy end (length read) before.input now.input
+  pub reads : ReadsWell (length read) before.input now.input ⊎ ReadsToFault (length read) before.input now.input
+  pub goes_on : BeforeReads GoesOn read before.input now.input
   pub fits : HoldsFew read
-  pub due : HasAnswered answer (all_but_last read) before.output now.output
-  pub due_at_fault : (now.input.faults ≡ before.input.faults → ⊥) → HasAnswered answer read before.output now.output
+  pub due : BeforeReads (λ pieces. HasAnswered answer pieces before.output now.output) read before.input now.input
   pub ends : EndsBy answer end (joined read) now.input.left before.output now.output
 
 -- how that is reported: by nothing, or by one line and its status

@@ -1,13 +1,14 @@
 -- What a run over the lines of an input reads, writes and answers.
-use Rattle.std.specs.Prelude.{◌≡◌, ℕ, ◌<◌, ◌≤◌, ◌⊎◌, List, [], ◌++◌, drop, flat_map, length, take}
+use Rattle.std.specs.Prelude.{◌≡◌, ℕ, ◌<◌, ◌≤◌, ◌⊎◌, List, [], ◌∷◌, ◌++◌, drop, flat_map, length, take}
 use Rattle.text_bytes.specs.Lines.{lines}
 use Rattle.text_tables.specs.Texts.{Text}
 use Rattle.device_core.specs.RunBlocks.{newline_count}
 use Rattle.engine_ends.specs.Reported.{followed_by}
-use Rattle.engine_ends.specs.Sinks.{SinkState}
+use Rattle.engine_ends.specs.Sinks.{BreaksOff, HandsOn, SinkState}
 use Rattle.engine_ends.specs.Streams.{Streams}
-use Rattle.engine_sessions.specs.Inputs.{all_but_last}
-use Rattle.engine_sessions.specs.Serves.{Serves}
+use Rattle.engine_ends.specs.Delivery.{ReportsFailure}
+use Rattle.engine_sessions.specs.Inputs.{BeforeReads, GoesOn, ReadsToFault, ReadsWell}
+use Rattle.engine_sessions.specs.Serves.{Serves, StopsBefore, WritesOut}
 use Rattle.engine_sessions.specs.Turns.{joined}
 use Rattle.engine_lookups.specs.Outcomes.{lines_outcome, most_bytes}
 
@@ -27,15 +28,43 @@ HasFlushed before text now = (text ≡ []) ⊎ ((following : Text) × (now.flush
 abbrev pub HasAnswered : (Text → Text) → List Text → SinkState → SinkState → Type 0
 HasAnswered answer read before now = HasFlushed before (flat_map answer (ended_lines (joined read))) now
 
--- no more of a line that has not ended was held before each of these pieces than a line may have
+-- Before each of these pieces was read, no more bytes of a line that had not ended were read than a line may have.
 abbrev pub HoldsFew : List Text → Type 0
 HoldsFew read = (n : ℕ) → n < length read → length (unended (joined (take n read))) ≤ most_bytes
 
--- What is written and answered is the outcome of the lines of the input. Before each read the answers to all lines that had ended were
--- flushed: to those in all pieces but the last, and in all pieces if the read after them failed. No more of a line was held than a line
--- may have.
+-- The output broke off in the answer to the first of these lines.
+abbrev pub BreaksOffAtFirst : (Text → Text) → List Text → SinkState → SinkState → Type 0
+BreaksOffAtFirst answer [] after now = ⊥
+BreaksOffAtFirst answer (line ∷ lines) after now = BreaksOff after (answer line) now
+
+-- The first lines of a text are answered, some number of them, and after that nothing; or the output broke off in the answer to the
+-- next one.
+pub record AnswersFirst (answer : Text → Text) (text : Text) (before now : SinkState) : Type 0 where
+  pub answered : List Text
+  pub others : List Text
+  pub lines_are : lines text ≡ answered ++ others
+  pub after : SinkState
+  pub writes : WritesOut before (flat_map answer answered) after
+  pub ends : (now ≡ after) ⊎ BreaksOffAtFirst answer others after now
+
+-- The messages are written, then lines of a text are answered, and then at most one line says how that ended.
+pub record LooksAfter (messages : Text) (answer : Text → Text) (text : Text) (status : ℕ) (before now : Streams) : Type 0 where
+  pub after : SinkState
+  pub says : HandsOn before.err messages after
+  pub answers : AnswersFirst answer text before.out now.out
+  pub concludes : (now.err ≡ after) ⊎ ((line : Text) × (wanted : ℕ) × ReportsFailure line wanted status after now.err)
+
+-- These pieces are read, step by step. Nothing is read or answered before the messages are written, and no line after the output failed.
+-- Each read gives a piece, except one that fails. Before each read the input went on, and the answers to all lines that had ended were
+-- flushed. No more bytes of a line were read than a line may have before the next piece was.
+pub record LooksThrough (messages : Text) (answer : Text → Text) (read : List Text) (status : ℕ) (before now : Streams) : Type 0 where
+  pub order : StopsBefore messages status before now ⊎ LooksAfter messages answer (joined read) status before now
+  pub reads : ReadsWell (length read) before.input now.input ⊎ ReadsToFault (length read) before.input now.input
+  pub goes_on : BeforeReads GoesOn read before.input now.input
+  pub due : BeforeReads (λ pieces. HasAnswered answer pieces before.out now.out) read before.input now.input
+  pub fits : HoldsFew read
+
+-- What is written and answered is the outcome of the lines of the input, also step by step.
 pub record LooksUp (messages : Text) (answer : Text → Text) (status : ℕ) (before now : Streams) : Type 0 where
   pub serves : Serves (lines_outcome messages answer) status before now
-  pub due : HasAnswered answer (all_but_last serves.read) before.out now.out
-  pub due_at_fault : (now.input.faults ≡ before.input.faults → ⊥) → HasAnswered answer serves.read before.out now.out
-  pub fits : HoldsFew serves.read
+  pub steps : LooksThrough messages answer serves.read status before now

@@ -1,7 +1,8 @@
 //! `query -`: the modaliases of an input, one a line, each answered before the next read.
 //!
 //! This crate uses the reports, which say how a modalias is answered, and the sessions, which say what a run over an input
-//! serves. Nothing of a line outlives its answer, and no more than one line that has not ended is held.
+//! serves. Nothing of a line is kept after its answer, and nothing more is read after more than 65,536 bytes of one that has
+//! not ended.
 //!
 //! Functions that allocate return `AllocError` when memory runs out.
 #![tactic(auto)]

@@ -1,5 +1,5 @@
 -- Turn after turn.
-use Rattle.std.proofs.Common.{◌≡◌, ℕ, ◌+◌, ◌<◌, ◌≤◌, ◌⊎◌, inl, inr, length, take, Bool, true, false, Option, None, Some, List, [], ◌∷◌, ◌++◌, refl, Ok, Err, append_assoc, length-append, ap, sym, ◌∙◌, subst, arith}
+use Rattle.std.proofs.Common.{◌≡◌, ℕ, zero, suc, ◌+◌, ◌-◌, ◌<◌, ◌≤◌, ◌⊎◌, inl, inr, length, take, Bool, true, false, Option, None, Some, List, [], ◌∷◌, ◌++◌, refl, Ok, Err, append_assoc, length-append, ap, sym, ◌∙◌, subst, arith}
 use Rattle.std.proofs.lemmas.Bool.{cases_lt}
 use Rattle.std.proofs.lemmas.List.{append-nil, take-append-le}
 use Rattle.std.proofs.lemmas.Grind.{common_steps, flat_map-append}
@@ -26,7 +26,7 @@ use Rattle.engine_sessions.proofs.AnswerLemmas.{with_texts, answers_to-append, c
 use Rattle.engine_sessions.proofs.SendLemmas.{sends-none, sends-more}
 use Rattle.engine_sessions.proofs.TurnLemmas.{at}
 use Rattle.engine_sessions.proofs.LawLemmas.{Given, until, complete_well, after_well, first_answers, stays_faulty}
-use Rattle.engine_sessions.specs.Inputs.{most_turns, all_but_last, HasSentDue, Devices, HoldsFew, StopsAtBlock, ReadsWell, ReadsToFault, AnswersInput}
+use Rattle.engine_sessions.specs.Inputs.{most_turns, all_but_last, BeforeReads, GoesOn, HasSentDue, Devices, HoldsFew, StopsAtBlock, ReadsWell, ReadsToFault, AnswersInput}
 
 -- no more is held, neither before one of these pieces nor after them, than a block may have
 abbrev pub HoldsUpTo : List Text → Type 0
@@ -39,6 +39,7 @@ pub record Served {A : Type 0} (answer : EventValue → Text) (first : Held A) (
   pub left : input.left ≡ led_by (joined read) now.left
   pub counts : ReadsWell turns input now
   pub after_turn : length read ≡ turns
+  pub goes_on : GoesOn read
   pub fits : HoldsUpTo read
   pub sent : List Text
   pub sends : Sends output sent sink
@@ -103,17 +104,40 @@ pub reads_more : (turns : ℕ) (input now later : SourceState) → ReadsWell tur
 reads_more turns input now later w r e = record { reads = counts-more turns 1 input.reads now.reads later.reads w.reads r; well = e ∙ w.well }
 
 -- one piece more was read
-reads_after : (turns : ℕ) (input now later : SourceState) (read : List Text) (piece : Text) → length read ≡ turns → ReadsWell turns input now → Gives now piece later → ReadsWell (length (read ++ piece ∷ [])) input later
+pub reads_after : (turns : ℕ) (input now later : SourceState) (read : List Text) (piece : Text) → length read ≡ turns → ReadsWell turns input now → Gives now piece later → ReadsWell (length (read ++ piece ∷ [])) input later
 reads_after turns input now later read piece e w g =
     let size : turns + 1 ≡ length (read ++ piece ∷ []) = omega (arith, e, length-append read (piece ∷ [])) in
     subst (λ n. ReadsWell n input later) size (reads_more turns input now later w g.reads g.well)
 
 -- one read more failed
-to_fault : (turns made : ℕ) (input now later : SourceState) → made ≡ turns → ReadsWell turns input now → SourceFails now later → ReadsToFault made input later
+pub to_fault : (turns made : ℕ) (input now later : SourceState) → made ≡ turns → ReadsWell turns input now → SourceFails now later → ReadsToFault made input later
 to_fault turns made input now later e w f = record {
   reads = rw e (counts-more turns 1 input.reads now.reads later.reads w.reads f.reads);
   failed = subst (λ n. Counts 1 n later.faults) w.well f.failed;
 }
+
+-- a piece after which the input goes on has a byte
+pub some_byte : (now later : SourceState) (piece : Text) → Reads true now piece later → 0 < length piece
+some_byte now later [] r = let end : true ≡ false = r.ends.1 refl in absurd cc
+some_byte now later (byte ∷ bytes) r = omega arith
+
+-- one piece more was read, and the input goes on
+pub goes_on-push : (read : List Text) (piece : Text) → GoesOn read → 0 < length piece → GoesOn (read ++ piece ∷ [])
+goes_on-push [] piece all some = (some, tt)
+goes_on-push (first ∷ others) piece all some = (all.0, goes_on-push others piece all.1 some)
+
+-- the input went on before each read
+pub went_on : (read : List Text) (piece : Text) (before now : SourceState) → GoesOn read → now.faults ≡ before.faults → BeforeReads GoesOn (read ++ piece ∷ []) before now
+went_on read piece before now all well = (subst GoesOn (sym (all_but_last-push read piece)) all, λ f. absurd (f well))
+
+-- and it went on after all pieces
+pub goes_on-few : (read : List Text) → GoesOn read → GoesOn (all_but_last read)
+goes_on-few read all = fewer (length read - 1) read all
+  where
+    fewer : (n : ℕ) (pieces : List Text) → GoesOn pieces → GoesOn (take n pieces)
+    fewer zero pieces all = tt
+    fewer (suc n) [] all = tt
+    fewer (suc n) (first ∷ others) all = (all.0, fewer n others all.1)
 
 -- what an input and an output show
 abbrev pub shown : SourceState → SinkState → Devices
@@ -126,6 +150,7 @@ served_at_start answer session input output e = record {
   left = sym (led_by-nil input.left);
   counts = record { reads = counts-none input.reads; well = refl };
   after_turn = refl;
+  goes_on = tt;
   fits = none_at_start;
   sent = [];
   sends = sends-none output;
@@ -159,6 +184,7 @@ served_more answer first session next input now later output sink sink_later tur
       pieces = one_more input now later s.read t.piece s.pieces t.reads.gives.pieces;
       left = left_after input now later s.read t.piece s.left t.reads.gives.left;
       counts = reads_more turns input now later s.counts t.reads.gives.reads t.reads.gives.well;
+      goes_on = goes_on-push s.read t.piece s.goes_on (some_byte now later t.piece t.reads);
       fits = up_to_after s.read t.piece s.fits held;
       after_turn = length-append s.read (t.piece ∷ []) ∙ ap (λ n. n + 1) s.after_turn;
       sent = s.sent ++ t.sends.texts;
@@ -198,6 +224,7 @@ finished answer first session next input now later output sink sink_later turns 
   pieces = one_more input now later s.read t.piece s.pieces t.reads.gives.pieces;
   left = left_after input now later s.read t.piece s.left t.reads.gives.left;
   counts = reads_after turns input now later s.read t.piece s.after_turn s.counts t.reads.gives;
+  goes_on = went_on s.read t.piece input later s.goes_on (t.reads.gives.well ∙ s.counts.well);
   fits = few_after s.read t.piece s.fits;
   sent = s.sent ++ t.sends.texts;
   after = sink_later;
@@ -226,6 +253,7 @@ record ReadOn (input later : SourceState) (read : List Text) : Type 0 where
   pub pieces : later.pieces ≡ followed_by input.pieces read
   pub left : input.left ≡ led_by (joined read) later.left
   pub counts : ReadsWell (length read) input later
+  pub goes_on : BeforeReads GoesOn read input later
   pub fits : HoldsFew read
 
 read_on : {A : Type 0} (answer : EventValue → Text) (first session : Held A) (input now later : SourceState) (output sink : SinkState) (turns : ℕ) (more : Bool) (piece : Text) (s : Served answer first input now output sink session turns) → Reads more now piece later
@@ -234,6 +262,7 @@ read_on answer first session input now later output sink turns more piece s r = 
   pieces = one_more input now later s.read piece s.pieces r.gives.pieces;
   left = left_after input now later s.read piece s.left r.gives.left;
   counts = reads_after turns input now later s.read piece s.after_turn s.counts r.gives;
+  goes_on = went_on s.read piece input later s.goes_on (r.gives.well ∙ s.counts.well);
   fits = few_after s.read piece s.fits;
 }
 
@@ -285,6 +314,7 @@ failed answer Read first session next input now later output sink sink_later tur
   pieces = f.1.pieces ∙ s.pieces;
   left = s.left ∙ ap (led_by (joined s.read)) (sym f.1.left);
   counts = inl (to_fault turns (length s.read) input now later s.after_turn s.counts f.1);
+  goes_on = (goes_on-few s.read s.goes_on, λ failed. s.goes_on);
   fits = few_of s.read s.fits;
   sent = s.sent;
   after = sink;
@@ -300,6 +330,7 @@ failed answer Write first session next input now later output sink sink_later tu
       pieces = on.pieces;
       left = on.left;
       counts = on.counts;
+      goes_on = on.goes_on;
       fits = on.fits;
       sent = s.sent ++ f.sends.sent;
       after = f.sends.after;
@@ -315,6 +346,7 @@ failed answer (Session (Block number fault)) first session next input now later 
       pieces = on.pieces;
       left = on.left;
       counts = on.counts;
+      goes_on = on.goes_on;
       fits = on.fits;
       sent = s.sent ++ texts;
       after = sink_later;
@@ -330,6 +362,7 @@ failed answer (Session Memory) first session next input now later output sink si
       pieces = on.pieces;
       left = on.left;
       counts = on.counts;
+      goes_on = on.goes_on;
       fits = on.fits;
       sent = s.sent ++ f.sends.sent;
       after = sink_later;
@@ -347,6 +380,7 @@ used_up answer first session input now output sink s = record {
   pieces = s.pieces;
   left = s.left;
   counts = inr (record { all = s.after_turn; reads = s.counts.reads }, s.counts.well);
+  goes_on = (goes_on-few s.read s.goes_on, λ failed. s.goes_on);
   fits = few_of s.read s.fits;
   sent = s.sent;
   after = sink;
@@ -362,6 +396,7 @@ unstarted answer input output = record {
   pieces = sym (followed_by-nil input.pieces);
   left = sym (led_by-nil input.left);
   counts = record { reads = counts-none input.reads; well = refl };
+  goes_on = (tt, λ failed. tt);
   fits = λ n h. absurd (omega (arith, h));
   sent = [];
   after = output;

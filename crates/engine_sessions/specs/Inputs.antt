@@ -1,5 +1,6 @@
 -- What is read from an input, which of its answers are sent, and how that ends.
 use Rattle.std.specs.Prelude.{◌≡◌, ℕ, ◌+◌, ◌-◌, ◌^◌, ◌<◌, ◌≤◌, ◌⊎◌, List, ◌++◌, Option, Some, Result, Ok, Err, length, take}
+use Rattle.std.specs.List.{AllByRecursion}
 use Rattle.text_tables.specs.Texts.{Text}
 use Rattle.device_core.specs.Runs.{complete_runs, rest_of}
 use Rattle.device_core.specs.RunBlocks.{most_bytes}
@@ -32,6 +33,14 @@ most_turns = 2 ^ 48
 -- pieces without the last
 abbrev pub all_but_last : List Text → List Text
 all_but_last pieces = take (length pieces - 1) pieces
+
+-- This holds of the pieces before each read: of all but the last, and of all of them if the read after them failed.
+abbrev pub BeforeReads : (List Text → Type 0) → List Text → (before now : SourceState) → Type 0
+BeforeReads Holds read before now = Holds (all_but_last read) × ((now.faults ≡ before.faults → ⊥) → Holds read)
+
+-- None of these pieces is empty: the input goes on after each.
+abbrev pub GoesOn : List Text → Type 0
+GoesOn read = AllByRecursion (λ piece. 0 < length piece) read
 
 -- The answers to the complete runs of all pieces read except the last are sent, in front of any others.
 abbrev pub HasSentDue : (EventValue → Text) → List Text → List Text → Type 0
@@ -91,13 +100,14 @@ abbrev pub CountsBy : Result (Unit {0}) TurnFault → ℕ → SourceState → So
 CountsBy (Err Read) turns before now = ReadsToFault turns before now ⊎ (UsesUp turns before now × (now.faults ≡ before.faults))
 CountsBy _ turns before now = ReadsWell turns before now
 
--- What is read from an input in pieces, which of its answers are sent (written and flushed, and none of those calls
--- failed), and how it ends.
+-- What is read from an input in pieces, none of them after its end, which of its answers are sent (written and flushed, and
+-- none of those calls failed), and how it ends.
 pub record AnswersInput (answer : EventValue → Text) (end : Result (Unit {0}) TurnFault) (before now : Devices) : Type 0 where
   pub read : List Text
   pub pieces : now.input.pieces ≡ followed_by before.input.pieces read
   pub left : before.input.left ≡ led_by (joined read) now.input.left
   pub counts : CountsBy end (length read) before.input now.input
+  pub goes_on : BeforeReads GoesOn read before.input now.input
   pub fits : HoldsFew read
   pub sent : List Text
   pub after : SinkState

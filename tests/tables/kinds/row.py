@@ -25,6 +25,15 @@ PIPE = object()
 
 
 @dataclass
+class Device:
+    """A device node among the files of a row, which only root can make: of a block or a character device."""
+
+    is_block: bool
+    major: int
+    minor: int
+
+
+@dataclass
 class Moded:
     """A file, or an empty folder, with permissions of its own, among the files of a row."""
 
@@ -39,8 +48,8 @@ class Row:
     name: str
     # the words of the command line; a str is cut at its spaces
     words: list | str
-    # the files of the folder that the program is run in: path to content, a Link, a Moded, FOLDER or PIPE; a path may
-    # lead through folders
+    # the files of the folder that the program is run in: path to content, a Link, a Moded, a Device, FOLDER or PIPE; a path
+    # may lead through folders
     files: dict = field(default_factory=dict)
     # the standard input
     input: bytes | str = b""
@@ -50,6 +59,8 @@ class Row:
     status: int = 0
     # whether it is run by a user for whom permissions count: root is not one
     plain: bool = False
+    # whether both outputs are one stream, as on a terminal; `output` then has all that is written, in its order
+    together: bool = False
 
 
 def as_bytes(text):

@@ -30,4 +30,4 @@ pub returns : goal.returns
 returns c =
     sym c.loop-byte.invariant.read
     ∙ read_all c.args.reading c.loop-byte.items.items c.loop-byte.rest.now (c.args.at + (length c.args.text.now - length c.loop-byte.rest.now)) c.in_default.ensures.cases
-    ∙ ap Ok (sym c.in_ok-of_items.ensures)
+    ∙ ap Ok (sym c.of_items.ensures)

@@ -2,16 +2,17 @@
 //!
 //! A pattern is read once and matched often, so it holds its items ready, each set as bits, and in
 //! just the room that they need.
-ghost use Rattle.std.specs.Prelude.{◌≡◌, ◌≢◌, ◌+◌, ◌<◌, ◌^◌, length, Ok, Err, IfOk, IsErrOf, MatchResult};
+ghost use Rattle.std.specs.Prelude.{◌≡◌, ◌≢◌, ◌+◌, ◌++◌, ◌<◌, ◌^◌, length, map, Ok, Err, IfOk, OnOk, IsErrOf, MatchResult};
 ghost use Rattle.text_core.specs.Fits.{fits};
 ghost use Rattle.text_core.specs.Spell.{items_at, max_len, spell};
 ghost use Rattle.text_core.specs.declared.glob_fault.GlobFault.TheVariants.{Memory, TooLong};
+ghost use Rattle.text_core.specs.declared.item.Item.TheVariants.{Byte};
 
 use crate::glob;
 use crate::glob_fault::GlobFault;
 use crate::item::Item;
 use crate::reading::Reading;
-use crate::spell::first_item;
+use crate::spell::{first_item, plain_length};
 use std::alloc::{AllocError, Global};
 use std::marker::Model;
 
@@ -33,6 +34,16 @@ impl Model for Pattern {
     ghost Value = { List Item };
 
     ghost view = { λ p. p.items.items };
+}
+
+/// Adds bytes as items that mean themselves.
+fn push_bytes(items: &mut Vec<Item>, bytes: &[u8]) -> Result<(), AllocError>
+    ensures { OnOk result (items.new.items ≡ items.old.items ++ map Byte bytes.now) }
+{
+    for byte in bytes {
+        items.push(Item::Byte(*byte))?;
+    }
+    Ok(())
 }
 
 impl Pattern {
@@ -60,8 +71,9 @@ impl Pattern {
         requires { at + length text.now < 2 ^ 63 }
         ensures { MatchResult result (λ p. items_at reading text.now 0 at ≡ Ok p) (λ e. e ≢ Memory → items_at reading text.now 0 at ≡ Err e) }
     {
+        let (plain, mut rest) = text.split_at(plain_length(reading, text));
         let mut items = Vec::with_capacity(alloc, text.len())?;
-        let mut rest = text;
+        push_bytes(&mut items, plain)?;
         while let Some((byte, after)) = rest.split_first() {
             let head = first_item(reading, at + (text.len() - rest.len()), *byte, after)?;
             items.push(head.item)?;

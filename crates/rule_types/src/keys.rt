@@ -119,5 +119,25 @@ fn named(keys: &[Key], text: &[u8]) -> Option<Key>
     ensures value { result ≡ find (λ key. pointwise nat_eq (key_name key) text.now) keys.now }
     ensures named { IfSome result (λ key. key_name key ≡ text.now) }
 {
-    keys.iter().copied().find(|key| key.name() == text)
+    keys.iter().copied().find(|key| is_equal(key.name(), text))
+}
+
+/// Whether two texts are equal. Names are short: one byte after another costs less than groups of them.
+#[tactic(auto, using(crate::proofs::Equal::same_first, crate::proofs::Equal::other_first, crate::proofs::Equal::no_first))]
+fn is_equal(mut name: &[u8], mut text: &[u8]) -> bool
+    ensures { result ≡ pointwise nat_eq name.now text.now }
+{
+    while let Some((byte, after)) = name.split_first() {
+        match text.split_first() {
+            None => return false,
+            Some((own, more)) => {
+                if *own != *byte {
+                    return false;
+                }
+                name = after;
+                text = more;
+            }
+        }
+    }
+    text.is_empty()
 }

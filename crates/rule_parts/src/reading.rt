@@ -14,7 +14,7 @@ use file_messages::MessageKind;
 use rule_tokens::{Quote, Token, unquote};
 use rule_types::{
     Act, ActKind, Assignment, Change, Comparison, Import, ImportType, MatchOperator, Part,
-    PlainMatch, Role, UpMatch, builtin_of, key_of, read_as, role_of, topic_of,
+    PlainMatch, Role, UpMatch, builtin_of, is_add_or_final, key_of, read_as, role_of, topic_of,
 };
 use std::alloc::{AllocError, Global};
 use text_bytes::{Bytes, Profile};
@@ -176,15 +176,15 @@ fn part_by(
 {
     match role {
         Role::Plain(key, operator) => {
-            let wanted = comparison(alloc, profile, operator, blind, &text)?;
+            let wanted = comparison(alloc, profile, operator, blind, text)?;
             Ok(Part::Plain(PlainMatch { key, wanted }))
         }
         Role::Up(key, operator) => {
-            let wanted = comparison(alloc, profile, operator, blind, &text)?;
+            let wanted = comparison(alloc, profile, operator, blind, text)?;
             Ok(Part::Up(UpMatch { key, wanted }))
         }
         Role::Result(operator) => Ok(Part::Result(comparison(
-            alloc, profile, operator, blind, &text,
+            alloc, profile, operator, blind, text,
         )?)),
         Role::Test(mask, operator) => {
             let act_kind = ActKind::Test(mask, read_template(alloc, profile, &text)?);
@@ -231,15 +231,15 @@ fn comparison(
     profile: Profile,
     operator: MatchOperator,
     blind: bool,
-    text: &[u8],
+    text: Vec<u8>,
 ) -> Result<Comparison, PartFault>
-    ensures { Gives result (comparison profile operator blind text.now) }
+    ensures { Gives result (comparison profile operator blind text.items) }
 {
-    let choice = read_choice(alloc, profile, blind, text)?;
+    let choice = read_choice(alloc, profile, blind, &text)?;
     Ok(Comparison {
         operator,
         blind,
-        written: Bytes::copy_of(alloc, text)?,
+        written: Bytes::new(text),
         choice,
     })
 }
@@ -269,10 +269,13 @@ fn import_by(
 }
 
 /// Whether a token's operator is read as `=`, which should have been written.
-#[tactic(auto, unfolding(crate::specs::Parts::is_read_as_assign))]
+#[tactic(auto, using(crate::proofs::Misread::never_misread), unfolding(crate::specs::Parts::is_read_as_assign))]
 pub fn is_read_as_assign(token: &Token<'_>) -> bool
     ensures { result ≡ is_read_as_assign token.now }
 {
+    if !is_add_or_final(token.operator()) {
+        return false;
+    }
     match key_of(token.key()) {
         None => false,
         Some(key) => rule_types::is_read_as_assign(key, token.operator()),

@@ -1,8 +1,13 @@
 -- What one turn of a loop over the pieces of a value leaves.
-use Rattle.std.proofs.Common.{◌≡◌, ℕ, ◌+◌, ◌<◌, Bool, List, [], ◌∷◌, ◌++◌, length, drop, Option, Some, None, option_map, refl, ap, ◌∙◌, arith, append_assoc, append-nil, length-append}
-use Rattle.std.specs.List.{flat_map}
-use Rattle.rule_tokens.specs.Values.{Piece, spelling, meaning}
-use Rattle.rule_tokens.specs.Reading.{piece_at, pieces_of, meaning_at, value_length}
+use Rattle.std.proofs.Common.{◌≡◌, ℕ, suc, ◌+◌, ◌<◌, Bool, true, false, not, List, [], ◌∷◌, ◌++◌, length, take, drop, Option, Some, None, cond, option_map, refl, ap, sym, ◌∙◌, ◌==◌, arith, append_assoc, append-nil, length-append, length-drop}
+use Rattle.std.specs.Prelude.{◌&&◌}
+use Rattle.std.specs.List.{flat_map, prefix_len}
+use Rattle.std.proofs.lemmas.Bool.{and_parts, not-true}
+use Rattle.std.proofs.lemmas.List.Folds.{length-prefix_len}
+use Rattle.std.proofs.lemmas.List.Sums.{prefix_len-le-length}
+use Rattle.text_bytes.specs.Names.{nul, backslash, double_quote}
+use Rattle.rule_tokens.specs.Values.{Piece, byte, spelling, meaning}
+use Rattle.rule_tokens.specs.Reading.{piece_at, if_piece, is_single, pieces_of, meaning_at, value_length}
 use Rattle.rule_tokens.proofs.Pieces.{piece_sound}
 use Rattle.rule_tokens.proofs.PieceLists.{pieces_some, pieces_none, spelled_some}
 
@@ -34,6 +39,42 @@ none_left escaped text e = by_piece (piece_at escaped text) refl e
     by_piece : (o : Option Piece) → piece_at escaped text ≡ o → option_map (seen text) o ≡ None → pieces_of escaped 0 text ≡ []
     by_piece None f e = pieces_none escaped text f
     by_piece (Some p) f e = absurd (cc)
+
+-- a byte of its own is read as that
+single_piece : (escaped : Bool) (b : ℕ) (rest : List ℕ) → is_single b ≡ true → piece_at escaped (b ∷ rest) ≡ Some (byte b)
+unfolding piece_at
+single_piece escaped b rest e =
+    let p = and_parts (not (b == backslash)) _ e in
+    let q = and_parts (not (b == double_quote)) _ p.1 in
+    rw (not-true (b == backslash) p.0) (allowed escaped p q)
+  where
+    allowed : (escaped : Bool) → (not (b == backslash) ≡ true) × ((not (b == double_quote) && not (b == nul)) ≡ true) → (not (b == double_quote) ≡ true) × (not (b == nul) ≡ true) → if_piece escaped (byte b) ≡ Some (byte b)
+    allowed false p q = rw p.1 refl
+    allowed true p q = rw q.0 (rw q.1 (rw p.0 refl))
+
+one-more : (n : ℕ) → 1 + n ≡ suc n
+one-more n = omega arith
+
+-- what the pieces at the front give, of which each is a byte of its own, and what those after them give
+single_run : (f : Piece → List ℕ) (h : (b : ℕ) → f (byte b) ≡ b ∷ []) (escaped : Bool) (text : List ℕ) → flat_map f (pieces_of escaped 0 text) ≡ take (prefix_len is_single text) text ++ flat_map f (pieces_of escaped 0 (drop (prefix_len is_single text) text))
+single_run f h escaped [] = refl
+single_run f h escaped (b ∷ rest) = by_test (is_single b) refl (single_run f h escaped rest)
+  where
+    by_test : (t : Bool) → is_single b ≡ t → flat_map f (pieces_of escaped 0 rest) ≡ take (prefix_len is_single rest) rest ++ flat_map f (pieces_of escaped 0 (drop (prefix_len is_single rest) rest))
+        → flat_map f (pieces_of escaped 0 (b ∷ rest)) ≡ take (cond t (1 + prefix_len is_single rest) 0) (b ∷ rest) ++ flat_map f (pieces_of escaped 0 (drop (cond t (1 + prefix_len is_single rest) 0) (b ∷ rest)))
+    by_test true e k =
+        rw (one-more (prefix_len is_single rest)) (rw (pieces_some escaped (byte b) rest (single_piece escaped b rest e)) (rw (h b) (ap (λ bytes. b ∷ bytes) k)))
+    by_test false e k = refl
+
+pub meaning_run : (escaped : Bool) (text : List ℕ) → take (prefix_len is_single text) text ++ flat_map meaning (pieces_of escaped 0 (drop (prefix_len is_single text) text)) ≡ flat_map meaning (pieces_of escaped 0 text)
+meaning_run escaped text = sym (single_run meaning (λ b. refl) escaped text)
+
+pub value_run : (escaped : Bool) (text : List ℕ) → length text + value_length escaped (drop (prefix_len is_single text) text) ≡ value_length escaped text + length (drop (prefix_len is_single text) text)
+value_run escaped text =
+    let n = prefix_len is_single text in
+    let e = ap length (single_run spelling (λ b. refl) escaped text) in
+    let a = length-append (take n text) (flat_map spelling (pieces_of escaped 0 (drop n text))) in
+    omega (arith, e, a, length-prefix_len is_single text, length-drop n text, prefix_len-le-length is_single text)
 
 pub value_step : (escaped : Bool) (text mean after : List ℕ) → meaning_at escaped text ≡ Some (mean, after) → (value_length escaped text + length after ≡ length text + value_length escaped after) × (length after < length text)
 value_step escaped text mean after e =

@@ -11,7 +11,7 @@ use Rattle.rule_tokens.specs.declared.kinds.Operator.TheVariants.{Equal, NotEqua
 use Rattle.rule_tokens.specs.declared.kinds.Quote.{Quote}
 use Rattle.rule_tokens.specs.declared.kinds.TokenFaultKind.{TokenFaultKind}
 use Rattle.rule_tokens.specs.declared.kinds.TokenFaultKind.TheVariants.{Syntax, Prefix}
-use Rattle.text_bytes.specs.Names.{bang, double_quote, plus, minus, colon, equals, backslash, open_brace, close_brace, is_blank}
+use Rattle.text_bytes.specs.Names.{nul, bang, double_quote, plus, minus, colon, equals, backslash, open_brace, close_brace, is_blank}
 use Rattle.text_bytes.specs.Texts.{ends_in, skip_while}
 use Rattle.rule_tokens.specs.Letters.{capital_u, letter_u, letter_x}
 use Rattle.rule_tokens.specs.Values.{Piece, byte, letter, octal, hex, short, long, spelling, meaning, letter_means, is_scalar, is_piece, has_escapes}
@@ -108,6 +108,10 @@ if_piece escaped p = if is_piece escaped p then Some p else None
 unfoldable pub piece_at : Bool → List ℕ → Option Piece
 piece_at escaped [] = None
 piece_at escaped (b ∷ rest) = if_piece escaped (first_piece escaped b rest)
+
+-- Any byte but a backslash, a quote and NUL: in each value it is a piece of its own.
+abbrev pub is_single : ℕ → Bool
+is_single b = not (b == backslash) && (not (b == double_quote) && not (b == nul))
 
 -- A piece and those after it, if more gives those after so many bytes.
 abbrev pub pieces_from : (ℕ → List Piece) → Option Piece → List Piece

@@ -8,7 +8,7 @@ ghost use Rattle.rule_tokens.specs.Reading.{pieces_of, meant, unquoted};
 use crate::escapes::Meaning;
 use crate::parts::Token;
 use crate::prefixes::has_escapes;
-use crate::values::piece_of;
+use crate::values::{piece_of, single_length};
 use std::alloc::{AllocError, Global};
 
 /// Adds the bytes of a meaning: a byte, or a character in UTF-8.
@@ -25,12 +25,12 @@ fn push_meaning(out: &mut Vec<u8>, meaning: Meaning) -> Result<(), AllocError>
 }
 
 /// What the pieces at the front of a text mean.
-#[tactic(auto, using(crate::proofs::Loops::unquote_step, crate::proofs::Loops::unquote_done, crate::proofs::Loops::value_step))]
+#[tactic(auto, using(crate::proofs::Loops::meaning_run, crate::proofs::Loops::unquote_step, crate::proofs::Loops::unquote_done, crate::proofs::Loops::value_step))]
 fn meaning_of(alloc: Global, escaped: bool, text: &[u8]) -> Result<Vec<u8>, AllocError>
     ensures { IfOk result (λ v. v.items ≡ flat_map meaning (pieces_of escaped 0 text.now)) }
 {
-    let mut out = Vec::new(alloc);
-    let mut rest = text;
+    let (single, mut rest) = text.split_at(single_length(text));
+    let mut out = Vec::from_slice(alloc, single)?;
     while let Some((meaning, after)) = piece_of(escaped, rest) {
         push_meaning(&mut out, meaning)?;
         rest = after;

@@ -1,7 +1,8 @@
 //! What is between the quotes, piece by piece: a piece is a byte or an escape.
 
 ghost use Rattle.std.specs.Prelude.{◌≡◌, ◌≤◌, length, option_map, true, false};
-ghost use Rattle.rule_tokens.specs.Reading.{meaning_at, meant, value_length};
+ghost use Rattle.std.specs.List.{prefix_len};
+ghost use Rattle.rule_tokens.specs.Reading.{is_single, meaning_at, meant, value_length};
 
 use crate::escapes::{Meaning, escape_of};
 
@@ -44,13 +45,28 @@ pub(crate) fn piece_of(escaped: bool, text: &[u8]) -> Option<(Meaning, &[u8])>
     }
 }
 
+/// Whether a byte is a piece of its own in each value: any but a backslash, a quote and NUL.
+fn is_single(b: u8) -> bool
+    ensures { result ≡ is_single b }
+{
+    b != b'\\' && b != b'"' && b != 0
+}
+
+/// How many bytes at the front are pieces of their own.
+pub(crate) fn single_length(text: &[u8]) -> usize
+    ensures within { result ≤ length text.now }
+    ensures value { result ≡ prefix_len is_single text.now }
+{
+    text.iter().take_while(|b| is_single(**b)).count()
+}
+
 /// How long the value at the front is.
-#[tactic(auto, using(crate::proofs::Loops::value_step, crate::proofs::Loops::value_done))]
+#[tactic(auto, using(crate::proofs::Loops::value_run, crate::proofs::Loops::value_step, crate::proofs::Loops::value_done))]
 pub(crate) fn value_length(escaped: bool, text: &[u8]) -> usize
     ensures within { result ≤ length text.now }
     ensures value { result ≡ value_length escaped text.now }
 {
-    let mut rest = text;
+    let (_, mut rest) = text.split_at(single_length(text));
     while let Some((_, after)) = piece_of(escaped, rest) {
         rest = after;
     }

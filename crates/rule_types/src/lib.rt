@@ -22,7 +22,7 @@ pub use builtins::{Builtin, builtin_of};
 pub use keys::{Key, key_of};
 pub use lint::Lint;
 pub use modes::mode_of;
-pub use operators::{is_read_as_assign, read_as};
+pub use operators::{is_add_or_final, is_read_as_assign, read_as};
 pub use part::{Act, ActKind, Assignment, Change, Comparison, Import, Part, PlainMatch, UpMatch};
 pub use roles::{AssignOperator, MatchOperator, PlainKey, Role, Target, UpKey, role_of};
 pub use rule::Rule;

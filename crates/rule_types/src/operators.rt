@@ -43,8 +43,8 @@ fn is_final(operator: Operator) -> bool
     matches!(operator, Operator::AssignFinal)
 }
 
-/// Whether an operator is `+=` or `:=`.
-fn is_add_or_final(operator: Operator) -> bool
+/// Whether an operator is `+=` or `:=`; no other is read as `=`.
+pub fn is_add_or_final(operator: Operator) -> bool
     ensures { result ≡ is_add_or_final operator }
 {
     matches!(operator, Operator::Add | Operator::AssignFinal)

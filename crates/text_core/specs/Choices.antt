@@ -4,6 +4,8 @@ use Rattle.std.specs.List.{slice_split, list_any}
 use Rattle.text_bytes.specs.Names.{bar}
 use Rattle.text_core.specs.Fits.{fits}
 use Rattle.text_core.specs.Spell.{max_len, items_at}
+use Rattle.text_core.specs.declared.choice.Parts.{Parts}
+use Rattle.text_core.specs.declared.choice.Parts.TheVariants.{One, Several}
 use Rattle.text_core.specs.declared.glob_fault.GlobFault.{GlobFault}
 use Rattle.text_core.specs.declared.glob_fault.GlobFault.TheVariants.{TooLong}
 use Rattle.text_core.specs.declared.item.Item.{Item}
@@ -40,3 +42,8 @@ choice_blind t = choice_by Blind t
 -- Whether a part fits.
 abbrev pub choice_fits : List (List Item) → List ℕ → Bool
 choice_fits parts t = list_any (λ p. fits p t) parts
+
+-- The patterns of a choice, by how they are held.
+abbrev pub held_parts : Parts → List (List Item)
+held_parts (One pattern) = pattern ∷ []
+held_parts (Several patterns) = patterns.items

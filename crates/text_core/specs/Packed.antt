@@ -14,4 +14,4 @@ written b = if b == star then Many else if b == question_mark then One else Byte
 -- The items of a pattern, by how they are held.
 abbrev pub held_items : Held → List Item
 held_items (Written bytes) = map written (rc_slice_items bytes)
-held_items (Whole items) = items
+held_items (Whole items) = rc_slice_items items

@@ -1,5 +1,5 @@
 -- What a text spells as a pattern: its items from the left, or its first fault.
-use Rattle.std.specs.Prelude.{ℕ, zero, suc, ◌+◌, Bool, false, ◌==◌, ◌||◌, ◌&&◌, nat_lt, if◌then◌else◌, List, ◌∷◌, [], length, take, drop, position, Option, Some, None, Result, Ok, Err}
+use Rattle.std.specs.Prelude.{ℕ, zero, suc, ◌+◌, Bool, false, not, ◌==◌, ◌||◌, ◌&&◌, nat_lt, if◌then◌else◌, List, ◌∷◌, [], length, take, drop, position, Option, Some, None, Result, Ok, Err}
 use Rattle.std.specs.Char.{is_ascii_alphabetic}
 use Rattle.std.specs.List.{zip}
 use Rattle.std.specs.Option.{option_map}
@@ -92,6 +92,11 @@ first_item reading at b t =
     else if b == question_mark then Ok (record { item = One; following = 0 })
     else if b == open_bracket then bracket reading at t
     else Ok (record { item = itself reading b; following = 0 })
+
+-- A byte that means itself wherever it stands outside of sets, and is no set in this reading.
+abbrev pub is_plain : Reading → ℕ → Bool
+is_plain Exact b = not (b == star) && (not (b == question_mark) && not (b == open_bracket))
+is_plain Blind b = false
 
 -- An item, and after it those that the rest spells.
 abbrev pub with_item : Item → Result (List Item) GlobFault → Result (List Item) GlobFault

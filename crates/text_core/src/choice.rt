@@ -1,7 +1,7 @@
 //! Choices: patterns with bars between, as the values of rules are, by udev(7).
 //!
 //! Bars are looked for before anything else is read, so that a bar inside a set also cuts.
-ghost use Rattle.std.specs.Prelude.{◌≡◌, ◌≢◌, ◌<◌, ◌≤◌, length, Ok, Err, IsErrOf, MatchResult};
+ghost use Rattle.std.specs.Prelude.{◌≡◌, ◌≢◌, ◌<◌, ◌≤◌, ◌∷◌, ◌++◌, [], length, Ok, Err, IfOk, IsErrOf, MatchResult};
 ghost use Rattle.text_core.specs.Choices.{choice, choice_blind, choice_by, choice_fits};
 ghost use Rattle.text_core.specs.Fnmatch.{fnmatch_choice};
 ghost use Rattle.text_core.specs.Spell.{max_len};
@@ -11,14 +11,24 @@ use crate::fnmatch::{has_special, read_part};
 use crate::glob_fault::GlobFault;
 use crate::pattern::{MAX_LEN, Pattern};
 use crate::reading::Reading;
-use std::alloc::Global;
+use std::alloc::{AllocError, Global};
 use std::marker::Model;
+use std::slice;
 use text_bytes::find;
+
+/// The patterns of a choice: nearly all have one.
+#[derive(Debug, Drop)]
+enum Parts {
+    /// Just this one.
+    One(Pattern),
+    /// These.
+    Several(Vec<Pattern>),
+}
 
 /// Patterns of which one has to fit. There is always one, perhaps an empty one.
 #[derive(Debug, Drop)]
 pub struct Choice {
-    parts: Vec<Pattern>,
+    parts: Parts,
 }
 
 impl Model for Choice {
@@ -27,7 +37,9 @@ impl Model for Choice {
 
     ghost Value = { List (List Item) };
 
-    ghost view = { λ c. c.parts.items };
+    ghost use Rattle.text_core.specs.Choices.{held_parts};
+
+    ghost view = { λ c. held_parts c.parts };
 }
 
 impl Choice {
@@ -67,8 +79,7 @@ impl Choice {
             rest = following;
         }
         let last = Pattern::read_at(alloc, reading, text.len() - rest.len(), rest)?;
-        parts.push(last)?;
-        Ok(Choice { parts })
+        Ok(Choice::of_parts(parts, last)?)
     }
 
     /// Reads the texts between the bars as udev reads them, in order. If the whole text has no `*`, `?` or `[`,
@@ -92,21 +103,38 @@ impl Choice {
             rest = following;
         }
         let last = read_part(alloc, reading, is_pattern, rest)?;
+        Ok(Choice::of_parts(parts, last)?)
+    }
+
+    /// The choice of these patterns and a last one.
+    fn of_parts(mut parts: Vec<Pattern>, last: Pattern) -> Result<Choice, AllocError>
+        ensures { IfOk result (λ c. c ≡ parts.items ++ last ∷ []) }
+    {
+        if parts.is_empty() {
+            return Ok(Choice {
+                parts: Parts::One(last),
+            });
+        }
         parts.push(last)?;
-        Ok(Choice { parts })
+        Ok(Choice {
+            parts: Parts::Several(parts),
+        })
     }
 
     /// Returns the patterns of the parts, in order.
     pub fn parts(&self) -> &[Pattern]
         ensures { result.now ≡ self.now }
     {
-        self.parts.as_slice()
+        match &self.parts {
+            Parts::One(pattern) => slice::from_ref(pattern),
+            Parts::Several(patterns) => patterns,
+        }
     }
 
     /// Whether one of the parts fits the text. It takes no memory.
     pub fn fits(&self, text: &[u8]) -> bool
         ensures { result ≡ choice_fits self.now text.now }
     {
-        self.parts.iter().any(|part| part.fits(text))
+        self.parts().iter().any(|part| part.fits(text))
     }
 }

@@ -102,7 +102,7 @@ fn read_pattern(alloc: Global, reading: Reading, text: &[u8]) -> Result<Pattern,
         items.push(head.item)?;
         (_, rest) = after.split_at(head.following);
     }
-    Pattern::of_items(items)
+    Ok(Pattern::of_items(items))
 }
 
 /// Reads each byte of a text as itself.
@@ -113,7 +113,7 @@ fn read_bytes(alloc: Global, reading: Reading, text: &[u8]) -> Result<Pattern, A
     for byte in text {
         items.push(itself(reading, *byte))?;
     }
-    Pattern::of_items(items)
+    Ok(Pattern::of_items(items))
 }
 
 /// Reads a part of a choice: as a pattern, or as its bytes if the choice has no special byte.

@@ -25,7 +25,7 @@ enum Held {
     /// By the byte that each is written as.
     Written(RcSlice<u8>),
     /// As they are.
-    Whole(Pattern),
+    Whole(RcSlice<Item>),
 }
 
 /// A pattern that takes a byte for each item, if it is written without a `[`. Copies share what they hold.
@@ -99,7 +99,7 @@ impl PackedPattern {
     {
         match Pattern::read(alloc, text) {
             Ok(pattern) => Ok(PackedPattern {
-                held: Held::Whole(pattern),
+                held: Held::Whole(RcSlice::from_vec(pattern.into_items())?),
             }),
             Err(fault) => Err(fault),
         }
@@ -107,12 +107,12 @@ impl PackedPattern {
 
     /// A pattern of the same items, which both share, so that it takes no memory. It fails only if there are as many
     /// copies as a `usize` counts.
-    pub fn copy(&self, alloc: Global) -> Result<PackedPattern, AllocError>
+    pub fn copy(&self, _alloc: Global) -> Result<PackedPattern, AllocError>
         ensures { IfOk result (λ p. p ≡ self.now) }
     {
         let held = match &self.held {
             Held::Written(bytes) => Held::Written(bytes.clone()?),
-            Held::Whole(pattern) => Held::Whole(pattern.copy(alloc)?),
+            Held::Whole(items) => Held::Whole(items.clone()?),
         };
         Ok(PackedPattern { held })
     }
@@ -123,7 +123,7 @@ impl PackedPattern {
     {
         match &self.held {
             Held::Written(bytes) => bytes.as_slice().len(),
-            Held::Whole(pattern) => pattern.items().len(),
+            Held::Whole(items) => items.as_slice().len(),
         }
     }
 
@@ -134,7 +134,7 @@ impl PackedPattern {
     {
         match &self.held {
             Held::Written(bytes) => written(bytes.as_slice()[at]),
-            Held::Whole(pattern) => pattern.items()[at],
+            Held::Whole(items) => items.as_slice()[at],
         }
     }
 
@@ -144,7 +144,7 @@ impl PackedPattern {
     {
         match &self.held {
             Held::Written(bytes) => glob::fits(bytes.as_slice(), text),
-            Held::Whole(pattern) => pattern.fits(text),
+            Held::Whole(items) => glob::fits(items.as_slice(), text),
         }
     }
 }

@@ -1,20 +1,20 @@
 //! Patterns, as udev(7) and hwdb(7) describe them for matching.
 //!
 //! A pattern is read once and matched often, so it holds its items ready, each set as bits, and in
-//! just the room that they need. Copies share the items.
-ghost use Rattle.std.specs.Prelude.{◌≡◌, ◌≢◌, ◌+◌, ◌<◌, ◌^◌, length, Ok, Err, IfOk, IsErrOf, MatchResult};
+//! just the room that they need.
+ghost use Rattle.std.specs.Prelude.{◌≡◌, ◌≢◌, ◌+◌, ◌++◌, ◌<◌, ◌^◌, length, map, Ok, Err, IfOk, OnOk, IsErrOf, MatchResult};
 ghost use Rattle.text_core.specs.Fits.{fits};
 ghost use Rattle.text_core.specs.Spell.{items_at, max_len, spell};
 ghost use Rattle.text_core.specs.declared.glob_fault.GlobFault.TheVariants.{Memory, TooLong};
+ghost use Rattle.text_core.specs.declared.item.Item.TheVariants.{Byte};
 
 use crate::glob;
 use crate::glob_fault::GlobFault;
 use crate::item::Item;
 use crate::reading::Reading;
-use crate::spell::first_item;
+use crate::spell::{first_item, plain_length};
 use std::alloc::{AllocError, Global};
 use std::marker::Model;
-use std::rc::RcSlice;
 
 /// How many bytes the text of a pattern or of a choice may have.
 pub(crate) const MAX_LEN: usize = 16384;
@@ -24,17 +24,26 @@ pub(crate) const MAX_LEN: usize = 16384;
 /// first member; a `[` that no such `]` follows is a byte.
 #[derive(Debug, Drop)]
 pub struct Pattern {
-    items: RcSlice<Item>,
+    items: Vec<Item>,
 }
 
 impl Model for Pattern {
     ghost use Rattle.std.specs.Prelude.{List};
     ghost use Rattle.text_core.specs.declared.item.Item.{Item};
-    ghost use Rattle.std.specs.Rc.{rc_slice_items};
 
     ghost Value = { List Item };
 
-    ghost view = { λ p. rc_slice_items p.items };
+    ghost view = { λ p. p.items.items };
+}
+
+/// Adds bytes as items that mean themselves.
+fn push_bytes(items: &mut Vec<Item>, bytes: &[u8]) -> Result<(), AllocError>
+    ensures { OnOk result (items.new.items ≡ items.old.items ++ map Byte bytes.now) }
+{
+    for byte in bytes {
+        items.push(Item::Byte(*byte))?;
+    }
+    Ok(())
 }
 
 impl Pattern {
@@ -62,33 +71,39 @@ impl Pattern {
         requires { at + length text.now < 2 ^ 63 }
         ensures { MatchResult result (λ p. items_at reading text.now 0 at ≡ Ok p) (λ e. e ≢ Memory → items_at reading text.now 0 at ≡ Err e) }
     {
+        let (plain, mut rest) = text.split_at(plain_length(reading, text));
         let mut items = Vec::with_capacity(alloc, text.len())?;
-        let mut rest = text;
+        push_bytes(&mut items, plain)?;
         while let Some((byte, after)) = rest.split_first() {
             let head = first_item(reading, at + (text.len() - rest.len()), *byte, after)?;
             items.push(head.item)?;
             (_, rest) = after.split_at(head.following);
         }
-        Ok(Pattern::of_items(items)?)
+        Ok(Pattern::of_items(items))
     }
 
     /// The pattern of these items, with just the capacity that they need.
-    pub(crate) fn of_items(mut items: Vec<Item>) -> Result<Pattern, AllocError>
-        ensures { IfOk result (λ p. p ≡ items.items) }
+    pub(crate) fn of_items(mut items: Vec<Item>) -> Pattern
+        ensures { result ≡ items.items }
     {
         items.shrink_to_fit();
-        Ok(Pattern {
-            items: RcSlice::from_vec(items)?,
-        })
+        Pattern { items }
     }
 
-    /// A pattern of the same items, which both share, so that it takes no memory. Fails only if there are as many
-    /// copies as a `usize` can count.
-    pub fn copy(&self, _alloc: Global) -> Result<Pattern, AllocError>
+    /// Its items.
+    pub(crate) fn into_items(self) -> Vec<Item>
+        ensures { result.items ≡ self }
+    {
+        let Pattern { items } = self;
+        items
+    }
+
+    /// A pattern of the same items.
+    pub fn copy(&self, alloc: Global) -> Result<Pattern, AllocError>
         ensures { IfOk result (λ p. p ≡ self.now) }
     {
         Ok(Pattern {
-            items: self.items.clone()?,
+            items: Vec::from_slice(alloc, &self.items)?,
         })
     }
 
@@ -96,13 +111,13 @@ impl Pattern {
     pub fn items(&self) -> &[Item]
         ensures { result.now ≡ self.now }
     {
-        self.items.as_slice()
+        &self.items
     }
 
     /// Whether the whole text fits. It allocates nothing, and takes time at most items times text.
     pub fn fits(&self, text: &[u8]) -> bool
         ensures { result ≡ fits self.now text.now }
     {
-        glob::fits(self.items.as_slice(), text)
+        glob::fits(&self.items, text)
     }
 }

@@ -1,6 +1,7 @@
 //! The items that a text spells, one at a time.
 ghost use Rattle.std.specs.Prelude.{◌≡◌, ◌+◌, ◌^◌, ◌<◌, ◌≤◌, length, IfOk, IfSome};
-ghost use Rattle.text_core.specs.Spell.{negated, sign_len, class_place, members_len, bracket, itself, first_item};
+ghost use Rattle.std.specs.List.{prefix_len};
+ghost use Rattle.text_core.specs.Spell.{negated, sign_len, class_place, members_len, bracket, itself, is_plain, first_item};
 
 use crate::glob_fault::GlobFault;
 use crate::item::Item;
@@ -95,6 +96,26 @@ pub(crate) fn itself(reading: Reading, byte: u8) -> Item
         }
         _ => Item::Byte(byte),
     }
+}
+
+/// Whether a byte is an item of its own, read exactly.
+fn is_plain(reading: Reading, byte: u8) -> bool
+    ensures { result ≡ is_plain reading byte }
+{
+    match reading {
+        Reading::Exact => byte != b'*' && byte != b'?' && byte != b'[',
+        Reading::Blind => false,
+    }
+}
+
+/// How many bytes at the front of a text are items of their own.
+pub(crate) fn plain_length(reading: Reading, text: &[u8]) -> usize
+    ensures value { result ≡ prefix_len (is_plain reading) text.now }
+    ensures within { result ≤ length text.now }
+{
+    text.iter()
+        .take_while(|byte| is_plain(reading, **byte))
+        .count()
 }
 
 /// The item that a byte at a place begins, and how many of the bytes after it belong to it.

@@ -1,5 +1,4 @@
 use Rattle.std.proofs.Common.{sym, ◌∙◌}
-use Rattle.std.proofs.lemmas.Result.{IfOk-weaker}
 use Rattle.text_core.specs.Elements.{symbol_len}
 use Rattle.text_core.proofs.Closing.{are_closed}
 use Rattle.text_core.proofs.Fnmatching.{items_all, items_more}
@@ -33,6 +32,4 @@ loop-byte-preserved c = record {
 }
 
 pub returns : goal.returns
-returns c = IfOk-weaker c.of_items.result _ _
-    (λ p h. h ∙ sym (items_all c.args.reading c.loop-byte.items.items c.loop-byte.rest.now c.in_default.ensures.cases) ∙ c.loop-byte.invariant.read)
-    c.of_items.ensures
+returns c = c.of_items.ensures ∙ sym (items_all c.args.reading c.loop-byte.items.items c.loop-byte.rest.now c.in_default.ensures.cases) ∙ c.loop-byte.invariant.read

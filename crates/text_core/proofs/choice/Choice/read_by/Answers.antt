@@ -39,5 +39,5 @@ returns-in_err-last-clause-value c =
 pub returns-clause-value : goal.returns-clause-value
 returns-clause-value c =
     choice_short c.args.reading c.args.text.now c.if-text-gt-MAX_LEN.false ∙ sym c.loop-place.invariant.read
-    ∙ rw c.in_ok-push-2.ensures.items (choice_last c.args.reading c.loop-place.parts.items c.in_ok-last.last (length c.args.text.now - length c.loop-place.rest.now) c.loop-place.rest.now
+    ∙ rw c.in_ok-of_parts.ensures (choice_last c.args.reading c.loop-place.parts.items c.in_ok-last.last (length c.args.text.now - length c.loop-place.rest.now) c.loop-place.rest.now
     (sym c.in_default.ensures.value) c.in_ok-last.ensures)

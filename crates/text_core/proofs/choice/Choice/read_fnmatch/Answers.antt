@@ -20,6 +20,6 @@ returns-clause-value c =
     fnmatch_short c.args.reading c.args.text.now c.if-text-gt-MAX_LEN.false
     ∙ ap (λ (b : Bool). Ok (map (fnmatch_part c.args.reading b) (slice_split is_bar c.args.text.now))) (sym c.has_special-is_pattern.ensures)
     ∙ ap Ok (sym c.loop-place.invariant)
-    ∙ rw c.in_ok-push-2.ensures.items (ap Ok (sym (
+    ∙ rw c.in_ok-of_parts.ensures (ap Ok (sym (
     parts_last (fnmatch_part c.args.reading c.has_special-is_pattern.result) c.loop-place.parts.items c.in_ok-last.last c.loop-place.rest.now
     (sym c.in_default.ensures.value) c.in_ok-last.ensures)))

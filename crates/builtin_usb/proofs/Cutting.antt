@@ -1,5 +1,6 @@
 -- What the descriptors of a text are, by its first byte.
-use Rattle.std.proofs.Common.{◌≡◌, ℕ, ◌-◌, ◌<◌, ◌≤◌, zero, suc, Bool, true, false, List, [], ◌∷◌, ◌++◌, Option, None, Some, length, drop, get_or, refl, ap, sym, ◌∙◌, append_assoc, append-nil, arith}
+use Rattle.std.proofs.Common.{◌≡◌, ℕ, ◌-◌, ◌<◌, ◌≤◌, zero, suc, Bool, true, false, List, [], ◌∷◌, ◌++◌, Option, None, Some, length, drop, get_or}
+use Rattle.std.proofs.Common.{refl, ap, sym, ◌∙◌, append_assoc, append-nil, arith}
 use Rattle.std.proofs.lemmas.Bool.Decides.{nat_tests}
 use Rattle.std.specs.List.{cons_option, filter_map}
 use Rattle.std.specs.Option.{option_to_list}
@@ -51,7 +52,8 @@ reported_first longest text left held new whole more some fits cut e due =
     let described : List ℕ → List Interface = λ rest. filter_map interface_of (descriptors longest 0 rest).from in
     let one : List Interface = option_to_list (interface_of text) in
     let first : described text ≡ one ++ described (drop (get_or text 0 0) text) =
-    ap (λ (d : Descriptors). filter_map interface_of d.from) (next longest text more some fits) ∙ consed (interface_of text) (described (drop (get_or text 0 0) text)) in
+    ap (λ (d : Descriptors). filter_map interface_of d.from) (next longest text more some fits)
+    ∙ consed (interface_of text) (described (drop (get_or text 0 0) text)) in
     let same : described text ≡ one ++ described left = first ∙ ap (λ (rest : List ℕ). one ++ described rest) (sym cut) in
     ap (λ (l : List Interface). l ++ described left) e ∙ append_assoc held one (described left) ∙ ap (λ (l : List Interface). held ++ l) (sym same) ∙ due
 

@@ -20,7 +20,8 @@ made_from kind vendor_id model_id vendor model revision serial instance = record
 }
 
 -- a text of the SCSI device or of the USB device, if each of the two is what another text is
-pub first_alike : (text : Text) (described counts : Option Text) (held own : Text) → text ≡ from_first described held → described ≡ counts → held ≡ own → text ≡ from_first counts own
+pub first_alike : (text : Text) (described counts : Option Text) (held own : Text)
+    → text ≡ from_first described held → described ≡ counts → held ≡ own → text ≡ from_first counts own
 first_alike text described counts held own e same alike = e ∙ ap (λ (o : Option Text). from_first o held) same ∙ ap (from_first counts) alike
 
 -- what is known if each text is the one that is meant

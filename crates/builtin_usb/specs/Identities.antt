@@ -1,5 +1,6 @@
 -- What a USB device reports about itself, and the properties that give it.
-use Rattle.std.specs.Prelude.{ℕ, Bool, true, not, ◌&&◌, nat_le, ◌==◌, List, [], ◌∷◌, ◌++◌, take, Option, Some, None, unwrap_or, option_map, filter_map, codes, if◌then◌else◌}
+use Rattle.std.specs.Prelude.{ℕ, Bool, true, not, ◌&&◌, nat_le, ◌==◌, List, [], ◌∷◌, ◌++◌, take, Option, Some, None, unwrap_or, option_map}
+use Rattle.std.specs.Prelude.{filter_map, codes, if◌then◌else◌}
 use Rattle.std.specs.List.{list_all}
 use Rattle.text_bytes.specs.Names.{comma, delete, minus, space, underscore}
 use Rattle.text_bytes.specs.Texts.{is_empty}
@@ -10,6 +11,7 @@ use Rattle.text_links.specs.Safe.{safe, value_marks}
 use Rattle.text_links.specs.Underscores.{underscored}
 use Rattle.device_core.specs.Values.{DeviceValue}
 use Rattle.builtin_devices.specs.Devices.{attribute}
+use Rattle.builtin_devices.specs.Outcomes.{lacking}
 use Rattle.builtin_usb.specs.Units.{UnitValue}
 
 -- what is known about a device, with its texts as it has them; empty if there are none
@@ -69,16 +71,26 @@ known_as device unit kind vendor_id model_id = record {
   instance = unwrap_or unit.instance [];
 }
 
--- the same, if both numbers are there
-abbrev pub known_by : DeviceValue → UnitValue → (kind : Text) → (vendor_id model_id : Option Text) → Option IdentityValue
-known_by device unit kind None model_id = None
-known_by device unit kind (Some vendor_id) None = None
-known_by device unit kind (Some vendor_id) (Some model_id) = Some (known_as device unit kind vendor_id model_id)
+-- the word for the revision, which is asked for if the SCSI device gives none
+abbrev pub revision_words : DeviceValue → UnitValue → List Text
+revision_words device unit = if says_nothing unit.revision then lacking device (codes "bcdDevice") (codes "bcdDevice") else []
+
+-- what is known about a device, if something is, and words for what it lacks to know more
+pub record KnownValue : Type 0 where
+  pub identity : Option IdentityValue
+  pub needs : List Text
+
+-- the same by both numbers
+abbrev pub known_by : DeviceValue → UnitValue → (kind : Text) → (vendor_id model_id : Option Text) → KnownValue
+known_by device unit kind None model_id = record { identity = None; needs = codes "idVendor" ∷ [] }
+known_by device unit kind (Some vendor_id) None = record { identity = None; needs = codes "idProduct" ∷ [] }
+known_by device unit kind (Some vendor_id) (Some model_id) =
+    record { identity = Some (known_as device unit kind vendor_id model_id); needs = revision_words device unit }
 
 -- What is known about a USB device, with a SCSI device that is asked and the kind that ID_TYPE gives. Texts of the
 -- SCSI device count before its own, and the numbers replace texts that are absent. Without either number nothing is
 -- known.
-abbrev pub identity_of : DeviceValue → UnitValue → (kind : Text) → Option IdentityValue
+abbrev pub identity_of : DeviceValue → UnitValue → (kind : Text) → KnownValue
 identity_of device unit kind = known_by device unit kind (attribute device (codes "idVendor")) (attribute device (codes "idProduct"))
 
 -- a text after a mark, or nothing if it is empty
@@ -115,10 +127,6 @@ rows i =
     ∷ (codes "INSTANCE", unless_empty i.instance)
     ∷ []
 
--- a row as a property after a prefix, if it has a value
-abbrev pub row_named : (prefix : Text) → Text × Option Text → Option Pair
-row_named prefix row = option_map (λ value. (prefix ++ row.0, value)) row.1
-
--- rows as properties after a prefix
+-- the rows that have a value as properties after a prefix
 abbrev pub named : (prefix : Text) → List (Text × Option Text) → List Pair
-named prefix pairs = filter_map (row_named prefix) pairs
+named prefix pairs = filter_map (λ row. option_map (λ value. (prefix ++ row.0, value)) row.1) pairs

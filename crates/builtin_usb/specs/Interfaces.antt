@@ -1,5 +1,6 @@
 -- The interfaces of a USB device, as its file of descriptors has them.
-use Rattle.std.specs.Prelude.{ℕ, ◌-◌, ◌/◌, ◌%◌, Bool, true, false, not, ◌&&◌, ◌||◌, ◌==◌, nat_lt, zero, suc, List, [], ◌∷◌, ◌++◌, length, slice_index, fold, flat_map, Option, Some, None, if◌then◌else◌}
+use Rattle.std.specs.Prelude.{ℕ, ◌-◌, ◌/◌, ◌%◌, Bool, true, false, not, ◌&&◌, ◌||◌, ◌==◌, nat_lt, zero, suc, List, [], ◌∷◌, ◌++◌, length, slice_index}
+use Rattle.std.specs.Prelude.{fold, flat_map, Option, Some, None, if◌then◌else◌}
 use Rattle.std.specs.List.{list_any, filter_map}
 use Rattle.text_bytes.specs.Names.{colon}
 use Rattle.text_bytes.specs.Texts.{is_empty}
@@ -50,7 +51,9 @@ descriptors_of file = descriptors (length file - interface_bytes) 0 file
 -- the interface that a descriptor describes, which is of kind 4, by the bytes 5 to 7 from its start on, which need
 -- not be its own
 abbrev pub interface_of : Text → Option Interface
-interface_of text = if slice_index text 1 == 4 then Some (record { class = slice_index text 5; subclass = slice_index text 6; protocol = slice_index text 7 }) else None
+interface_of text =
+    if slice_index text 1 == 4 then Some (record { class = slice_index text 5; subclass = slice_index text 6; protocol = slice_index text 7 })
+    else None
 
 -- whether two interfaces are of the same class, subclass and protocol
 abbrev pub same_interface : Interface → Interface → Bool
@@ -58,7 +61,8 @@ same_interface a b = a.class == b.class && (a.subclass == b.subclass && a.protoc
 
 -- one more interface, unless there is one of its kind, or there are as many as are reported
 abbrev pub with_interface : List Interface → Interface → List Interface
-with_interface found interface = if nat_lt (length found) most_interfaces && not (list_any (same_interface interface) found) then found ++ interface ∷ [] else found
+with_interface found interface =
+    if nat_lt (length found) most_interfaces && not (list_any (same_interface interface) found) then found ++ interface ∷ [] else found
 
 -- the interfaces of a file that are reported, each once
 abbrev pub interfaces : Text → List Interface

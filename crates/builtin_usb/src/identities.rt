@@ -2,8 +2,11 @@
 ghost use Rattle.std.specs.Prelude.{◌≡◌, ◌++◌, [], IfOk, OnOk, codes, option_map, unwrap_or};
 ghost use Rattle.std.specs.List.{list_all};
 ghost use Rattle.builtin_devices.specs.Devices.{attribute};
-ghost use Rattle.builtin_usb.specs.Identities.{all_texts, from_first, full_serial, identity_of, known_as, marked, may_number, most_bytes, most_serial_bytes, says_nothing, serial_of, shown};
+ghost use Rattle.text_tables.specs.Texts.{with_texts};
+ghost use Rattle.builtin_usb.specs.Identities.{all_texts, from_first, full_serial, identity_of, known_as, marked, may_number, most_bytes, most_serial_bytes};
+ghost use Rattle.builtin_usb.specs.Identities.{revision_words, says_nothing, serial_of, shown};
 
+use crate::needs::need;
 use crate::units::Unit;
 use builtin_devices::attribute;
 use device_core::Device;
@@ -11,6 +14,7 @@ use std::alloc::{AllocError, Global};
 use std::marker::Model;
 use text_bytes::Bytes;
 use text_links::{underscored, value_safe};
+use text_tables::OwnedTexts;
 
 /// The most bytes of a vendor, a model or a revision that are reported.
 const MAX_BYTES: usize = 63;
@@ -40,7 +44,16 @@ impl<'a> Model for Identity<'a> {
 
     ghost Value = { IdentityValue };
 
-    ghost view = { λ i. record { vendor = i.vendor.now; vendor_id = i.vendor_id.now; model = i.model.now; model_id = i.model_id.now; revision = i.revision.now; serial = i.serial.now; kind = i.kind.now; instance = i.instance } };
+    ghost view = { λ i. record {
+      vendor = i.vendor.now;
+      vendor_id = i.vendor_id.now;
+      model = i.model.now;
+      model_id = i.model_id.now;
+      revision = i.revision.now;
+      serial = i.serial.now;
+      kind = i.kind.now;
+      instance = i.instance;
+    } };
 }
 
 /// A text as it is reported, by at most so many bytes at its start.
@@ -85,18 +98,8 @@ fn from_first<'a>(
     }
 }
 
-/// A text, or another one if there is none.
-fn text_or<'a>(text: Option<&'a [u8]>, other: &'a [u8]) -> &'a [u8]
-    ensures { result.now ≡ unwrap_or (option_map (λ t. t.now) text.entry) other.now }
-{
-    match text {
-        Some(text) => text,
-        None => other,
-    }
-}
-
 /// Whether nothing is reported for a text, or there is none.
-pub(crate) fn says_nothing(alloc: Global, text: Option<&[u8]>) -> Result<bool, AllocError>
+fn says_nothing(alloc: Global, text: Option<&[u8]>) -> Result<bool, AllocError>
     ensures { IfOk result (λ nothing. nothing ≡ says_nothing (option_map (λ t. t.now) text.entry)) }
 {
     match text {
@@ -150,7 +153,10 @@ fn device_serial<'a>(device: &Device<'a>) -> &'a [u8]
 fn attribute_or<'a>(device: &Device<'a>, name: &[u8], other: &'a [u8]) -> &'a [u8]
     ensures { result.now ≡ unwrap_or (attribute device.now name.now) other.now }
 {
-    text_or(attribute(device, name), other)
+    match attribute(device, name) {
+        Some(text) => text,
+        None => other,
+    }
 }
 
 /// What is known about a USB device whose vendor and product have numbers.
@@ -183,22 +189,42 @@ fn known_as<'a>(
     })
 }
 
+/// Adds the revision, if the SCSI device gives none and a USB device lacks it.
+fn need_revision(
+    alloc: Global,
+    device: &Device<'_>,
+    unit: &Unit<'_>,
+    needs: &mut OwnedTexts,
+) -> Result<(), AllocError>
+    ensures { OnOk result (needs.new ≡ with_texts needs.old (revision_words device.now unit.now)) }
+{
+    if says_nothing(alloc, unit.revision)? {
+        need(alloc, device, b"bcdDevice", needs)?;
+    }
+    Ok(())
+}
+
 /// What is known about a USB device, with the SCSI device that is asked: `None` if its vendor or its product has no
-/// number.
+/// number. What it lacks is added to what is needed.
 pub(crate) fn identity_of<'a>(
     alloc: Global,
     device: &Device<'a>,
     unit: &Unit<'a>,
     kind: &'static [u8],
+    needs: &mut OwnedTexts,
 ) -> Result<Option<Identity<'a>>, AllocError>
-    ensures { IfOk result (λ known. known ≡ identity_of device.now unit.now kind.now) }
+    ensures identity { IfOk result (λ identity. identity ≡ (identity_of device.now unit.now kind.now).identity) }
+    ensures needs { OnOk result (needs.new ≡ with_texts needs.old (identity_of device.now unit.now kind.now).needs) }
 {
     let Some(vendor_id) = attribute(device, b"idVendor") else {
+        needs.add(alloc, b"idVendor")?;
         return Ok(None);
     };
     let Some(model_id) = attribute(device, b"idProduct") else {
+        needs.add(alloc, b"idProduct")?;
         return Ok(None);
     };
+    need_revision(alloc, device, unit, needs)?;
     let identity = known_as(alloc, device, unit, kind, vendor_id, model_id)?;
     Ok(Some(identity))
 }

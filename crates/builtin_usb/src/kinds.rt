@@ -1,6 +1,7 @@
 //! What ID_TYPE says, by numbers that the kernel reports.
 ghost use Rattle.std.specs.Prelude.{◌≡◌, map, option_copied, option_map};
-ghost use Rattle.builtin_usb.specs.Kinds.{class_of, interface_kind, is_storage, kind_beside, kind_in, reported_kind, storage_kind, subclass_number, subclass_of, takes_scsi};
+ghost use Rattle.builtin_usb.specs.Kinds.{class_of, interface_kind, is_storage, kind_beside, kind_in, reported_kind, storage_kind, subclass_number};
+ghost use Rattle.builtin_usb.specs.Kinds.{subclass_of, takes_scsi};
 
 use builtin_devices::{Base, attribute, is_number, number_in};
 use device_core::Device;

@@ -1,17 +1,19 @@
 //! The properties that usb_id sets.
 ghost use Rattle.std.specs.Prelude.{◌≡◌, ◌++◌, ◌∷◌, [], IfOk, OnOk, codes, if◌then◌else◌, map, option_copied, option_map};
 ghost use Rattle.std.specs.Option.{option_and_then};
+ghost use Rattle.builtin_devices.specs.Devices.{attribute};
 ghost use Rattle.builtin_usb.specs.Identities.{named, rows, unless_empty};
-ghost use Rattle.builtin_usb.specs.UsbId.{bus_properties, driver_text, interfaces_text, number_text, own_rows, properties, rows_apart};
+ghost use Rattle.text_tables.specs.Texts.{with_texts};
+ghost use Rattle.builtin_usb.specs.UsbId.{bus_properties, descriptors_at, descriptors_words, interfaces_text, own_rows, properties, rows_apart};
 
 use crate::identities::{Identity, full_serial, shown, shown_serial};
 use crate::interfaces::packed;
-use crate::needs::descriptors_at;
-use builtin_devices::{add_property, attribute};
+use builtin_devices::{add_property, attribute, bytes_of, file_at};
 use device_core::{Device, Event};
 use std::alloc::{AllocError, Global};
 use text_bytes::Bytes;
 use text_links::encoded;
+use text_tables::OwnedTexts;
 
 /// A name, and the value that it is set to, if any.
 type Row = (&'static [u8], Option<Bytes>);
@@ -112,44 +114,55 @@ fn set_identity(
     set_rows(alloc, prefix, &rows, properties)
 }
 
-/// The interfaces of a USB device whose file of descriptors the block may report.
-fn interfaces_of(
+/// The bytes of the file of descriptors of a device, if the block reports them.
+fn descriptors_at(
     alloc: Global,
     event: &Event<'_>,
     device: &Device<'_>,
-) -> Result<Vec<u8>, AllocError>
-    ensures { IfOk result (λ text. text.items ≡ interfaces_text event.now (Some device.now)) }
+) -> Result<Option<Vec<u8>>, AllocError>
+    ensures { IfOk result (λ file. option_map (λ f. f.items) file ≡ descriptors_at event.now device.now) }
 {
-    match descriptors_at(alloc, event, device)? {
-        Some(file) => packed(alloc, &file),
-        None => packed(alloc, b""),
+    let mut path = Vec::from_slice(alloc, device.path())?;
+    path.extend_from_slice(b"/descriptors")?;
+    match file_at(event, &path) {
+        Some(text) => bytes_of(alloc, text),
+        None => Ok(None),
     }
 }
 
-/// The same if there is a USB device, and nothing if there is none.
-fn interfaces_text(
+/// The interfaces of a USB device, nothing if there is none. The file of descriptors is added to what is needed, if the
+/// block does not report it.
+pub(crate) fn interfaces_text(
     alloc: Global,
     event: &Event<'_>,
     device: Option<&Device<'_>>,
+    needs: &mut OwnedTexts,
 ) -> Result<Vec<u8>, AllocError>
-    ensures { IfOk result (λ text. text.items ≡ interfaces_text event.now (option_copied device.entry)) }
+    ensures text { IfOk result (λ text. text.items ≡ interfaces_text event.now (option_copied device.entry)) }
+    ensures needs { OnOk result (needs.new ≡ with_texts needs.old (descriptors_words event.now (option_copied device.entry))) }
 {
-    match device {
-        Some(device) => interfaces_of(alloc, event, device),
-        None => Ok(Vec::new(alloc)),
+    let Some(device) = device else {
+        return Ok(Vec::new(alloc));
+    };
+    match descriptors_at(alloc, event, device)? {
+        Some(file) => packed(alloc, &file),
+        None => {
+            needs.add(alloc, b"descriptors")?;
+            packed(alloc, b"")
+        }
     }
 }
 
 /// The number of an interface, as it is reported.
 fn number_of<'a>(interface: Option<&Device<'a>>) -> Option<&'a [u8]>
-    ensures { option_map (λ t. t.now) result ≡ option_and_then number_text (option_copied interface.entry) }
+    ensures { option_map (λ t. t.now) result ≡ option_and_then (λ i. attribute i (codes "bInterfaceNumber")) (option_copied interface.entry) }
 {
     attribute(interface?, b"bInterfaceNumber")
 }
 
 /// The driver of an interface.
 fn driver_of<'a>(interface: Option<&Device<'a>>) -> Option<&'a [u8]>
-    ensures { option_map (λ t. t.now) result ≡ option_and_then driver_text (option_copied interface.entry) }
+    ensures { option_map (λ t. t.now) result ≡ option_and_then (λ i. i.driver) (option_copied interface.entry) }
 {
     interface?.driver()
 }
@@ -176,14 +189,12 @@ fn set_apart(
 /// Sets the interfaces, and the number and the driver of the interface.
 fn set_own(
     alloc: Global,
-    event: &Event<'_>,
     interface: Option<&Device<'_>>,
-    device: Option<&Device<'_>>,
+    interfaces: Vec<u8>,
     properties: &mut Vec<(Bytes, Bytes)>,
 ) -> Result<(), AllocError>
-    ensures { OnOk result (properties.new.items ≡ properties.old.items ++ named (codes "ID_USB_") (own_rows event.now (option_copied interface.entry) (option_copied device.entry))) }
+    ensures { OnOk result (properties.new.items ≡ properties.old.items ++ named (codes "ID_USB_") (own_rows (option_copied interface.entry) interfaces.items)) }
 {
-    let interfaces = interfaces_text(alloc, event, device)?;
     let number = copy_of(alloc, number_of(interface))?;
     let driver = copy_of(alloc, driver_of(interface))?;
     set_apart(alloc, interfaces, number, driver, properties)?;
@@ -210,17 +221,16 @@ fn set_bus(
 #[tactic(auto, unfolding(crate::specs::UsbId::properties))]
 pub(crate) fn properties_of(
     alloc: Global,
-    event: &Event<'_>,
     interface: Option<&Device<'_>>,
-    device: Option<&Device<'_>>,
+    interfaces: Vec<u8>,
     identity: &Identity<'_>,
     is_bus_set: bool,
 ) -> Result<Vec<(Bytes, Bytes)>, AllocError>
-    ensures { IfOk result (λ set. set.items ≡ properties event.now (option_copied interface.entry) (option_copied device.entry) identity.now is_bus_set) }
+    ensures { IfOk result (λ set. set.items ≡ properties (option_copied interface.entry) interfaces.items identity.now is_bus_set) }
 {
     let mut properties = Vec::new(alloc);
     set_bus(alloc, identity, is_bus_set, &mut properties)?;
     set_identity(alloc, b"ID_USB_", identity, &mut properties)?;
-    set_own(alloc, event, interface, device, &mut properties)?;
+    set_own(alloc, interface, interfaces, &mut properties)?;
     Ok(properties)
 }

@@ -1,8 +1,8 @@
 //! What a SCSI device reports about itself.
-ghost use Rattle.std.specs.Prelude.{◌≡◌, IfOk, is_some, option_copied, option_map};
-ghost use Rattle.builtin_devices.specs.Addresses.{address_of};
-ghost use Rattle.builtin_devices.specs.Devices.{kernel_of};
-ghost use Rattle.builtin_usb.specs.Units.{instance_text, silent, texts_of, unit_texts};
+ghost use Rattle.std.specs.Prelude.{◌≡◌, IfOk, OnOk, option_copied, option_map};
+ghost use Rattle.std.specs.Option.{option_to_list};
+ghost use Rattle.text_tables.specs.Texts.{with_texts};
+ghost use Rattle.builtin_usb.specs.Units.{absent_words, instance_text, silent, texts_of, unit_texts, unit_words};
 
 use builtin_devices::{Address, address_of, attribute};
 use device_core::Device;
@@ -11,6 +11,7 @@ use std::alloc::{AllocError, Global};
 use std::marker::Model;
 use text_bytes::Bytes;
 use text_links::kernel_name;
+use text_tables::OwnedTexts;
 
 /// Texts of a SCSI device, as far as they count, and its target and unit.
 #[derive(Drop)]
@@ -28,7 +29,13 @@ impl<'a> Model for Unit<'a> {
 
     ghost Value = { UnitValue };
 
-    ghost view = { λ u. record { vendor = option_map (λ t. t.now) u.vendor; model = option_map (λ t. t.now) u.model; kind = option_map (λ t. t.now) u.kind; revision = option_map (λ t. t.now) u.revision; instance = u.instance } };
+    ghost view = { λ u. record {
+      vendor = option_map (λ t. t.now) u.vendor;
+      model = option_map (λ t. t.now) u.model;
+      kind = option_map (λ t. t.now) u.kind;
+      revision = option_map (λ t. t.now) u.revision;
+      instance = u.instance;
+    } };
 }
 
 /// The target and the unit of an address as they are reported.
@@ -71,30 +78,42 @@ fn texts_of<'a>(unit: &Device<'a>, instance: Bytes) -> Unit<'a>
     }
 }
 
-/// Whether the name of a SCSI device is an address.
-pub(crate) fn has_address(alloc: Global, unit: &Device<'_>) -> Result<bool, AllocError>
-    ensures { IfOk result (λ has. has ≡ is_some (address_of (kernel_of unit.now))) }
+/// The first of the texts of a SCSI device that is absent.
+fn first_absent(unit: &Unit<'_>) -> Option<&'static [u8]>
+    ensures { option_to_list (option_map (λ t. t.now) result) ≡ absent_words unit.now }
 {
-    let kernel = kernel_name(alloc, unit.path())?;
-    Ok(address_of(kernel.as_slice()).is_some())
+    if unit.vendor.is_none() {
+        Some(b"vendor")
+    } else if unit.model.is_none() {
+        Some(b"model")
+    } else if unit.kind.is_none() {
+        Some(b"type")
+    } else if unit.revision.is_none() {
+        Some(b"rev")
+    } else {
+        None
+    }
 }
 
-/// The texts of the SCSI device that is asked, if one is.
+/// The texts of the SCSI device that is asked, if one is. The first that is absent is added to what is needed.
 pub(crate) fn unit_texts<'a>(
     alloc: Global,
     unit: Option<&Device<'a>>,
+    needs: &mut OwnedTexts,
 ) -> Result<Unit<'a>, AllocError>
-    ensures { IfOk result (λ texts. texts ≡ unit_texts (option_copied unit.entry)) }
+    ensures texts { IfOk result (λ texts. texts ≡ unit_texts (option_copied unit.entry)) }
+    ensures needs { OnOk result (needs.new ≡ with_texts needs.old (unit_words (option_copied unit.entry))) }
 {
     let Some(unit) = unit else {
         return Ok(silent());
     };
     let kernel = kernel_name(alloc, unit.path())?;
-    match address_of(kernel.as_slice()) {
-        Some(address) => {
-            let instance = instance_text(alloc, address)?;
-            Ok(texts_of(unit, instance))
-        }
-        None => Ok(silent()),
+    let Some(address) = address_of(kernel.as_slice()) else {
+        return Ok(silent());
+    };
+    let texts = texts_of(unit, instance_text(alloc, address)?);
+    if let Some(word) = first_absent(&texts) {
+        needs.add(alloc, word)?;
     }
+    Ok(texts)
 }

@@ -11,7 +11,8 @@ loop-rest-preserved c =
     let size : c.from-size.result ≡ get_or rest 0 0 = omega arith in
     let cut : c.following-rest.result.now ≡ drop (get_or rest 0 0) rest = c.following-rest.ensures ∙ ap (λ (n : ℕ). drop n rest) size in
     record {
-      interfaces = reported_first longest rest c.following-rest.result.now c.loop-rest.interfaces.items _ _ (omega arith) (omega arith) (omega arith) cut c.in_ok-push_reported.ensures c.loop-rest.invariant.interfaces;
+      interfaces = reported_first longest rest c.following-rest.result.now c.loop-rest.interfaces.items _ _ (omega arith) (omega arith) (omega arith)
+          cut c.in_ok-push_reported.ensures c.loop-rest.invariant.interfaces;
       is_closed = ends_alike longest rest c.following-rest.result.now _ (omega arith) (omega arith) (omega arith) cut c.loop-rest.invariant.is_closed;
     }
 

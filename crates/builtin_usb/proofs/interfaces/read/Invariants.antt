@@ -5,7 +5,8 @@ use Rattle.builtin_usb.proofs.interfaces.read.Given as goal
 
 abbrev pub invariant-loop-rest : goal.invariant-loop-rest
 invariant-loop-rest l = record {
-  interfaces : l.interfaces.items ++ filter_map interface_of (descriptors l.longest 0 l.rest).from ≡ filter_map interface_of (descriptors l.longest 0 l.fn.file).from;
+  interfaces : l.interfaces.items ++ filter_map interface_of (descriptors l.longest 0 l.rest).from
+      ≡ filter_map interface_of (descriptors l.longest 0 l.fn.file).from;
   is_closed : (descriptors l.longest 0 l.rest).is_closed ≡ (descriptors l.longest 0 l.fn.file).is_closed;
 }
 

@@ -15,16 +15,18 @@ module _ (f : RunValue → List Text) (all : List RunValue) (none : (run : RunVa
   after [] [] within = refl
   after [] (run ∷ runs) within = refl
   after (first ∷ front) [] within = refl
-  after (first ∷ front) (run ∷ runs) within = by (same_run first run) refl
+  after (first ∷ front) (run ∷ runs) within = by (same_run first run) refl (after front runs)
     where
-      by : (b : Bool) → same_run first run ≡ b → flat_map f (drop (cond b (1 + same_front front runs) 0) (run ∷ runs)) ≡ f run ++ flat_map f runs
-      by true e =
+      by : (b : Bool) → same_run first run ≡ b
+          → (((other : RunValue) → is_kept front other ≡ true → is_kept all other ≡ true) → flat_map f (drop (same_front front runs) runs) ≡ flat_map f runs)
+          → flat_map f (drop (cond b (1 + same_front front runs) 0) (run ∷ runs)) ≡ f run ++ flat_map f runs
+      by true e later =
           let one : 1 + same_front front runs ≡ suc (same_front front runs) = omega arith in
           let kept : is_kept all run ≡ true = within run (ap (λ b. b || is_kept front run) e) in
           ap (λ n. flat_map f (drop n (run ∷ runs))) one
-          ∙ after front runs (λ other h. within other (or_right (same_run first other) (is_kept front other) h))
+          ∙ later (λ other h. within other (or_right (same_run first other) (is_kept front other) h))
           ∙ ap (λ texts. texts ++ flat_map f runs) (sym (none run kept))
-      by false e = refl
+      by false e later = refl
 
 pub added_after : (was now : List RunValue) → flat_map (added_run was) (drop (same_front was now) now) ≡ flat_map (added_run was) now
 added_after was now = after (added_run was) was (λ run h. ap (λ b. cond b [] ((run_text run ++ codes " added") ∷ [])) h) was now (λ run h. h)

@@ -1,7 +1,7 @@
 //! RUNs that are there only now, and those that are no longer there.
 //!
 //! Most assignments leave what was there, so the RUNs that both lists begin with are passed over without a search.
-ghost use Rattle.std.specs.Prelude.{◌≡◌, ◌++◌, IfOk, OnOk, drop, flat_map};
+ghost use Rattle.std.specs.Prelude.{◌≡◌, ◌≤◌, ◌++◌, IfOk, OnOk, drop, flat_map, length};
 ghost use Rattle.std.specs.List.{list_any};
 ghost use Rattle.eval_effects.specs.Inner.{same_front};
 ghost use Rattle.eval_effects.specs.Changes.{added_run, is_kept, removed_run, removed_runs, run_changes, run_text};
@@ -18,16 +18,23 @@ fn is_kept(runs: &[Run<'_>], run: &Run<'_>) -> bool
     runs.contains(run)
 }
 
+/// How many RUNs are the same, one by one, from the first on.
+fn same_front(front: &[Run<'_>], runs: &[Run<'_>]) -> usize
+    ensures value { result ≡ same_front front.now runs.now }
+    ensures within { result ≤ length runs.now }
+{
+    front
+        .iter()
+        .zip(runs)
+        .take_while(|pair| pair.0 == pair.1)
+        .count()
+}
+
 /// RUNs without those that are the same, one by one, as these from the first on.
 fn after_front<'r, 'a>(front: &[Run<'_>], runs: &'r [Run<'a>]) -> &'r [Run<'a>]
     ensures { result.now ≡ drop (same_front front.now runs.now) runs.now }
 {
-    let same = front
-        .iter()
-        .zip(runs)
-        .take_while(|pair| pair.0 == pair.1)
-        .count();
-    runs.split_at(same).1
+    runs.split_at(same_front(front, runs)).1
 }
 
 /// Whether one of these RUNs is one of those.

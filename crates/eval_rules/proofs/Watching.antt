@@ -8,7 +8,7 @@ use Rattle.eval_acts.specs.Acts.{act_step}
 use Rattle.eval_rules.specs.Idle.{is_idle, note_all}
 use Rattle.eval_rules.specs.Jumps.{is_passed, run, sought_after}
 use Rattle.eval_rules.specs.Steps.{Went, apply, before_sets, if_proceeding, only_noted, plain_step, result_step, search, set_all, steps, walk, with_selected}
-use Rattle.eval_rules.specs.Watched.{Happening, Seen, Telling, acted, apply_watched, assigned_watched, comparing, entered, entered_watched, keys_watched, meeting, passed, run_watched, searching, skip_told, skipped_watched, told}
+use Rattle.eval_rules.specs.Watched.{Happening, Seen, Telling, acted, apply_watched, assigned_watched, comparing, entered, keys_watched, meeting, passed, run_watched, searching, skip_told, skipped_watched, told}
 use Rattle.eval_rules.proofs.Skipped.{passed_is}
 
 module _ {W : Type 0} (tell : Telling W) (known : Known) where
@@ -50,12 +50,10 @@ module _ {W : Type 0} (tell : Telling W) (known : Known) where
   unfolding apply apply_watched
   apply_bare r at = by (is_idle r at.0.state.event)
     where
-      now : Scene × W
-      now = (at.0, tell at.1 (entered r) at.0)
-
-      by : (b : Bool) → bare (cond b (skipped_watched tell known r now) (assigned_watched tell r (keys_watched tell known r now))) ≡ cond b (only_noted known r at.0) (steps known r at.0)
+      by : (b : Bool) → bare (cond b (skipped_watched tell known r (at.0, tell at.1 (entered r) at.0)) (assigned_watched tell r (keys_watched tell known r (at.0, tell at.1 (entered r) at.0))))
+          ≡ cond b (only_noted known r at.0) (steps known r at.0)
       by true = refl
-      by false = assigned_bare r now
+      by false = assigned_bare r (at.0, tell at.1 (entered r) at.0)
 
   pub run_bare : (rules : List Rule) (sought : Option Text) (at : Scene × W) → (run_watched tell known sought rules at).0 ≡ run known sought rules at.0
   unfolding run run_watched
@@ -68,6 +66,11 @@ module _ {W : Type 0} (tell : Telling W) (known : Known) where
       by false =
           run_bare rs (sought_after (apply_watched tell known r at).1 r) (apply_watched tell known r at).0
           ∙ ap (λ (w : Went). run known (sought_after w.1 r) rs w.0) (apply_bare r at)
+
+  -- a part that is told once it is done
+  pub told_is : {P : Type 0} (happening : P → Went → Happening) (step : P → Scene → Went) (p : P) (s t : Scene) (w v : W) (on : Bool) → (t, on) ≡ step p s → v ≡ tell w (happening p (t, on)) s
+      → ((t, v), on) ≡ told tell happening step p (s, w)
+  told_is happening step p s t w v on went said = ap (λ x. ((t, x), on)) said ∙ ap (λ (g : Went). ((g.0, tell w (happening p g) s), g.1)) went
 
   -- a rule that is evaluated
   pub applied : (r : Rule) (s t : Scene) (w v : W) (on : Bool) → ((t, v), on) ≡ apply_watched tell known r (s, w) → (t, on) ≡ apply known r s

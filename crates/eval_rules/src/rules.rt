@@ -45,6 +45,7 @@ fn passed_len(sought: Option<&[u8]>, rules: &[Rule]) -> usize
 }
 
 /// Tells of rules that are passed over.
+#[inline(always)]
 fn tell_passed<'a, W: Watch<'a>>(
     alloc: Global,
     rules: &'a [Rule],
@@ -62,7 +63,7 @@ fn tell_passed<'a, W: Watch<'a>>(
 
 /// Evaluates rules, one after another, while something watches. After a rule that jumps and whose end was reached,
 /// those between it and the next one with the label are skipped.
-#[tactic(auto, unfolding(crate::specs::Watched::run_watched))]
+#[tactic(auto, using(crate::proofs::Watching::ran), unfolding(crate::specs::Watched::run_watched))]
 pub fn run_watched<'a, K: Knowledge, W: Watch<'a>>(
     alloc: Global,
     rules: &'a [Rule],
@@ -85,7 +86,6 @@ pub fn run_watched<'a, K: Knowledge, W: Watch<'a>>(
 }
 
 /// Evaluates rules, one after another.
-#[tactic(auto, using(crate::proofs::Watching::ran))]
 pub(crate) fn run<'a, K: Knowledge>(
     alloc: Global,
     rules: &'a [Rule],

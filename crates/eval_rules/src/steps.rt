@@ -6,7 +6,8 @@ ghost use Rattle.eval_state.specs.Scenes.{blank};
 ghost use Rattle.eval_acts.specs.Acts.{act_step};
 ghost use Rattle.eval_rules.specs.Idle.{is_idle};
 ghost use Rattle.eval_rules.specs.Steps.{apply, plain_step, result_step, search, walk};
-ghost use Rattle.eval_rules.specs.Watched as watched;
+ghost use Rattle.eval_rules.specs.Watched.{acted, apply_watched, assigned_watched, comparing, entered_watched, keys_watched, meeting};
+ghost use Rattle.eval_rules.specs.Watched.{searching, skip_told, skipped_watched, told};
 
 use crate::idle::{is_idle, note_all};
 use crate::watch::{Moment, Watch};
@@ -46,7 +47,8 @@ fn meet<'a, W: Watch<'a>>(
     watch: &mut W,
     scene: &mut Scene<'a>,
 ) -> Result<bool, AllocError>
-    ensures watch { IfOk result (λ on. ((scene.new, watch.new), on) ≡ watched.told W.telling (λ p went. watched.meeting rule.now p) (plain_step rule.now) part.now (scene.old, watch.old)) }
+    ensures watch { IfOk result (λ on. ((scene.new, watch.new), on)
+        ≡ told W.telling (λ p went. meeting rule.now p) (plain_step rule.now) part.now (scene.old, watch.old)) }
     ensures event { scene.new.state.event ≡ scene.old.state.event }
 {
     watch.tell(alloc, Moment::Meeting(rule, part), scene)?;
@@ -62,7 +64,8 @@ fn match_event<'a, W: Watch<'a>>(
     watch: &mut W,
     scene: &mut Scene<'a>,
 ) -> Result<bool, AllocError>
-    ensures watch { IfOk result (λ on. ((scene.new, watch.new), on) ≡ walk (watched.told W.telling (λ p went. watched.meeting rule.now p) (plain_step rule.now)) parts.now (scene.old, watch.old)) }
+    ensures watch { IfOk result (λ on. ((scene.new, watch.new), on)
+        ≡ walk (told W.telling (λ p went. meeting rule.now p) (plain_step rule.now)) parts.now (scene.old, watch.old)) }
     ensures event { scene.new.state.event ≡ scene.old.state.event }
 {
     for part in parts {
@@ -95,7 +98,8 @@ fn search_watched<'a, W: Watch<'a>>(
     watch: &mut W,
     scene: &mut Scene<'a>,
 ) -> Result<bool, AllocError>
-    ensures watch { IfOk result (λ on. ((scene.new, watch.new), on) ≡ watched.told W.telling (λ parts went. watched.searching rule.now) search rule.now.up (scene.old, watch.old)) }
+    ensures watch { IfOk result (λ on. ((scene.new, watch.new), on)
+        ≡ told W.telling (λ parts went. searching rule.now) search rule.now.up (scene.old, watch.old)) }
     ensures event { scene.new.state.event ≡ scene.old.state.event }
 {
     watch.tell(alloc, Moment::Searching(rule), scene)?;
@@ -112,7 +116,8 @@ fn act_all<'a, K: Knowledge, W: Watch<'a>>(
     watch: &mut W,
     scene: &mut Scene<'a>,
 ) -> Result<bool, AllocError>
-    ensures watch { IfOk result (λ on. ((scene.new, watch.new), on) ≡ walk (watched.told W.telling (watched.acted rule.now) (act_step (K.known knowledge.now) rule.now)) parts.now (scene.old, watch.old)) }
+    ensures watch { IfOk result (λ on. ((scene.new, watch.new), on)
+        ≡ walk (told W.telling (acted rule.now) (act_step (K.known knowledge.now) rule.now)) parts.now (scene.old, watch.old)) }
     ensures event { scene.new.state.event ≡ scene.old.state.event }
 {
     for part in parts {
@@ -133,7 +138,8 @@ fn compare<'a, W: Watch<'a>>(
     watch: &mut W,
     scene: &mut Scene<'a>,
 ) -> Result<bool, AllocError>
-    ensures watch { IfOk result (λ on. ((scene.new, watch.new), on) ≡ watched.told W.telling (λ p went. watched.comparing rule.now p) result_step part.now (scene.old, watch.old)) }
+    ensures watch { IfOk result (λ on. ((scene.new, watch.new), on)
+        ≡ told W.telling (λ p went. comparing rule.now p) result_step part.now (scene.old, watch.old)) }
     ensures scene { scene.new ≡ scene.old }
 {
     watch.tell(alloc, Moment::Comparing(rule, part), scene)?;
@@ -149,7 +155,8 @@ fn match_results<'a, W: Watch<'a>>(
     watch: &mut W,
     scene: &mut Scene<'a>,
 ) -> Result<bool, AllocError>
-    ensures watch { IfOk result (λ on. ((scene.new, watch.new), on) ≡ walk (watched.told W.telling (λ p went. watched.comparing rule.now p) result_step) parts.now (scene.old, watch.old)) }
+    ensures watch { IfOk result (λ on. ((scene.new, watch.new), on)
+        ≡ walk (told W.telling (λ p went. comparing rule.now p) result_step) parts.now (scene.old, watch.old)) }
     ensures event { scene.new.state.event ≡ scene.old.state.event }
 {
     for part in parts {
@@ -170,7 +177,8 @@ fn try_rule<'a, K: Knowledge, W: Watch<'a>>(
     watch: &mut W,
     scene: &mut Scene<'a>,
 ) -> Result<bool, AllocError>
-    ensures watch { IfOk result (λ on. ((scene.new, watch.new), on) ≡ watched.keys_watched W.telling (K.known knowledge.now) rule.now (scene.old, watch.old)) }
+    ensures watch { IfOk result (λ on. ((scene.new, watch.new), on)
+        ≡ keys_watched W.telling (K.known knowledge.now) rule.now (scene.old, watch.old)) }
     ensures event { scene.new.state.event ≡ scene.old.state.event }
 {
     if !match_event(alloc, rule, rule.plain(), watch, scene)? {
@@ -194,7 +202,8 @@ fn take_steps<'a, K: Knowledge, W: Watch<'a>>(
     watch: &mut W,
     scene: &mut Scene<'a>,
 ) -> Result<bool, AllocError>
-    ensures watch { IfOk result (λ on. ((scene.new, watch.new), on) ≡ watched.assigned_watched W.telling rule.now (watched.keys_watched W.telling (K.known knowledge.now) rule.now (scene.old, watch.old))) }
+    ensures watch { IfOk result (λ on. ((scene.new, watch.new), on)
+        ≡ assigned_watched W.telling rule.now (keys_watched W.telling (K.known knowledge.now) rule.now (scene.old, watch.old))) }
     ensures refused { OnErr result (scene.new.state.event ≡ scene.old.state.event) }
 {
     if !try_rule(alloc, rule, knowledge, watch, scene)? {
@@ -214,7 +223,8 @@ fn tell_skipped<'a, W: Watch<'a>>(
     watch: &mut W,
     scene: &mut Scene<'a>,
 ) -> Result<(), AllocError>
-    ensures watch { OnOk result (watch.new ≡ watched.skip_told W.telling rule.now ((scene.old, watch.old), proceeds)) }
+    ensures watch { OnOk result (watch.new
+        ≡ skip_told W.telling rule.now ((scene.old, watch.old), proceeds)) }
     ensures scene { scene.new ≡ scene.old }
 {
     if proceeds {
@@ -235,7 +245,8 @@ fn pass_over<'a, K: Knowledge, W: Watch<'a>>(
     scene: &mut Scene<'a>,
 ) -> Result<(), AllocError>
     requires { is_idle rule.now scene.old.state.event ≡ true }
-    ensures watch { OnOk result (((scene.new, watch.new), false) ≡ watched.skipped_watched W.telling (K.known knowledge.now) rule.now (scene.old, watch.old)) }
+    ensures watch { OnOk result (((scene.new, watch.new), false)
+        ≡ skipped_watched W.telling (K.known knowledge.now) rule.now (scene.old, watch.old)) }
     ensures refused { OnErr result (scene.new.state.event ≡ scene.old.state.event) }
 {
     let selected = scene.state.selected;
@@ -257,7 +268,8 @@ fn evaluate<'a, K: Knowledge, W: Watch<'a>>(
     watch: &mut W,
     scene: &mut Scene<'a>,
 ) -> Result<bool, AllocError>
-    ensures watch { IfOk result (λ on. ((scene.new, watch.new), on) ≡ watched.entered_watched W.telling (K.known knowledge.now) rule.now (scene.old, watch.old)) }
+    ensures watch { IfOk result (λ on. ((scene.new, watch.new), on)
+        ≡ entered_watched W.telling (K.known knowledge.now) rule.now (scene.old, watch.old)) }
     ensures refused { OnErr result (scene.new.state.event ≡ scene.old.state.event) }
 {
     if is_idle(rule, scene.state.event.event()) {
@@ -277,7 +289,8 @@ fn leave<'a, K: Knowledge, W: Watch<'a>>(
     watch: &mut W,
     scene: &mut Scene<'a>,
 ) -> Result<bool, AllocError>
-    ensures watch { IfOk result (λ on. ((scene.new, watch.new), on) ≡ watched.apply_watched W.telling (K.known knowledge.now) rule.now (scene.old, watch.old)) }
+    ensures watch { IfOk result (λ on. ((scene.new, watch.new), on)
+        ≡ apply_watched W.telling (K.known knowledge.now) rule.now (scene.old, watch.old)) }
     ensures refused { OnErr result (scene.new.state.event ≡ scene.old.state.event) }
 {
     watch.tell(alloc, Moment::Entered(rule), scene)?;
@@ -297,7 +310,8 @@ pub fn apply_watched<'a, K: Knowledge, W: Watch<'a>>(
     watch: &mut W,
     scene: &mut Scene<'a>,
 ) -> Result<bool, AllocError>
-    ensures watch { IfOk result (λ on. ((scene.new, watch.new), on) ≡ watched.apply_watched W.telling (K.known knowledge.now) rule.now (scene.old, watch.old)) }
+    ensures watch { IfOk result (λ on. ((scene.new, watch.new), on)
+        ≡ apply_watched W.telling (K.known knowledge.now) rule.now (scene.old, watch.old)) }
     ensures refused { OnErr result (scene.new ≡ blank scene.old.state.event) }
 {
     let went = leave(alloc, rule, knowledge, watch, scene);

@@ -1,9 +1,9 @@
 //! What watches rules while they are evaluated.
-ghost use Rattle.std.specs.Prelude.{◌≡◌, OnErr, OnOk, IfOk};
+ghost use Rattle.std.specs.Prelude.{◌≡◌, OnErr, OnOk, IfOk, fold};
 ghost use Rattle.eval_acts.specs.Acts.{act_step};
+ghost use Rattle.eval_assignments.specs.Steps.{set_step};
 ghost use Rattle.eval_state.specs.declared.scene.Scene as scenes;
 ghost use Rattle.eval_rules.specs.Moments.{happening};
-ghost use Rattle.eval_rules.specs.Steps as steps;
 ghost use Rattle.eval_rules.specs.Watched as watched;
 
 use builtin_devices::Knowledge;
@@ -71,7 +71,7 @@ pub trait Watch<'a> {
         scene: &mut Scene<'a>,
     ) -> Result<(), AllocError>
         ensures watch { OnOk result (self.new ≡ telling self.old (watched.assigned rule.now scene.new) scene.old) }
-        ensures scene { OnOk result ((scene.new, true) ≡ steps.set_all rule.now scene.old) }
+        ensures scene { OnOk result (scene.new ≡ fold (set_step rule.now) scene.old rule.now.sets) }
         ensures refused { OnErr result (scene.new.state.event ≡ scene.old.state.event) };
 }
 

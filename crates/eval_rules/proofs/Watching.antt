@@ -58,14 +58,15 @@ module _ {W : Type 0} (tell : Telling W) (known : Known) where
   pub run_bare : (rules : List Rule) (sought : Option Text) (at : Scene × W) → (run_watched tell known sought rules at).0 ≡ run known sought rules at.0
   unfolding run run_watched
   run_bare [] sought at = refl
-  run_bare (r ∷ rs) sought at = by (is_passed sought r)
+  run_bare (r ∷ rs) sought at =
+      by (is_passed sought r) (run_bare rs sought (at.0, tell at.1 (passed r) at.0)) (run_bare rs (sought_after (apply_watched tell known r at).1 r) (apply_watched tell known r at).0)
     where
-      by : (b : Bool) → (cond b (run_watched tell known sought rs (at.0, tell at.1 (passed r) at.0)) (run_watched tell known (sought_after (apply_watched tell known r at).1 r) rs (apply_watched tell known r at).0)).0
+      by : (b : Bool) → (run_watched tell known sought rs (at.0, tell at.1 (passed r) at.0)).0 ≡ run known sought rs at.0
+          → (run_watched tell known (sought_after (apply_watched tell known r at).1 r) rs (apply_watched tell known r at).0).0 ≡ run known (sought_after (apply_watched tell known r at).1 r) rs (apply_watched tell known r at).0.0
+          → (cond b (run_watched tell known sought rs (at.0, tell at.1 (passed r) at.0)) (run_watched tell known (sought_after (apply_watched tell known r at).1 r) rs (apply_watched tell known r at).0)).0
           ≡ cond b (run known sought rs at.0) (run known (sought_after (apply known r at.0).1 r) rs (apply known r at.0).0)
-      by true = run_bare rs sought (at.0, tell at.1 (passed r) at.0)
-      by false =
-          run_bare rs (sought_after (apply_watched tell known r at).1 r) (apply_watched tell known r at).0
-          ∙ ap (λ (w : Went). run known (sought_after w.1 r) rs w.0) (apply_bare r at)
+      by true over on = over
+      by false over on = on ∙ ap (λ (w : Went). run known (sought_after w.1 r) rs w.0) (apply_bare r at)
 
   -- a part that is told once it is done
   pub told_is : {P : Type 0} (happening : P → Went → Happening) (step : P → Scene → Went) (p : P) (s t : Scene) (w v : W) (on : Bool) → (t, on) ≡ step p s → v ≡ tell w (happening p (t, on)) s

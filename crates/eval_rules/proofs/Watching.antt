@@ -1,15 +1,31 @@
 -- Whatever watches, the scene becomes what it would be anyway.
-use Rattle.std.proofs.Common.{◌≡◌, Bool, true, false, cond, List, [], ◌∷◌, Option, refl, ap, ◌∙◌}
+use Rattle.std.proofs.Common.{◌≡◌, Bool, true, false, cond, List, [], ◌∷◌, Option, Result, Ok, Err, OnErr, refl, ap, sym, ◌∙◌}
 use Rattle.text_tables.specs.Texts.{Text}
 use Rattle.builtin_devices.specs.Knowledge.{Known}
+use Rattle.rule_types.specs.declared.part.Act.{Act}
+use Rattle.rule_types.specs.declared.part.Comparison.{Comparison}
+use Rattle.rule_types.specs.declared.part.PlainMatch.{PlainMatch}
 use Rattle.rule_types.specs.Rules.{Rule}
 use Rattle.eval_state.specs.declared.scene.Scene.{Scene}
 use Rattle.eval_acts.specs.Acts.{act_step}
 use Rattle.eval_rules.specs.Idle.{is_idle, note_all}
 use Rattle.eval_rules.specs.Jumps.{is_passed, run, sought_after}
 use Rattle.eval_rules.specs.Steps.{Went, apply, before_sets, if_proceeding, only_noted, plain_step, result_step, search, set_all, steps, walk, with_selected}
-use Rattle.eval_rules.specs.Watched.{Happening, Seen, Telling, acted, apply_watched, assigned_watched, comparing, entered, keys_watched, meeting, passed, run_watched, searching, skip_told, skipped_watched, told}
+use Rattle.eval_rules.specs.Watched.{Happening, Seen, Telling, acted, apply_watched, assigned_watched, comparing, entered, entered_watched, keys_watched, meeting, passed, run_watched, searching, skip_told, skipped_watched, told}
 use Rattle.eval_rules.proofs.Skipped.{passed_is}
+use Rattle.eval_rules.proofs.Staying.{event_stays}
+
+-- what holds anyway holds of an error
+pub on_err : {T E P : Type 0} (r : Result T E) → P → OnErr r P
+on_err (Ok x) p = tt
+on_err (Err e) p = p
+
+-- a step after others that let the rule go on, and one that is not made
+after : {S : Type 0} (next : S → S × Bool) (went : S × Bool) (s t : S) (a b : Bool) → (s, a) ≡ went → a ≡ true → (t, b) ≡ next s → (t, b) ≡ if_proceeding next went
+after next went s t a b is on goes = goes ∙ ap (if_proceeding next) (ap (λ c. (s, c)) (sym on) ∙ is)
+
+halted : {S : Type 0} (next : S → S × Bool) (went : S × Bool) (s : S) (a : Bool) → (s, a) ≡ went → a ≡ false → (s, false) ≡ if_proceeding next went
+halted next went s a is off = ap (if_proceeding next) (ap (λ c. (s, c)) (sym off) ∙ is)
 
 module _ {W : Type 0} (tell : Telling W) (known : Known) where
   -- what becomes of the scene
@@ -46,14 +62,58 @@ module _ {W : Type 0} (tell : Telling W) (known : Known) where
       by true = refl
       by false = refl
 
-  pub apply_bare : (r : Rule) (at : Scene × W) → bare (apply_watched tell known r at) ≡ apply known r at.0
-  unfolding apply apply_watched
-  apply_bare r at = by (is_idle r at.0.state.event)
+  pub entered_bare : (r : Rule) (at : Scene × W) → bare (entered_watched tell known r at) ≡ apply known r at.0
+  unfolding apply
+  entered_bare r at = by (is_idle r at.0.state.event)
     where
-      by : (b : Bool) → bare (cond b (skipped_watched tell known r (at.0, tell at.1 (entered r) at.0)) (assigned_watched tell r (keys_watched tell known r (at.0, tell at.1 (entered r) at.0))))
-          ≡ cond b (only_noted known r at.0) (steps known r at.0)
+      by : (b : Bool) → bare (cond b (skipped_watched tell known r at) (assigned_watched tell r (keys_watched tell known r at))) ≡ cond b (only_noted known r at.0) (steps known r at.0)
       by true = refl
-      by false = assigned_bare r (at.0, tell at.1 (entered r) at.0)
+      by false = assigned_bare r at
+
+  pub apply_bare : (r : Rule) (at : Scene × W) → bare (apply_watched tell known r at) ≡ apply known r at.0
+  unfolding apply_watched
+  apply_bare r at = entered_bare r (at.0, tell at.1 (entered r) at.0)
+
+  -- the event of a rule that is entered stays
+  pub entered_event : (r : Rule) (s t : Scene) (w v : W) (on : Bool) → ((t, v), on) ≡ entered_watched tell known r (s, w) → t.state.event ≡ s.state.event
+  entered_event r s t w v on e = ap (λ (g : Went). g.0.state.event) (ap bare e ∙ entered_bare r (s, w)) ∙ event_stays known r s
+
+  -- the four steps of the keys, by their parts
+  abbrev met : Rule → List PlainMatch → Scene × W → Seen W
+  met r parts at = walk (told tell (λ part went. meeting r part) (plain_step r)) parts at
+
+  abbrev sought : Rule → Scene × W → Seen W
+  sought r at = told tell (λ parts went. searching r) search r.up at
+
+  abbrev done : Rule → List Act → Scene × W → Seen W
+  done r parts at = walk (told tell (acted r) (act_step known r)) parts at
+
+  abbrev compared : Rule → List Comparison → Scene × W → Seen W
+  compared r parts at = walk (told tell (λ part went. comparing r part) result_step) parts at
+
+  -- the search stops the rule
+  pub search_stops : (r : Rule) (plain : List PlainMatch) (at s t : Scene × W) (a b : Bool) → plain ≡ r.plain → (s, a) ≡ met r plain at → a ≡ true → (t, b) ≡ sought r s → b ≡ false
+      → (t, false) ≡ keys_watched tell known r at
+  search_stops r plain at s t a b ps first on second off =
+      halted (compared r r.results) (if_proceeding (done r r.acts) (if_proceeding (sought r) (met r r.plain at))) t false
+      (halted (done r r.acts) (if_proceeding (sought r) (met r r.plain at)) t b (after (sought r) (met r r.plain at) s t a b (first ∙ ap (λ parts. met r parts at) ps) on second) off) refl
+
+  -- an act stops the rule
+  pub act_stops : (r : Rule) (plain : List PlainMatch) (acts : List Act) (at s t u : Scene × W) (a b d : Bool) → plain ≡ r.plain → (s, a) ≡ met r plain at → a ≡ true
+      → (t, b) ≡ sought r s → b ≡ true → acts ≡ r.acts → (u, d) ≡ done r acts t → d ≡ false → (u, false) ≡ keys_watched tell known r at
+  act_stops r plain acts at s t u a b d ps first on second goes qs third off =
+      halted (compared r r.results) (if_proceeding (done r r.acts) (if_proceeding (sought r) (met r r.plain at))) u d
+      (after (done r r.acts) (if_proceeding (sought r) (met r r.plain at)) t u b d
+       (after (sought r) (met r r.plain at) s t a b (first ∙ ap (λ parts. met r parts at) ps) on second) goes (third ∙ ap (λ parts. done r parts t) qs)) off
+
+  -- the rule comes to the matches of the result
+  pub keys_end : (r : Rule) (plain : List PlainMatch) (acts : List Act) (results : List Comparison) (at s t u x : Scene × W) (a b d e : Bool) → plain ≡ r.plain → (s, a) ≡ met r plain at → a ≡ true
+      → (t, b) ≡ sought r s → b ≡ true → acts ≡ r.acts → (u, d) ≡ done r acts t → d ≡ true → results ≡ r.results → (x, e) ≡ compared r results u → (x, e) ≡ keys_watched tell known r at
+  keys_end r plain acts results at s t u x a b d e ps first on second goes qs third comes rs last =
+      after (compared r r.results) (if_proceeding (done r r.acts) (if_proceeding (sought r) (met r r.plain at))) u x d e
+      (after (done r r.acts) (if_proceeding (sought r) (met r r.plain at)) t u b d
+       (after (sought r) (met r r.plain at) s t a b (first ∙ ap (λ parts. met r parts at) ps) on second) goes (third ∙ ap (λ parts. done r parts t) qs)) comes
+      (last ∙ ap (λ parts. compared r parts u) rs)
 
   pub run_bare : (rules : List Rule) (sought : Option Text) (at : Scene × W) → (run_watched tell known sought rules at).0 ≡ run known sought rules at.0
   unfolding run run_watched

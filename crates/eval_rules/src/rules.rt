@@ -63,7 +63,7 @@ fn tell_passed<'a, W: Watch<'a>>(
 
 /// Evaluates rules, one after another, while something watches. After a rule that jumps and whose end was reached,
 /// those between it and the next one with the label are skipped.
-#[tactic(auto, using(crate::proofs::Watching::ran), unfolding(crate::specs::Watched::run_watched))]
+#[tactic(auto, unfolding(crate::specs::Watched::run_watched))]
 pub fn run_watched<'a, K: Knowledge, W: Watch<'a>>(
     alloc: Global,
     rules: &'a [Rule],

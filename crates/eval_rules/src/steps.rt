@@ -327,7 +327,6 @@ pub fn apply_watched<'a, K: Knowledge, W: Watch<'a>>(
 /// nothing else, and its end is not reached.
 ///
 /// If memory runs out, nothing is left of the scene but its event.
-#[tactic(auto, using(crate::proofs::Watching::applied))]
 #[inline(never)]
 pub fn apply<'a, K: Knowledge>(
     alloc: Global,

@@ -135,7 +135,6 @@ fn push_all_removed(
 }
 
 /// Adds the texts of what changed in RUNs.
-#[tactic(auto, using(crate::proofs::Fronts::added_after))]
 pub(crate) fn push_run_changes(
     alloc: Global,
     reported: &mut Vec<Bytes>,

@@ -5,7 +5,7 @@ use Rattle.std.proofs.lemmas.List.{drop_more, drop_all}
 use Rattle.rule_types.specs.declared.part.Comparison.{Comparison}
 use Rattle.eval_matching.specs.Holding.{holds, one}
 use Rattle.eval_state.specs.declared.scene.Scene.{Scene}
-use Rattle.eval_rules.specs.Steps.{Went, if_proceeding, result_step, walk}
+use Rattle.eval_rules.specs.Steps.{if_proceeding, result_step, walk}
 
 module _ {S P : Type 0} (step : P → S → S × Bool) (parts : List P) (i : ℕ) where
   next_step : (x : P) (s : S) → i < length parts → x ≡ get_or parts i x → walk step (drop i parts) s ≡ if_proceeding (walk step (drop (i + 1) parts)) (step x s)

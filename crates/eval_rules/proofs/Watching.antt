@@ -104,7 +104,7 @@ module _ {W : Type 0} (tell : Telling W) (known : Known) where
   act_stops r plain acts at s t u a b d ps first on second goes qs third off =
       halted (compared r r.results) (if_proceeding (done r r.acts) (if_proceeding (sought r) (met r r.plain at))) u d
       (after (done r r.acts) (if_proceeding (sought r) (met r r.plain at)) t u b d
-       (after (sought r) (met r r.plain at) s t a b (first ∙ ap (λ parts. met r parts at) ps) on second) goes (third ∙ ap (λ parts. done r parts t) qs)) off
+      (after (sought r) (met r r.plain at) s t a b (first ∙ ap (λ parts. met r parts at) ps) on second) goes (third ∙ ap (λ parts. done r parts t) qs)) off
 
   -- the rule comes to the matches of the result
   pub keys_end : (r : Rule) (plain : List PlainMatch) (acts : List Act) (results : List Comparison) (at s t u x : Scene × W) (a b d e : Bool) → plain ≡ r.plain → (s, a) ≡ met r plain at → a ≡ true
@@ -112,7 +112,7 @@ module _ {W : Type 0} (tell : Telling W) (known : Known) where
   keys_end r plain acts results at s t u x a b d e ps first on second goes qs third comes rs last =
       after (compared r r.results) (if_proceeding (done r r.acts) (if_proceeding (sought r) (met r r.plain at))) u x d e
       (after (done r r.acts) (if_proceeding (sought r) (met r r.plain at)) t u b d
-       (after (sought r) (met r r.plain at) s t a b (first ∙ ap (λ parts. met r parts at) ps) on second) goes (third ∙ ap (λ parts. done r parts t) qs)) comes
+      (after (sought r) (met r r.plain at) s t a b (first ∙ ap (λ parts. met r parts at) ps) on second) goes (third ∙ ap (λ parts. done r parts t) qs)) comes
       (last ∙ ap (λ parts. compared r parts u) rs)
 
   pub run_bare : (rules : List Rule) (sought : Option Text) (at : Scene × W) → (run_watched tell known sought rules at).0 ≡ run known sought rules at.0

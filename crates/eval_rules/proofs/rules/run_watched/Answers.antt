@@ -23,4 +23,4 @@ unfolding run_watched
 returns-clause-scene g c =
     ran g.W.Watch.telling (g.K.Knowledge.known c.args.knowledge.now) c.args.rules.now None c.args.scene.now c.loop-rule.scene c.args.watch.now c.loop-rule.watch
     (ap (λ rs. run_watched g.W.Watch.telling (g.K.Knowledge.known c.args.knowledge.now) None rs (c.loop-rule.scene, c.loop-rule.watch)) (sym (nil_from_length c.loop-rule.rest.now c.in_default.ensures.cases))
-     ∙ c.loop-rule.invariant)
+    ∙ c.loop-rule.invariant)

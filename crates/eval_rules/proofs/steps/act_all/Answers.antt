@@ -1,4 +1,4 @@
-use Rattle.std.proofs.Common.{◌≡◌, ◌∙◌}
+use Rattle.std.proofs.Common.{◌∙◌}
 use Rattle.eval_acts.specs.Acts.{act_step}
 use Rattle.eval_rules.specs.Watched.{acted, told}
 use Rattle.eval_rules.proofs.Walks.{walk_on, walk_stop, walk_end}
@@ -10,7 +10,7 @@ returns-then-not-branch-clause-watch g c =
     walk_stop (told g.W.Watch.telling (acted c.args.rule.now) (act_step (g.K.Knowledge.known c.args.knowledge.now) c.args.rule.now)) c.args.parts.now c.loop-part.part-index c.part-item.result
     (c.loop-part.scene, c.loop-part.watch) (c.act.new.scene, c.act.new.self) c.in_ok-act.field-0 c.loop-part-test.true c.part-item.is
     (told_is g.W.Watch.telling (g.K.Knowledge.known c.args.knowledge.now) (acted c.args.rule.now) (act_step (g.K.Knowledge.known c.args.knowledge.now) c.args.rule.now) c.part-item.result c.loop-part.scene c.act.new.scene
-     c.loop-part.watch c.act.new.self c.in_ok-act.field-0 c.in_ok-act.ensures.scene c.in_ok-act.ensures.watch)
+    c.loop-part.watch c.act.new.self c.in_ok-act.field-0 c.in_ok-act.ensures.scene c.in_ok-act.ensures.watch)
     c.if-not-branch.true
     ∙ c.loop-part.invariant.walks
 
@@ -20,7 +20,7 @@ loop-part-preserved g c = record {
       walk_on (told g.W.Watch.telling (acted c.args.rule.now) (act_step (g.K.Knowledge.known c.args.knowledge.now) c.args.rule.now)) c.args.parts.now c.loop-part.part-index c.part-item.result
       (c.loop-part.scene, c.loop-part.watch) (c.act.new.scene, c.act.new.self) c.in_ok-act.field-0 c.loop-part-test.true c.part-item.is
       (told_is g.W.Watch.telling (g.K.Knowledge.known c.args.knowledge.now) (acted c.args.rule.now) (act_step (g.K.Knowledge.known c.args.knowledge.now) c.args.rule.now) c.part-item.result c.loop-part.scene c.act.new.scene
-       c.loop-part.watch c.act.new.self c.in_ok-act.field-0 c.in_ok-act.ensures.scene c.in_ok-act.ensures.watch)
+      c.loop-part.watch c.act.new.self c.in_ok-act.field-0 c.in_ok-act.ensures.scene c.in_ok-act.ensures.watch)
       c.if-not-branch.false
       ∙ c.loop-part.invariant.walks;
   event = c.act.ensures.event ∙ c.loop-part.invariant.event;

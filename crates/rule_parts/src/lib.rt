@@ -13,7 +13,7 @@ mod refusals;
 mod values;
 
 pub use finding::{Finding, PartFault};
-pub use options::{is_known_option, level_of, option_of, priority_of};
+pub use options::{is_known_option, level_of, option_of};
 pub use reading::{is_read_as_assign, is_something, read_part};
 pub use rule_types::{
     Act, ActKind, Assignment, Change, Comparison, Import, Part, PlainMatch, RuleOption, UpMatch,

@@ -1,7 +1,8 @@
 //! The options of OPTIONS.
 ghost use Rattle.std.specs.Prelude.{◌≡◌, Some, codes, false, map};
 ghost use Rattle.text_bytes.specs.Texts.{following};
-ghost use Rattle.rule_parts.specs.Options.{as_level, as_priority, below_zero, beside, from_zero, is_ignored, is_known_option, level_of, number_of, option_by, option_of, other_option, priority_of, udev_option, udev_other};
+ghost use Rattle.rule_parts.specs.Options.{as_level, as_priority, below_zero, beside, from_zero, level_of, number_of, priority_of};
+ghost use Rattle.rule_parts.specs.Options.{is_ignored, is_known_option, option_by, option_of, other_option, udev_option, udev_other};
 
 use rule_templates::{integer_of, natural_of};
 use rule_types::RuleOption;
@@ -137,7 +138,7 @@ fn udev_other(text: &[u8]) -> Option<RuleOption>
 
 /// The priority of links that udev reads in a text, in 32 signed bits.
 #[tactic(auto, unfolding(crate::specs::Options::priority_of))]
-pub fn priority_of(text: &[u8]) -> Option<i32>
+fn priority_of(text: &[u8]) -> Option<i32>
     ensures { result ≡ priority_of text.now }
 {
     as_priority(integer_of(text)?)

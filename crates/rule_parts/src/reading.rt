@@ -5,7 +5,8 @@ ghost use Rattle.rule_types.specs.Written.{attribute_of_role, key_of_role};
 ghost use Rattle.rule_parts.specs.Faults.{FaultOf};
 ghost use Rattle.rule_parts.specs.Inner.{Gives};
 ghost use Rattle.rule_types.specs.WrittenParts.{attribute_of_part, key_of_part, type_of};
-ghost use Rattle.rule_parts.specs.Parts.{IsWritten, comparison, ignores_case, import_by, is_match, is_read_as_assign, is_something, operator_as, opposite, part_by, part_of, role_as, type_as, udev_role, value_part};
+ghost use Rattle.rule_parts.specs.Parts.{IsWritten, comparison, ignores_case, import_by, is_match, is_read_as_assign, is_something};
+ghost use Rattle.rule_parts.specs.Parts.{operator_as, opposite, part_by, part_of, role_as, type_as, udev_role, value_part};
 
 use crate::finding::{PartFault, wrong};
 use crate::refusals::refusal_by;

@@ -8,3 +8,4 @@ pub mod Fnmatching
 pub mod Tables
 pub mod Reaching
 pub mod Packing
+pub mod Found

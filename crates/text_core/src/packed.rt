@@ -18,6 +18,7 @@ use crate::pattern::{MAX_LEN, Pattern};
 use std::alloc::{AllocError, Global};
 use std::marker::Model;
 use std::rc::RcSlice;
+use text_bytes::find;
 
 /// How the items of a pattern are held.
 #[derive(Debug, Drop)]
@@ -59,7 +60,7 @@ fn written(byte: u8) -> Item
 fn has_bracket(text: &[u8]) -> bool
     ensures { result ≡ list_any (λ b. b == open_bracket) text.now }
 {
-    text.iter().any(|byte| *byte == b'[')
+    find(b'[', text).is_some()
 }
 
 impl AsItem for u8 {

@@ -8,7 +8,7 @@ ghost use Rattle.std.specs.IoError.{error_kind};
 ghost use Rattle.std.specs.Iterator.{Drains, IsFinite};
 ghost use Rattle.std.specs.declared.alloc.Global.{Global};
 ghost use Rattle.std.specs.declared.fs.DirEntry.{DirEntry};
-ghost use Rattle.std.specs.Prelude.{◌≡◌, ◌↔◌, ◌⊎◌, ⊤, Err, IfErr, IfOk, IfSome, IsTrue, List, MatchResult, Ok, map, string_bytes};
+ghost use Rattle.std.specs.Prelude.{◌≡◌, ◌↔◌, ◌⊎◌, ⊤, Bool, Err, IfErr, IfOk, IfSome, IsTrue, List, MatchResult, Ok, map, string_bytes};
 ghost use Rattle.devdry_files.specs.Errors.{IsEntriesFault, entry_fault_from, fault_from, read_fault_from, unseen_folder};
 ghost use Rattle.devdry_files.specs.declared.disk.DiskFault.TheVariants.{OutOfMemory, Unreadable};
 
@@ -38,7 +38,8 @@ impl<'r, R> RealDisk<'r, R> {
 /// Whether there is a folder at a path, by the system's answer to a look at it. What can't be looked at is not one, so
 /// that reading it says why; but running out of memory in the look itself is reported.
 fn folder_by(looked: io::Result<Metadata>) -> Result<bool, DiskFault>
-    ensures seen { IfOk looked (λ metadata. IfOk result (λ is. IsTrue is ↔ IsDir (file_type metadata))) }
+    ensures seen { IfOk looked (λ metadata. (is : Bool) × (result ≡ Ok is)
+        × (IsTrue is ↔ IsDir (file_type metadata))) }
     ensures unseen { IfErr looked (λ error. result ≡ unseen_folder (error_kind error)) }
     ensures memory { IfErr result (λ fault. fault ≡ OutOfMemory) }
 {

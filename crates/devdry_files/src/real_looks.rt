@@ -4,7 +4,7 @@
 ghost use Rattle.std.specs.Fs.{IsDir, IsFile, file_type};
 ghost use Rattle.std.specs.IoError.{error_kind};
 ghost use Rattle.std.specs.Path.{path_buf_bytes};
-ghost use Rattle.std.specs.Prelude.{◌≡◌, ◌≢◌, ◌&&◌, ◌==◌, IfErr, IfOk, IfSome, MatchResult, None, Ok, Some, alloc_error, if◌then◌else◌, ok_or, option_map};
+ghost use Rattle.std.specs.Prelude.{◌≡◌, ◌≢◌, ◌&&◌, ◌==◌, IfErr, IfOk, IfSome, MatchResult, None, Ok, Some, alloc_error, if◌then◌else◌, ok_or};
 ghost use Rattle.std.specs.declared.io.ErrorKind.{ErrorKind};
 ghost use Rattle.devdry_files.specs.Errors.{is_opened, look_from, null_device, target_unread};
 

@@ -1,5 +1,5 @@
 //! Files that are where none is read: below `/lib`, if that is not a symlink, as it mostly is to `/usr/lib`.
-ghost use Rattle.std.specs.Prelude.{◌≡◌, ◌++◌, ◌⊎◌, [], IfOk, codes, filter};
+ghost use Rattle.std.specs.Prelude.{◌≡◌, ◌++◌, ◌⊎◌, [], IfErr, IfOk, codes, filter};
 ghost use Rattle.engine_ends.specs.Kinds.{kinds_read, reads_folders_of};
 ghost use Rattle.devdry_files.specs.Answers.Answer.{Listing, NoListing, Target};
 ghost use Rattle.devdry_files.specs.declared.disk.DiskFault.TheVariants as faults;
@@ -33,10 +33,11 @@ fn unmerged_folder(kind: FileKind) -> &'static str
 
 /// The entries of the folder at a path, and none if it can't be listed.
 fn entries_at<D: Disk>(alloc: Global, disk: &D, path: &str) -> Result<Vec<Entry>, AllocError>
-    ensures { IfOk result (λ entries. D.may_answer disk.now (Listing path.now entries.items)
+    ensures entries { IfOk result (λ entries. D.may_answer disk.now (Listing path.now entries.items)
         ⊎ ((entries.items ≡ []) × (D.may_answer disk.now (NoListing path.now faults.Absent)
         ⊎ (D.may_answer disk.now (NoListing path.now faults.Unreadable)
         ⊎ D.may_answer disk.now (NoListing path.now faults.NotUtf8))))) }
+    ensures memory { IfErr result (λ _. D.may_answer disk.now (NoListing path.now faults.OutOfMemory)) }
 {
     match disk.list(alloc, path) {
         Ok(entries) => Ok(entries),

@@ -185,8 +185,10 @@ failed answer Read turns held input now later output sink sink_later t f = recor
   reads = inr (to_fault turns (length t.read) input now later t.turn_count t.counts f.0);
   goes_on = (goes_on-few t.read t.goes_on, λ failed. t.goes_on);
   fits = few_of t.read t.fits;
-  due = (subst (λ s. HasAnswered answer (all_but_last t.read) output s) (sym f.1) t.due,
-  λ failed. has_answered answer t.read held output sink sink sink_later [] t.answers (writes-none sink) (ap (λ s. s.flushed) f.1));
+  due = (
+    subst (λ s. HasAnswered answer (all_but_last t.read) output s) (sym f.1) t.due,
+    λ failed. has_answered answer t.read held output sink sink sink_later [] t.answers (writes-none sink) (ap (λ s. s.flushed) f.1),
+  );
   ends = subst (λ s. IsAnsweredSoFar answer (joined t.read) output s) (sym f.1) (record { held = held; answers = t.answers });
 }
 failed answer Write turns held input now later output sink sink_later t f = after_read answer Write turns held input now later output sink sink_later t f (λ s. s) (λ e. e)

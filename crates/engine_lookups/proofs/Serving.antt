@@ -74,8 +74,7 @@ module _ (messages : Text) (answer : Text → Text) (status : ℕ) (before now :
   looked_well t c =
       let is : lines_outcome messages answer (joined t.read) ≡ record { output = flat_map answer (lines (joined t.read)); messages = messages; status = 0 } =
       ap (after_messages messages) (answered_all answer 1 (lines (joined t.read)) t.ends.leads)
-      ∙ ap (λ said. record { output = flat_map answer (lines (joined t.read)); messages = said; status = 0 }) (append-nil messages) in
-      (
+      ∙ ap (λ said. record { output = flat_map answer (lines (joined t.read)); messages = said; status = 0 }) (append-nil messages) in (
         record {
           read = t.read;
           pieces = t.pieces;
@@ -94,8 +93,7 @@ module _ (messages : Text) (answer : Text → Text) (status : ℕ) (before now :
 
   looked_read : (t : AnswersInput answer (Err Read) (devices_of before) (devices_of now)) → Concludes (Err Read) status after now.err → status ≡ 3 → ServesOver t.read
   looked_read t c e =
-      let a = t.ends.answers in
-      (
+      let a = t.ends.answers in (
         record {
           read = t.read;
           pieces = t.pieces;
@@ -117,8 +115,7 @@ module _ (messages : Text) (answer : Text → Text) (status : ℕ) (before now :
   looked_write t c e =
       let s = t.ends.stops in
       let there = s.at [] (λ f. refl) in
-      let stops = there.stops in
-      (
+      let stops = there.stops in (
         record {
           read = t.read;
           pieces = t.pieces;
@@ -140,8 +137,7 @@ module _ (messages : Text) (answer : Text → Text) (status : ℕ) (before now :
   looked_memory : (t : AnswersInput answer (Err Memory) (devices_of before) (devices_of now)) → Concludes (Err Memory) status after now.err → ServesOver t.read
   looked_memory t c =
       let s = t.ends.stops in
-      let there = s.at [] (λ f. refl) in
-      (
+      let there = s.at [] (λ f. refl) in (
         record {
           read = t.read;
           pieces = t.pieces;
@@ -171,8 +167,7 @@ module _ (messages : Text) (answer : Text → Text) (status : ℕ) (before now :
       let of : (rest : Text) → now.input.left ≡ Some rest → lines_outcome messages answer (joined t.read ++ rest) ≡ record { output = flat_map answer s.ended; messages = messages ++ too_long_line counted; status = 1 } =
       λ rest e. long_outcome counted (joined t.read ++ rest) s.ended s.after s.leads (s.at rest (t.ends.last rest e)) in
       let is : lines_outcome messages answer (joined t.read) ≡ record { output = flat_map answer s.ended; messages = messages ++ too_long_line counted; status = 1 } =
-      ap (lines_outcome messages answer) (sym (append-nil (joined t.read))) ∙ long_outcome counted (joined t.read ++ []) s.ended s.after s.leads there in
-      (
+      ap (lines_outcome messages answer) (sym (append-nil (joined t.read))) ∙ long_outcome counted (joined t.read ++ []) s.ended s.after s.leads there in (
         record {
           read = t.read;
           pieces = t.pieces;
@@ -193,8 +188,7 @@ module _ (messages : Text) (answer : Text → Text) (status : ℕ) (before now :
       let s = t.ends.stops in
       let there = s.at [] (λ f. refl) in
       let is : lines_outcome messages answer (joined t.read) ≡ record { output = flat_map answer s.ended; messages = messages ++ too_long_line counted; status = 1 } =
-      ap (lines_outcome messages answer) (sym (append-nil (joined t.read))) ∙ long_outcome counted (joined t.read ++ []) s.ended s.after s.leads there in
-      (
+      ap (lines_outcome messages answer) (sym (append-nil (joined t.read))) ∙ long_outcome counted (joined t.read ++ []) s.ended s.after s.leads there in (
         record {
           read = t.read;
           pieces = t.pieces;

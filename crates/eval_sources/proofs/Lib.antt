@@ -5,5 +5,5 @@ pub mod Framing
 pub mod Setting
 pub mod Quiet
 pub mod Touching
-pub mod Passing
+pub mod Watching
 pub mod Ending

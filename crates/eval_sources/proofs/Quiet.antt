@@ -20,6 +20,7 @@ use Rattle.eval_assignments.specs.Steps.{set_step}
 use Rattle.eval_rules.specs.Idle.{is_idle}
 use Rattle.eval_rules.specs.Steps.{Went, apply, only_noted, if_proceeding, plain_step, result_step, search, set_all, steps, before_sets, walk, with_selected}
 use Rattle.eval_sources.specs.Inner.{can_change}
+use Rattle.eval_sources.specs.Touched.{sizes}
 use Rattle.eval_effects.specs.Items.{items, node_items}
 
 -- a scene without what matches change in it: its notes, and which device is selected
@@ -107,6 +108,12 @@ apply_quiet known r s = by (is_idle r s.state.event)
     by : (b : Bool) → Quietly r s (cond b (only_noted known r s) (steps known r s))
     by true h = refl
     by false h = steps_quiet known r s h
+
+-- such a rule leaves as many links and tags
+pub sizes_stay : (known : Known) (r : Rule) (s t : Scene) (on : Bool) → (t, on) ≡ apply known r s → can_change on r ≡ false → sizes t ≡ sizes s
+sizes_stay known r s t on e h =
+    let all = apply_quiet known r s (ap (λ (w : Went). can_change w.1 r) (sym e) ∙ h) in
+    ap (λ (w : Went). sizes w.0) e ∙ ap sizes all
 
 -- such a rule leaves all items
 pub items_stay : (known : Known) (r : Rule) (s t : Scene) (on : Bool) → (t, on) ≡ apply known r s → can_change on r ≡ false → items t ≡ items s

@@ -1,15 +1,13 @@
--- Serves inner proofs only: what is kept while rules run.
+-- Serves inner proofs only: what is kept while rules run, by a watcher of them.
 use Rattle.std.specs.Prelude.{◌≡◌, Bool, not, ◌||◌, ◌&&◌, if◌then◌else◌, List, [], ◌∷◌, ◌++◌, Option, Some, option_map, is_some, fold}
 use Rattle.text_bytes.specs.Texts.{is_empty}
 use Rattle.text_tables.specs.Texts.{Text}
 use Rattle.text_tables.specs.Pairs.{Pair, value_of, with_value}
-use Rattle.builtin_devices.specs.Knowledge.{Known}
 use Rattle.rule_types.specs.Rules.{Rule}
 use Rattle.eval_state.specs.declared.scene.Scene.{Scene}
-use Rattle.eval_rules.specs.Jumps.{run, run_all}
+use Rattle.eval_rules.specs.Watched.{Happening, left}
 use Rattle.eval_effects.specs.Items.{items}
 use Rattle.eval_sources.specs.Sources.{Held, Kept, Source, Stage, kept_in, source_by, source_in, source_of}
-use Rattle.eval_sources.specs.Reported.{stages_from, stages_over}
 use Rattle.eval_sources.specs.Touched.{changes_more, found_after}
 use Rattle.eval_sources.specs.declared.touched.Sizes.{Sizes}
 
@@ -54,11 +52,15 @@ looks_at_all r was s = not (is_empty r.acts) || changes_more r was s
 abbrev pub told_after : Rule → Sizes → Scene → Held → Held
 told_after r was s held = if looks_at_all r was s then kept_after held (Some r) (items s) else updated held (Some r) (found_after r was s)
 
--- Rules were evaluated up to these, over a scene that became this one: for all stages so far, where each item that is
--- there comes from is kept, and those that are left are still to come.
-pub record Halfway (known : Known) (rules left : List Rule) (sought : Option Text) (first s : Scene) (held : Held) : Type 0 where
-  pub before : List Stage
-  pub last : Source
-  pub keeps : Keeps (before ++ (last, items s) ∷ []) (items s) held
-  pub whole : before ++ (last, items s) ∷ stages_from known sought left s ≡ stages_over known rules first
-  pub ran : run known sought left s ≡ run_all known rules first
+-- how many links and tags there were after the last rule that can have changed an item, and what is kept
+abbrev pub Keeper : Type 0
+Keeper = Sizes × Held
+
+-- what a keeper is after a rule
+abbrev pub kept_after_rule : Keeper → Rule → Bool → Scene → Keeper
+kept_after_rule w r reached s = if can_change reached r then (sizes s, told_after r w.0 s w.1) else w
+
+-- what a keeper is after it was told what happens: only a rule that is left matters
+abbrev pub keeping : Keeper → Happening → Scene → Keeper
+keeping w (left r reached) s = kept_after_rule w r reached s
+keeping w happening s = w

@@ -9,13 +9,13 @@ use Rattle.eval_rules.specs.Steps.{Went, apply}
 use Rattle.eval_rules.specs.Jumps.{is_passed, run, sought_after}
 use Rattle.eval_effects.specs.Items.{items}
 use Rattle.eval_sources.specs.Inner.{Halfway, Keeps, Proceeds}
-use Rattle.eval_sources.specs.Sources.{Kept, Reports, Source, Stage}
+use Rattle.eval_sources.specs.Sources.{Held, Reports, Source, Stage}
 use Rattle.eval_sources.specs.Reported.{stages_from, stages_over}
 use Rattle.eval_sources.proofs.Keeping.{reports}
 
 module _ (known : Known) (rules : List Rule) (first : Scene) where
   -- no rule was reached yet
-  pub at_first : (held : List (Text × Kept)) → Keeps ((None, items first) ∷ []) (items first) held → Halfway known rules rules None first first held
+  pub at_first : (held : Held) → Keeps ((None, items first) ∷ []) (items first) held → Halfway known rules rules None first first held
   at_first held h = record { before = []; last = None; keeps = h; whole = refl; ran = refl }
 
   module _ (i : ℕ) (r : Rule) (within : i < length rules) (is : r ≡ get_or rules i r) where
@@ -26,7 +26,7 @@ module _ (known : Known) (rules : List Rule) (first : Scene) where
     next = drop_more rules i r within ∙ ap (λ x. x ∷ rest) (sym is)
 
     -- a rule is skipped
-    pub one_passed : (sought : Option Text) (s : Scene) (held : List (Text × Kept)) → is_passed sought r ≡ true → Halfway known rules (drop i rules) sought first s held → Halfway known rules rest sought first s held
+    pub one_passed : (sought : Option Text) (s : Scene) (held : Held) → is_passed sought r ≡ true → Halfway known rules (drop i rules) sought first s held → Halfway known rules rest sought first s held
     unfolding run stages_from
     one_passed sought s held e h =
         let on : Halfway known rules (r ∷ rest) sought first s held = subst (λ left. Halfway known rules left sought first s held) next h in
@@ -41,7 +41,7 @@ module _ (known : Known) (rules : List Rule) (first : Scene) where
         }
 
     -- a rule is evaluated
-    pub one_more : (sought wanted : Option Text) (s t : Scene) (reached : Bool) (held now : List (Text × Kept)) → is_passed sought r ≡ false → (t, reached) ≡ apply known r s → wanted ≡ sought_after reached r
+    pub one_more : (sought wanted : Option Text) (s t : Scene) (reached : Bool) (held now : Held) → is_passed sought r ≡ false → (t, reached) ≡ apply known r s → wanted ≡ sought_after reached r
         → Proceeds (items s) (Some r) (items t) held now → Halfway known rules (drop i rules) sought first s held → Halfway known rules rest wanted first t now
     unfolding run stages_from Proceeds
     one_more sought wanted s t reached held now e to for advances h =
@@ -64,7 +64,7 @@ module _ (known : Known) (rules : List Rule) (first : Scene) where
           ran = ran ∙ on.ran;
         }
 
-  module _ (i : ℕ) (sought : Option Text) (s : Scene) (held : List (Text × Kept)) (end : length rules ≤ i) (h : Halfway known rules (drop i rules) sought first s held) where
+  module _ (i : ℕ) (sought : Option Text) (s : Scene) (held : Held) (end : length rules ≤ i) (h : Halfway known rules (drop i rules) sought first s held) where
     done : Halfway known rules [] sought first s held
     done = subst (λ left. Halfway known rules left sought first s held) (drop_all i rules end) h
 

@@ -23,7 +23,7 @@ use Rattle.eval_sources.specs.Inner.{can_change}
 use Rattle.eval_effects.specs.Items.{items, node_items}
 
 -- a scene without what matches change in it: its notes, and which device is selected
-abbrev quiet : Scene → Scene
+abbrev pub quiet : Scene → Scene
 quiet s = record s { notes = []; state = with_selected None s.state }
 
 items_quiet : (s : Scene) → items (quiet s) ≡ items s
@@ -83,6 +83,14 @@ neither : (a b : Bool) → (a || b) ≡ false → (a ≡ false) × (b ≡ false)
 neither true b h = cc
 neither false b h = (refl, h)
 
+-- the keys of a rule that does not act leave all items
+pub keys_quiet : (known : Known) (r : Rule) (s : Scene) → not (is_empty r.acts) ≡ false → quiet (before_sets known r s).0 ≡ quiet s
+keys_quiet known r s none =
+    let plains = walk_quiet (plain_step r) (plain_quiet r) r.plain s in
+    let ups = if_proceeding_quiet (search r.up) (search_quiet r.up) s _ plains in
+    let acted = if_proceeding_quiet (walk (act_step known r) r.acts) (λ u. acts_quiet known r r.acts u none) s _ ups in
+    if_proceeding_quiet (walk result_step r.results) (walk_quiet result_step result_quiet r.results) s _ acted
+
 abbrev Quietly : Rule → Scene → Went → Type 0
 Quietly r s w = can_change w.1 r ≡ false → quiet w.0 ≡ quiet s
 
@@ -90,11 +98,7 @@ steps_quiet : (known : Known) (r : Rule) (s : Scene) → Quietly r s (steps know
 unfolding steps
 steps_quiet known r s h =
     let none = neither (not (is_empty r.acts)) ((steps known r s).1 && not (is_empty r.sets)) h in
-    let plains = walk_quiet (plain_step r) (plain_quiet r) r.plain s in
-    let ups = if_proceeding_quiet (search r.up) (search_quiet r.up) s _ plains in
-    let acted = if_proceeding_quiet (walk (act_step known r) r.acts) (λ u. acts_quiet known r r.acts u none.0) s _ ups in
-    let results = if_proceeding_quiet (walk result_step r.results) (walk_quiet result_step result_quiet r.results) s _ acted in
-    end_quiet r s (before_sets known r s) results none.1
+    end_quiet r s (before_sets known r s) (keys_quiet known r s none.0) none.1
 
 apply_quiet : (known : Known) (r : Rule) (s : Scene) → Quietly r s (apply known r s)
 unfolding apply

@@ -1,5 +1,5 @@
 use Rattle.std.proofs.Common.{[], None, ap, ◌∙◌}
-use Rattle.eval_sources.specs.Sources.{kept_after}
+use Rattle.eval_sources.specs.Inner.{kept_after}
 use Rattle.eval_sources.proofs.Keeping.{keeps_start}
 use Rattle.eval_sources.proofs.reporting.begin.Goals as goal
 

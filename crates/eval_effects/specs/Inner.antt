@@ -1,7 +1,9 @@
--- Serves inner proofs only: items as a table, and tags one by one.
-use Rattle.std.specs.Prelude.{List, [], ◌∷◌, if◌then◌else◌, codes, reverse}
+-- Serves inner proofs only: items as a table, tags one by one, and RUNs that two lists begin with.
+use Rattle.std.specs.Prelude.{ℕ, List, [], ◌∷◌, if◌then◌else◌, codes, reverse}
+use Rattle.std.specs.List.{prefix_len, zip}
 use Rattle.text_tables.specs.Pairs.{Pair, with_values}
 use Rattle.text_tables.specs.Texts.{Text, is_among}
+use Rattle.eval_state.specs.Runs.{RunValue, same_run}
 use Rattle.eval_effects.specs.Items.{item_name}
 
 -- a table of items, in which the first of two with the same name counts: they are put into it from the last on
@@ -11,3 +13,7 @@ table_of items = with_values [] (reverse items)
 -- a tag as an item, unless it was removed
 abbrev pub tag_item : List Text → Text → List Pair
 tag_item gone tag = if is_among gone tag then [] else (item_name (codes "tag") tag, []) ∷ []
+
+-- how many RUNs are the same, one by one, from the first on
+abbrev pub same_front : List RunValue → List RunValue → ℕ
+same_front front runs = prefix_len (λ pair. same_run pair.0 pair.1) (zip front runs)

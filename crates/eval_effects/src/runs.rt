@@ -1,6 +1,9 @@
 //! RUNs that are there only now, and those that are no longer there.
-ghost use Rattle.std.specs.Prelude.{◌≡◌, ◌++◌, IfOk, OnOk, flat_map};
+//!
+//! Most assignments leave what was there, so the RUNs that both lists begin with are passed over without a search.
+ghost use Rattle.std.specs.Prelude.{◌≡◌, ◌≤◌, ◌++◌, IfOk, OnOk, drop, flat_map, length};
 ghost use Rattle.std.specs.List.{list_any};
+ghost use Rattle.eval_effects.specs.Inner.{same_front};
 ghost use Rattle.eval_effects.specs.Changes.{added_run, is_kept, removed_run, removed_runs, run_changes, run_text};
 
 use crate::shown::push_shown;
@@ -13,6 +16,25 @@ fn is_kept(runs: &[Run<'_>], run: &Run<'_>) -> bool
     ensures { result ≡ is_kept runs.now run.now }
 {
     runs.contains(run)
+}
+
+/// How many RUNs are the same, one by one, from the first on.
+fn same_front(front: &[Run<'_>], runs: &[Run<'_>]) -> usize
+    ensures value { result ≡ same_front front.now runs.now }
+    ensures within { result ≤ length runs.now }
+{
+    front
+        .iter()
+        .zip(runs)
+        .take_while(|pair| pair.0 == pair.1)
+        .count()
+}
+
+/// RUNs without those that are the same, one by one, as these from the first on.
+fn after_front<'r, 'a>(front: &[Run<'_>], runs: &'r [Run<'a>]) -> &'r [Run<'a>]
+    ensures { result.now ≡ drop (same_front front.now runs.now) runs.now }
+{
+    runs.split_at(same_front(front, runs)).1
 }
 
 /// Whether one of these RUNs is one of those.
@@ -96,6 +118,7 @@ fn push_each_removed(
 }
 
 /// Adds the texts of the RUNs that are no longer there: one by one, unless none of them stayed.
+#[tactic(auto, using(crate::proofs::Fronts::removed_after))]
 fn push_all_removed(
     alloc: Global,
     reported: &mut Vec<Bytes>,
@@ -105,7 +128,7 @@ fn push_all_removed(
     ensures { OnOk result (reported.new.items ≡ reported.old.items ++ removed_runs was.now now.now) }
 {
     if was.is_empty() || any_kept(was, now) {
-        return push_each_removed(alloc, reported, was, now);
+        return push_each_removed(alloc, reported, after_front(now, was), now);
     }
     reported.push(Bytes::copy_of(alloc, b"all runs removed")?)?;
     Ok(())
@@ -120,6 +143,6 @@ pub(crate) fn push_run_changes(
 ) -> Result<(), AllocError>
     ensures { OnOk result (reported.new.items ≡ reported.old.items ++ run_changes was.now now.now) }
 {
-    push_all_added(alloc, reported, was, now)?;
+    push_all_added(alloc, reported, was, after_front(was, now))?;
     push_all_removed(alloc, reported, was, now)
 }

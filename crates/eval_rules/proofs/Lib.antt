@@ -1,4 +1,5 @@
 pub mod Running
+pub mod Watching
 pub mod Rendering
 pub mod Walks
 pub mod Staying

@@ -1,43 +1,39 @@
 -- Rules one after another, a rule at a time.
-use Rattle.std.proofs.Common.{◌≡◌, ℕ, suc, ◌+◌, ◌<◌, ◌≤◌, Bool, true, false, cond, List, [], ◌∷◌, length, drop, get_or, Option, None, refl, ap, sym, ◌∙◌, arith}
+use Rattle.std.proofs.Common.{◌≡◌, ℕ, suc, ◌+◌, Bool, true, false, cond, List, [], ◌∷◌, drop, take, Option, None, refl, ap, sym, ◌∙◌, arith}
 use Rattle.std.specs.List.{prefix_len}
-use Rattle.std.proofs.lemmas.List.{drop_more, drop_all, drop-drop}
 use Rattle.text_tables.specs.Texts.{Text}
 use Rattle.builtin_devices.specs.Knowledge.{Known}
 use Rattle.rule_types.specs.Rules.{Rule}
 use Rattle.eval_state.specs.declared.scene.Scene.{Scene}
-use Rattle.eval_rules.specs.Steps.{Went, apply}
-use Rattle.eval_rules.specs.Jumps.{is_passed, run, sought_after}
-use Rattle.eval_rules.specs.Inner.{landing}
+use Rattle.eval_rules.specs.Inner.{passed_told}
+use Rattle.eval_rules.specs.Jumps.{is_passed, sought_after}
+use Rattle.eval_rules.specs.Watched.{Telling, apply_watched, run_watched, passed}
 
-module _ (known : Known) where
-  -- rules are skipped up to the first that is not
-  passed : (sought : Option Text) (rules : List Rule) (s : Scene) → run known sought rules s ≡ run known None (drop (prefix_len (is_passed sought) rules) rules) s
-  unfolding run
-  passed sought [] s = refl
-  passed sought (r ∷ rs) s = by (is_passed sought r) (passed sought rs s)
+module _ {W : Type 0} (tell : Telling W) (known : Known) where
+  -- rules are passed over up to the first that is not
+  abbrev landed : ℕ → List Rule → Scene × W → Scene × W
+  landed n rules at = run_watched tell known None (drop n rules) (at.0, passed_told tell at.0 at.1 (take n rules))
+
+  lands : (sought : Option Text) (rules : List Rule) (at : Scene × W) → run_watched tell known sought rules at ≡ landed (prefix_len (is_passed sought) rules) rules at
+  unfolding run_watched
+  lands sought [] at = refl
+  lands sought (r ∷ rs) at = by (is_passed sought r) (lands sought rs (at.0, tell at.1 (passed r) at.0))
     where
-      by : (b : Bool) → run known sought rs s ≡ run known None (drop (prefix_len (is_passed sought) rs) rs) s
-          → cond b (run known sought rs s) (run known (sought_after (apply known r s).1 r) rs (apply known r s).0) ≡ run known None (drop (cond b (1 + prefix_len (is_passed sought) rs) 0) (r ∷ rs)) s
+      by : (b : Bool) → run_watched tell known sought rs (at.0, tell at.1 (passed r) at.0) ≡ landed (prefix_len (is_passed sought) rs) rs (at.0, tell at.1 (passed r) at.0)
+          → cond b (run_watched tell known sought rs (at.0, tell at.1 (passed r) at.0)) (run_watched tell known (sought_after (apply_watched tell known r at).1 r) rs (apply_watched tell known r at).0)
+          ≡ landed (cond b (1 + prefix_len (is_passed sought) rs) 0) (r ∷ rs) at
       by true h =
           let one : 1 + prefix_len (is_passed sought) rs ≡ suc (prefix_len (is_passed sought) rs) = omega arith in
-          h ∙ ap (λ n. run known None (drop n (r ∷ rs)) s) (sym one)
+          h ∙ ap (λ n. landed n (r ∷ rs) at) (sym one)
       by false h = refl
 
   -- a rule that is evaluated, and where it leads
-  pub run_on : (rules : List Rule) (i : ℕ) (r : Rule) (s t : Scene) (reached : Bool) (next : Option Text) (j : ℕ) → i < length rules → r ≡ get_or rules i r → (t, reached) ≡ apply known r s
-      → next ≡ sought_after reached r → j ≡ landing next rules (i + 1) → run known None (drop j rules) t ≡ run known None (drop i rules) s
-  unfolding run
-  run_on rules i r s t reached next j within is e to at =
-      let rest : List Rule = drop (i + 1) rules in
-      ap (λ n. run known None (drop n rules) t) at
-      ∙ ap (λ rs. run known None rs t) (sym (drop-drop (prefix_len (is_passed next) rest) (i + 1) rules))
-      ∙ sym (passed next rest t)
-      ∙ ap (λ l. run known l rest t) to
-      ∙ ap (λ (w : Went). run known (sought_after w.1 r) rest w.0) e
-      ∙ ap (λ rs. run known None rs s) (sym (drop_more rules i r within ∙ ap (λ x. x ∷ rest) (sym is)))
-
--- no rule is left
-pub run_end : (known : Known) (rules : List Rule) (i : ℕ) (s : Scene) → length rules ≤ i → run known None (drop i rules) s ≡ s
-unfolding run
-run_end known rules i s h = ap (λ rs. run known None rs s) (drop_all i rules h)
+  pub run_on : (r : Rule) (rs : List Rule) (at : Scene × W) (t : Scene) (v x : W) (reached : Bool) (next : Option Text) (n : ℕ) → ((t, v), reached) ≡ apply_watched tell known r at
+      → next ≡ sought_after reached r → n ≡ prefix_len (is_passed next) rs → x ≡ passed_told tell t v (take n rs) → run_watched tell known None (drop n rs) (t, x) ≡ run_watched tell known None (r ∷ rs) at
+  unfolding run_watched
+  run_on r rs at t v x reached next n is e count said =
+      ap (λ w. run_watched tell known None (drop n rs) (t, w)) said
+      ∙ ap (λ m. landed m rs (t, v)) count
+      ∙ sym (lands next rs (t, v))
+      ∙ ap (λ l. run_watched tell known l rs (t, v)) e
+      ∙ ap (λ (w : (Scene × W) × Bool). run_watched tell known (sought_after w.1 r) rs w.0) is

@@ -5,23 +5,23 @@ use Rattle.std.proofs.lemmas.List.{drop_more, drop_all}
 use Rattle.rule_types.specs.declared.part.Comparison.{Comparison}
 use Rattle.eval_matching.specs.Holding.{holds, one}
 use Rattle.eval_state.specs.declared.scene.Scene.{Scene}
-use Rattle.eval_rules.specs.Steps.{Went, if_proceeding, result_step, walk}
+use Rattle.eval_rules.specs.Steps.{if_proceeding, result_step, walk}
 
-module _ {P : Type 0} (step : P → Scene → Went) (parts : List P) (i : ℕ) where
-  next_step : (x : P) (s : Scene) → i < length parts → x ≡ get_or parts i x → walk step (drop i parts) s ≡ if_proceeding (walk step (drop (i + 1) parts)) (step x s)
+module _ {S P : Type 0} (step : P → S → S × Bool) (parts : List P) (i : ℕ) where
+  next_step : (x : P) (s : S) → i < length parts → x ≡ get_or parts i x → walk step (drop i parts) s ≡ if_proceeding (walk step (drop (i + 1) parts)) (step x s)
   unfolding walk
   next_step x s h is = ap (λ ps. walk step ps s) (drop_more parts i x h) ∙ ap (λ y. if_proceeding (walk step (drop (i + 1) parts)) (step y s)) (sym is)
 
   -- a part at which the rule goes on
-  pub walk_on : (x : P) (s t : Scene) (on : Bool) → i < length parts → x ≡ get_or parts i x → (t, on) ≡ step x s → on ≡ true → walk step (drop (i + 1) parts) t ≡ walk step (drop i parts) s
+  pub walk_on : (x : P) (s t : S) (on : Bool) → i < length parts → x ≡ get_or parts i x → (t, on) ≡ step x s → on ≡ true → walk step (drop (i + 1) parts) t ≡ walk step (drop i parts) s
   walk_on x s t on h is e advances = sym (next_step x s h is ∙ ap (if_proceeding (walk step (drop (i + 1) parts))) (sym e ∙ ap (λ b. (t, b)) advances))
 
   -- a part at which the rule stops
-  pub walk_stop : (x : P) (s t : Scene) (on : Bool) → i < length parts → x ≡ get_or parts i x → (t, on) ≡ step x s → on ≡ false → (t, false) ≡ walk step (drop i parts) s
+  pub walk_stop : (x : P) (s t : S) (on : Bool) → i < length parts → x ≡ get_or parts i x → (t, on) ≡ step x s → on ≡ false → (t, false) ≡ walk step (drop i parts) s
   walk_stop x s t on h is e stops = sym (next_step x s h is ∙ ap (if_proceeding (walk step (drop (i + 1) parts))) (sym e ∙ ap (λ b. (t, b)) stops))
 
   -- no part is left
-  pub walk_end : (s : Scene) → length parts ≤ i → (s, true) ≡ walk step (drop i parts) s
+  pub walk_end : (s : S) → length parts ≤ i → (s, true) ≡ walk step (drop i parts) s
   unfolding walk
   walk_end s h = sym (ap (λ ps. walk step ps s) (drop_all i parts h))
 

@@ -1,7 +1,5 @@
 -- Serves inner proofs only: what functions below the public ones leave.
-use Rattle.std.specs.Prelude.{ℕ, ◌+◌, List, ◌++◌, Option, None, drop}
-use Rattle.std.specs.List.{prefix_len}
-use Rattle.text_tables.specs.Texts.{Text}
+use Rattle.std.specs.Prelude.{List, ◌++◌, None, fold}
 use Rattle.text_tables.specs.Pairs.{Pair}
 use Rattle.eval_state.specs.Texts.{filled}
 use Rattle.eval_state.specs.declared.notes.Note.{Note}
@@ -9,7 +7,7 @@ use Rattle.eval_state.specs.declared.scene.Scene.{Scene}
 use Rattle.eval_assignments.specs.Tags.{current_tags}
 use Rattle.rule_types.specs.Rules.{Rule}
 use Rattle.eval_rules.specs.Steps.{with_selected}
-use Rattle.eval_rules.specs.Jumps.{is_passed}
+use Rattle.eval_rules.specs.Watched.{Telling, passed}
 use Rattle.eval_rules.specs.declared.outcome.Command.{Command}
 use Rattle.eval_rules.specs.declared.outcome.Outcome.{Outcome}
 
@@ -41,6 +39,6 @@ made_from s env runs = record {
   notes = s.notes;
 }
 
--- the place of the next rule that is not skipped, while a label is sought or none is, from a place on
-abbrev pub landing : Option Text → List Rule → ℕ → ℕ
-landing sought rules from = from + prefix_len (is_passed sought) (drop from rules)
+-- what a watcher is after it was told of rules that are passed over
+abbrev pub passed_told : {W : Type 0} → Telling W → Scene → W → List Rule → W
+passed_told tell s w rules = fold (λ v r. tell v (passed r) s) w rules

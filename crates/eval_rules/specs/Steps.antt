@@ -19,11 +19,11 @@ abbrev pub Went : Type 0
 Went = Scene × Bool
 
 -- what a rule does next, if it goes on; if it does not, what was changed until then stays
-abbrev pub if_proceeding : (Scene → Went) → Went → Went
+abbrev pub if_proceeding : {S : Type 0} → (S → S × Bool) → S × Bool → S × Bool
 if_proceeding next went = if went.1 then next went.0 else went
 
 -- the parts of a rule that are of one step, one after another
-unfoldable pub walk : {P : Type 0} → (P → Scene → Went) → List P → Scene → Went
+unfoldable pub walk : {S P : Type 0} → (P → S → S × Bool) → List P → S → S × Bool
 walk step [] s = (s, true)
 walk step (p ∷ ps) s = if_proceeding (walk step ps) (step p s)
 

@@ -15,10 +15,12 @@ mod laws;
 mod outcome;
 mod rules;
 mod steps;
+mod watch;
 
 pub use evaluating::{evaluate_plain, finish, made_command, run_text};
 pub use idle::{is_idle, note_all};
 pub use laws::{manual_evaluates_every_rule, skipped_rule_lacks_nothing};
 pub use outcome::{Command, Commands, Outcome};
-pub use rules::{is_passed, sought_after};
-pub use steps::{apply, plain_step, search};
+pub use rules::{is_passed, run_watched, sought_after};
+pub use steps::{apply, apply_watched, plain_step, search};
+pub use watch::{Moment, Watch};

@@ -2,12 +2,14 @@
 //!
 //! The rules of all files are one list: a jump looks for its label below its rule, and the next rule
 //! that has it is in the same file. Most rules end without a jump, and then the next one follows.
-ghost use Rattle.std.specs.Prelude.{◌≡◌, ◌≤◌, OnOk, length, option_map};
+ghost use Rattle.std.specs.Prelude.{◌≡◌, ◌≤◌, None, OnOk, length, option_map};
 ghost use Rattle.std.specs.List.{prefix_len};
 ghost use Rattle.eval_rules.specs.Jumps.{is_passed, run_all, sought_after};
-ghost use Rattle.eval_rules.specs.Inner.{landing};
+ghost use Rattle.eval_rules.specs.Inner.{passed_told};
+ghost use Rattle.eval_rules.specs.Watched.{run_watched};
 
-use crate::steps::apply;
+use crate::steps::apply_watched;
+use crate::watch::{Moment, Watch};
 use builtin_devices::Knowledge;
 use eval_state::Scene;
 use rule_types::Rule;
@@ -42,19 +44,48 @@ fn passed_len(sought: Option<&[u8]>, rules: &[Rule]) -> usize
         .count()
 }
 
-/// The place of the next rule that is not skipped, from a place on.
-fn landing(sought: Option<&[u8]>, rules: &[Rule], from: usize) -> usize
-    requires { from ≤ length rules.now }
-    ensures place { result ≡ landing (option_map (λ t. t.now) sought.entry) rules.now from }
-    ensures following { from ≤ result }
+/// Tells of rules that are passed over.
+#[inline(always)]
+fn tell_passed<'a, W: Watch<'a>>(
+    alloc: Global,
+    rules: &'a [Rule],
+    watch: &mut W,
+    scene: &mut Scene<'a>,
+) -> Result<(), AllocError>
+    ensures watch { OnOk result (watch.new ≡ passed_told W.telling scene.old watch.old rules.now) }
+    ensures scene { scene.new ≡ scene.old }
 {
-    let (_, following) = rules.split_at(from);
-    from + passed_len(sought, following)
+    for rule in rules {
+        watch.tell(alloc, Moment::Passed(rule), scene)?;
+    }
+    Ok(())
 }
 
-/// Evaluates rules, one after another. After a rule that jumps and whose end was reached, those between it and the
-/// next one with the label are skipped.
-#[tactic(auto, using(crate::proofs::Running::run_end))]
+/// Evaluates rules, one after another, while something watches. After a rule that jumps and whose end was reached,
+/// those between it and the next one with the label are skipped.
+#[tactic(auto, unfolding(crate::specs::Watched::run_watched))]
+pub fn run_watched<'a, K: Knowledge, W: Watch<'a>>(
+    alloc: Global,
+    rules: &'a [Rule],
+    knowledge: &K,
+    watch: &mut W,
+    scene: &mut Scene<'a>,
+) -> Result<(), AllocError>
+    ensures watch { OnOk result ((scene.new, watch.new) ≡ run_watched W.telling (K.known knowledge.now) None rules.now (scene.old, watch.old)) }
+    ensures scene { OnOk result (scene.new ≡ run_all (K.known knowledge.now) rules.now scene.old) }
+{
+    let mut rest = rules;
+    while let Some((rule, following)) = rest.split_first() {
+        let reached = apply_watched(alloc, rule, knowledge, watch, scene)?;
+        let count = passed_len(sought_after(reached, rule), following);
+        let (passed, landing) = following.split_at(count);
+        tell_passed(alloc, passed, watch, scene)?;
+        rest = landing;
+    }
+    Ok(())
+}
+
+/// Evaluates rules, one after another.
 pub(crate) fn run<'a, K: Knowledge>(
     alloc: Global,
     rules: &'a [Rule],
@@ -63,11 +94,5 @@ pub(crate) fn run<'a, K: Knowledge>(
 ) -> Result<(), AllocError>
     ensures { OnOk result (scene.new ≡ run_all (K.known knowledge.now) rules.now scene.old) }
 {
-    let mut place = 0;
-    while place < rules.len() {
-        let rule = &rules[place];
-        let reached = apply(alloc, rule, knowledge, scene)?;
-        place = landing(sought_after(reached, rule), rules, place + 1);
-    }
-    Ok(())
+    run_watched(alloc, rules, knowledge, &mut (), scene)
 }

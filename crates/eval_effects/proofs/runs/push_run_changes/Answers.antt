@@ -1,0 +1,16 @@
+use Rattle.std.proofs.Common.{◌++◌, ◌∙◌, ap, append_assoc, flat_map}
+use Rattle.std.proofs.lemmas.Result.{on_ok_weaker}
+use Rattle.eval_effects.specs.Changes.{added_run, removed_runs}
+use Rattle.eval_effects.proofs.Fronts.{added_after}
+use Rattle.eval_effects.proofs.runs.push_run_changes.Goals as goal
+
+pub returns : goal.returns
+returns c =
+    on_ok_weaker c.push_all_removed.result
+    (λ h. h
+    ∙ ap (λ texts. texts ++ removed_runs c.args.was.now c.args.now.now)
+    (c.in_ok-push_all_added.ensures
+    ∙ ap (λ runs. c.args.reported.now.items ++ flat_map (added_run c.args.was.now) runs) c.after_front.ensures
+    ∙ ap (λ texts. c.args.reported.now.items ++ texts) (added_after c.args.was.now c.args.now.now))
+    ∙ append_assoc c.args.reported.now.items (flat_map (added_run c.args.was.now) c.args.now.now) (removed_runs c.args.was.now c.args.now.now))
+    c.push_all_removed.ensures

@@ -91,9 +91,10 @@ module _ (known : Known) where
       by : (b : Bool) → can_change (apply known r s).1 r ≡ b
           → ((cond b (sizes t, told_after r w.0 t w.1) w).0 ≡ sizes t) × Keeps (before ++ (last, items s) ∷ (Some r, items t) ∷ []) (items t) (cond b (sizes t, told_after r w.0 t w.1) w).1
       by true e = (refl, told_on known r s t (apply known r s).1 w.1 (told_after r w.0 t w.1) refl (ap (λ n. told_after r n t w.1) was) before last keeps)
-      by false e =
-          (was ∙ sym (sizes_stay known r s t (apply known r s).1 refl e),
-          keeps_same (items s) (Some r) (items t) w.1 (items_stay known r s t (apply known r s).1 refl e) before last keeps)
+      by false e = (
+        was ∙ sym (sizes_stay known r s t (apply known r s).1 refl e),
+        keeps_same (items s) (Some r) (items t) w.1 (items_stay known r s t (apply known r s).1 refl e) before last keeps,
+      )
 
   -- rules, perhaps while a label is sought
   pub run_reports : (rules : List Rule) (sought : Option Text) (s : Scene) (w : Keeper) (before : List Stage) (last : Source) → w.0 ≡ sizes s → Keeps (before ++ (last, items s) ∷ []) (items s) w.1

@@ -8,7 +8,7 @@ use Rattle.eval_state.specs.declared.scene.Scene.{Scene}
 use Rattle.eval_rules.specs.Watched.{Happening, left}
 use Rattle.eval_effects.specs.Items.{items}
 use Rattle.eval_sources.specs.Sources.{Held, Kept, Source, Stage, kept_in, source_by, source_in, source_of}
-use Rattle.eval_sources.specs.Touched.{changes_more, found_after}
+use Rattle.eval_sources.specs.Touched.{changes_more, found_after, sizes}
 use Rattle.eval_sources.specs.declared.touched.Sizes.{Sizes}
 
 -- what is kept for an item, added to others; of two with the same name the first is kept

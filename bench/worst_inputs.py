@@ -29,6 +29,11 @@ def events(rules, block=DEVICE, **files):
     return ["events", "-r", "none", "r.rules"], {"r.rules": rules, **files}, block
 
 
+def told(option, rules):
+    """Rules over a device, with what an option says of them."""
+    return ["events", "-r", "none", option, "r.rules"], {"r.rules": rules}, DEVICE
+
+
 def as_udev(rules, block=DEVICE):
     """Rules over blocks, evaluated as udev does."""
     return ["events", "--udev", "-r", "none", "r.rules"], {"r.rules": rules}, block
@@ -124,6 +129,13 @@ RULES = [
          lambda n: events(each('SYMLINK+="l#"\n', n) + each('SYMLINK-="l#"\n', n)), 150),
 ]
 
+TOLD = [
+    Case("links with their sources", 2_000, lambda n: told("--sources", each('SYMLINK+="l#"\n', n)), 12),
+    Case("tags with their sources", 2_000, lambda n: told("--sources", each('TAG+="t#"\n', n)), 12),
+    Case("properties with their sources", 2_000, lambda n: told("--sources", each('ENV{P#}="#"\n', n)), 12),
+    Case("commands, each with what its rule did", 500, lambda n: told("--why=r.rules", each('RUN+="c#"\n', n)), 12),
+]
+
 UDEV = [
     Case("links, and rules with $links in the name of an attribute of 64 devices", 200,
          lambda n: as_udev(each('SYMLINK+="l#"\n', n) + 'ATTRS{%L}=="x", TAG+="t"\n' * n, chain("", "D: 8:0\n"))),
@@ -201,7 +213,7 @@ def is_right(program, case):
 
 
 def main(program, word):
-    cases = [case for case in [*RENDERING, *RULES, *UDEV, *BLOCKS, *DATABASE] if word in case.name]
+    cases = [case for case in [*RENDERING, *RULES, *TOLD, *UDEV, *BLOCKS, *DATABASE] if word in case.name]
     wrong = [case.name for case in cases if not is_right(program, case)]
     print(f"{len(cases) - len(wrong)} of {len(cases)} expensive inputs take no more than about ten times as long for ten times as much")
     return bool(wrong)

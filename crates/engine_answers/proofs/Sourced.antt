@@ -4,10 +4,10 @@ use Rattle.text_tables.specs.Texts.{Text}
 use Rattle.text_tables.specs.Pairs.{Pair}
 use Rattle.device_core.specs.Values.{EventValue}
 use Rattle.eval_rules.specs.declared.outcome.Outcome.{Outcome}
-use Rattle.eval_sources.specs.Sources.{Kept, Reports, Source, Stage, source_in, source_of}
+use Rattle.eval_sources.specs.Sources.{Held, Reports, Source, Stage, source_in, source_of}
 use Rattle.engine_answers.specs.Answers.{lines_with, source_part}
 
-pub lines_are : (stages : List Stage) (held : List (Text × Kept)) (runs : Text) (event : EventValue) (outcome : Outcome) → Reports stages held
+pub lines_are : (stages : List Stage) (held : Held) (runs : Text) (event : EventValue) (outcome : Outcome) → Reports stages held
     → lines_with (λ item. source_part (source_in held None item)) runs event outcome ≡ lines_with (λ item. source_part (source_of stages item)) runs event outcome
 unfolding Reports
 lines_are stages held runs event outcome h =

@@ -1,5 +1,9 @@
 pub mod Placement
 pub mod Keeping
+pub mod Lookups
+pub mod Framing
+pub mod Setting
 pub mod Quiet
-pub mod Passing
+pub mod Touching
+pub mod Watching
 pub mod Ending

@@ -20,10 +20,11 @@ use Rattle.eval_assignments.specs.Steps.{set_step}
 use Rattle.eval_rules.specs.Idle.{is_idle}
 use Rattle.eval_rules.specs.Steps.{Went, apply, only_noted, if_proceeding, plain_step, result_step, search, set_all, steps, before_sets, walk, with_selected}
 use Rattle.eval_sources.specs.Inner.{can_change}
+use Rattle.eval_sources.specs.Touched.{sizes}
 use Rattle.eval_effects.specs.Items.{items, node_items}
 
 -- a scene without what matches change in it: its notes, and which device is selected
-abbrev quiet : Scene → Scene
+abbrev pub quiet : Scene → Scene
 quiet s = record s { notes = []; state = with_selected None s.state }
 
 items_quiet : (s : Scene) → items (quiet s) ≡ items s
@@ -83,6 +84,14 @@ neither : (a b : Bool) → (a || b) ≡ false → (a ≡ false) × (b ≡ false)
 neither true b h = cc
 neither false b h = (refl, h)
 
+-- the keys of a rule that does not act leave all items
+pub keys_quiet : (known : Known) (r : Rule) (s : Scene) → not (is_empty r.acts) ≡ false → quiet (before_sets known r s).0 ≡ quiet s
+keys_quiet known r s none =
+    let plains = walk_quiet (plain_step r) (plain_quiet r) r.plain s in
+    let ups = if_proceeding_quiet (search r.up) (search_quiet r.up) s _ plains in
+    let acted = if_proceeding_quiet (walk (act_step known r) r.acts) (λ u. acts_quiet known r r.acts u none) s _ ups in
+    if_proceeding_quiet (walk result_step r.results) (walk_quiet result_step result_quiet r.results) s _ acted
+
 abbrev Quietly : Rule → Scene → Went → Type 0
 Quietly r s w = can_change w.1 r ≡ false → quiet w.0 ≡ quiet s
 
@@ -90,11 +99,7 @@ steps_quiet : (known : Known) (r : Rule) (s : Scene) → Quietly r s (steps know
 unfolding steps
 steps_quiet known r s h =
     let none = neither (not (is_empty r.acts)) ((steps known r s).1 && not (is_empty r.sets)) h in
-    let plains = walk_quiet (plain_step r) (plain_quiet r) r.plain s in
-    let ups = if_proceeding_quiet (search r.up) (search_quiet r.up) s _ plains in
-    let acted = if_proceeding_quiet (walk (act_step known r) r.acts) (λ u. acts_quiet known r r.acts u none.0) s _ ups in
-    let results = if_proceeding_quiet (walk result_step r.results) (walk_quiet result_step result_quiet r.results) s _ acted in
-    end_quiet r s (before_sets known r s) results none.1
+    end_quiet r s (before_sets known r s) (keys_quiet known r s none.0) none.1
 
 apply_quiet : (known : Known) (r : Rule) (s : Scene) → Quietly r s (apply known r s)
 unfolding apply
@@ -103,6 +108,12 @@ apply_quiet known r s = by (is_idle r s.state.event)
     by : (b : Bool) → Quietly r s (cond b (only_noted known r s) (steps known r s))
     by true h = refl
     by false h = steps_quiet known r s h
+
+-- such a rule leaves as many links and tags
+pub sizes_stay : (known : Known) (r : Rule) (s t : Scene) (on : Bool) → (t, on) ≡ apply known r s → can_change on r ≡ false → sizes t ≡ sizes s
+sizes_stay known r s t on e h =
+    let all = apply_quiet known r s (ap (λ (w : Went). can_change w.1 r) (sym e) ∙ h) in
+    ap (λ (w : Went). sizes w.0) e ∙ ap sizes all
 
 -- such a rule leaves all items
 pub items_stay : (known : Known) (r : Rule) (s t : Scene) (on : Bool) → (t, on) ≡ apply known r s → can_change on r ≡ false → items t ≡ items s

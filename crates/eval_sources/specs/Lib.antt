@@ -1,3 +1,4 @@
 pub mod Sources
 pub mod Reported
+pub mod Touched
 pub mod Inner

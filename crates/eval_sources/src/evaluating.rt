@@ -7,11 +7,11 @@ ghost use Rattle.eval_sources.specs.Sources.{Reports};
 ghost use Rattle.eval_sources.specs.Reported.{commands_over, event_commands, stages, stages_over};
 
 use crate::commands::{SourcedCommand, add_made, sourced_commands};
-use crate::reporting::{begin, run};
+use crate::reporting::Keeper;
 use crate::sources::Sources;
 use builtin_devices::Knowledge;
 use device_core::Event;
-use eval_rules::{Outcome, finish};
+use eval_rules::{Outcome, finish, run_watched};
 use eval_state::Scene;
 use rule_types::{Rule, RuleSet};
 use std::alloc::{AllocError, Global};
@@ -39,8 +39,9 @@ fn run_sourced<'a, K: Knowledge>(
     ensures sources { IfOk result (λ reported. Reports (stages_over (K.known knowledge.now) rules.now scene.old) reported.0) }
     ensures commands { IfOk result (λ reported. reported.1.items ≡ commands_over (K.known knowledge.now) rules.now scene.old) }
 {
-    let mut sources = begin(alloc, scene)?;
-    run(alloc, rules, knowledge, scene, &mut sources)?;
+    let mut keeper = Keeper::new(alloc, scene)?;
+    run_watched(alloc, rules, knowledge, &mut keeper, scene)?;
+    let sources = keeper.into_sources();
     let mut commands = sourced_commands(alloc, scene.runs.as_slice(), &mut scene.state)?;
     add_made(alloc, scene.made.as_slice(), &mut commands)?;
     Ok((sources, commands))

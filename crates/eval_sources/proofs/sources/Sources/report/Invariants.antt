@@ -1,5 +1,5 @@
 use Rattle.std.proofs.Common.{◌≡◌, option_map}
-use Rattle.eval_sources.specs.Sources.{kept_after}
+use Rattle.eval_sources.specs.Inner.{kept_after}
 use Rattle.eval_sources.proofs.sources.Sources.report.Given as goal
 
 abbrev pub invariant-loop-item : goal.invariant-loop-item

@@ -1,0 +1,10 @@
+use Rattle.std.proofs.Common.{◌≡◌, ◌++◌, ◌∷◌, [], Some, None, Option, OnOk, cond, codes, ap, subst, sym, ◌∙◌}
+use Rattle.text_tables.specs.Texts.{Text}
+use Rattle.eval_effects.specs.Items.{item_name}
+use Rattle.eval_sources.proofs.Lookups.{at_link}
+use Rattle.eval_sources.proofs.look_ups.push_link.Goals as goal
+
+pub returns : goal.returns
+returns c =
+    subst (λ (value : Option Text). OnOk c.push_member.result (c.push_member.new.found.items ≡ c.args.found.now.items ++ (item_name (codes "link") c.args.link.now, value) ∷ []))
+    (ap (λ b. cond b (Some []) None) c.contains.ensures ∙ sym (at_link c.args.scene.now c.args.link.now)) c.push_member.ensures

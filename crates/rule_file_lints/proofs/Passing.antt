@@ -15,6 +15,7 @@ use Rattle.rule_file_lints.specs.Reached.{jumps_above, never_reached}
 use Rattle.rule_lints.specs.RuleLints.{lints_of_rule}
 use Rattle.rule_file_lints.specs.Steps.{FileNames, RulesAbove, nothing_above, with_rule}
 use Rattle.rule_core.specs.Written.{WrittenPart}
+use Rattle.rule_core.specs.declared.spot.Spot.{Spot}
 use Rattle.rule_types.specs.declared.lint.Lint.{Lint}
 use Rattle.rule_places.specs.Placed.{placed}
 use Rattle.rule_places.specs.declared.kept.KeptLine.{KeptLine}
@@ -116,11 +117,11 @@ given_more given above r same name =
     ∙ reversed_or (is_among (given_names above) name) (is_among (given_by r.draft.parts) name)
     ∙ sym (list_any-append (same_text name) (given_by r.draft.parts) (given_names above))
 
-pub down_past : (kept : List KeptLine) (above next : RulesAbove) (spots more : List (PlacedFinding Lint)) (names : FileNames) (rules : List FileRule) (i : ℕ) (r : FileRule) → Descends kept above spots rules i
+pub down_past : (kept : List KeptLine) (above next : RulesAbove) (spots more : List (PlacedFinding Lint)) (found : List (Spot Lint)) (names : FileNames) (rules : List FileRule) (i : ℕ) (r : FileRule) → Descends kept above spots rules i
     → i < length rules → r ≡ get_or rules i r → names.imported ≡ with_texts [] (imported_names rules) → names.compared ≡ with_texts [] (compared_texts rules)
-    → more ≡ spots ++ map (placed kept r.number r.start) (spots_by names.imported names.compared above.given above.jump r) → next ≡ with_rule above r
+    → found ≡ spots_by names.imported names.compared above.given above.jump r → more ≡ spots ++ map (placed kept r.number r.start) found → next ≡ with_rule above r
     → Descends kept next more rules (i + 1)
-down_past kept above next spots more names rules i r before h e imported compared m n =
+down_past kept above next spots more found names rules i r before h e imported compared f m n =
     let past : List FileRule = reverse (take i rules) in
     let reversed : reverse (take (i + 1) rules) ≡ r ∷ past = ap reverse (take_more rules i r h ∙ ap (λ x. take i rules ++ x ∷ []) (sym e)) ∙ reverse-append (take i rules) (r ∷ []) in
     let own : spots_by names.imported names.compared above.given above.jump r ≡ spots_of rules past r =
@@ -132,7 +133,7 @@ down_past kept above next spots more names rules i r before h e imported compare
       given = λ name. ap (λ (a : RulesAbove). is_among a.given name) n ∙ given_more above.given past r before.given name ∙ ap (λ rs. is_among (given_names rs) name) (sym reversed);
       jump = ap (λ (a : RulesAbove). a.jump) n ∙ ap jumps_above (sym reversed);
       so_far =
-          ap (λ x. x ++ lints_below kept rules (reverse (take (i + 1) rules)) (drop (i + 1) rules)) m
+          ap (λ x. x ++ lints_below kept rules (reverse (take (i + 1) rules)) (drop (i + 1) rules)) (m ∙ ap (λ (x : List (Spot Lint)). spots ++ map (placed kept r.number r.start) x) f)
           ∙ ap (λ rs. (spots ++ map (placed kept r.number r.start) (spots_by names.imported names.compared above.given above.jump r)) ++ lints_below kept rules rs (drop (i + 1) rules)) reversed
           ∙ append_assoc spots (map (placed kept r.number r.start) (spots_by names.imported names.compared above.given above.jump r)) (lints_below kept rules (r ∷ past) (drop (i + 1) rules))
           ∙ ap (λ x. spots ++ (map (placed kept r.number r.start) x ++ lints_below kept rules (r ∷ past) (drop (i + 1) rules))) own

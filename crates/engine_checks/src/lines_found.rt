@@ -60,7 +60,7 @@ fn messages_found<'r>(
     findings: Vec<PlacedFinding<MessageKind>>,
     remarks: Vec<PlacedFinding<MessageKind>>,
 ) -> Result<Vec<Diagnostic<'r>>, AllocError>
-    ensures { IfOk result (λ found. map shown found.items ≡ map (rule_diagnostic file.now) (by_line (λ p. p.begins) findings.entry.items remarks.entry.items)) }
+    ensures { IfOk result (λ found. map shown found.items ≡ map (rule_diagnostic file.now) (by_line (λ p. p.begins) findings.items remarks.items)) }
 {
     let found = rule_diagnostics(alloc, file, findings)?;
     merged(alloc, found, rule_diagnostics(alloc, file, remarks)?)

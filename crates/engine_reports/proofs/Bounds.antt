@@ -1,5 +1,5 @@
 -- The tests of the bounds, and the bounds as the reading of files states them.
-use Rattle.std.proofs.Common.{◌≡◌, ℕ, ◌-◌, ◌^◌, ◌<◌, ◌≤◌, false, List, [], ◌++◌, Ok, Err, refl, ap, sym, ◌∙◌, append_assoc, append-nil, subst, arith}
+use Rattle.std.proofs.Common.{◌≡◌, ℕ, ◌^◌, ◌<◌, ◌≤◌, false, List, [], ◌++◌, Ok, Err, refl, ap, sym, ◌∙◌, append_assoc, append-nil, subst, arith}
 use Rattle.std.proofs.lemmas.Bool.{leb-true, le-leb, false_from_ne_true}
 use Rattle.std.proofs.Math.Dec.{leb}
 use Rattle.text_bytes.specs.declared.source_file.SourceFile.{SourceFile}

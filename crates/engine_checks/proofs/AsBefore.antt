@@ -8,6 +8,7 @@ use Rattle.text_bytes.specs.declared.profile.Profile.TheVariants.{Manual}
 use Rattle.text_bytes.specs.declared.source_file.SourceFile.{SourceFile}
 use Rattle.text_bytes.specs.declared.source_file.FileKind.TheVariants.{Rules}
 use Rattle.text_tables.specs.Texts.{Text}
+use Rattle.file_messages.specs.declared.message.MessageKind.{MessageKind}
 use Rattle.rule_types.specs.Rules.{tokens_in}
 use Rattle.rule_core.specs.Ends.{file_as_read}
 use Rattle.rule_core.specs.Rules.{file_messages, set_of_as}
@@ -26,36 +27,40 @@ use Rattle.engine_formats.specs.Diagnostics.{DiagnosticValue}
 use Rattle.engine_formats.specs.Formats.{formatted}
 use Rattle.engine_formats.specs.Made.{AreMadeFrom, IsMadeFrom}
 use Rattle.engine_checks.specs.Codes.{has_comments}
-use Rattle.engine_checks.specs.Files.{accounts_by, file_text, findings_of, found_with, ignored_by, ignores_counted, rule_diagnostic, rules_found, rules_reported}
+use Rattle.engine_checks.specs.Files.{accounts_by, asked_by, file_text, findings_of, found_with, ignored_by, ignores_counted, rule_diagnostic, rules_found, rules_reported}
 use Rattle.engine_checks.specs.Laws.{messages_in}
 use Rattle.engine_checks.specs.Outcomes.{checks_outcome, checks_said, rules_checks}
-use Rattle.engine_checks.specs.Reported.{FileText, by_line, file_reported, is_reported}
+use Rattle.engine_checks.specs.Reported.{Asked, FileText, merged, file_reported, is_reported}
+use Rattle.engine_checks.proofs.ByLines.{alone}
 
-pub none_among : (ds : List DiagnosticValue) → by_line ds [] ≡ ds
-none_among [] = refl
-none_among (d ∷ ds) = ap (λ xs. d ∷ xs) (none_among ds)
+pub none_among : (ds : List DiagnosticValue) → merged ds [] ≡ ds
+none_among ds = alone (λ (d : DiagnosticValue). d.begins) ds
 
--- with nothing ignored all is reported, or all but what is about style
-pub all_but_style : (lint style : Bool) (file : FileText) (found : List DiagnosticValue) → file_reported lint style [] file [] found ≡ filter (is_reported lint style [] []) found
+-- without comments all that is asked for is reported
+pub all_asked : (asked : Asked) (file : FileText) (found : List DiagnosticValue) → file_reported asked file [] found ≡ filter (is_reported asked []) found
 unfolding file_reported
-all_but_style lint style file found = none_among (filter (is_reported lint style [] []) found)
+all_asked asked file found = none_among (filter (is_reported asked []) found)
 
-one_made : (file : FileText) (p : PlacedFinding) → IsMadeFrom (as_message file.name p) (rule_diagnostic file p)
+-- with or without style, no lints are asked for and nothing is ignored
+abbrev plain : Asked → Bool → Asked
+plain asked style = record asked { style = style; lint = false; ignored = [] }
+
+one_made : (file : FileText) (p : PlacedFinding MessageKind) → IsMadeFrom (as_message file.name p) (rule_diagnostic file p)
 one_made file p = record { name = refl; begins = refl; remark = refl; word = refl }
 
 -- the diagnostics of findings are made of their messages
-findings_made : (style : Bool) (file : FileText) (ps : List PlacedFinding) → AreMadeFrom (reported style (map (as_message file.name) ps)) (filter (is_reported false style [] []) (map (rule_diagnostic file) ps))
+findings_made : (asked : Asked) (style : Bool) (file : FileText) (ps : List (PlacedFinding MessageKind)) → AreMadeFrom (reported style (map (as_message file.name) ps)) (filter (is_reported (plain asked style) []) (map (rule_diagnostic file) ps))
 unfolding reported
-findings_made true file [] = tt
-findings_made true file (p ∷ ps) = (one_made file p, findings_made true file ps)
-findings_made false file [] = tt
-findings_made false file (p ∷ ps) = by (is_style p.kind) (findings_made false file ps)
+findings_made asked true file [] = tt
+findings_made asked true file (p ∷ ps) = (one_made file p, findings_made asked true file ps)
+findings_made asked false file [] = tt
+findings_made asked false file (p ∷ ps) = by (is_style p.kind) (findings_made asked false file ps)
   where
     ms : List Message
     ms = filter (λ m. not (is_style m.kind)) (map (as_message file.name) ps)
 
     ds : List DiagnosticValue
-    ds = filter (is_reported false false [] []) (map (rule_diagnostic file) ps)
+    ds = filter (is_reported (plain asked false) []) (map (rule_diagnostic file) ps)
 
     by : (b : Bool) → AreMadeFrom ms ds → AreMadeFrom (cond (not b) (as_message file.name p ∷ ms) ms) (cond ((not b && true) && true) (rule_diagnostic file p ∷ ds) ds)
     by true more = more
@@ -68,20 +73,23 @@ messages_alone line file unasked counts =
     ∙ ap (λ b. found_with (file_text line file) (findings_of line file) (cond b (placed_lints line.profile file) [])) counts
     ∙ none_among (messages_in line file)
 
+-- a line that ignores nothing and asks for no lints
+plainly_asked : (line : Line) → line.lint ≡ false → ignored_by line ≡ [] → asked_by line ≡ plain (asked_by line) line.style
+plainly_asked line unasked none = ap₂ (λ (b : Bool) (codes : List Text). record (asked_by line) { lint = b; ignored = codes }) unasked none
+
 -- with nothing ignored and no lints, the messages are reported, or all but those about style
-messages_reported : (line : Line) (file : SourceFile) → line.lint ≡ false → ignored_by line ≡ [] → rules_reported line file ≡ filter (is_reported false line.style [] []) (messages_in line file)
+messages_reported : (line : Line) (file : SourceFile) → line.lint ≡ false → ignored_by line ≡ [] → rules_reported line file ≡ filter (is_reported (plain (asked_by line) line.style) []) (messages_in line file)
 unfolding rules_reported
 messages_reported line file unasked none =
-    ap (file_reported line.lint line.style (ignored_by line) (file_text line file) (ignores_counted line.profile (ignored_by line) file)) (messages_alone line file unasked (ap has_comments none))
-    ∙ ap (λ ignored. file_reported line.lint line.style ignored (file_text line file) (ignores_counted line.profile ignored file) (messages_in line file)) none
-    ∙ ap (λ b. file_reported b line.style [] (file_text line file) [] (messages_in line file)) unasked
-    ∙ all_but_style false line.style (file_text line file) (messages_in line file)
+    ap (file_reported (asked_by line) (file_text line file) (ignores_counted (asked_by line) file)) (messages_alone line file unasked (ap has_comments none))
+    ∙ ap (λ (a : Asked). file_reported a (file_text line file) (ignores_counted a file) (messages_in line file)) (plainly_asked line unasked none)
+    ∙ all_asked (plain (asked_by line) line.style) (file_text line file) (messages_in line file)
 
 file_made : (line : Line) (file : SourceFile) → line.profile ≡ Manual → line.lint ≡ false → ignored_by line ≡ [] → AreMadeFrom (reported line.style (file_messages Manual file)) (rules_reported line file)
 unfolding findings_as
 file_made line file plain unasked none =
     subst (λ ds. AreMadeFrom (reported line.style (file_messages Manual file)) ds) (sym (messages_reported line file unasked none))
-    (subst (λ ms. AreMadeFrom (reported line.style ms) (filter (is_reported false line.style [] []) (messages_in line file))) (ap (λ by. map (as_message file.name) (findings_as by (accounts_by line) file)) plain ∙ findings_reported Manual file) (findings_made line.style (file_text line file) (findings_of line file)))
+    (subst (λ ms. AreMadeFrom (reported line.style ms) (filter (is_reported (plain (asked_by line) line.style) []) (messages_in line file))) (ap (λ by. map (as_message file.name) (findings_as by (accounts_by line) file)) plain ∙ findings_reported Manual file) (findings_made (asked_by line) line.style (file_text line file) (findings_of line file)))
 
 pub both_made : (ms ns : List Message) (ds es : List DiagnosticValue) → AreMadeFrom ms ds → AreMadeFrom ns es → AreMadeFrom (ms ++ ns) (ds ++ es)
 both_made [] ns [] es f g = g

@@ -2,7 +2,6 @@
 use Rattle.std.proofs.Common.{◌≡◌, ◌^◌, ◌<◌, ◌≤◌, Bool, not, ◌&&◌, ◌||◌, cond, List, [], ◌∷◌, ◌++◌, filter, map, refl, ap, ◌∙◌}
 use Rattle.std.specs.List.{flat_map}
 use Rattle.std.proofs.lemmas.Bool.{le-leb, lt-leb}
-use Rattle.text_bytes.specs.declared.profile.Profile.{Profile}
 use Rattle.text_bytes.specs.declared.source_file.SourceFile.{SourceFile}
 use Rattle.text_tables.specs.Texts.{Text, is_among}
 use Rattle.hwdb_core.specs.Sources.{WithinBounds, entries_of, messages_of}
@@ -11,90 +10,86 @@ use Rattle.hwdb_core.specs.declared.fault.HwdbFault.TheVariants as hwdb
 use Rattle.rule_types.specs.Rules.{tokens_in}
 use Rattle.rule_core.specs.Rules.{set_of_as}
 use Rattle.rule_file_lints.specs.FileLints.{placed_lints}
-use Rattle.rule_pairs.specs.Accounts.{Accounts}
-use Rattle.rule_core.specs.declared.fault.RulesFault.{RulesFault}
-use Rattle.rule_core.specs.declared.fault.RulesFault.TheVariants as rules
+use Rattle.rule_remarks.specs.Findings.{findings_as}
 use Rattle.engine_ends.specs.declared.line.Line.{Line}
 use Rattle.engine_reports.specs.Outcomes.{too_many_rules}
 use Rattle.engine_reports.proofs.Bounds.{entries_refused, outcome_few}
-use Rattle.engine_reports.specs.Reports.{IsSaid, refused_entries, refused_rules}
+use Rattle.engine_reports.specs.Reports.{IsSaid, refused_entries}
 use Rattle.engine_formats.specs.Diagnostics.{DiagnosticValue}
 use Rattle.engine_formats.specs.Remarks.{code_of}
 use Rattle.engine_formats.specs.declared.remark.Remark.{Remark}
 use Rattle.engine_checks.specs.Codes.{comments_word, has_comments}
-use Rattle.engine_checks.specs.Files.{accounts_by, database_found, database_reported, file_text, findings_of, found_with, ignored_by, reported_for, rules_found, rules_reported}
+use Rattle.engine_checks.specs.Files.{accounts_by, asked_by, database_found, database_reported, file_text, findings_of, found_with, ignored_by, ignores_counted, lints_counted, reported_for, rules_found, rules_reported}
 use Rattle.engine_checks.specs.Ignores.{Ignore, ignores_in}
 use Rattle.engine_checks.specs.Outcomes.{checks_said, database_checks, rules_checks, entries_said}
 use Rattle.engine_checks.specs.Tables.{database_reported_by, read_by, rules_found_by, rules_reported_by}
-use Rattle.engine_checks.specs.Reported.{FileText, by_line, comment_diagnostics, file_reported, is_about_style, is_asked, is_lint, is_reported, is_silenced}
+use Rattle.engine_checks.specs.Reported.{Asked, FileText, merged, comment_diagnostics, file_reported, is_about_style, is_asked, is_lint, is_reported, is_silenced}
 
 same_filter : {X : Type 0} (p q : X → Bool) (xs : List X) → ((x : X) → p x ≡ q x) → filter p xs ≡ filter q xs
 same_filter p q [] e = refl
 same_filter p q (x ∷ xs) e = ap (λ b. cond b (x ∷ filter p xs) (filter p xs)) (e x) ∙ ap (λ ys. cond (q x) (x ∷ ys) ys) (same_filter p q xs e)
 
 -- what is reported hangs on which codes are ignored, and not on how they are listed
-reported_alike : (lint style : Bool) (these those : List Text) (file : FileText) (ignores : List Ignore) (found : List DiagnosticValue)
-    → ((code : Text) → is_among these code ≡ is_among those code) → file_reported lint style these file ignores found ≡ file_reported lint style those file ignores found
+reported_alike : (these those : Asked) (file : FileText) (ignores : List Ignore) (found : List DiagnosticValue) → these.lint ≡ those.lint → these.style ≡ those.style
+    → ((code : Text) → is_among these.ignored code ≡ is_among those.ignored code) → file_reported these file ignores found ≡ file_reported those file ignores found
 unfolding file_reported
-reported_alike lint style these those file ignores found e =
-    let asked : (remark : Remark) → is_asked lint style these remark ≡ is_asked lint style those remark = λ (remark : Remark). ap (λ b. ((not (is_lint remark) || lint) && (style || not (is_about_style remark))) && not b) (e (code_of remark)) in
-    ap (λ ds. by_line ds (filter (λ d. is_asked lint style these d.remark) (comment_diagnostics file found ignores)))
-    (same_filter (is_reported lint style these ignores) (is_reported lint style those ignores) found (λ d. ap (λ b. b && not (is_silenced ignores d)) (asked d.remark)))
-    ∙ ap (by_line (filter (is_reported lint style those ignores) found))
-    (same_filter (λ d. is_asked lint style these d.remark) (λ d. is_asked lint style those d.remark) (comment_diagnostics file found ignores) (λ d. asked d.remark))
+reported_alike these those file ignores found l s e =
+    let asked : (remark : Remark) → is_asked these remark ≡ is_asked those remark = λ (remark : Remark).
+    ap (λ b. ((not (is_lint remark) || b) && (these.style || not (is_about_style remark))) && not (is_among these.ignored (code_of remark))) l
+    ∙ ap (λ b. ((not (is_lint remark) || those.lint) && (b || not (is_about_style remark))) && not (is_among these.ignored (code_of remark))) s
+    ∙ ap (λ b. ((not (is_lint remark) || those.lint) && (those.style || not (is_about_style remark))) && not b) (e (code_of remark)) in
+    ap (λ ds. merged ds (filter (λ d. is_asked these d.remark) (comment_diagnostics file found ignores)))
+    (same_filter (is_reported these ignores) (is_reported those ignores) found (λ d. ap (λ b. b && not (is_silenced ignores d)) (asked d.remark)))
+    ∙ ap (merged (filter (is_reported those ignores) found))
+    (same_filter (λ d. is_asked these d.remark) (λ d. is_asked those d.remark) (comment_diagnostics file found ignores) (λ d. asked d.remark))
 
-module _ (line : Line) (profile : Profile) (lint style comments : Bool) (ignored : List Text) (p : profile ≡ line.profile) (l : lint ≡ line.lint) (s : style ≡ line.style) (e : (code : Text) → is_among ignored code ≡ is_among (ignored_by line) code) (c : comments ≡ has_comments ignored) where
+-- what a line asks for, with its codes in a table
+module _ (line : Line) (asked : Asked) (p : asked.profile ≡ line.profile) (a : asked.accounts ≡ accounts_by line) (s : asked.style ≡ line.style) (l : asked.lint ≡ line.lint) (e : (code : Text) → is_among asked.ignored code ≡ is_among (ignored_by line) code) where
   -- what is reported for a file, by tables
-  one_file : (file : SourceFile) (found : List DiagnosticValue) → file_reported lint style ignored (file_text line file) (cond comments (ignores_in line.profile file) []) found ≡ reported_for line file found
+  one_file : (file : SourceFile) (found : List DiagnosticValue) → file_reported asked (file_text line file) (ignores_counted asked file) found ≡ reported_for line file found
   one_file file found =
-      reported_alike lint style ignored (ignored_by line) (file_text line file) (cond comments (ignores_in line.profile file) []) found e
-      ∙ ap (λ b. file_reported b style (ignored_by line) (file_text line file) (cond comments (ignores_in line.profile file) []) found) l
-      ∙ ap (λ b. file_reported line.lint b (ignored_by line) (file_text line file) (cond comments (ignores_in line.profile file) []) found) s
-      ∙ ap (λ b. file_reported line.lint line.style (ignored_by line) (file_text line file) (cond b (ignores_in line.profile file) []) found) (c ∙ e comments_word)
+      reported_alike asked (asked_by line) (file_text line file) (ignores_counted asked file) found l s e
+      ∙ ap (λ b. file_reported (asked_by line) (file_text line file) (cond b (ignores_in asked.profile file) []) found) (e comments_word)
+      ∙ ap (λ by. file_reported (asked_by line) (file_text line file) (cond (has_comments (ignored_by line)) (ignores_in by file) []) found) p
 
   -- what is found, by tables
-  found_file : (accounts : Accounts) → accounts ≡ accounts_by line → (file : SourceFile) → rules_found_by profile accounts lint ignored (read_by line comments file) ≡ rules_found line file
-  found_file accounts a file =
-      ap (λ by. rules_found_by by accounts lint ignored (read_by line comments file)) p
-      ∙ ap (λ known. rules_found_by line.profile known lint ignored (read_by line comments file)) a
-      ∙ ap (λ b. found_with (file_text line file) (findings_of line file) (cond (b || has_comments ignored) (placed_lints line.profile file) [])) l
-      ∙ ap (λ b. found_with (file_text line file) (findings_of line file) (cond (line.lint || b) (placed_lints line.profile file) [])) (e comments_word)
+  found_file : (file : SourceFile) → rules_found_by asked (read_by line file) ≡ rules_found line file
+  found_file file =
+      ap (λ by. found_with (file_text line file) (findings_as by asked.accounts file) (lints_counted asked file)) p
+      ∙ ap (λ known. found_with (file_text line file) (findings_as line.profile known file) (lints_counted asked file)) a
+      ∙ ap (λ b. found_with (file_text line file) (findings_of line file) (cond (b || has_comments asked.ignored) (placed_lints asked.profile file) [])) l
+      ∙ ap (λ b. found_with (file_text line file) (findings_of line file) (cond (line.lint || b) (placed_lints asked.profile file) [])) (e comments_word)
+      ∙ ap (λ by. found_with (file_text line file) (findings_of line file) (cond (line.lint || has_comments (ignored_by line)) (placed_lints by file) [])) p
 
-  rules_file : (accounts : Accounts) → accounts ≡ accounts_by line → (file : SourceFile) → rules_reported_by profile accounts lint style ignored (read_by line comments file) ≡ rules_reported line file
+  rules_file : (file : SourceFile) → rules_reported_by asked (read_by line file) ≡ rules_reported line file
   unfolding rules_reported
-  rules_file accounts a file =
-      ap (file_reported lint style ignored (file_text line file) (cond comments (ignores_in line.profile file) [])) (found_file accounts a file) ∙ one_file file (rules_found line file)
+  rules_file file = ap (file_reported asked (file_text line file) (ignores_counted asked file)) (found_file file) ∙ one_file file (rules_found line file)
 
-  database_file : (file : SourceFile) → database_reported_by lint style ignored (read_by line comments file) ≡ database_reported line file
+  database_file : (file : SourceFile) → database_reported_by asked (read_by line file) ≡ database_reported line file
   unfolding database_reported
   database_file file = one_file file (database_found line file)
 
   -- rules files that are read, by tables
-  pub files_by : (accounts : Accounts) → accounts ≡ accounts_by line → (files : List SourceFile) → flat_map (rules_reported_by profile accounts lint style ignored) (map (read_by line comments) files) ≡ flat_map (rules_reported line) files
-  files_by accounts a [] = refl
-  files_by accounts a (file ∷ files) =
-      ap (λ ds. ds ++ flat_map (rules_reported_by profile accounts lint style ignored) (map (read_by line comments) files)) (rules_file accounts a file)
-      ∙ ap (λ ds. rules_reported line file ++ ds) (files_by accounts a files)
+  pub files_by : (files : List SourceFile) → flat_map (rules_reported_by asked) (map (read_by line) files) ≡ flat_map (rules_reported line) files
+  files_by [] = refl
+  files_by (file ∷ files) =
+      ap (λ ds. ds ++ flat_map (rules_reported_by asked) (map (read_by line) files)) (rules_file file)
+      ∙ ap (λ ds. rules_reported line file ++ ds) (files_by files)
 
   -- files of a database that are read, by tables
-  pub database_by : (files : List SourceFile) → flat_map (database_reported_by lint style ignored) (map (read_by line comments) files) ≡ flat_map (database_reported line) files
+  pub database_by : (files : List SourceFile) → flat_map (database_reported_by asked) (map (read_by line) files) ≡ flat_map (database_reported line) files
   database_by [] = refl
   database_by (file ∷ files) =
-      ap (λ ds. ds ++ flat_map (database_reported_by lint style ignored) (map (read_by line comments) files)) (database_file file)
+      ap (λ ds. ds ++ flat_map (database_reported_by asked) (map (read_by line) files)) (database_file file)
       ∙ ap (λ ds. database_reported line file ++ ds) (database_by files)
 
 pub checks_few : (line : Line) (files : List SourceFile) → tokens_in (set_of_as line.profile files).rules ≤ 2 ^ 24 → rules_checks line files ≡ checks_said line files (flat_map (rules_reported line) files)
 unfolding rules_checks
 checks_few line files w = ap (λ b. cond b (checks_said line files (flat_map (rules_reported line) files)) too_many_rules) (le-leb (tokens_in (set_of_as line.profile files).rules) (2 ^ 24) w)
 
-checks_many : (line : Line) (files : List SourceFile) → 2 ^ 24 < tokens_in (set_of_as line.profile files).rules → rules_checks line files ≡ too_many_rules
+pub checks_many : (line : Line) (files : List SourceFile) → 2 ^ 24 < tokens_in (set_of_as line.profile files).rules → rules_checks line files ≡ too_many_rules
 unfolding rules_checks
 checks_many line files h = ap (λ b. cond b (checks_said line files (flat_map (rules_reported line) files)) too_many_rules) (lt-leb (tokens_in (set_of_as line.profile files).rules) (2 ^ 24) h)
-
--- what becomes of a fault of rules is what is said of their files
-pub checks_refused : (line : Line) (files : List SourceFile) (fault : RulesFault) → (fault ≡ rules.TooMany → 2 ^ 24 < tokens_in (set_of_as line.profile files).rules) → IsSaid (refused_rules fault) (rules_checks line files)
-checks_refused line files rules.TooMany h = checks_many line files (h refl)
-checks_refused line files rules.Memory h = tt
 
 -- what `update` says of files within the bounds
 pub updates_few : (line : Line) (files : List SourceFile) → WithinBounds files → database_checks line files ≡ entries_said line (flat_map (database_reported line) files) (entries_of files) (messages_of files)

@@ -13,7 +13,7 @@ use Rattle.engine_formats.specs.declared.remark.Remark.TheVariants.{IdleIgnore, 
 use Rattle.engine_checks.specs.Codes.{is_code, is_found}
 use Rattle.engine_checks.specs.Ignores.{Ignore}
 use Rattle.engine_checks.specs.Laws.{IsInUse, IsLeftOut, IsSaidOf, IsSilencing, IsUnknown}
-use Rattle.engine_checks.specs.Reported.{covers, is_about_style, is_lint, is_reported, is_silenced, is_unknown, remark_on, silences}
+use Rattle.engine_checks.specs.Reported.{Asked, covers, is_about_style, is_lint, is_reported, is_silenced, is_unknown, remark_on, silences}
 use Rattle.engine_checks.specs.declared.ignores.Scope.{Scope}
 use Rattle.engine_checks.specs.declared.ignores.Scope.TheVariants.{File, Next, Unread}
 use Rattle.engine_checks.proofs.EachCode.{found_code, is_named}
@@ -75,30 +75,30 @@ no_style false false e = cc
 no_style true about e = cc
 
 -- what is not reported is left out
-pub left_out : (lint style : Bool) (ignored : List Text) (ignores : List Ignore) (d : DiagnosticValue) → is_reported lint style ignored ignores d ≡ false → IsLeftOut lint style ignored ignores d
-left_out lint style ignored ignores d e = silent (one_fails (wanted && not known) (not (is_silenced ignores d)) e)
+pub left_out : (asked : Asked) (ignores : List Ignore) (d : DiagnosticValue) → is_reported asked ignores d ≡ false → IsLeftOut asked ignores d
+left_out asked ignores d e = silent (one_fails (wanted && not known) (not (is_silenced ignores d)) e)
   where
     known : Bool
-    known = is_among ignored (code_of d.remark)
+    known = is_among asked.ignored (code_of d.remark)
 
     linted : Bool
-    linted = not (is_lint d.remark) || lint
+    linted = not (is_lint d.remark) || asked.lint
 
     styled : Bool
-    styled = style || not (is_about_style d.remark)
+    styled = asked.style || not (is_about_style d.remark)
 
     wanted : Bool
     wanted = linted && styled
 
-    unwanted : (linted ≡ false) ⊎ (styled ≡ false) → IsLeftOut lint style ignored ignores d
-    unwanted (inl h) = inl (no_lints (is_lint d.remark) lint h)
-    unwanted (inr h) = inr (inl (no_style style (is_about_style d.remark) h))
+    unwanted : (linted ≡ false) ⊎ (styled ≡ false) → IsLeftOut asked ignores d
+    unwanted (inl h) = inl (no_lints (is_lint d.remark) asked.lint h)
+    unwanted (inr h) = inr (inl (no_style asked.style (is_about_style d.remark) h))
 
-    named : (wanted ≡ false) ⊎ (not known ≡ false) → IsLeftOut lint style ignored ignores d
+    named : (wanted ≡ false) ⊎ (not known ≡ false) → IsLeftOut asked ignores d
     named (inl h) = unwanted (one_fails linted styled h)
-    named (inr h) = inr (inr (inl (among ignored (code_of d.remark) (reversed known h))))
+    named (inr h) = inr (inr (inl (among asked.ignored (code_of d.remark) (reversed known h))))
 
-    silent : ((wanted && not known) ≡ false) ⊎ (not (is_silenced ignores d) ≡ false) → IsLeftOut lint style ignored ignores d
+    silent : ((wanted && not known) ≡ false) ⊎ (not (is_silenced ignores d) ≡ false) → IsLeftOut asked ignores d
     silent (inl h) = named (one_fails wanted (not known) h)
     silent (inr h) =
         let one = one_passes (λ i. silences i d) ignores (reversed (is_silenced ignores d) h) in
@@ -119,28 +119,28 @@ not_kept true e k = cc
 not_kept false e k = cc
 
 -- what is reported is not left out
-pub reported_is_kept : (lint style : Bool) (ignored : List Text) (ignores : List Ignore) (d : DiagnosticValue) → is_reported lint style ignored ignores d ≡ true → IsLeftOut lint style ignored ignores d → ⊥
-reported_is_kept lint style ignored ignores d e = by
+pub reported_is_kept : (asked : Asked) (ignores : List Ignore) (d : DiagnosticValue) → is_reported asked ignores d ≡ true → IsLeftOut asked ignores d → ⊥
+reported_is_kept asked ignores d e = by
   where
     linted : Bool
-    linted = not (is_lint d.remark) || lint
+    linted = not (is_lint d.remark) || asked.lint
 
     styled : Bool
-    styled = style || not (is_about_style d.remark)
+    styled = asked.style || not (is_about_style d.remark)
 
     known : Bool
-    known = is_among ignored (code_of d.remark)
+    known = is_among asked.ignored (code_of d.remark)
 
-    asked : ((linted && styled) && not known) ≡ true
-    asked = (and_parts ((linted && styled) && not known) (not (is_silenced ignores d)) e).0
+    wished : ((linted && styled) && not known) ≡ true
+    wished = (and_parts ((linted && styled) && not known) (not (is_silenced ignores d)) e).0
 
     wanted : (linted && styled) ≡ true
-    wanted = (and_parts (linted && styled) (not known) asked).0
+    wanted = (and_parts (linted && styled) (not known) wished).0
 
-    by : IsLeftOut lint style ignored ignores d → ⊥
-    by (inl x) = lint_kept (is_lint d.remark) lint x.0 x.1 (and_parts linted styled wanted).0
-    by (inr (inl x)) = style_kept style (is_about_style d.remark) x.0 x.1 (and_parts linted styled wanted).1
-    by (inr (inr (inl x))) = not_kept known (is_there ignored (code_of d.remark) x) (and_parts (linted && styled) (not known) asked).1
+    by : IsLeftOut asked ignores d → ⊥
+    by (inl x) = lint_kept (is_lint d.remark) asked.lint x.0 x.1 (and_parts linted styled wanted).0
+    by (inr (inl x)) = style_kept asked.style (is_about_style d.remark) x.0 x.1 (and_parts linted styled wanted).1
+    by (inr (inr (inl x))) = not_kept known (is_there asked.ignored (code_of d.remark) x) (and_parts (linted && styled) (not known) wished).1
     by (inr (inr (inr x))) =
         not_kept (is_silenced ignores d) (passes (λ i. silences i d) ignores x.0 x.1.0 (silencing x.0 d x.1.1)) (and_parts ((linted && styled) && not known) (not (is_silenced ignores d)) e).1
 

@@ -1,3 +1,6 @@
+pub mod ByLines
+pub mod ReadOnce
+pub mod TokensLeft
 pub mod Lists
 pub mod Walking
 pub mod Held

@@ -11,7 +11,7 @@ use Rattle.engine_formats.specs.Remarks.{code_of}
 use Rattle.engine_formats.specs.declared.remark.Remark.{Remark}
 use Rattle.engine_formats.specs.declared.remark.Remark.TheVariants.{Message, Lint, IdleIgnore, UnknownCode}
 use Rattle.engine_checks.specs.Codes.{has_comments, is_found}
-use Rattle.engine_checks.specs.Files.{database_diagnostic, database_found, database_reported, file_text, findings_of, ignored_by, ignores_counted, lint_diagnostic, lints_counted, rule_diagnostic, rules_found, rules_reported}
+use Rattle.engine_checks.specs.Files.{asked_by, database_diagnostic, database_found, database_reported, file_text, findings_of, ignored_by, ignores_counted, lint_diagnostic, lints_counted, rule_diagnostic, rules_found, rules_reported}
 use Rattle.engine_checks.specs.Ignores.{Ignore}
 use Rattle.engine_checks.specs.Laws.{is_message, lints_among, lints_in, messages_among, messages_in}
 use Rattle.engine_checks.specs.Reported.{is_lint, is_reported, is_silenced}
@@ -45,29 +45,26 @@ or_true true = refl
 or_true false = refl
 
 module _ (line : Line) (file : SourceFile) where
-  abbrev ignored : List Text
-  ignored = ignored_by line
-
   abbrev comments : List Ignore
-  comments = ignores_counted line.profile (ignored_by line) file
+  comments = ignores_counted (asked_by line) file
 
   abbrev reported : DiagnosticValue → Bool
-  reported = is_reported line.lint line.style (ignored_by line) (ignores_counted line.profile (ignored_by line) file)
+  reported = is_reported (asked_by line) (ignores_counted (asked_by line) file)
 
   abbrev looked_for : List DiagnosticValue
-  looked_for = map (lint_diagnostic (file_text line file)) (lints_counted line.profile line.lint (ignored_by line) file)
+  looked_for = map (lint_diagnostic (file_text line file)) (lints_counted (asked_by line) file)
 
   found_lints : lints_among (rules_found line file) ≡ looked_for
   found_lints =
       others_left (λ d. is_lint d.remark) (messages_in line file) looked_for
       (All-map (λ d. is_lint d.remark ≡ false) (rule_diagnostic (file_text line file)) (findings_of line file) (λ k d h. refl))
       ∙ filter_all (λ d. is_lint d.remark) looked_for
-      (All-map (λ d. is_lint d.remark ≡ true) (lint_diagnostic (file_text line file)) (lints_counted line.profile line.lint (ignored_by line) file) (λ k d h. refl))
+      (All-map (λ d. is_lint d.remark ≡ true) (lint_diagnostic (file_text line file)) (lints_counted (asked_by line) file) (λ k d h. refl))
 
   found_messages : messages_among (rules_found line file) ≡ messages_in line file
   found_messages =
       first_left (λ d. is_message d.remark) (messages_in line file) looked_for
-      (All-map (λ d. is_message d.remark ≡ false) (lint_diagnostic (file_text line file)) (lints_counted line.profile line.lint (ignored_by line) file) (λ k d h. refl))
+      (All-map (λ d. is_message d.remark ≡ false) (lint_diagnostic (file_text line file)) (lints_counted (asked_by line) file) (λ k d h. refl))
       ∙ filter_all (λ d. is_message d.remark) (messages_in line file)
       (All-map (λ d. is_message d.remark ≡ true) (rule_diagnostic (file_text line file)) (findings_of line file) (λ k d h. refl))
 
@@ -80,15 +77,15 @@ module _ (line : Line) (file : SourceFile) where
 
   lints_part : lints_among (rules_reported line file) ≡ filter reported looked_for
   unfolding rules_reported
-  lints_part = reported_part line.lint line.style ignored (file_text line file) comments (rules_found line file) is_lint lint_is_found ∙ ap (filter reported) found_lints
+  lints_part = reported_part (asked_by line) (file_text line file) comments (rules_found line file) is_lint lint_is_found ∙ ap (filter reported) found_lints
 
   -- the lints that are reported if they are asked for
-  pub asked_lints : line.lint ≡ true → lints_among (rules_reported line file) ≡ filter (λ d. not (is_among (ignored_by line) (code_of d.remark)) && not (is_silenced (ignores_counted line.profile (ignored_by line) file) d)) (lints_in line file)
+  pub asked_lints : line.lint ≡ true → lints_among (rules_reported line file) ≡ filter (λ d. not (is_among (ignored_by line) (code_of d.remark)) && not (is_silenced (ignores_counted (asked_by line) file) d)) (lints_in line file)
   asked_lints e =
       lints_part
       ∙ ap (λ b. filter reported (map (lint_diagnostic (file_text line file)) (cond (b || has_comments (ignored_by line)) (placed_lints line.profile file) []))) e
-      ∙ filter_alike reported (λ d. not (is_among (ignored_by line) (code_of d.remark)) && not (is_silenced (ignores_counted line.profile (ignored_by line) file) d)) (lints_in line file)
-      (All-map (λ d. reported d ≡ (not (is_among (ignored_by line) (code_of d.remark)) && not (is_silenced (ignores_counted line.profile (ignored_by line) file) d))) (lint_diagnostic (file_text line file)) (placed_lints line.profile file)
+      ∙ filter_alike reported (λ d. not (is_among (ignored_by line) (code_of d.remark)) && not (is_silenced (ignores_counted (asked_by line) file) d)) (lints_in line file)
+      (All-map (λ d. reported d ≡ (not (is_among (ignored_by line) (code_of d.remark)) && not (is_silenced (ignores_counted (asked_by line) file) d))) (lint_diagnostic (file_text line file)) (placed_lints line.profile file)
       (λ k d h. lint_reported line.lint line.style _ _ e))
 
   -- none is reported if they are not
@@ -96,21 +93,21 @@ module _ (line : Line) (file : SourceFile) where
   unasked_lints e =
       lints_part
       ∙ filter_none reported looked_for
-      (All-map (λ d. reported d ≡ false) (lint_diagnostic (file_text line file)) (lints_counted line.profile line.lint (ignored_by line) file)
+      (All-map (λ d. reported d ≡ false) (lint_diagnostic (file_text line file)) (lints_counted (asked_by line) file)
       (λ k d h. lint_unreported line.lint line.style _ _ e))
 
   -- the messages that are reported
-  pub same_messages : messages_among (rules_reported line file) ≡ filter (is_reported false line.style (ignored_by line) (ignores_counted line.profile (ignored_by line) file)) (messages_in line file)
+  pub same_messages : messages_among (rules_reported line file) ≡ filter (is_reported (record (asked_by line) { lint = false }) (ignores_counted (asked_by line) file)) (messages_in line file)
   unfolding rules_reported
   same_messages =
-      reported_part line.lint line.style ignored (file_text line file) comments (rules_found line file) is_message message_is_found
+      reported_part (asked_by line) (file_text line file) comments (rules_found line file) is_message message_is_found
       ∙ ap (filter reported) found_messages
-      ∙ filter_alike reported (is_reported false line.style ignored comments) (messages_in line file)
-      (All-map (λ d. reported d ≡ is_reported false line.style ignored comments d) (rule_diagnostic (file_text line file)) (findings_of line file) (λ k d h. refl))
+      ∙ filter_alike reported (is_reported (record (asked_by line) { lint = false }) comments) (messages_in line file)
+      (All-map (λ d. reported d ≡ is_reported (record (asked_by line) { lint = false }) comments d) (rule_diagnostic (file_text line file)) (findings_of line file) (λ k d h. refl))
 
   -- no lint is reported for a database
   pub database_lints : lints_among (database_reported line file) ≡ []
   unfolding database_reported
   database_lints =
-      reported_part line.lint line.style ignored (file_text line file) comments (database_found line file) is_lint lint_is_found
+      reported_part (asked_by line) (file_text line file) comments (database_found line file) is_lint lint_is_found
       ∙ ap (filter reported) (filter_none (λ d. is_lint d.remark) (database_found line file) (All-map (λ d. is_lint d.remark ≡ false) (database_diagnostic (file_text line file)) (messages_of (file ∷ [])) (λ k d h. refl)))

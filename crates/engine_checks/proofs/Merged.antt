@@ -4,7 +4,7 @@ use Rattle.std.specs.List.{prefix_len, take_while}
 use Rattle.std.proofs.lemmas.List.Elements.{All-append, All-cons, All-drop, All-head, All-tail, All-take, filter-append}
 use Rattle.text_bytes.specs.Texts.{skip_while}
 use Rattle.engine_formats.specs.Diagnostics.{DiagnosticValue}
-use Rattle.engine_checks.specs.Reported.{by_line}
+use Rattle.engine_checks.specs.Reported.{merged}
 
 pub filter_all : {X : Type 0} (p : X → Bool) (xs : List X) → All (λ x. p x ≡ true) xs → filter p xs ≡ xs
 filter_all p [] h = refl
@@ -38,31 +38,31 @@ filter_swap p q (x ∷ xs) = by (p x) (q x) refl refl (filter_swap p q xs)
 
 module _ (p : DiagnosticValue → Bool) where
   -- a test that no other passes finds what it finds without these
-  pub first_left : (ds others : List DiagnosticValue) → All (λ d. p d ≡ false) others → filter p (by_line ds others) ≡ filter p ds
+  pub first_left : (ds others : List DiagnosticValue) → All (λ d. p d ≡ false) others → filter p (merged ds others) ≡ filter p ds
   first_left [] others k = filter_none p others k
   first_left (d ∷ ds) others k =
       let n = prefix_len (λ o. nat_lt o.begins d.begins) others in
-      filter-append p (take_while (λ o. nat_lt o.begins d.begins) others) (d ∷ by_line ds (skip_while (λ o. nat_lt o.begins d.begins) others))
-      ∙ ap (λ ms. ms ++ filter p (d ∷ by_line ds (skip_while (λ o. nat_lt o.begins d.begins) others))) (filter_none p (take_while (λ o. nat_lt o.begins d.begins) others) (All-take (λ x. p x ≡ false) n others k))
+      filter-append p (take_while (λ o. nat_lt o.begins d.begins) others) (d ∷ merged ds (skip_while (λ o. nat_lt o.begins d.begins) others))
+      ∙ ap (λ ms. ms ++ filter p (d ∷ merged ds (skip_while (λ o. nat_lt o.begins d.begins) others))) (filter_none p (take_while (λ o. nat_lt o.begins d.begins) others) (All-take (λ x. p x ≡ false) n others k))
       ∙ ap (λ ms. cond (p d) (d ∷ ms) ms) (first_left ds (skip_while (λ o. nat_lt o.begins d.begins) others) (All-drop (λ x. p x ≡ false) n others k))
 
   -- a test that none of the first passes finds what it finds among the others
-  pub others_left : (ds others : List DiagnosticValue) → All (λ d. p d ≡ false) ds → filter p (by_line ds others) ≡ filter p others
+  pub others_left : (ds others : List DiagnosticValue) → All (λ d. p d ≡ false) ds → filter p (merged ds others) ≡ filter p others
   others_left [] others h = refl
   others_left (d ∷ ds) others h =
       let n = prefix_len (λ o. nat_lt o.begins d.begins) others in
-      filter-append p (take_while (λ o. nat_lt o.begins d.begins) others) (d ∷ by_line ds (skip_while (λ o. nat_lt o.begins d.begins) others))
-      ∙ ap (λ b. filter p (take_while (λ o. nat_lt o.begins d.begins) others) ++ cond b (d ∷ filter p (by_line ds (skip_while (λ o. nat_lt o.begins d.begins) others))) (filter p (by_line ds (skip_while (λ o. nat_lt o.begins d.begins) others)))) (All-head (λ x. p x ≡ false) d ds h)
+      filter-append p (take_while (λ o. nat_lt o.begins d.begins) others) (d ∷ merged ds (skip_while (λ o. nat_lt o.begins d.begins) others))
+      ∙ ap (λ b. filter p (take_while (λ o. nat_lt o.begins d.begins) others) ++ cond b (d ∷ filter p (merged ds (skip_while (λ o. nat_lt o.begins d.begins) others))) (filter p (merged ds (skip_while (λ o. nat_lt o.begins d.begins) others)))) (All-head (λ x. p x ≡ false) d ds h)
       ∙ ap (λ ms. filter p (take_while (λ o. nat_lt o.begins d.begins) others) ++ ms) (others_left ds (skip_while (λ o. nat_lt o.begins d.begins) others) (All-tail (λ x. p x ≡ false) d ds h))
       ∙ sym (filter-append p (take_while (λ o. nat_lt o.begins d.begins) others) (skip_while (λ o. nat_lt o.begins d.begins) others))
       ∙ ap (filter p) (take-append-drop n others)
 
 -- what holds of both lists
-pub both_hold : (P : DiagnosticValue → Type 0) (ds others : List DiagnosticValue) → All P ds → All P others → All P (by_line ds others)
+pub both_hold : (P : DiagnosticValue → Type 0) (ds others : List DiagnosticValue) → All P ds → All P others → All P (merged ds others)
 both_hold P [] others h k = k
 both_hold P (d ∷ ds) others h k =
     let n = prefix_len (λ o. nat_lt o.begins d.begins) others in
-    All-append P (take_while (λ o. nat_lt o.begins d.begins) others) (d ∷ by_line ds (skip_while (λ o. nat_lt o.begins d.begins) others))
+    All-append P (take_while (λ o. nat_lt o.begins d.begins) others) (d ∷ merged ds (skip_while (λ o. nat_lt o.begins d.begins) others))
     (All-take P n others k)
-    (All-cons P d (by_line ds (skip_while (λ o. nat_lt o.begins d.begins) others)) (All-head P d ds h)
+    (All-cons P d (merged ds (skip_while (λ o. nat_lt o.begins d.begins) others)) (All-head P d ds h)
     (both_hold P ds (skip_while (λ o. nat_lt o.begins d.begins) others) (All-tail P d ds h) (All-drop P n others k)))

@@ -31,10 +31,10 @@ use Rattle.engine_formats.specs.Diagnostics.{DiagnosticValue}
 use Rattle.engine_formats.specs.Formats.{formatted}
 use Rattle.engine_formats.specs.Made.{AreMadeFrom}
 use Rattle.engine_formats.specs.Placing.{placed}
-use Rattle.engine_checks.specs.Files.{database_diagnostic, database_found, database_reported, file_text, ignored_by, ignores_counted}
+use Rattle.engine_checks.specs.Files.{asked_by, database_diagnostic, database_found, database_reported, file_text, ignored_by, ignores_counted}
 use Rattle.engine_checks.specs.Outcomes.{database_checks, entries_said, reported_update_outcome}
-use Rattle.engine_checks.specs.Reported.{FileText, file_reported, is_reported}
-use Rattle.engine_checks.proofs.AsBefore.{all_but_style, both_made}
+use Rattle.engine_checks.specs.Reported.{Asked, FileText, file_reported, is_reported}
+use Rattle.engine_checks.proofs.AsBefore.{all_asked, both_made}
 
 -- A message of a database has the name of its file, and is not about style.
 pub record IsOf (name : Text) (m : Message) : Type 0 where
@@ -99,18 +99,23 @@ all_made file (m ∷ ms) h k =
       all_made file ms (All-tail (IsOf file.name) m ms h) (All-tail (λ m. word_of (placed file.lines m).word ≡ m.word) m ms k),
     )
 
+-- with or without style, nothing is ignored
+abbrev unsilenced : Asked → Bool → Asked
+unsilenced asked style = record asked { style = style; ignored = [] }
+
 -- without comments and codes all of them are reported
-all_reported : (lint style : Bool) (file : FileText) (ms : List Message) → All (IsOf file.name) ms → filter (is_reported lint style [] []) (map (database_diagnostic file) ms) ≡ map (database_diagnostic file) ms
-all_reported lint style file [] h = refl
-all_reported lint style file (m ∷ ms) h = by style (all_reported lint style file ms (All-tail (IsOf file.name) m ms h))
+all_reported : (asked : Asked) (style : Bool) (file : FileText) (ms : List Message) → All (IsOf file.name) ms
+    → filter (is_reported (unsilenced asked style) []) (map (database_diagnostic file) ms) ≡ map (database_diagnostic file) ms
+all_reported asked style file [] h = refl
+all_reported asked style file (m ∷ ms) h = by style (all_reported asked style file ms (All-tail (IsOf file.name) m ms h))
   where
     rest : List DiagnosticValue
     rest = map (database_diagnostic file) ms
 
-    by : (s : Bool) → filter (is_reported lint s [] []) rest ≡ rest → filter (is_reported lint s [] []) (database_diagnostic file m ∷ rest) ≡ database_diagnostic file m ∷ rest
+    by : (s : Bool) → filter (is_reported (unsilenced asked s) []) rest ≡ rest → filter (is_reported (unsilenced asked s) []) (database_diagnostic file m ∷ rest) ≡ database_diagnostic file m ∷ rest
     by true more = ap (λ ds. database_diagnostic file m ∷ ds) more
     by false more =
-        ap (λ b. cond ((not b && true) && true) (database_diagnostic file m ∷ filter (is_reported lint false [] []) rest) (filter (is_reported lint false [] []) rest)) (All-head (IsOf file.name) m ms h).style
+        ap (λ b. cond ((not b && true) && true) (database_diagnostic file m ∷ filter (is_reported (unsilenced asked false) []) rest) (filter (is_reported (unsilenced asked false) []) rest)) (All-head (IsOf file.name) m ms h).style
         ∙ ap (λ ds. database_diagnostic file m ∷ ds) more
 
 -- what is known of the words of messages
@@ -122,9 +127,9 @@ unfolding database_reported
 file_made line file kept none few =
     subst (λ ds. AreMadeFrom (messages_of (file ∷ [])) ds)
     (sym
-    (ap (λ ignored. file_reported line.lint line.style ignored (file_text line file) (ignores_counted line.profile ignored file) (database_found line file)) none
-    ∙ all_but_style line.lint line.style (file_text line file) (database_found line file)
-    ∙ all_reported line.lint line.style (file_text line file) (messages_of (file ∷ [])) (all_of file)))
+    (ap (λ (codes : List Text). file_reported (record (asked_by line) { ignored = codes }) (file_text line file) (ignores_counted (record (asked_by line) { ignored = codes }) file) (database_found line file)) none
+    ∙ all_asked (unsilenced (asked_by line) line.style) (file_text line file) (database_found line file)
+    ∙ all_reported (asked_by line) line.style (file_text line file) (messages_of (file ∷ [])) (all_of file)))
     (all_made (file_text line file) (messages_of (file ∷ [])) (all_of file) (kept few))
 
 files_made : (line : Line) (files : List SourceFile) → ((file : SourceFile) → KeepsWords file) → ignored_by line ≡ [] → All (λ f. length (lines f.bytes) < 2 ^ 32) files → AreMadeFrom (messages_of files) (flat_map (database_reported line) files)

@@ -1,18 +1,18 @@
 -- What is found in a file, and what is reported for it.
-use Rattle.std.specs.Prelude.{Bool, ◌||◌, if◌then◌else◌, List, [], ◌∷◌, map, option_map}
+use Rattle.std.specs.Prelude.{◌||◌, if◌then◌else◌, List, [], ◌∷◌, map, option_map}
 use Rattle.text_bytes.specs.Lines.{numbered_lines}
 use Rattle.file_messages.specs.declared.message.Message.{Message}
-use Rattle.text_bytes.specs.declared.profile.Profile.{Profile}
 use Rattle.text_bytes.specs.declared.source_file.SourceFile.{SourceFile}
 use Rattle.text_tables.specs.Texts.{Text}
 use Rattle.hwdb_core.specs.Sources.{messages_of}
+use Rattle.file_messages.specs.declared.message.MessageKind.{MessageKind}
+use Rattle.rule_types.specs.declared.lint.Lint.{Lint}
 use Rattle.rule_pairs.specs.Accounts.{Accounts}
 use Rattle.rule_pairs.specs.declared.accounts.AccountKind.TheVariants.{User, Group}
 use Rattle.rule_remarks.specs.AccountLines.{accounts_of}
 use Rattle.rule_remarks.specs.Findings.{findings_as}
 use Rattle.rule_places.specs.declared.placed_finding.PlacedFinding.{PlacedFinding}
 use Rattle.rule_file_lints.specs.FileLints.{placed_lints}
-use Rattle.rule_file_lints.specs.declared.placed_lint.PlacedLint.{PlacedLint}
 use Rattle.engine_ends.specs.declared.line.Line.{Line}
 use Rattle.engine_formats.specs.Diagnostics.{DiagnosticValue}
 use Rattle.engine_formats.specs.Paths.{path_of}
@@ -20,19 +20,19 @@ use Rattle.engine_formats.specs.Placing.{placed}
 use Rattle.engine_formats.specs.declared.remark.Remark.TheVariants as about
 use Rattle.engine_checks.specs.Codes.{has_comments}
 use Rattle.engine_checks.specs.Ignores.{Ignore, ignores_in}
-use Rattle.engine_checks.specs.Reported.{FileText, by_line, diagnostic_in, file_reported}
+use Rattle.engine_checks.specs.Reported.{Asked, FileText, diagnostic_in, file_reported, merged}
 
 -- a file that a command line reads, as diagnostics show it
 abbrev pub file_text : Line → SourceFile → FileText
 file_text line file = record { name = file.name; path = path_of line file; lines = numbered_lines file.bytes }
 
 -- a finding of a rules file as a diagnostic
-abbrev pub rule_diagnostic : FileText → PlacedFinding → DiagnosticValue
+abbrev pub rule_diagnostic : FileText → PlacedFinding MessageKind → DiagnosticValue
 rule_diagnostic file found = diagnostic_in file found.begins found.line found.column found.end (about.Message found.kind) found.word
 
 -- a lint of a rules file as a diagnostic
-abbrev pub lint_diagnostic : FileText → PlacedLint → DiagnosticValue
-lint_diagnostic file found = diagnostic_in file found.begins found.line found.column found.end (about.Lint found.lint) found.word
+abbrev pub lint_diagnostic : FileText → PlacedFinding Lint → DiagnosticValue
+lint_diagnostic file found = diagnostic_in file found.begins found.line found.column found.end (about.Lint found.kind) found.word
 
 -- a message about a database as a diagnostic
 abbrev pub database_diagnostic : FileText → Message → DiagnosticValue
@@ -51,34 +51,37 @@ accounts_by line = record {
   groups = option_map (λ file. accounts_of Group file.bytes) line.groups;
 }
 
+-- what a command line asks for
+abbrev pub asked_by : Line → Asked
+asked_by line = record { profile = line.profile; accounts = accounts_by line; style = line.style; lint = line.lint; ignored = ignored_by line }
+
 -- the findings about the rules of a file
-abbrev pub findings_of : Line → SourceFile → List PlacedFinding
+abbrev pub findings_of : Line → SourceFile → List (PlacedFinding MessageKind)
 findings_of line file = findings_as line.profile (accounts_by line) file
 
 -- the lints of a rules file, if they are asked for or comments count, which may silence them
-abbrev pub lints_counted : Profile → Bool → List Text → SourceFile → List PlacedLint
-lints_counted profile lint ignored file = if lint || has_comments ignored then placed_lints profile file else []
+abbrev pub lints_counted : Asked → SourceFile → List (PlacedFinding Lint)
+lints_counted asked file = if asked.lint || has_comments asked.ignored then placed_lints asked.profile file else []
 
 -- what is found in a rules file: its findings with these lints merged in, each after all that is found about its rule
-abbrev pub found_with : FileText → List PlacedFinding → List PlacedLint → List DiagnosticValue
-found_with file findings lints = by_line (map (rule_diagnostic file) findings) (map (lint_diagnostic file) lints)
+abbrev pub found_with : FileText → List (PlacedFinding MessageKind) → List (PlacedFinding Lint) → List DiagnosticValue
+found_with file findings lints = merged (map (rule_diagnostic file) findings) (map (lint_diagnostic file) lints)
 
 -- all that is found in a rules file
 abbrev pub rules_found : Line → SourceFile → List DiagnosticValue
-rules_found line file = found_with (file_text line file) (findings_of line file) (lints_counted line.profile line.lint (ignored_by line) file)
+rules_found line file = found_with (file_text line file) (findings_of line file) (lints_counted (asked_by line) file)
 
 -- all that is found in a file of a database
 abbrev pub database_found : Line → SourceFile → List DiagnosticValue
 database_found line file = map (database_diagnostic (file_text line file)) (messages_of (file ∷ []))
 
 -- the codes in comments of a file, if comments count
-abbrev pub ignores_counted : Profile → List Text → SourceFile → List Ignore
-ignores_counted profile ignored file = if has_comments ignored then ignores_in profile file else []
+abbrev pub ignores_counted : Asked → SourceFile → List Ignore
+ignores_counted asked file = if has_comments asked.ignored then ignores_in asked.profile file else []
 
 -- what is reported for what was found in a file
 abbrev pub reported_for : Line → SourceFile → List DiagnosticValue → List DiagnosticValue
-reported_for line file found = file_reported line.lint line.style (ignored_by line) (file_text line file)
-    (ignores_counted line.profile (ignored_by line) file) found
+reported_for line file found = file_reported (asked_by line) (file_text line file) (ignores_counted (asked_by line) file) found
 
 -- what is reported for a rules file
 unfoldable pub rules_reported : Line → SourceFile → List DiagnosticValue

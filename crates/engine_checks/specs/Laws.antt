@@ -3,7 +3,6 @@ use Rattle.std.specs.Prelude.{◌≡◌, ◌⊎◌, ◌<◌, ◌≤◌, ◌-◌,
 use Rattle.text_bytes.specs.Lines.{numbered_lines}
 use Rattle.text_bytes.specs.Texts.{trimmed, unindented}
 use Rattle.text_bytes.specs.declared.source_file.SourceFile.{SourceFile}
-use Rattle.text_tables.specs.Texts.{Text}
 use Rattle.rule_file_lints.specs.FileLints.{placed_lints}
 use Rattle.engine_ends.specs.declared.line.Line.{Line}
 use Rattle.engine_formats.specs.Diagnostics.{DiagnosticValue}
@@ -14,7 +13,7 @@ use Rattle.engine_formats.specs.declared.remark.Remark.TheVariants.{Message, Lin
 use Rattle.engine_checks.specs.Codes.{is_found}
 use Rattle.engine_checks.specs.Files.{file_text, findings_of, lint_diagnostic, rule_diagnostic}
 use Rattle.engine_checks.specs.Ignores.{Ignore}
-use Rattle.engine_checks.specs.Reported.{is_about_style, is_lint}
+use Rattle.engine_checks.specs.Reported.{Asked, is_about_style, is_lint}
 use Rattle.engine_checks.specs.declared.ignores.Scope.TheVariants.{File, Next, Unread}
 
 -- what is about the file among diagnostics, messages and lints, in their order
@@ -55,11 +54,11 @@ pub record IsSilencing (ignore : Ignore) (d : DiagnosticValue) : Type 0 where
   pub about : (ignore.scope ≡ File) ⊎ (ignore.scope ≡ Next (Some d.begins))
 
 -- What was found is left out: it is a lint and lints are, it is about style and style is, its code is a text of `--ignore`, or a code in a comment silences it.
-abbrev pub IsLeftOut : Bool → Bool → List Text → List Ignore → DiagnosticValue → Type 0
-IsLeftOut lint style ignored ignores d =
-    ((lint ≡ false) × (is_lint d.remark ≡ true))
-    ⊎ (((style ≡ false) × (is_about_style d.remark ≡ true))
-    ⊎ (Contains ignored (code_of d.remark) ⊎ ((ignore : Ignore) × (Contains ignores ignore × IsSilencing ignore d))))
+abbrev pub IsLeftOut : Asked → List Ignore → DiagnosticValue → Type 0
+IsLeftOut asked ignores d =
+    ((asked.lint ≡ false) × (is_lint d.remark ≡ true))
+    ⊎ (((asked.style ≡ false) × (is_about_style d.remark ≡ true))
+    ⊎ (Contains asked.ignored (code_of d.remark) ⊎ ((ignore : Ignore) × (Contains ignores ignore × IsSilencing ignore d))))
 
 -- A code in a comment silences something that was found.
 abbrev pub IsInUse : List DiagnosticValue → Ignore → Type 0

@@ -4,4 +4,6 @@ pub mod Reported
 pub mod Files
 pub mod Outcomes
 pub mod Tables
+pub mod LinesFound
 pub mod Laws
+pub mod Steps

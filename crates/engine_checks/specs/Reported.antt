@@ -1,10 +1,12 @@
 -- Which diagnostics of a file are reported, and which remarks on its comments.
-use Rattle.std.specs.Prelude.{ℕ, Bool, true, false, not, ◌==◌, ◌||◌, ◌&&◌, nat_lt, if◌then◌else◌, List, [], ◌∷◌, ◌++◌, filter, filter_map, Option, Some}
+use Rattle.std.specs.Prelude.{ℕ, Bool, true, false, not, ◌==◌, ◌||◌, ◌&&◌, if◌then◌else◌, List, filter, filter_map, Option, Some}
 use Rattle.std.specs.Prelude.{None, option_map}
-use Rattle.std.specs.List.{list_any, take_while}
+use Rattle.std.specs.List.{list_any}
 use Rattle.text_bytes.specs.Lines.{NumberedLine}
-use Rattle.text_bytes.specs.Texts.{skip_while}
+use Rattle.text_bytes.specs.declared.profile.Profile.{Profile}
 use Rattle.text_tables.specs.Texts.{Text, is_among, same_text}
+use Rattle.rule_pairs.specs.Accounts.{Accounts}
+use Rattle.rule_remarks.specs.ByLine.{by_line}
 use Rattle.engine_reports.specs.Checks.{is_style}
 use Rattle.engine_formats.specs.Diagnostics.{DiagnosticValue}
 use Rattle.engine_formats.specs.Placing.{line_numbered}
@@ -41,13 +43,22 @@ abbrev pub is_lint : Remark → Bool
 is_lint (Lint lint) = true
 is_lint _ = false
 
--- whether a command line asks for a remark: with or without lints, with or without style, past the codes of `--ignore`
-abbrev pub is_asked : Bool → Bool → List Text → Remark → Bool
-is_asked lint style ignored remark = ((not (is_lint remark) || lint) && (style || not (is_about_style remark))) && not (is_among ignored (code_of remark))
+-- what a command line asks for: the profile by which rules are read, the users and groups that are known, whether
+-- messages about style are reported and whether lints are, and the codes of what is not reported
+pub record Asked : Type 0 where
+  pub profile : Profile
+  pub accounts : Accounts
+  pub style : Bool
+  pub lint : Bool
+  pub ignored : List Text
+
+-- whether a remark is asked for: with or without lints, with or without style, past the codes of `--ignore`
+abbrev pub is_asked : Asked → Remark → Bool
+is_asked asked remark = ((not (is_lint remark) || asked.lint) && (asked.style || not (is_about_style remark))) && not (is_among asked.ignored (code_of remark))
 
 -- whether what was found is reported: it is asked for, and no code in a comment silences it
-abbrev pub is_reported : Bool → Bool → List Text → List Ignore → DiagnosticValue → Bool
-is_reported lint style ignored ignores d = is_asked lint style ignored d.remark && not (is_silenced ignores d)
+abbrev pub is_reported : Asked → List Ignore → DiagnosticValue → Bool
+is_reported asked ignores d = is_asked asked d.remark && not (is_silenced ignores d)
 
 -- whether a code in a comment is unknown, or the comment is not understood
 abbrev pub is_unknown : Scope → Text → Bool
@@ -90,15 +101,12 @@ comment_diagnostic file ignore remark = diagnostic_in file ignore.line ignore.li
 abbrev pub comment_diagnostics : FileText → List DiagnosticValue → List Ignore → List DiagnosticValue
 comment_diagnostics file found ignores = filter_map (λ ignore. option_map (comment_diagnostic file ignore) (remark_on found ignore)) ignores
 
--- diagnostics with others merged in by line: each of the others comes after all diagnostics for its line or for one
--- before it
-abbrev pub by_line : List DiagnosticValue → List DiagnosticValue → List DiagnosticValue
-by_line [] others = others
-by_line (d ∷ ds) others = take_while (λ o. nat_lt o.begins d.begins) others ++ d ∷ by_line ds (skip_while (λ o. nat_lt o.begins d.begins) others)
+-- diagnostics with others merged in by the lines with which they are reported
+abbrev pub merged : List DiagnosticValue → List DiagnosticValue → List DiagnosticValue
+merged found others = by_line (λ d. d.begins) found others
 
 -- what is reported for a file, by what was found in it and the codes in its comments; what is said about these also
 -- has to be asked for
-unfoldable pub file_reported : Bool → Bool → List Text → FileText → List Ignore → List DiagnosticValue → List DiagnosticValue
-file_reported lint style ignored file ignores found =
-    by_line (filter (is_reported lint style ignored ignores) found)
-    (filter (λ d. is_asked lint style ignored d.remark) (comment_diagnostics file found ignores))
+unfoldable pub file_reported : Asked → FileText → List Ignore → List DiagnosticValue → List DiagnosticValue
+file_reported asked file ignores found =
+    merged (filter (is_reported asked ignores) found) (filter (λ d. is_asked asked d.remark) (comment_diagnostics file found ignores))

@@ -7,15 +7,13 @@ use Rattle.engine_formats.specs.Diagnostics.{DiagnosticValue}
 use Rattle.engine_formats.specs.Remarks.{code_of}
 use Rattle.engine_formats.specs.declared.remark.Remark.{Remark}
 use Rattle.engine_formats.specs.declared.remark.Remark.TheVariants.{IdleIgnore, UnknownCode}
-use Rattle.text_bytes.specs.declared.profile.Profile.{Profile}
 use Rattle.text_bytes.specs.declared.source_file.SourceFile.{SourceFile}
 use Rattle.hwdb_core.specs.Sources.{messages_of}
-use Rattle.rule_pairs.specs.Accounts.{Accounts}
 use Rattle.rule_remarks.specs.Findings.{findings_as}
 use Rattle.engine_ends.specs.declared.line.Line.{Line}
-use Rattle.engine_checks.specs.Ignores.{Ignore, ignores_in}
-use Rattle.engine_checks.specs.Files.{database_diagnostic, file_text, found_with, lints_counted}
-use Rattle.engine_checks.specs.Reported.{FileText, file_reported, is_asked, is_unknown}
+use Rattle.engine_checks.specs.Ignores.{Ignore}
+use Rattle.engine_checks.specs.Files.{database_diagnostic, file_text, found_with, ignores_counted, lints_counted}
+use Rattle.engine_checks.specs.Reported.{Asked, FileText, file_reported, is_asked, is_unknown}
 use Rattle.engine_checks.specs.declared.ignores.Scope.{Scope}
 use Rattle.engine_checks.specs.declared.ignores.Scope.TheVariants.{File, Next, Unread}
 
@@ -71,30 +69,27 @@ remark_by found at_lines ignore =
     else Some IdleIgnore
 
 -- whether a diagnostic is reported, by tables of what is ignored
-abbrev pub is_reported_by : Bool → Bool → List Text → List Text → List (ℕ × Text) → DiagnosticValue → Bool
-is_reported_by lint style ignored in_file at_lines d = is_asked lint style ignored d.remark && not (are_silencing in_file at_lines d)
+abbrev pub is_reported_by : Asked → List Text → List (ℕ × Text) → DiagnosticValue → Bool
+is_reported_by asked in_file at_lines d = is_asked asked d.remark && not (are_silencing in_file at_lines d)
 
--- a file that is read for its checks: as diagnostics show it, and with the codes in its comments
+-- a file that is read for its checks: as diagnostics show it
 pub record FileRead : Type 0 where
   pub file : SourceFile
   pub text : FileText
-  pub ignores : List Ignore
 
--- a file that a command line reads, with or without its comments
-abbrev pub read_by : Line → Bool → SourceFile → FileRead
-read_by line comments file = record { file = file; text = file_text line file; ignores = if comments then ignores_in line.profile file else [] }
+-- a file that a command line reads
+abbrev pub read_by : Line → SourceFile → FileRead
+read_by line file = record { file = file; text = file_text line file }
 
 -- all that is found in a rules file that is read
-abbrev pub rules_found_by : Profile → Accounts → Bool → List Text → FileRead → List DiagnosticValue
-rules_found_by profile accounts lint ignored read =
-    found_with read.text (findings_as profile accounts read.file) (lints_counted profile lint ignored read.file)
+abbrev pub rules_found_by : Asked → FileRead → List DiagnosticValue
+rules_found_by asked read = found_with read.text (findings_as asked.profile asked.accounts read.file) (lints_counted asked read.file)
 
 -- what is reported for a rules file that is read
-abbrev pub rules_reported_by : Profile → Accounts → Bool → Bool → List Text → FileRead → List DiagnosticValue
-rules_reported_by profile accounts lint style ignored read =
-    file_reported lint style ignored read.text read.ignores (rules_found_by profile accounts lint ignored read)
+abbrev pub rules_reported_by : Asked → FileRead → List DiagnosticValue
+rules_reported_by asked read = file_reported asked read.text (ignores_counted asked read.file) (rules_found_by asked read)
 
 -- what is reported for a file of a database that is read
-abbrev pub database_reported_by : Bool → Bool → List Text → FileRead → List DiagnosticValue
-database_reported_by lint style ignored read = file_reported lint style ignored read.text read.ignores
-    (map (database_diagnostic read.text) (messages_of (read.file ∷ [])))
+abbrev pub database_reported_by : Asked → FileRead → List DiagnosticValue
+database_reported_by asked read =
+    file_reported asked read.text (ignores_counted asked read.file) (map (database_diagnostic read.text) (messages_of (read.file ∷ [])))

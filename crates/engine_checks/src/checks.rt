@@ -1,17 +1,16 @@
 //! What `verify` says with other formats, with lints, and with messages that are ignored.
-ghost use Rattle.std.specs.Prelude.{◌≡◌, ◌<◌, flat_map, map, IfOk, IfErr};
+ghost use Rattle.std.specs.Prelude.{◌≡◌, ◌<◌, map, IfOk, IfErr};
 ghost use Rattle.engine_formats.specs.Diagnostics.{shown};
 ghost use Rattle.engine_reports.specs.Reports.{IsSaid, said};
-ghost use Rattle.engine_checks.specs.Files.{rules_reported};
 ghost use Rattle.engine_checks.specs.Outcomes.{checks_outcome, checks_said, rules_checks};
 
-use crate::asked::{asked_by, has_comments};
+use crate::asked::asked_by;
 use crate::reads::read_files;
 use crate::rules_reported::rules_reported;
 use engine_ends::Line;
 use engine_formats::{Diagnostic, formatted};
 use engine_reports::{Refusal, Report, files_read, report_on_files};
-use rule_core::{files_as_read, read_rules_as};
+use rule_core::{MAX_TOKENS, files_as_read};
 use std::alloc::{AllocError, Global};
 use text_bytes::{FileKind, SourceFile};
 
@@ -41,21 +40,14 @@ fn report_on_these(alloc: Global, line: &Line<'_>, files: &[SourceFile]) -> Resu
     ensures status { IfOk result (λ r. r.status < 3) }
     ensures refused { IfErr result (λ e. IsSaid e (rules_checks line.now files.now)) }
 {
-    let rules = read_rules_as(alloc, line.profile, files)?;
-    drop(rules);
-    let report = checked(alloc, line, files)?;
-    Ok(report)
-}
-
-/// What is reported for the files.
-fn checked(alloc: Global, line: &Line<'_>, files: &[SourceFile]) -> Result<Report, AllocError>
-    ensures said { IfOk result (λ r. said r ≡ checks_said line.now files.now (flat_map (rules_reported line.now) files.now)) }
-    ensures status { IfOk result (λ r. r.status < 3) }
-{
     let asked = asked_by(alloc, line)?;
-    let reads = read_files(alloc, line, has_comments(&asked.ignored), files)?;
-    let reported = rules_reported(alloc, &asked, &reads)?;
-    report_on_reported(alloc, line, files, &reported)
+    let reads = read_files(alloc, line, files)?;
+    let found = rules_reported(alloc, &asked, &reads)?;
+    if found.tokens > MAX_TOKENS {
+        return Err(Refusal::TooManyRules);
+    }
+    let report = report_on_reported(alloc, line, files, &found.diagnostics)?;
+    Ok(report)
 }
 
 /// What is said about files and what is reported for them.

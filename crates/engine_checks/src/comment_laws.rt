@@ -1,34 +1,34 @@
 //! Laws that show the definitions of what comments silence to be right.
 //!
 //! Each function has an empty body, and its contract is a law of the definitions.
-ghost use Rattle.std.specs.Prelude.{◌≡◌, ◌<◌, ◌-◌, ◌^◌, not, Bool, true, false, All, List, filter, filter_map, length, option_map};
+ghost use Rattle.std.specs.Prelude.{◌≡◌, ◌<◌, ◌-◌, ◌^◌, not, true, false, All, List, filter, filter_map, length, option_map};
 ghost use Rattle.text_bytes.specs.Lines.{lines};
 ghost use Rattle.text_bytes.specs.declared.profile.Profile.{Profile};
 ghost use Rattle.text_bytes.specs.declared.source_file.SourceFile.{SourceFile};
-ghost use Rattle.text_tables.specs.Texts.{Text, is_among};
+ghost use Rattle.text_tables.specs.Texts.{is_among};
 ghost use Rattle.engine_ends.specs.declared.line.Line.{Line};
 ghost use Rattle.engine_formats.specs.Diagnostics.{DiagnosticValue};
 ghost use Rattle.engine_formats.specs.Remarks.{code_of};
 ghost use Rattle.engine_checks.specs.Codes.{has_comments};
-ghost use Rattle.engine_checks.specs.Files.{database_found, database_reported, file_text, ignored_by, rules_found, rules_reported};
+ghost use Rattle.engine_checks.specs.Files.{asked_by, database_found, database_reported, file_text, ignored_by, rules_found, rules_reported};
 ghost use Rattle.engine_checks.specs.Ignores as ignores;
 ghost use Rattle.engine_checks.specs.Ignores.{ignores_in, starts_of};
 ghost use Rattle.engine_checks.specs.Laws.{IsAboutNext, IsInLine, IsLeftOut, IsSaidOf, found_among, remarks_among};
-ghost use Rattle.engine_checks.specs.Reported.{comment_diagnostic, is_reported, remark_on};
+ghost use Rattle.engine_checks.specs.Reported.{Asked, comment_diagnostic, is_reported, remark_on};
 
 /// If comments count, what was found is reported in its order, except for lints and style if these are left out,
 /// and for what the line or a comment silences; nothing else is left out.
 pub fn found_is_reported_or_silenced()
     ensures rules { (line : Line) (file : SourceFile) → has_comments (ignored_by line) ≡ true
         → found_among (rules_reported line file)
-        ≡ filter (is_reported line.lint line.style (ignored_by line) (ignores_in line.profile file)) (rules_found line file) }
+        ≡ filter (is_reported (asked_by line) (ignores_in line.profile file)) (rules_found line file) }
     ensures database { (line : Line) (file : SourceFile) → has_comments (ignored_by line) ≡ true
         → found_among (database_reported line file)
-        ≡ filter (is_reported line.lint line.style (ignored_by line) (ignores_in line.profile file)) (database_found line file) }
-    ensures silenced { (lint style : Bool) (ignored : List Text) (comments : List ignores.Ignore) (d : DiagnosticValue)
-        → is_reported lint style ignored comments d ≡ false → IsLeftOut lint style ignored comments d }
-    ensures reported { (lint style : Bool) (ignored : List Text) (comments : List ignores.Ignore) (d : DiagnosticValue)
-        → is_reported lint style ignored comments d ≡ true → IsLeftOut lint style ignored comments d → ⊥ }
+        ≡ filter (is_reported (asked_by line) (ignores_in line.profile file)) (database_found line file) }
+    ensures silenced { (asked : Asked) (comments : List ignores.Ignore) (d : DiagnosticValue)
+        → is_reported asked comments d ≡ false → IsLeftOut asked comments d }
+    ensures reported { (asked : Asked) (comments : List ignores.Ignore) (d : DiagnosticValue)
+        → is_reported asked comments d ≡ true → IsLeftOut asked comments d → ⊥ }
 {}
 
 /// Each code in a comment silences something that was found, or is reported as I1 or I2, and only then; except for

@@ -1,24 +1,26 @@
 //! What is to be said about the codes in comments of a file.
-ghost use Rattle.std.specs.Prelude.{◌≡◌, ◌++◌, filter_map, option_map, option_to_list, IfOk, OnOk};
+ghost use Rattle.std.specs.Prelude.{◌≡◌, ◌++◌, filter_map, map, option_map, option_to_list, IfOk, OnOk};
+ghost use Rattle.engine_formats.specs.Diagnostics.{shown};
 ghost use Rattle.engine_checks.specs.Tables.{remark_by};
 ghost use Rattle.engine_checks.specs.Reported.{comment_diagnostic};
 
-use crate::borrowed::Borrowed;
 use crate::file_text::FileText;
 use crate::ignores::Ignore;
 use crate::met::Met;
-use engine_formats::Remark;
+use engine_formats::{Diagnostic, Remark};
 use std::alloc::{AllocError, Global};
+use text_bytes::Bytes;
 
 /// What is said about a code in a comment, as a diagnostic.
-fn comment_diagnostic<'r, 'a>(
+fn comment_diagnostic<'r>(
+    alloc: Global,
     file: &'r FileText<'_>,
-    ignore: &Ignore<'a>,
+    ignore: &Ignore<'_>,
     remark: Remark,
-) -> Borrowed<'r, 'a>
-    ensures { result ≡ comment_diagnostic file.now ignore.now remark }
+) -> Result<Diagnostic<'r>, AllocError>
+    ensures { IfOk result (λ d. shown d ≡ comment_diagnostic file.now ignore.now remark) }
 {
-    Borrowed {
+    Ok(Diagnostic {
         name: file.name(),
         path: file.path(),
         source: file.line(ignore.line),
@@ -27,38 +29,40 @@ fn comment_diagnostic<'r, 'a>(
         column: ignore.column,
         end: ignore.end,
         remark,
-        word: ignore.code,
-    }
+        word: Bytes::copy_of(alloc, ignore.code)?,
+    })
 }
 
 /// Adds what is to be said about a code in a comment, if anything is.
-fn push_remark<'r, 'a>(
-    remarks: &mut Vec<Borrowed<'r, 'a>>,
+fn push_remark<'r>(
+    alloc: Global,
+    remarks: &mut Vec<Diagnostic<'r>>,
     file: &'r FileText<'_>,
-    ignore: &Ignore<'a>,
+    ignore: &Ignore<'_>,
     remark: Option<Remark>,
 ) -> Result<(), AllocError>
-    ensures { OnOk result (remarks.new.items ≡ remarks.old.items ++ option_to_list (option_map (comment_diagnostic file.now ignore.now) remark)) }
+    ensures { OnOk result (map shown remarks.new.items ≡ map shown remarks.old.items
+        ++ option_to_list (option_map (comment_diagnostic file.now ignore.now) remark)) }
 {
     if let Some(remark) = remark {
-        remarks.push(comment_diagnostic(file, ignore, remark))?;
+        remarks.push(comment_diagnostic(alloc, file, ignore, remark)?)?;
     }
     Ok(())
 }
 
 /// What is to be said about codes in comments, by what was found in the file.
-pub(crate) fn comment_remarks<'r, 'a>(
+pub(crate) fn comment_remarks<'r>(
     alloc: Global,
     file: &'r FileText<'_>,
     met: &Met,
-    ignores: &[Ignore<'a>],
-) -> Result<Vec<Borrowed<'r, 'a>>, AllocError>
-    ensures { IfOk result (λ remarks. remarks.items
+    ignores: &[Ignore<'_>],
+) -> Result<Vec<Diagnostic<'r>>, AllocError>
+    ensures { IfOk result (λ remarks. map shown remarks.items
         ≡ filter_map (λ i. option_map (comment_diagnostic file.now i) (remark_by met.now.in_file met.now.at_lines i)) ignores.now) }
 {
     let mut remarks = Vec::new(alloc);
     for ignore in ignores {
-        push_remark(&mut remarks, file, ignore, met.remark_on(ignore))?;
+        push_remark(alloc, &mut remarks, file, ignore, met.remark_on(ignore))?;
     }
     Ok(remarks)
 }

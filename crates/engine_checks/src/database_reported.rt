@@ -5,6 +5,7 @@ ghost use Rattle.engine_formats.specs.Diagnostics.{shown};
 ghost use Rattle.engine_checks.specs.Tables.{database_reported_by};
 
 use crate::found::database_diagnostics;
+use crate::ignores::ignores_counted;
 use crate::reads::FileRead;
 use crate::reported::{Asked, file_reported};
 use engine_formats::Diagnostic;
@@ -31,11 +32,13 @@ fn reported_for_file<'r>(
     asked: &Asked<'_>,
     read: &'r FileRead<'_>,
 ) -> Result<Vec<Diagnostic<'r>>, AllocError>
-    ensures { IfOk result (λ reported. map shown reported.items ≡ database_reported_by asked.now.lint asked.now.style asked.now.ignored read.now) }
+    ensures { IfOk result (λ reported. map shown reported.items
+        ≡ database_reported_by asked.now read.now) }
 {
     let messages = messages_about(alloc, read.file())?;
     let found = database_diagnostics(alloc, read.text(), &messages)?;
-    file_reported(alloc, asked, read.text(), read.ignores(), found)
+    let ignores = ignores_counted(alloc, asked, read.file())?;
+    file_reported(alloc, asked, read.text(), &ignores, found)
 }
 
 /// What is reported for files of a database, file by file.
@@ -44,7 +47,8 @@ pub(crate) fn database_reported<'r>(
     asked: &Asked<'_>,
     reads: &'r [FileRead<'_>],
 ) -> Result<Vec<Diagnostic<'r>>, AllocError>
-    ensures { IfOk result (λ reported. map shown reported.items ≡ flat_map (database_reported_by asked.now.lint asked.now.style asked.now.ignored) reads.now) }
+    ensures { IfOk result (λ reported. map shown reported.items
+        ≡ flat_map (database_reported_by asked.now) reads.now) }
 {
     let mut reported = Vec::new(alloc);
     for read in reads {

@@ -5,13 +5,16 @@ ghost use Rattle.engine_checks.specs.Files.{database_diagnostic, rule_diagnostic
 
 use crate::file_text::FileText;
 use engine_formats::{Diagnostic, Remark, placed_message};
-use file_messages::Message;
+use file_messages::{Message, MessageKind};
 use rule_places::PlacedFinding;
 use std::alloc::{AllocError, Global};
 use text_bytes::Bytes;
 
 /// A finding of a rules file as a diagnostic.
-fn rule_diagnostic<'r>(file: &'r FileText<'_>, finding: PlacedFinding) -> Diagnostic<'r>
+fn rule_diagnostic<'r>(
+    file: &'r FileText<'_>,
+    finding: PlacedFinding<MessageKind>,
+) -> Diagnostic<'r>
     ensures { shown result ≡ rule_diagnostic file.now finding }
 {
     Diagnostic {
@@ -31,7 +34,7 @@ fn rule_diagnostic<'r>(file: &'r FileText<'_>, finding: PlacedFinding) -> Diagno
 pub(crate) fn rule_diagnostics<'r>(
     alloc: Global,
     file: &'r FileText<'_>,
-    findings: Vec<PlacedFinding>,
+    findings: Vec<PlacedFinding<MessageKind>>,
 ) -> Result<Vec<Diagnostic<'r>>, AllocError>
     ensures { IfOk result (λ found. map shown found.items ≡ map (rule_diagnostic file.now) findings.items) }
 {

@@ -8,18 +8,23 @@ ghost use Rattle.std.specs.Prelude.{◌≡◌, ◌++◌, ◌+◌, ◌-◌, ◌�
 ghost use Rattle.std.specs.List.{slice_split};
 ghost use Rattle.text_bytes.specs.Lines.{numbered_lines};
 ghost use Rattle.text_bytes.specs.Names.{comma};
-ghost use Rattle.engine_checks.specs.Ignores.{asked_by, comment_of, ignore_at, ignores_among, ignores_at, ignores_in, ignores_of_line, texts_of};
+ghost use Rattle.engine_checks.specs.Ignores.{asked_by, comment_of, ignore_at, ignores_among, ignores_at, ignores_of_line, texts_of};
+ghost use Rattle.engine_checks.specs.Files.{ignores_counted};
+ghost use Rattle.rule_core.specs.Lines.{joined_lines};
 
-use crate::starts::{after_line, starts_of};
+use crate::asked::has_comments;
+use crate::reported::Asked;
+use crate::starts::{after_line, starts_beside, starts_of};
+use rule_core::JoinedLines;
 use std::alloc::{AllocError, Global};
 use std::marker::Model;
 use text_bytes::{
-    FileKind, Line, Lines, Profile, SourceFile, capped, following, split_once, trimmed, unindented,
+    FileKind, Line, Lines, SourceFile, capped, following, split_once, trimmed, unindented,
 };
 
 /// What a code in a comment is about.
 #[derive(Clone, Copy, Debug, PartialEq, Eq)]
-pub enum Scope {
+pub(crate) enum Scope {
     /// The whole file.
     File,
     /// The next rule, by the line in which it begins; none if no rule follows. In a database it is the next line
@@ -31,7 +36,7 @@ pub enum Scope {
 
 /// A code in a comment.
 #[derive(Debug, Drop)]
-pub struct Ignore<'a> {
+pub(crate) struct Ignore<'a> {
     /// The number of the comment's line, counted from 1; at most 2^32 - 1.
     pub line: u32,
     /// The byte of the line at which the code begins, counted from 1, up to the same number.
@@ -174,16 +179,40 @@ fn ignores_among<'a>(
     Ok(ignores)
 }
 
-/// The codes that comments in a file ask to ignore, in the order of their places.
+/// The codes that comments in a file ask to ignore, in the order of their places, if comments count.
 #[tactic(auto, unfolding(crate::specs::Ignores::ignores_in))]
-pub fn ignores_in(
+pub(crate) fn ignores_counted<'a>(
     alloc: Global,
-    profile: Profile,
-    file: &SourceFile,
-) -> Result<Vec<Ignore<'_>>, AllocError>
-    ensures { IfOk result (λ ignores. ignores.items ≡ ignores_in profile file.now) }
+    asked: &Asked<'_>,
+    file: &'a SourceFile,
+) -> Result<Vec<Ignore<'a>>, AllocError>
+    ensures { IfOk result (λ ignores. ignores.items ≡ ignores_counted asked.now file.now) }
 {
-    let bytes = file.bytes.as_slice();
-    let starts = starts_of(alloc, profile, file.kind, bytes)?;
-    ignores_among(alloc, file.kind, &starts, bytes)
+    if has_comments(&asked.ignored) {
+        let bytes = file.bytes.as_slice();
+        let starts = starts_of(alloc, asked.profile, file.kind, bytes)?;
+        ignores_among(alloc, file.kind, &starts, bytes)
+    } else {
+        Ok(Vec::new(alloc))
+    }
+}
+
+/// The same for a file whose joined lines these are.
+#[tactic(auto, unfolding(crate::specs::Ignores::ignores_in))]
+pub(crate) fn ignores_beside<'a>(
+    alloc: Global,
+    asked: &Asked<'_>,
+    file: &'a SourceFile,
+    joined: &JoinedLines<'_>,
+) -> Result<Vec<Ignore<'a>>, AllocError>
+    requires { joined.now ≡ joined_lines asked.now.profile file.now.bytes }
+    ensures { IfOk result (λ ignores. ignores.items ≡ ignores_counted asked.now file.now) }
+{
+    if has_comments(&asked.ignored) {
+        let bytes = file.bytes.as_slice();
+        let starts = starts_beside(alloc, file.kind, bytes, joined)?;
+        ignores_among(alloc, file.kind, &starts, bytes)
+    } else {
+        Ok(Vec::new(alloc))
+    }
 }

@@ -1,7 +1,7 @@
 //! Laws that show the definitions cited by the other contracts to be right.
 //!
 //! Each function has an empty body, and its contract is a law of the definitions.
-ghost use Rattle.std.specs.Prelude.{◌≡◌, ◌<◌, ◌^◌, ◌&&◌, ◌||◌, not, true, false, All, List, [], filter, length};
+ghost use Rattle.std.specs.Prelude.{◌≡◌, ◌<◌, ◌^◌, ◌&&◌, ◌||◌, not, false, All, List, [], filter, length};
 ghost use Rattle.text_bytes.specs.Lines.{lines};
 ghost use Rattle.text_bytes.specs.declared.profile.Profile.{Profile};
 ghost use Rattle.text_bytes.specs.declared.source_file.FileKind as kinds;

@@ -9,23 +9,25 @@
 #![tactic(auto)]
 
 mod asked;
-mod borrowed;
 mod by_line;
 mod checks;
 mod codes;
 mod comment_laws;
 mod comment_remarks;
+mod counted;
 mod database_reported;
 mod file_text;
 mod found;
 mod ignores;
 mod laws;
 mod line_codes;
+mod lines_found;
 mod lint_laws;
 mod lints;
 mod met;
 mod reads;
 mod reported;
+mod rules_found;
 mod rules_reported;
 mod silenced;
 mod starts;
@@ -36,7 +38,6 @@ pub use comment_laws::{
     codes_are_in_their_comments, comments_are_about_what_follows, comments_silence_or_are_reported,
     found_is_reported_or_silenced,
 };
-pub use ignores::{Ignore, Scope, ignores_in};
 pub use laws::{
     ignored_codes_alone_are_left_out, plain_checks_are_as_before, plain_updates_are_as_before,
 };

@@ -7,7 +7,7 @@ ghost use Rattle.text_tables.specs.Texts.{is_among};
 ghost use Rattle.engine_ends.specs.declared.line.Line.{Line};
 ghost use Rattle.engine_formats.specs.Remarks.{code_of};
 ghost use Rattle.engine_checks.specs.Codes.{has_comments};
-ghost use Rattle.engine_checks.specs.Files.{database_reported, ignored_by, ignores_counted, rules_found, rules_reported};
+ghost use Rattle.engine_checks.specs.Files.{asked_by, database_reported, ignored_by, ignores_counted, rules_found, rules_reported};
 ghost use Rattle.engine_checks.specs.Laws.{lints_among, lints_in, messages_among, messages_in};
 ghost use Rattle.engine_checks.specs.Reported.{is_about_style, is_reported, is_silenced};
 
@@ -17,7 +17,7 @@ pub fn lints_are_reported_where_asked()
     ensures asked { (line : Line) (file : SourceFile) → line.lint ≡ true
         → lints_among (rules_reported line file)
         ≡ filter (λ d. not (is_among (ignored_by line) (code_of d.remark))
-        && not (is_silenced (ignores_counted line.profile (ignored_by line) file) d)) (lints_in line file) }
+        && not (is_silenced (ignores_counted (asked_by line) file) d)) (lints_in line file) }
     ensures unasked { (line : Line) (file : SourceFile) → line.lint ≡ false → lints_among (rules_reported line file) ≡ [] }
     ensures database { (line : Line) (file : SourceFile) → lints_among (database_reported line file) ≡ [] }
 {}
@@ -27,7 +27,7 @@ pub fn lints_are_reported_where_asked()
 pub fn messages_are_reported_as_without_lints()
     ensures messages { (line : Line) (file : SourceFile)
         → messages_among (rules_reported line file)
-        ≡ filter (is_reported false line.style (ignored_by line) (ignores_counted line.profile (ignored_by line) file)) (messages_in line file) }
+        ≡ filter (is_reported (record (asked_by line) { lint = false }) (ignores_counted (asked_by line) file)) (messages_in line file) }
     ensures unasked { (line : Line) (file : SourceFile) → line.lint ≡ false → has_comments (ignored_by line) ≡ false
         → rules_reported line file
         ≡ filter (λ d. (line.style || not (is_about_style d.remark)) && not (is_among (ignored_by line) (code_of d.remark))) (messages_in line file) }

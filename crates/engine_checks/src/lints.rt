@@ -1,37 +1,41 @@
 //! The lints of a rules file, as diagnostics.
 ghost use Rattle.std.specs.Prelude.{◌≡◌, map, IfOk};
-ghost use Rattle.engine_checks.specs.Files.{lint_diagnostic, lints_counted};
+ghost use Rattle.engine_formats.specs.Diagnostics.{shown};
+ghost use Rattle.engine_checks.specs.Files.{lint_diagnostic};
+ghost use Rattle.engine_checks.specs.LinesFound.{read_lints};
 
 use crate::asked::has_comments;
-use crate::borrowed::Borrowed;
 use crate::file_text::FileText;
 use crate::reported::Asked;
-use engine_formats::Remark;
-use rule_file_lints::{PlacedLint, placed_lints};
+use engine_formats::{Diagnostic, Remark};
+use rule_core::LandedReading;
+use rule_file_lints::lints_of_lines;
+use rule_places::{KeptLines, PlacedFinding};
+use rule_types::Lint;
 use std::alloc::{AllocError, Global};
-use text_bytes::SourceFile;
 
-/// The lints of a rules file; none is looked for if none is asked for and comments, which may silence lints, don't
-/// count.
+/// The lints of the lines of a rules file; none is looked for if none is asked for and comments, which may silence
+/// lints, don't count.
 pub(crate) fn lints_counted(
     alloc: Global,
     asked: &Asked<'_>,
-    file: &SourceFile,
-) -> Result<Vec<PlacedLint>, AllocError>
-    ensures { IfOk result (λ lints. lints.items ≡ lints_counted asked.now.profile asked.now.lint asked.now.ignored file.now) }
+    kept: &KeptLines,
+    lines: &[LandedReading<'_>],
+) -> Result<Vec<PlacedFinding<Lint>>, AllocError>
+    ensures { IfOk result (λ lints. lints.items ≡ read_lints asked.now kept.now lines.now) }
 {
     if asked.lint || has_comments(&asked.ignored) {
-        placed_lints(alloc, asked.profile, file)
+        lints_of_lines(alloc, kept, lines)
     } else {
         Ok(Vec::new(alloc))
     }
 }
 
 /// A lint of a rules file as a diagnostic.
-fn lint_diagnostic<'r, 'w>(file: &'r FileText<'_>, lint: &'w PlacedLint) -> Borrowed<'r, 'w>
-    ensures { result ≡ lint_diagnostic file.now lint.now }
+fn lint_diagnostic<'r>(file: &'r FileText<'_>, lint: PlacedFinding<Lint>) -> Diagnostic<'r>
+    ensures { shown result ≡ lint_diagnostic file.now lint }
 {
-    Borrowed {
+    Diagnostic {
         name: file.name(),
         path: file.path(),
         source: file.line(lint.line),
@@ -39,18 +43,18 @@ fn lint_diagnostic<'r, 'w>(file: &'r FileText<'_>, lint: &'w PlacedLint) -> Borr
         line: lint.line,
         column: lint.column,
         end: lint.end,
-        remark: Remark::Lint(lint.lint),
-        word: lint.word.as_slice(),
+        remark: Remark::Lint(lint.kind),
+        word: lint.word,
     }
 }
 
 /// Lints of a rules file as diagnostics.
-pub(crate) fn lint_diagnostics<'r, 'w>(
+pub(crate) fn lint_diagnostics<'r>(
     alloc: Global,
     file: &'r FileText<'_>,
-    lints: &'w [PlacedLint],
-) -> Result<Vec<Borrowed<'r, 'w>>, AllocError>
-    ensures { IfOk result (λ found. found.items ≡ map (lint_diagnostic file.now) lints.now) }
+    lints: Vec<PlacedFinding<Lint>>,
+) -> Result<Vec<Diagnostic<'r>>, AllocError>
+    ensures { IfOk result (λ found. map shown found.items ≡ map (lint_diagnostic file.now) lints.items) }
 {
     let mut found = Vec::with_capacity(alloc, lints.len())?;
     for lint in lints {

@@ -3,18 +3,16 @@ ghost use Rattle.std.specs.Prelude.{◌≡◌, map, IfOk};
 ghost use Rattle.engine_checks.specs.Tables.{read_by};
 
 use crate::file_text::FileText;
-use crate::ignores::{Ignore, ignores_in};
 use engine_ends::Line;
 use std::alloc::{AllocError, Global};
 use std::marker::Model;
 use text_bytes::SourceFile;
 
-/// A file as diagnostics show it, with the codes in its comments.
+/// A file as diagnostics show it.
 #[derive(Drop)]
 pub(crate) struct FileRead<'a> {
     file: &'a SourceFile,
     text: FileText<'a>,
-    ignores: Vec<Ignore<'a>>,
 }
 
 impl<'a> Model for FileRead<'a> {
@@ -22,31 +20,10 @@ impl<'a> Model for FileRead<'a> {
 
     ghost Value = { tables.FileRead };
 
-    ghost view = { λ r. record { file = r.file.now; text = r.text; ignores = r.ignores.items } };
+    ghost view = { λ r. record { file = r.file.now; text = r.text } };
 }
 
 impl<'a> FileRead<'a> {
-    /// A file that a command line reads, with or without its comments.
-    fn of(
-        alloc: Global,
-        line: &Line<'_>,
-        comments: bool,
-        file: &'a SourceFile,
-    ) -> Result<FileRead<'a>, AllocError>
-        ensures { IfOk result (λ read. read ≡ read_by line.now comments file.now) }
-    {
-        let ignores = if comments {
-            ignores_in(alloc, line.profile, file)?
-        } else {
-            Vec::new(alloc)
-        };
-        Ok(FileRead {
-            file,
-            text: FileText::of(alloc, line, file)?,
-            ignores,
-        })
-    }
-
     /// The file.
     pub(crate) fn file(&self) -> &'a SourceFile
         ensures { result.now ≡ self.now.file }
@@ -60,27 +37,20 @@ impl<'a> FileRead<'a> {
     {
         &self.text
     }
-
-    /// The codes in its comments.
-    pub(crate) fn ignores(&self) -> &[Ignore<'a>]
-        ensures { result.now ≡ self.now.ignores }
-    {
-        &self.ignores
-    }
 }
 
-/// Files that a command line reads, with or without their comments.
+/// Files that a command line reads.
 pub(crate) fn read_files<'a>(
     alloc: Global,
     line: &Line<'_>,
-    comments: bool,
     files: &'a [SourceFile],
 ) -> Result<Vec<FileRead<'a>>, AllocError>
-    ensures { IfOk result (λ reads. reads.items ≡ map (read_by line.now comments) files.now) }
+    ensures { IfOk result (λ reads. reads.items ≡ map (read_by line.now) files.now) }
 {
     let mut reads = Vec::with_capacity(alloc, files.len())?;
     for file in files {
-        reads.push(FileRead::of(alloc, line, comments, file)?)?;
+        let text = FileText::of(alloc, line, file)?;
+        reads.push(FileRead { file, text })?;
     }
     Ok(reads)
 }

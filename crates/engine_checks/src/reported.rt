@@ -4,8 +4,7 @@ ghost use Rattle.engine_formats.specs.Diagnostics.{shown};
 ghost use Rattle.engine_checks.specs.Tables.{is_reported_by};
 ghost use Rattle.engine_checks.specs.Reported.{file_reported, is_about_style, is_asked, is_lint};
 
-use crate::borrowed::Borrowed;
-use crate::by_line::by_line;
+use crate::by_line::merged;
 use crate::comment_remarks::comment_remarks;
 use crate::file_text::FileText;
 use crate::ignores::Ignore;
@@ -15,6 +14,7 @@ use engine_formats::{Diagnostic, Remark};
 use engine_reports::is_style;
 use rule_pairs::Accounts;
 use std::alloc::{AllocError, Global};
+use std::marker::Model;
 use text_bytes::Profile;
 use text_tables::Texts;
 
@@ -31,6 +31,14 @@ pub(crate) struct Asked<'a> {
     pub(crate) lint: bool,
     /// The codes of those that are not reported.
     pub(crate) ignored: Texts<'a>,
+}
+
+impl<'a> Model for Asked<'a> {
+    ghost use Rattle.engine_checks.specs.Reported as reported;
+
+    ghost Value = { reported.Asked };
+
+    ghost view = { λ a. record { profile = a.profile; accounts = a.accounts; style = a.style; lint = a.lint; ignored = a.ignored } };
 }
 
 /// Whether a remark is a message about style.
@@ -55,7 +63,7 @@ fn is_lint(remark: Remark) -> bool
 
 /// Whether a remark is asked for.
 fn is_asked(asked: &Asked<'_>, remark: Remark) -> bool
-    ensures { result ≡ is_asked asked.now.lint asked.now.style asked.now.ignored remark }
+    ensures { result ≡ is_asked asked.now remark }
 {
     (!is_lint(remark) || asked.lint)
         && (asked.style || !is_about_style(remark))
@@ -64,7 +72,7 @@ fn is_asked(asked: &Asked<'_>, remark: Remark) -> bool
 
 /// Whether what was found is reported.
 fn is_reported(asked: &Asked<'_>, silenced: &Silenced<'_>, diagnostic: &Diagnostic<'_>) -> bool
-    ensures { result ≡ is_reported_by asked.now.lint asked.now.style asked.now.ignored silenced.now.in_file silenced.now.at_lines (shown diagnostic.now) }
+    ensures { result ≡ is_reported_by asked.now silenced.now.in_file silenced.now.at_lines (shown diagnostic.now) }
 {
     is_asked(asked, diagnostic.remark) && !silenced.has(diagnostic)
 }
@@ -76,20 +84,17 @@ fn keep_reported<'a>(
     mut found: Vec<Diagnostic<'a>>,
 ) -> Vec<Diagnostic<'a>>
     ensures { result.items ≡ filter (λ d.
-        is_reported_by asked.now.lint asked.now.style asked.now.ignored silenced.now.in_file silenced.now.at_lines (shown d)) found.entry.items }
+        is_reported_by asked.now silenced.now.in_file silenced.now.at_lines (shown d)) found.entry.items }
 {
     found.retain(|diagnostic| is_reported(asked, silenced, diagnostic));
     found
 }
 
 /// Those of remarks on comments that are asked for.
-fn keep_asked<'r, 'a>(
-    asked: &Asked<'_>,
-    mut remarks: Vec<Borrowed<'r, 'a>>,
-) -> Vec<Borrowed<'r, 'a>>
-    ensures { result.items ≡ filter (λ r. is_asked asked.now.lint asked.now.style asked.now.ignored r.remark) remarks.entry.items }
+fn keep_asked<'r>(asked: &Asked<'_>, mut remarks: Vec<Diagnostic<'r>>) -> Vec<Diagnostic<'r>>
+    ensures { result.items ≡ filter (λ r. is_asked asked.now r.remark) remarks.entry.items }
 {
-    remarks.retain(|remark| is_asked(asked, remark.remark()));
+    remarks.retain(|remark| is_asked(asked, remark.remark));
     remarks
 }
 
@@ -103,10 +108,10 @@ pub(crate) fn file_reported<'r>(
     found: Vec<Diagnostic<'r>>,
 ) -> Result<Vec<Diagnostic<'r>>, AllocError>
     ensures { IfOk result (λ reported. map shown reported.items
-        ≡ file_reported asked.now.lint asked.now.style asked.now.ignored file.now ignores.now (map shown found.entry.items)) }
+        ≡ file_reported asked.now file.now ignores.now (map shown found.entry.items)) }
 {
     let met = Met::of(alloc, &found)?;
     let remarks = keep_asked(asked, comment_remarks(alloc, file, &met, ignores)?);
     let silenced = Silenced::by(alloc, ignores)?;
-    by_line(alloc, keep_reported(asked, &silenced, found), &remarks)
+    merged(alloc, keep_reported(asked, &silenced, found), remarks)
 }

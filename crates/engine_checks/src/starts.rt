@@ -1,10 +1,12 @@
 //! The lines that a comment on the next rule can be about.
-ghost use Rattle.std.specs.Prelude.{◌≡◌, ◌≤◌, nat_le, length, map, IfOk};
+ghost use Rattle.std.specs.Prelude.{◌≡◌, ◌≤◌, ◌++◌, nat_le, length, map, option_to_list, IfOk};
 ghost use Rattle.std.specs.List.{prefix_len};
 ghost use Rattle.text_bytes.specs.Texts.{skip_while};
+ghost use Rattle.text_bytes.specs.declared.profile.Profile.{Profile};
+ghost use Rattle.rule_core.specs.Lines.{joined_lines};
 ghost use Rattle.engine_checks.specs.Ignores.{starts_of};
 
-use rule_core::{JoinedLine, joined_lines};
+use rule_core::{JoinedLine, JoinedLines, joined_lines};
 use std::alloc::{AllocError, Global};
 use text_bytes::{FileKind, Lines, Profile, begins_with, capped};
 
@@ -19,16 +21,33 @@ pub(crate) fn starts_of(
     ensures { IfOk result (λ starts. starts.items ≡ starts_of profile kind bytes.now) }
 {
     match kind {
-        FileKind::Rules => rule_starts(alloc, profile, bytes),
+        FileKind::Rules => {
+            let joined = joined_lines(alloc, profile, bytes)?;
+            joined_starts(alloc, &joined)
+        }
+        FileKind::Hwdb => plain_starts(alloc, bytes),
+    }
+}
+
+/// The same for a file whose joined lines these are.
+pub(crate) fn starts_beside(
+    alloc: Global,
+    kind: FileKind,
+    bytes: &[u8],
+    joined: &JoinedLines<'_>,
+) -> Result<Vec<u32>, AllocError>
+    ensures { IfOk result (λ starts. (profile : Profile) → joined.now ≡ joined_lines profile bytes.now → starts.items ≡ starts_of profile kind bytes.now) }
+{
+    match kind {
+        FileKind::Rules => joined_starts(alloc, joined),
         FileKind::Hwdb => plain_starts(alloc, bytes),
     }
 }
 
 /// The lines whose numbers rules have.
-fn rule_starts(alloc: Global, profile: Profile, bytes: &[u8]) -> Result<Vec<u32>, AllocError>
-    ensures { IfOk result (λ starts. starts.items ≡ starts_of profile FileKind.Rules bytes.now) }
+fn joined_starts(alloc: Global, joined: &JoinedLines<'_>) -> Result<Vec<u32>, AllocError>
+    ensures { IfOk result (λ starts. starts.items ≡ map (λ l. l.number) joined.now.lines ++ option_to_list joined.now.open_at) }
 {
-    let joined = joined_lines(alloc, profile, bytes)?;
     let mut starts = numbers_of(alloc, joined.lines())?;
     if let Some(open) = joined.open_at() {
         starts.push(open)?;

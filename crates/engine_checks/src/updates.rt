@@ -5,7 +5,7 @@ ghost use Rattle.engine_reports.specs.Reports.{IsSaid, said};
 ghost use Rattle.engine_checks.specs.Files.{database_reported};
 ghost use Rattle.engine_checks.specs.Outcomes.{database_checks, reported_update_outcome, updated_by};
 
-use crate::asked::{asked_by, has_comments};
+use crate::asked::asked_by;
 use crate::database_reported::database_reported;
 use crate::reads::read_files;
 use engine_ends::Line;
@@ -70,7 +70,7 @@ fn reported_for_database(
     ensures count { IfOk result (λ t. t.count ≡ length (flat_map (database_reported line.now) files.now)) }
 {
     let asked = asked_by(alloc, line)?;
-    let reads = read_files(alloc, line, has_comments(&asked.ignored), files)?;
+    let reads = read_files(alloc, line, files)?;
     let reported = database_reported(alloc, &asked, &reads)?;
     Ok(ReportedText {
         text: formatted(alloc, line.format, &reported)?,

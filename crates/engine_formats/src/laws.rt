@@ -86,7 +86,10 @@ pub fn marks_are_below_their_places()
 pub fn diagnostics_have_their_lines()
     ensures plain { (diagnostics : List DiagnosticValue) → All HasPlace diagnostics → length (lines (formatted Format.Plain diagnostics)) ≡ length diagnostics }
     ensures gcc { (diagnostics : List DiagnosticValue) → All HasPlace diagnostics → length (lines (formatted Format.Gcc diagnostics)) ≡ length diagnostics }
-    ensures github { (diagnostics : List DiagnosticValue) → All HasPlace diagnostics → length (lines (formatted Format.Github diagnostics)) ≡ length diagnostics }
-    ensures human { (diagnostics : List DiagnosticValue) → All HasPlace diagnostics → length (lines (formatted Format.Human diagnostics)) ≡ 4 * length diagnostics }
-    ensures in_color { (diagnostics : List DiagnosticValue) → All HasPlace diagnostics → length (lines (formatted Format.HumanInColor diagnostics)) ≡ 4 * length diagnostics }
+    ensures github { (diagnostics : List DiagnosticValue) → All HasPlace diagnostics
+        → length (lines (formatted Format.Github diagnostics)) ≡ length diagnostics }
+    ensures human { (diagnostics : List DiagnosticValue) → All HasPlace diagnostics
+        → length (lines (formatted Format.Human diagnostics)) ≡ 4 * length diagnostics }
+    ensures in_color { (diagnostics : List DiagnosticValue) → All HasPlace diagnostics
+        → length (lines (formatted Format.HumanInColor diagnostics)) ≡ 4 * length diagnostics }
 {}

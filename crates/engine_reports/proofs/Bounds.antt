@@ -1,12 +1,12 @@
 -- The tests of the bounds, and the bounds as the reading of files states them.
-use Rattle.std.proofs.Common.{◌≡◌, ℕ, ◌-◌, ◌^◌, ◌<◌, ◌≤◌, Bool, true, false, ◌&&◌, List, [], ◌++◌, Ok, Err, length, refl, ap, sym, ◌∙◌, append_assoc, append-nil, sum_by, subst, arith}
+use Rattle.std.proofs.Common.{◌≡◌, ℕ, ◌^◌, ◌<◌, ◌≤◌, false, List, [], ◌++◌, Ok, Err, refl, ap, sym, ◌∙◌, append_assoc, append-nil, subst, arith}
 use Rattle.std.proofs.lemmas.Bool.{leb-true, le-leb, false_from_ne_true}
 use Rattle.std.proofs.Math.Dec.{leb}
 use Rattle.text_bytes.specs.declared.source_file.SourceFile.{SourceFile}
 use Rattle.file_messages.specs.declared.message.Message.{Message}
 use Rattle.text_bytes.specs.declared.profile.Profile.{Profile}
 use Rattle.hwdb_lookup.specs.declared.entry.Entry.{Entry}
-use Rattle.hwdb_core.specs.Sources.{WithinBounds, are_few, entries_of, match_bytes_of, messages_of, properties_of, text_len}
+use Rattle.hwdb_core.specs.Sources.{WithinBounds, are_few, entries_of, messages_of}
 use Rattle.hwdb_core.specs.declared.fault.HwdbFault.{HwdbFault}
 use Rattle.hwdb_core.specs.declared.fault.HwdbFault.TheVariants as hwdb
 use Rattle.rule_types.specs.Rules.{tokens_in}

@@ -1,5 +1,5 @@
 -- What a run says: its outcome, as a function of the command line and of the files passed in.
-use Rattle.std.specs.Prelude.{ℕ, ◌^◌, Bool, ◌==◌, ◌&&◌, nat_le, not, if◌then◌else◌, List, [], ◌++◌, Option, Some, None, Result, Ok, Err, length, sum_by, codes}
+use Rattle.std.specs.Prelude.{ℕ, ◌^◌, Bool, ◌==◌, ◌&&◌, nat_le, not, if◌then◌else◌, List, [], ◌++◌, Option, Some, None, Result, Ok, Err, length, codes}
 use Rattle.text_bytes.specs.declared.source_file.SourceFile.{SourceFile}
 use Rattle.text_bytes.specs.declared.source_file.FileKind.TheVariants.{Hwdb, Rules}
 use Rattle.file_messages.specs.declared.message.Message.{Message}

@@ -11,9 +11,9 @@ use crate::refusal::Refusal;
 use crate::report::Report;
 use engine_ends::Line;
 use file_messages::{Message, MessageKind};
-use rule_core::{ReadRules, read_rules};
+use rule_core::rule_messages;
 use std::alloc::{AllocError, Global};
-use text_bytes::{FileKind, SourceFile};
+use text_bytes::{FileKind, Profile, SourceFile};
 
 /// The messages about rules files, and how many of the files are bad.
 ///
@@ -28,8 +28,8 @@ pub fn report_on_rules(
     ensures refused { IfErr result (λ e. IsSaid e (verify_outcome line.now files.items)) }
 {
     let files = files_read(alloc, FileKind::Rules, line, files)?;
-    let set = read_rules(alloc, &files)?;
-    let report = checked(alloc, line, &files, set)?;
+    let messages = rule_messages(alloc, Profile::Manual, &files)?;
+    let report = checked(alloc, line, &files, messages)?;
     Ok(report)
 }
 
@@ -38,12 +38,12 @@ fn checked(
     alloc: Global,
     line: &Line<'_>,
     files: &[SourceFile],
-    set: ReadRules,
+    messages: Vec<Message>,
 ) -> Result<Report, AllocError>
-    ensures said { IfOk result (λ r. said r ≡ said_of line.now.summary files.now (reported line.now.style set.messages)) }
+    ensures said { IfOk result (λ r. said r ≡ said_of line.now.summary files.now (reported line.now.style messages.items)) }
     ensures status { IfOk result (λ r. r.status < 3) }
 {
-    let messages = reported(line.style, set.into_messages());
+    let messages = reported(line.style, messages);
     let lines = message_lines(alloc, &messages)?;
     report_on_files(alloc, line.summary, files, &messages, lines)
 }

@@ -10,6 +10,7 @@ use Rattle.file_messages.specs.declared.message.MessageKind.TheVariants.{BadValu
 use Rattle.text_bytes.specs.declared.source_file.SourceFile.{SourceFile}
 use Rattle.text_bytes.specs.declared.profile.Profile.{Profile}
 use Rattle.text_bytes.specs.declared.profile.Profile.TheVariants.{Manual, Udev}
+use Rattle.file_messages.specs.declared.message.MessageKind.{MessageKind}
 use Rattle.rule_tokens.specs.Grammar.{Item, Placed}
 use Rattle.rule_core.specs.Lines.{NumberedLine, joined_lines}
 use Rattle.rule_types.specs.Names.{key_of}
@@ -240,7 +241,7 @@ part_fits profile t =
 
 -- ---- a rule
 
-abbrev WrittenFits : Result WrittenPart Spot → Type 0
+abbrev WrittenFits : Result WrittenPart (Spot MessageKind) → Type 0
 WrittenFits (Ok w) = PartFits w.part
 WrittenFits (Err wrong) = ⊤
 
@@ -252,11 +253,11 @@ item_fits : (profile : Profile) (line : List ℕ) (i : Item) → WrittenFits (pa
 item_fits profile line (Ok t) = written_fits t (part_of profile t) (part_fits profile t)
 item_fits profile line (Err fault) = tt
 
-abbrev PartsFit : Result (List WrittenPart) Spot → Type 0
+abbrev PartsFit : Result (List WrittenPart) (Spot MessageKind) → Type 0
 PartsFit (Ok parts) = Each PartFits (parts_in parts)
 PartsFit (Err wrong) = ⊤
 
-with_fits : (p : Result WrittenPart Spot) (rest : Result (List WrittenPart) Spot) → WrittenFits p → PartsFit rest → PartsFit (with_part p rest)
+with_fits : (p : Result WrittenPart (Spot MessageKind)) (rest : Result (List WrittenPart) (Spot MessageKind)) → WrittenFits p → PartsFit rest → PartsFit (with_part p rest)
 with_fits (Ok p) (Ok parts) a b = (a, b)
 with_fits (Ok p) (Err wrong) a b = tt
 with_fits (Err wrong) rest a b = tt
@@ -287,11 +288,11 @@ sorted_fit : (profile : Profile) (sets : List Assignment) → SetsFit sets → S
 sorted_fit profile sets h =
     each_flat_map (λ (a : Assignment). ChangeFits a.change) (of_turn (turn_of_assignment profile) sets) (λ t. each_filter (λ (a : Assignment). ChangeFits a.change) (λ x. turn_of_assignment profile x == t) sets h) (range_with_len 0 (assignment_turns profile))
 
-abbrev DraftFits : Result Draft Spot → Type 0
+abbrev DraftFits : Result Draft (Spot MessageKind) → Type 0
 DraftFits (Ok d) = Each PartFits (parts_in d.parts)
 DraftFits (Err wrong) = ⊤
 
-draft_with_fits : (profile : Profile) (line : List ℕ) (parts : Result (List WrittenPart) Spot) → PartsFit parts → DraftFits (draft_with profile line parts)
+draft_with_fits : (profile : Profile) (line : List ℕ) (parts : Result (List WrittenPart) (Spot MessageKind)) → PartsFit parts → DraftFits (draft_with profile line parts)
 draft_with_fits profile line (Ok parts) h = by (lacks_effect profile (tokens_in parts))
   where
     by : (b : Bool) → DraftFits (if b then Err (whole_spot RuleWithoutEffect line) else Ok (draft profile line parts))
@@ -311,7 +312,7 @@ draft_fits profile line = by (nat_lt (most_bytes profile) (length line))
 abbrev pub RulesFit : List Rule → Type 0
 RulesFit rules = Each (λ (r : Rule). SetsFit r.sets) rules
 
-line_fits : (profile : Profile) (name : List ℕ) (line : ℕ) (read : Result Draft Spot) (l : Landing) → DraftFits read → RulesFit (line_rules profile name line read l)
+line_fits : (profile : Profile) (name : List ℕ) (line : ℕ) (read : Result Draft (Spot MessageKind)) (l : Landing) → DraftFits read → RulesFit (line_rules profile name line read l)
 line_fits profile name line (Ok d) l h = (sorted_fit profile (filter_map assignment_in (parts_in d.parts)) (assignments_fit (parts_in d.parts) h), tt)
 line_fits profile name line (Err wrong) l h = tt
 

@@ -9,4 +9,5 @@ mod Adding
 mod Filing
 mod Passing
 mod Counting
+pub mod TokensCounted
 mod Cuts

@@ -4,9 +4,9 @@ use Rattle.std.proofs.lemmas.Bool.{eqb-true}
 use Rattle.text_bytes.specs.Names.{newline}
 use Rattle.rule_core.specs.Ends.{as_read, as_read_after, end_size}
 
-pub at_start : (read bytes : List ℕ) → read ≡ [] → read ++ as_read_after 0 bytes ≡ as_read bytes
+pub started : (read bytes : List ℕ) → read ≡ [] → read ++ as_read_after 0 bytes ≡ as_read bytes
 unfolding as_read
-at_start read bytes e = ap (λ (l : List ℕ). l ++ as_read_after 0 bytes) e
+started read bytes e = ap (λ (l : List ℕ). l ++ as_read_after 0 bytes) e
 
 -- a byte of an end that was met before
 pub passed_one : (read : List ℕ) (passed left b : ℕ) (rest following all : List ℕ) → read ++ as_read_after passed rest ≡ all → rest ≡ b ∷ following → 0 < passed → left ≡ passed - 1

@@ -1,5 +1,5 @@
 -- A stable sort by turns gives parts turn by turn.
-use Rattle.std.proofs.Common.{◌≡◌, ℕ, zero, suc, ◌+◌, ◌<◌, ◌≤◌, ◌==◌, ◌&&◌, Bool, true, false, not, cond, List, [], ◌∷◌, ◌++◌, length, filter, get_or, nat_lt, append-nil, refl, ap, sym, ◌∙◌, subst, arith, ◌⊎◌, inl, inr}
+use Rattle.std.proofs.Common.{◌≡◌, ℕ, zero, suc, ◌+◌, ◌<◌, ◌≤◌, ◌==◌, ◌&&◌, Bool, true, false, not, cond, List, [], ◌∷◌, ◌++◌, length, filter, get_or, nat_lt, append-nil, length-append, refl, ap, sym, ◌∙◌, subst, arith, ◌⊎◌, inl, inr}
 use Rattle.std.specs.List.{flat_map, range_with_len}
 use Rattle.std.specs.List.Sorted.{IsNonDecreasingBy, IsStableByKey, ties}
 use Rattle.std.specs.Ordering.{is_lt, nat_cmp}
@@ -58,6 +58,38 @@ module _ {X : Type 0} (turn : X → ℕ) where
   none_left : (u n : ℕ) → flat_map (of_turn turn []) (range_with_len u n) ≡ []
   none_left u zero = refl
   none_left u (suc n) = none_left (u + 1) n
+
+  -- one that has its turn among these is in one of them
+  one_in_turn : (x : X) (xs : List X) (u n : ℕ) → u ≤ turn x → turn x < u + n
+      → length (flat_map (of_turn turn (x ∷ xs)) (range_with_len u n)) ≡ 1 + length (flat_map (of_turn turn xs) (range_with_len u n))
+  one_in_turn x xs u zero h k = absurd (omega arith)
+  one_in_turn x xs u (suc n) h k = by (cases_lt u (turn x)) (one_in_turn x xs (u + 1) n)
+    where
+      later : List X → List X
+      later ys = flat_map (of_turn turn ys) (range_with_len (u + 1) n)
+
+      by : (u < turn x) ⊎ (turn x ≤ u) → (u + 1 ≤ turn x → turn x < u + 1 + n → length (later (x ∷ xs)) ≡ 1 + length (later xs))
+          → length (of_turn turn (x ∷ xs) u ++ later (x ∷ xs)) ≡ 1 + length (of_turn turn xs u ++ later xs)
+      by (inl g) more =
+          let rest = more (omega arith) (omega arith) in
+          let first = ap (λ ys. length ys) (of_other x xs u (is_other u (turn x) g)) in
+          let whole = length-append (of_turn turn (x ∷ xs) u) (later (x ∷ xs)) in
+          let fewer = length-append (of_turn turn xs u) (later xs) in
+          omega (arith, rest, first, whole, fewer)
+      by (inr g) more =
+          let first = ap (λ ys. length ys) (of_same x xs u (eq-eqb (turn x) u (omega arith))) in
+          let rest = ap (λ ys. length ys) (not_later x xs (u + 1) n (omega arith)) in
+          let whole = length-append (of_turn turn (x ∷ xs) u) (later (x ∷ xs)) in
+          let fewer = length-append (of_turn turn xs u) (later xs) in
+          omega (arith, rest, first, whole, fewer)
+
+  -- as many elements are listed turn by turn as there are
+  pub all_in_turn : (n : ℕ) → ((x : X) → turn x < n) → (xs : List X) → length (by_turn turn n xs) ≡ length xs
+  all_in_turn n below [] = ap (λ ys. length ys) (none_left 0 n)
+  all_in_turn n below (x ∷ xs) =
+      let one = one_in_turn x xs 0 n (omega arith) (let low = below x in omega (arith, low)) in
+      let others = all_in_turn n below xs in
+      omega (arith, one, others)
 
   -- elements whose turns rise are listed turn by turn
   in_turn_order : (u n : ℕ) (xs : List X) → RisesFrom turn u xs → AllBelow (u + n) xs → xs ≡ flat_map (of_turn turn xs) (range_with_len u n)

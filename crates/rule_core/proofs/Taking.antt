@@ -4,6 +4,7 @@ use Rattle.std.proofs.Math.Seq.{take-suc}
 use Rattle.std.specs.List.{filter_map}
 use Rattle.std.proofs.lemmas.List.{map-append}
 use Rattle.std.proofs.lemmas.List.Elements.{filter_map-append}
+use Rattle.file_messages.specs.declared.message.MessageKind.{MessageKind}
 use Rattle.rule_tokens.specs.Grammar.{Placed}
 use Rattle.rule_types.specs.declared.part.Part.{Part}
 use Rattle.rule_types.specs.declared.part.Part.TheVariants as part
@@ -27,12 +28,12 @@ none_after is xs x e = rw e at (filter_map-append is xs (x ∷ [])) ∙ append-n
 pub said_after : (by : Profile) (before parts : List WrittenPart) (w : WrittenPart) → given_again_after by before (parts ++ w ∷ []) ≡ given_again_after by before parts ++ again_in by (before ++ parts) w
 said_after by before [] w = append-nil (again_in by before w) ∙ ap (λ (ws : List WrittenPart). again_in by ws w) (sym (append-nil before))
 said_after by before (v ∷ parts) w =
-    ap (λ (fs : List Spot). again_in by before v ++ fs) (said_after by (before ++ v ∷ []) parts w)
+    ap (λ (fs : List (Spot MessageKind)). again_in by before v ++ fs) (said_after by (before ++ v ∷ []) parts w)
     ∙ sym (append_assoc (again_in by before v) (given_again_after by (before ++ v ∷ []) parts) (again_in by ((before ++ v ∷ []) ++ parts) w))
     ∙ ap (λ (ws : List WrittenPart). (again_in by before v ++ given_again_after by (before ++ v ∷ []) parts) ++ again_in by ws w) (append_assoc before (v ∷ []) parts)
 
 pub none_said : (by : Profile) (parts : List WrittenPart) (w : WrittenPart) → again_in by parts w ≡ [] → given_again_after by [] (parts ++ w ∷ []) ≡ given_again_after by [] parts
-none_said by parts w e = said_after by [] parts w ∙ ap (λ (fs : List Spot). given_again_after by [] parts ++ fs) e ∙ append-nil (given_again_after by [] parts)
+none_said by parts w e = said_after by [] parts w ∙ ap (λ (fs : List (Spot MessageKind)). given_again_after by [] parts ++ fs) e ∙ append-nil (given_again_after by [] parts)
 
 -- a name after others
 first_after : (names : List NamePlace) (name : NamePlace) → first (names ++ name ∷ []) ≡ first_given (first names) name
@@ -83,12 +84,12 @@ one_name_of by parts t (part.Label name) =
     let w : WrittenPart = token_of t (part.Label name) in
     same_names (names_given by (parts ++ w ∷ [])) (with_name by (names_given by parts) t (part.Label name))
     (ap (label_among by) (one_after label_at parts w (name_place t name) refl) ∙ label_after by (filter_map label_at parts) (name_place t name)) (ap first (none_after goto_at parts w refl))
-    (said_after by [] parts w ∙ ap (λ (fs : List Spot). given_again_after by [] parts ++ fs) (label_reported by (filter_map label_at parts) (name_place t name)))
+    (said_after by [] parts w ∙ ap (λ (fs : List (Spot MessageKind)). given_again_after by [] parts ++ fs) (label_reported by (filter_map label_at parts) (name_place t name)))
 one_name_of by parts t (part.Goto name) =
     let w : WrittenPart = token_of t (part.Goto name) in
     same_names (names_given by (parts ++ w ∷ [])) (with_name by (names_given by parts) t (part.Goto name))
     (ap (label_among by) (none_after label_at parts w refl)) (ap first (one_after goto_at parts w (name_place t name) refl) ∙ first_after (filter_map goto_at parts) (name_place t name))
-    (said_after by [] parts w ∙ ap (λ (fs : List Spot). given_again_after by [] parts ++ fs) (said_again (filter_map goto_at parts) (name_place t name)))
+    (said_after by [] parts w ∙ ap (λ (fs : List (Spot MessageKind)). given_again_after by [] parts ++ fs) (said_again (filter_map goto_at parts) (name_place t name)))
 
 pub one_more_name : (by : Profile) (parts : List WrittenPart) (w : WrittenPart) → names_given by (parts ++ w ∷ []) ≡ with_name by (names_given by parts) w.token w.part
 one_more_name by parts w = one_name_of by parts w.token w.part

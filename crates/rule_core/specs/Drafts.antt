@@ -1,10 +1,11 @@
 -- A joined line read as a rule, before its jumps are followed.
-use Rattle.std.specs.Prelude.{ℕ, nat_lt, if◌then◌else◌, List, [], ◌∷◌, ◌++◌, drop, filter_map, length, map, Option, Some, None, option_map, Result, Ok, Err}
+use Rattle.std.specs.Prelude.{ℕ, nat_lt, if◌then◌else◌, List, [], ◌∷◌, ◌++◌, filter_map, length, Option, Some, None, option_map, Result, Ok, Err}
 use Rattle.std.specs.List.{prefix_len}
 use Rattle.text_bytes.specs.Texts.{first, last}
 use Rattle.text_bytes.specs.declared.profile.Profile.{Profile}
 use Rattle.text_bytes.specs.declared.profile.Profile.TheVariants.{Manual, Udev}
 use Rattle.file_messages.specs.declared.message.MessageKind.TheVariants.{LineTooLong, GivenTwice, RuleWithoutEffect}
+use Rattle.file_messages.specs.declared.message.MessageKind.{MessageKind}
 use Rattle.rule_tokens.specs.Grammar.{Item, Placed, is_gap_byte}
 use Rattle.rule_tokens.specs.Lines.{items_from}
 use Rattle.rule_parts.specs.Parts.{part_of}
@@ -20,7 +21,7 @@ use Rattle.rule_core.specs.Effects.{lacks_effect}
 use Rattle.rule_core.specs.Spots.{part_spot, spot, token_spot, value_start, whole_spot}
 use Rattle.rule_core.specs.Style.{style_findings}
 use Rattle.rule_core.specs.Turns.{acts_by_turn, assignments_by_turn}
-use Rattle.rule_core.specs.Written.{WrittenPart, parts_in, tokens_in}
+use Rattle.rule_core.specs.Written.{WrittenPart, tokens_in}
 use Rattle.rule_core.specs.declared.names.NamePlace.{NamePlace}
 use Rattle.rule_core.specs.declared.spot.Spot.{Spot}
 
@@ -30,7 +31,7 @@ pub record Draft : Type 0 where
   pub label : Option NamePlace
   pub goto : Option NamePlace
   pub parts : List WrittenPart
-  pub findings : List Spot
+  pub findings : List (Spot MessageKind)
 
 -- the place in a line where its tokens begin: udev skips commas and blanks in front
 abbrev pub first_place : Profile → List ℕ → ℕ
@@ -42,23 +43,23 @@ abbrev pub items_as : Profile → List ℕ → List Item
 items_as by line = items_from (first_place by line) line
 
 -- a token with the part of a rule that it is, or the finding about it
-abbrev pub written_part : Placed → Result Part Finding → Result WrittenPart Spot
+abbrev pub written_part : Placed → Result Part Finding → Result WrittenPart (Spot MessageKind)
 written_part t (Ok p) = Ok (record { token = t; part = p })
 written_part t (Err found) = Err (part_spot found.kind t)
 
 -- an item of a line as a token of a rule
-abbrev pub part_of_item : Profile → List ℕ → Item → Result WrittenPart Spot
+abbrev pub part_of_item : Profile → List ℕ → Item → Result WrittenPart (Spot MessageKind)
 part_of_item by line (Ok t) = written_part t (part_of by t)
 part_of_item by line (Err fault) = Err (token_spot fault.kind fault.at line)
 
 -- a token before others; of what is wrong the first
-abbrev pub with_part : Result WrittenPart Spot → Result (List WrittenPart) Spot → Result (List WrittenPart) Spot
+abbrev pub with_part : Result WrittenPart (Spot MessageKind) → Result (List WrittenPart) (Spot MessageKind) → Result (List WrittenPart) (Spot MessageKind)
 with_part (Ok w) (Ok parts) = Ok (w ∷ parts)
 with_part (Ok w) (Err wrong) = Err wrong
 with_part (Err wrong) rest = Err wrong
 
 -- the tokens that are the items of a line, each with its part, or what is wrong with the first item that is none
-abbrev pub parts_of : Profile → List ℕ → List Item → Result (List WrittenPart) Spot
+abbrev pub parts_of : Profile → List ℕ → List Item → Result (List WrittenPart) (Spot MessageKind)
 parts_of by line [] = Ok []
 parts_of by line (i ∷ items) = with_part (part_of_item by line i) (parts_of by line items)
 
@@ -115,35 +116,35 @@ label_among Manual names = first names
 label_among Udev names = last names
 
 -- a name that does not count is reported at its value
-abbrev pub given_twice : NamePlace → Spot
+abbrev pub given_twice : NamePlace → Spot MessageKind
 given_twice n = spot GivenTwice n.name n.start n.size
 
 -- a name, after those that were given before it
-abbrev pub given_again : List NamePlace → NamePlace → List Spot
+abbrev pub given_again : List NamePlace → NamePlace → List (Spot MessageKind)
 given_again [] name = []
 given_again (other ∷ names) name = given_twice name ∷ []
 
 -- a name that is lost to a later one, if there is one
-abbrev pub lost_name : Option NamePlace → List Spot
+abbrev pub lost_name : Option NamePlace → List (Spot MessageKind)
 lost_name None = []
 lost_name (Some name) = given_twice name ∷ []
 
 -- a label, after those that were given before it: the one that does not count is reported
-abbrev pub label_again : Profile → List NamePlace → NamePlace → List Spot
+abbrev pub label_again : Profile → List NamePlace → NamePlace → List (Spot MessageKind)
 label_again Manual names name = given_again names name
 label_again Udev names name = lost_name (last names)
 
 -- a token that is this part, after others: a second label is one too many, and so is a second jump
-abbrev pub part_again : Profile → List WrittenPart → Placed → Part → List Spot
+abbrev pub part_again : Profile → List WrittenPart → Placed → Part → List (Spot MessageKind)
 part_again by before t (part.Label name) = label_again by (filter_map label_at before) (name_place t name)
 part_again by before t (part.Goto name) = given_again (filter_map goto_at before) (name_place t name)
 part_again by before t _ = []
 
-abbrev pub again_in : Profile → List WrittenPart → WrittenPart → List Spot
+abbrev pub again_in : Profile → List WrittenPart → WrittenPart → List (Spot MessageKind)
 again_in by before w = part_again by before w.token w.part
 
 -- the names that are given again among tokens after others, in written order
-abbrev pub given_again_after : Profile → List WrittenPart → List WrittenPart → List Spot
+abbrev pub given_again_after : Profile → List WrittenPart → List WrittenPart → List (Spot MessageKind)
 given_again_after by before [] = []
 given_again_after by before (w ∷ parts) = again_in by before w ++ given_again_after by (before ++ w ∷ []) parts
 
@@ -157,7 +158,7 @@ draft by line parts = record {
 }
 
 -- the draft of tokens that were read, or what is wrong with them: udev also drops a rule without effect
-abbrev pub draft_with : Profile → List ℕ → Result (List WrittenPart) Spot → Result Draft Spot
+abbrev pub draft_with : Profile → List ℕ → Result (List WrittenPart) (Spot MessageKind) → Result Draft (Spot MessageKind)
 draft_with by line (Ok parts) = if lacks_effect by (tokens_in parts) then Err (whole_spot RuleWithoutEffect line) else Ok (draft by line parts)
 draft_with by line (Err wrong) = Err wrong
 
@@ -167,5 +168,5 @@ most_bytes Manual = 16384
 most_bytes Udev = 16383
 
 -- a joined line read as a rule: its draft, or what is wrong with it, first its length
-unfoldable pub draft_of : Profile → List ℕ → Result Draft Spot
+unfoldable pub draft_of : Profile → List ℕ → Result Draft (Spot MessageKind)
 draft_of by line = if nat_lt (most_bytes by) (length line) then Err (whole_spot LineTooLong line) else draft_with by line (parts_of by line (items_as by line))

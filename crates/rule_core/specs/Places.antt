@@ -1,23 +1,24 @@
 -- Serves inner proofs only: the findings if a token ends before, and if none does.
 use Rattle.std.specs.Prelude.{ℕ, List, [], ◌∷◌, ⊤, drop, Option, Some, None}
 use Rattle.text_bytes.specs.declared.profile.Profile.{Profile}
+use Rattle.file_messages.specs.declared.message.MessageKind.{MessageKind}
 use Rattle.rule_tokens.specs.Grammar.{AllAre, Placed, is_gap_byte}
 use Rattle.file_messages.specs.declared.message.MessageKind.TheVariants.{CommaExpected}
 use Rattle.rule_core.specs.Style.{between, gap_findings, leading_findings, style_after, style_findings, whole_gap}
 use Rattle.rule_core.specs.declared.spot.Spot.{Spot}
 
 -- the gap before a token, from the place where the token before it ends, if there is one
-abbrev pub findings_before : Profile → List ℕ → Option ℕ → Placed → List Spot
+abbrev pub findings_before : Profile → List ℕ → Option ℕ → Placed → List (Spot MessageKind)
 findings_before by line None t = leading_findings by (between 0 t.span.start line)
 findings_before by line (Some place) t = gap_findings by (between place t.span.start line) t
 
 -- the gap at the end of a line, from the place where its last token ends, if there is one
-abbrev pub findings_at_end : List ℕ → Option ℕ → List Spot
+abbrev pub findings_at_end : List ℕ → Option ℕ → List (Spot MessageKind)
 findings_at_end line None = []
 findings_at_end line (Some place) = whole_gap CommaExpected place (drop place line)
 
 -- the tokens after the place where a token ends, or all of them
-abbrev pub findings_from : Profile → List ℕ → Option ℕ → List Placed → List Spot
+abbrev pub findings_from : Profile → List ℕ → Option ℕ → List Placed → List (Spot MessageKind)
 findings_from by line None tokens = style_findings by line tokens
 findings_from by line (Some place) tokens = style_after by line place tokens
 

@@ -27,7 +27,7 @@ pub record ReadRules : Type 0 where
 pub record Reading : Type 0 where
   pub line : ℕ
   pub text : List ℕ
-  pub read : Result Draft Spot
+  pub read : Result Draft (Spot MessageKind)
 
 -- a joined line, read as a rule
 abbrev pub reading_of : Profile → NumberedLine → Reading
@@ -42,7 +42,7 @@ abbrev pub name_of : Option NamePlace → Option (List ℕ)
 name_of given = option_map (λ n. n.name) given
 
 -- the names for jumps of a line; one that is not a rule has none
-abbrev pub names_of : Result Draft Spot → Names
+abbrev pub names_of : Result Draft (Spot MessageKind) → Names
 names_of (Ok d) = record { label = name_of d.label; goto = name_of d.goto }
 names_of (Err wrong) = record { label = None; goto = None }
 
@@ -51,19 +51,19 @@ abbrev pub landed : List Reading → List (Reading × Landing)
 landed readings = zip readings (landings (map (λ r. names_of r.read) readings))
 
 -- a name at its value, empty if there is none
-abbrev pub name_spot : MessageKind → Option NamePlace → Spot
+abbrev pub name_spot : MessageKind → Option NamePlace → Spot MessageKind
 name_spot kind None = spot kind [] 0 0
 name_spot kind (Some n) = spot kind n.name n.start n.size
 
 -- the findings about a rule: first about its jump, and about its label last
-abbrev pub findings_of : Draft → Landing → List Spot
+abbrev pub findings_of : Draft → Landing → List (Spot MessageKind)
 findings_of d l =
     (if l.lost then name_spot NoLaterLabel d.goto ∷ [] else [])
     ++ (d.findings
     ++ (if l.unused then name_spot LabelUnused d.label ∷ [] else []))
 
 -- the findings about a line
-abbrev pub line_findings : Result Draft Spot → Landing → List Spot
+abbrev pub line_findings : Result Draft (Spot MessageKind) → Landing → List (Spot MessageKind)
 line_findings (Ok d) l = findings_of d l
 line_findings (Err wrong) l = wrong ∷ []
 
@@ -72,11 +72,11 @@ abbrev pub message : List ℕ → ℕ → MessageKind → List ℕ → Message
 message name line kind text = record { file = name; line = line; kind = kind; word = word_of text }
 
 -- a finding about a line of a file, as a message: without its place
-abbrev pub message_at : List ℕ → ℕ → Spot → Message
+abbrev pub message_at : List ℕ → ℕ → Spot MessageKind → Message
 message_at name line found = message name line found.kind found.word
 
 -- the messages about a line
-abbrev pub line_messages : List ℕ → ℕ → Result Draft Spot → Landing → List Message
+abbrev pub line_messages : List ℕ → ℕ → Result Draft (Spot MessageKind) → Landing → List Message
 line_messages name line read l = map (message_at name line) (line_findings read l)
 
 -- a rule, its jump dropped if no later rule has the label
@@ -94,7 +94,7 @@ rule_at by name line d l = record {
 }
 
 -- the rule of a line, if it is one
-abbrev pub line_rules : Profile → List ℕ → ℕ → Result Draft Spot → Landing → List Rule
+abbrev pub line_rules : Profile → List ℕ → ℕ → Result Draft (Spot MessageKind) → Landing → List Rule
 line_rules by name line (Ok d) l = rule_at by name line d l ∷ []
 line_rules by name line (Err wrong) l = []
 

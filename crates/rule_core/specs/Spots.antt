@@ -1,4 +1,4 @@
--- Findings about parts of a joined line, with the places of these parts in it.
+-- What is reported about parts of a joined line, with the places of these parts in it.
 use Rattle.std.specs.Prelude.{ℕ, ◌+◌, ◌-◌, Bool, true, false, if◌then◌else◌, List, [], length, drop}
 use Rattle.file_messages.specs.declared.message.MessageKind.{MessageKind}
 use Rattle.file_messages.specs.declared.message.MessageKind.TheVariants.{BadSyntax, BadPrefix, UnknownKey, OperatorNotAllowed, WrongAttribute, ReservedProperty}
@@ -10,17 +10,20 @@ use Rattle.rule_parts.specs.Parts.{meaning_of}
 use Rattle.rule_core.specs.Letters.{start_before_quote}
 use Rattle.rule_core.specs.declared.spot.Spot.{Spot}
 
--- a finding about a part of a line, reported with a text: the place of its first byte, and how many bytes it
--- has
-abbrev pub spot : MessageKind → List ℕ → ℕ → ℕ → Spot
+-- what is reported about a part of a line, with a text: the place of its first byte, and how many bytes it has
+abbrev pub spot : {K : Type 0} → K → List ℕ → ℕ → ℕ → Spot K
 spot kind word start size = record { kind = kind; word = word; start = start; size = size }
 
--- the key of a token
-abbrev pub key_spot : MessageKind → Placed → Spot
-key_spot kind t = spot kind t.parts.head.key t.span.start (length t.parts.head.key)
+-- the key of a token, reported with a text
+abbrev pub spot_at_key : {K : Type 0} → K → List ℕ → Placed → Spot K
+spot_at_key kind word t = spot kind word t.span.start (length t.parts.head.key)
+
+-- the key of a token, reported with itself
+abbrev pub key_spot : MessageKind → Placed → Spot MessageKind
+key_spot kind t = spot_at_key kind t.parts.head.key t
 
 -- the attribute of a token between its braces: it follows the key and an open brace
-abbrev pub attribute_spot : MessageKind → Placed → Spot
+abbrev pub attribute_spot : MessageKind → Placed → Spot MessageKind
 attribute_spot kind t = spot kind (attribute_bytes t.parts.head.attribute) (t.span.start + length t.parts.head.key + 1) (length (attribute_bytes t.parts.head.attribute))
 
 -- the place of the first byte of a token's value: the quote after it is the token's last byte
@@ -28,7 +31,7 @@ abbrev pub value_start : Placed → ℕ
 value_start t = t.span.end - 1 - length t.parts.value
 
 -- the value of a token between its quotes, reported with a text
-abbrev pub value_spot : MessageKind → List ℕ → Placed → Spot
+abbrev pub value_spot : {K : Type 0} → K → List ℕ → Placed → Spot K
 value_spot kind word t = spot kind word (value_start t) (length t.parts.value)
 
 -- whether what is wrong with a token is its key, or that it has the attribute or the operator that it has
@@ -44,14 +47,14 @@ is_of_attribute ReservedProperty = true
 is_of_attribute _ = false
 
 -- a token that is not a part of a rule: its key, its attribute, or its value with what that means
-abbrev pub part_spot : MessageKind → Placed → Spot
+abbrev pub part_spot : MessageKind → Placed → Spot MessageKind
 part_spot kind t = if is_of_key kind then key_spot kind t else (if is_of_attribute kind then attribute_spot kind t else value_spot kind (meaning_of t) t)
 
 -- a part of a line, from a place on, that is not a token: all up to the line's end, or the letters before the quote
-abbrev pub token_spot : TokenFaultKind → ℕ → List ℕ → Spot
-token_spot Syntax at line = spot BadSyntax (drop at line) at (length (drop at line))
-token_spot Prefix at line = spot BadPrefix (letters_at (drop at line)) (start_before_quote line (drop at line) (letters_at (drop at line))) (length (letters_at (drop at line)))
+abbrev pub token_spot : TokenFaultKind → ℕ → List ℕ → Spot MessageKind
+token_spot Syntax at line = let text = drop at line in spot BadSyntax text at (length text)
+token_spot Prefix at line = let text = drop at line in spot BadPrefix (letters_at text) (start_before_quote line text (letters_at text)) (length (letters_at text))
 
 -- a line as a whole, reported with no text
-abbrev pub whole_spot : MessageKind → List ℕ → Spot
+abbrev pub whole_spot : MessageKind → List ℕ → Spot MessageKind
 whole_spot kind line = spot kind [] 0 (length line)

@@ -17,11 +17,11 @@ abbrev pub commas : List ℕ → ℕ
 commas gap = count_by (λ b. b == comma) gap
 
 -- a whole gap, which begins at a place, if it has a comma
-abbrev pub whole_gap : MessageKind → ℕ → List ℕ → List Spot
+abbrev pub whole_gap : MessageKind → ℕ → List ℕ → List (Spot MessageKind)
 whole_gap kind place gap = if commas gap == 0 then [] else spot kind [] place (length gap) ∷ []
 
 -- the commas of a gap before a token: that token's key
-abbrev pub comma_findings : List ℕ → Placed → List Spot
+abbrev pub comma_findings : List ℕ → Placed → List (Spot MessageKind)
 comma_findings gap t =
     (if commas gap == 1 then [] else key_spot CommaExpected t ∷ [])
     ++ (if ends_in comma gap then key_spot BlankExpected t ∷ [] else [])
@@ -32,12 +32,12 @@ has_blank_before_comma [] = false
 has_blank_before_comma (b ∷ gap) = is_blank b && not (commas gap == 0)
 
 -- a gap before a token: that token's key; udev also reports blanks before a comma
-abbrev pub gap_findings : Profile → List ℕ → Placed → List Spot
+abbrev pub gap_findings : Profile → List ℕ → Placed → List (Spot MessageKind)
 gap_findings Manual gap t = comma_findings gap t
 gap_findings Udev gap t = comma_findings gap t ++ (if has_blank_before_comma gap then key_spot BlankBeforeComma t ∷ [] else [])
 
 -- the gap before the first token, which only udev skips
-abbrev pub leading_findings : Profile → List ℕ → List Spot
+abbrev pub leading_findings : Profile → List ℕ → List (Spot MessageKind)
 leading_findings Manual gap = []
 leading_findings Udev gap = whole_gap LeadingComma 0 gap
 
@@ -47,7 +47,7 @@ read_as_assign_kind Manual = ReadAsAssign
 read_as_assign_kind Udev = AssignExpected
 
 -- a token's operator: its key
-abbrev pub operator_findings : Profile → Placed → List Spot
+abbrev pub operator_findings : Profile → Placed → List (Spot MessageKind)
 operator_findings by t = if is_read_as_assign t then key_spot (read_as_assign_kind by) t ∷ [] else []
 
 -- the bytes of a line from a place up to another
@@ -55,11 +55,11 @@ abbrev pub between : ℕ → ℕ → List ℕ → List ℕ
 between from to line = take (to - from) (drop from line)
 
 -- the gaps and tokens of a line after a place where a token ends; no token follows the last gap
-abbrev pub style_after : Profile → List ℕ → ℕ → List Placed → List Spot
+abbrev pub style_after : Profile → List ℕ → ℕ → List Placed → List (Spot MessageKind)
 style_after by line place [] = whole_gap CommaExpected place (drop place line)
 style_after by line place (t ∷ tokens) = gap_findings by (between place t.span.start line) t ++ (operator_findings by t ++ style_after by line t.span.end tokens)
 
 -- the gaps and tokens of a line, in the order of their places
-abbrev pub style_findings : Profile → List ℕ → List Placed → List Spot
+abbrev pub style_findings : Profile → List ℕ → List Placed → List (Spot MessageKind)
 style_findings by line [] = []
 style_findings by line (t ∷ tokens) = leading_findings by (between 0 t.span.start line) ++ (operator_findings by t ++ style_after by line t.span.end tokens)

@@ -3,6 +3,7 @@ use Rattle.std.specs.Prelude.{ℕ, List, [], ◌∷◌, ◌++◌, Option, Some, 
 use Rattle.text_bytes.specs.declared.profile.Profile.{Profile}
 use Rattle.text_bytes.specs.declared.profile.Profile.TheVariants.{Manual, Udev}
 use Rattle.text_bytes.specs.Texts.{first}
+use Rattle.file_messages.specs.declared.message.MessageKind.{MessageKind}
 use Rattle.rule_tokens.specs.Grammar.{Placed}
 use Rattle.rule_types.specs.Rules.{Rule}
 use Rattle.rule_types.specs.declared.part.Act.{Act}
@@ -21,7 +22,7 @@ use Rattle.rule_core.specs.declared.spot.Spot.{Spot}
 pub record RuleNames : Type 0 where
   pub label : Option NamePlace
   pub goto : Option NamePlace
-  pub findings : List Spot
+  pub findings : List (Spot MessageKind)
 
 -- the names that tokens give
 abbrev pub names_given : Profile → List WrittenPart → RuleNames
@@ -37,7 +38,7 @@ first_given (Some name) later = Some name
 first_given None name = Some name
 
 -- the findings about a name, by the one that was given before it
-abbrev pub again : Option NamePlace → NamePlace → List Spot
+abbrev pub again : Option NamePlace → NamePlace → List (Spot MessageKind)
 again None name = []
 again (Some name) later = given_twice later ∷ []
 
@@ -47,7 +48,7 @@ label_given Manual earlier name = first_given earlier name
 label_given Udev earlier name = Some name
 
 -- the findings about a label, by the one that counts of those before it
-abbrev pub label_said : Profile → Option NamePlace → NamePlace → List Spot
+abbrev pub label_said : Profile → Option NamePlace → NamePlace → List (Spot MessageKind)
 label_said Manual earlier name = again earlier name
 label_said Udev earlier name = lost_name earlier
 

@@ -3,6 +3,7 @@
 use crate::names::NamePlace;
 use crate::spot::Spot;
 use crate::written::WrittenPart;
+use file_messages::MessageKind;
 use std::marker::Model;
 
 /// A rule as its line alone gives it.
@@ -15,7 +16,7 @@ pub struct Draft<'a> {
     /// Its tokens with the parts that they are, in written order.
     pub parts: Vec<WrittenPart<'a>>,
     /// The findings about the rule, in the order of messages.
-    pub findings: Vec<Spot>,
+    pub findings: Vec<Spot<MessageKind>>,
 }
 
 impl<'a> Model for Draft<'a> {

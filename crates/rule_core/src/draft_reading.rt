@@ -44,7 +44,8 @@ pub(crate) fn read_draft(
 
 /// Reads a joined line that is not too long.
 fn read_short(alloc: Global, profile: Profile, line: &[u8]) -> Result<Draft<'_>, LineFault>
-    ensures { MatchResult result (λ d. draft_with profile line.now (parts_of profile line.now (items_as profile line.now)) ≡ Ok d) (λ f. FaultOf f (draft_with profile line.now (parts_of profile line.now (items_as profile line.now)))) }
+    ensures { MatchResult result (λ d. draft_with profile line.now (parts_of profile line.now (items_as profile line.now)) ≡ Ok d)
+        (λ f. FaultOf f (draft_with profile line.now (parts_of profile line.now (items_as profile line.now)))) }
 {
     match read_parts(alloc, profile, line) {
         Ok(parts) => draft_with(alloc, profile, line, parts),
@@ -59,7 +60,8 @@ fn draft_with<'a>(
     line: &'a [u8],
     parts: Vec<WrittenPart<'a>>,
 ) -> Result<Draft<'a>, LineFault>
-    ensures { MatchResult result (λ d. draft_with profile line.now (Ok parts.entry.items) ≡ Ok d) (λ f. FaultOf f (draft_with profile line.now (Ok parts.entry.items))) }
+    ensures { MatchResult result (λ d. draft_with profile line.now (Ok parts.entry.items) ≡ Ok d)
+        (λ f. FaultOf f (draft_with profile line.now (Ok parts.entry.items))) }
 {
     let lacks = lacks_effect(alloc, profile, &parts)?;
     if lacks {
@@ -86,7 +88,8 @@ fn read_parts(
     profile: Profile,
     line: &[u8],
 ) -> Result<Vec<WrittenPart<'_>>, LineFault>
-    ensures { MatchResult result (λ parts. parts_of profile line.now (items_as profile line.now) ≡ Ok parts.items) (λ f. FaultOf f (parts_of profile line.now (items_as profile line.now))) }
+    ensures { MatchResult result (λ parts. parts_of profile line.now (items_as profile line.now) ≡ Ok parts.items)
+        (λ f. FaultOf f (parts_of profile line.now (items_as profile line.now))) }
 {
     let mut parts = Vec::new(alloc);
     for item in line_tokens(profile, line) {
@@ -116,7 +119,8 @@ fn read_token<'a>(
     profile: Profile,
     token: Token<'a>,
 ) -> Result<WrittenPart<'a>, LineFault>
-    ensures { MatchResult result (λ w. written_part token.entry (part_of profile token.entry) ≡ Ok w) (λ f. FaultOf f (written_part token.entry (part_of profile token.entry))) }
+    ensures { MatchResult result (λ w. written_part token.entry (part_of profile token.entry) ≡ Ok w)
+        (λ f. FaultOf f (written_part token.entry (part_of profile token.entry))) }
 {
     match read_part(alloc, profile, &token) {
         Ok(part) => Ok(WrittenPart { token, part }),

@@ -5,14 +5,12 @@ ghost use Rattle.std.specs.Prelude.{◌≡◌, ◌∷◌, ◌-◌, ◌^◌, ◌�
 ghost use Rattle.rule_core.specs.Gathering.{Adds};
 ghost use Rattle.rule_types.specs.Rules.{name_count, rule_tokens, tokens_in};
 
+use crate::counts::MAX_TOKENS;
 use crate::fault::RulesFault;
 use rule_types::Rule;
 use std::alloc::Global;
 use std::marker::Model;
 use text_bytes::Bytes;
-
-/// How many tokens may be left in the rules.
-const MAX_TOKENS: usize = 1 << 24;
 
 /// Rules in order.
 #[derive(Debug, Drop)]

@@ -9,6 +9,8 @@
 //! Functions that allocate return `AllocError` when memory runs out.
 #![tactic(auto)]
 
+mod checking;
+mod counts;
 mod draft;
 mod draft_reading;
 mod effects;
@@ -34,11 +36,13 @@ mod text;
 mod turns;
 mod written;
 
+pub use checking::rule_messages;
+pub use counts::{MAX_TOKENS, token_count};
 pub use draft::Draft;
 pub use fault::RulesFault;
 pub use joined::{JoinedLine, JoinedLines};
 pub use joining::joined_lines;
-pub use line_ends::{abandoned_at, files_as_read, is_too_long, read_ends};
+pub use line_ends::{abandoned_at, files_as_read, is_too_long};
 pub use names::NamePlace;
 pub use read_set::ReadRules;
 pub use reading::{read_rules, read_rules_as};
@@ -50,6 +54,6 @@ pub use rule_types::{
     MatchOperator, PlainKey, PlainMatch, Rule, RuleOption, RuleSet, RunType, Target, UpKey,
     UpMatch,
 };
-pub use spot::{Spot, attribute_spot, key_spot, value_spot};
+pub use spot::{Spot, attribute_spot, key_spot, spot_at_key, value_spot};
 pub use sums::sum_of;
 pub use written::WrittenPart;

@@ -59,8 +59,8 @@ fn file_by_udev(alloc: Global, file: SourceFile) -> Result<SourceFile, AllocErro
 ///
 /// An end is a newline, a carriage return or both in either order, each perhaps with one NUL after it, or one NUL
 /// alone; of several that fit at a place, the longest counts. A file that was read in this way is left as it is.
-#[tactic(auto, using(crate::proofs::Passing::at_start, crate::proofs::Passing::passed_one, crate::proofs::Passing::byte_read, crate::proofs::Passing::all_read))]
-pub fn read_ends(alloc: Global, bytes: &[u8]) -> Result<Vec<u8>, AllocError>
+#[tactic(auto, using(crate::proofs::Passing::started, crate::proofs::Passing::passed_one, crate::proofs::Passing::byte_read, crate::proofs::Passing::all_read))]
+pub(crate) fn read_ends(alloc: Global, bytes: &[u8]) -> Result<Vec<u8>, AllocError>
     ensures { IfOk result (λ read. read.items ≡ as_read bytes.now) }
 {
     let mut read = Vec::with_capacity(alloc, bytes.len())?;

@@ -1,13 +1,14 @@
 //! Why a joined line is not a rule.
 
 use crate::spot::Spot;
+use file_messages::MessageKind;
 use std::alloc::{AllocError, AllocFailed};
 
 /// Why a joined line is not a rule.
 #[derive(Debug, Drop)]
 pub(crate) enum LineFault {
     /// 1: it is not one, for this reason.
-    Wrong(Spot),
+    Wrong(Spot<MessageKind>),
     /// 2: memory ran out.
     Memory,
 }

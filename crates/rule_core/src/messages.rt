@@ -24,7 +24,7 @@ pub(crate) fn report(
     alloc: Global,
     messages: &mut Vec<Message>,
     place: Place<'_>,
-    found: Spot,
+    found: Spot<MessageKind>,
 ) -> Result<(), AllocError>
     ensures { OnOk result (messages.new.items ≡ messages.old.items ++ message_at place.entry.file.now place.entry.line found ∷ []) }
 {
@@ -70,7 +70,7 @@ pub(crate) fn report_all(
     alloc: Global,
     messages: &mut Vec<Message>,
     place: Place<'_>,
-    findings: Vec<Spot>,
+    findings: Vec<Spot<MessageKind>>,
 ) -> Result<(), AllocError>
     ensures { OnOk result (messages.new.items ≡ messages.old.items ++ map (message_at place.entry.file.now place.entry.line) findings.items) }
 {
@@ -89,7 +89,8 @@ pub(crate) fn report_if(
     kind: MessageKind,
     name: &Option<NamePlace>,
 ) -> Result<(), AllocError>
-    ensures { OnOk result (messages.new.items ≡ messages.old.items ++ map (message_at place.entry.file.now place.entry.line) (if wrong then name_spot kind name.now ∷ [] else [])) }
+    ensures { OnOk result (messages.new.items ≡ messages.old.items
+        ++ map (message_at place.entry.file.now place.entry.line) (if wrong then name_spot kind name.now ∷ [] else [])) }
 {
     if wrong {
         report_name(alloc, messages, place, kind, name)?;

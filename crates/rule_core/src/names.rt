@@ -35,7 +35,7 @@ pub(crate) struct RuleNames {
     /// The name of its first GOTO.
     pub goto: Option<NamePlace>,
     /// The findings about the others.
-    pub findings: Vec<Spot>,
+    pub findings: Vec<Spot<MessageKind>>,
 }
 
 impl Model for RuleNames {
@@ -114,7 +114,7 @@ fn name_place(alloc: Global, token: &Token<'_>, name: &Bytes) -> Result<NamePlac
 fn give_label(
     profile: Profile,
     given: &mut Option<NamePlace>,
-    findings: &mut Vec<Spot>,
+    findings: &mut Vec<Spot<MessageKind>>,
     name: NamePlace,
 ) -> Result<(), AllocError>
     ensures given { OnOk result (given.new ≡ label_given profile given.old name) }
@@ -129,7 +129,7 @@ fn give_label(
 /// Sets a name, and reports the one that was given before, if there was one.
 fn give_last(
     given: &mut Option<NamePlace>,
-    findings: &mut Vec<Spot>,
+    findings: &mut Vec<Spot<MessageKind>>,
     name: NamePlace,
 ) -> Result<(), AllocError>
     ensures given { OnOk result (given.new ≡ Some name) }
@@ -144,7 +144,7 @@ fn give_last(
 /// Sets a name, or reports it if one was given before.
 fn give(
     given: &mut Option<NamePlace>,
-    findings: &mut Vec<Spot>,
+    findings: &mut Vec<Spot<MessageKind>>,
     name: NamePlace,
 ) -> Result<(), AllocError>
     ensures given { OnOk result (given.new ≡ first_given given.old name) }
@@ -158,7 +158,7 @@ fn give(
 }
 
 /// The finding about a name that does not count.
-fn given_twice(name: NamePlace) -> Spot
+fn given_twice(name: NamePlace) -> Spot<MessageKind>
     ensures { result ≡ given_twice name }
 {
     let NamePlace { name, start, size } = name;

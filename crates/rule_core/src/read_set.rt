@@ -43,12 +43,4 @@ impl ReadRules {
         let ReadRules { rules, messages: _ } = self;
         rules
     }
-
-    /// Returns the messages and drops the rules.
-    pub fn into_messages(self) -> Vec<Message>
-        ensures { result.items ≡ self.messages }
-    {
-        let ReadRules { rules: _, messages } = self;
-        messages
-    }
 }

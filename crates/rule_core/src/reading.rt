@@ -2,7 +2,8 @@
 ghost use Rattle.std.specs.Prelude.{◌≡◌, ◌∷◌, ◌++◌, ◌<◌, ◌≤◌, ◌^◌, [], if◌then◌else◌, None, IfOk, IfErr, OnOk, flat_map, map};
 ghost use Rattle.rule_core.specs.Gathering.{Adds};
 ghost use Rattle.rule_types.specs.Rules.{tokens_in};
-ghost use Rattle.rule_core.specs.Rules.{file_messages, file_rules, findings_of, line_messages, line_rules, message_at, messages_unless, name_of, rule_at, rules_unless, set_of, set_of_as};
+ghost use Rattle.rule_core.specs.Rules.{file_messages, file_rules, findings_of, line_messages, line_rules, message_at, messages_unless};
+ghost use Rattle.rule_core.specs.Rules.{name_of, rule_at, rules_unless, set_of, set_of_as};
 ghost use Rattle.rule_core.specs.Taking.{rule_with, sorted_kinds};
 ghost use Rattle.rule_core.specs.Written.{parts_in};
 ghost use Rattle.rule_core.specs.declared.fault.RulesFault.TheVariants.{TooMany};
@@ -169,7 +170,8 @@ fn add_draft(
     landing: Landing,
 ) -> Result<(), RulesFault>
     ensures rules { Adds rules.old rules.new (rule_at profile place.entry.file.now place.entry.line draft.entry landing ∷ []) result }
-    ensures messages { OnOk result (messages.new.items ≡ messages.old.items ++ map (message_at place.entry.file.now place.entry.line) (findings_of draft.entry landing)) }
+    ensures messages { OnOk result (messages.new.items ≡ messages.old.items
+        ++ map (message_at place.entry.file.now place.entry.line) (findings_of draft.entry landing)) }
 {
     let Draft {
         label,

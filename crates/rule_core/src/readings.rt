@@ -12,6 +12,7 @@ use crate::joined::JoinedLine;
 use crate::line_fault::LineFault;
 use crate::names::NamePlace;
 use crate::spot::Spot;
+use file_messages::MessageKind;
 use rule_jumps::{Jump, Landing, landings};
 use std::alloc::{AllocError, Global};
 use std::marker::Model;
@@ -25,7 +26,7 @@ pub struct Reading<'a> {
     /// The joined bytes.
     pub text: &'a [u8],
     /// The rule as its line alone gives it, or what is wrong with it.
-    pub read: Result<Draft<'a>, Spot>,
+    pub read: Result<Draft<'a>, Spot<MessageKind>>,
 }
 
 impl<'a> Model for Reading<'a> {
@@ -131,7 +132,7 @@ fn landings_of(alloc: Global, readings: &[Reading<'_>]) -> Result<Vec<Landing>, 
 }
 
 /// The names for jumps of a line; one that is not a rule has none.
-fn jump_of<'r>(read: &'r Result<Draft<'_>, Spot>) -> Jump<'r>
+fn jump_of<'r>(read: &'r Result<Draft<'_>, Spot<MessageKind>>) -> Jump<'r>
     ensures { result ≡ names_of read.now }
 {
     match read {

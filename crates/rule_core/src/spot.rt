@@ -1,7 +1,7 @@
-//! Findings about parts of a joined line.
+//! What is reported about parts of a joined line.
 ghost use Rattle.std.specs.Prelude.{◌≡◌, IfOk, length, drop};
 ghost use Rattle.rule_tokens.specs.Grammar.{attribute_bytes};
-ghost use Rattle.rule_core.specs.Spots.{attribute_spot, key_spot, part_spot, token_spot, value_spot, whole_spot};
+ghost use Rattle.rule_core.specs.Spots.{attribute_spot, key_spot, part_spot, spot_at_key, token_spot, value_spot, whole_spot};
 
 use crate::letters::letters_start;
 use crate::places::following;
@@ -11,11 +11,11 @@ use rule_tokens::{Token, TokenFault, TokenFaultKind, letters_before_quote, unquo
 use std::alloc::{AllocError, Global};
 use text_bytes::Bytes;
 
-/// A finding about a part of a joined line.
+/// What is reported about a part of a joined line: a finding, or a lint.
 #[derive(Debug, Drop)]
-pub struct Spot {
-    /// What is found.
-    pub kind: MessageKind,
+pub struct Spot<K> {
+    /// What is reported.
+    pub kind: K,
     /// The whole text that it is about.
     pub word: Bytes,
     /// The place of the part's first byte, in bytes from the line's start.
@@ -24,17 +24,28 @@ pub struct Spot {
     pub size: usize,
 }
 
-/// A finding about a token's key.
-pub fn key_spot(alloc: Global, kind: MessageKind, token: &Token<'_>) -> Result<Spot, AllocError>
+/// A token's key, reported with this text.
+pub fn spot_at_key<K>(kind: K, word: Bytes, token: &Token<'_>) -> Spot<K>
+    ensures { result ≡ spot_at_key kind word token.now }
+{
+    Spot {
+        kind,
+        word,
+        start: token.span().start,
+        size: token.key().len(),
+    }
+}
+
+/// A finding about a token's key, reported with the key.
+pub fn key_spot(
+    alloc: Global,
+    kind: MessageKind,
+    token: &Token<'_>,
+) -> Result<Spot<MessageKind>, AllocError>
     ensures { IfOk result (λ found. found ≡ key_spot kind token.now) }
 {
-    let key = token.key();
-    Ok(Spot {
-        kind,
-        word: Bytes::copy_of(alloc, key)?,
-        start: token.span().start,
-        size: key.len(),
-    })
+    let key = Bytes::copy_of(alloc, token.key())?;
+    Ok(spot_at_key(kind, key, token))
 }
 
 /// A finding about a token's attribute between its braces. Fails if memory runs out, or if the place of
@@ -43,7 +54,7 @@ pub fn attribute_spot(
     alloc: Global,
     kind: MessageKind,
     token: &Token<'_>,
-) -> Result<Spot, AllocError>
+) -> Result<Spot<MessageKind>, AllocError>
     ensures { IfOk result (λ found. found ≡ attribute_spot kind token.now) }
 {
     let attribute = attribute_bytes(token);
@@ -66,8 +77,8 @@ fn attribute_bytes<'a>(token: &Token<'a>) -> &'a [u8]
     }
 }
 
-/// A finding about a token's value between its quotes, reported with this text.
-pub fn value_spot(kind: MessageKind, word: Bytes, token: &Token<'_>) -> Spot
+/// A token's value between its quotes, reported with this text.
+pub fn value_spot<K>(kind: K, word: Bytes, token: &Token<'_>) -> Spot<K>
     ensures { result ≡ value_spot kind word token.now }
 {
     let size = token.value().len();
@@ -85,7 +96,7 @@ pub(crate) fn part_spot(
     alloc: Global,
     kind: MessageKind,
     token: &Token<'_>,
-) -> Result<Spot, AllocError>
+) -> Result<Spot<MessageKind>, AllocError>
     ensures { IfOk result (λ found. found ≡ part_spot kind token.now) }
 {
     match kind {
@@ -101,7 +112,11 @@ pub(crate) fn part_spot(
 
 /// The finding about the part of a line, given from its first byte on, that is not a token: about all up to
 /// the line's end, or about the letters before the quote.
-pub(crate) fn token_spot(alloc: Global, fault: TokenFault, line: &[u8]) -> Result<Spot, AllocError>
+pub(crate) fn token_spot(
+    alloc: Global,
+    fault: TokenFault,
+    line: &[u8],
+) -> Result<Spot<MessageKind>, AllocError>
     ensures { IfOk result (λ found. found ≡ token_spot fault.kind fault.at line.now) }
 {
     let text = following(fault.at, line);
@@ -125,7 +140,7 @@ pub(crate) fn token_spot(alloc: Global, fault: TokenFault, line: &[u8]) -> Resul
 }
 
 /// A finding about a line as a whole, reported with no text.
-pub(crate) fn whole_spot(alloc: Global, kind: MessageKind, line: &[u8]) -> Spot
+pub(crate) fn whole_spot(alloc: Global, kind: MessageKind, line: &[u8]) -> Spot<MessageKind>
     ensures { result ≡ whole_spot kind line.now }
 {
     Spot {

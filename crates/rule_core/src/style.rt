@@ -3,7 +3,8 @@
 //! None of this keeps a line from being a rule, so it is looked at only if no token has a fault.
 ghost use Rattle.std.specs.Prelude.{◌≡◌, ◌++◌, OnOk};
 ghost use Rattle.rule_core.specs.Places.{findings_at_end, findings_before};
-ghost use Rattle.rule_core.specs.Style.{comma_findings, commas, gap_findings, has_blank_before_comma, leading_findings, operator_findings, read_as_assign_kind, style_findings, whole_gap};
+ghost use Rattle.rule_core.specs.Style.{comma_findings, commas, gap_findings, has_blank_before_comma, leading_findings};
+ghost use Rattle.rule_core.specs.Style.{operator_findings, read_as_assign_kind, style_findings, whole_gap};
 ghost use Rattle.rule_core.specs.Written.{tokens_in};
 
 use crate::places::{between, following};
@@ -19,7 +20,7 @@ use text_bytes::{Bytes, Profile, ends_in};
 pub(crate) fn add_style(
     alloc: Global,
     profile: Profile,
-    findings: &mut Vec<Spot>,
+    findings: &mut Vec<Spot<MessageKind>>,
     line: &[u8],
     parts: &[WrittenPart<'_>],
 ) -> Result<(), AllocError>
@@ -38,12 +39,13 @@ pub(crate) fn add_style(
 fn add_token(
     alloc: Global,
     profile: Profile,
-    findings: &mut Vec<Spot>,
+    findings: &mut Vec<Spot<MessageKind>>,
     line: &[u8],
     place: Option<usize>,
     token: &Token<'_>,
 ) -> Result<(), AllocError>
-    ensures { OnOk result (findings.new.items ≡ findings.old.items ++ (findings_before profile line.now place token.now ++ operator_findings profile token.now)) }
+    ensures { OnOk result (findings.new.items ≡ findings.old.items
+        ++ (findings_before profile line.now place token.now ++ operator_findings profile token.now)) }
 {
     match place {
         None => {
@@ -62,7 +64,7 @@ fn add_token(
 fn add_leading(
     alloc: Global,
     profile: Profile,
-    findings: &mut Vec<Spot>,
+    findings: &mut Vec<Spot<MessageKind>>,
     gap: &[u8],
 ) -> Result<(), AllocError>
     ensures { OnOk result (findings.new.items ≡ findings.old.items ++ leading_findings profile gap.now) }
@@ -77,7 +79,7 @@ fn add_leading(
 fn add_gap(
     alloc: Global,
     profile: Profile,
-    findings: &mut Vec<Spot>,
+    findings: &mut Vec<Spot<MessageKind>>,
     gap: &[u8],
     token: &Token<'_>,
 ) -> Result<(), AllocError>
@@ -98,7 +100,7 @@ fn add_gap(
 /// Adds the findings about the commas of the gap before a token.
 fn add_commas(
     alloc: Global,
-    findings: &mut Vec<Spot>,
+    findings: &mut Vec<Spot<MessageKind>>,
     gap: &[u8],
     token: &Token<'_>,
 ) -> Result<(), AllocError>
@@ -117,7 +119,7 @@ fn add_commas(
 fn add_operator(
     alloc: Global,
     profile: Profile,
-    findings: &mut Vec<Spot>,
+    findings: &mut Vec<Spot<MessageKind>>,
     token: &Token<'_>,
 ) -> Result<(), AllocError>
     ensures { OnOk result (findings.new.items ≡ findings.old.items ++ operator_findings profile token.now) }
@@ -131,7 +133,7 @@ fn add_operator(
 /// Adds the findings about the gap after the last token, which begins at a place.
 fn add_end(
     alloc: Global,
-    findings: &mut Vec<Spot>,
+    findings: &mut Vec<Spot<MessageKind>>,
     line: &[u8],
     place: Option<usize>,
 ) -> Result<(), AllocError>
@@ -153,7 +155,7 @@ fn add_end(
 fn add_whole_gap(
     alloc: Global,
     kind: MessageKind,
-    findings: &mut Vec<Spot>,
+    findings: &mut Vec<Spot<MessageKind>>,
     place: usize,
     gap: &[u8],
 ) -> Result<(), AllocError>

@@ -1,26 +1,27 @@
 -- Laws of the lints of a file.
-use Rattle.std.proofs.Common.{◌≡◌, ℕ, Bool, true, false, cond, not, ◌||◌, ◌&&◌, nat_lt, List, [], ◌∷◌, ◌++◌, length, map, reverse, Option, Some, None, is_ok, is_some, Result, Ok, Err, refl, ap, sym, ◌∙◌}
+use Rattle.std.proofs.Common.{◌≡◌, ℕ, Bool, true, false, cond, not, ◌||◌, ◌&&◌, List, [], ◌∷◌, ◌++◌, map, reverse, Option, Some, None, refl, ap, sym, ◌∙◌}
 use Rattle.std.specs.List.{list_any}
-use Rattle.std.proofs.lemmas.List.{reverse-append}
+use Rattle.std.proofs.lemmas.List.{map-append, reverse-append}
 use Rattle.std.proofs.lemmas.List.Folds.{list_any-append}
 use Rattle.std.proofs.lemmas.Grind.{flat_map-append}
 use Rattle.text_bytes.specs.declared.profile.Profile.{Profile}
 use Rattle.text_bytes.specs.declared.source_file.SourceFile.{SourceFile}
 use Rattle.text_tables.specs.Texts.{Text, is_among, same_text}
+use Rattle.rule_types.specs.declared.lint.Lint.{Lint}
 use Rattle.rule_core.specs.Rules.{name_of}
 use Rattle.rule_core.specs.Ends.{abandoned}
 use Rattle.rule_places.specs.Kept.{kept_lines}
+use Rattle.rule_places.specs.Placed.{placed}
 use Rattle.rule_places.specs.declared.kept.KeptLine.{KeptLine}
 use Rattle.rule_file_lints.specs.Compared.{Valued, assigned_value, meant_spots, meant_to_compare}
-use Rattle.rule_file_lints.specs.FileLaws.{ImportsFurtherDown, IsImportedBelow, NoneAfterMatches, NoneUncompared, ReachedAfterLostJumps, ReachedAfterMatches, ReachedByLabels, reported_for, reported_in}
-use Rattle.rule_file_lints.specs.FileLints.{file_spots, lints_of, placed_lint, placed_lints}
+use Rattle.rule_file_lints.specs.FileLaws.{ImportsFurtherDown, IsImportedBelow, NoneAfterMatches, NoneUncompared, ReachedAfterLostJumps, ReachedAfterMatches, ReachedByLabels, lints_without_places, without_place}
+use Rattle.rule_file_lints.specs.FileLints.{lints_below, lints_of, placed_lints, spots_of}
 use Rattle.rule_file_lints.specs.FileRules.{FileRule, file_rules, rules_unless}
 use Rattle.rule_file_lints.specs.Imported.{any_property, assigned_in, below_spots, families, given_by, given_names, has_family, has_property, imported_by, imported_in, imported_names, is_given, is_of, perhaps_in, wanted_in}
 use Rattle.rule_file_lints.specs.Matches.{is_match, may_end_at}
 use Rattle.rule_file_lints.specs.Reached.{is_labelled, jumps_above, jumps_to, may_go_on, never_reached}
 use Rattle.rule_core.specs.Written.{WrittenPart}
-use Rattle.rule_file_lints.specs.declared.file_lints.FileSpot.{FileSpot}
-use Rattle.rule_lints.specs.declared.spot.LintSpot.{LintSpot}
+use Rattle.rule_core.specs.declared.spot.Spot.{Spot}
 
 -- tests
 or_by : (a b c : Bool) → (a ≡ true → c ≡ true) → (b ≡ true → c ≡ true) → (a || b) ≡ true → c ≡ true
@@ -148,18 +149,18 @@ imported_here above r below name h e =
     (property_within (imported_names (reverse above)) (given_names above) (above_given above) name) e
     (property_by (imported_names (reverse above)) (imported_names (r ∷ below)) name (ap (λ n. has_property n name) (sym cut) ∙ h))
 
-both_hold : (a b : Bool) (x reported : LintSpot) → cond (a && not b) (x ∷ []) [] ≡ reported ∷ [] → (a ≡ true) × (b ≡ false) × (x ≡ reported)
+both_hold : (a b : Bool) (x reported : Spot Lint) → cond (a && not b) (x ∷ []) [] ≡ reported ∷ [] → (a ≡ true) × (b ≡ false) × (x ≡ reported)
 both_hold true false x reported e = (refl, refl, cc)
 both_hold true true x reported e = absurd (cc)
 both_hold false b x reported e = absurd (cc)
 
-wanted_here : (above : List FileRule) (r : FileRule) (below : List FileRule) (w : WrittenPart) (wanted : Option Text) (reported : LintSpot)
+wanted_here : (above : List FileRule) (r : FileRule) (below : List FileRule) (w : WrittenPart) (wanted : Option Text) (reported : Spot Lint)
     → below_spots (imported_names (reverse above ++ r ∷ below)) (given_names above) w wanted ≡ reported ∷ [] → IsImportedBelow above r below reported.word
 wanted_here above r below w None reported e = absurd (cc)
 wanted_here above r below w (Some name) reported e =
     let k = both_hold (has_property (imported_names (reverse above ++ r ∷ below)) name) (is_given (given_names above) name) _ reported e in
     let none = or_neither (is_among (given_names above) any_property) (has_property (given_names above) name) k.1 in
-    let word : name ≡ reported.word = ap (λ (s : LintSpot). s.word) k.2 in
+    let word : name ≡ reported.word = ap (λ (s : Spot Lint). s.word) k.2 in
     record {
       here = ap (λ (n : Text). has_property (imported_names (r ∷ below)) n) (sym word) ∙ imported_here above r below name k.0 none;
       before = ap (λ (n : Text). is_given (given_names above) n) (sym word) ∙ k.1;
@@ -200,13 +201,20 @@ labelled (Some name) r h = rw h refl
 pub by_labels : ReachedByLabels
 by_labels above r h = labelled (jumps_above above) r h
 
-reported_same : (kept : List KeptLine) (spots : List FileSpot) → map reported_in (map (placed_lint kept) spots) ≡ map reported_for spots
-reported_same kept [] = refl
-reported_same kept (s ∷ spots) = ap (λ x. reported_for s ∷ x) (reported_same kept spots)
+places_left_out : (kept : List KeptLine) (number start : ℕ) (spots : List (Spot Lint)) → map without_place (map (placed kept number start) spots) ≡ map (λ s. (s.kind, s.word)) spots
+places_left_out kept number start [] = refl
+places_left_out kept number start (s ∷ spots) = ap (λ (xs : List (Lint × Text)). (s.kind, s.word) ∷ xs) (places_left_out kept number start spots)
 
-pub lints_of_rules : (by : Profile) (file : SourceFile) → map reported_in (placed_lints by file) ≡ map reported_for (file_spots (file_rules by file.bytes))
+lints_of_rules_below : (kept : List KeptLine) (all above rules : List FileRule) → map without_place (lints_below kept all above rules) ≡ lints_without_places all above rules
+lints_of_rules_below kept all above [] = refl
+lints_of_rules_below kept all above (r ∷ rules) =
+    map-append without_place (map (placed kept r.number r.start) (spots_of all above r)) (lints_below kept all (r ∷ above) rules)
+    ∙ ap (λ (xs : List (Lint × Text)). xs ++ map without_place (lints_below kept all (r ∷ above) rules)) (places_left_out kept r.number r.start (spots_of all above r))
+    ∙ ap (λ (xs : List (Lint × Text)). map (λ s. (s.kind, s.word)) (spots_of all above r) ++ xs) (lints_of_rules_below kept all (r ∷ above) rules)
+
+pub lints_of_rules : (by : Profile) (file : SourceFile) → map without_place (placed_lints by file) ≡ lints_without_places (file_rules by file.bytes) [] (file_rules by file.bytes)
 unfolding placed_lints
-lints_of_rules by file = reported_same (kept_lines file.bytes) (file_spots (file_rules by file.bytes))
+lints_of_rules by file = lints_of_rules_below (kept_lines file.bytes) (file_rules by file.bytes) [] (file_rules by file.bytes)
 
 pub none_abandoned : (by : Profile) (file : SourceFile) (number : ℕ) → abandoned by file.bytes ≡ Some number → placed_lints by file ≡ []
 unfolding placed_lints

@@ -1,4 +1,3 @@
 pub mod Meaning
 pub mod Passing
-pub mod Filing
 pub mod FileLemmas

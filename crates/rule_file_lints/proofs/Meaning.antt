@@ -5,11 +5,12 @@ use Rattle.std.proofs.Math.Seq.{drop-cons}
 use Rattle.std.proofs.lemmas.Bool.{lt-ltb}
 use Rattle.std.proofs.lemmas.List.Sums.{sum_by-cons}
 use Rattle.text_tables.specs.Texts.{Text}
+use Rattle.rule_types.specs.declared.lint.Lint.{Lint}
 use Rattle.rule_file_lints.specs.Compared.{assigned_value, meant_spots, meant_to_compare}
 use Rattle.rule_file_lints.specs.Matches.{is_match}
 use Rattle.rule_file_lints.specs.Steps.{before_matches, left_after}
 use Rattle.rule_core.specs.Written.{WrittenPart}
-use Rattle.rule_lints.specs.declared.spot.LintSpot.{LintSpot}
+use Rattle.rule_core.specs.declared.spot.Spot.{Spot}
 
 -- how many matches tokens have
 abbrev pub matches_in : List WrittenPart → ℕ
@@ -35,11 +36,11 @@ left_is w tokens n e = by (is_match w.part) (e ∙ matches_cons w tokens)
     by false h = omega (arith, h)
 
 -- the lints so far and those of the tokens to come are all, and so many matches are to come
-pub record MeantDown (compared : List Text) (start spots : List LintSpot) (tokens : List WrittenPart) (matches i : ℕ) : Type 0 where
+pub record MeantDown (compared : List Text) (start spots : List (Spot Lint)) (tokens : List WrittenPart) (matches i : ℕ) : Type 0 where
   pub so_far : spots ++ meant_to_compare compared (drop i tokens) ≡ start ++ meant_to_compare compared tokens
   pub left : matches ≡ matches_in (drop i tokens)
 
-pub meant_past : (compared : List Text) (start spots more : List LintSpot) (tokens : List WrittenPart) (matches next i : ℕ) (w : WrittenPart)
+pub meant_past : (compared : List Text) (start spots more : List (Spot Lint)) (tokens : List WrittenPart) (matches next i : ℕ) (w : WrittenPart)
     → MeantDown compared start spots tokens matches i → i < length tokens → w ≡ get_or tokens i w
     → next ≡ left_after matches w → more ≡ spots ++ before_matches next compared w
     → MeantDown compared start more tokens next (i + 1)

@@ -7,7 +7,7 @@ use Rattle.std.proofs.lemmas.List.Folds.{list_any-append}
 use Rattle.text_tables.specs.Texts.{Text, is_among, same_text, with_text, with_texts}
 use Rattle.text_tables.proofs.Found.{among_added}
 use Rattle.rule_file_lints.specs.Compared.{compared_texts, meant_spots, meant_to_compare, assigned_value, text_of, Valued}
-use Rattle.rule_file_lints.specs.FileLints.{file_spot, file_spots, spots_below, spots_by, spots_of}
+use Rattle.rule_file_lints.specs.FileLints.{lints_below, lints_of, spots_by, spots_of}
 use Rattle.rule_file_lints.specs.FileRules.{FileRule}
 use Rattle.rule_file_lints.specs.Imported.{any_property, below_spots, families, given_by, given_names, has_property, imported_below, imported_names, is_of, wanted_in}
 use Rattle.rule_file_lints.specs.Matches.{is_match}
@@ -15,7 +15,11 @@ use Rattle.rule_file_lints.specs.Reached.{jumps_above, never_reached}
 use Rattle.rule_lints.specs.RuleLints.{lints_of_rule}
 use Rattle.rule_file_lints.specs.Steps.{FileNames, RulesAbove, nothing_above, with_rule}
 use Rattle.rule_core.specs.Written.{WrittenPart}
-use Rattle.rule_file_lints.specs.declared.file_lints.FileSpot.{FileSpot}
+use Rattle.rule_core.specs.declared.spot.Spot.{Spot}
+use Rattle.rule_types.specs.declared.lint.Lint.{Lint}
+use Rattle.rule_places.specs.Placed.{placed}
+use Rattle.rule_places.specs.declared.kept.KeptLine.{KeptLine}
+use Rattle.rule_places.specs.declared.placed_finding.PlacedFinding.{PlacedFinding}
 
 -- the same texts are among two lists
 abbrev pub SameTexts : List Text → List Text → Type 0
@@ -88,16 +92,16 @@ spots_same imported compared given all_imported all_compared before jump above r
     ∙ ap (λ x. lints_of_rule r.draft.parts ++ (flat_map (imported_below all_imported before) r.draft.parts ++ (meant_to_compare all_compared r.draft.parts ++ never_reached x r))) j
 
 -- going down: what the rules above leave is known, and the lints so far and those of the rules below are all
-pub record Descends (above : RulesAbove) (spots : List FileSpot) (rules : List FileRule) (i : ℕ) : Type 0 where
+pub record Descends (kept : List KeptLine) (above : RulesAbove) (spots : List (PlacedFinding Lint)) (rules : List FileRule) (i : ℕ) : Type 0 where
   pub given : SameTexts above.given (given_names (reverse (take i rules)))
   pub jump : above.jump ≡ jumps_above (reverse (take i rules))
-  pub so_far : spots ++ spots_below rules (reverse (take i rules)) (drop i rules) ≡ file_spots rules
+  pub so_far : spots ++ lints_below kept rules (reverse (take i rules)) (drop i rules) ≡ lints_of kept rules
 
-pub down_start : (above : RulesAbove) (spots : List FileSpot) (rules : List FileRule) → above ≡ nothing_above → spots ≡ [] → Descends above spots rules 0
-down_start above spots rules e f = record {
+pub down_start : (kept : List KeptLine) (above : RulesAbove) (spots : List (PlacedFinding Lint)) (rules : List FileRule) → above ≡ nothing_above → spots ≡ [] → Descends kept above spots rules 0
+down_start kept above spots rules e f = record {
   given = λ name. ap (λ (a : RulesAbove). is_among a.given name) e;
   jump = ap (λ (a : RulesAbove). a.jump) e;
-  so_far = ap (λ x. x ++ file_spots rules) f;
+  so_far = ap (λ x. x ++ lints_of kept rules) f;
 }
 
 -- a rule comes before those after it
@@ -113,11 +117,11 @@ given_more given above r same name =
     ∙ reversed_or (is_among (given_names above) name) (is_among (given_by r.draft.parts) name)
     ∙ sym (list_any-append (same_text name) (given_by r.draft.parts) (given_names above))
 
-pub down_past : (above next : RulesAbove) (spots more : List FileSpot) (names : FileNames) (rules : List FileRule) (i : ℕ) (r : FileRule) → Descends above spots rules i
+pub down_past : (kept : List KeptLine) (above next : RulesAbove) (spots more : List (PlacedFinding Lint)) (found : List (Spot Lint)) (names : FileNames) (rules : List FileRule) (i : ℕ) (r : FileRule) → Descends kept above spots rules i
     → i < length rules → r ≡ get_or rules i r → names.imported ≡ with_texts [] (imported_names rules) → names.compared ≡ with_texts [] (compared_texts rules)
-    → more ≡ spots ++ map (file_spot r) (spots_by names.imported names.compared above.given above.jump r) → next ≡ with_rule above r
-    → Descends next more rules (i + 1)
-down_past above next spots more names rules i r before h e imported compared m n =
+    → found ≡ spots_by names.imported names.compared above.given above.jump r → more ≡ spots ++ map (placed kept r.number r.start) found → next ≡ with_rule above r
+    → Descends kept next more rules (i + 1)
+down_past kept above next spots more found names rules i r before h e imported compared f m n =
     let past : List FileRule = reverse (take i rules) in
     let reversed : reverse (take (i + 1) rules) ≡ r ∷ past = ap reverse (take_more rules i r h ∙ ap (λ x. take i rules ++ x ∷ []) (sym e)) ∙ reverse-append (take i rules) (r ∷ []) in
     let own : spots_by names.imported names.compared above.given above.jump r ≡ spots_of rules past r =
@@ -129,11 +133,11 @@ down_past above next spots more names rules i r before h e imported compared m n
       given = λ name. ap (λ (a : RulesAbove). is_among a.given name) n ∙ given_more above.given past r before.given name ∙ ap (λ rs. is_among (given_names rs) name) (sym reversed);
       jump = ap (λ (a : RulesAbove). a.jump) n ∙ ap jumps_above (sym reversed);
       so_far =
-          ap (λ x. x ++ spots_below rules (reverse (take (i + 1) rules)) (drop (i + 1) rules)) m
-          ∙ ap (λ rs. (spots ++ map (file_spot r) (spots_by names.imported names.compared above.given above.jump r)) ++ spots_below rules rs (drop (i + 1) rules)) reversed
-          ∙ append_assoc spots (map (file_spot r) (spots_by names.imported names.compared above.given above.jump r)) (spots_below rules (r ∷ past) (drop (i + 1) rules))
-          ∙ ap (λ x. spots ++ (map (file_spot r) x ++ spots_below rules (r ∷ past) (drop (i + 1) rules))) own
-          ∙ ap (λ rs. spots ++ spots_below rules past rs) (sym (rule_item rules i r h e))
+          ap (λ x. x ++ lints_below kept rules (reverse (take (i + 1) rules)) (drop (i + 1) rules)) (m ∙ ap (λ (x : List (Spot Lint)). spots ++ map (placed kept r.number r.start) x) f)
+          ∙ ap (λ rs. (spots ++ map (placed kept r.number r.start) (spots_by names.imported names.compared above.given above.jump r)) ++ lints_below kept rules rs (drop (i + 1) rules)) reversed
+          ∙ append_assoc spots (map (placed kept r.number r.start) (spots_by names.imported names.compared above.given above.jump r)) (lints_below kept rules (r ∷ past) (drop (i + 1) rules))
+          ∙ ap (λ x. spots ++ (map (placed kept r.number r.start) x ++ lints_below kept rules (r ∷ past) (drop (i + 1) rules))) own
+          ∙ ap (λ rs. spots ++ lints_below kept rules past rs) (sym (rule_item rules i r h e))
           ∙ before.so_far;
     }
 
@@ -142,7 +146,7 @@ none_left : (rules : List FileRule) → length rules ≡ 0 → rules ≡ []
 none_left [] e = refl
 none_left (r ∷ rules) e = absurd (omega arith)
 
-pub down_end : (above : RulesAbove) (spots : List FileSpot) (rules : List FileRule) (i : ℕ) → Descends above spots rules i → length rules ≤ i → spots ≡ file_spots rules
-down_end above spots rules i before h =
+pub down_end : (kept : List KeptLine) (above : RulesAbove) (spots : List (PlacedFinding Lint)) (rules : List FileRule) (i : ℕ) → Descends kept above spots rules i → length rules ≤ i → spots ≡ lints_of kept rules
+down_end kept above spots rules i before h =
     let none : drop i rules ≡ [] = none_left (drop i rules) (length-drop i rules ∙ omega arith) in
-    sym (append-nil spots) ∙ ap (λ rs. spots ++ spots_below rules (reverse (take i rules)) rs) (sym none) ∙ before.so_far
+    sym (append-nil spots) ∙ ap (λ rs. spots ++ lints_below kept rules (reverse (take i rules)) rs) (sym none) ∙ before.so_far

@@ -3,6 +3,7 @@ use Rattle.std.specs.Prelude.{if◌then◌else◌, List, [], ◌∷◌, ◌++◌
 use Rattle.std.specs.List.{list_any}
 use Rattle.text_bytes.specs.Names.{open_brace, close_brace}
 use Rattle.text_tables.specs.Texts.{Text, is_among}
+use Rattle.rule_types.specs.declared.lint.Lint.{Lint}
 use Rattle.rule_types.specs.Names.{key_name}
 use Rattle.rule_types.specs.declared.keys.Key.{Key}
 use Rattle.rule_types.specs.declared.keys.Key.TheVariants as key
@@ -19,9 +20,9 @@ use Rattle.rule_types.specs.declared.roles.Target.{Target}
 use Rattle.rule_types.specs.declared.roles.Target.TheVariants as target
 use Rattle.rule_file_lints.specs.FileRules.{FileRule}
 use Rattle.rule_file_lints.specs.Matches.{by_equal, is_match}
-use Rattle.rule_lints.specs.Spots.{key_spot}
 use Rattle.rule_core.specs.Written.{WrittenPart}
-use Rattle.rule_lints.specs.declared.spot.LintSpot.{LintSpot}
+use Rattle.rule_core.specs.Spots.{spot_at_key}
+use Rattle.rule_core.specs.declared.spot.Spot.{Spot}
 
 -- a property or an attribute with a value: its key, its name, and the value
 pub record Valued : Type 0 where
@@ -78,12 +79,12 @@ abbrev pub compared_texts : List FileRule → List Text
 compared_texts rules = flat_map (λ r. compared_by r.draft.parts) rules
 
 -- an assignment, if what it gives is compared
-abbrev pub meant_spots : List Text → WrittenPart → Option Valued → List LintSpot
+abbrev pub meant_spots : List Text → WrittenPart → Option Valued → List (Spot Lint)
 meant_spots compared w None = []
-meant_spots compared w (Some v) = if is_among compared (text_of v) then key_spot MeantToCompare v.name w.token ∷ [] else []
+meant_spots compared w (Some v) = if is_among compared (text_of v) then spot_at_key MeantToCompare v.name w.token ∷ [] else []
 
 -- the assignments among tokens that a match follows, if what they give is compared
-abbrev pub meant_to_compare : List Text → List WrittenPart → List LintSpot
+abbrev pub meant_to_compare : List Text → List WrittenPart → List (Spot Lint)
 meant_to_compare compared [] = []
 meant_to_compare compared (w ∷ tokens) =
     (if list_any (λ x. is_match x.part) tokens then meant_spots compared w (assigned_value w.part) else [])

@@ -1,17 +1,17 @@
 -- What is true of the lints of a file.
-use Rattle.std.specs.Prelude.{◌≡◌, true, false, List, [], ◌∷◌, ◌++◌, reverse}
+use Rattle.std.specs.Prelude.{◌≡◌, true, false, List, [], ◌∷◌, ◌++◌, map, reverse}
 use Rattle.std.specs.List.{list_any}
 use Rattle.text_tables.specs.Texts.{Text}
 use Rattle.rule_types.specs.declared.lint.Lint.{Lint}
 use Rattle.rule_file_lints.specs.Compared.{meant_to_compare}
+use Rattle.rule_file_lints.specs.FileLints.{spots_of}
 use Rattle.rule_file_lints.specs.FileRules.{FileRule}
 use Rattle.rule_file_lints.specs.Imported.{given_names, has_property, imported_below, is_given, imported_names}
 use Rattle.rule_file_lints.specs.Matches.{is_match, may_end_at}
 use Rattle.rule_file_lints.specs.Reached.{is_labelled, jumps_above, never_reached}
 use Rattle.rule_core.specs.Written.{WrittenPart}
-use Rattle.rule_file_lints.specs.declared.file_lints.FileSpot.{FileSpot}
-use Rattle.rule_file_lints.specs.declared.placed_lint.PlacedLint.{PlacedLint}
-use Rattle.rule_lints.specs.declared.spot.LintSpot.{LintSpot}
+use Rattle.rule_places.specs.declared.placed_finding.PlacedFinding.{PlacedFinding}
+use Rattle.rule_core.specs.declared.spot.Spot.{Spot}
 
 -- if a match is reported in a rule below others, the nearest first, its property is imported by this rule or further
 -- down, and neither given nor perhaps given by one of the others
@@ -21,7 +21,7 @@ pub record IsImportedBelow (above : List FileRule) (r : FileRule) (below : List 
 
 abbrev pub ImportsFurtherDown : Type 0
 ImportsFurtherDown =
-    (above : List FileRule) (r : FileRule) (below : List FileRule) (w : WrittenPart) (reported : LintSpot)
+    (above : List FileRule) (r : FileRule) (below : List FileRule) (w : WrittenPart) (reported : Spot Lint)
     → imported_below (imported_names (reverse above ++ r ∷ below)) (given_names above) w ≡ reported ∷ [] → IsImportedBelow above r below reported.word
 
 -- assignments after the last match of a rule are not reported
@@ -50,9 +50,11 @@ ReachedAfterLostJumps = (nearest : FileRule) (farther : List FileRule) (r : File
 abbrev pub ReachedByLabels : Type 0
 ReachedByLabels = (above : List FileRule) (r : FileRule) → is_labelled r ≡ true → never_reached (jumps_above above) r ≡ []
 
--- what is reported, without its place
-abbrev pub reported_in : PlacedLint → Lint × Text
-reported_in p = (p.lint, p.word)
+-- a lint without its place
+abbrev pub without_place : PlacedFinding Lint → Lint × Text
+without_place p = (p.kind, p.word)
 
-abbrev pub reported_for : FileSpot → Lint × Text
-reported_for s = (s.spot.lint, s.spot.word)
+-- the lints of rules among all of a file, given those above them, from the nearest on, without their places
+abbrev pub lints_without_places : List FileRule → List FileRule → List FileRule → List (Lint × Text)
+lints_without_places all above [] = []
+lints_without_places all above (r ∷ below) = map (λ s. (s.kind, s.word)) (spots_of all above r) ++ lints_without_places all (r ∷ above) below

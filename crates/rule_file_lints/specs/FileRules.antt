@@ -1,6 +1,7 @@
 -- The rules of a file: its lines that were read as rules.
 use Rattle.std.specs.Prelude.{ℕ, ◌+◌, List, [], ◌∷◌, length, map, Option, Some, None, Result, Ok, Err}
 use Rattle.text_bytes.specs.declared.profile.Profile.{Profile}
+use Rattle.file_messages.specs.declared.message.MessageKind.{MessageKind}
 use Rattle.rule_jumps.specs.declared.jumps.Landing.{Landing}
 use Rattle.rule_core.specs.Drafts.{Draft}
 use Rattle.rule_core.specs.Ends.{abandoned}
@@ -17,7 +18,7 @@ pub record FileRule : Type 0 where
   pub landing : Landing
 
 -- a line with a number after so many bytes of others, if it was read as a rule, before the rules that follow
-abbrev pub rule_before : ℕ → ℕ → Result Draft Spot → Landing → List FileRule → List FileRule
+abbrev pub rule_before : ℕ → ℕ → Result Draft (Spot MessageKind) → Landing → List FileRule → List FileRule
 rule_before number start (Ok d) landing rules = record { number = number; start = start; draft = d; landing = landing } ∷ rules
 rule_before number start (Err wrong) landing rules = rules
 

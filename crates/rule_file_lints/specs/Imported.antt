@@ -6,6 +6,7 @@ use Rattle.text_bytes.specs.Names.{bar, open_bracket, question_mark, star}
 use Rattle.text_core.specs.Choices.{choice_fits}
 use Rattle.text_core.specs.declared.item.Item.{Item}
 use Rattle.text_tables.specs.Texts.{Text, is_among, same_text}
+use Rattle.rule_types.specs.declared.lint.Lint.{Lint}
 use Rattle.rule_types.specs.declared.lint.Lint.TheVariants.{ImportedBelow}
 use Rattle.rule_types.specs.declared.part.Change.{Change}
 use Rattle.rule_types.specs.declared.part.Change.TheVariants as change
@@ -22,9 +23,9 @@ use Rattle.rule_types.specs.declared.roles.Target.TheVariants as target
 use Rattle.rule_lints.specs.Commands.{first_word}
 use Rattle.rule_file_lints.specs.FileRules.{FileRule}
 use Rattle.rule_file_lints.specs.Matches.{by_equal}
-use Rattle.rule_lints.specs.Spots.{key_spot}
 use Rattle.rule_core.specs.Written.{WrittenPart}
-use Rattle.rule_lints.specs.declared.spot.LintSpot.{LintSpot}
+use Rattle.rule_core.specs.Spots.{spot_at_key}
+use Rattle.rule_core.specs.declared.spot.Spot.{Spot}
 
 -- builtins, each with a family of properties that it imports: a family is written as what its names begin with, and
 -- then a `*`
@@ -149,10 +150,10 @@ wanted_in (part.Plain m) = by_equal m.wanted.operator (asked_for m.key m.wanted.
 wanted_in _ = None
 
 -- a match that asks for a property, if the file imports this and it is not given before
-abbrev pub below_spots : List Text → List Text → WrittenPart → Option Text → List LintSpot
+abbrev pub below_spots : List Text → List Text → WrittenPart → Option Text → List (Spot Lint)
 below_spots imported given w None = []
-below_spots imported given w (Some name) = if has_property imported name && not (is_given given name) then key_spot ImportedBelow name w.token ∷ [] else []
+below_spots imported given w (Some name) = if has_property imported name && not (is_given given name) then spot_at_key ImportedBelow name w.token ∷ [] else []
 
 -- a match that asks for a property that the file imports, if it is not given before
-abbrev pub imported_below : List Text → List Text → WrittenPart → List LintSpot
+abbrev pub imported_below : List Text → List Text → WrittenPart → List (Spot Lint)
 imported_below imported given w = below_spots imported given w (wanted_in w.part)

@@ -2,13 +2,14 @@
 use Rattle.std.specs.Prelude.{Bool, ◌||◌, if◌then◌else◌, List, [], ◌∷◌, Option, Some, None, is_some}
 use Rattle.std.specs.List.{list_any}
 use Rattle.text_tables.specs.Texts.{Text}
+use Rattle.rule_types.specs.declared.lint.Lint.{Lint}
 use Rattle.rule_types.specs.declared.lint.Lint.TheVariants.{NeverReached}
 use Rattle.rule_core.specs.Rules.{name_of}
 use Rattle.rule_file_lints.specs.FileRules.{FileRule}
 use Rattle.rule_file_lints.specs.Matches.{may_end_at}
-use Rattle.rule_lints.specs.Spots.{key_spot}
 use Rattle.rule_core.specs.Written.{WrittenPart}
-use Rattle.rule_lints.specs.declared.spot.LintSpot.{LintSpot}
+use Rattle.rule_core.specs.Spots.{spot_at_key}
+use Rattle.rule_core.specs.declared.spot.Spot.{Spot}
 
 -- whether a rule may lead to the one after it though it has a jump: there is no later label, or the rule may end before it jumps
 abbrev pub may_go_on : FileRule → Bool
@@ -28,11 +29,11 @@ abbrev pub is_labelled : FileRule → Bool
 is_labelled r = is_some r.draft.label
 
 -- the first of these tokens, reported with a label
-abbrev pub first_spot : Text → List WrittenPart → List LintSpot
+abbrev pub first_spot : Text → List WrittenPart → List (Spot Lint)
 first_spot name [] = []
-first_spot name (w ∷ tokens) = key_spot NeverReached name w.token ∷ []
+first_spot name (w ∷ tokens) = spot_at_key NeverReached name w.token ∷ []
 
 -- the first token of a rule without a label, if the rule above jumps to a label
-abbrev pub never_reached : Option Text → FileRule → List LintSpot
+abbrev pub never_reached : Option Text → FileRule → List (Spot Lint)
 never_reached None r = []
 never_reached (Some name) r = if is_labelled r then [] else first_spot name r.draft.parts

@@ -1,13 +1,14 @@
 -- Serves inner proofs only: what its functions keep.
 use Rattle.std.specs.Prelude.{ℕ, ◌-◌, nat_lt, if◌then◌else◌, List, [], Option, None}
 use Rattle.text_tables.specs.Texts.{Text, with_texts}
+use Rattle.rule_types.specs.declared.lint.Lint.{Lint}
 use Rattle.rule_file_lints.specs.Compared.{assigned_value, meant_spots}
 use Rattle.rule_file_lints.specs.FileRules.{FileRule}
 use Rattle.rule_file_lints.specs.Imported.{given_by}
 use Rattle.rule_file_lints.specs.Matches.{is_match}
 use Rattle.rule_file_lints.specs.Reached.{jumps_to}
 use Rattle.rule_core.specs.Written.{WrittenPart}
-use Rattle.rule_lints.specs.declared.spot.LintSpot.{LintSpot}
+use Rattle.rule_core.specs.declared.spot.Spot.{Spot}
 
 -- what the rules of a file import and compare
 pub record FileNames : Type 0 where
@@ -32,5 +33,5 @@ abbrev pub left_after : ℕ → WrittenPart → ℕ
 left_after matches w = if is_match w.part then matches - 1 else matches
 
 -- an assignment that so many matches follow, if there are any and what it gives is compared
-abbrev pub before_matches : ℕ → List Text → WrittenPart → List LintSpot
+abbrev pub before_matches : ℕ → List Text → WrittenPart → List (Spot Lint)
 before_matches matches compared w = if nat_lt 0 matches then meant_spots compared w (assigned_value w.part) else []

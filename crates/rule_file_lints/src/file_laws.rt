@@ -1,11 +1,11 @@
 //! Laws of the lints of a file, each the contract of a function with an empty body.
-ghost use Rattle.std.specs.Prelude.{◌≡◌, [], List, Some, ℕ, is_ok, is_some, map};
+ghost use Rattle.std.specs.Prelude.{◌≡◌, [], Some, ℕ, map};
 ghost use Rattle.text_bytes.specs.declared.profile.Profile as profiles;
 ghost use Rattle.text_bytes.specs.declared.source_file.SourceFile as files;
 ghost use Rattle.rule_core.specs.Ends.{abandoned};
 ghost use Rattle.rule_file_lints.specs.FileLaws.{FirstIsReached, ImportsFurtherDown, NoneAfterMatches, NoneUncompared, ReachedAfterLostJumps};
-ghost use Rattle.rule_file_lints.specs.FileLaws.{ReachedAfterMatches, ReachedByLabels, reported_for, reported_in};
-ghost use Rattle.rule_file_lints.specs.FileLints.{file_spots, placed_lints};
+ghost use Rattle.rule_file_lints.specs.FileLaws.{ReachedAfterMatches, ReachedByLabels, lints_without_places, without_place};
+ghost use Rattle.rule_file_lints.specs.FileLints.{placed_lints};
 ghost use Rattle.rule_file_lints.specs.FileRules.{file_rules};
 
 /// W6 is reported for properties that the rule or one further down imports, and that no rule before it imports,
@@ -34,8 +34,8 @@ pub fn rules_that_are_reached_are_not_reported()
 /// Without their places, the lints of a file are those of its rules.
 #[tactic(auto, using(crate::proofs::FileLemmas::lints_of_rules))]
 pub fn lints_are_those_of_the_rules()
-    ensures { (by : profiles.Profile) (file : files.SourceFile) → map reported_in (placed_lints by file)
-        ≡ map reported_for (file_spots (file_rules by file.bytes)) }
+    ensures { (by : profiles.Profile) (file : files.SourceFile) → map without_place (placed_lints by file)
+        ≡ lints_without_places (file_rules by file.bytes) [] (file_rules by file.bytes) }
 {}
 
 /// No lint is reported for a file that is given up.

@@ -1,31 +1,24 @@
-//! All lints of the rules of a file, in their order.
-ghost use Rattle.std.specs.Prelude.{◌≡◌, ◌++◌, [], IfOk, OnOk, map};
+//! All lints of the rules of a file, in their order, with their places.
+ghost use Rattle.std.specs.Prelude.{◌≡◌, [], IfOk, OnOk};
 ghost use Rattle.text_tables.specs.Texts.{with_texts};
 ghost use Rattle.rule_file_lints.specs.Compared.{compared_texts};
-ghost use Rattle.rule_file_lints.specs.FileLints.{file_spot, file_spots, spots_by};
+ghost use Rattle.rule_file_lints.specs.FileLints.{lints_of, lints_of_lines, spots_by};
 ghost use Rattle.rule_file_lints.specs.Imported.{imported_names};
 ghost use Rattle.rule_file_lints.specs.Steps.{nothing_above, with_rule};
 
 use crate::file_rule::FileRule;
+use crate::file_rules::file_rules;
 use crate::imported::{add_given, add_imported};
 use crate::imported_below::add_imported_below;
 use crate::meant::{add_compared, add_meant};
 use crate::reached::{add_never_reached, jumps_to};
-use rule_lints::{LintSpot, lints_of_rule};
+use rule_core::{LandedReading, Spot};
+use rule_lints::lints_of_rule;
+use rule_places::{KeptLines, PlacedFinding, place_spots};
+use rule_types::Lint;
 use std::alloc::{AllocError, Global};
 use std::marker::Model;
 use text_tables::{OwnedTexts, Texts};
-
-/// A lint of a rule of a file.
-#[derive(Debug, Drop)]
-pub(crate) struct FileSpot {
-    /// The number of the line of the file in which the rule begins.
-    pub number: u32,
-    /// How many bytes of joined lines come before the rule.
-    pub start: usize,
-    /// What is reported, with the part of the rule that it is about.
-    pub spot: LintSpot,
-}
 
 /// What the rules of a file import and compare.
 #[derive(Drop)]
@@ -60,43 +53,40 @@ impl<'a> Model for RulesAbove<'a> {
     ghost view = { λ a. record { given = a.given; jump = option_map (λ t. t.now) a.jump } };
 }
 
-/// The lints of the rules of a file, in their order.
-pub(crate) fn file_lints(
+/// The lints of the lines of a file that were read, in the order of its rules, each with the physical line and the
+/// columns that it is about. There are none for a line that is not a rule. The kept lines are those of the same file.
+///
+/// The lints that are found in a rule by itself come first, then W6 and W7, each in written order, and W13 last. A
+/// place in several physical lines is reported as far as it is in the first of them. The number of a line or a
+/// column is at most 2^32 - 1.
+pub fn lints_of_lines(
     alloc: Global,
+    kept: &KeptLines,
+    lines: &[LandedReading<'_>],
+) -> Result<Vec<PlacedFinding<Lint>>, AllocError>
+    ensures { IfOk result (λ found. found.items ≡ lints_of_lines kept.now lines.now) }
+{
+    let rules = file_rules(alloc, lines)?;
+    lints_of_rules(alloc, kept, &rules)
+}
+
+/// The lints of the rules of a file with these kept lines, in their order.
+fn lints_of_rules(
+    alloc: Global,
+    kept: &KeptLines,
     rules: &[FileRule<'_, '_>],
-) -> Result<Vec<FileSpot>, AllocError>
-    ensures { IfOk result (λ spots. spots.items ≡ file_spots rules.now) }
+) -> Result<Vec<PlacedFinding<Lint>>, AllocError>
+    ensures { IfOk result (λ found. found.items ≡ lints_of kept.now rules.now) }
 {
     let names = FileNames::of(alloc, rules)?;
     let mut above = RulesAbove::new(alloc);
-    let mut spots = Vec::new(alloc);
+    let mut found = Vec::new(alloc);
     for rule in rules {
-        add_rule(alloc, &mut spots, &names, &above, rule)?;
+        let spots = rule_spots(alloc, &names, &above, rule)?;
+        place_spots(&mut found, kept, rule.number, rule.start, spots)?;
         above.take(rule)?;
     }
-    Ok(spots)
-}
-
-/// Adds the lints of a rule.
-fn add_rule(
-    alloc: Global,
-    spots: &mut Vec<FileSpot>,
-    names: &FileNames<'_>,
-    above: &RulesAbove<'_>,
-    rule: &FileRule<'_, '_>,
-) -> Result<(), AllocError>
-    ensures { OnOk result (spots.new.items ≡ spots.old.items
-        ++ map (file_spot rule.now) (spots_by names.now.imported names.now.compared above.now.given above.now.jump rule.now)) }
-{
-    let found = rule_spots(alloc, names, above, rule)?;
-    for spot in found {
-        spots.push(FileSpot {
-            number: rule.number,
-            start: rule.start,
-            spot,
-        })?;
-    }
-    Ok(())
+    Ok(found)
 }
 
 /// The lints of a rule.
@@ -105,7 +95,7 @@ fn rule_spots(
     names: &FileNames<'_>,
     above: &RulesAbove<'_>,
     rule: &FileRule<'_, '_>,
-) -> Result<Vec<LintSpot>, AllocError>
+) -> Result<Vec<Spot<Lint>>, AllocError>
     ensures { IfOk result (λ spots. spots.items ≡ spots_by names.now.imported names.now.compared above.now.given above.now.jump rule.now) }
 {
     let draft = rule.draft;

@@ -1,19 +1,19 @@
 //! Matches of properties that are imported only further down.
 ghost use Rattle.std.specs.Prelude.{◌≡◌, ◌++◌, OnOk, flat_map, option_map};
-ghost use Rattle.rule_file_lints.specs.Imported.{asked_for, below_spots, imported_below, wanted_in};
+ghost use Rattle.rule_file_lints.specs.Imported.{asked_for, imported_below, wanted_in};
 
 use crate::imported::{has_property, is_given};
-use rule_core::WrittenPart;
-use rule_lints::{LintSpot, key_spot};
+use rule_core::{Spot, WrittenPart, spot_at_key};
 use rule_types::{Lint, MatchOperator, Part, PlainKey};
 use std::alloc::{AllocError, Global};
+use text_bytes::Bytes;
 use text_core::Choice;
 use text_tables::Texts;
 
 /// Adds the matches of a rule that ask for properties that its file imports, if these are not given before.
 pub(crate) fn add_imported_below(
     alloc: Global,
-    spots: &mut Vec<LintSpot>,
+    spots: &mut Vec<Spot<Lint>>,
     imported: &Texts<'_>,
     given: &Texts<'_>,
     tokens: &[WrittenPart<'_>],
@@ -29,7 +29,7 @@ pub(crate) fn add_imported_below(
 /// Adds a match that asks for a property that the file imports, if it is not given before.
 fn add_token(
     alloc: Global,
-    spots: &mut Vec<LintSpot>,
+    spots: &mut Vec<Spot<Lint>>,
     imported: &Texts<'_>,
     given: &Texts<'_>,
     token: &WrittenPart<'_>,
@@ -38,7 +38,8 @@ fn add_token(
 {
     if let Some(name) = wanted_in(&token.part) {
         if has_property(imported, name) && !is_given(given, name) {
-            spots.push(key_spot(alloc, Lint::ImportedBelow, name, &token.token)?)?;
+            let word = Bytes::copy_of(alloc, name)?;
+            spots.push(spot_at_key(Lint::ImportedBelow, word, &token.token))?;
         }
     }
     Ok(())

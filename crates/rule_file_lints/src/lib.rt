@@ -13,8 +13,6 @@ mod imported;
 mod imported_below;
 mod matches;
 mod meant;
-mod placed_lint;
-mod placing;
 mod reached;
 mod valued;
 
@@ -22,5 +20,4 @@ pub use file_laws::{
     abandoned_files_have_no_lints, assignments_come_before_matches, imports_are_further_down,
     lints_are_those_of_the_rules, rules_that_are_reached_are_not_reported,
 };
-pub use placed_lint::PlacedLint;
-pub use placing::{lints_of_lines, placed_lints};
+pub use file_lints::lints_of_lines;

@@ -8,10 +8,10 @@ ghost use Rattle.rule_file_lints.specs.Steps.{before_matches, left_after};
 
 use crate::matches::is_match;
 use crate::valued::{assigned_value, compared_in, text_of};
-use rule_core::WrittenPart;
-use rule_lints::{LintSpot, key_spot};
+use rule_core::{Spot, WrittenPart, spot_at_key};
 use rule_types::Lint;
 use std::alloc::{AllocError, Global};
+use text_bytes::Bytes;
 use text_tables::OwnedTexts;
 
 /// Adds what the tokens of a rule compare by `==`.
@@ -33,7 +33,7 @@ pub(crate) fn add_compared(
 /// Adds the assignments of a rule that a match follows, if what they give is compared.
 pub(crate) fn add_meant(
     alloc: Global,
-    spots: &mut Vec<LintSpot>,
+    spots: &mut Vec<Spot<Lint>>,
     compared: &OwnedTexts,
     tokens: &[WrittenPart<'_>],
 ) -> Result<(), AllocError>
@@ -62,7 +62,7 @@ fn left_after(matches: usize, token: &WrittenPart<'_>) -> usize
 /// Adds an assignment that so many matches follow, if there are any and what it gives is compared.
 fn add_before(
     alloc: Global,
-    spots: &mut Vec<LintSpot>,
+    spots: &mut Vec<Spot<Lint>>,
     compared: &OwnedTexts,
     token: &WrittenPart<'_>,
     matches: usize,
@@ -85,7 +85,7 @@ fn matches_in(tokens: &[WrittenPart<'_>]) -> usize
 /// Adds an assignment, if what it gives is compared.
 fn add_token(
     alloc: Global,
-    spots: &mut Vec<LintSpot>,
+    spots: &mut Vec<Spot<Lint>>,
     compared: &OwnedTexts,
     token: &WrittenPart<'_>,
 ) -> Result<(), AllocError>
@@ -93,7 +93,8 @@ fn add_token(
 {
     if let Some(valued) = assigned_value(&token.part) {
         if compared.contains(&text_of(alloc, &valued)?) {
-            spots.push(key_spot(alloc, Lint::MeantToCompare, valued.name, &token.token)?)?;
+            let word = Bytes::copy_of(alloc, valued.name)?;
+            spots.push(spot_at_key(Lint::MeantToCompare, word, &token.token))?;
         }
     }
     Ok(())

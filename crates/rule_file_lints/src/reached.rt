@@ -6,10 +6,10 @@ ghost use Rattle.rule_file_lints.specs.Reached.{first_spot, is_labelled, jumps_t
 
 use crate::file_rule::FileRule;
 use crate::matches::may_end_at;
-use rule_core::WrittenPart;
-use rule_lints::{LintSpot, key_spot};
+use rule_core::{Spot, WrittenPart, spot_at_key};
 use rule_types::Lint;
 use std::alloc::{AllocError, Global};
+use text_bytes::Bytes;
 
 /// The label of a later rule to which a rule jumps for every device.
 pub(crate) fn jumps_to<'a>(rule: &'a FileRule<'_, '_>) -> Option<&'a [u8]>
@@ -44,7 +44,7 @@ fn may_end(tokens: &[WrittenPart<'_>]) -> bool
 /// Adds a rule without a label, if the rule above jumps to a label for every device.
 pub(crate) fn add_never_reached(
     alloc: Global,
-    spots: &mut Vec<LintSpot>,
+    spots: &mut Vec<Spot<Lint>>,
     above: Option<&[u8]>,
     rule: &FileRule<'_, '_>,
 ) -> Result<(), AllocError>
@@ -74,14 +74,15 @@ fn is_labelled(rule: &FileRule<'_, '_>) -> bool
 /// Adds the first of these tokens, reported with a label.
 fn add_first(
     alloc: Global,
-    spots: &mut Vec<LintSpot>,
+    spots: &mut Vec<Spot<Lint>>,
     name: &[u8],
     tokens: &[WrittenPart<'_>],
 ) -> Result<(), AllocError>
     ensures { OnOk result (spots.new.items ≡ spots.old.items ++ first_spot name.now tokens.now) }
 {
     if let Some(token) = tokens.first() {
-        spots.push(key_spot(alloc, Lint::NeverReached, name, &token.token)?)?;
+        let word = Bytes::copy_of(alloc, name)?;
+        spots.push(spot_at_key(Lint::NeverReached, word, &token.token))?;
     }
     Ok(())
 }

@@ -1,6 +1,7 @@
 -- Names that are given again.
 use Rattle.std.proofs.Common.{◌≡◌, ◌∙◌, ◌++◌, ◌∷◌, ℕ, List, [], ap, refl, filter_map}
 use Rattle.file_messages.specs.declared.message.MessageKind.TheVariants.{GivenTwice}
+use Rattle.file_messages.specs.declared.message.MessageKind.{MessageKind}
 use Rattle.rule_tokens.specs.Grammar.{Placed}
 use Rattle.rule_types.specs.declared.part.Part.{Part}
 use Rattle.rule_types.specs.declared.part.Part.TheVariants as part
@@ -72,7 +73,7 @@ no_goto (w ∷ parts) none = by w.token w.part (λ before following t given cut.
 
 -- what is said of a token more
 reported_again : (parts : List WrittenPart) (w : WrittenPart) (name : List ℕ) → again_in Manual parts w ≡ value_spot GivenTwice name w.token ∷ [] → given_again_after Manual [] (parts ++ w ∷ []) ≡ given_again_after Manual [] parts ++ value_spot GivenTwice name w.token ∷ []
-reported_again parts w name e = said_after Manual [] parts w ∙ ap (λ (fs : List Spot). given_again_after Manual [] parts ++ fs) e
+reported_again parts w name e = said_after Manual [] parts w ∙ ap (λ (fs : List (Spot MessageKind)). given_again_after Manual [] parts ++ fs) e
 
 said_of_again : (before : List WrittenPart) (u : Placed) (earlier : Part) (following : List WrittenPart) (t : Placed) (p : Part) (name : List ℕ) → GivesAgain earlier p name → part_again Manual (before ++ token_of u earlier ∷ following) t p ≡ value_spot GivenTwice name t ∷ []
 said_of_again before u (part.Label given) following t (part.Label later) name e = label_again before following u given (name_place t later) ∙ ap (λ (n : List ℕ). value_spot GivenTwice n t ∷ []) e

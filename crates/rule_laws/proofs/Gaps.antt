@@ -5,6 +5,7 @@ use Rattle.std.specs.List.{list_all}
 use Rattle.std.proofs.lemmas.List.Sums.{sum_by-append, sum_by-cons}
 use Rattle.text_bytes.specs.Names.{comma, is_blank}
 use Rattle.file_messages.specs.declared.message.MessageKind.TheVariants.{BlankExpected, CommaExpected, ReadAsAssign}
+use Rattle.file_messages.specs.declared.message.MessageKind.{MessageKind}
 use Rattle.rule_tokens.specs.Grammar.{AllAre, Placed, is_gap_byte}
 use Rattle.rule_tokens.specs.Values.{ends_in}
 use Rattle.rule_parts.specs.Parts.{is_read_as_assign}
@@ -144,29 +145,29 @@ ends_far (b ∷ c ∷ before) following h a = ends_far (c ∷ before) following 
 
 -- ---- what is to be said
 
-prefix_empty : (xs ys : List Spot) → xs ++ ys ≡ [] → xs ≡ []
+prefix_empty : (xs ys : List (Spot MessageKind)) → xs ++ ys ≡ [] → xs ≡ []
 prefix_empty [] ys e = refl
 prefix_empty (x ∷ xs) ys e = cc
 
-back_empty : (xs ys : List Spot) → xs ++ ys ≡ [] → ys ≡ []
+back_empty : (xs ys : List (Spot MessageKind)) → xs ++ ys ≡ [] → ys ≡ []
 back_empty [] ys e = e
 back_empty (x ∷ xs) ys e = cc
 
-both_empty : (xs ys : List Spot) → xs ≡ [] → ys ≡ [] → xs ++ ys ≡ []
+both_empty : (xs ys : List (Spot MessageKind)) → xs ≡ [] → ys ≡ [] → xs ++ ys ≡ []
 both_empty xs ys e f = ap (λ zs. zs ++ ys) e ∙ f
 
-unsaid : (b : Bool) (f : Spot) → cond b (f ∷ []) [] ≡ [] → b ≡ false
+unsaid : (b : Bool) (f : Spot MessageKind) → cond b (f ∷ []) [] ≡ [] → b ≡ false
 unsaid true f e = cc
 unsaid false f e = refl
 
-passed : (b : Bool) (f : Spot) → cond b [] (f ∷ []) ≡ [] → b ≡ true
+passed : (b : Bool) (f : Spot MessageKind) → cond b [] (f ∷ []) ≡ [] → b ≡ true
 passed true f e = refl
 passed false f e = cc
 
 gap_passed : (gap : List ℕ) (t : Placed) → AllAre is_gap_byte gap → gap_findings Manual gap t ≡ [] → IsPlainGap gap
 gap_passed gap t g e =
-    let first : List Spot = cond (commas gap == 1) [] (key_spot CommaExpected t ∷ []) in
-    let second : List Spot = cond (ends_in comma gap) (key_spot BlankExpected t ∷ []) [] in
+    let first : List (Spot MessageKind) = cond (commas gap == 1) [] (key_spot CommaExpected t ∷ []) in
+    let second : List (Spot MessageKind) = cond (ends_in comma gap) (key_spot BlankExpected t ∷ []) [] in
     plain_so gap g (eqb-true (commas gap) 1 (passed (commas gap == 1) (key_spot CommaExpected t) (prefix_empty first second e))) (unsaid (ends_in comma gap) (key_spot BlankExpected t) (back_empty first second e))
 
 plain_gap_passed : (gap : List ℕ) (t : Placed) → IsPlainGap gap → gap_findings Manual gap t ≡ []
@@ -178,8 +179,8 @@ plain_gap_passed gap t p =
 after_passed : (line : List ℕ) (place : ℕ) (tokens : List Placed) → AreGapsAfter line place tokens → style_after Manual line place tokens ≡ [] → IsPlainAfter line place tokens
 after_passed line place [] g e = blank_so (drop place line) g (eqb-true (commas (drop place line)) 0 (passed (commas (drop place line) == 0) (spot CommaExpected [] place (length (drop place line))) e))
 after_passed line place (t ∷ tokens) g e =
-    let gap : List Spot = gap_findings Manual (between place t.span.start line) t in
-    let others : List Spot = operator_findings Manual t ++ style_after Manual line t.span.end tokens in
+    let gap : List (Spot MessageKind) = gap_findings Manual (between place t.span.start line) t in
+    let others : List (Spot MessageKind) = operator_findings Manual t ++ style_after Manual line t.span.end tokens in
     let rest = back_empty gap others e in (
       gap_passed (between place t.span.start line) t g.0 (prefix_empty gap others e),
       unsaid (is_read_as_assign t) (key_spot ReadAsAssign t) (prefix_empty (operator_findings Manual t) (style_after Manual line t.span.end tokens) rest),

@@ -30,26 +30,26 @@ use Rattle.rule_laws.proofs.Numbering.{IsAfter, Rise, numbers_reported, numbers_
 -- ---- findings about one line
 
 -- the ranks of findings don't fall, none is less than the first number or greater than the second
-abbrev Within : ℕ → ℕ → List Spot → Type 0
+abbrev Within : ℕ → ℕ → List (Spot MessageKind) → Type 0
 Within low high [] = low ≤ high
 Within low high (f ∷ fs) = (low ≤ rank f.kind) × Within (rank f.kind) high fs
 
-within_less : (n low high : ℕ) (fs : List Spot) → n ≤ low → Within low high fs → Within n high fs
+within_less : (n low high : ℕ) (fs : List (Spot MessageKind)) → n ≤ low → Within low high fs → Within n high fs
 within_less n low high [] h w = omega arith
 within_less n low high (f ∷ fs) h w =
     let first : low ≤ rank f.kind = w.0 in
     (omega arith, w.1)
 
-within_both : (low mid high : ℕ) (fs gs : List Spot) → Within low mid fs → Within mid high gs → Within low high (fs ++ gs)
+within_both : (low mid high : ℕ) (fs gs : List (Spot MessageKind)) → Within low mid fs → Within mid high gs → Within low high (fs ++ gs)
 within_both low mid high [] gs w v = within_less low mid high gs w v
 within_both low mid high (f ∷ fs) gs w v = (w.0, within_both (rank f.kind) mid high fs gs w.1 v)
 
 -- a finding of one rank, if it is there
-maybe : (n : ℕ) (f : Spot) (b : Bool) → rank f.kind ≡ n → Within n n (cond b (f ∷ []) [])
+maybe : (n : ℕ) (f : Spot MessageKind) (b : Bool) → rank f.kind ≡ n → Within n n (cond b (f ∷ []) [])
 maybe n f true e = (omega arith, omega arith)
 maybe n f false e = omega arith
 
-unless : (n : ℕ) (f : Spot) (b : Bool) → rank f.kind ≡ n → Within n n (cond b [] (f ∷ []))
+unless : (n : ℕ) (f : Spot MessageKind) (b : Bool) → rank f.kind ≡ n → Within n n (cond b [] (f ∷ []))
 unless n f true e = omega arith
 unless n f false e = (omega arith, omega arith)
 
@@ -94,7 +94,7 @@ draft_within : (line : List ℕ) (parts : List WrittenPart) → Within 8 13 (dra
 draft_within line parts =
     within_both 8 8 13 (given_again_after Manual [] parts) _ (given_within [] parts) (within_less 8 13 13 _ (omega arith) (line_within line _))
 
-abbrev as_read : Draft → Result Draft Spot
+abbrev as_read : Draft → Result Draft (Spot MessageKind)
 as_read d = Ok d
 
 same_draft : (c d : Draft) → as_read c ≡ as_read d → c ≡ d
@@ -104,7 +104,7 @@ read_within : (line : List ℕ) (d : Draft) → draft_of Manual line ≡ Ok d �
 unfolding draft_of
 read_within line d e = by_length (nat_lt 16384 (length line)) e
   where
-    by_parts : (read : Result (List WrittenPart) Spot) → draft_with Manual line read ≡ Ok d → Within 8 13 d.findings
+    by_parts : (read : Result (List WrittenPart) (Spot MessageKind)) → draft_with Manual line read ≡ Ok d → Within 8 13 d.findings
     by_parts (Ok parts) e = subst (λ (c : Draft). Within 8 13 c.findings) (same_draft (draft Manual line parts) d e) (draft_within line parts)
     by_parts (Err wrong) e = cc
 
@@ -118,8 +118,8 @@ name_kind kind (Some n) = refl
 
 rule_within : (d : Draft) (k : Landing) → Within 8 13 d.findings → Within 7 14 (findings_of d k)
 rule_within d k w =
-    let lost : List Spot = cond k.lost (name_spot NoLaterLabel d.goto ∷ []) [] in
-    let unused : List Spot = cond k.unused (name_spot LabelUnused d.label ∷ []) [] in
+    let lost : List (Spot MessageKind) = cond k.lost (name_spot NoLaterLabel d.goto ∷ []) [] in
+    let unused : List (Spot MessageKind) = cond k.unused (name_spot LabelUnused d.label ∷ []) [] in
     within_both 7 7 14 lost (d.findings ++ unused) (maybe 7 (name_spot NoLaterLabel d.goto) k.lost (ap rank (name_kind NoLaterLabel d.goto)))
     (within_less 7 8 14 (d.findings ++ unused) (omega arith)
     (within_both 8 13 14 d.findings unused w (within_less 13 14 14 unused (omega arith) (maybe 14 (name_spot LabelUnused d.label) k.unused (ap rank (name_kind LabelUnused d.label))))))
@@ -131,11 +131,11 @@ abbrev AboutLine : ℕ → ℕ → List Message → Type 0
 AboutLine line low [] = Unit {0}
 AboutLine line low (m ∷ ms) = (m.line ≡ line) × (low ≤ rank m.kind) × AboutLine line (rank m.kind) ms
 
-about_line : (file : List ℕ) (line low high : ℕ) (fs : List Spot) → Within low high fs → AboutLine line low (map (message_at file line) fs)
+about_line : (file : List ℕ) (line low high : ℕ) (fs : List (Spot MessageKind)) → Within low high fs → AboutLine line low (map (message_at file line) fs)
 about_line file line low high [] w = tt
 about_line file line low high (f ∷ fs) w = (refl, w.0, about_line file line (rank f.kind) high fs w.1)
 
-line_about : (file : List ℕ) (l : NumberedLine) (k : Landing) (read : Result Draft Spot) → draft_of Manual l.text ≡ read → AboutLine l.number 0 (line_messages file l.number read k)
+line_about : (file : List ℕ) (l : NumberedLine) (k : Landing) (read : Result Draft (Spot MessageKind)) → draft_of Manual l.text ≡ read → AboutLine l.number 0 (line_messages file l.number read k)
 line_about file l k (Err wrong) e = (refl, omega arith, tt)
 line_about file l k (Ok d) e = about_line file l.number 0 14 (findings_of d k) (within_less 0 7 14 (findings_of d k) (omega arith) (rule_within d k (read_within l.text d e)))
 

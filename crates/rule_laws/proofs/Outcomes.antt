@@ -7,6 +7,7 @@ use Rattle.std.specs.List.{flat_map, list_any}
 use Rattle.file_messages.specs.declared.message.Message.{Message}
 use Rattle.text_bytes.specs.declared.source_file.SourceFile.{SourceFile}
 use Rattle.text_bytes.specs.declared.profile.Profile.{Profile}
+use Rattle.file_messages.specs.declared.message.MessageKind.{MessageKind}
 use Rattle.rule_core.specs.Ends.{abandoned}
 use Rattle.rule_core.specs.Lines.{NumberedLine, joined_lines}
 use Rattle.rule_core.specs.declared.spot.Spot.{Spot}
@@ -45,7 +46,7 @@ same_labels : (profile : Profile) (file : List ℕ) (above : List Names) (ls : L
 same_labels profile file above [] name = refl
 same_labels profile file above (l ∷ ls) name = by (draft_of profile l.text) (landing_at profile above l ls) (rules_below profile file (names_at profile l ∷ above) ls) (same_labels profile file (names_at profile l ∷ above) ls name)
   where
-    by : (read : Result Draft Spot) (k : Landing) (rules : List Rule) → bears name rules ≡ has_label name (names_in profile ls)
+    by : (read : Result Draft (Spot MessageKind)) (k : Landing) (rules : List Rule) → bears name rules ≡ has_label name (names_in profile ls)
         → bears name (line_rules profile file l.number read k ++ rules) ≡ (is_named name (names_of read).label || has_label name (names_in profile ls))
     by (Ok d) k rules e = ap (λ b. is_named name (name_of d.label) || b) e
     by (Err wrong) k rules e = e
@@ -66,7 +67,7 @@ jump_kept (Some other) below rules same name = by (has_label other below) refl
 -- ---- lines
 
 -- the outcome of a line that is read in this way
-abbrev outcome_of : Profile → List ℕ → ℕ → Result Draft Spot → Landing → LineOutcome
+abbrev outcome_of : Profile → List ℕ → ℕ → Result Draft (Spot MessageKind) → Landing → LineOutcome
 outcome_of by file n (Ok d) k = one_rule (rule_at by file n d k) (line_messages file n (Ok d) k)
 outcome_of by file n (Err wrong) k = one_message (message_at file n wrong)
 
@@ -79,7 +80,7 @@ rules_are : (profile : Profile) (file : List ℕ) (above : List Names) (ls : Lis
 rules_are profile file above [] = refl
 rules_are profile file above (l ∷ ls) = by (draft_of profile l.text) (landing_at profile above l ls) (rules_below profile file (names_at profile l ∷ above) ls) (outcomes_below profile file (names_at profile l ∷ above) ls) (rules_are profile file (names_at profile l ∷ above) ls)
   where
-    by : (read : Result Draft Spot) (k : Landing) (rules : List Rule) (os : List LineOutcome) → rules ≡ flat_map rules_in os → line_rules profile file l.number read k ++ rules ≡ flat_map rules_in (outcome_of profile file l.number read k ∷ os)
+    by : (read : Result Draft (Spot MessageKind)) (k : Landing) (rules : List Rule) (os : List LineOutcome) → rules ≡ flat_map rules_in os → line_rules profile file l.number read k ++ rules ≡ flat_map rules_in (outcome_of profile file l.number read k ∷ os)
     by (Ok d) k rules os e = ap (λ rs. rule_at profile file l.number d k ∷ rs) e
     by (Err wrong) k rules os e = e
 
@@ -87,7 +88,7 @@ messages_are : (profile : Profile) (file : List ℕ) (above : List Names) (ls : 
 messages_are profile file above [] = refl
 messages_are profile file above (l ∷ ls) = by (draft_of profile l.text) (landing_at profile above l ls) (reported_below profile file (names_at profile l ∷ above) ls) (outcomes_below profile file (names_at profile l ∷ above) ls) (messages_are profile file (names_at profile l ∷ above) ls)
   where
-    by : (read : Result Draft Spot) (k : Landing) (reported : List Message) (os : List LineOutcome) → reported ≡ flat_map messages_in os → line_messages file l.number read k ++ reported ≡ flat_map messages_in (outcome_of profile file l.number read k ∷ os)
+    by : (read : Result Draft (Spot MessageKind)) (k : Landing) (reported : List Message) (os : List LineOutcome) → reported ≡ flat_map messages_in os → line_messages file l.number read k ++ reported ≡ flat_map messages_in (outcome_of profile file l.number read k ∷ os)
     by (Ok d) k reported os e = ap (λ ms. line_messages file l.number (Ok d) k ++ ms) e
     by (Err wrong) k reported os e = ap (λ ms. message_at file l.number wrong ∷ ms) e
 
@@ -98,7 +99,7 @@ all_come profile file above (l ∷ ls) = (by (draft_of profile l.text) refl, all
     following : List Rule
     following = flat_map rules_in (outcomes_below profile file (names_at profile l ∷ above) ls)
 
-    by : (read : Result Draft Spot) → draft_of profile l.text ≡ read
+    by : (read : Result Draft (Spot MessageKind)) → draft_of profile l.text ≡ read
         → Becomes profile file l (outcome_of profile file l.number read (record { lost = is_lost (names_of read).goto (names_in profile ls); unused = is_unused (names_of read).label above })) following
     by (Err wrong) e = record { wrong = wrong; reads = e; is = refl }
     by (Ok d) e = record {

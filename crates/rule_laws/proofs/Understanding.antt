@@ -4,6 +4,7 @@ use Rattle.std.specs.List.{AllZip, flat_map, onto_first}
 use Rattle.std.proofs.lemmas.List.Elements.{All-cons, All-nil}
 use Rattle.file_messages.specs.declared.message.Message.{Message}
 use Rattle.text_bytes.specs.declared.source_file.SourceFile.{SourceFile}
+use Rattle.file_messages.specs.declared.message.MessageKind.{MessageKind}
 use Rattle.rule_core.specs.declared.spot.Spot.{Spot}
 use Rattle.text_bytes.specs.declared.profile.Profile.{Profile}
 use Rattle.rule_core.specs.Ends.{abandoned}
@@ -24,7 +25,7 @@ well l e f = ap (λ (b : Bool). as_landing b l.unused) e ∙ ap (λ (b : Bool). 
   as_landing a b = record { lost = a; unused = b }
 
 -- a line of which nothing is said is a rule as it is written
-written_line : (profile : Profile) (file : List ℕ) (l : NumberedLine) (read : Result Draft Spot) (k : Landing) (more : List Message) (ls : List NumberedLine) (rules : List Rule)
+written_line : (profile : Profile) (file : List ℕ) (l : NumberedLine) (read : Result Draft (Spot MessageKind)) (k : Landing) (more : List Message) (ls : List NumberedLine) (rules : List Rule)
     → draft_of profile l.text ≡ read → line_messages file l.number read k ++ more ≡ [] → (more ≡ [] → AllZip (IsWritten profile file) ls rules) → AllZip (IsWritten profile file) (l ∷ ls) (line_rules profile file l.number read k ++ rules)
 written_line profile file l (Err wrong) k more ls rules e m f = cc
 written_line profile file l (Ok d) k more ls rules e m f =

@@ -4,6 +4,7 @@ use Rattle.file_messages.specs.declared.message.Message.{Message}
 use Rattle.text_bytes.specs.declared.source_file.SourceFile.{SourceFile}
 use Rattle.text_bytes.specs.declared.profile.Profile.{Profile}
 use Rattle.file_messages.specs.declared.message.MessageKind.TheVariants.{FileAbandoned}
+use Rattle.file_messages.specs.declared.message.MessageKind.{MessageKind}
 use Rattle.rule_core.specs.Lines.{NumberedLine, joined_lines}
 use Rattle.rule_core.specs.declared.spot.Spot.{Spot}
 use Rattle.rule_core.specs.Drafts.{Draft, draft_of}
@@ -41,7 +42,7 @@ pub record IsRule (by : Profile) (file : List ℕ) (l : NumberedLine) (r : Rule)
 
 -- a line is not a rule, and the message says why
 pub record IsNoRule (by : Profile) (file : List ℕ) (l : NumberedLine) (m : Message) : Type 0 where
-  pub wrong : Spot
+  pub wrong : Spot MessageKind
   pub reads : draft_of by l.text ≡ Err wrong
   pub is : m ≡ message_at file l.number wrong
 

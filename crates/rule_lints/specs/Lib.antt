@@ -1,4 +1,3 @@
-pub mod Spots
 pub mod Texts
 pub mod Parts
 pub mod Modes

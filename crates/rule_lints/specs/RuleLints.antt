@@ -11,9 +11,9 @@ use Rattle.rule_lints.specs.LetterCase.{wrong_case}
 use Rattle.rule_lints.specs.Modes.{wrong_mode}
 use Rattle.rule_lints.specs.Names.{dev_link, is_outside_net, name_given, quoted_name}
 use Rattle.rule_lints.specs.Patterns.{always_holds, expression}
-use Rattle.rule_lints.specs.Spots.{key_spot, value_spot}
+use Rattle.rule_core.specs.Spots.{spot_at_key, value_spot}
 use Rattle.rule_core.specs.Written.{WrittenPart}
-use Rattle.rule_lints.specs.declared.spot.LintSpot.{LintSpot}
+use Rattle.rule_core.specs.declared.spot.Spot.{Spot}
 
 -- the text with which a lint of single tokens is reported for this one, if it is reported
 abbrev pub word_of : Lint → WrittenPart → Option (List ℕ)
@@ -37,28 +37,28 @@ is_of_key AlwaysHolds = true
 is_of_key _ = false
 
 -- a lint about a token, reported with a text
-abbrev pub spot_of : Lint → Placed → List ℕ → LintSpot
-spot_of lint t word = if is_of_key lint then key_spot lint word t else value_spot lint word t
+abbrev pub spot_of : Lint → Placed → List ℕ → Spot Lint
+spot_of lint t word = if is_of_key lint then spot_at_key lint word t else value_spot lint word t
 
 -- what a lint of single tokens finds in this one
-abbrev pub reported_for : Lint → WrittenPart → Option LintSpot
+abbrev pub reported_for : Lint → WrittenPart → Option (Spot Lint)
 reported_for lint w = option_map (spot_of lint w.token) (word_of lint w)
 
 -- what a lint of single tokens finds in these, in written order
-abbrev pub reported : Lint → List WrittenPart → List LintSpot
+abbrev pub reported : Lint → List WrittenPart → List (Spot Lint)
 reported lint tokens = filter_map (reported_for lint) tokens
 
 -- what a lint of single tokens finds in the token that there may be
-abbrev pub reported_if_there : Lint → Option WrittenPart → List LintSpot
+abbrev pub reported_if_there : Lint → Option WrittenPart → List (Spot Lint)
 reported_if_there lint None = []
 reported_if_there lint (Some w) = reported lint (w ∷ [])
 
 -- each W8 of a rule's tokens
-abbrev pub names_reported : List WrittenPart → List LintSpot
+abbrev pub names_reported : List WrittenPart → List (Spot Lint)
 names_reported tokens = if is_outside_net tokens then reported NameOutsideNet tokens else []
 
 -- what is reported for a rule's tokens: the lints in the order of their codes, and those of one code in written order
-unfoldable pub lints_of_rule : List WrittenPart → List LintSpot
+unfoldable pub lints_of_rule : List WrittenPart → List (Spot Lint)
 lints_of_rule tokens =
     ((((((((reported ModeNotOctal tokens
     ++ reported SignOfShell tokens)

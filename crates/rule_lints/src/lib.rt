@@ -13,7 +13,6 @@ mod modes;
 mod names;
 mod parts;
 mod patterns;
-mod spot;
 mod texts;
 
 pub use commands::first_word;
@@ -25,4 +24,3 @@ pub use laws::{
     the_first_stranger_is_reported, what_always_holds_fits_each_text,
 };
 pub use lints::lints_of_rule;
-pub use spot::{LintSpot, key_spot};

@@ -10,16 +10,19 @@ use crate::letter_case::wrong_case;
 use crate::modes::wrong_mode;
 use crate::names::{dev_link, is_outside_net, name_given, quoted_name};
 use crate::patterns::{always_holds, expression};
-use crate::spot::{LintSpot, key_spot, value_spot};
-use rule_core::WrittenPart;
+use rule_core::{Spot, WrittenPart, spot_at_key, value_spot};
 use rule_tokens::Token;
 use rule_types::Lint;
 use std::alloc::{AllocError, Global};
+use text_bytes::Bytes;
 
 /// What is reported for a rule's tokens: the lints of a rule by itself in the order of their codes, and those of
 /// one code in written order.
 #[tactic(auto, unfolding(crate::specs::RuleLints::lints_of_rule))]
-pub fn lints_of_rule(alloc: Global, tokens: &[WrittenPart<'_>]) -> Result<Vec<LintSpot>, AllocError>
+pub fn lints_of_rule(
+    alloc: Global,
+    tokens: &[WrittenPart<'_>],
+) -> Result<Vec<Spot<Lint>>, AllocError>
     ensures { IfOk result (λ spots. spots.items ≡ lints_of_rule tokens.now) }
 {
     let mut spots = Vec::new(alloc);
@@ -39,7 +42,7 @@ pub fn lints_of_rule(alloc: Global, tokens: &[WrittenPart<'_>]) -> Result<Vec<Li
 /// Adds the W5 of a rule's tokens, if any.
 fn add_stranger(
     alloc: Global,
-    spots: &mut Vec<LintSpot>,
+    spots: &mut Vec<Spot<Lint>>,
     tokens: &[WrittenPart<'_>],
 ) -> Result<(), AllocError>
     ensures { OnOk result (spots.new.items ≡ spots.old.items ++ reported_if_there NoSuchDevice (stranger tokens.now)) }
@@ -53,7 +56,7 @@ fn add_stranger(
 /// Adds each W8 of a rule's tokens.
 fn add_names(
     alloc: Global,
-    spots: &mut Vec<LintSpot>,
+    spots: &mut Vec<Spot<Lint>>,
     tokens: &[WrittenPart<'_>],
 ) -> Result<(), AllocError>
     ensures { OnOk result (spots.new.items ≡ spots.old.items ++ names_reported tokens.now) }
@@ -68,7 +71,7 @@ fn add_names(
 /// Adds what a lint of single tokens finds in these.
 fn add(
     alloc: Global,
-    spots: &mut Vec<LintSpot>,
+    spots: &mut Vec<Spot<Lint>>,
     lint: Lint,
     tokens: &[WrittenPart<'_>],
 ) -> Result<(), AllocError>
@@ -83,7 +86,7 @@ fn add(
 /// Adds what a lint of single tokens finds in this one.
 fn add_one(
     alloc: Global,
-    spots: &mut Vec<LintSpot>,
+    spots: &mut Vec<Spot<Lint>>,
     lint: Lint,
     written: &WrittenPart<'_>,
 ) -> Result<(), AllocError>
@@ -101,14 +104,15 @@ fn spot_of(
     lint: Lint,
     word: &[u8],
     token: &Token<'_>,
-) -> Result<LintSpot, AllocError>
+) -> Result<Spot<Lint>, AllocError>
     ensures { IfOk result (λ spot. spot ≡ spot_of lint token.now word.now) }
 {
+    let word = Bytes::copy_of(alloc, word)?;
     match lint {
-        Lint::NoSuchDevice | Lint::QuotedName | Lint::AlwaysHolds => key_spot(
-            alloc, lint, word, token,
-        ),
-        _ => value_spot(alloc, lint, word, token),
+        Lint::NoSuchDevice | Lint::QuotedName | Lint::AlwaysHolds => {
+            Ok(spot_at_key(lint, word, token))
+        }
+        _ => Ok(value_spot(lint, word, token)),
     }
 }
 

@@ -4,7 +4,7 @@ ghost use Rattle.std.specs.List.{list_all, list_any, slice_split};
 ghost use Rattle.text_core.specs.Choices.{is_bar};
 ghost use Rattle.rule_lints.specs.LetterCase.{is_many};
 ghost use Rattle.rule_lints.specs.Patterns.{always_holds, begins_with_class, expression, expression_in, has_braces, has_class, has_close_parenthesis};
-ghost use Rattle.rule_lints.specs.Patterns.{has_open_parenthesis, is_always_there, is_class_letter, is_expression, is_met_by_all, looks_at_all};
+ghost use Rattle.rule_lints.specs.Patterns.{has_open_parenthesis, is_always_there, is_expression, is_met_by_all, looks_at_all};
 ghost use Rattle.rule_lints.specs.Patterns.{some_met_by_all, take_all};
 
 use crate::letter_case::is_many;

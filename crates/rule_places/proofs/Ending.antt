@@ -1,5 +1,5 @@
 -- What follows the last token of a line.
-use Rattle.std.proofs.Common.{◌≡◌, ℕ, ◌+◌, ◌≤◌, Bool, true, false, List, [], ◌∷◌, ◌++◌, length, take, drop, Option, Some, None, Result, Ok, Err, ap, sym, ◌∙◌, subst, append_assoc, append-nil, drop_at, length-append, arith}
+use Rattle.std.proofs.Common.{◌≡◌, ℕ, ◌+◌, ◌≤◌, Bool, true, false, List, [], ◌∷◌, ◌++◌, length, take, drop, Option, Some, None, Ok, Err, ap, sym, ◌∙◌, subst, append_assoc, append-nil, drop_at, length-append, arith}
 use Rattle.std.proofs.lemmas.List.{length-take-le, take-append-drop}
 use Rattle.rule_tokens.specs.Grammar.{AllAre, Item, LexesAt, Placed, answers, is_gap_byte, last, more}
 use Rattle.rule_tokens.specs.Lines.{is_over, items_from, items_left}

@@ -6,6 +6,7 @@ use Rattle.std.proofs.lemmas.List.{drop-append-le, take-append-le}
 use Rattle.text_bytes.specs.Lines.{NumberedLine, numbered_lines}
 use Rattle.text_bytes.specs.declared.profile.Profile.{Profile}
 use Rattle.text_bytes.specs.declared.source_file.SourceFile.{SourceFile}
+use Rattle.file_messages.specs.declared.message.MessageKind.{MessageKind}
 use Rattle.rule_jumps.specs.Jumps.{landings}
 use Rattle.rule_jumps.specs.declared.jumps.Landing.{Landing}
 use Rattle.rule_core.specs.Ends.{abandoned}
@@ -49,7 +50,7 @@ part_within all before text following start at e l h =
     omega (arith, whole, outer, inner, l, h)
 
 -- what is reported for a line
-spot_in_file : (bytes before text following : List ℕ) (number start : ℕ) (s : Spot) → length bytes < 2 ^ 32 - 1 → kept_text (numbered_lines bytes) ≡ before ++ (text ++ following) → length before ≡ start
+spot_in_file : (bytes before text following : List ℕ) (number start : ℕ) (s : Spot MessageKind) → length bytes < 2 ^ 32 - 1 → kept_text (numbered_lines bytes) ≡ before ++ (text ++ following) → length before ≡ start
     → IsTextThere text s → IsInFile bytes (placed (kept_lines bytes) number start s)
 spot_in_file bytes before text following number start s few e l h reported some =
     let all = kept_text (numbered_lines bytes) in
@@ -61,13 +62,13 @@ spot_in_file bytes before text following number start s few e l h reported some 
     (part_of_all all before text following start s.start s.size e l within fits.1 ∙ is_present.1)
     (all_placed bytes (start + s.start) s.size few (part_within all before text following start s.start e l fits.0) (omega (arith, size, some)))
 
-spots_in_file : (bytes before text following : List ℕ) (number start : ℕ) (spots : List Spot) → length bytes < 2 ^ 32 - 1 → kept_text (numbered_lines bytes) ≡ before ++ (text ++ following) → length before ≡ start
+spots_in_file : (bytes before text following : List ℕ) (number start : ℕ) (spots : List (Spot MessageKind)) → length bytes < 2 ^ 32 - 1 → kept_text (numbered_lines bytes) ≡ before ++ (text ++ following) → length before ≡ start
     → AllByRecursion (IsTextThere text) spots → AllByRecursion (IsInFile bytes) (map (placed (kept_lines bytes) number start) spots)
 spots_in_file bytes before text following number start [] few e l all = tt
 spots_in_file bytes before text following number start (s ∷ spots) few e l all =
     (spot_in_file bytes before text following number start s few e l all.0, spots_in_file bytes before text following number start spots few e l all.1)
 
-both : (bytes : List ℕ) (xs ys : List PlacedFinding) → AllByRecursion (IsInFile bytes) xs → AllByRecursion (IsInFile bytes) ys → AllByRecursion (IsInFile bytes) (xs ++ ys)
+both : (bytes : List ℕ) (xs ys : List (PlacedFinding MessageKind)) → AllByRecursion (IsInFile bytes) xs → AllByRecursion (IsInFile bytes) ys → AllByRecursion (IsInFile bytes) (xs ++ ys)
 both bytes [] ys h g = g
 both bytes (x ∷ xs) ys h g = (h.0, both bytes xs ys h.1 g)
 

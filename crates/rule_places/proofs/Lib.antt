@@ -2,8 +2,8 @@ pub mod Capping
 pub mod Keeping
 pub mod Rising
 pub mod Finding
+mod Lining
 pub mod Lengths
-pub mod Filing
 mod Reporting
 mod Prefixes
 mod Quotes

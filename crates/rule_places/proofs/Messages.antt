@@ -5,6 +5,7 @@ use Rattle.std.specs.List.{flat_map}
 use Rattle.file_messages.specs.declared.message.Message.{Message}
 use Rattle.text_bytes.specs.declared.profile.Profile.{Profile}
 use Rattle.text_bytes.specs.declared.source_file.SourceFile.{SourceFile}
+use Rattle.file_messages.specs.declared.message.MessageKind.{MessageKind}
 use Rattle.rule_jumps.specs.declared.jumps.Landing.{Landing}
 use Rattle.rule_core.specs.Ends.{abandoned}
 use Rattle.rule_core.specs.Lines.{joined_lines}
@@ -16,7 +17,7 @@ use Rattle.rule_places.specs.Laws.{as_message}
 use Rattle.rule_places.specs.Placed.{placed}
 use Rattle.rule_places.specs.declared.kept.KeptLine.{KeptLine}
 
-spots_reported : (name : List ℕ) (kept : List KeptLine) (number start : ℕ) (spots : List Spot) → map (as_message name) (map (placed kept number start) spots) ≡ map (message_at name number) spots
+spots_reported : (name : List ℕ) (kept : List KeptLine) (number start : ℕ) (spots : List (Spot MessageKind)) → map (as_message name) (map (placed kept number start) spots) ≡ map (message_at name number) spots
 spots_reported name kept number start [] = refl
 spots_reported name kept number start (s ∷ spots) = ap (λ (ms : List Message). message_at name number s ∷ ms) (spots_reported name kept number start spots)
 

@@ -1,6 +1,6 @@
 -- A line that is open at its file's end ends in the `\` that is reported.
-use Rattle.std.proofs.Common.{◌≡◌, ℕ, suc, ◌+◌, ◌-◌, ◌<◌, ◌^◌, Bool, true, false, true≢false, cond, not, ◌&&◌, List, [], ◌∷◌, ◌++◌, length, take, map, zip, slice_get, Option, Some, None, refl, ap, sym, ◌∙◌, subst, length-drop, length-take, arith}
-use Rattle.std.specs.List.{flat_map, onto_first, prefix_len}
+use Rattle.std.proofs.Common.{◌≡◌, ℕ, suc, ◌+◌, ◌-◌, ◌<◌, ◌^◌, Bool, true, false, true≢false, cond, not, ◌&&◌, List, [], ◌∷◌, ◌++◌, length, take, map, slice_get, Option, Some, None, refl, ap, sym, ◌∙◌, subst, length-drop, length-take, arith}
+use Rattle.std.specs.List.{onto_first, prefix_len}
 use Rattle.text_bytes.specs.Lines.{NumberedLine, lines, numbered_lines}
 use Rattle.text_bytes.specs.Numbers.{capped}
 use Rattle.text_bytes.specs.Names.{backslash, is_blank}

@@ -18,10 +18,10 @@ use Rattle.rule_places.proofs.Quotes.{value_escaped}
 use Rattle.rule_places.proofs.Reporting.{is_of_token}
 
 -- what is said is at its place
-abbrev pub IsPresent : List ℕ → Spot → Type 0
+abbrev pub IsPresent : List ℕ → Spot MessageKind → Type 0
 IsPresent line s = IsTextThere line s × IsQuotedThere line s × FollowsTokens line s × PrecedesTokens line s × IsWholeLine line s
 
-abbrev pub AllPresent : List ℕ → List Spot → Type 0
+abbrev pub AllPresent : List ℕ → List (Spot MessageKind) → Type 0
 AllPresent line spots = AllByRecursion (IsPresent line) spots
 
 -- what is about commas is reported with a text
@@ -53,7 +53,7 @@ values_are_no_text UnknownAccount e = refl
 values_are_no_text _ e = absurd (true≢false (sym e))
 
 -- what is reported with a text of the line
-pub text_in_place : (line : List ℕ) (s : Spot) → is_about_text s.kind ≡ true → IsTextThere line s → FollowsTokens line s → IsPresent line s
+pub text_in_place : (line : List ℕ) (s : Spot MessageKind) → is_about_text s.kind ≡ true → IsTextThere line s → FollowsTokens line s → IsPresent line s
 text_in_place line s e there following = (
   there,
   λ t h. absurd (true≢false (sym e ∙ values_are_no_text s.kind t)),
@@ -63,7 +63,7 @@ text_in_place line s e there following = (
 )
 
 -- what is about a value
-pub quoted_in_place : (line : List ℕ) (s : Spot) → is_about_value s.kind ≡ true → IsQuotedThere line s → IsPresent line s
+pub quoted_in_place : (line : List ℕ) (s : Spot MessageKind) → is_about_value s.kind ≡ true → IsQuotedThere line s → IsPresent line s
 quoted_in_place line s e quoted = (
   λ t h. absurd (true≢false (sym t ∙ values_are_no_text s.kind e)),
   quoted,
@@ -86,15 +86,15 @@ whole_in_place line kind e f = (
   λ t. (refl, refl),
 )
 
-pub both : (line : List ℕ) (xs ys : List Spot) → AllPresent line xs → AllPresent line ys → AllPresent line (xs ++ ys)
+pub both : (line : List ℕ) (xs ys : List (Spot MessageKind)) → AllPresent line xs → AllPresent line ys → AllPresent line (xs ++ ys)
 both line [] ys h g = g
 both line (x ∷ xs) ys h g = (h.0, both line xs ys h.1 g)
 
-pub one_or_none : (line : List ℕ) (b : Bool) (s : Spot) → IsPresent line s → AllPresent line (cond b (s ∷ []) [])
+pub one_or_none : (line : List ℕ) (b : Bool) (s : Spot MessageKind) → IsPresent line s → AllPresent line (cond b (s ∷ []) [])
 one_or_none line true s h = (h, tt)
 one_or_none line false s h = tt
 
-pub none_or_one : (line : List ℕ) (b : Bool) (s : Spot) → IsPresent line s → AllPresent line (cond b [] (s ∷ []))
+pub none_or_one : (line : List ℕ) (b : Bool) (s : Spot MessageKind) → IsPresent line s → AllPresent line (cond b [] (s ∷ []))
 none_or_one line true s h = tt
 none_or_one line false s h = (h, tt)
 

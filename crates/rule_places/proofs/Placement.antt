@@ -124,15 +124,15 @@ given_again_there by line before (w ∷ parts) b all =
     (given_again_there by line (before ++ w ∷ []) parts (one_slice_more line before w b all.0) all.1)
 
 -- the tokens of a line, or what is wrong with one
-abbrev PartsArePresent : List ℕ → Result (List WrittenPart) Spot → Type 0
+abbrev PartsArePresent : List ℕ → Result (List WrittenPart) (Spot MessageKind) → Type 0
 PartsArePresent line (Ok parts) = AllSlices line parts
 PartsArePresent line (Err wrong) = IsPresent line wrong
 
-abbrev PartIsPresent : List ℕ → Result WrittenPart Spot → Type 0
+abbrev PartIsPresent : List ℕ → Result WrittenPart (Spot MessageKind) → Type 0
 PartIsPresent line (Ok w) = IsSlice line w.token
 PartIsPresent line (Err wrong) = IsPresent line wrong
 
-with_present : (line : List ℕ) (w : Result WrittenPart Spot) (parts : Result (List WrittenPart) Spot) → PartIsPresent line w → PartsArePresent line parts → PartsArePresent line (with_part w parts)
+with_present : (line : List ℕ) (w : Result WrittenPart (Spot MessageKind)) (parts : Result (List WrittenPart) (Spot MessageKind)) → PartIsPresent line w → PartsArePresent line parts → PartsArePresent line (with_part w parts)
 with_present line (Ok w) (Ok parts) h g = (h, g)
 with_present line (Ok w) (Err wrong) h g = g
 with_present line (Err wrong) parts h g = h
@@ -172,7 +172,7 @@ all_tokens by line [] [] e = refl
 all_tokens by line [] (w ∷ parts) e = cc
 all_tokens by line (i ∷ items) parts e = on (part_of_item by line i) (parts_of by line items) refl refl e (λ more g. all_tokens by line items more g)
   where
-    on : (x : Result WrittenPart Spot) (rest : Result (List WrittenPart) Spot) → part_of_item by line i ≡ x → parts_of by line items ≡ rest → with_part x rest ≡ Ok parts
+    on : (x : Result WrittenPart (Spot MessageKind)) (rest : Result (List WrittenPart) (Spot MessageKind)) → part_of_item by line i ≡ x → parts_of by line items ≡ rest → with_part x rest ≡ Ok parts
         → ((more : List WrittenPart) → parts_of by line items ≡ Ok more → as_items (tokens_in more) ≡ items) → as_items (tokens_in parts) ≡ i ∷ items
     on (Ok w) (Ok more) f g h others =
         let same : parts ≡ w ∷ more = cc in
@@ -280,7 +280,7 @@ pub record DraftIsPresent (line : List ℕ) (d : Draft) : Type 0 where
   pub goto : NameIsPresent line d.goto
   pub findings : AllPresent line d.findings
 
-abbrev ReadingIsPresent : List ℕ → Result Draft Spot → Type 0
+abbrev ReadingIsPresent : List ℕ → Result Draft (Spot MessageKind) → Type 0
 ReadingIsPresent line (Ok d) = DraftIsPresent line d
 ReadingIsPresent line (Err wrong) = IsPresent line wrong
 
@@ -300,7 +300,7 @@ ended : (by : Profile) (line : List ℕ) (parts : List WrittenPart) (idle : Bool
 ended by line parts true h = whole_in_place line RuleWithoutEffect refl refl
 ended by line parts false h = h
 
-read_in_place : (by : Profile) (line : List ℕ) (read : Result (List WrittenPart) Spot) → parts_of by line (items_as by line) ≡ read → PartsArePresent line read → ReadingIsPresent line (draft_with by line read)
+read_in_place : (by : Profile) (line : List ℕ) (read : Result (List WrittenPart) (Spot MessageKind)) → parts_of by line (items_as by line) ≡ read → PartsArePresent line read → ReadingIsPresent line (draft_with by line read)
 read_in_place by line (Ok parts) e h = ended by line parts (lacks_effect by (tokens_in parts)) (draft_in_place by line parts e h)
 read_in_place by line (Err wrong) e h = h
 
@@ -320,13 +320,13 @@ name_in_place : (line : List ℕ) (kind : MessageKind) (o : Option NamePlace) �
 name_in_place line kind None h e j = quoted_in_place line (name_spot kind None) e (λ t g. let some = g j in absurd (omega (arith, some)))
 name_in_place line kind (Some n) h e j = quoted_in_place line (name_spot kind (Some n)) e (λ t g. h)
 
-spots_in_place : (line : List ℕ) (read : Result Draft Spot) (l : Landing) → ReadingIsPresent line read → AllPresent line (line_findings read l)
+spots_in_place : (line : List ℕ) (read : Result Draft (Spot MessageKind)) (l : Landing) → ReadingIsPresent line read → AllPresent line (line_findings read l)
 spots_in_place line (Ok d) l k =
     both line (cond l.lost (name_spot NoLaterLabel d.goto ∷ []) []) (d.findings ++ cond l.unused (name_spot LabelUnused d.label ∷ []) []) (one_or_none line l.lost (name_spot NoLaterLabel d.goto) (name_in_place line NoLaterLabel d.goto k.goto refl refl))
     (both line d.findings (cond l.unused (name_spot LabelUnused d.label ∷ []) []) k.findings (one_or_none line l.unused (name_spot LabelUnused d.label) (name_in_place line LabelUnused d.label k.label refl refl)))
 spots_in_place line (Err wrong) l k = (k, tt)
 
-pub weaker : (line : List ℕ) (P : Spot → Type 0) (spots : List Spot) → ((s : Spot) → IsPresent line s → P s) → AllPresent line spots → AllByRecursion P spots
+pub weaker : (line : List ℕ) (P : Spot MessageKind → Type 0) (spots : List (Spot MessageKind)) → ((s : Spot MessageKind) → IsPresent line s → P s) → AllPresent line spots → AllByRecursion P spots
 weaker line P [] f h = tt
 weaker line P (s ∷ spots) f h = (f s h.0, weaker line P spots f h.1)
 

@@ -3,6 +3,7 @@ use Rattle.std.specs.Prelude.{ℕ, ◌+◌, if◌then◌else◌, List, [], ◌�
 use Rattle.text_bytes.specs.Lines.{NumberedLine, numbered_lines}
 use Rattle.text_bytes.specs.Numbers.{capped}
 use Rattle.file_messages.specs.declared.message.MessageKind.TheVariants.{FileAbandoned}
+use Rattle.file_messages.specs.declared.message.MessageKind.{MessageKind}
 use Rattle.rule_core.specs.Ends.{is_too_long}
 use Rattle.rule_places.specs.Kept.{file_start}
 use Rattle.rule_places.specs.Placed.{found_at}
@@ -19,5 +20,5 @@ long_place [] = file_start
 long_place (l ∷ ls) = if is_too_long l.text then whole_line l else long_place ls
 
 -- what is found in a file that is given up because of the line with a number
-abbrev pub abandoned_findings : List ℕ → ℕ → List PlacedFinding
+abbrev pub abandoned_findings : List ℕ → ℕ → List (PlacedFinding MessageKind)
 abandoned_findings bytes number = found_at number (long_place (numbered_lines bytes)) FileAbandoned [] ∷ []

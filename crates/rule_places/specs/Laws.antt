@@ -18,7 +18,7 @@ use Rattle.rule_places.specs.declared.placed_finding.PlacedFinding.{PlacedFindin
 use Rattle.rule_core.specs.declared.spot.Spot.{Spot}
 
 -- a finding of a file of this name, as its message
-abbrev pub as_message : List ℕ → PlacedFinding → Message
+abbrev pub as_message : List ℕ → PlacedFinding MessageKind → Message
 as_message name p = message name p.begins p.kind p.word
 
 -- whether what is said is reported with the very text that it is about: a key, an attribute, the letters before a
@@ -59,7 +59,7 @@ is_about_value _ = false
 
 -- if what is said is reported with the text that it is about, and this is not empty, the place has as many bytes as
 -- the text, and the text is in the line there
-abbrev pub IsTextThere : List ℕ → Spot → Type 0
+abbrev pub IsTextThere : List ℕ → Spot MessageKind → Type 0
 IsTextThere line s = is_about_text s.kind ≡ true → 0 < length s.word → (s.size ≡ length s.word) × (take s.size (drop s.start line) ≡ s.word)
 
 -- whether a `\` comes directly before each quote of a text that follows this byte
@@ -81,7 +81,7 @@ is_about_jump _ = false
 
 -- if what is said is about a value, the value is between its quotes; for a jump only if the rule has a name for it,
 -- without which nothing is said about it for a file
-abbrev pub IsQuotedThere : List ℕ → Spot → Type 0
+abbrev pub IsQuotedThere : List ℕ → Spot MessageKind → Type 0
 IsQuotedThere line s = is_about_value s.kind ≡ true → (is_about_jump s.kind ≡ true → 0 < length s.word) → IsQuoted line s.start s.size
 
 -- the part is what follows the last token: all from a quote up to the line's end, which is blanks and commas
@@ -96,7 +96,7 @@ is_about_commas CommaExpected = true
 is_about_commas _ = false
 
 -- if what is said is about commas, and is reported with no key, it is said about what follows the last token
-abbrev pub FollowsTokens : List ℕ → Spot → Type 0
+abbrev pub FollowsTokens : List ℕ → Spot MessageKind → Type 0
 FollowsTokens line s = is_about_commas s.kind ≡ true → s.word ≡ [] → IsAfterTokens line s.start s.size
 
 -- whether what is said is about commas before the first token
@@ -113,7 +113,7 @@ pub record IsBeforeTokens (line : List ℕ) (start size : ℕ) : Type 0 where
   pub comma : 0 < commas (take size line)
 
 -- if what is said is about commas before the first token, it is said about the gap there
-abbrev pub PrecedesTokens : List ℕ → Spot → Type 0
+abbrev pub PrecedesTokens : List ℕ → Spot MessageKind → Type 0
 PrecedesTokens line s = is_about_leading_commas s.kind ≡ true → IsBeforeTokens line s.start s.size
 
 -- whether what is said is about a rule as a whole
@@ -123,7 +123,7 @@ is_about_rule RuleWithoutEffect = true
 is_about_rule _ = false
 
 -- if what is said is about a rule as a whole, it is said about the whole line
-abbrev pub IsWholeLine : List ℕ → Spot → Type 0
+abbrev pub IsWholeLine : List ℕ → Spot MessageKind → Type 0
 IsWholeLine line s = is_about_rule s.kind ≡ true → (s.start ≡ 0) × (s.size ≡ length line)
 
 -- A text is at a place of a file: the line of the place's number has from the column up to the end, which is after
@@ -138,19 +138,19 @@ pub record IsFoundIn (bytes text : List ℕ) (p : Place) : Type 0 where
   pub whole : (p.end - p.column ≡ length text) ⊎ (p.end - 1 ≡ length (piece_of line).text)
 
 -- the place of a finding
-abbrev pub place_of : PlacedFinding → Place
+abbrev pub place_of : PlacedFinding MessageKind → Place
 place_of p = record { line = p.line; column = p.column; end = p.end }
 
 -- if a finding of a file is reported with the text that it is about, and this is not empty, the text is in the file
 -- at its place
-abbrev pub IsInFile : List ℕ → PlacedFinding → Type 0
+abbrev pub IsInFile : List ℕ → PlacedFinding MessageKind → Type 0
 IsInFile bytes p = is_about_text p.kind ≡ true → 0 < length p.word → IsFoundIn bytes p.word (place_of p)
 
 -- The last finding of a file with these bytes is that a line is open. It is at the `\` that is the last byte of the
 -- last line of the file that is not a comment.
-pub record EndsOpen (bytes : List ℕ) (found : List PlacedFinding) : Type 0 where
-  pub others : List PlacedFinding
-  pub reported : PlacedFinding
+pub record EndsOpen (bytes : List ℕ) (found : List (PlacedFinding MessageKind)) : Type 0 where
+  pub others : List (PlacedFinding MessageKind)
+  pub reported : PlacedFinding MessageKind
   pub last : found ≡ others ++ reported ∷ []
   pub kind : reported.kind ≡ OpenAtEnd
   pub before : List NumberedLine
@@ -165,8 +165,8 @@ pub record EndsOpen (bytes : List ℕ) (found : List PlacedFinding) : Type 0 whe
 
 -- About a file with these bytes only one thing is found, that it is given up, and this about the whole of the first
 -- line that is too long.
-pub record IsReportedForOneLine (bytes : List ℕ) (found : List PlacedFinding) : Type 0 where
-  pub reported : PlacedFinding
+pub record IsReportedForOneLine (bytes : List ℕ) (found : List (PlacedFinding MessageKind)) : Type 0 where
+  pub reported : PlacedFinding MessageKind
   pub only : found ≡ reported ∷ []
   pub kind : reported.kind ≡ FileAbandoned
   pub before : List NumberedLine

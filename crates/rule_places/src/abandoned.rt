@@ -15,7 +15,7 @@ pub fn abandoned_findings(
     alloc: Global,
     bytes: &[u8],
     number: u32,
-) -> Result<Vec<PlacedFinding>, AllocError>
+) -> Result<Vec<PlacedFinding<MessageKind>>, AllocError>
     ensures { IfOk result (λ found. found.items ≡ abandoned_findings bytes.now number) }
 {
     let place = long_place(bytes);

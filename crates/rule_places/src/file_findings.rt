@@ -1,68 +1,35 @@
 //! All findings of a file, with their places.
-ghost use Rattle.std.specs.Prelude.{◌≡◌, ◌∷◌, ◌++◌, [], if◌then◌else◌, IfOk, OnOk, map};
+ghost use Rattle.std.specs.Prelude.{◌≡◌, ◌+◌, ◌∷◌, ◌++◌, [], if◌then◌else◌, IfOk, OnOk, length, map};
 ghost use Rattle.rule_core.specs.Rules.{findings_of, name_spot};
-ghost use Rattle.rule_places.specs.Files.{findings_of_lines, open_findings, placed_findings, placed_from, placed_line, placed_lines};
+ghost use Rattle.rule_places.specs.Files.{open_findings, placed_from, placed_line, placed_lines};
 ghost use Rattle.rule_places.specs.Placed.{placed};
 
-use crate::abandoned::abandoned_findings;
 use crate::kept::KeptLines;
 use crate::placed_finding::PlacedFinding;
 use crate::placed_spots::{place_spots, placed};
 use file_messages::MessageKind;
-use rule_core::{
-    Draft, LandedReading, NamePlace, Spot, abandoned_at, joined_lines, read_lines, sum_of,
-};
+use rule_core::{Draft, LandedReading, NamePlace, Reading, Spot, sum_of};
 use rule_jumps::Landing;
 use std::alloc::{AllocError, Global};
-use text_bytes::{Bytes, Profile, SourceFile};
+use text_bytes::Bytes;
 
-/// The findings of a rules file in the order of its messages, each with the physical line, the columns and the
-/// whole text that it is about. Each finding corresponds to one message that `read_rules_as` gives for the file.
+/// The findings of all lines of a file that were read, and of the one that is still open at its end, in the order of
+/// its messages, each with the physical line, the columns and the whole text that it is about. The kept lines are
+/// those of the same file.
 ///
 /// Places, by code: for V1 all from the fault to the rule's end; for V10 the letters; for V2, V3, V4, V24, S1, S2,
 /// S3 and S6 the key of the token, or for S1 the gap after the last token; for V13 the attribute between its
 /// braces; for V5, V6, V11, V14 and V15 the value between its quotes, for V8 that of the name that does not count,
 /// for V7 that of the GOTO and for S4 that of the LABEL that counts; for S5 the gap before the first token; for V9
-/// and V18 the whole rule; for V12 the backslash at the end of the last line; for V26 the whole line that is too
-/// long. A place in several physical lines is reported as far as it is in the first of them. The number of a line
-/// or a column is at most 2^32 - 1.
-pub fn placed_findings(
-    alloc: Global,
-    profile: Profile,
-    file: &SourceFile,
-) -> Result<Vec<PlacedFinding>, AllocError>
-    ensures { IfOk result (λ found. found.items ≡ placed_findings profile file.now) }
-{
-    let bytes = file.bytes.as_slice();
-    match abandoned_at(profile, bytes) {
-        Some(number) => abandoned_findings(alloc, bytes, number),
-        None => findings_of_lines(alloc, profile, bytes),
-    }
-}
-
-/// The findings of the lines of a file with these bytes.
-fn findings_of_lines(
-    alloc: Global,
-    profile: Profile,
-    bytes: &[u8],
-) -> Result<Vec<PlacedFinding>, AllocError>
-    ensures { IfOk result (λ found. found.items ≡ findings_of_lines profile bytes.now) }
-{
-    let kept = KeptLines::of(alloc, bytes)?;
-    let joined = joined_lines(alloc, profile, bytes)?;
-    let lines = read_lines(alloc, profile, joined.lines())?;
-    placed_lines(alloc, &kept, &lines, joined.open_at())
-}
-
-/// The findings of all lines of a file that were read, by line, and of the one that is still open at its end. The kept
-/// lines are those of the same file.
+/// and V18 the whole rule; for V12 the backslash at the end of the last line. A place in several physical lines is
+/// reported as far as it is in the first of them. The number of a line or a column is at most 2^32 - 1.
 pub fn placed_lines(
     alloc: Global,
     kept: &KeptLines,
-    lines: &[LandedReading<'_>],
+    lines: Vec<LandedReading<'_>>,
     open_at: Option<u32>,
-) -> Result<Vec<PlacedFinding>, AllocError>
-    ensures { IfOk result (λ found. found.items ≡ placed_lines kept.now lines.now open_at) }
+) -> Result<Vec<PlacedFinding<MessageKind>>, AllocError>
+    ensures { IfOk result (λ found. found.items ≡ placed_lines kept.now lines.entry.items open_at) }
 {
     let mut found = place_lines(alloc, kept, lines)?;
     place_open(alloc, &mut found, kept, open_at)?;
@@ -73,64 +40,62 @@ pub fn placed_lines(
 fn place_lines(
     alloc: Global,
     kept: &KeptLines,
-    lines: &[LandedReading<'_>],
-) -> Result<Vec<PlacedFinding>, AllocError>
-    ensures { IfOk result (λ found. found.items ≡ placed_from kept.now 0 lines.now) }
+    lines: Vec<LandedReading<'_>>,
+) -> Result<Vec<PlacedFinding<MessageKind>>, AllocError>
+    ensures { IfOk result (λ found. found.items ≡ placed_from kept.now 0 lines.entry.items) }
 {
     let mut found = Vec::new(alloc);
     let mut start = 0;
     for line in lines {
-        place_line(alloc, &mut found, kept, start, line)?;
-        start = sum_of(start, line.reading.text.len())?;
+        start = place_line(alloc, &mut found, kept, start, line)?;
     }
     Ok(found)
 }
 
-/// Adds the findings of a line that follows so many bytes of other joined lines.
+/// Adds the findings of a line that follows so many bytes of other joined lines, and returns how many bytes come
+/// before the next line.
 fn place_line(
     alloc: Global,
-    found: &mut Vec<PlacedFinding>,
+    found: &mut Vec<PlacedFinding<MessageKind>>,
     kept: &KeptLines,
     start: usize,
-    line: &LandedReading<'_>,
-) -> Result<(), AllocError>
-    ensures { OnOk result (found.new.items ≡ found.old.items ++ placed_line kept.now start line.now) }
+    line: LandedReading<'_>,
+) -> Result<usize, AllocError>
+    ensures found { OnOk result (found.new.items ≡ found.old.items ++ placed_line kept.now start line.entry) }
+    ensures next { IfOk result (λ next. next ≡ start + length line.entry.0.text) }
 {
-    let number = line.reading.line;
-    match &line.reading.read {
-        Ok(draft) => place_draft(alloc, found, kept, number, start, draft, line.landing),
-        Err(wrong) => {
-            found.push(placed(alloc, kept, number, start, wrong)?)?;
-            Ok(())
-        }
+    let LandedReading { reading, landing } = line;
+    let Reading { line, text, read } = reading;
+    match read {
+        Ok(draft) => place_draft(alloc, found, kept, line, start, draft, landing)?,
+        Err(wrong) => found.push(placed(kept, line, start, wrong)?)?,
     }
+    sum_of(start, text.len())
 }
 
 /// Adds the findings about a rule: first about its jump, and about its label last.
 fn place_draft(
     alloc: Global,
-    found: &mut Vec<PlacedFinding>,
+    found: &mut Vec<PlacedFinding<MessageKind>>,
     kept: &KeptLines,
     number: u32,
     start: usize,
-    draft: &Draft<'_>,
+    draft: Draft<'_>,
     landing: Landing,
 ) -> Result<(), AllocError>
-    ensures { OnOk result (found.new.items ≡ found.old.items ++ map (placed kept.now number start) (findings_of draft.now landing)) }
+    ensures { OnOk result (found.new.items ≡ found.old.items ++ map (placed kept.now number start) (findings_of draft.entry landing)) }
 {
+    let Draft {
+        label,
+        goto,
+        parts,
+        findings,
+    } = draft;
+    drop(parts);
     let lost = MessageKind::NoLaterLabel;
     let unused = MessageKind::LabelUnused;
-    place_name(
-        alloc,
-        found,
-        kept,
-        number,
-        start,
-        landing.lost,
-        lost,
-        &draft.goto,
-    )?;
-    place_spots(alloc, found, kept, number, start, &draft.findings)?;
+    place_name(alloc, found, kept, number, start, landing.lost, lost, goto)?;
+    place_spots(found, kept, number, start, findings)?;
     place_name(
         alloc,
         found,
@@ -139,58 +104,54 @@ fn place_draft(
         start,
         landing.unused,
         unused,
-        &draft.label,
+        label,
     )
 }
 
 /// Adds a finding about a name, if anything is wrong with it.
 fn place_name(
     alloc: Global,
-    found: &mut Vec<PlacedFinding>,
+    found: &mut Vec<PlacedFinding<MessageKind>>,
     kept: &KeptLines,
     number: u32,
     start: usize,
     wrong: bool,
     kind: MessageKind,
-    given: &Option<NamePlace>,
+    given: Option<NamePlace>,
 ) -> Result<(), AllocError>
-    ensures { OnOk result (found.new.items ≡ found.old.items ++ map (placed kept.now number start) (if wrong then name_spot kind given.now ∷ [] else [])) }
+    ensures { OnOk result (found.new.items ≡ found.old.items ++ map (placed kept.now number start) (if wrong then name_spot kind given ∷ [] else [])) }
 {
     if wrong {
-        let spot = name_spot(alloc, kind, given)?;
-        found.push(placed(alloc, kept, number, start, &spot)?)?;
+        let spot = name_spot(alloc, kind, given);
+        found.push(placed(kept, number, start, spot)?)?;
     }
     Ok(())
 }
 
 /// A finding about a name, which is empty if there is none.
-fn name_spot(
-    alloc: Global,
-    kind: MessageKind,
-    given: &Option<NamePlace>,
-) -> Result<Spot, AllocError>
-    ensures { IfOk result (λ spot. spot ≡ name_spot kind given.now) }
+fn name_spot(alloc: Global, kind: MessageKind, given: Option<NamePlace>) -> Spot<MessageKind>
+    ensures { result ≡ name_spot kind given }
 {
     match given {
-        None => Ok(Spot {
+        None => Spot {
             kind,
             word: Bytes::new(Vec::new(alloc)),
             start: 0,
             size: 0,
-        }),
-        Some(place) => Ok(Spot {
+        },
+        Some(NamePlace { name, start, size }) => Spot {
             kind,
-            word: Bytes::copy_of(alloc, place.name.as_slice())?,
-            start: place.start,
-            size: place.size,
-        }),
+            word: name,
+            start,
+            size,
+        },
     }
 }
 
 /// Adds the finding of a line that is still open at the file's end, if there is one.
 fn place_open(
     alloc: Global,
-    found: &mut Vec<PlacedFinding>,
+    found: &mut Vec<PlacedFinding<MessageKind>>,
     kept: &KeptLines,
     open_at: Option<u32>,
 ) -> Result<(), AllocError>

@@ -25,7 +25,7 @@ pub struct KeptLine {
 
 /// A part of a line of a file.
 #[derive(Clone, Copy, Debug)]
-pub struct Place {
+pub(crate) struct Place {
     /// The line's number.
     pub line: u32,
     /// The column of the part's first byte.
@@ -62,7 +62,7 @@ impl KeptLines {
     }
 
     /// Where so many bytes are, from a place among the bytes of kept lines on, as far as they are in one line.
-    pub fn place_in(&self, at: usize, size: usize) -> Place
+    pub(crate) fn place_in(&self, at: usize, size: usize) -> Place
         ensures { result ≡ place_in self.now at size }
     {
         match self.line_at(at) {
@@ -82,7 +82,7 @@ impl KeptLines {
     }
 
     /// Where the backslash at the end of the last line is.
-    pub fn place_of_backslash(&self) -> Place
+    pub(crate) fn place_of_backslash(&self) -> Place
         ensures { result ≡ place_of_backslash self.now }
     {
         match self.lines.last() {

@@ -14,8 +14,8 @@ mod placed_finding;
 mod placed_spots;
 
 pub use abandoned::abandoned_findings;
-pub use file_findings::{placed_findings, placed_lines};
-pub use kept::{KeptLines, Place};
+pub use file_findings::placed_lines;
+pub use kept::KeptLines;
 pub use laws::{
     abandoned_files_are_reported_for_one_line, findings_are_in_their_lines,
     findings_are_the_messages, first_commas_precede_tokens, joined_lines_are_kept_lines,
@@ -25,4 +25,3 @@ pub use laws::{
 };
 pub use placed_finding::PlacedFinding;
 pub use placed_spots::place_spots;
-pub use rule_core::{Spot, attribute_spot, key_spot, sum_of, value_spot};

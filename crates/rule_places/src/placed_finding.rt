@@ -1,12 +1,11 @@
-//! A finding with the place that it is about.
+//! Something that is reported for a rules file, with the place that it is about.
 
-use file_messages::MessageKind;
 use text_bytes::Bytes;
 
-/// A finding about a rules file, with the place in the file that it is about.
+/// Something that is reported for a rules file, a finding or a lint, with the place in the file that it is about.
 #[derive(Debug, Drop)]
-pub struct PlacedFinding {
-    /// The line number that the message gives, counted from 1: that of the rule's first line, or for udev of its
+pub struct PlacedFinding<K> {
+    /// The line number with which the rule is reported, counted from 1: that of its first line, or for udev of its
     /// last.
     pub begins: u32,
     /// The number of the line in which the place begins, counted from 1.
@@ -15,8 +14,8 @@ pub struct PlacedFinding {
     pub column: u32,
     /// The column after the last byte of the place that is in that same line.
     pub end: u32,
-    /// What is found.
-    pub kind: MessageKind,
-    /// The whole text of which the message gives the first 32 bytes.
+    /// What is reported.
+    pub kind: K,
+    /// The whole text that it is reported with.
     pub word: Bytes,
 }

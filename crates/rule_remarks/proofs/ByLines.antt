@@ -1,63 +1,17 @@
 -- Elements that are put among others by their lines.
-use Rattle.std.proofs.Common.{◌≡◌, ℕ, suc, ◌+◌, ◌<◌, ◌≤◌, Bool, true, false, true≢false, cond, nat_lt, ◌||◌, take-append-drop, lt-ltb, List, [], ◌∷◌, ◌++◌, drop, take, refl, subst, ap, sym, ◌∙◌, append_assoc, arith}
-use Rattle.std.specs.List.{list_any, prefix_len}
+use Rattle.std.proofs.Common.{◌≡◌, ℕ, suc, ◌+◌, ◌<◌, ◌≤◌, Bool, true, false, true≢false, cond, nat_lt, List, [], ◌∷◌, ◌++◌, drop, subst, ap, sym, ◌∙◌, refl, arith}
+use Rattle.std.specs.List.{prefix_len}
 use Rattle.std.proofs.lemmas.Bool.{ltb-false, ltb-true}
 use Rattle.std.proofs.lemmas.List.Sums.{take_while-cons}
 use Rattle.rule_remarks.specs.ByLine.{before, by_line, from_line}
 use Rattle.rule_core.specs.Laws.{RisesFrom}
 
 module _ {X : Type 0} (line_of : X → ℕ) where
-  -- an element more, with the others before it
-  pub one_by_line : (others reported pushed rest following more done : List X) (x : X)
-      → ((left : List X) → reported ++ by_line line_of left rest ≡ by_line line_of (done ++ left) others)
-      → pushed ≡ reported ++ before line_of rest (line_of x) → following ≡ from_line line_of rest (line_of x) → more ≡ pushed ++ x ∷ []
-      → (left : List X) → more ++ by_line line_of left following ≡ by_line line_of ((done ++ x ∷ []) ++ left) others
-  one_by_line others reported pushed rest following more done x so_far h g k left =
-      ap (λ (ms : List X). ms ++ by_line line_of left following) k
-      ∙ append_assoc pushed (x ∷ []) (by_line line_of left following)
-      ∙ ap (λ (ms : List X). ms ++ x ∷ by_line line_of left following) h
-      ∙ append_assoc reported (before line_of rest (line_of x)) (x ∷ by_line line_of left following)
-      ∙ ap (λ (os : List X). reported ++ (before line_of rest (line_of x) ++ x ∷ by_line line_of left os)) g
-      ∙ so_far (x ∷ left)
-      ∙ ap (λ (ls : List X). by_line line_of ls others) (sym (append_assoc done (x ∷ []) left))
-
   passed : (b : Bool) (n : ℕ) (x : X) (xs : List X) → b ≡ true → drop (cond b (1 + n) 0) (x ∷ xs) ≡ drop n xs
   passed true n x xs e =
       let one : 1 + n ≡ suc n = omega arith in
       ap (λ (k : ℕ). drop k (x ∷ xs)) one
   passed false n x xs e = absurd (true≢false (sym e))
-
-  -- the first of the others goes over
-  pub one_moved : (n : ℕ) (reported now all : List X) (x : X) (ys xs : List X) → reported ++ before line_of ys n ≡ all → ys ≡ x ∷ xs → line_of x < n → now ≡ reported ++ x ∷ [] → now ++ before line_of xs n ≡ all
-  one_moved n reported now all x ys xs h whole less k =
-      ap (λ (zs : List X). zs ++ before line_of xs n) k
-      ∙ append_assoc reported (x ∷ []) (before line_of xs n)
-      ∙ ap (λ (zs : List X). reported ++ zs) (sym (take_while-cons (λ y. nat_lt (line_of y) n) x xs ∙ ap (λ (b : Bool). cond b (x ∷ before line_of xs n) []) (lt-ltb (line_of x) n less)))
-      ∙ ap (λ (zs : List X). reported ++ before line_of zs n) (sym whole)
-      ∙ h
-
-  pub one_passed : (n : ℕ) (x : X) (ys xs all : List X) → from_line line_of ys n ≡ all → ys ≡ x ∷ xs → line_of x < n → from_line line_of xs n ≡ all
-  one_passed n x ys xs all h whole less =
-      sym (passed (nat_lt (line_of x) n) (prefix_len (λ y. nat_lt (line_of y) n) xs) x xs (lt-ltb (line_of x) n less))
-      ∙ ap (λ (zs : List X). from_line line_of zs n) (sym whole)
-      ∙ h
-
-  -- none is left to go over
-  pub none_passed : (n : ℕ) (xs all : List X) → from_line line_of xs n ≡ all → before line_of xs n ≡ [] → xs ≡ all
-  none_passed n xs all h e = sym (take-append-drop (prefix_len (λ y. nat_lt (line_of y) n) xs) xs) ∙ ap (λ (ys : List X). ys ++ from_line line_of xs n) e ∙ h
-
-  pub none_before : (n : ℕ) (xs : List X) → list_any (λ x. nat_lt (line_of x) n) (take 1 xs) ≡ false → before line_of xs n ≡ []
-  none_before n [] e = refl
-  none_before n (x ∷ xs) e = by (nat_lt (line_of x) n) refl e
-    where
-      by : (b : Bool) → nat_lt (line_of x) n ≡ b → (b || false) ≡ false → before line_of (x ∷ xs) n ≡ []
-      by true f g = absurd (true≢false g)
-      by false f g = take_while-cons (λ y. nat_lt (line_of y) n) x xs ∙ ap (λ (c : Bool). cond c (x ∷ before line_of xs n) []) f
-
-  -- without others
-  pub alone : (xs : List X) → by_line line_of xs [] ≡ xs
-  alone [] = refl
-  alone (x ∷ xs) = ap (λ (ys : List X). x ∷ ys) (alone xs)
 
   -- what is left begins at the line
   left_rises : (n m : ℕ) (xs : List X) → RisesFrom line_of n xs → RisesFrom line_of m (from_line line_of xs m)

@@ -3,6 +3,7 @@ use Rattle.std.proofs.Common.{◌≡◌, ℕ, ◌+◌, true, inl, inr, List, [],
 use Rattle.std.specs.List.{AllByRecursion}
 use Rattle.text_bytes.specs.Lines.{NumberedLine}
 use Rattle.text_bytes.specs.declared.profile.Profile.TheVariants.{Udev}
+use Rattle.file_messages.specs.declared.message.MessageKind.{MessageKind}
 use Rattle.rule_jumps.specs.Jumps.{landings}
 use Rattle.rule_jumps.specs.declared.jumps.Landing.{Landing}
 use Rattle.rule_core.specs.Drafts.{Draft, draft_of}
@@ -21,16 +22,16 @@ use Rattle.rule_remarks.specs.Laws.{IsOfRule}
 use Rattle.rule_remarks.specs.Remarks.{rule_remarks}
 use Rattle.rule_remarks.specs.Rules.{file_remarks, line_remarks, remarks_from, remarks_unless}
 
-both : (all : List NumberedLine) (xs ys : List PlacedFinding) → AllByRecursion (IsOfRule all) xs → AllByRecursion (IsOfRule all) ys → AllByRecursion (IsOfRule all) (xs ++ ys)
+both : (all : List NumberedLine) (xs ys : List (PlacedFinding MessageKind)) → AllByRecursion (IsOfRule all) xs → AllByRecursion (IsOfRule all) ys → AllByRecursion (IsOfRule all) (xs ++ ys)
 both all [] ys h g = g
 both all (x ∷ xs) ys h g = (h.0, both all xs ys h.1 g)
 
 module _ (accounts : Accounts) (kept : List KeptLine) (all : List NumberedLine) where
-  spots_of_rule : (l : NumberedLine) (start : ℕ) (spots : List Spot) → IsAmong l all → is_ok (draft_of Udev l.text) ≡ true → AllByRecursion (IsOfRule all) (map (placed kept l.number start) spots)
+  spots_of_rule : (l : NumberedLine) (start : ℕ) (spots : List (Spot MessageKind)) → IsAmong l all → is_ok (draft_of Udev l.text) ≡ true → AllByRecursion (IsOfRule all) (map (placed kept l.number start) spots)
   spots_of_rule l start [] a r = tt
   spots_of_rule l start (s ∷ spots) a r = (record { line = l; among = a; read = r; number = refl }, spots_of_rule l start spots a r)
 
-  of_line : (l : NumberedLine) (start : ℕ) (read : Result Draft Spot) → draft_of Udev l.text ≡ read → IsAmong l all → AllByRecursion (IsOfRule all) (map (placed kept l.number start) (line_remarks accounts read))
+  of_line : (l : NumberedLine) (start : ℕ) (read : Result Draft (Spot MessageKind)) → draft_of Udev l.text ≡ read → IsAmong l all → AllByRecursion (IsOfRule all) (map (placed kept l.number start) (line_remarks accounts read))
   of_line l start (Ok d) e a = spots_of_rule l start (rule_remarks accounts (tokens_in d.parts)) a (ap is_ok e)
   of_line l start (Err wrong) e a = tt
 

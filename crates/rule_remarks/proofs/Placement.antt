@@ -174,7 +174,7 @@ pairs_are_text : (kind : PairKind) → is_about_text (message_of kind) ≡ true
 pairs_are_text Same = refl
 pairs_are_text Against = refl
 
-pair_reported : (line : List ℕ) (kind : PairKind) (t : Option Placed) (others : List Spot) → MayBeSlice line t → AllPresent line others → AllPresent line (cons_option (option_map (key_spot (message_of kind)) t) others)
+pair_reported : (line : List ℕ) (kind : PairKind) (t : Option Placed) (others : List (Spot MessageKind)) → MayBeSlice line t → AllPresent line others → AllPresent line (cons_option (option_map (key_spot (message_of kind)) t) others)
 pair_reported line kind None others h more = more
 pair_reported line kind (Some t) others h more = (key_in_place line (message_of kind) t h (pairs_are_text kind), more)
 
@@ -196,12 +196,12 @@ slices line [] parts e h =
     subst (λ (ps : List WrittenPart). AllByRecursion (IsSlice line) (tokens_in ps)) none tt
 slices line (Err fault ∷ items) parts e h = absurd (wrong_first (parts_of Udev line items) e)
   where
-    wrong_first : (rest : Result (List WrittenPart) Spot) → with_part (Err (token_spot fault.kind fault.at line)) rest ≡ Ok parts → ⊥
+    wrong_first : (rest : Result (List WrittenPart) (Spot MessageKind)) → with_part (Err (token_spot fault.kind fault.at line)) rest ≡ Ok parts → ⊥
     wrong_first (Ok more) g = cc
     wrong_first (Err other) g = cc
 slices line (Ok t ∷ items) parts e h = by (part_of Udev t) (parts_of Udev line items) refl e (λ more f. slices line items more f h.1)
   where
-    by : (x : Result Part Finding) (rest : Result (List WrittenPart) Spot) → parts_of Udev line items ≡ rest → with_part (written_part t x) rest ≡ Ok parts
+    by : (x : Result Part Finding) (rest : Result (List WrittenPart) (Spot MessageKind)) → parts_of Udev line items ≡ rest → with_part (written_part t x) rest ≡ Ok parts
         → ((more : List WrittenPart) → parts_of Udev line items ≡ Ok more → AllByRecursion (IsSlice line) (tokens_in more)) → AllByRecursion (IsSlice line) (tokens_in parts)
     by (Ok p) (Ok more) f g others =
         let all : record { token = t; part = p } ∷ more ≡ parts = cc in
@@ -221,7 +221,7 @@ line_reported accounts line = on (nat_lt (most_bytes Udev) (length line))
     kept parts true e = tt
     kept parts false e = rule_reported accounts line (tokens_in parts) (slices line items parts e (all_lie Udev line))
 
-    read : (r : Result (List WrittenPart) Spot) → parts_of Udev line items ≡ r → AllPresent line (line_remarks accounts (draft_with Udev line r))
+    read : (r : Result (List WrittenPart) (Spot MessageKind)) → parts_of Udev line items ≡ r → AllPresent line (line_remarks accounts (draft_with Udev line r))
     read (Ok parts) e = kept parts (lacks_effect Udev (tokens_in parts)) e
     read (Err wrong) e = tt
 

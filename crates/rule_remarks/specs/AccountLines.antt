@@ -1,5 +1,5 @@
 -- The users and groups that files like /etc/passwd and /etc/group list.
-use Rattle.std.specs.Prelude.{ℕ, ◌^◌, Bool, ◌||◌, ◌==◌, codes, if◌then◌else◌, List, filter_map, Option, Some, None, is_some, option_map}
+use Rattle.std.specs.Prelude.{ℕ, ◌^◌, Bool, ◌||◌, ◌==◌, codes, if◌then◌else◌, List, filter_map, Option, None, is_some, option_map}
 use Rattle.std.specs.Option.{option_and_then, unwrap_or}
 use Rattle.std.specs.List.{before_first}
 use Rattle.text_bytes.specs.Lines.{NumberedLine, numbered_lines}

@@ -2,6 +2,7 @@
 use Rattle.std.specs.Prelude.{◌≡◌, ℕ, ◌∷◌, ◌++◌, true, is_ok, List, codes}
 use Rattle.text_bytes.specs.Lines.{NumberedLine}
 use Rattle.text_bytes.specs.declared.profile.Profile.TheVariants.{Udev}
+use Rattle.file_messages.specs.declared.message.MessageKind.{MessageKind}
 use Rattle.rule_tokens.specs.Grammar.{Placed}
 use Rattle.rule_core.specs.Drafts.{draft_of}
 use Rattle.rule_places.specs.Shown.{IsAmong}
@@ -15,7 +16,7 @@ pub record HasWayUp (text : List ℕ) : Type 0 where
   pub whole : text ≡ prefix ++ (codes "../" ++ following)
 
 -- what is reported is reported for one of these lines, which is a rule for udev
-pub record IsOfRule (ls : List NumberedLine) (reported : PlacedFinding) : Type 0 where
+pub record IsOfRule (ls : List NumberedLine) (reported : PlacedFinding MessageKind) : Type 0 where
   pub line : NumberedLine
   pub among : IsAmong line ls
   pub read : is_ok (draft_of Udev line.text) ≡ true

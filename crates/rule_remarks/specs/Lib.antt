@@ -4,6 +4,5 @@ pub mod Remarks
 pub mod Rules
 pub mod ByLine
 pub mod Findings
-pub mod Steps
 pub mod AccountLines
 pub mod Laws

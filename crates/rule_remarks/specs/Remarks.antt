@@ -17,7 +17,7 @@ use Rattle.rule_remarks.specs.Attributes.{is_bad_name, is_elsewhere}
 use Rattle.rule_remarks.specs.Values.{value_fault}
 
 -- what is reported for the attribute of a token, if it has one
-abbrev pub attribute_remarks : Key → Placed → Option (List ℕ) → List Spot
+abbrev pub attribute_remarks : Key → Placed → Option (List ℕ) → List (Spot MessageKind)
 attribute_remarks k t None = []
 attribute_remarks k t (Some name) =
     (if is_bad_name k name then attribute_spot BadAttributeSubstitution t ∷ [] else [])
@@ -29,23 +29,23 @@ is_of_key EmptyValue = true
 is_of_key _ = false
 
 -- a token's value, reported with what it means, or its key
-abbrev pub fault_spot : MessageKind → Placed → Spot
+abbrev pub fault_spot : MessageKind → Placed → Spot MessageKind
 fault_spot kind t = if is_of_key kind then key_spot kind t else value_spot kind (meaning_of t) t
 
 -- what is reported for the value of a token, if something is wrong with it
-abbrev pub value_remarks : Option MessageKind → Placed → List Spot
+abbrev pub value_remarks : Option MessageKind → Placed → List (Spot MessageKind)
 value_remarks None t = []
 value_remarks (Some kind) t = fault_spot kind t ∷ []
 
 -- what is reported for a token, if its key is known
-abbrev pub remarks_by : Accounts → Placed → Option Key → List Spot
+abbrev pub remarks_by : Accounts → Placed → Option Key → List (Spot MessageKind)
 remarks_by accounts t None = []
 remarks_by accounts t (Some k) =
     attribute_remarks k t t.parts.head.attribute
     ++ value_remarks (value_fault accounts k t.parts.head.operator (meaning_of t)) t
 
 -- what is reported for a token: for its attribute, then for its value
-unfoldable pub token_remarks : Accounts → Placed → List Spot
+unfoldable pub token_remarks : Accounts → Placed → List (Spot MessageKind)
 token_remarks accounts t = remarks_by accounts t (key_of t.parts.head.key)
 
 -- whether a token is a RESULT
@@ -62,17 +62,17 @@ late_program [] = None
 late_program (t ∷ tokens) = if is_result t then find is_program tokens else late_program tokens
 
 -- what is reported for such a PROGRAM, if there is one
-abbrev pub order_remarks : Option Placed → List Spot
+abbrev pub order_remarks : Option Placed → List (Spot MessageKind)
 order_remarks None = []
 order_remarks (Some t) = key_spot ResultBeforeProgram t ∷ []
 
 -- what is reported for two tokens: the key of the later one
-abbrev pub pair_remark : List Placed → PairFinding → Option Spot
+abbrev pub pair_remark : List Placed → PairFinding → Option (Spot MessageKind)
 pair_remark tokens found = option_map (key_spot (message_of found.kind)) (slice_get tokens found.token)
 
 -- what is reported for a rule's tokens: for each by itself in written order, then for a RESULT before a PROGRAM, then
 -- for two tokens
-unfoldable pub rule_remarks : Accounts → List Placed → List Spot
+unfoldable pub rule_remarks : Accounts → List Placed → List (Spot MessageKind)
 rule_remarks accounts tokens =
     flat_map (token_remarks accounts) tokens
     ++ (order_remarks (late_program tokens)

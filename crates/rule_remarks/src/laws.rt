@@ -10,6 +10,7 @@ ghost use Rattle.rule_pairs.specs.Accounts.{Accounts};
 ghost use Rattle.rule_pairs.specs.declared.accounts.AccountKind.TheVariants.{Group, User};
 ghost use Rattle.rule_places.specs.Files.{placed_findings};
 ghost use Rattle.rule_places.specs.Laws.{IsQuotedThere, IsTextThere};
+ghost use Rattle.file_messages.specs.declared.message.MessageKind.{MessageKind};
 ghost use Rattle.rule_places.specs.declared.placed_finding.PlacedFinding as places;
 ghost use Rattle.rule_remarks.specs.AccountLines.{account, account_in};
 ghost use Rattle.rule_remarks.specs.Attributes.{has_way_up};
@@ -51,7 +52,7 @@ pub fn late_programs_follow_results()
 /// fall.
 #[tactic(auto, using(crate::proofs::ByLines::both_rise))]
 pub fn lines_never_fall()
-    ensures { (line : ℕ) (found others : List places.PlacedFinding) → RisesFrom (λ p. p.begins) line found → RisesFrom (λ p. p.begins) line others
+    ensures { (line : ℕ) (found others : List (places.PlacedFinding MessageKind)) → RisesFrom (λ p. p.begins) line found → RisesFrom (λ p. p.begins) line others
         → RisesFrom (λ p. p.begins) line (by_line (λ p. p.begins) found others) }
 {}
 

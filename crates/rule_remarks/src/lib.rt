@@ -10,21 +10,16 @@
 mod account_lines;
 mod attributes;
 mod files;
-mod findings;
 mod laws;
-mod merging;
 mod order;
 mod rule_remarks;
 mod token_remarks;
 mod values;
 
 pub use account_lines::read_accounts;
-pub use files::{file_remarks, remarks_of_lines};
-pub use findings::file_findings;
+pub use files::remarks_of_lines;
 pub use laws::{
     late_programs_follow_results, lines_never_fall, no_tokens_have_no_remarks,
     remarks_are_reported_for_rules, some_accounts, the_manual_reports_findings_alone,
     values_are_between_quotes, ways_up_are_in_their_names, words_are_at_their_places,
 };
-pub use rule_pairs::{Account, AccountKind, Accounts};
-pub use rule_places::PlacedFinding;

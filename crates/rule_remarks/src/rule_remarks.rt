@@ -18,7 +18,7 @@ pub(crate) fn rule_remarks(
     alloc: Global,
     accounts: &Accounts,
     parts: &[WrittenPart<'_>],
-) -> Result<Vec<Spot>, AllocError>
+) -> Result<Vec<Spot<MessageKind>>, AllocError>
     ensures { IfOk result (λ spots. spots.items ≡ rule_remarks accounts.now (tokens_in parts.now)) }
 {
     let mut spots = Vec::new(alloc);
@@ -33,7 +33,7 @@ pub(crate) fn rule_remarks(
 /// Adds what is reported for each token by itself.
 fn add_tokens(
     alloc: Global,
-    spots: &mut Vec<Spot>,
+    spots: &mut Vec<Spot<MessageKind>>,
     accounts: &Accounts,
     parts: &[WrittenPart<'_>],
 ) -> Result<(), AllocError>
@@ -48,7 +48,7 @@ fn add_tokens(
 /// Adds what is reported for a PROGRAM after a RESULT.
 fn add_order(
     alloc: Global,
-    spots: &mut Vec<Spot>,
+    spots: &mut Vec<Spot<MessageKind>>,
     parts: &[WrittenPart<'_>],
 ) -> Result<(), AllocError>
     ensures { OnOk result (spots.new.items ≡ spots.old.items ++ order_remarks (late_program (tokens_in parts.now))) }
@@ -62,7 +62,7 @@ fn add_order(
 /// Adds what is reported for tokens two by two.
 fn add_pairs(
     alloc: Global,
-    spots: &mut Vec<Spot>,
+    spots: &mut Vec<Spot<MessageKind>>,
     parts: &[WrittenPart<'_>],
     pairs: &[PairFinding],
 ) -> Result<(), AllocError>
@@ -77,7 +77,7 @@ fn add_pairs(
 /// Adds what is reported for two tokens.
 fn add_pair(
     alloc: Global,
-    spots: &mut Vec<Spot>,
+    spots: &mut Vec<Spot<MessageKind>>,
     parts: &[WrittenPart<'_>],
     found: PairFinding,
 ) -> Result<(), AllocError>

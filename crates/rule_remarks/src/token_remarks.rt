@@ -1,5 +1,5 @@
 //! What is reported for one token of a rule that stays.
-ghost use Rattle.std.specs.Prelude.{◌≡◌, ◌++◌, IfOk, OnOk, option_map};
+ghost use Rattle.std.specs.Prelude.{◌≡◌, ◌++◌, IfOk, OnOk};
 ghost use Rattle.rule_parts.specs.Parts.{meaning_of};
 ghost use Rattle.rule_remarks.specs.Remarks.{attribute_remarks, fault_spot, token_remarks, value_remarks};
 ghost use Rattle.rule_remarks.specs.Values.{value_fault};
@@ -18,7 +18,7 @@ use text_bytes::Bytes;
 #[tactic(auto, unfolding(crate::specs::Remarks::token_remarks))]
 pub(crate) fn add_token(
     alloc: Global,
-    spots: &mut Vec<Spot>,
+    spots: &mut Vec<Spot<MessageKind>>,
     accounts: &Accounts,
     token: &Token<'_>,
 ) -> Result<(), AllocError>
@@ -36,7 +36,7 @@ pub(crate) fn add_token(
 /// Adds what is reported for the attribute of a token, if it has one.
 fn add_attribute(
     alloc: Global,
-    spots: &mut Vec<Spot>,
+    spots: &mut Vec<Spot<MessageKind>>,
     key: Key,
     token: &Token<'_>,
 ) -> Result<(), AllocError>
@@ -51,7 +51,7 @@ fn add_attribute(
 /// Adds what is reported for the attribute of a token, which is this name.
 fn add_name(
     alloc: Global,
-    spots: &mut Vec<Spot>,
+    spots: &mut Vec<Spot<MessageKind>>,
     key: Key,
     token: &Token<'_>,
     name: &[u8],
@@ -70,7 +70,7 @@ fn add_name(
 /// Adds what is reported for the value of a token with this key, if something is wrong with it.
 fn add_value(
     alloc: Global,
-    spots: &mut Vec<Spot>,
+    spots: &mut Vec<Spot<MessageKind>>,
     accounts: &Accounts,
     key: Key,
     token: &Token<'_>,
@@ -91,7 +91,7 @@ fn fault_spot(
     kind: MessageKind,
     meaning: Vec<u8>,
     token: &Token<'_>,
-) -> Result<Spot, AllocError>
+) -> Result<Spot<MessageKind>, AllocError>
     requires { meaning.items ≡ meaning_of token.now }
     ensures { IfOk result (λ spot. spot ≡ fault_spot kind token.now) }
 {

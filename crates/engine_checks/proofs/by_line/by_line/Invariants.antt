@@ -1,7 +1,10 @@
-use Rattle.std.proofs.Common.{◌≡◌, ◌++◌, List, map}
-use Rattle.engine_formats.specs.Diagnostics.{DiagnosticValue, shown}
-use Rattle.engine_checks.specs.Reported.{by_line}
+use Rattle.std.proofs.Common.{◌≡◌, ◌++◌, List}
+use Rattle.rule_remarks.specs.ByLine.{by_line}
+use Rattle.engine_formats.specs.declared.diagnostic.Diagnostic.{Diagnostic}
 use Rattle.engine_checks.proofs.by_line.by_line.Given as goal
 
 abbrev pub invariant-loop-diagnostic : goal.invariant-loop-diagnostic
-invariant-loop-diagnostic l = (left : List DiagnosticValue) → map shown l.reported.items ++ by_line left l.rest ≡ by_line (map shown l.yielded ++ left) l.fn.others
+invariant-loop-diagnostic l = (left : List Diagnostic) → l.all.items ++ by_line (λ d. d.begins) left l.rest.items ≡ by_line (λ d. d.begins) (l.yielded ++ left) l.fn.others.items
+
+abbrev pub invariant-loop-other : goal.invariant-loop-other
+invariant-loop-other l = l.all.items ≡ l.initial.all.items ++ l.yielded

@@ -9,7 +9,7 @@ pub returns-clause-database : goal.returns-clause-database
 returns-clause-database c line file counts = database_found_reported line file counts
 
 pub returns-clause-silenced : goal.returns-clause-silenced
-returns-clause-silenced c lint style ignored comments d e = left_out lint style ignored comments d e
+returns-clause-silenced c asked comments d e = left_out asked comments d e
 
 pub returns-clause-reported : goal.returns-clause-reported
-returns-clause-reported c lint style ignored comments d e = reported_is_kept lint style ignored comments d e
+returns-clause-reported c asked comments d e = reported_is_kept asked comments d e

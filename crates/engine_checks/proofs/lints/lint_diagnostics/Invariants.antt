@@ -1,6 +1,7 @@
-use Rattle.std.proofs.Common.{◌≡◌, map, take}
+use Rattle.std.proofs.Common.{◌≡◌, map}
+use Rattle.engine_formats.specs.Diagnostics.{shown}
 use Rattle.engine_checks.specs.Files.{lint_diagnostic}
 use Rattle.engine_checks.proofs.lints.lint_diagnostics.Given as goal
 
 abbrev pub invariant-loop-lint : goal.invariant-loop-lint
-invariant-loop-lint l = l.found.items ≡ map (lint_diagnostic l.file) (take l.lint-index l.lints)
+invariant-loop-lint l = map shown l.found.items ≡ map (lint_diagnostic l.file) l.yielded

@@ -12,8 +12,8 @@ pub returns-clause-text : goal.returns-clause-text
 returns-clause-text c =
     let all : map shown c.in_ok-reported.reported.items ≡ flat_map (database_reported c.args.line.now) c.args.files.now =
     c.in_ok-reported.ensures
-    ∙ ap (flat_map (database_reported_by c.in_ok-asked.asked.lint c.in_ok-asked.asked.style c.in_ok-asked.asked.ignored)) (c.deref.ensures.value ∙ c.in_ok-reads.ensures)
-    ∙ database_by c.args.line.now c.in_ok-asked.asked.profile c.in_ok-asked.asked.lint c.in_ok-asked.asked.style c.has_comments.result c.in_ok-asked.asked.ignored c.in_ok-asked.ensures.profile c.in_ok-asked.ensures.lint c.in_ok-asked.ensures.style c.in_ok-asked.ensures.ignored c.has_comments.ensures c.args.files.now in
+    ∙ ap (flat_map (database_reported_by c.in_ok-asked.asked)) (c.deref.ensures.value ∙ c.in_ok-reads.ensures)
+    ∙ database_by c.args.line.now c.in_ok-asked.asked c.in_ok-asked.ensures.profile c.in_ok-asked.ensures.accounts c.in_ok-asked.ensures.style c.in_ok-asked.ensures.lint c.in_ok-asked.ensures.ignored c.args.files.now in
     c.in_ok-formatted.ensures
     ∙ ap (λ ds. formatted c.args.line.now.format (map shown ds)) c.deref-2.ensures.value
     ∙ ap (formatted c.args.line.now.format) all
@@ -22,7 +22,7 @@ pub returns-clause-count : goal.returns-clause-count
 returns-clause-count c =
     let all : map shown c.in_ok-reported.reported.items ≡ flat_map (database_reported c.args.line.now) c.args.files.now =
     c.in_ok-reported.ensures
-    ∙ ap (flat_map (database_reported_by c.in_ok-asked.asked.lint c.in_ok-asked.asked.style c.in_ok-asked.asked.ignored)) (c.deref.ensures.value ∙ c.in_ok-reads.ensures)
-    ∙ database_by c.args.line.now c.in_ok-asked.asked.profile c.in_ok-asked.asked.lint c.in_ok-asked.asked.style c.has_comments.result c.in_ok-asked.asked.ignored c.in_ok-asked.ensures.profile c.in_ok-asked.ensures.lint c.in_ok-asked.ensures.style c.in_ok-asked.ensures.ignored c.has_comments.ensures c.args.files.now in
+    ∙ ap (flat_map (database_reported_by c.in_ok-asked.asked)) (c.deref.ensures.value ∙ c.in_ok-reads.ensures)
+    ∙ database_by c.args.line.now c.in_ok-asked.asked c.in_ok-asked.ensures.profile c.in_ok-asked.ensures.accounts c.in_ok-asked.ensures.style c.in_ok-asked.ensures.lint c.in_ok-asked.ensures.ignored c.args.files.now in
     let len : c.len.result ≡ length c.in_ok-reported.reported.items = search rules in
     len ∙ sym (length-map c.in_ok-reported.reported.items shown) ∙ ap length all

@@ -1,0 +1,59 @@
+//! How many tokens are left in the rules of lines.
+ghost use Rattle.std.specs.Prelude.{◌≡◌, IfOk};
+ghost use Rattle.rule_core.specs.Counts.{draft_tokens, is_counted, line_tokens, token_count};
+
+use crate::draft::Draft;
+use crate::readings::LandedReading;
+use crate::sums::sum_of;
+use rule_jumps::Landing;
+use rule_types::Part;
+use std::alloc::AllocError;
+
+/// How many tokens may be left in rules.
+pub const MAX_TOKENS: usize = 1 << 24;
+
+/// How many tokens are left in the rules of the lines of a file.
+pub fn token_count(lines: &[LandedReading<'_>]) -> Result<usize, AllocError>
+    ensures { IfOk result (λ count. count ≡ token_count lines.now) }
+{
+    let mut count = 0;
+    for line in lines {
+        count = sum_of(count, line_tokens(line)?)?;
+    }
+    Ok(count)
+}
+
+/// How many tokens are left in the rule of a line, if it is one.
+fn line_tokens(line: &LandedReading<'_>) -> Result<usize, AllocError>
+    ensures { IfOk result (λ count. count ≡ line_tokens line.now.0.read line.now.1) }
+{
+    match &line.reading.read {
+        Ok(draft) => draft_tokens(draft, line.landing),
+        Err(_) => Ok(0),
+    }
+}
+
+/// How many tokens are left in a rule: its names for jumps, and its other parts.
+fn draft_tokens(draft: &Draft<'_>, landing: Landing) -> Result<usize, AllocError>
+    ensures { IfOk result (λ count. count ≡ draft_tokens draft.now landing) }
+{
+    let label = if draft.label.is_some() { 1 } else { 0 };
+    let goto = if draft.goto.is_some() && !landing.lost {
+        1
+    } else {
+        0
+    };
+    let parts = draft
+        .parts
+        .iter()
+        .filter(|written| is_counted(&written.part))
+        .count();
+    sum_of(label + goto, parts)
+}
+
+/// Whether a part is counted by itself: it is no name for jumps.
+fn is_counted(part: &Part) -> bool
+    ensures { result ≡ is_counted part.now }
+{
+    !matches!(part, Part::Label(_) | Part::Goto(_))
+}

@@ -1,6 +1,5 @@
 mod Utf8
 mod Seen
-mod BorrowedFiles
 mod Bounds
 mod ShortNames
 mod Placement

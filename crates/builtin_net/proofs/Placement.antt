@@ -1,7 +1,7 @@
 -- Interfaces upon others, and those of which names may use nothing.
-use Rattle.std.proofs.Common.{◌≡◌, ◌&&◌, ℕ, List, [], Bool, true, false, Option, Some, None, cond, refl, ap, ◌∙◌, is_some}
+use Rattle.std.proofs.Common.{◌≡◌, ◌&&◌, List, [], Bool, true, false, Some, None, cond, refl, ap, ◌∙◌, is_some}
 use Rattle.std.specs.Prelude.{option_and_then}
-use Rattle.std.specs.Option.{option_map_or, option_or}
+use Rattle.std.specs.Option.{option_map_or}
 use Rattle.text_tables.specs.Texts.{Text}
 use Rattle.text_tables.specs.Pairs.{Pair, value_of}
 use Rattle.device_core.specs.Values.{DeviceValue, EventValue}
@@ -9,12 +9,10 @@ use Rattle.builtin_devices.specs.Devices.{type_of}
 use Rattle.builtin_devices.specs.Outcomes.{failing, succeeding}
 use Rattle.builtin_net.specs.Allowed.{attribute_name, interface, is_allowed, is_yes, number, permission, permission_of_all, permits, read}
 use Rattle.builtin_net.specs.Identity.{index, is_alone, is_identified, is_link, naming}
-use Rattle.builtin_net.specs.Names.{name_properties}
-use Rattle.builtin_net.specs.Needs.{needs}
-use Rattle.builtin_net.specs.NetId.{net_id, properties}
+use Rattle.builtin_net.specs.Names.{all_names, giving}
+use Rattle.builtin_net.specs.NetId.{names_of, needs, net_id}
 use Rattle.builtin_net.specs.Prefixes.{prefix_of}
 use Rattle.builtin_net.specs.declared.allowed.Attribute.TheVariants.{Hardware, Iflink}
-use Rattle.builtin_net.specs.declared.prefixes.Prefix.{Prefix}
 
 no_naming : (event : EventValue) (i : DeviceValue) → is_alone event i ≡ false → naming event i ≡ None
 unfolding naming
@@ -28,11 +26,11 @@ pub stacked : (event : EventValue) (env : List Pair) → is_alone event (interfa
 unfolding net_id
 stacked event env h =
     let i = interface event env in
-    empty_outcome (properties event i) (needs event i) (is_identified event i)
-    (ap (λ prefix. option_map_or (λ p. name_properties event p i) prefix []) (no_naming event i h))
+    empty_outcome (names_of event i).properties (needs event i) (is_identified event i)
+    (ap (λ prefix. (option_map_or (λ p. all_names event p i) prefix (giving [])).properties) (no_naming event i h))
 
-not_allowed : (env : List Pair) (word : Text) → value_of env permission_of_all ≡ Some word → is_yes word ≡ false → value_of env (permission Iflink) ≡ None
-    → is_allowed env Iflink ≡ false
+not_allowed : (env : List Pair) (word : Text) → value_of env permission_of_all ≡ Some word → is_yes word ≡ false
+    → value_of env (permission Iflink) ≡ None → is_allowed env Iflink ≡ false
 unfolding is_allowed
 not_allowed env word all denied own =
     ap (λ o. permits o (value_of env permission_of_all)) own ∙ ap (λ o. permits None o) all ∙ denied
@@ -50,9 +48,10 @@ unfolding is_identified
 not_identified event i h = ap (λ o. is_some (index event) && option_map_or is_link o false) h ∙ and_false (is_some (index event))
 
 pub forbidden : (event : EventValue) (env : List Pair) (word : Text)
-    → value_of env permission_of_all ≡ Some word → is_yes word ≡ false → value_of env (permission Iflink) ≡ None → (net_id event env).is_done ≡ false
+    → value_of env permission_of_all ≡ Some word → is_yes word ≡ false → value_of env (permission Iflink) ≡ None
+    → (net_id event env).is_done ≡ false
 unfolding net_id
 forbidden event env word all denied own =
     let i = interface event env in
-    ap (λ b. (cond b (succeeding (properties event i) (needs event i)) (failing (needs event i))).is_done)
+    ap (λ b. (cond b (succeeding (names_of event i).properties (needs event i)) (failing (needs event i))).is_done)
     (not_identified event i (not_read i (not_allowed env word all denied own)))

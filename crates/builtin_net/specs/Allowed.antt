@@ -9,7 +9,8 @@ use Rattle.builtin_devices.specs.Numbers.{number_in}
 use Rattle.builtin_devices.specs.declared.numbers.Base.TheVariants.{AsWritten}
 use Rattle.builtin_net.specs.Words.{most_number}
 use Rattle.builtin_net.specs.declared.allowed.Attribute.{Attribute}
-use Rattle.builtin_net.specs.declared.allowed.Attribute.TheVariants.{Iflink, Hardware, AddrAssignType, Address, PhysPortName, DevPort, DevId, AriEnabled, AcpiIndex, Index, Label, Sun, FunctionId, Modalias}
+use Rattle.builtin_net.specs.declared.allowed.Attribute.TheVariants.{Iflink, Hardware, AddrAssignType, Address, PhysPortName, DevPort, DevId}
+use Rattle.builtin_net.specs.declared.allowed.Attribute.TheVariants.{AriEnabled, AcpiIndex, Index, Label, Sun, FunctionId, Modalias}
 
 -- where an attribute is below the folder of its device
 abbrev pub attribute_name : Attribute → Text

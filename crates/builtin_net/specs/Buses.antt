@@ -1,5 +1,6 @@
 -- What names say about buses other than PCI and USB.
-use Rattle.std.specs.Prelude.{ℕ, ◌^◌, ◌-◌, ◌==◌, ◌&&◌, ◌||◌, not, Bool, true, false, [], ◌++◌, codes, decimal, drop, find, length, map, nat_le, slice_get, take, Option, Some, None, option_map, option_and_then, is_some, if◌then◌else◌}
+use Rattle.std.specs.Prelude.{ℕ, ◌^◌, ◌-◌, ◌==◌, ◌&&◌, ◌||◌, not, Bool, false, ◌++◌, codes, decimal, drop, find, length, map, nat_le}
+use Rattle.std.specs.Prelude.{slice_get, take, Option, Some, None, option_map, option_and_then, is_some, if◌then◌else◌}
 use Rattle.std.specs.Bool.{then_some}
 use Rattle.std.specs.Char.{is_ascii_digit, is_ascii_hexdigit, is_ascii_uppercase, to_ascii_lowercase}
 use Rattle.std.specs.List.{before_first, list_all, prefix_len}
@@ -49,17 +50,14 @@ ccw_text kernel =
 -- vio: the number of the last four of eight hexadecimal digits
 unfoldable pub vio_text : Text → Option Text
 vio_text name =
-    if length name == 8 && list_all is_ascii_hexdigit name then option_map (λ n. codes "v" ++ decimal n) (number_in Hexadecimal most_number (drop 4 name)) else None
-
--- whether a byte is a capital letter or a digit
-abbrev pub is_vendor_byte : ℕ → Bool
-is_vendor_byte b = is_ascii_uppercase b || is_ascii_digit b
+    if length name == 8 && list_all is_ascii_hexdigit name then option_map (λ n. codes "v" ++ decimal n) (number_in Hexadecimal most_number (drop 4 name))
+    else None
 
 -- whether a text names a maker of platform devices: three capital letters, or four capital letters and digits
 unfoldable pub is_vendor : Text → Bool
 is_vendor text =
     if length text == 3 then list_all is_ascii_uppercase text
-    else if length text == 4 then list_all is_vendor_byte text
+    else if length text == 4 then list_all (λ b. is_ascii_uppercase b || is_ascii_digit b) text
     else false
 
 -- maker, model and instance of a platform device: the model in lower case digits without leading zeros, the instance
@@ -77,13 +75,13 @@ abbrev pub with_instance : (vendor model instance : Text) → Option Text
 with_instance vendor model instance =
     if is_acpi vendor model instance then option_map (acpi_text vendor model) (number_in Hexadecimal most_number instance) else None
 
--- the same by what comes before the colon, which ends in the model, and what comes after it
-abbrev pub platform_parts : (beginning instance : Text) → Option Text
-platform_parts beginning instance = with_instance (take (length beginning - 4) beginning) (drop (length beginning - 4) beginning) instance
-
--- the same by the whole name
+-- the same by the whole name: the model ends before the colon
 unfoldable pub platform_text : Text → Option Text
-platform_text name = option_and_then (λ parts. platform_parts parts.0 parts.1) (split_once colon name)
+platform_text name =
+    option_and_then (λ parts.
+    let place = length parts.0 - 4 in
+    with_instance (take place parts.0) (drop place parts.0) parts.1)
+    (split_once colon name)
 
 -- whether a text is a number of 32 bits in decimal digits, without leading zeros
 abbrev pub is_written_number : Text → Bool
@@ -110,7 +108,8 @@ netdevsim_text interface device =
 -- by the device above, if it is of ccw
 abbrev pub of_ccw : Option DeviceValue → Option Text
 of_ccw None = None
-of_ccw (Some device) = if is_of (codes "ccwgroup") None device || is_of (codes "ccw") None device then ccw_text (kernel_of device) else None
+of_ccw (Some device) =
+    if is_of (codes "ccwgroup") None device || is_of (codes "ccw") None device then ccw_text (kernel_of device) else None
 
 -- the text of an interface by ccw
 unfoldable pub by_ccw : EventValue → Option Text
@@ -118,7 +117,8 @@ by_ccw event = of_ccw (parent_after_virtio event)
 
 -- the text of an interface by vio, if the device right above is of it
 unfoldable pub by_vio : EventValue → Option Text
-by_vio event = if is_there (codes "vio") (parent event) then option_and_then vio_text (component (codes "/devices/vio/") event.device.path) else None
+by_vio event =
+    if is_there (codes "vio") (parent event) then option_and_then vio_text (component (codes "/devices/vio/") event.device.path) else None
 
 -- the text of an interface by its platform device, if that is right above
 unfoldable pub by_platform : EventValue → Option Text

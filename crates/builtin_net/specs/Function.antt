@@ -1,5 +1,6 @@
 -- Functions of PCI, by their names: `DOMAIN:BUS:SLOT.FUNCTION`.
-use Rattle.std.specs.Prelude.{ℕ, ◌+◌, ◌*◌, ◌==◌, ◌&&◌, Bool, false, not, nat_le, [], ◌++◌, codes, decimal, slice_get, Option, Some, None, option_map, option_and_then, if◌then◌else◌}
+use Rattle.std.specs.Prelude.{ℕ, ◌+◌, ◌*◌, ◌==◌, ◌&&◌, Bool, false, not, nat_le, [], ◌++◌, codes, decimal, slice_get, Option, Some, None, option_map}
+use Rattle.std.specs.Prelude.{option_and_then, if◌then◌else◌}
 use Rattle.std.specs.Option.{option_map_or}
 use Rattle.text_bytes.specs.Names.{colon, dot}
 use Rattle.text_bytes.specs.Texts.{split_once}
@@ -16,23 +17,21 @@ use Rattle.builtin_net.specs.declared.functions.Function.{Function}
 
 -- the function of these numbers, if all four are there
 abbrev pub with_numbers : Option ℕ → Option ℕ → Option ℕ → Option ℕ → Option Function
-with_numbers (Some domain) (Some bus) (Some slot) (Some function) = Some (record { domain = domain; bus = bus; slot = slot; function = function })
+with_numbers (Some domain) (Some bus) (Some slot) (Some function) =
+    Some (record { domain = domain; bus = bus; slot = slot; function = function })
 with_numbers _ _ _ _ = None
-
--- the function of a domain and a bus whose slot and function are in a text with a dot in between
-unfoldable pub in_bus : Text → Text → Text → Option Function
-in_bus domain bus place =
-    option_and_then (λ parts.
-    with_numbers (number_in Hexadecimal most_number domain) (number_in Hexadecimal most_number bus) (number_in Hexadecimal most_number parts.0) (number_in Decimal most_number parts.1))
-    (split_once dot place)
-
--- the function of a domain whose bus, slot and function are in a text
-unfoldable pub in_domain : Text → Text → Option Function
-in_domain domain rest = option_and_then (λ parts. in_bus domain parts.0 parts.1) (split_once colon rest)
 
 -- the function that a name gives: domain, bus and slot in hexadecimal, the function in decimal
 unfoldable pub function_of : Text → Option Function
-function_of name = option_and_then (λ parts. in_domain parts.0 parts.1) (split_once colon name)
+function_of name =
+    option_and_then (λ domain.
+    option_and_then (λ bus.
+    option_and_then (λ slot.
+    with_numbers (number_in Hexadecimal most_number domain.0) (number_in Hexadecimal most_number bus.0)
+    (number_in Hexadecimal most_number slot.0) (number_in Decimal most_number slot.1))
+    (split_once dot bus.1))
+    (split_once colon domain.1))
+    (split_once colon name)
 
 -- a function numbered as on a card that counts the functions of all its slots as one: eight times the slot more
 abbrev pub with_ari : Function → Function

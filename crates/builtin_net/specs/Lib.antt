@@ -10,7 +10,7 @@ pub mod Virtual
 pub mod Usb
 pub mod Buses
 pub mod Trees
-pub mod Names
 pub mod Identity
 pub mod Needs
+pub mod Names
 pub mod NetId

@@ -1,16 +1,19 @@
 -- The names of an interface.
-use Rattle.std.specs.Prelude.{ℕ, ◌==◌, ◌||◌, Bool, true, false, not, List, [], ◌∷◌, ◌++◌, codes, decimal, length, nat_le, Option, Some, None, option_map, option_and_then, if◌then◌else◌}
+use Rattle.std.specs.Prelude.{◌||◌, true, false, not, List, [], ◌∷◌, ◌++◌, codes, decimal, length, nat_le}
+use Rattle.std.specs.Prelude.{Option, Some, None, option_map, option_and_then, is_some, if◌then◌else◌}
+use Rattle.std.specs.Bool.{then_some}
 use Rattle.std.specs.Option.{option_map_or}
 use Rattle.text_bytes.specs.Texts.{is_empty}
 use Rattle.text_tables.specs.Texts.{Text}
 use Rattle.text_tables.specs.Pairs.{Pair}
 use Rattle.device_core.specs.Values.{DeviceValue, EventValue}
-use Rattle.builtin_devices.specs.Devices.{above, kernel_of}
+use Rattle.builtin_devices.specs.Devices.{above, is_of, kernel_of}
 use Rattle.builtin_devices.specs.Numbers.{is_number}
 use Rattle.builtin_net.specs.Address.{address_digits}
 use Rattle.builtin_net.specs.Allowed.{number, read}
-use Rattle.builtin_net.specs.Buses.{by_ccw, by_netdevsim, by_platform, by_vio, by_xen, is_there, parent_after_virtio}
+use Rattle.builtin_net.specs.Buses.{by_ccw, by_netdevsim, by_platform, by_vio, by_xen, parent_after_virtio}
 use Rattle.builtin_net.specs.Function.{domain_text, function, function_text, is_several, place_text}
+use Rattle.builtin_net.specs.Needs.{address_needs, config_needs, port_needs, slot_needs, tree_needs}
 use Rattle.builtin_net.specs.OnBoard.{board_number, label}
 use Rattle.builtin_net.specs.Port.{port_text}
 use Rattle.builtin_net.specs.Prefixes.{is_ethernet, is_infiniband, prefix_text}
@@ -19,9 +22,28 @@ use Rattle.builtin_net.specs.Trees.{tree_text}
 use Rattle.builtin_net.specs.Usb.{bcma_suffix, usb_suffix}
 use Rattle.builtin_net.specs.Virtual.{Named, named_function}
 use Rattle.builtin_net.specs.declared.allowed.Attribute.TheVariants.{AddrAssignType, Address}
+use Rattle.builtin_net.specs.declared.carriers.Bus.{Bus}
+use Rattle.builtin_net.specs.declared.carriers.Bus.TheVariants.{Usb, Bcma}
 use Rattle.builtin_net.specs.declared.functions.Function.{Function}
 use Rattle.builtin_net.specs.declared.prefixes.Prefix.{Prefix}
 use Rattle.builtin_net.specs.declared.slots.Slot.{Slot}
+
+-- What one side of an interface gives: properties, and words for what the block would have to report for more.
+pub record Given : Type 0 where
+  pub properties : List Pair
+  pub needs : List Text
+
+-- properties alone
+abbrev pub giving : List Pair → Given
+giving properties = record { properties = properties; needs = [] }
+
+-- words alone
+abbrev pub needing : List Text → Given
+needing needs = record { properties = []; needs = needs }
+
+-- what one side gives, and then another
+abbrev pub both : Given → Given → Given
+both a b = record { properties = a.properties ++ b.properties; needs = a.needs ++ b.needs }
 
 -- a property of a prefix and the text after it, if there is one, and both together have at most 127 bytes
 unfoldable pub prefixed : (key prefix : Text) → Option Text → List Pair
@@ -43,8 +65,8 @@ abbrev pub by_tree : EventValue → Prefix → Option Text
 by_tree event prefix = if is_ethernet prefix then tree_text event else None
 
 -- what follows the place or the slot of a function: the function, the port and a suffix
-abbrev pub tail : EventValue → Prefix → (interface pci : DeviceValue) → (suffix : Text) → Function → Option Text
-tail event prefix interface pci suffix f = option_map (λ port. function_text f (is_several event pci) ++ port ++ suffix) (port_text prefix interface true)
+abbrev pub tail : EventValue → (pci : DeviceValue) → Function → (port suffix : Text) → Text
+tail event pci f port suffix = function_text f (is_several event pci) ++ port ++ suffix
 
 -- the name by the place of a function
 abbrev pub path_text : Function → (tail : Text) → Text
@@ -54,94 +76,84 @@ path_text f tail = domain_text f ++ place_text f ++ tail
 abbrev pub slot_text : Function → (tail : Text) → Slot → Text
 slot_text f tail slot = (if slot.drops_domain then [] else domain_text f) ++ codes "s" ++ decimal slot.number ++ tail
 
--- both names of a function with what follows, if that can be given
-abbrev pub with_tail : EventValue → Prefix → (pci : DeviceValue) → Function → (tail : Option Text) → List Pair
-with_tail event prefix pci f None = []
-with_tail event prefix pci f (Some tail) =
-    prefixed (codes "ID_NET_NAME_PATH") (prefix_text prefix) (Some (path_text f tail))
-    ++ prefixed (codes "ID_NET_NAME_SLOT") (prefix_text prefix) (option_map (slot_text f tail) (slot_of event pci))
+-- the names of a function with what follows: by its place, and by its slot if it is in one
+abbrev pub with_tail : EventValue → Prefix → (pci : DeviceValue) → Function → (tail : Text) → Given
+with_tail event prefix pci f tail = record {
+  properties =
+      prefixed (codes "ID_NET_NAME_PATH") (prefix_text prefix) (Some (path_text f tail))
+      ++ prefixed (codes "ID_NET_NAME_SLOT") (prefix_text prefix) (option_map (slot_text f tail) (slot_of event pci));
+  needs = slot_needs event pci;
+}
 
--- both names of a device, if it is a function
-abbrev pub of_function : EventValue → Prefix → (interface pci : DeviceValue) → (suffix : Text) → Option Function → List Pair
-of_function event prefix interface pci suffix None = []
-of_function event prefix interface pci suffix (Some f) = with_tail event prefix pci f (tail event prefix interface pci suffix f)
+-- what a function gives: no names if it has no port
+abbrev pub of_function : EventValue → Prefix → (interface pci : DeviceValue) → (suffix : Text) → Function → Given
+of_function event prefix interface pci suffix f =
+    let port = port_text prefix interface true in
+    both (needing (config_needs event pci f (is_some port) ++ port_needs prefix interface true))
+    (option_map_or (λ text. with_tail event prefix pci f (tail event pci f text suffix)) port (giving []))
 
--- the same by the function that the device is
-unfoldable pub by_function : EventValue → Prefix → (interface pci : DeviceValue) → (suffix : Text) → List Pair
-by_function event prefix interface pci suffix = of_function event prefix interface pci suffix (function pci)
+-- what a device gives, if it is a function
+unfoldable pub by_function : EventValue → Prefix → (interface pci : DeviceValue) → (suffix : Text) → Given
+by_function event prefix interface pci suffix = option_map_or (of_function event prefix interface pci suffix) (function pci) (giving [])
 
 -- the name by the number on board
 unfoldable pub board_text : Prefix → (interface pci : DeviceValue) → (suffix : Text) → Option Text
 board_text prefix interface pci suffix =
-    option_and_then (λ n. option_map (λ port. codes "o" ++ decimal n ++ port ++ suffix) (port_text prefix interface false)) (board_number pci)
+    option_and_then (λ n. option_map (λ port. codes "o" ++ decimal n ++ port ++ suffix) (port_text prefix interface false))
+    (board_number pci)
 
 -- the device of PCI that an interface belongs to
-abbrev pub if_pci : Option DeviceValue → Option DeviceValue
-if_pci None = None
-if_pci (Some device) = if is_there (codes "pci") (Some device) then Some device else None
-
--- the function by which an interface of PCI is named
-unfoldable pub own_function : EventValue → Option Named
-own_function event = option_and_then (named_function event) (if_pci (parent_after_virtio event))
+abbrev pub own_pci : EventValue → Option DeviceValue
+own_pci event = option_and_then (λ device. then_some (is_of (codes "pci") None device) device) (parent_after_virtio event)
 
 -- the label of a function, unless it is a virtual one
 abbrev pub label_of : (pci : DeviceValue) → (suffix : Text) → Option Text
 label_of pci suffix = if is_empty suffix then label pci else None
 
--- the names of an interface of PCI, and its label
-abbrev pub of_own : EventValue → Prefix → (interface : DeviceValue) → Option Named → List Pair
-of_own event prefix interface None = []
-of_own event prefix interface (Some own) =
-    prefixed (codes "ID_NET_LABEL_ONBOARD") [] (label_of own.0 own.1)
-    ++ prefixed (codes "ID_NET_NAME_ONBOARD") (prefix_text prefix) (board_text prefix interface own.0 own.1)
-    ++ by_function event prefix interface own.0 own.1
+-- the label of a function, and the name by its number on board
+abbrev pub on_board : Prefix → (interface pci : DeviceValue) → (suffix : Text) → Given
+on_board prefix interface pci suffix = record {
+  properties =
+      prefixed (codes "ID_NET_LABEL_ONBOARD") [] (label_of pci suffix)
+      ++ prefixed (codes "ID_NET_NAME_ONBOARD") (prefix_text prefix) (board_text prefix interface pci suffix);
+  needs = if is_some (board_number pci) then port_needs prefix interface false else [];
+}
 
--- the same by the function above the interface
-unfoldable pub by_pci : EventValue → Prefix → (interface : DeviceValue) → List Pair
-by_pci event prefix interface = of_own event prefix interface (own_function event)
+-- what the function gives by which an interface of PCI is named; the block may not describe it
+abbrev pub of_named : EventValue → Prefix → (interface : DeviceValue) → Option Named → Given
+of_named event prefix interface None = needing (codes "physfn" ∷ [])
+of_named event prefix interface (Some own) = both (on_board prefix interface own.0 own.1) (by_function event prefix interface own.0 own.1)
 
--- the names of an interface with this suffix: of the function above it, or else by the suffix alone
-abbrev pub of_usb : EventValue → Prefix → (interface : DeviceValue) → Option DeviceValue → (suffix : Option Text) → List Pair
-of_usb event prefix interface pci None = []
-of_usb event prefix interface None (Some suffix) = prefixed (codes "ID_NET_NAME_PATH") (prefix_text prefix) (Some suffix)
-of_usb event prefix interface (Some pci) (Some suffix) = by_function event prefix interface pci suffix
+-- what the device of PCI gives that an interface belongs to
+unfoldable pub by_pci : EventValue → Prefix → (interface : DeviceValue) → Given
+by_pci event prefix interface = option_map_or (λ pci. of_named event prefix interface (named_function event pci)) (own_pci event) (giving [])
 
--- the interface of USB above the event device
-abbrev pub usb_interface : EventValue → Option DeviceValue
-usb_interface event = above event (codes "usb") (Some (codes "usb_interface")) event.device.path
+-- the nearest device of a bus above the event device
+abbrev pub carrier : Bus → EventValue → Option DeviceValue
+carrier Usb event = above event (codes "usb") (Some (codes "usb_interface")) event.device.path
+carrier Bcma event = above event (codes "bcma") None event.device.path
 
--- the function of PCI above it
-unfoldable pub usb_function : EventValue → Option DeviceValue
-usb_function event = option_and_then (pci_above event) (usb_interface event)
+-- the end of names by the name of such a device
+abbrev pub suffix_of : Bus → (name : Text) → Option Text
+suffix_of Usb name = usb_suffix name
+suffix_of Bcma name = bcma_suffix name
 
--- the end of names by the interface of USB
-unfoldable pub usb_end : EventValue → Option Text
-usb_end event = option_and_then (λ usb. usb_suffix (kernel_of usb)) (usb_interface event)
+-- the name by the end alone, which only an interface of USB has
+abbrev pub alone : Bus → Prefix → (suffix : Text) → List Pair
+alone Usb prefix suffix = prefixed (codes "ID_NET_NAME_PATH") (prefix_text prefix) (Some suffix)
+alone Bcma prefix suffix = []
 
--- the names by an interface of USB
-unfoldable pub by_usb : EventValue → Prefix → (interface : DeviceValue) → List Pair
-by_usb event prefix interface = of_usb event prefix interface (usb_function event) (usb_end event)
+-- what an interface with this end is given: by the function above, or else by the end alone
+abbrev pub with_suffix : Bus → EventValue → Prefix → (interface : DeviceValue) → (pci : Option DeviceValue) → (suffix : Option Text) → Given
+with_suffix bus event prefix interface pci None = giving []
+with_suffix bus event prefix interface None (Some suffix) = giving (alone bus prefix suffix)
+with_suffix bus event prefix interface (Some pci) (Some suffix) = by_function event prefix interface pci suffix
 
--- the names by a core of bcma, of the function above it
-abbrev pub of_bcma : EventValue → Prefix → (interface : DeviceValue) → Option DeviceValue → (suffix : Option Text) → List Pair
-of_bcma event prefix interface (Some pci) (Some suffix) = by_function event prefix interface pci suffix
-of_bcma event prefix interface _ _ = []
-
--- the core of bcma above the event device
-abbrev pub bcma_core : EventValue → Option DeviceValue
-bcma_core event = above event (codes "bcma") None event.device.path
-
--- the function of PCI above it
-unfoldable pub bcma_function : EventValue → Option DeviceValue
-bcma_function event = option_and_then (pci_above event) (bcma_core event)
-
--- the end of names by the core of bcma
-unfoldable pub bcma_end : EventValue → Option Text
-bcma_end event = option_and_then (λ core. bcma_suffix (kernel_of core)) (bcma_core event)
-
--- the names by a core of bcma
-unfoldable pub by_bcma : EventValue → Prefix → (interface : DeviceValue) → List Pair
-by_bcma event prefix interface = of_bcma event prefix interface (bcma_function event) (bcma_end event)
+-- what an interface of USB or a core of bcma gives, of which an interface is
+unfoldable pub by_carrier : Bus → EventValue → Prefix → (interface : DeviceValue) → Given
+by_carrier bus event prefix interface =
+    option_map_or (λ device. with_suffix bus event prefix interface (pci_above event device) (suffix_of bus (kernel_of device)))
+    (carrier bus event) (giving [])
 
 -- the names by the name of the device above
 unfoldable pub by_kernels : EventValue → (prefix : Text) → List Pair
@@ -157,14 +169,18 @@ by_buses event prefix interface =
     ++ prefixed (codes "ID_NET_NAME_PATH") prefix (by_netdevsim event interface)
     ++ prefixed (codes "ID_NET_NAME_SLOT") prefix (by_xen event)
 
--- All names in the order in which they are set, with what they are made from. If a name is given twice, the later one
--- counts.
-unfoldable pub name_properties : EventValue → Prefix → (interface : DeviceValue) → List Pair
-name_properties event prefix interface =
+-- the names by the interface itself and by buses whose devices have no functions of PCI
+abbrev pub own_names : EventValue → Prefix → (interface : DeviceValue) → List Pair
+own_names event prefix interface =
     (codes "ID_NET_NAMING_SCHEME", codes "v257") ∷ []
     ++ prefixed (codes "ID_NET_NAME_MAC") (prefix_text prefix) (by_address prefix interface)
     ++ prefixed (codes "ID_NET_NAME_ONBOARD") (prefix_text prefix) (by_tree event prefix)
     ++ by_buses event (prefix_text prefix) interface
-    ++ by_pci event prefix interface
-    ++ by_usb event prefix interface
-    ++ by_bcma event prefix interface
+
+-- All names in the order in which they are set, and what the block would have to report for more. If a name is given
+-- twice, the later one counts.
+unfoldable pub all_names : EventValue → Prefix → (interface : DeviceValue) → Given
+all_names event prefix interface =
+    let needs = address_needs prefix interface ++ tree_needs event prefix in
+    let own : Given = record { properties = own_names event prefix interface; needs = needs } in
+    both (both (both own (by_pci event prefix interface)) (by_carrier Usb event prefix interface)) (by_carrier Bcma event prefix interface)

@@ -1,29 +1,33 @@
 -- The outcome of net_id.
-use Rattle.std.specs.Prelude.{ℕ, ◌^◌, ◌-◌, ◌==◌, ◌||◌, ◌&&◌, Bool, false, List, [], codes, Option, Some, None, option_and_then, is_some, if◌then◌else◌}
+use Rattle.std.specs.Prelude.{List, [], ◌++◌, Option, option_and_then, if◌then◌else◌}
 use Rattle.std.specs.Option.{option_map_or}
 use Rattle.text_tables.specs.Texts.{Text}
-use Rattle.text_tables.specs.Pairs.{Pair, value_of}
+use Rattle.text_tables.specs.Pairs.{Pair}
 use Rattle.device_core.specs.Values.{DeviceValue, EventValue}
-use Rattle.builtin_devices.specs.Devices.{type_of}
-use Rattle.builtin_devices.specs.Numbers.{is_below_zero, number_in}
-use Rattle.builtin_devices.specs.Outcomes.{OutcomeValue, failing, succeeding}
-use Rattle.builtin_devices.specs.declared.numbers.Base.TheVariants.{AsWritten}
+use Rattle.builtin_devices.specs.Outcomes.{OutcomeValue, failing, needs_of, succeeding}
 use Rattle.builtin_net.specs.Address.{maker_lookup}
-use Rattle.builtin_net.specs.Allowed.{interface, number, read}
-use Rattle.builtin_net.specs.Identity.{index, is_identified, naming}
-use Rattle.builtin_net.specs.Names.{lasting_address, name_properties}
-use Rattle.builtin_net.specs.Needs.{needs}
+use Rattle.builtin_net.specs.Allowed.{interface}
+use Rattle.builtin_net.specs.Identity.{is_identified, naming}
+use Rattle.builtin_net.specs.Names.{Given, all_names, giving, lasting_address}
+use Rattle.builtin_net.specs.Needs.{own_needs}
 
 -- the names of an interface that has some
-abbrev pub properties : EventValue → (interface : DeviceValue) → List Pair
-properties event interface = option_map_or (λ prefix. name_properties event prefix interface) (naming event interface) []
+abbrev pub names_of : EventValue → (interface : DeviceValue) → Given
+names_of event interface = option_map_or (λ prefix. all_names event prefix interface) (naming event interface) (giving [])
 
--- Whether it succeeds, what it sets and what it would have to know. The current properties of the event device say what names may use of it.
+-- what the block would have to report, each once
+unfoldable pub needs : EventValue → (interface : DeviceValue) → List Text
+needs event interface = needs_of (own_needs event interface ++ (names_of event interface).needs)
+
+-- Whether it succeeds, what it sets and what it would have to know. The current properties of the event device say what
+-- names may use of it.
 unfoldable pub net_id : EventValue → (env : List Pair) → OutcomeValue
 net_id event env =
-    if is_identified event (interface event env) then succeeding (properties event (interface event env)) (needs event (interface event env))
-    else failing (needs event (interface event env))
+    let i = interface event env in
+    if is_identified event i then succeeding (names_of event i).properties (needs event i) else failing (needs event i)
 
 -- what the hardware database is asked: who made an interface, by its address
 unfoldable pub lookup : EventValue → (env : List Pair) → Option Text
-lookup event env = option_and_then (λ prefix. option_and_then maker_lookup (lasting_address prefix (interface event env))) (naming event (interface event env))
+lookup event env =
+    let i = interface event env in
+    option_and_then (λ prefix. option_and_then maker_lookup (lasting_address prefix i)) (naming event i)

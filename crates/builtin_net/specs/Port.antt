@@ -11,13 +11,12 @@ use Rattle.builtin_net.specs.Words.{after_digits, leading_number, is_printable}
 use Rattle.builtin_net.specs.declared.allowed.Attribute.TheVariants.{PhysPortName, DevPort, DevId}
 use Rattle.builtin_net.specs.declared.prefixes.Prefix.{Prefix}
 
--- the number of the virtual function after that of a physical one, such as in `0vf3`
-unfoldable pub virtual_of : Text → Option ℕ
-virtual_of text = option_and_then (λ physical. option_and_then leading_number (following (codes "vf") (after_digits text))) (leading_number text)
-
 -- the virtual function that the interface of a switch stands for, such as 3 if its port is called `pf0vf3`
 unfoldable pub represented : Text → Option ℕ
-represented name = option_and_then virtual_of (following (codes "pf") name)
+represented name =
+    option_and_then (λ text.
+    option_and_then (λ physical. option_and_then leading_number (following (codes "vf") (after_digits text))) (leading_number text))
+    (following (codes "pf") name)
 
 -- a port by its name, if that may be part of an interface's name
 unfoldable pub named_port : Text → Option Text

@@ -1,8 +1,6 @@
 -- Which interfaces have names, and how these begin.
 use Rattle.std.specs.Prelude.{ℕ, ◌==◌, Bool, true, false, codes, Option, Some, None, if◌then◌else◌}
 use Rattle.text_tables.specs.Texts.{Text, same_text}
-use Rattle.text_tables.specs.Pairs.{Pair, value_of}
-use Rattle.device_core.specs.Values.{DeviceValue, EventValue}
 use Rattle.builtin_net.specs.declared.prefixes.Prefix.{Prefix}
 use Rattle.builtin_net.specs.declared.prefixes.Prefix.TheVariants.{Ethernet, Wireless, Modem, InfiniBand, SerialLine}
 

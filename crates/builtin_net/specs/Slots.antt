@@ -1,5 +1,6 @@
 -- The slot that a function is in.
-use Rattle.std.specs.Prelude.{ℕ, ◌==◌, ◌&&◌, ◌||◌, not, Bool, false, true, List, length, find, nat_eq, codes, Option, Some, None, option_map, option_and_then, is_some, if◌then◌else◌}
+use Rattle.std.specs.Prelude.{ℕ, ◌==◌, ◌&&◌, ◌||◌, not, Bool, false, true, List, find, length, nat_eq, codes, Option, Some, None, option_map}
+use Rattle.std.specs.Prelude.{option_and_then, is_some, if◌then◌else◌}
 use Rattle.std.specs.Bool.{then_some}
 use Rattle.std.specs.Char.{is_ascii_hexdigit, is_ascii_uppercase}
 use Rattle.std.specs.List.{after_last, list_all, list_any, starts_with}
@@ -15,7 +16,7 @@ use Rattle.builtin_devices.specs.Numbers.{is_number, number_in}
 use Rattle.builtin_devices.specs.declared.numbers.Base.TheVariants.{AsWritten, Hexadecimal}
 use Rattle.builtin_net.specs.Allowed.{number, read}
 use Rattle.builtin_net.specs.Function.{is_several}
-use Rattle.builtin_net.specs.Words.{most_number, positive}
+use Rattle.builtin_net.specs.Words.{first_given, most_number, positive}
 use Rattle.builtin_net.specs.declared.allowed.Attribute.TheVariants.{Sun, FunctionId, Modalias}
 use Rattle.builtin_net.specs.declared.slots.Slot.{Slot}
 
@@ -70,18 +71,20 @@ slot_name path = addressed (split_once slash path)
 abbrev pub slot_number : (path : Text) → Option ℕ
 slot_number path = positive (option_and_then (number_in AsWritten most_number) (slot_name path))
 
--- whether a slot with a number holds the device with this name: its address is the beginning of the name
-unfoldable pub holds : (kernel : Text) → Pair → Bool
-holds kernel file = starts_with nat_eq kernel file.1 && is_some (slot_number file.0)
+-- the number of a slot, if its file says that it holds the device with this name: its address is the beginning of the
+-- name
+unfoldable pub number_holding : (kernel : Text) → Pair → Option ℕ
+number_holding kernel file = if starts_with nat_eq kernel file.1 then slot_number file.0 else None
 
 -- the number of the slot that holds a device
 unfoldable pub number_by_place : EventValue → DeviceValue → Option ℕ
-number_by_place event pci = option_and_then (λ file. slot_number file.0) (find (holds (kernel_of pci)) (slot_files event))
+number_by_place event pci = first_given (number_holding (kernel_of pci)) (slot_files event)
 
 -- whether a name is this number in eight hexadecimal digits with lower case letters
 unfoldable pub is_identity : ℕ → Text → Bool
 is_identity n name =
-    length name == 8 && list_all is_ascii_hexdigit name && not (list_any is_ascii_uppercase name) && is_number n (number_in Hexadecimal most_number name)
+    length name == 8 && list_all is_ascii_hexdigit name && not (list_any is_ascii_uppercase name)
+    && is_number n (number_in Hexadecimal most_number name)
 
 -- whether a file is that of the slot of this number
 abbrev pub is_slot_of : ℕ → Pair → Bool
@@ -90,7 +93,8 @@ is_slot_of n file = option_map_or (is_identity n) (slot_name file.0) false
 -- the slot of a function of System z, whose number has a slot of its own; a name by it leaves the domain out
 unfoldable pub slot_by_identity : EventValue → Text → Option Slot
 slot_by_identity event identity =
-    option_and_then (λ n. then_some (list_any (is_slot_of n) (slot_files event)) (record { number = n; drops_domain = true })) (positive (number_in AsWritten most_number identity))
+    option_and_then (λ n. then_some (list_any (is_slot_of n) (slot_files event)) (record { number = n; drops_domain = true }))
+    (positive (number_in AsWritten most_number identity))
 
 -- whether the search for a slot of the bus ends at a device: it is a function of System z, or a slot holds it
 unfoldable pub ends_search : EventValue → DeviceValue → Bool

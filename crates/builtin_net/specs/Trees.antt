@@ -1,5 +1,5 @@
 -- Names by the aliases of a device tree.
-use Rattle.std.specs.Prelude.{ℕ, ◌==◌, ◌&&◌, Bool, ◌++◌, codes, decimal, find, Option, Some, None, option_map, option_and_then, unwrap_or, is_some, if◌then◌else◌}
+use Rattle.std.specs.Prelude.{ℕ, ◌==◌, ◌&&◌, ◌++◌, codes, decimal, Option, Some, None, option_map, option_and_then, unwrap_or, is_some, if◌then◌else◌}
 use Rattle.std.specs.Option.{option_or}
 use Rattle.text_bytes.specs.Texts.{following, is_empty}
 use Rattle.text_tables.specs.Texts.{Text, same_text}
@@ -9,7 +9,7 @@ use Rattle.builtin_devices.specs.Files.{file_at, files_below}
 use Rattle.builtin_devices.specs.Numbers.{number_in}
 use Rattle.builtin_devices.specs.declared.numbers.Base.TheVariants.{AsWritten}
 use Rattle.builtin_net.specs.Buses.{parent}
-use Rattle.builtin_net.specs.Words.{most_number}
+use Rattle.builtin_net.specs.Words.{first_given, most_number}
 
 -- the root of the device tree
 abbrev pub tree_root : Text
@@ -31,17 +31,14 @@ node_link event = option_or (node_of event event.device) (option_and_then (node_
 abbrev pub node_path : Text → Text
 node_path link = unwrap_or (following tree_root link) link
 
--- what follows `ethernet` in the name of an alias
-abbrev pub alias_end : Pair → Option Text
-alias_end file = following (codes "ethernet") file.0
-
--- whether a file is such an alias of a node
-unfoldable pub is_alias : (node : Text) → Pair → Bool
-is_alias node file = is_some (alias_end file) && same_text file.1 node
+-- what follows `ethernet` in the name of a file, if it is the alias of a node
+abbrev pub alias_of : (node : Text) → Pair → Option Text
+alias_of node file = if same_text file.1 node then following (codes "ethernet") file.0 else None
 
 -- the other alias with the same number, 0
 abbrev pub other_alias : (following : Text) → Text
-other_alias following = if is_empty following then codes "/firmware/devicetree/base/aliases/ethernet0" else codes "/firmware/devicetree/base/aliases/ethernet"
+other_alias following =
+    if is_empty following then codes "/firmware/devicetree/base/aliases/ethernet0" else codes "/firmware/devicetree/base/aliases/ethernet"
 
 -- the number of an alias, 0 if it has none
 abbrev pub alias_number : (following : Text) → Option ℕ
@@ -52,14 +49,12 @@ unfoldable pub clear_number : EventValue → (following : Text) → Option ℕ
 clear_number event following =
     option_and_then (λ n. if n == 0 && is_some (file_at event (other_alias following)) then None else Some n) (alias_number following)
 
--- what follows `ethernet` in the name of the first alias of a node
+-- the same of the first alias of a node
 abbrev pub first_alias : EventValue → (node : Text) → Option Text
-first_alias event node = option_and_then alias_end (find (is_alias node) (files_below event aliases_folder))
-
--- the number of the first alias of a node
-unfoldable pub node_number : EventValue → (node : Text) → Option ℕ
-node_number event node = option_and_then (clear_number event) (first_alias event node)
+first_alias event node = first_given (alias_of node) (files_below event aliases_folder)
 
 -- what names say about the node of an interface
 unfoldable pub tree_text : EventValue → Option Text
-tree_text event = option_map (λ n. codes "d" ++ decimal n) (option_and_then (λ link. node_number event (node_path link)) (node_link event))
+tree_text event =
+    option_and_then (λ link. option_map (λ n. codes "d" ++ decimal n) (option_and_then (clear_number event) (first_alias event (node_path link))))
+    (node_link event)

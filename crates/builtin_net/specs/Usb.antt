@@ -7,13 +7,9 @@ use Rattle.builtin_devices.specs.Numbers.{number_in}
 use Rattle.builtin_devices.specs.declared.numbers.Base.TheVariants.{Decimal}
 use Rattle.builtin_net.specs.Words.{most_number}
 
--- a byte of ports: `u` for a dot
-abbrev pub port_byte : ℕ → ℕ
-port_byte b = if b == dot then 117 else b
-
 -- ports with `u` for each dot in between
 abbrev pub ports_text : Text → Text
-ports_text ports = map port_byte ports
+ports_text ports = map (λ b. if b == dot then 117 else b) ports
 
 -- a number after a letter, left out if it is the usual one
 abbrev pub unless_usual : (usual letter number : Text) → Text
@@ -24,25 +20,19 @@ abbrev pub usb_text : (ports configuration interface : Text) → Text
 usb_text ports configuration interface =
     codes "u" ++ ports_text ports ++ unless_usual (codes "1") (codes "c") configuration ++ unless_usual (codes "0") (codes "i") interface
 
--- ports with what follows them, which is what comes before and after a dot
-abbrev pub usb_numbers : Text → Text → Option Text
-usb_numbers ports numbers = option_map (λ parts. usb_text ports parts.0 parts.1) (split_once dot numbers)
-
--- the same by what comes before and after a colon: the ports, and the numbers
-abbrev pub usb_ports : Text → Option Text
-usb_ports rest = option_and_then (λ parts. usb_numbers parts.0 parts.1) (split_once colon rest)
-
 -- The end of names by an interface of USB, by its name `BUS-PORTS:CONFIGURATION.INTERFACE`. The bus does not count.
 unfoldable pub usb_suffix : Text → Option Text
-usb_suffix name = option_and_then (λ parts. usb_ports parts.1) (split_once minus name)
+usb_suffix name =
+    option_and_then (λ bus.
+    option_and_then (λ ports. option_map (λ numbers. usb_text ports.0 numbers.0 numbers.1) (split_once dot ports.1))
+    (split_once colon bus.1))
+    (split_once minus name)
 
--- the core after the bus, if both are numbers
-abbrev pub core_of : (bus core : Text) → Option ℕ
-core_of bus core = option_and_then (λ n. number_in Decimal most_number core) (number_in Decimal most_number bus)
-
--- the core that a name `bcmaBUS:CORE` gives
+-- the core that a name `bcmaBUS:CORE` gives, if both are numbers
 abbrev pub core_in : Text → Option ℕ
-core_in name = option_and_then (λ parts. core_of parts.0 parts.1) (option_and_then (split_once colon) (following (codes "bcma") name))
+core_in name =
+    option_and_then (λ parts. option_and_then (λ bus. number_in Decimal most_number parts.1) (number_in Decimal most_number parts.0))
+    (option_and_then (split_once colon) (following (codes "bcma") name))
 
 -- a core, the first of which is not reported
 abbrev pub core_text : ℕ → Text

@@ -1,13 +1,14 @@
 -- Virtual functions, whose names are those of the physical one.
-use Rattle.std.specs.Prelude.{◌&&◌, Bool, false, [], ◌++◌, codes, find, Option, Some, None, option_and_then}
+use Rattle.std.specs.Prelude.{◌&&◌, [], ◌++◌, codes, Option, Some, None, option_and_then}
+use Rattle.std.specs.Bool.{then_some}
 use Rattle.text_bytes.specs.Numbers.{is_decimal}
-use Rattle.std.specs.Option.{option_map_or}
 use Rattle.text_tables.specs.Texts.{Text, same_text}
 use Rattle.text_tables.specs.Pairs.{Pair}
 use Rattle.device_core.specs.Values.{DeviceValue, EventValue}
 use Rattle.builtin_devices.specs.Devices.{device_by}
 use Rattle.builtin_devices.specs.Files.{file_at, files_below}
 use Rattle.text_bytes.specs.Texts.{following}
+use Rattle.builtin_net.specs.Words.{first_given}
 
 -- a function by which an interface is named, and what follows them: the number of the virtual function
 abbrev pub Named : Type 0
@@ -17,17 +18,14 @@ Named = DeviceValue × Text
 abbrev pub physical_path : EventValue → DeviceValue → Option Text
 physical_path event pci = file_at event (pci.path ++ codes "/physfn")
 
--- what follows `virtfn` in the name of a link
-abbrev pub virtual_digits : Pair → Option Text
-virtual_digits file = following (codes "virtfn") file.0
-
--- whether a link of a physical function leads to a virtual one
-unfoldable pub leads_to : (path : Text) → Pair → Bool
-leads_to path file = option_map_or is_decimal (virtual_digits file) false && same_text file.1 path
+-- the number of a virtual function, if a link of its physical one leads to it: what follows `virtfn` in its name
+unfoldable pub number_leading : (path : Text) → Pair → Option Text
+number_leading path file =
+    option_and_then (λ digits. then_some (is_decimal digits && same_text file.1 path) digits) (following (codes "virtfn") file.0)
 
 -- the number of a virtual function among those of its physical one
 unfoldable pub virtual_number : EventValue → (physical path : Text) → Option Text
-virtual_number event physical path = option_and_then virtual_digits (find (leads_to path) (files_below event physical))
+virtual_number event physical path = first_given (number_leading path) (files_below event physical)
 
 -- the physical function if it has the virtual one, and else the function itself
 abbrev pub by_number : (pci physical : DeviceValue) → (number : Option Text) → Named

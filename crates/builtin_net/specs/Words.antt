@@ -1,10 +1,12 @@
 -- Parts of texts that several names need.
-use Rattle.std.specs.Prelude.{ℕ, ◌^◌, ◌-◌, ◌==◌, Bool, not, ◌&&◌, take, drop, Option, Some, None, if◌then◌else◌}
+use Rattle.std.specs.Prelude.{ℕ, ◌^◌, ◌-◌, ◌==◌, Bool, not, ◌&&◌, List, [], ◌∷◌, take, drop, Option, Some, None, if◌then◌else◌}
 use Rattle.std.specs.List.{list_any, prefix_len}
+use Rattle.std.specs.Option.{option_or}
 use Rattle.std.specs.Str.{is_utf8}
 use Rattle.text_bytes.specs.Escapes.{is_control}
 use Rattle.text_bytes.specs.Numbers.{decimal_below, is_digit}
 use Rattle.text_tables.specs.Texts.{Text}
+use Rattle.text_tables.specs.Pairs.{Pair}
 
 -- the greatest number of 32 bits
 abbrev pub most_number : ℕ
@@ -30,3 +32,8 @@ is_printable text = is_utf8 text && not (list_any is_control text)
 abbrev pub positive : Option ℕ → Option ℕ
 positive None = None
 positive (Some n) = if n == 0 then None else Some n
+
+-- what a reader gives for the first file for which it gives something
+abbrev pub first_given : {Y : Type 0} → (Pair → Option Y) → List Pair → Option Y
+first_given reader [] = None
+first_given reader (file ∷ files) = option_or (reader file) (first_given reader files)

@@ -1,17 +1,18 @@
 //! The builtin.
 ghost use Rattle.std.specs.Prelude.{◌≡◌, option_map, IfOk};
 ghost use Rattle.builtin_net.specs.Allowed.{interface};
-ghost use Rattle.builtin_net.specs.NetId.{lookup, net_id, properties};
+ghost use Rattle.builtin_net.specs.NetId.{lookup, names_of, needs, net_id};
 
 use crate::address::maker_lookup;
+use crate::given::Given;
 use crate::identity::{is_identified, naming};
-use crate::names::{lasting_address, name_properties};
-use crate::needs::needs;
+use crate::names::{give_names, lasting_address};
+use crate::needs::need_own;
 use builtin_devices::{BuiltinOutcome, Devices, NetNames};
 use device_core::Event;
 use std::alloc::{AllocError, Global};
 use text_bytes::Bytes;
-use text_tables::CowPairs;
+use text_tables::{CowPairs, OwnedTexts};
 
 /// What the hardware database is asked.
 #[tactic(auto, unfolding(crate::specs::NetId::lookup))]
@@ -30,18 +31,21 @@ fn lookup(alloc: Global, event: &Event<'_>, env: &CowPairs<'_>) -> Result<Option
     }
 }
 
-/// The names of an interface that has some.
-fn properties(
-    alloc: Global,
-    devices: &Devices<'_>,
-    env: &CowPairs<'_>,
-) -> Result<Vec<(Bytes, Bytes)>, AllocError>
-    ensures { IfOk result (λ given. given.items ≡ properties devices.now (interface devices.now env.now)) }
+/// What an interface is given, whether or not net_id succeeds.
+#[tactic(auto, unfolding(crate::specs::NetId::needs))]
+fn given(alloc: Global, devices: &Devices<'_>, env: &CowPairs<'_>) -> Result<Given, AllocError>
+    ensures properties { IfOk result (λ given. given.properties.items ≡ (names_of devices.now (interface devices.now env.now)).properties) }
+    ensures needs { IfOk result (λ given. given.needs ≡ needs devices.now (interface devices.now env.now)) }
 {
-    match naming(devices.event(), env) {
-        Some(prefix) => name_properties(alloc, devices, prefix, env),
-        None => Ok(Vec::new(alloc)),
+    let mut given = Given {
+        properties: Vec::new(alloc),
+        needs: OwnedTexts::new(alloc),
+    };
+    need_own(alloc, &mut given.needs, devices.event(), env)?;
+    if let Some(prefix) = naming(devices.event(), env) {
+        give_names(alloc, &mut given, devices, prefix, env)?;
     }
+    Ok(given)
 }
 
 /// The outcome of net_id.
@@ -53,11 +57,12 @@ fn outcome(
 ) -> Result<BuiltinOutcome, AllocError>
     ensures { IfOk result (λ outcome. outcome ≡ net_id devices.now env.now) }
 {
-    let needs = needs(alloc, devices, env)?;
-    if !is_identified(devices.event(), env) {
-        return Ok(BuiltinOutcome::failing(alloc, needs));
+    let Given { properties, needs } = given(alloc, devices, env)?;
+    if is_identified(devices.event(), env) {
+        return Ok(BuiltinOutcome::succeeding(properties, needs));
     }
-    Ok(BuiltinOutcome::succeeding(properties(alloc, devices, env)?, needs))
+    drop(properties);
+    Ok(BuiltinOutcome::failing(alloc, needs))
 }
 
 /// The names of the network interface that the event device is, as the builtin net_id of udev of systemd 257 gives

@@ -1,9 +1,13 @@
 //! What names say about buses other than PCI and USB.
 ghost use Rattle.std.specs.Prelude.{◌≡◌, ◌==◌, ◌||◌, ◌≤◌, length, not, option_copied, option_map, IfOk};
+ghost use Rattle.std.specs.Char.{is_ascii_digit, is_ascii_uppercase};
 ghost use Rattle.std.specs.List.{list_all, prefix_len};
 ghost use Rattle.text_bytes.specs.Names.{digit_zero, dot, slash};
 ghost use Rattle.builtin_net.specs.Allowed.{interface};
-ghost use Rattle.builtin_net.specs.Buses.{acpi_text, by_ccw, by_netdevsim, by_platform, by_vio, by_xen, ccw_text, component, is_acpi, is_there, is_vendor, is_vendor_byte, is_written_number, netdevsim_text, number_of_name, parent, parent_after_virtio, platform_parts, platform_text, simulated, vio_text, with_instance, without_start, xen_text};
+ghost use Rattle.builtin_net.specs.Buses.{acpi_text, by_ccw, by_netdevsim, by_platform, by_vio, by_xen, ccw_text, component, is_acpi, is_there};
+ghost use Rattle.builtin_net.specs.Buses.{is_vendor, is_written_number};
+ghost use Rattle.builtin_net.specs.Buses.{netdevsim_text, number_of_name, parent, parent_after_virtio, platform_text, simulated, vio_text};
+ghost use Rattle.builtin_net.specs.Buses.{with_instance, without_start, xen_text};
 
 use crate::allowed::{Attribute, read_own};
 use crate::ports::some_text;
@@ -126,14 +130,14 @@ fn vio_text(alloc: Global, name: &[u8]) -> Result<Option<Vec<u8>>, AllocError>
 
 /// Whether a byte is a capital letter or a digit.
 fn is_vendor_byte(byte: u8) -> bool
-    ensures { result ≡ is_vendor_byte byte }
+    ensures { result ≡ (is_ascii_uppercase byte || is_ascii_digit byte) }
 {
     byte.is_ascii_uppercase() || byte.is_ascii_digit()
 }
 
 /// Whether a text has only capital letters and digits.
 fn has_vendor_bytes(text: &[u8]) -> bool
-    ensures { result ≡ list_all is_vendor_byte text.now }
+    ensures { result ≡ list_all (λ b. is_ascii_uppercase b || is_ascii_digit b) text.now }
 {
     text.iter().all(|byte| is_vendor_byte(*byte))
 }
@@ -193,27 +197,16 @@ fn with_instance(
     }
 }
 
-/// What comes before and after the colon in the name of a platform device.
-fn platform_parts(
-    alloc: Global,
-    beginning: &[u8],
-    instance: &[u8],
-) -> Result<Option<Vec<u8>>, AllocError>
-    ensures { IfOk result (λ text. option_map (λ t. t.items) text ≡ platform_parts beginning.now instance.now) }
-{
-    let (vendor, model) = beginning.split_at(beginning.len().saturating_sub(4));
-    with_instance(alloc, vendor, model, instance)
-}
-
 /// A name of a platform device as names of interfaces have it.
 #[tactic(auto, unfolding(crate::specs::Buses::platform_text))]
 fn platform_text(alloc: Global, name: &[u8]) -> Result<Option<Vec<u8>>, AllocError>
     ensures { IfOk result (λ text. option_map (λ t. t.items) text ≡ platform_text name.now) }
 {
-    match split_once(b':', name) {
-        Some((beginning, instance)) => platform_parts(alloc, beginning, instance),
-        None => Ok(None),
-    }
+    let Some((beginning, instance)) = split_once(b':', name) else {
+        return Ok(None);
+    };
+    let (vendor, model) = beginning.split_at(beginning.len().saturating_sub(4));
+    with_instance(alloc, vendor, model, instance)
 }
 
 /// Whether a text is a number of 32 bits in decimal digits, without zeros before it.

@@ -1,7 +1,7 @@
 //! Functions of PCI, by their names.
 ghost use Rattle.std.specs.Prelude.{◌≡◌, ◌++◌, ◌≤◌, IfOk, IfSome, OnOk, option_map};
 ghost use Rattle.builtin_devices.specs.Numbers.{number_in};
-ghost use Rattle.builtin_net.specs.Function.{config, domain_text, function, function_of, function_text, has_ari, header_type, in_bus, in_domain, is_several, place_text, with_ari};
+ghost use Rattle.builtin_net.specs.Function.{config, domain_text, function, function_of, function_text, is_several, with_ari};
 ghost use Rattle.builtin_net.specs.Words.{most_number};
 
 use crate::allowed::{Attribute, is_yes, read};
@@ -11,6 +11,12 @@ use device_core::{Device, Event};
 use std::alloc::{AllocError, Global};
 use text_bytes::split_once;
 use text_links::kernel_name;
+
+/// Where the type of the header is in a configuration.
+const HEADER_PLACE: usize = 14;
+
+/// The least type of a header of a card with several functions.
+const SEVERAL_TYPE: u8 = 0x80;
 
 /// A function of a card in a slot of a bus; each domain has buses of its own.
 #[derive(Clone, Copy)]
@@ -33,33 +39,6 @@ fn small_number(base: Base, text: &[u8]) -> Option<u64>
     number_in(base, MAX_NUMBER, text)
 }
 
-/// The function of a domain and a bus, whose slot and function are in a text.
-#[tactic(auto, unfolding(crate::specs::Function::in_bus))]
-fn in_bus(domain: &[u8], bus: &[u8], place: &[u8]) -> Option<Function>
-    ensures value { result ≡ in_bus domain.now bus.now place.now }
-    ensures slot { IfSome result (λ f. f.slot ≤ most_number) }
-    ensures function { IfSome result (λ f. f.function ≤ most_number) }
-{
-    let (slot, function) = split_once(b'.', place)?;
-    Some(Function {
-        domain: small_number(Base::Hexadecimal, domain)?,
-        bus: small_number(Base::Hexadecimal, bus)?,
-        slot: small_number(Base::Hexadecimal, slot)?,
-        function: small_number(Base::Decimal, function)?,
-    })
-}
-
-/// The function of a domain, whose bus, slot and function are in a text.
-#[tactic(auto, unfolding(crate::specs::Function::in_domain))]
-fn in_domain(domain: &[u8], rest: &[u8]) -> Option<Function>
-    ensures value { result ≡ in_domain domain.now rest.now }
-    ensures slot { IfSome result (λ f. f.slot ≤ most_number) }
-    ensures function { IfSome result (λ f. f.function ≤ most_number) }
-{
-    let (bus, place) = split_once(b':', rest)?;
-    in_bus(domain, bus, place)
-}
-
 /// The function that a name gives.
 #[tactic(auto, unfolding(crate::specs::Function::function_of))]
 fn function_of(name: &[u8]) -> Option<Function>
@@ -68,7 +47,14 @@ fn function_of(name: &[u8]) -> Option<Function>
     ensures function { IfSome result (λ f. f.function ≤ most_number) }
 {
     let (domain, rest) = split_once(b':', name)?;
-    in_domain(domain, rest)
+    let (bus, place) = split_once(b':', rest)?;
+    let (slot, function) = split_once(b'.', place)?;
+    Some(Function {
+        domain: small_number(Base::Hexadecimal, domain)?,
+        bus: small_number(Base::Hexadecimal, bus)?,
+        slot: small_number(Base::Hexadecimal, slot)?,
+        function: small_number(Base::Decimal, function)?,
+    })
 }
 
 /// A function numbered as on a card that counts the functions of all its slots as one.
@@ -83,16 +69,6 @@ fn with_ari(f: Function) -> Function
     }
 }
 
-/// Whether a device says that its card counts the functions of all slots as one.
-fn has_ari(pci: &Device<'_>) -> bool
-    ensures { result ≡ has_ari pci.now }
-{
-    match read(pci, Attribute::AriEnabled) {
-        Some(word) => is_yes(word),
-        None => false,
-    }
-}
-
 /// The function that a device is.
 #[tactic(auto, unfolding(crate::specs::Function::function))]
 pub(crate) fn function_at(alloc: Global, pci: &Device<'_>) -> Result<Option<Function>, AllocError>
@@ -102,10 +78,10 @@ pub(crate) fn function_at(alloc: Global, pci: &Device<'_>) -> Result<Option<Func
     let Some(function) = function_of(name.as_slice()) else {
         return Ok(None);
     };
-    if has_ari(pci) {
-        return Ok(Some(with_ari(function)));
+    match read(pci, Attribute::AriEnabled) {
+        Some(word) if is_yes(word) => Ok(Some(with_ari(function))),
+        _ => Ok(Some(function)),
     }
-    Ok(Some(function))
 }
 
 /// The bytes of the configuration of a function, in hexadecimal digits.
@@ -120,16 +96,6 @@ pub(crate) fn config<'a>(
     Ok(file_at(event, &path))
 }
 
-/// The type of the header of a configuration.
-fn header_type(alloc: Global, digits: &[u8]) -> Result<Option<u8>, AllocError>
-    ensures { IfOk result (λ kind. kind ≡ header_type digits.now) }
-{
-    match bytes_of(alloc, digits)? {
-        Some(bytes) => Ok(bytes.get(14).copied()),
-        None => Ok(None),
-    }
-}
-
 /// Whether a function reports that its card has several.
 #[tactic(auto, unfolding(crate::specs::Function::is_several))]
 pub(crate) fn is_several(
@@ -142,8 +108,11 @@ pub(crate) fn is_several(
     let Some(digits) = config(alloc, event, pci)? else {
         return Ok(false);
     };
-    match header_type(alloc, digits)? {
-        Some(kind) => Ok(kind >= 0x80),
+    let Some(bytes) = bytes_of(alloc, digits)? else {
+        return Ok(false);
+    };
+    match bytes.get(HEADER_PLACE) {
+        Some(kind) => Ok(*kind >= SEVERAL_TYPE),
         None => Ok(false),
     }
 }
@@ -156,14 +125,6 @@ pub(crate) fn push_domain(text: &mut Vec<u8>, f: Function) -> Result<(), AllocEr
         return Ok(());
     }
     push_number(text, b"P", f.domain)
-}
-
-/// Appends bus and slot.
-pub(crate) fn push_place(text: &mut Vec<u8>, f: Function) -> Result<(), AllocError>
-    ensures { OnOk result (text.new.items ≡ text.old.items ++ place_text f) }
-{
-    push_number(text, b"p", f.bus)?;
-    push_number(text, b"s", f.slot)
 }
 
 /// Appends the function, unless it is the first and the only one.

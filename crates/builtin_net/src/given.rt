@@ -1,16 +1,24 @@
-//! A name that is given, if it is not too long.
-ghost use Rattle.std.specs.Prelude.{◌≡◌, ◌++◌, codes, option_map, OnOk, Some};
+//! What an interface is given: its names, if they are not too long, and what the block would have to report for more.
+ghost use Rattle.std.specs.Prelude.{◌≡◌, ◌++◌, option_map, OnOk};
 ghost use Rattle.builtin_net.specs.Names.{prefixed};
-ghost use Rattle.builtin_net.specs.Prefixes.{prefix_text};
 
-use crate::prefixes::Prefix;
 use crate::words::joined;
 use builtin_devices::add_property;
 use std::alloc::{AllocError, Global};
 use text_bytes::Bytes;
+use text_tables::OwnedTexts;
 
 /// The most bytes of a name.
 const MAX_NAME: usize = 127;
+
+/// The properties of an interface so far, and what the block would have to report for more.
+#[derive(Drop)]
+pub(crate) struct Given {
+    /// The properties, in the order in which they are set.
+    pub properties: Vec<(Bytes, Bytes)>,
+    /// Words for what is needed, each once.
+    pub needs: OwnedTexts,
+}
 
 /// Adds a property of a prefix and the text after it, if there is one and both together are not too long.
 #[tactic(auto, unfolding(crate::specs::Names::prefixed))]
@@ -31,16 +39,4 @@ pub(crate) fn give(
         return Ok(());
     }
     add_property(alloc, key, &name, names)
-}
-
-/// Gives a name by a path.
-pub(crate) fn give_path(
-    alloc: Global,
-    names: &mut Vec<(Bytes, Bytes)>,
-    prefix: Prefix,
-    text: Vec<u8>,
-) -> Result<(), AllocError>
-    ensures { OnOk result (names.new.items ≡ names.old.items ++ prefixed (codes "ID_NET_NAME_PATH") (prefix_text prefix) (Some text.items)) }
-{
-    give(alloc, names, b"ID_NET_NAME_PATH", prefix.text(), Some(text))
 }

@@ -1,7 +1,7 @@
 //! Which interfaces have names.
 ghost use Rattle.std.specs.Prelude.{◌≡◌, option_map};
 ghost use Rattle.builtin_net.specs.Allowed.{interface};
-ghost use Rattle.builtin_net.specs.Identity.{index, index_in, is_alone, is_identified, is_link, link, naming};
+ghost use Rattle.builtin_net.specs.Identity.{index, index_in, is_alone, is_identified, link, naming};
 
 use crate::allowed::{Attribute, own_number, read_own};
 use crate::prefixes::{Prefix, prefix_of};
@@ -28,13 +28,6 @@ pub(crate) fn index(event: &Event<'_>) -> Option<u64>
     }
 }
 
-/// Whether a text is a number of 31 bits and a sign.
-fn is_link(text: &[u8]) -> bool
-    ensures { result ≡ is_link text.now }
-{
-    index_in(text).is_some() || is_below_zero(Base::AsWritten, 1 << 31, text)
-}
-
 /// Whether the event device has an index, and gives that of the interface that it is stacked on.
 #[tactic(auto, unfolding(crate::specs::Identity::is_identified))]
 pub(crate) fn is_identified(event: &Event<'_>, env: &CowPairs<'_>) -> bool
@@ -44,7 +37,7 @@ pub(crate) fn is_identified(event: &Event<'_>, env: &CowPairs<'_>) -> bool
         return false;
     }
     match read_own(event, env, Attribute::Iflink) {
-        Some(link) => is_link(link),
+        Some(link) => index_in(link).is_some() || is_below_zero(Base::AsWritten, 1 << 31, link),
         None => false,
     }
 }

@@ -22,5 +22,7 @@ pub fn stacked_interfaces_have_no_names()
 
 /// If a property forbids all attributes of an interface, and none allows its `iflink`, net_id fails.
 pub fn forbidden_interfaces_fail()
-    ensures { (event : EventValue) (env : List Pair) (word : Text) → value_of env permission_of_all ≡ Some word → is_yes word ≡ false → value_of env (permission Iflink) ≡ None → (net_id event env).is_done ≡ false }
+    ensures { (event : EventValue) (env : List Pair) (word : Text)
+        → value_of env permission_of_all ≡ Some word → is_yes word ≡ false → value_of env (permission Iflink) ≡ None
+        → (net_id event env).is_done ≡ false }
 {}

@@ -8,6 +8,7 @@ mod allowed;
 mod builtin;
 mod bus_names;
 mod buses;
+mod carriers;
 mod function_names;
 mod functions;
 mod given;

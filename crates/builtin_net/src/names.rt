@@ -1,12 +1,16 @@
 //! All names of an interface, in the order in which they are set.
-ghost use Rattle.std.specs.Prelude.{◌≡◌, option_map, IfOk};
+ghost use Rattle.std.specs.Prelude.{◌≡◌, ◌++◌, codes, option_map, IfOk, OnOk};
+ghost use Rattle.text_tables.specs.Texts.{with_texts};
 ghost use Rattle.builtin_net.specs.Allowed.{interface};
-ghost use Rattle.builtin_net.specs.Names.{by_address, by_tree, lasting_address, name_properties};
+ghost use Rattle.builtin_net.specs.Names.{all_names, by_address, by_buses, by_tree, lasting_address, own_names, prefixed};
+ghost use Rattle.builtin_net.specs.Prefixes.{prefix_text};
 
 use crate::address::address_digits;
 use crate::allowed::{Attribute, own_number, read_own};
-use crate::bus_names::{give_by_bcma, give_by_buses, give_by_usb};
-use crate::given::give;
+use crate::bus_names::give_by_buses;
+use crate::carriers::{Bus, give_by_carrier};
+use crate::given::{Given, give};
+use crate::needs::{need_address, need_tree};
 use crate::pci_names::give_by_pci;
 use crate::prefixes::Prefix;
 use crate::trees::tree_text;
@@ -66,37 +70,61 @@ fn by_tree(
     }
 }
 
-/// All names in the order in which they are set.
-#[tactic(auto, unfolding(crate::specs::Names::name_properties))]
-pub(crate) fn name_properties(
+/// Gives the names by the address, by the device tree, and by buses whose devices have no functions of PCI.
+fn give_plain(
     alloc: Global,
+    names: &mut Vec<(Bytes, Bytes)>,
     devices: &Devices<'_>,
     prefix: Prefix,
     env: &CowPairs<'_>,
-) -> Result<Vec<(Bytes, Bytes)>, AllocError>
-    ensures { IfOk result (λ given. given.items ≡ name_properties devices.now prefix (interface devices.now env.now)) }
+) -> Result<(), AllocError>
+    ensures { OnOk result (names.new.items ≡ names.old.items
+        ++ (prefixed (codes "ID_NET_NAME_MAC") (prefix_text prefix) (by_address prefix (interface devices.now env.now))
+        ++ prefixed (codes "ID_NET_NAME_ONBOARD") (prefix_text prefix) (by_tree devices.now prefix)
+        ++ by_buses devices.now (prefix_text prefix) (interface devices.now env.now))) }
 {
-    let mut names = Vec::new(alloc);
-    add_property(alloc, b"ID_NET_NAMING_SCHEME", b"v257", &mut names)?;
     let address = by_address(alloc, prefix, devices.event(), env)?;
-    give(
-        alloc,
-        &mut names,
-        b"ID_NET_NAME_MAC",
-        prefix.text(),
-        address,
-    )?;
+    give(alloc, names, b"ID_NET_NAME_MAC", prefix.text(), address)?;
     let tree = by_tree(alloc, devices, prefix)?;
-    give(
-        alloc,
-        &mut names,
-        b"ID_NET_NAME_ONBOARD",
-        prefix.text(),
-        tree,
-    )?;
-    give_by_buses(alloc, &mut names, devices, prefix.text(), env)?;
-    give_by_pci(alloc, &mut names, devices, prefix, env)?;
-    give_by_usb(alloc, &mut names, devices, prefix, env)?;
-    give_by_bcma(alloc, &mut names, devices, prefix, env)?;
-    Ok(names)
+    give(alloc, names, b"ID_NET_NAME_ONBOARD", prefix.text(), tree)?;
+    give_by_buses(alloc, names, devices, prefix.text(), env)?;
+    Ok(())
+}
+
+/// Gives the naming scheme, and then those names.
+fn give_own(
+    alloc: Global,
+    names: &mut Vec<(Bytes, Bytes)>,
+    devices: &Devices<'_>,
+    prefix: Prefix,
+    env: &CowPairs<'_>,
+) -> Result<(), AllocError>
+    ensures { OnOk result (names.new.items ≡ names.old.items ++ own_names devices.now prefix (interface devices.now env.now)) }
+{
+    add_property(alloc, b"ID_NET_NAMING_SCHEME", b"v257", names)?;
+    give_plain(alloc, names, devices, prefix, env)?;
+    Ok(())
+}
+
+/// Gives all names, in the order in which they are set.
+#[tactic(auto, unfolding(crate::specs::Names::all_names))]
+pub(crate) fn give_names(
+    alloc: Global,
+    given: &mut Given,
+    devices: &Devices<'_>,
+    prefix: Prefix,
+    env: &CowPairs<'_>,
+) -> Result<(), AllocError>
+    ensures properties { OnOk result (given.new.properties.items
+        ≡ given.old.properties.items ++ (all_names devices.now prefix (interface devices.now env.now)).properties) }
+    ensures needs { OnOk result (given.new.needs
+        ≡ with_texts given.old.needs (all_names devices.now prefix (interface devices.now env.now)).needs) }
+{
+    give_own(alloc, &mut given.properties, devices, prefix, env)?;
+    need_address(alloc, &mut given.needs, prefix, devices.event(), env)?;
+    need_tree(alloc, &mut given.needs, devices, prefix)?;
+    give_by_pci(alloc, given, devices, prefix, env)?;
+    give_by_carrier(alloc, given, Bus::Usb, devices, prefix, env)?;
+    give_by_carrier(alloc, given, Bus::Bcma, devices, prefix, env)?;
+    Ok(())
 }

@@ -1,21 +1,21 @@
 //! The names and the label of an interface of PCI.
-ghost use Rattle.std.specs.Prelude.{◌≡◌, ◌++◌, [], codes, option_map, IfOk, OnOk};
+ghost use Rattle.std.specs.Prelude.{◌≡◌, ◌++◌, option_copied, option_map, IfOk, OnOk};
+ghost use Rattle.text_tables.specs.Texts.{with_texts};
 ghost use Rattle.builtin_net.specs.Allowed.{interface};
-ghost use Rattle.builtin_net.specs.Names.{board_text, by_pci, label_of, own_function, prefixed};
-ghost use Rattle.builtin_net.specs.Prefixes.{prefix_text};
+ghost use Rattle.builtin_net.specs.Names.{board_text, by_pci, label_of, on_board, own_pci};
 
-use crate::buses::{is_there, parent_after_virtio};
+use crate::buses::parent_after_virtio;
 use crate::function_names::give_by_function;
-use crate::given::give;
+use crate::given::{Given, give};
+use crate::needs::need_port;
 use crate::on_board::{board_number, label};
 use crate::ports::port_text;
 use crate::prefixes::Prefix;
 use crate::virtual_functions::{NamedFunction, named_function};
 use crate::words::push_number;
-use builtin_devices::Devices;
+use builtin_devices::{Devices, is_of};
 use device_core::{Device, Event};
 use std::alloc::{AllocError, Global};
-use text_bytes::Bytes;
 use text_tables::CowPairs;
 
 /// The name by the number on board.
@@ -43,20 +43,6 @@ fn board_text(
     Ok(Some(text))
 }
 
-/// The function by which an interface of PCI is named.
-#[tactic(auto, unfolding(crate::specs::Names::own_function))]
-pub(crate) fn own_function<'d, 'a>(
-    alloc: Global,
-    devices: &'d Devices<'a>,
-) -> Result<Option<NamedFunction<'d, 'a>>, AllocError>
-    ensures { IfOk result (λ own. own ≡ own_function devices.now) }
-{
-    match parent_after_virtio(alloc, devices)? {
-        Some(pci) if is_there(b"pci", Some(pci)) => named_function(alloc, devices, pci),
-        _ => Ok(None),
-    }
-}
-
 /// The label of a function, unless it is a virtual one.
 fn label_of(alloc: Global, pci: &Device<'_>, suffix: &[u8]) -> Result<Option<Vec<u8>>, AllocError>
     ensures { IfOk result (λ text. option_map (λ t. t.items) text ≡ label_of pci.now suffix.now) }
@@ -70,51 +56,63 @@ fn label_of(alloc: Global, pci: &Device<'_>, suffix: &[u8]) -> Result<Option<Vec
     }
 }
 
-/// Gives the label of a function, unless it is a virtual one.
-fn give_label(
+/// Gives the label of a function, and the name by its number on board.
+fn give_on_board(
     alloc: Global,
-    names: &mut Vec<(Bytes, Bytes)>,
-    pci: &Device<'_>,
-    suffix: &[u8],
-) -> Result<(), AllocError>
-    ensures { OnOk result (names.new.items ≡ names.old.items ++ prefixed (codes "ID_NET_LABEL_ONBOARD") [] (label_of pci.now suffix.now)) }
-{
-    let label = label_of(alloc, pci, suffix)?;
-    give(alloc, names, b"ID_NET_LABEL_ONBOARD", b"", label)
-}
-
-/// Gives the name by the number of a function on board.
-fn give_board(
-    alloc: Global,
-    names: &mut Vec<(Bytes, Bytes)>,
+    given: &mut Given,
     prefix: Prefix,
     event: &Event<'_>,
     env: &CowPairs<'_>,
-    pci: &Device<'_>,
-    suffix: &[u8],
+    own: &NamedFunction<'_, '_>,
 ) -> Result<(), AllocError>
-    ensures { OnOk result (names.new.items ≡ names.old.items ++ prefixed (codes "ID_NET_NAME_ONBOARD") (prefix_text prefix) (board_text prefix (interface event.now env.now) pci.now suffix.now)) }
+    ensures properties { OnOk result (given.new.properties.items
+        ≡ given.old.properties.items ++ (on_board prefix (interface event.now env.now) own.now.0 own.now.1).properties) }
+    ensures needs { OnOk result (given.new.needs
+        ≡ with_texts given.old.needs (on_board prefix (interface event.now env.now) own.now.0 own.now.1).needs) }
 {
-    let board = board_text(alloc, prefix, event, env, pci, suffix)?;
-    give(alloc, names, b"ID_NET_NAME_ONBOARD", prefix.text(), board)
+    let label = label_of(alloc, own.pci, &own.suffix)?;
+    let board = board_text(alloc, prefix, event, env, own.pci, &own.suffix)?;
+    let names = &mut given.properties;
+    give(alloc, names, b"ID_NET_LABEL_ONBOARD", b"", label)?;
+    give(alloc, names, b"ID_NET_NAME_ONBOARD", prefix.text(), board)?;
+    if board_number(own.pci).is_none() {
+        return Ok(());
+    }
+    need_port(alloc, &mut given.needs, prefix, event, env, false)
 }
 
-/// Gives the names of an interface of PCI, and its label.
+/// The device of PCI that an interface belongs to.
+fn own_pci<'d, 'a>(
+    alloc: Global,
+    devices: &'d Devices<'a>,
+) -> Result<Option<&'d Device<'a>>, AllocError>
+    ensures { IfOk result (λ pci. option_copied pci ≡ own_pci devices.now) }
+{
+    match parent_after_virtio(alloc, devices)? {
+        Some(device) if is_of(b"pci", None, device) => Ok(Some(device)),
+        _ => Ok(None),
+    }
+}
+
+/// Gives what is above an interface of PCI.
 #[tactic(auto, unfolding(crate::specs::Names::by_pci))]
 pub(crate) fn give_by_pci(
     alloc: Global,
-    names: &mut Vec<(Bytes, Bytes)>,
+    given: &mut Given,
     devices: &Devices<'_>,
     prefix: Prefix,
     env: &CowPairs<'_>,
 ) -> Result<(), AllocError>
-    ensures { OnOk result (names.new.items ≡ names.old.items ++ by_pci devices.now prefix (interface devices.now env.now)) }
+    ensures properties { OnOk result (given.new.properties.items
+        ≡ given.old.properties.items ++ (by_pci devices.now prefix (interface devices.now env.now)).properties) }
+    ensures needs { OnOk result (given.new.needs ≡ with_texts given.old.needs (by_pci devices.now prefix (interface devices.now env.now)).needs) }
 {
-    let Some(own) = own_function(alloc, devices)? else {
+    let Some(pci) = own_pci(alloc, devices)? else {
         return Ok(());
     };
-    let NamedFunction { pci, suffix } = own;
-    give_label(alloc, names, pci, &suffix)?;
-    give_board(alloc, names, prefix, devices.event(), env, pci, &suffix)?;
-    give_by_function(alloc, names, devices, prefix, env, pci, &suffix)
+    let Some(own) = named_function(alloc, devices, pci)? else {
+        return given.needs.add(alloc, b"physfn");
+    };
+    give_on_board(alloc, given, prefix, devices.event(), env, &own)?;
+    give_by_function(alloc, given, devices, prefix, env, own.pci, &own.suffix)
 }

@@ -1,7 +1,7 @@
 //! What distinguishes the ports of one function.
 ghost use Rattle.std.specs.Prelude.{◌≡◌, IfOk, option_map};
 ghost use Rattle.builtin_net.specs.Allowed.{interface};
-ghost use Rattle.builtin_net.specs.Port.{named_port, numbered_port, port_number, port_text, represented, some_text, virtual_of};
+ghost use Rattle.builtin_net.specs.Port.{named_port, port_number, port_text, represented, some_text};
 
 use crate::allowed::{Attribute, own_number, read_own};
 use crate::prefixes::Prefix;
@@ -11,22 +11,14 @@ use std::alloc::{AllocError, Global};
 use text_bytes::following;
 use text_tables::CowPairs;
 
-/// The number of the virtual function after that of a physical one.
-#[tactic(auto, unfolding(crate::specs::Port::virtual_of))]
-fn virtual_of(text: &[u8]) -> Option<u64>
-    ensures { result ≡ virtual_of text.now }
-{
-    leading_number(text)?;
-    let digits = following(b"vf", after_digits(text))?;
-    leading_number(digits)
-}
-
 /// The virtual function that the interface of a switch stands for, by the name of its port.
 #[tactic(auto, unfolding(crate::specs::Port::represented))]
 fn represented(name: &[u8]) -> Option<u64>
     ensures { result ≡ represented name.now }
 {
-    virtual_of(following(b"pf", name)?)
+    let text = following(b"pf", name)?;
+    leading_number(text)?;
+    leading_number(following(b"vf", after_digits(text))?)
 }
 
 /// A port by its name, if that may be part of an interface's name.
@@ -43,17 +35,6 @@ fn named_port(alloc: Global, name: &[u8]) -> Result<Option<Vec<u8>>, AllocError>
         return Ok(None);
     }
     Ok(Some(joined(alloc, b"n", name)?))
-}
-
-/// A port by its number, the first of which is not reported.
-fn numbered_port(alloc: Global, number: u64) -> Result<Vec<u8>, AllocError>
-    ensures { IfOk result (λ text. text.items ≡ numbered_port number) }
-{
-    let mut text = Vec::new(alloc);
-    if number != 0 {
-        push_number(&mut text, b"d", number)?;
-    }
-    Ok(text)
 }
 
 /// The number of a port.
@@ -93,8 +74,12 @@ pub(crate) fn port_text(
     if let Some(name) = some_text(read_own(event, env, Attribute::PhysPortName)) {
         return named_port(alloc, name);
     }
-    match port_number(prefix, event, env, by_id) {
-        Some(number) => Ok(Some(numbered_port(alloc, number)?)),
-        None => Ok(None),
+    let Some(number) = port_number(prefix, event, env, by_id) else {
+        return Ok(None);
+    };
+    let mut text = Vec::new(alloc);
+    if number != 0 {
+        push_number(&mut text, b"d", number)?;
     }
+    Ok(Some(text))
 }

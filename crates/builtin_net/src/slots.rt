@@ -1,20 +1,28 @@
 //! The slot that a function is in.
-ghost use Rattle.std.specs.Prelude.{◌≡◌, ◌==◌, ◌≤◌, false, find, length, not, option_and_then, option_copied, option_map, IfOk};
+ghost use Rattle.std.specs.Prelude.{◌≡◌, ◌==◌, ◌≤◌, false, find, length, not, option_copied, option_map, IfOk, OnOk};
 ghost use Rattle.std.specs.Char.{is_ascii_uppercase};
 ghost use Rattle.std.specs.List.{after_last, list_any, suffix_len};
 ghost use Rattle.std.specs.Option.{option_map_or};
+ghost use Rattle.text_tables.specs.Texts.{with_texts};
 ghost use Rattle.builtin_devices.specs.Devices.{parents_of};
 ghost use Rattle.builtin_net.specs.Allowed.{read};
-ghost use Rattle.builtin_net.specs.Slots.{ends_search, ends_search_in_pci, firmware_number, holds, is_bridge, is_bridge_alias, is_described, is_identity, is_slot_of, number_by_firmware, number_by_place, number_of_above, pci_above, search_end, slot_at_end, slot_by_bus, slot_by_identity, slot_files, slot_name, slot_number, slot_of};
+ghost use Rattle.builtin_net.specs.Needs.{bus_needs, firmware_needs, lacks_at_end, lacks_modalias, slot_needs};
+ghost use Rattle.builtin_net.specs.Slots.{ends_search, ends_search_in_pci, firmware_number, is_bridge, is_described, is_identity, is_slot_of};
+ghost use Rattle.builtin_net.specs.Slots.{number_by_firmware, number_by_place, number_holding, number_of_above, pci_above, search_end, slot_at_end};
+ghost use Rattle.builtin_net.specs.Slots.{slot_by_bus, slot_by_identity};
+ghost use Rattle.builtin_net.specs.Slots.{slot_files, slot_name, slot_number, slot_of};
+ghost use Rattle.builtin_net.specs.Words.{first_given};
 
-use crate::allowed::{Attribute, number, read};
+use crate::allowed::{Attribute, lacks, number, read};
 use crate::functions::is_several;
+use crate::needs::need;
 use crate::words::{MAX_NUMBER, is_hexadecimal, positive};
 use builtin_devices::{Base, Devices, file_at, files_below, is_number, is_of, number_in};
 use device_core::{Device, Event};
 use std::alloc::{AllocError, Global};
 use text_bytes::split_once;
 use text_links::kernel_name;
+use text_tables::OwnedTexts;
 
 /// The folder of all slots of the bus.
 pub(crate) const SLOTS_FOLDER: &[u8] = b"/bus/pci/slots";
@@ -35,7 +43,7 @@ pub(crate) fn firmware_number(pci: &Device<'_>) -> Option<u64>
     positive(number(pci, Attribute::Sun))
 }
 
-/// How many bytes follow the last `s` of a text, all if it has none.
+/// How many bytes follow the last `s` of a text.
 fn bytes_after_s(text: &[u8]) -> usize
     ensures value { result ≡ suffix_len (λ b. not (b == 115)) text.now }
     ensures within { result ≤ length text.now }
@@ -50,21 +58,13 @@ fn after_last_s(text: &[u8]) -> &[u8]
     text.split_at(text.len() - bytes_after_s(text)).1
 }
 
-/// Whether a modalias is that of a bridge.
-#[tactic(auto, unfolding(crate::specs::Slots::is_bridge_alias))]
-fn is_bridge_alias(alias: &[u8]) -> bool
-    ensures { result ≡ is_bridge_alias alias.now }
-{
-    alias.starts_with(b"pci:") && after_last_s(alias).starts_with(b"c04")
-}
-
 /// Whether a device is a bridge.
-#[tactic(auto, unfolding(crate::specs::Slots::is_bridge))]
+#[tactic(auto, unfolding(crate::specs::Slots::is_bridge, crate::specs::Slots::is_bridge_alias))]
 pub(crate) fn is_bridge(pci: &Device<'_>) -> bool
     ensures { result ≡ is_bridge pci.now }
 {
     match read(pci, Attribute::Modalias) {
-        Some(alias) => is_bridge_alias(alias),
+        Some(alias) => alias.starts_with(b"pci:") && after_last_s(alias).starts_with(b"c04"),
         None => false,
     }
 }
@@ -91,20 +91,33 @@ fn number_of_above(several: bool, above: Option<&Device<'_>>) -> Option<u64>
     firmware_number(pci)
 }
 
-/// The number that the firmware gives for a function, or else for the device above.
+/// Whether there is a device, and it lacks its modalias.
+fn lacks_modalias(device: Option<&Device<'_>>) -> bool
+    ensures { result ≡ lacks_modalias (option_copied device.entry) }
+{
+    match device {
+        Some(device) => lacks(device, Attribute::Modalias),
+        None => false,
+    }
+}
+
+/// The number that the firmware gives for a function, or else for the device above. What is needed for it is added.
 #[tactic(auto, unfolding(crate::specs::Slots::number_by_firmware))]
-pub(crate) fn number_by_firmware(
+fn number_by_firmware(
     alloc: Global,
+    needs: &mut OwnedTexts,
     devices: &Devices<'_>,
     pci: &Device<'_>,
 ) -> Result<Option<u64>, AllocError>
-    ensures { IfOk result (λ number. number ≡ number_by_firmware devices.now pci.now) }
+    ensures number { IfOk result (λ number. number ≡ number_by_firmware devices.now pci.now) }
+    ensures needs { OnOk result (needs.new ≡ with_texts needs.old (firmware_needs devices.now pci.now)) }
 {
     if let Some(number) = firmware_number(pci) {
         return Ok(Some(number));
     }
     let several = is_several(alloc, devices.event(), pci)?;
     let above = pci_above(alloc, devices, pci)?;
+    need(alloc, needs, lacks_modalias(above), b"modalias")?;
     Ok(number_of_above(several, above))
 }
 
@@ -140,32 +153,31 @@ fn slot_number(path: &[u8]) -> Option<u64>
     positive(number_in(Base::AsWritten, MAX_NUMBER, slot_name(path)?))
 }
 
-/// Whether a slot with a number holds the device with a name.
-#[tactic(auto, unfolding(crate::specs::Slots::holds))]
-fn holds(kernel: &[u8], file: (&[u8], &[u8])) -> bool
-    ensures { result ≡ holds kernel.now (file.entry.0.now, file.entry.1.now) }
+/// The number of a slot, by the path and the text of its file, if it holds the device with a name.
+#[tactic(auto, unfolding(crate::specs::Slots::number_holding))]
+fn number_holding(kernel: &[u8], path: &[u8], address: &[u8]) -> Option<u64>
+    ensures { result ≡ number_holding kernel.now (path.now, address.now) }
 {
-    kernel.starts_with(file.1) && slot_number(file.0).is_some()
-}
-
-/// The file of the slot among files that holds the device with a name.
-fn holding<'f, 'a>(
-    kernel: &[u8],
-    files: &'f [(&'a [u8], &'a [u8])],
-) -> Option<&'f (&'a [u8], &'a [u8])>
-    ensures { option_copied result ≡ find (λ file. holds kernel.now (file.0.now, file.1.now)) files.now }
-{
-    files.iter().find(|file| holds(kernel, **file))
-}
-
-/// The number of the slot among files that holds the device with a name.
-fn number_among(kernel: &[u8], files: &[(&[u8], &[u8])]) -> Option<u64>
-    ensures { result ≡ option_and_then (λ file. slot_number file.0.now) (find (λ file. holds kernel.now (file.0.now, file.1.now)) files.now) }
-{
-    match holding(kernel, files) {
-        Some(file) => slot_number(file.0),
-        None => None,
+    if !kernel.starts_with(address) {
+        return None;
     }
+    slot_number(path)
+}
+
+/// The number of the slot that holds the device with a name.
+fn number_by_name(
+    alloc: Global,
+    event: &Event<'_>,
+    kernel: &[u8],
+) -> Result<Option<u64>, AllocError>
+    ensures { IfOk result (λ number. number ≡ first_given (number_holding kernel.now) (slot_files event.now)) }
+{
+    for file in files_below(alloc, event, SLOTS_FOLDER)? {
+        if let Some(number) = number_holding(kernel, file.0, file.1) {
+            return Ok(Some(number));
+        }
+    }
+    Ok(None)
 }
 
 /// The number of the slot that holds a device.
@@ -178,8 +190,7 @@ fn number_by_place(
     ensures { IfOk result (λ number. number ≡ number_by_place event.now pci.now) }
 {
     let kernel = kernel_name(alloc, pci.path())?;
-    let files = files_below(alloc, event, SLOTS_FOLDER)?;
-    Ok(number_among(kernel.as_slice(), &files))
+    number_by_name(alloc, event, kernel.as_slice())
 }
 
 /// Whether a text has a capital letter.
@@ -210,19 +221,16 @@ fn is_slot_of(number: u64, path: &[u8]) -> bool
     }
 }
 
-/// Whether one of files is that of the slot of a number of System z.
-fn has_slot_among(number: u64, files: &[(&[u8], &[u8])]) -> bool
-    ensures { result ≡ list_any (λ file. is_slot_of number (file.0.now, file.1.now)) files.now }
-{
-    files.iter().any(|file| is_slot_of(number, file.0))
-}
-
 /// Whether there is a slot of a number of System z.
 fn has_slot_of(alloc: Global, event: &Event<'_>, number: u64) -> Result<bool, AllocError>
     ensures { IfOk result (λ has. has ≡ list_any (is_slot_of number) (slot_files event.now)) }
 {
-    let files = files_below(alloc, event, SLOTS_FOLDER)?;
-    Ok(has_slot_among(number, &files))
+    for file in files_below(alloc, event, SLOTS_FOLDER)? {
+        if is_slot_of(number, file.0) {
+            return Ok(true);
+        }
+    }
+    Ok(false)
 }
 
 /// The slot of a function of System z, whose number has a slot of its own.
@@ -275,7 +283,7 @@ fn search_above<'d, 'a>(
 
 /// The device at which the search that begins at a function ends.
 #[tactic(auto, unfolding(crate::specs::Slots::search_end))]
-pub(crate) fn search_end<'d, 'a>(
+fn search_end<'d, 'a>(
     alloc: Global,
     devices: &'d Devices<'a>,
     pci: &'d Device<'a>,
@@ -311,35 +319,55 @@ fn slot_at_end(
     }
 }
 
-/// The slot of a function by the slots of the bus.
+/// Whether there is a device, it lacks its modalias, and is not a function of System z.
+fn lacks_at_end(device: Option<&Device<'_>>) -> bool
+    ensures { result ≡ lacks_at_end (option_copied device.entry) }
+{
+    match device {
+        Some(device) => {
+            lacks(device, Attribute::Modalias) && read(device, Attribute::FunctionId).is_none()
+        }
+        None => false,
+    }
+}
+
+/// The slot of a function by the slots of the bus. What is needed for it is added.
 #[tactic(auto, unfolding(crate::specs::Slots::slot_by_bus))]
 fn slot_by_bus<'a>(
     alloc: Global,
+    needs: &mut OwnedTexts,
     devices: &Devices<'a>,
     pci: &Device<'a>,
 ) -> Result<Option<Slot>, AllocError>
-    ensures { IfOk result (λ slot. slot ≡ slot_by_bus devices.now pci.now) }
+    ensures slot { IfOk result (λ slot. slot ≡ slot_by_bus devices.now pci.now) }
+    ensures needs { OnOk result (needs.new ≡ with_texts needs.old (bus_needs devices.now pci.now)) }
 {
-    match search_end(alloc, devices, pci)? {
+    let end = search_end(alloc, devices, pci)?;
+    let is_described = is_described(alloc, devices.event(), SLOTS_FOLDER)?;
+    need(alloc, needs, lacks_at_end(end), b"modalias")?;
+    need(alloc, needs, !is_described, b"slots")?;
+    match end {
         Some(found) => slot_at_end(alloc, devices.event(), found),
         None => Ok(None),
     }
 }
 
-/// The slot of a function: by the firmware, or else by the slots of the bus.
+/// The slot of a function: by the firmware, or else by the slots of the bus. What is needed for it is added.
 #[tactic(auto, unfolding(crate::specs::Slots::slot_of))]
 pub(crate) fn slot_of<'a>(
     alloc: Global,
+    needs: &mut OwnedTexts,
     devices: &Devices<'a>,
     pci: &Device<'a>,
 ) -> Result<Option<Slot>, AllocError>
-    ensures { IfOk result (λ slot. slot ≡ slot_of devices.now pci.now) }
+    ensures slot { IfOk result (λ slot. slot ≡ slot_of devices.now pci.now) }
+    ensures needs { OnOk result (needs.new ≡ with_texts needs.old (slot_needs devices.now pci.now)) }
 {
-    match number_by_firmware(alloc, devices, pci)? {
+    match number_by_firmware(alloc, needs, devices, pci)? {
         Some(number) => Ok(Some(Slot {
             number,
             drops_domain: false,
         })),
-        None => slot_by_bus(alloc, devices, pci),
+        None => slot_by_bus(alloc, needs, devices, pci),
     }
 }

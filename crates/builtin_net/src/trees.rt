@@ -1,6 +1,7 @@
 //! Names by the aliases of a device tree.
-ghost use Rattle.std.specs.Prelude.{◌≡◌, IfOk, find, option_and_then, option_copied, option_map};
-ghost use Rattle.builtin_net.specs.Trees.{alias_end, alias_number, clear_number, first_alias, is_alias, node_link, node_number, node_of, node_path, other_alias, tree_text};
+ghost use Rattle.std.specs.Prelude.{◌≡◌, IfOk, option_map};
+ghost use Rattle.builtin_net.specs.Trees.{alias_number, alias_of, clear_number, first_alias, node_link, node_of, node_path};
+ghost use Rattle.builtin_net.specs.Trees.{other_alias, tree_text};
 
 use crate::buses::parent;
 use crate::words::{MAX_NUMBER, joined, push_number};
@@ -52,14 +53,6 @@ fn node_path(link: &[u8]) -> &[u8]
     }
 }
 
-/// Whether a file is the alias of a node by which an interface is called.
-#[tactic(auto, unfolding(crate::specs::Trees::is_alias))]
-fn is_alias(node: &[u8], file: (&[u8], &[u8])) -> bool
-    ensures { result ≡ is_alias node.now (file.entry.0.now, file.entry.1.now) }
-{
-    following(b"ethernet", file.0).is_some() && file.1 == node
-}
-
 /// The other alias with the same number, 0.
 fn other_alias(following: &[u8]) -> &'static [u8]
     ensures { result.now ≡ other_alias following.now }
@@ -93,24 +86,14 @@ fn clear_number(event: &Event<'_>, following: &[u8]) -> Option<u64>
     Some(number)
 }
 
-/// The first alias of a node among files.
-fn calling<'f, 'a>(
-    node: &[u8],
-    files: &'f [(&'a [u8], &'a [u8])],
-) -> Option<&'f (&'a [u8], &'a [u8])>
-    ensures { option_copied result ≡ find (λ file. is_alias node.now (file.0.now, file.1.now)) files.now }
+/// What follows `ethernet` in the name of a file, if it is the alias of a node.
+fn alias_of<'a>(node: &[u8], path: &'a [u8], text: &[u8]) -> Option<&'a [u8]>
+    ensures { option_map (λ t. t.now) result ≡ alias_of node.now (path.now, text.now) }
 {
-    files.iter().find(|file| is_alias(node, **file))
-}
-
-/// What follows `ethernet` in the name of the first alias of a node among files.
-fn alias_among<'a>(node: &[u8], files: &[(&'a [u8], &'a [u8])]) -> Option<&'a [u8]>
-    ensures { option_map (λ t. t.now) result ≡ option_and_then (λ file. alias_end (file.0.now, file.1.now)) (find (λ file. is_alias node.now (file.0.now, file.1.now)) files.now) }
-{
-    match calling(node, files) {
-        Some(file) => following(b"ethernet", file.0),
-        None => None,
+    if text != node {
+        return None;
     }
+    following(b"ethernet", path)
 }
 
 /// What follows `ethernet` in the name of the first alias of a node.
@@ -121,19 +104,12 @@ fn first_alias<'a>(
 ) -> Result<Option<&'a [u8]>, AllocError>
     ensures { IfOk result (λ following. option_map (λ t. t.now) following ≡ first_alias event.now node.now) }
 {
-    let files = files_below(alloc, event, ALIASES_FOLDER)?;
-    Ok(alias_among(node, &files))
-}
-
-/// The number of the first alias of a node.
-#[tactic(auto, unfolding(crate::specs::Trees::node_number))]
-fn node_number(alloc: Global, event: &Event<'_>, node: &[u8]) -> Result<Option<u64>, AllocError>
-    ensures { IfOk result (λ number. number ≡ node_number event.now node.now) }
-{
-    match first_alias(alloc, event, node)? {
-        Some(following) => Ok(clear_number(event, following)),
-        None => Ok(None),
+    for file in files_below(alloc, event, ALIASES_FOLDER)? {
+        if let Some(end) = alias_of(node, file.0, file.1) {
+            return Ok(Some(end));
+        }
     }
+    Ok(None)
 }
 
 /// What names say about the node of an interface.
@@ -144,7 +120,10 @@ pub(crate) fn tree_text(alloc: Global, devices: &Devices<'_>) -> Result<Option<V
     let Some(link) = node_link(alloc, devices)? else {
         return Ok(None);
     };
-    let Some(number) = node_number(alloc, devices.event(), node_path(link))? else {
+    let Some(following) = first_alias(alloc, devices.event(), node_path(link))? else {
+        return Ok(None);
+    };
+    let Some(number) = clear_number(devices.event(), following) else {
         return Ok(None);
     };
     let mut text = Vec::new(alloc);

@@ -1,24 +1,20 @@
 //! What names say about interfaces of USB.
 ghost use Rattle.std.specs.Prelude.{◌≡◌, ◌++◌, IfOk, OnOk, option_map};
-ghost use Rattle.builtin_net.specs.Usb.{bcma_suffix, core_in, core_of, port_byte, ports_text, unless_usual, usb_numbers, usb_ports, usb_suffix, usb_text};
+ghost use Rattle.builtin_net.specs.Usb.{bcma_suffix, core_in, ports_text, unless_usual, usb_suffix, usb_text};
 
 use crate::words::{MAX_NUMBER, push_number};
 use builtin_devices::{Base, number_in};
 use std::alloc::{AllocError, Global};
 use text_bytes::{following, split_once};
 
-/// A byte of ports, with `u` for a dot.
-fn port_byte(byte: u8) -> u8
-    ensures { result ≡ port_byte byte }
-{
-    if byte == b'.' { b'u' } else { byte }
-}
-
 /// Ports with `u` for each dot in between.
 fn ports_text(alloc: Global, ports: &[u8]) -> Result<Vec<u8>, AllocError>
     ensures { IfOk result (λ text. text.items ≡ ports_text ports.now) }
 {
-    ports.iter().map(|byte| port_byte(*byte)).collect(alloc)
+    ports
+        .iter()
+        .map(|byte| if *byte == b'.' { b'u' } else { *byte })
+        .collect(alloc)
 }
 
 /// Appends a number, with a letter before it, unless it is the usual one.
@@ -53,54 +49,30 @@ fn usb_text(
     Ok(text)
 }
 
-/// Ports with what follows them.
-fn usb_numbers(alloc: Global, ports: &[u8], numbers: &[u8]) -> Result<Option<Vec<u8>>, AllocError>
-    ensures { IfOk result (λ text. option_map (λ t. t.items) text ≡ usb_numbers ports.now numbers.now) }
-{
-    match split_once(b'.', numbers) {
-        Some((configuration, interface)) => {
-            Ok(Some(usb_text(alloc, ports, configuration, interface)?))
-        }
-        None => Ok(None),
-    }
-}
-
-/// What follows the bus in the name of an interface of USB.
-fn usb_ports(alloc: Global, rest: &[u8]) -> Result<Option<Vec<u8>>, AllocError>
-    ensures { IfOk result (λ text. option_map (λ t. t.items) text ≡ usb_ports rest.now) }
-{
-    match split_once(b':', rest) {
-        Some((ports, numbers)) => usb_numbers(alloc, ports, numbers),
-        None => Ok(None),
-    }
-}
-
 /// The end of names by an interface of USB, by its name.
 #[tactic(auto, unfolding(crate::specs::Usb::usb_suffix))]
 pub(crate) fn usb_suffix(alloc: Global, name: &[u8]) -> Result<Option<Vec<u8>>, AllocError>
     ensures { IfOk result (λ text. option_map (λ t. t.items) text ≡ usb_suffix name.now) }
 {
-    match split_once(b'-', name) {
-        Some((_, rest)) => usb_ports(alloc, rest),
-        None => Ok(None),
-    }
-}
-
-/// The core after a bus, if both are numbers.
-fn core_of(bus: &[u8], core: &[u8]) -> Option<u64>
-    ensures { result ≡ core_of bus.now core.now }
-{
-    number_in(Base::Decimal, MAX_NUMBER, bus)?;
-    number_in(Base::Decimal, MAX_NUMBER, core)
+    let Some((_, rest)) = split_once(b'-', name) else {
+        return Ok(None);
+    };
+    let Some((ports, numbers)) = split_once(b':', rest) else {
+        return Ok(None);
+    };
+    let Some((configuration, interface)) = split_once(b'.', numbers) else {
+        return Ok(None);
+    };
+    Ok(Some(usb_text(alloc, ports, configuration, interface)?))
 }
 
 /// The core that a name of bcma gives.
 fn core_in(name: &[u8]) -> Option<u64>
     ensures { result ≡ core_in name.now }
 {
-    let rest = following(b"bcma", name)?;
-    let (bus, core) = split_once(b':', rest)?;
-    core_of(bus, core)
+    let (bus, core) = split_once(b':', following(b"bcma", name)?)?;
+    number_in(Base::Decimal, MAX_NUMBER, bus)?;
+    number_in(Base::Decimal, MAX_NUMBER, core)
 }
 
 /// The end of names by a core of bcma, by its name.

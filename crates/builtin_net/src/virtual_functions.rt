@@ -1,8 +1,8 @@
 //! Virtual functions, whose names are those of the physical one.
-ghost use Rattle.std.specs.Prelude.{◌≡◌, IfOk, find, option_and_then, option_copied, option_map};
+ghost use Rattle.std.specs.Prelude.{◌≡◌, IfOk, option_map};
 ghost use Rattle.std.specs.List.{list_all};
 ghost use Rattle.text_bytes.specs.Numbers.{is_decimal, is_digit};
-ghost use Rattle.builtin_net.specs.Virtual.{leads_to, named_function, physical_path, virtual_digits, virtual_number};
+ghost use Rattle.builtin_net.specs.Virtual.{named_function, number_leading, physical_path, virtual_number};
 
 use crate::words::joined;
 use builtin_devices::{Devices, file_at, files_below};
@@ -54,35 +54,16 @@ fn is_decimal(text: &[u8]) -> bool
     !text.is_empty() && has_digits(text)
 }
 
-/// Whether a link of a physical function leads to a virtual one.
-#[tactic(auto, unfolding(crate::specs::Virtual::leads_to))]
-fn leads_to(path: &[u8], file: (&[u8], &[u8])) -> bool
-    ensures { result ≡ leads_to path.now (file.entry.0.now, file.entry.1.now) }
+/// The number of a virtual function, if a link of its physical one leads to it.
+#[tactic(auto, unfolding(crate::specs::Virtual::number_leading))]
+fn number_leading<'a>(path: &[u8], link: &'a [u8], text: &[u8]) -> Option<&'a [u8]>
+    ensures { option_map (λ t. t.now) result ≡ number_leading path.now (link.now, text.now) }
 {
-    match following(b"virtfn", file.0) {
-        Some(digits) => is_decimal(digits) && file.1 == path,
-        None => false,
+    let digits = following(b"virtfn", link)?;
+    if !is_decimal(digits) || text != path {
+        return None;
     }
-}
-
-/// The link among others that leads to a virtual function.
-fn leading<'f, 'a>(
-    path: &[u8],
-    links: &'f [(&'a [u8], &'a [u8])],
-) -> Option<&'f (&'a [u8], &'a [u8])>
-    ensures { option_copied result ≡ find (λ link. leads_to path.now (link.0.now, link.1.now)) links.now }
-{
-    links.iter().find(|link| leads_to(path, **link))
-}
-
-/// What follows `virtfn` in the name of the link that leads to a virtual function.
-fn number_among<'a>(path: &[u8], links: &[(&'a [u8], &'a [u8])]) -> Option<&'a [u8]>
-    ensures { option_map (λ t. t.now) result ≡ option_and_then (λ link. virtual_digits (link.0.now, link.1.now)) (find (λ link. leads_to path.now (link.0.now, link.1.now)) links.now) }
-{
-    match leading(path, links) {
-        Some(link) => following(b"virtfn", link.0),
-        None => None,
-    }
+    Some(digits)
 }
 
 /// The number of a virtual function among those of its physical one.
@@ -95,8 +76,12 @@ fn virtual_number<'a>(
 ) -> Result<Option<&'a [u8]>, AllocError>
     ensures { IfOk result (λ number. option_map (λ t. t.now) number ≡ virtual_number event.now physical.now path.now) }
 {
-    let links = files_below(alloc, event, physical)?;
-    Ok(number_among(path, &links))
+    for file in files_below(alloc, event, physical)? {
+        if let Some(number) = number_leading(path, file.0, file.1) {
+            return Ok(Some(number));
+        }
+    }
+    Ok(None)
 }
 
 /// The function by which an interface is named; `None` if the block does not describe the physical one.

@@ -40,18 +40,11 @@ pub(crate) fn leading_number(text: &[u8]) -> Option<u64>
     decimal_below(1 << 32, digits)
 }
 
-/// Whether a byte is a control character of ASCII.
-fn is_control(byte: u8) -> bool
-    ensures { result ≡ is_control byte }
-{
-    byte < 0x20 || byte == 0x7F
-}
-
 /// Whether a text has a control character of ASCII.
 fn has_control(text: &[u8]) -> bool
     ensures { result ≡ list_any is_control text.now }
 {
-    text.iter().any(|byte| is_control(*byte))
+    text.iter().any(|byte| *byte < 0x20 || *byte == 0x7F)
 }
 
 /// Whether a text has only hexadecimal digits.

@@ -6,4 +6,5 @@ use Rattle.builtin_net.proofs.address.parts.Goals as goal
 pub returns : goal.returns
 returns c =
     map_from_collect _ c.collect.ensures.ran
-    (YieldsList-from_slice_split _ (λ b. b == c.args.mark) c.args.text.now c.split.ensures.rest c.split.ensures.done c.split.ensures.closure (λ x r q k. search rules))
+    (YieldsList-from_slice_split _ (λ b. b == c.args.mark) c.args.text.now c.split.ensures.rest c.split.ensures.done c.split.ensures.closure
+    (λ x r q k. search rules))

@@ -1,4 +1,5 @@
 pub mod Lines
 pub mod Items
 pub mod Answers
+pub mod Questions
 pub mod Inner

@@ -3,5 +3,5 @@ pub mod Digits
 pub mod Least
 pub mod Passing
 pub mod Known
-pub mod Walking
+pub mod Telling
 pub mod Reported

@@ -4,7 +4,7 @@ ghost use Rattle.engine_courses.specs.Asked.{unread};
 ghost use Rattle.engine_courses.specs.WhyLines.{unread_lines, why_lines};
 
 use crate::lines::push_unread;
-use crate::reporting::report_event;
+use crate::reporting::reported_lines;
 use crate::unread::is_unread;
 use builtin_devices::Knowledge;
 use device_core::Event;
@@ -52,5 +52,11 @@ pub fn push_why_lines<K: Knowledge>(
         (K.known knowledge.now) event.now) }
 {
     push_unread_lines(alloc, lines, why, rules.messages(), rules.rules().rules())?;
-    report_event(alloc, lines, why, rules.rules().rules(), event, knowledge)
+    lines.extend_from_slice(&reported_lines(
+        alloc,
+        why,
+        rules.rules().rules(),
+        event,
+        knowledge,
+    )?)
 }

@@ -2,8 +2,8 @@
 //!
 //! An argument of `--why` is the name of a rules file, or `FILE:LINE`. One that matches nothing is reported before any
 //! event. The answer to an event is followed by lines on the rules that were asked for: why a line is not a rule,
-//! which rule's GOTO skips a rule, or what each of its keys found. For these lines the rules are evaluated again,
-//! by the same functions as for the answer or by ones that report their course as well.
+//! which rule's GOTO skips a rule, or what each of its keys found. For these lines the rules are evaluated again, while
+//! something watches them.
 //!
 //! Functions that allocate return `AllocError` when memory runs out.
 #![tactic(auto)]
@@ -14,6 +14,7 @@ mod laws;
 mod lines;
 mod nearest;
 mod places;
+mod reporter;
 mod reporting;
 mod unknown;
 mod unread;

@@ -30,7 +30,7 @@ use Rattle.eval_acts.specs.Imports.{from_answer_or_noted, from_program}
 use Rattle.eval_acts.specs.Printed.{printed_properties}
 use Rattle.eval_acts.specs.Questions.{answered_by_block, answered_or_noted, result_of, with_result}
 use Rattle.engine_laws.specs.Noted.{is_no_answer}
-use Rattle.engine_questions.specs.Questions.{act_asks, import_asks, unanswered}
+use Rattle.eval_courses.specs.Questions.{act_asks, import_asks, unanswered}
 
 by_answer : (r : Rule) (command : Text) (answer : Option AnswerValue) (s : Scene)
     → filter is_no_answer (answered_or_noted r command answer s).0.notes ≡ filter is_no_answer s.notes ++ map (note_about r NoAnswer) (cond (is_some answer) [] (command ∷ []))

@@ -7,7 +7,7 @@ use Rattle.builtin_devices.specs.Knowledge.{Known}
 use Rattle.device_core.specs.Values.{EventValue}
 use Rattle.rule_types.specs.Rules.{Rule}
 use Rattle.eval_state.specs.Scenes.{start}
-use Rattle.engine_questions.specs.Questions.{can_be_asked, questions, rules_ask}
+use Rattle.eval_courses.specs.Questions.{can_be_asked, questions, rules_ask}
 
 neither_first : (a b : Bool) → (a || b) ≡ false → a ≡ false
 neither_first false b h = refl

@@ -67,7 +67,7 @@ use Rattle.eval_assignments.specs.Runs.{run_of}
 use Rattle.eval_assignments.specs.Steps.{is_ignored, set_step, step_by, text_given, text_set}
 use Rattle.eval_assignments.proofs.Staying.{set_stays}
 use Rattle.eval_rules.specs.Steps.{Went, if_proceeding, plain_step, result_step, search, walk}
-use Rattle.engine_questions.specs.Questions.{before_acts}
+use Rattle.eval_courses.specs.Courses.{searched}
 use Rattle.engine_laws.specs.Noted.{is_no_answer, says_no_answer}
 
 abbrev pub Quiet : Scene → Scene → Type 0
@@ -183,7 +183,7 @@ search_quiet : (parts : List UpMatch) (s : Scene) → Quiet s (search parts s).0
 search_quiet [] s = refl
 search_quiet (part ∷ parts) s = refl
 
-pub before_quiet : (r : Rule) (s : Scene) → Quiet s (before_acts r s).0
+pub before_quiet : (r : Rule) (s : Scene) → Quiet s (searched r s).0
 before_quiet r s = if_proceeding_quiet (search r.up) (search_quiet r.up) s (walk (plain_step r) r.plain s) (plains_quiet r r.plain s)
 
 result_quiet : (part : Comparison) (s : Scene) → Quiet s (result_step part s).0

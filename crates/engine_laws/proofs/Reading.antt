@@ -22,7 +22,7 @@ use Rattle.device_core.specs.declared.lines.DeviceField.TheVariants.{Subsystem, 
 use Rattle.device_core.specs.declared.lines.LineKind.{LineKind}
 use Rattle.device_core.specs.declared.lines.LineKind.TheVariants.{Action, Device, Field, Constant, Command, Answer}
 use Rattle.engine_laws.specs.Filled.{filled, filled_event}
-use Rattle.engine_questions.specs.Questions.{can_be_asked, fits_in_line}
+use Rattle.eval_courses.specs.Questions.{can_be_asked, fits_in_line}
 
 first_so : (a b : Bool) → (a && b) ≡ true → a ≡ true
 first_so true b h = refl

@@ -30,7 +30,8 @@ use Rattle.eval_rules.specs.Jumps.{is_passed, run, sought_after}
 use Rattle.eval_rules.specs.Outcomes.{late_note, late_notes, outcome, outcome_of, run_text}
 use Rattle.eval_rules.specs.Steps.{Went, apply, before_sets, if_proceeding, only_noted, result_step, set_all, steps, walk}
 use Rattle.eval_rules.proofs.Staying.{act_stays, event_stays, tried_stays}
-use Rattle.engine_questions.specs.Questions.{act_asks, acts_ask, asked_if_proceeding, before_acts, import_asks, rule_asks, rules_ask}
+use Rattle.eval_courses.specs.Courses.{reports_if_proceeding, searched, walk_reports}
+use Rattle.eval_courses.specs.Questions.{act_asks, acts_ask, import_asks, rule_asks, rules_ask}
 use Rattle.engine_laws.specs.Noted.{is_no_answer}
 use Rattle.engine_laws.proofs.Noting.{by_text}
 use Rattle.engine_laws.proofs.Unanswered.{before_stays}
@@ -83,7 +84,7 @@ unfolding act_step
 act_says known r act s m = act_kind_says known r act.kind s m
 
 if_proceeding_says : (f : Scene → List Text) (g : Scene → Went) → ((t : Scene) → t.state.event.profile ≡ Manual → Says t (f t) (g t).0) → (w : Went) → w.0.state.event.profile ≡ Manual
-    → Says w.0 (asked_if_proceeding f w) (if_proceeding g w).0
+    → Says w.0 (reports_if_proceeding f w) (if_proceeding g w).0
 if_proceeding_says f g h w m = by w.1
   where
     by : (b : Bool) → Says w.0 (cond b (f w.0) []) (cond b (g w.0) w).0
@@ -91,19 +92,19 @@ if_proceeding_says f g h w m = by w.1
     by false = says_nothing w.0
 
 acts_say : (known : Known) (r : Rule) (acts : List Act) (s : Scene) → s.state.event.profile ≡ Manual → Says s (acts_ask known r acts s) (walk (act_step known r) acts s).0
-unfolding acts_ask walk
+unfolding walk_reports walk
 acts_say known r [] s m = says_nothing s
 acts_say known r (act ∷ acts) s m =
-    both_say s (act_step known r act s).0 (if_proceeding (walk (act_step known r) acts) (act_step known r act s)).0 (act_asks act.kind s.state) (asked_if_proceeding (acts_ask known r acts) (act_step known r act s)) (act_says known r act s m)
+    both_say s (act_step known r act s).0 (if_proceeding (walk (act_step known r) acts) (act_step known r act s)).0 (act_asks act.kind s.state) (reports_if_proceeding (acts_ask known r acts) (act_step known r act s)) (act_says known r act s m)
     (if_proceeding_says (acts_ask known r acts) (walk (act_step known r) acts) (acts_say known r acts) (act_step known r act s) (ap (λ (e : EventValue). e.profile) (act_stays known r act s) ∙ m))
 
 keys_say : (known : Known) (r : Rule) (s : Scene) → s.state.event.profile ≡ Manual → Says s (rule_asks known r s) (before_sets known r s).0
 unfolding rule_asks
 keys_say known r s m =
-    let acted : Went = if_proceeding (walk (act_step known r) r.acts) (before_acts r s) in
-    quiet_last s acted.0 (before_sets known r s).0 (asked_if_proceeding (acts_ask known r r.acts) (before_acts r s))
-    (quiet_first s (before_acts r s).0 acted.0 (asked_if_proceeding (acts_ask known r r.acts) (before_acts r s)) (before_quiet r s)
-    (if_proceeding_says (acts_ask known r r.acts) (walk (act_step known r) r.acts) (acts_say known r r.acts) (before_acts r s) (ap (λ (e : EventValue). e.profile) (before_stays r s) ∙ m)))
+    let acted : Went = if_proceeding (walk (act_step known r) r.acts) (searched r s) in
+    quiet_last s acted.0 (before_sets known r s).0 (reports_if_proceeding (acts_ask known r r.acts) (searched r s))
+    (quiet_first s (searched r s).0 acted.0 (reports_if_proceeding (acts_ask known r r.acts) (searched r s)) (before_quiet r s)
+    (if_proceeding_says (acts_ask known r r.acts) (walk (act_step known r) r.acts) (acts_say known r r.acts) (searched r s) (ap (λ (e : EventValue). e.profile) (before_stays r s) ∙ m)))
     (if_proceeding_quiet (walk result_step r.results) (results_quiet r.results) acted.0 acted refl)
 
 steps_say : (known : Known) (r : Rule) (s : Scene) → s.state.event.profile ≡ Manual → Says s (rule_asks known r s) (steps known r s).0

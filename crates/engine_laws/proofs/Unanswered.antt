@@ -1,5 +1,5 @@
 -- Every command that is asked has no answer, and can be asked; and rules without an act that counts ask nothing.
-use Rattle.std.proofs.Common.{◌≡◌, ◌&&◌, Bool, true, false, not, cond, List, [], ◌∷◌, ◌++◌, Option, Some, None, is_none, is_some, refl, ap, ◌∙◌}
+use Rattle.std.proofs.Common.{◌≡◌, ◌&&◌, ◌||◌, Bool, true, false, not, cond, List, [], ◌∷◌, ◌++◌, Option, Some, None, is_none, is_some, refl, ap, ◌∙◌}
 use Rattle.std.specs.List.{filter, list_all, list_any}
 use Rattle.std.proofs.lemmas.List.Folds.{list_all-append}
 use Rattle.text_bytes.specs.declared.profile.Profile.{Profile}
@@ -29,8 +29,8 @@ use Rattle.eval_rules.specs.Idle.{act_kind_counts}
 use Rattle.eval_rules.specs.Jumps.{is_passed, sought_after}
 use Rattle.eval_rules.specs.Steps.{Went, apply, if_proceeding, plain_step, search, walk}
 use Rattle.eval_rules.proofs.Staying.{act_stays, event_stays, reached_stays}
-use Rattle.engine_questions.specs.Questions.{act_asks, acts_ask, asked_if_proceeding, before_acts, can_be_asked, import_asks, questions, rule_asks, rules_ask, unanswered, with_asked}
-use Rattle.engine_questions.proofs.Idling.{rule_silent}
+use Rattle.eval_courses.specs.Courses.{reports_if_proceeding, searched, walk_reports}
+use Rattle.eval_courses.specs.Questions.{act_asks, acts_ask, can_be_asked, import_asks, questions, rule_asks, rules_ask, unanswered, with_asked}
 
 -- ---- what the event says of itself stays up to the acts of a rule
 
@@ -54,7 +54,7 @@ search_stays : (parts : List UpMatch) (s : Scene) → Stays s (search parts s).0
 search_stays [] s = refl
 search_stays (part ∷ parts) s = refl
 
-pub before_stays : (r : Rule) (s : Scene) → Stays s (before_acts r s).0
+pub before_stays : (r : Rule) (s : Scene) → Stays s (searched r s).0
 before_stays r s = if_proceeding_stays (search r.up) (search_stays r.up) s (walk (plain_step r) r.plain s) (plains_stay r r.plain s)
 
 -- ---- what is asked
@@ -97,7 +97,7 @@ module _ (event : EventValue) where
   both_fine : (xs ys : List Text) → list_all is_fine xs ≡ true → list_all is_fine ys ≡ true → list_all is_fine (xs ++ ys) ≡ true
   both_fine xs ys h k = list_all-append is_fine xs ys ∙ ap (λ b. b && list_all is_fine ys) h ∙ k
 
-  if_proceeding_fine : (f : Scene → List Text) → ((s : Scene) → s.state.event ≡ event → list_all is_fine (f s) ≡ true) → (w : Went) → w.0.state.event ≡ event → list_all is_fine (asked_if_proceeding f w) ≡ true
+  if_proceeding_fine : (f : Scene → List Text) → ((s : Scene) → s.state.event ≡ event → list_all is_fine (f s) ≡ true) → (w : Went) → w.0.state.event ≡ event → list_all is_fine (reports_if_proceeding f w) ≡ true
   if_proceeding_fine f h w e = by w.1
     where
       by : (b : Bool) → list_all is_fine (cond b (f w.0) []) ≡ true
@@ -105,15 +105,15 @@ module _ (event : EventValue) where
       by false = refl
 
   acts_fine : (known : Known) (r : Rule) (acts : List Act) (s : Scene) → s.state.event ≡ event → list_all is_fine (acts_ask known r acts s) ≡ true
-  unfolding acts_ask
+  unfolding walk_reports
   acts_fine known r [] s e = refl
   acts_fine known r (act ∷ acts) s e =
-      both_fine (act_asks act.kind s.state) (asked_if_proceeding (acts_ask known r acts) (act_step known r act s)) (act_kind_fine act.kind s.state e)
+      both_fine (act_asks act.kind s.state) (reports_if_proceeding (acts_ask known r acts) (act_step known r act s)) (act_kind_fine act.kind s.state e)
       (if_proceeding_fine (acts_ask known r acts) (acts_fine known r acts) (act_step known r act s) (act_stays known r act s ∙ e))
 
   rule_fine : (known : Known) (r : Rule) (s : Scene) → s.state.event ≡ event → list_all is_fine (rule_asks known r s) ≡ true
   unfolding rule_asks
-  rule_fine known r s e = if_proceeding_fine (acts_ask known r r.acts) (acts_fine known r r.acts) (before_acts r s) (before_stays r s ∙ e)
+  rule_fine known r s e = if_proceeding_fine (acts_ask known r r.acts) (acts_fine known r r.acts) (searched r s) (before_stays r s ∙ e)
 
   rules_fine : (known : Known) (sought : Option Text) (rules : List Rule) (s : Scene) → s.state.event ≡ event → list_all is_fine (rules_ask known sought rules s) ≡ true
   unfolding rules_ask
@@ -155,6 +155,37 @@ all_unanswered rules known event =
     (both_left (is_fine event) can_be_asked (rules_ask known None rules (start event)) (rules_fine event known None rules (start event) refl))
 
 -- ---- rules that ask nothing
+
+neither_first : (a b : Bool) → (a || b) ≡ false → a ≡ false
+neither_first false b h = refl
+neither_first true b h = h
+
+neither_second : (a b : Bool) → (a || b) ≡ false → b ≡ false
+neither_second false b h = h
+neither_second true b h = cc h
+
+act_kind_silent : (d : ActKind) (s : State) → act_kind_counts d ≡ false → act_asks d s ≡ []
+act_kind_silent (act_kind.Test mask t) s h = refl
+act_kind_silent (act_kind.Program t) s h = cc h
+act_kind_silent (act_kind.Import i) s h = cc h
+
+if_proceeding_silent : (f : Scene → List Text) → ((t : Scene) → f t ≡ []) → (w : Went) → reports_if_proceeding f w ≡ []
+if_proceeding_silent f h w = by w.1
+  where
+    by : (b : Bool) → cond b (f w.0) [] ≡ []
+    by true = h w.0
+    by false = refl
+
+acts_silent : (known : Known) (r : Rule) (acts : List Act) (s : Scene) → list_any (λ act. act_kind_counts act.kind) acts ≡ false → acts_ask known r acts s ≡ []
+unfolding walk_reports
+acts_silent known r [] s h = refl
+acts_silent known r (act ∷ acts) s h =
+    ap (λ xs. xs ++ reports_if_proceeding (acts_ask known r acts) (act_step known r act s)) (act_kind_silent act.kind s.state (neither_first (act_kind_counts act.kind) _ h))
+    ∙ if_proceeding_silent (acts_ask known r acts) (λ t. acts_silent known r acts t (neither_second (act_kind_counts act.kind) _ h)) (act_step known r act s)
+
+rule_silent : (known : Known) (r : Rule) (s : Scene) → list_any (λ act. act_kind_counts act.kind) r.acts ≡ false → rule_asks known r s ≡ []
+unfolding rule_asks
+rule_silent known r s h = if_proceeding_silent (acts_ask known r r.acts) (λ t. acts_silent known r r.acts t h) (searched r s)
 
 reversed : (b : Bool) → not b ≡ true → b ≡ false
 reversed true h = cc h

@@ -22,7 +22,7 @@ ghost use Rattle.eval_state.specs.declared.note_kind.NoteKind.TheVariants.{NoAns
 ghost use Rattle.eval_state.specs.declared.scene.Scene.{Scene};
 ghost use Rattle.engine_laws.specs.Filled.{filled, filled_event};
 ghost use Rattle.engine_laws.specs.Noted.{is_no_answer};
-ghost use Rattle.engine_questions.specs.Questions.{act_asks, can_be_asked, questions, rules_ask};
+ghost use Rattle.eval_courses.specs.Questions.{act_asks, can_be_asked, questions, rules_ask};
 
 /// No command is asked that the event's block answers, and none that no line of a block can have.
 #[tactic(auto, using(crate::proofs::Unanswered::all_unanswered))]

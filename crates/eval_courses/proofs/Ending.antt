@@ -1,25 +1,16 @@
 -- How a course ends.
-use Rattle.std.proofs.Common.{◌≡◌, ◌↔◌, Bool, true, false, cond, List, [], ◌∷◌, ◌++◌, Option, Some, codes, Result, Ok, Err, OnErr, nat_lt, get_or, append_assoc, refl, ap, sym, ◌∙◌, true≢false}
-use Rattle.std.specs.List.{fold}
+use Rattle.std.proofs.Common.{◌≡◌, ◌↔◌, Bool, true, false, cond, List, [], ◌∷◌, ◌++◌, Option, Some, codes, nat_lt, get_or, refl, ap, sym, ◌∙◌, true≢false}
 use Rattle.std.specs.Prelude.{unwrap_or}
 use Rattle.text_tables.specs.Texts.{Text}
 use Rattle.builtin_devices.specs.Knowledge.{Known}
 use Rattle.rule_types.specs.Rules.{Rule}
 use Rattle.eval_state.specs.declared.scene.Scene.{Scene}
-use Rattle.eval_assignments.specs.Steps.{set_step}
 use Rattle.eval_rules.specs.Idle.{is_idle}
 use Rattle.eval_rules.specs.Steps.{Went, apply, only_noted, if_proceeding, set_all, steps, before_sets}
-use Rattle.eval_rules.proofs.Staying.{steps_stay}
 use Rattle.eval_effects.specs.Effects.{effects, ending, ending_of}
 use Rattle.eval_effects.specs.Since.{Since}
 use Rattle.eval_courses.specs.Courses.{course, end_of, end_reached, key_reports}
-use Rattle.eval_courses.specs.Inner.{idle_end, idle_reports, step_reports}
 use Rattle.eval_courses.specs.Laws.{last_of}
-
--- what holds anyway holds after an error
-pub on_err : {T E P : Type 0} (r : Result T E) → P → OnErr r P
-on_err (Ok x) p = tt
-on_err (Err e) p = p
 
 -- the text after all others is the last
 pub after_all : (texts : List Text) (text : Text) → last_of (texts ++ text ∷ []) ≡ Some text
@@ -83,58 +74,3 @@ skipped_ends known since r s h =
     let both = passed since r went.0 went.1 in
     let last : last_of (course known since r s) ≡ Some (end_of true since r went) = last_is known since r s ∙ ap (λ b. Some (end_of b since r went)) h in
     (λ e. both.0 (sym last ∙ e), λ n. last ∙ both.1 n)
-
--- the course of a rule in which nothing counts
-pub idle_course : (known : Known) (since : Since) (r : Rule) (s : Scene) → is_idle r s.state.event ≡ true → idle_reports known r s ≡ course known since r s
-unfolding course idle_reports
-idle_course known since r s h = ap (λ b. key_reports known r s ++ end_of b since r (before_sets known r s) ∷ []) (sym h)
-
--- the course of any other
-pub steps_course : (known : Known) (since : Since) (r : Rule) (s : Scene) → is_idle r s.state.event ≡ false → step_reports known since r s ≡ course known since r s
-unfolding course step_reports
-steps_course known since r s h = ap (λ b. key_reports known r s ++ end_of b since r (before_sets known r s) ∷ []) (sym h)
-
--- what becomes of a rule that is skipped, and of any other
-pub idle_comes : (known : Known) (r : Rule) (s : Scene) → is_idle r s.state.event ≡ true → only_noted known r s ≡ apply known r s
-unfolding apply
-idle_comes known r s h = ap (λ b. cond b (only_noted known r s) (steps known r s)) (sym h)
-
-pub steps_come : (known : Known) (r : Rule) (s : Scene) → is_idle r s.state.event ≡ false → steps known r s ≡ apply known r s
-unfolding apply
-steps_come known r s h = ap (λ b. cond b (only_noted known r s) (steps known r s)) (sym h)
-
-module _ (known : Known) (r : Rule) (s t : Scene) (on : Bool) (is : (t, on) ≡ before_sets known r s) where
-  -- if a key stops a rule, the rule ends there
-  pub stops : on ≡ false → (t, false) ≡ steps known r s
-  unfolding steps
-  stops e = ap (if_proceeding (set_all r)) (ap {B = Went} (λ b. (t, b)) (sym e) ∙ is)
-
-  -- if all keys let it go on, its assignments are made
-  pub proceeds : (u : Scene) → on ≡ true → u ≡ fold (set_step r) t r.sets → (u, true) ≡ steps known r s
-  unfolding steps
-  proceeds u e made = ap {B = Went} (λ v. (v, true)) made ∙ ap (if_proceeding (set_all r)) (ap {B = Went} (λ b. (t, b)) (sym e) ∙ is)
-
-  -- the event stays
-  pub event_kept : (u : Scene) → on ≡ true → u ≡ fold (set_step r) t r.sets → u.state.event ≡ s.state.event
-  event_kept u e made = ap (λ (w : Went). w.0.state.event) (proceeds u e made) ∙ steps_stay known r s
-
-  -- the course is what was reported for the keys, and the end
-  pub course_is : (since : Since) (before reported now : List Text) (b : Bool) (text : Text) → on ≡ b → reported ≡ before ++ key_reports known r s → text ≡ end_of false since r (t, b) → now ≡ reported ++ text ∷ []
-      → now ≡ before ++ step_reports known since r s
-  unfolding step_reports
-  course_is since before reported now b text e keys ends all =
-      all
-      ∙ ap (λ x. reported ++ x ∷ []) ends
-      ∙ ap (λ ts. ts ++ end_of false since r (t, b) ∷ []) keys
-      ∙ append_assoc before (key_reports known r s) (end_of false since r (t, b) ∷ [])
-      ∙ ap (λ (w : Went). before ++ (key_reports known r s ++ end_of false since r w ∷ [])) (ap {B = Went} (λ c. (t, c)) (sym e) ∙ is)
-
-  -- the same for a rule that is skipped
-  pub idle_is : (before reported now : List Text) (text : Text) → reported ≡ before ++ key_reports known r s → text ≡ idle_end on → now ≡ reported ++ text ∷ [] → now ≡ before ++ idle_reports known r s
-  unfolding idle_reports
-  idle_is before reported now text keys ends all =
-      all
-      ∙ ap (λ x. reported ++ x ∷ []) ends
-      ∙ ap (λ ts. ts ++ idle_end on ∷ []) keys
-      ∙ append_assoc before (key_reports known r s) (idle_end on ∷ [])
-      ∙ ap (λ (w : Went). before ++ (key_reports known r s ++ idle_end w.1 ∷ [])) is

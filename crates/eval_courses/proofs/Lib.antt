@@ -2,5 +2,7 @@ pub mod Reporting
 pub mod Copying
 pub mod Ending
 pub mod Finding
-pub mod Reaching
+pub mod Gathering
+pub mod Told
+pub mod AllAsked
 pub mod Looking

@@ -21,21 +21,21 @@ abbrev pub reports_if_proceeding : (Scene → List Text) → Went → List Text
 reports_if_proceeding reported went = if went.1 then reported went.0 else []
 
 -- the texts of the parts of a rule that are of one step, one after another, up to the first that stops the rule
-unfoldable pub walk_reports : {P : Type 0} → (P → Scene → Went) → (P → Scene → Text) → List P → Scene → List Text
+unfoldable pub walk_reports : {P : Type 0} → (P → Scene → Went) → (P → Scene → List Text) → List P → Scene → List Text
 walk_reports step reported [] s = []
-walk_reports step reported (p ∷ ps) s = reported p s ∷ reports_if_proceeding (walk_reports step reported ps) (step p s)
+walk_reports step reported (p ∷ ps) s = reported p s ++ reports_if_proceeding (walk_reports step reported ps) (step p s)
 
 -- the matches of the event
 abbrev pub event_reports : Rule → List PlainMatch → Scene → List Text
-event_reports r parts s = walk_reports (plain_step r) (λ part s. plain_report part s.state) parts s
+event_reports r parts s = walk_reports (plain_step r) (λ part s. plain_report part s.state ∷ []) parts s
 
 -- what acts
 abbrev pub act_reports : Known → Rule → List Act → Scene → List Text
-act_reports known r parts s = walk_reports (act_step known r) (act_report known r) parts s
+act_reports known r parts s = walk_reports (act_step known r) (λ act s. act_report known r act s ∷ []) parts s
 
 -- the matches of the result of the last program
 abbrev pub result_reports : List Comparison → Scene → List Text
-result_reports parts s = walk_reports result_step (λ part s. result_report part s.state) parts s
+result_reports parts s = walk_reports result_step (λ part s. result_report part s.state ∷ []) parts s
 
 -- a rule after the matches of the event, after the search, and after what acts
 abbrev pub matched : Rule → Scene → Went

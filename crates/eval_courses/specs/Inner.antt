@@ -1,21 +1,20 @@
 -- Serves inner proofs only: what is known about an act before it is done, what a match looks at as it is borrowed,
--- and how a course ends.
-use Rattle.std.specs.Prelude.{Bool, false, if◌then◌else◌, List, [], ◌∷◌, ◌++◌, map, option_map, codes}
+-- and what is reported and asked moment by moment.
+use Rattle.std.specs.Prelude.{List, [], ◌∷◌, ◌++◌, map, option_map, codes}
 use Rattle.text_tables.specs.Texts.{Text}
 use Rattle.text_tables.specs.Pairs.{Pair}
-use Rattle.builtin_devices.specs.Knowledge.{Known}
 use Rattle.rule_types.specs.declared.part.Act.{Act}
-use Rattle.rule_types.specs.Rules.{Rule}
 use Rattle.eval_state.specs.declared.scene.Scene.{Scene}
-use Rattle.eval_effects.specs.Since.{Since}
 use Rattle.eval_matching.specs.Holding.{Subject, one, constant, never, unread}
 use Rattle.eval_matching.specs.Borrowed.{borrowed_subject}
 use Rattle.eval_matching.specs.Subjects.{members_by, subsystem_by}
-use Rattle.eval_rules.specs.Steps.{Went, before_sets}
-use Rattle.eval_courses.specs.Courses.{end_of, key_reports}
+use Rattle.eval_rules.specs.Steps.{Went}
+use Rattle.eval_rules.specs.Watched.{Happening, acted, comparing, meeting, searching, skipped, stopped}
 use Rattle.eval_courses.specs.Acts.{taken_report}
 use Rattle.eval_courses.specs.Keys.{act_key}
-use Rattle.eval_courses.specs.Looks.{met}
+use Rattle.eval_courses.specs.Looks.{met, plain_report, result_report}
+use Rattle.eval_courses.specs.Questions.{act_asks, with_asked}
+use Rattle.eval_courses.specs.Upward.{search_reports}
 use Rattle.eval_courses.specs.declared.acts.ReportBefore.{ReportBefore}
 use Rattle.eval_courses.specs.declared.acts.ReportBefore.TheVariants as before
 use Rattle.eval_courses.specs.declared.subjects.Subject as borrowed
@@ -41,14 +40,16 @@ subject_of (borrowed_as.Given profile texts) = members_by profile (map (λ t. t.
 subject_of borrowed_as.Unknown = never
 subject_of borrowed_as.Unread = unread
 
--- how a rule in which nothing counts for the event ends, by whether its keys let it go on
-abbrev pub idle_end : Bool → Text
-idle_end proceeds = if proceeds then codes "nothing in it counts for this device" else codes "stops there"
+-- what is reported of a rule at a moment
+abbrev pub moment_reports : Happening → Scene → List Text
+moment_reports (meeting r part) s = plain_report part s.state ∷ []
+moment_reports (searching r) s = search_reports r.up s.state
+moment_reports (comparing r part) s = result_report part s.state ∷ []
+moment_reports (stopped r) s = codes "stops there" ∷ []
+moment_reports (skipped r) s = codes "nothing in it counts for this device" ∷ []
+moment_reports happening s = []
 
--- the course of such a rule
-unfoldable pub idle_reports : Known → Rule → Scene → List Text
-idle_reports known r s = key_reports known r s ++ idle_end (before_sets known r s).1 ∷ []
-
--- the course of any other
-unfoldable pub step_reports : Known → Since → Rule → Scene → List Text
-step_reports known since r s = key_reports known r s ++ end_of false since r (before_sets known r s) ∷ []
+-- what was asked, once more happened: an act asks before it is done
+abbrev pub asking : List Text → Happening → Scene → List Text
+asking asked (acted r act went) s = with_asked asked (act_asks act.kind s.state)
+asking asked happening s = asked

@@ -330,8 +330,9 @@ fn report_done<K: Knowledge>(
     Ok(proceeds)
 }
 
-/// Does what an act asks for, and adds what it met to the texts.
-pub(crate) fn report_act<K: Knowledge>(
+/// Does what an act asks for, as `act_step` does, adds whether the rule goes on, what was asked and what was set to the
+/// texts, and returns whether the rule goes on.
+pub fn report_act<K: Knowledge>(
     alloc: Global,
     rule: &Rule,
     act: &Act,

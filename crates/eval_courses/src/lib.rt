@@ -1,24 +1,36 @@
-//! The course of a rule over an event: the keys that were reached, what each of them found, and how the rule ended.
+//! The course of a rule over an event: the keys that were reached, what each of them found, and how the rule ended; and
+//! what rules ask of an event that its block does not answer.
 //!
-//! A rule is evaluated in the steps of `eval_rules`, by the same functions, and each key is reported along with its
-//! step: what a match looks at before the step, and what an act sets after it. After a key that stops the rule,
-//! only the fact that it stops is reported.
+//! Rules are evaluated by `eval_rules` while something watches. Each key is reported along with its step: what a match
+//! looks at before the step, and what an act sets after it. After a key that stops the rule, only the fact that it stops
+//! is reported.
+//!
+//! A command is asked if a PROGRAM looks it up while the rules are evaluated, under udev also an IMPORT{program}, and the
+//! event has no answer to it. What an act asks is looked at before the act is done. So an answer that is filled in may
+//! lead to further questions, since rules then go on.
 //!
 //! Functions that allocate return `AllocError` when memory runs out.
 #![tactic(auto)]
 
 mod acts;
 mod answers;
-mod course;
+mod asking;
+mod asks;
+mod commands;
 mod keys;
 mod laws;
+mod moments;
 mod plain;
 mod properties;
+
 mod subjects;
 mod upward;
 
-pub use course::{Course, report_course};
+pub use acts::report_act;
+pub use commands::can_be_asked;
 pub use laws::{
     course_ends_as_its_rule, course_says_what_is_skipped, search_names_no_device_where_none_meets,
     search_names_the_first_to_meet,
 };
+pub use moments::report_moment;
+pub use asking::questions;

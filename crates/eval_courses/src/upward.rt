@@ -3,7 +3,6 @@ ghost use Rattle.std.specs.Prelude.{◌≡◌, ◌++◌, IfOk, OnOk, false, leng
 ghost use Rattle.std.specs.List.{list_any};
 ghost use Rattle.device_core.specs.Values.{chain};
 ghost use Rattle.eval_matching.specs.Subjects.{found_place, holds_at, up_subject};
-ghost use Rattle.eval_rules.specs.Steps.{search};
 ghost use Rattle.eval_courses.specs.Inner.{subject_of};
 ghost use Rattle.eval_courses.specs.Upward.{device_report, found_report, hits, met_at, name_at, partial_report, partly, places, search_reports, unmet, up_report};
 
@@ -11,8 +10,7 @@ use crate::keys::push_up_key;
 use crate::subjects::{Subject, is_absent, kernel_at, push_looked, up_subject};
 use eval_effects::{push_joined, push_shown};
 use eval_matching::{found_place, holds_at};
-use eval_rules::search;
-use eval_state::{Scene, State};
+use eval_state::State;
 use itoa::Buffer;
 use rule_types::UpMatch;
 use std::alloc::{AllocError, Global};
@@ -216,22 +214,20 @@ fn report_each(
     Ok(())
 }
 
-/// Searches for one device, and adds the texts of the search: each of its matches, and its outcome.
+/// Adds the texts of the search for one device: each of its matches, and its outcome.
 #[tactic(auto, unfolding(crate::specs::Upward::search_reports))]
 pub(crate) fn report_search(
     alloc: Global,
     parts: &[UpMatch],
-    scene: &mut Scene<'_>,
+    state: &State<'_>,
     texts: &mut Vec<Bytes>,
-) -> Result<bool, AllocError>
-    ensures scene { IfOk result (λ on. (scene.new, on) ≡ search parts.now scene.old) }
-    ensures texts { OnOk result (texts.new.items ≡ texts.old.items ++ search_reports parts.now scene.old.state) }
-    ensures event { scene.new.state.event ≡ scene.old.state.event }
+) -> Result<(), AllocError>
+    ensures { OnOk result (texts.new.items ≡ texts.old.items ++ search_reports parts.now state.now) }
 {
     if parts.is_empty() {
-        return Ok(true);
+        return Ok(());
     }
-    report_each(alloc, parts, &scene.state, texts)?;
-    texts.push(found_report(alloc, parts, &scene.state)?)?;
-    Ok(search(parts, scene))
+    report_each(alloc, parts, state, texts)?;
+    texts.push(found_report(alloc, parts, state)?)?;
+    Ok(())
 }

@@ -79,13 +79,13 @@ use Rattle.eval_courses.specs.Acts.{property_report, act_report}
 use Rattle.eval_courses.specs.Courses.{walk_reports, key_reports, course}
 use Rattle.eval_courses.specs.Keys.{wanted_text}
 use Rattle.eval_courses.specs.Looks.{plain_report, result_report}
+use Rattle.eval_courses.specs.Questions.{rule_asks, rules_ask}
 use Rattle.eval_courses.specs.Upward.{device_report, up_report, partial_report, search_reports}
 use Rattle.engine_reports.specs.Messages.{message_line}
 use Rattle.engine_courses.specs.Asked.{unread, unknown_line, unknown}
 use Rattle.engine_courses.specs.Nearest.{least}
 use Rattle.engine_courses.specs.WhyLines.{why_line, unread_text, reported_from, why_lines}
-use Rattle.engine_questions.specs.Lines.{question_answer}
-use Rattle.engine_questions.specs.Questions.{acts_ask, rule_asks, rules_ask}
+use Rattle.engine_answers.specs.Questions.{question_answer}
 use Rattle.engine_answers.specs.Answers.{lines_with}
 use Rattle.engine_answers.specs.Items.{node_lines, item_lines}
 use Rattle.engine_answers.specs.Lines.{text_line, pair_line, run_line, note_line, event_line}
@@ -135,7 +135,7 @@ unfoldable reporting : ⊤
 unfolding run_text effect ending node_items items cut stages_from source_of kept_after Reports property_report
     act_report walk_reports key_reports course wanted_text plain_report result_report device_report up_report
     partial_report search_reports message_line unread unknown_line unknown least why_line unread_text reported_from
-    why_lines question_answer acts_ask rule_asks rules_ask
+    why_lines question_answer rule_asks rules_ask
 reporting = tt
 
 -- those by which an answer is written

@@ -1,4 +1,0 @@
-pub mod Idling
-pub mod Asking
-pub mod Going
-pub mod Walking

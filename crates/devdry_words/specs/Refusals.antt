@@ -1,9 +1,10 @@
 -- Which of the words that clap takes `devdry` itself refuses, and what it says about them.
-use Rattle.std.specs.Prelude.{◌&&◌, ◌||◌, ◌++◌, List, [], Bool, Option, Some, None, if◌then◌else◌, find, flat_map, is_some, not, unwrap_or, codes}
+use Rattle.std.specs.Prelude.{◌&&◌, ◌||◌, ◌++◌, List, [], ◌∷◌, Bool, Option, Some, None, if◌then◌else◌, find, flat_map, is_some, map, not, unwrap_or, codes}
 use Rattle.std.specs.Option.{is_none}
 use Rattle.std.specs.Str.{bytes_eq}
 use Rattle.clap.specs.Words.{Row, Text, first_of}
-use Rattle.engine_formats.specs.Codes.{remark_of}
+use Rattle.engine_formats.specs.Codes.{remark_of, remarks}
+use Rattle.engine_formats.specs.Remarks.{code_of}
 use Rattle.devdry_words.specs.declared.refusals.Refusal.{Refusal}
 use Rattle.devdry_words.specs.declared.refusals.Refusal.TheVariants.{TwoDatabases, TwoAnswers, EmptyRoot, EmptySide, NoUdev, UnknownFormat, UnknownPart}
 use Rattle.devdry_words.specs.Lines.{format_of}
@@ -62,9 +63,15 @@ invalid_value value following = codes "error: invalid value '" ++ value ++ follo
 abbrev pub no_such_format : Text
 no_such_format = codes "' for '--format <FORMAT>'\n  [possible values: plain, gcc, github, gitlab, json, human]\n\nFor more information, try '--help'.\n"
 
--- the codes of all remarks, with a comma and a space between them
-abbrev pub known_codes : Text
-known_codes = codes "V1, V2, V3, V4, V5, V6, V7, V8, V9, V10, V11, V12, V13, V14, V15, V16, V17, V18, V19, V20, V21, V22, V23, V24, V25, V26, S1, S2, S3, S4, S5, S6, H1, H2, H3, H4, H5, H6, W1, W2, W3, W4, W5, W6, W7, W8, W9, W10, W11, W12, W13, I1, I2"
+-- texts, with a comma and a space between two
+unfoldable pub listed : List Text → Text
+listed [] = []
+listed (text ∷ []) = text
+listed (text ∷ next ∷ others) = text ++ codes ", " ++ listed (next ∷ others)
+
+-- the codes of all remarks
+unfoldable pub known_codes : Text
+known_codes = listed (map code_of remarks)
 
 -- what is said after a part of `--ignore` that is neither a code nor the word `comments`
 abbrev pub not_ignorable : Text

@@ -9,7 +9,7 @@ ghost use Rattle.devdry_words.specs.Refusals.{asks_both, lacks_root, lacks_side,
 
 use crate::ignored::{unknown_part, unknown_text};
 use crate::line_reading::format_of;
-use crate::reporting::{usage, usage_on_value};
+use crate::reporting::{usage, usage_on_code, usage_on_value};
 use crate::values::{has_value, is_empty, is_given, text, value};
 use clap::ArgMatches;
 use engine_ends::LineFault;
@@ -50,12 +50,6 @@ For more information, try '--help'.
 
 const NO_SUCH_FORMAT: &str = "' for '--format <FORMAT>'
   [possible values: plain, gcc, github, gitlab, json, human]
-
-For more information, try '--help'.
-";
-
-const NOT_IGNORABLE: &str = "' for '--ignore <CODES>'
-  [possible values: V1, V2, V3, V4, V5, V6, V7, V8, V9, V10, V11, V12, V13, V14, V15, V16, V17, V18, V19, V20, V21, V22, V23, V24, V25, V26, S1, S2, S3, S4, S5, S6, H1, H2, H3, H4, H5, H6, W1, W2, W3, W4, W5, W6, W7, W8, W9, W10, W11, W12, W13, I1, I2, comments]
 
 For more information, try '--help'.
 ";
@@ -159,6 +153,11 @@ pub(crate) fn usage_of(alloc: Global, refusal: Refusal, matches: &ArgMatches<'_>
         Refusal::EmptySide => usage(alloc, EMPTY_SIDE),
         Refusal::NoUdev => usage(alloc, NO_UDEV),
         Refusal::UnknownFormat => usage_on_value(alloc, text(matches, "format"), NO_SUCH_FORMAT),
-        Refusal::UnknownPart => usage_on_value(alloc, unknown_text(matches), NOT_IGNORABLE),
+        Refusal::UnknownPart => usage_on_code(
+            alloc,
+            unknown_text(matches),
+            "' for '--ignore <CODES>'\n  [possible values: ",
+            ", comments]\n\nFor more information, try '--help'.\n",
+        ),
     }
 }

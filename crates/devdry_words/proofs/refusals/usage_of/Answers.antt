@@ -10,4 +10,4 @@ returns-in-UnknownFormat c =
 pub returns-in-UnknownPart : goal.returns-in-UnknownPart
 returns-in-UnknownPart c =
     rw c.in-UnknownPart.is
-    (subst (λ value. IsUsageOf (invalid_value value not_ignorable) c.usage_on_value-in-UnknownPart.result) c.unknown_text.ensures c.usage_on_value-in-UnknownPart.ensures)
+    (subst (λ value. IsUsageOf (invalid_value value not_ignorable) c.usage_on_code.result) c.unknown_text.ensures c.usage_on_code.ensures)

@@ -25,7 +25,8 @@ distinguished c [] (b ∷ back) part other h = append_cancel_right part other (c
 distinguished c (f ∷ []) back part other h =
     distinguished c [] back part other (after_byte c f (join_with_byte c (part ∷ back)) (join_with_byte c (other ∷ back)) h)
 distinguished c (f ∷ g ∷ prefix) back part other h =
-    distinguished c (g ∷ prefix) back part other (after_byte c f (join_with_byte c (g ∷ prefix ++ part ∷ back)) (join_with_byte c (g ∷ prefix ++ other ∷ back)) h)
+    distinguished c (g ∷ prefix) back part other
+    (after_byte c f (join_with_byte c (g ∷ prefix ++ part ∷ back)) (join_with_byte c (g ∷ prefix ++ other ∷ back)) h)
 
 -- what fails sets nothing
 set_by : (is_path : Bool) (properties : List Pair) (missing : List Text)

@@ -7,7 +7,8 @@ use Rattle.builtin_path.specs.Way.{stops_from}
 use Rattle.builtin_path.specs.declared.stops.Stop.{Stop}
 
 -- devices that are skipped are left out
-pub skipped : (event : EventValue) (is_begun : Bool) (n : ℕ) (members : List DeviceValue) → stops_from event is_begun n members ≡ stops_from event is_begun 0 (drop n members)
+pub skipped : (event : EventValue) (is_begun : Bool) (n : ℕ) (members : List DeviceValue)
+    → stops_from event is_begun n members ≡ stops_from event is_begun 0 (drop n members)
 skipped event is_begun zero [] = refl
 skipped event is_begun (suc n) [] = refl
 skipped event is_begun zero (m ∷ above) = refl

@@ -1,5 +1,5 @@
 -- The devices that the way up passes, and what it asks of them.
-use Rattle.std.specs.Prelude.{ℕ, ◌+◌, ◌-◌, not, ◌&&◌, Bool, List, [], ◌∷◌, codes, length, drop, take, nat_eq, Option, slice_get}
+use Rattle.std.specs.Prelude.{ℕ, ◌+◌, ◌-◌, not, Bool, List, [], ◌∷◌, codes, length, drop, take, nat_eq, Option, slice_get}
 use Rattle.std.specs.List.{concat, prefix_len, starts_with}
 use Rattle.std.specs.Option.{option_and_then}
 use Rattle.text_tables.specs.Texts.{Text}

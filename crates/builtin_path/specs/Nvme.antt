@@ -1,18 +1,18 @@
 -- NVMe: the number of a disk's namespace, and the controller by which a disk of several ways is reached.
-use Rattle.std.specs.Prelude.{ℕ, ◌+◌, ◌==◌, ◌&&◌, Bool, false, true, not, List, [], ◌∷◌, ◌++◌, codes, drop, filter, filter_map, if◌then◌else◌, is_some, is_none, length, map, Option, Some, None, option_and_then, option_map, reverse, slice_index, take}
-use Rattle.std.specs.List.{concat, list_any, prefix_len, range_with_len}
-use Rattle.text_bytes.specs.Names.{slash}
+use Rattle.std.specs.Prelude.{◌+◌, ◌&&◌, Bool, false, true, List, [], ◌∷◌, codes, drop, if◌then◌else◌}
+use Rattle.std.specs.Prelude.{is_some, Option, Some, None, option_and_then, take}
+use Rattle.std.specs.List.{concat, prefix_len}
+use Rattle.std.specs.Option.{option_to_list}
 use Rattle.text_bytes.specs.Numbers.{is_digit}
-use Rattle.text_bytes.specs.Texts.{is_empty}
 use Rattle.text_tables.specs.Pairs.{value_of}
 use Rattle.text_tables.specs.Texts.{Text}
-use Rattle.device_core.specs.Values.{DeviceValue, EventValue, chain}
+use Rattle.device_core.specs.Values.{DeviceValue, EventValue}
 use Rattle.text_links.specs.Kernels.{last_component}
 use Rattle.builtin_devices.specs.Devices.{device_by, is_text, type_of}
 use Rattle.builtin_devices.specs.Files.{file_at}
 use Rattle.builtin_path.specs.Members.{begins, row}
 use Rattle.builtin_path.specs.Stops.{adding_both, ending, passing}
-use Rattle.builtin_path.specs.declared.stops.Next.TheVariants.{Fails, On}
+use Rattle.builtin_path.specs.declared.stops.Next.TheVariants.{Fails}
 use Rattle.builtin_path.specs.declared.stops.Stop.{Stop}
 
 -- the number of the event device's namespace
@@ -41,14 +41,10 @@ if_real device = if begins (codes "/devices/virtual/") device.path then None els
 abbrev pub controller : EventValue → DeviceValue → Option DeviceValue
 controller event subsystem = option_and_then if_real (described_controller event subsystem)
 
--- a name that a block would have to report, if there is one
-abbrev pub name_needed : Option Text → List Text
-name_needed None = []
-name_needed (Some name) = name ∷ []
-
 -- the name of the controller, if the block does not describe it
 abbrev pub controller_needs : EventValue → DeviceValue → List Text
-controller_needs event subsystem = if is_some (described_controller event subsystem) then [] else name_needed (controller_name (last_component event.device.path))
+controller_needs event subsystem =
+    if is_some (described_controller event subsystem) then [] else option_to_list (controller_name (last_component event.device.path))
 
 -- whether the event device is a whole disk; one of NVMe has a namespace
 abbrev pub is_bare_disk : EventValue → Bool

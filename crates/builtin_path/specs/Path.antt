@@ -1,10 +1,11 @@
 -- path_id: what is made from the parts.
-use Rattle.std.specs.Prelude.{ℕ, ◌+◌, ◌-◌, Bool, false, true, not, ◌&&◌, ◌||◌, ◌==◌, List, [], ◌∷◌, ◌++◌, codes, drop, filter_map, flat_map, if◌then◌else◌, is_none, is_some, length, map, Option, Some, None, position, reverse, slice_index, take}
+use Rattle.std.specs.Prelude.{ℕ, ◌+◌, ◌-◌, Bool, false, true, not, ◌&&◌, ◌||◌, ◌==◌, List, [], ◌∷◌, ◌++◌, codes, drop, filter_map, flat_map}
+use Rattle.std.specs.Prelude.{if◌then◌else◌, is_none, is_some, length, map, Option, Some, None, reverse, slice_index, take}
 use Rattle.std.specs.Char.{is_ascii_alphanumeric}
-use Rattle.std.specs.List.{join_with_byte, list_any, prefix_len, suffix_len}
+use Rattle.std.specs.List.{join_with_byte, list_any, prefix_len}
 use Rattle.text_bytes.specs.Names.{minus, space, underscore}
 use Rattle.text_bytes.specs.Numbers.{is_digit}
-use Rattle.text_bytes.specs.Texts.{ends_in, is_empty}
+use Rattle.text_bytes.specs.Texts.{ends_in}
 use Rattle.text_links.specs.Underscores.{underscored}
 use Rattle.text_tables.specs.Pairs.{Pair}
 use Rattle.text_tables.specs.Texts.{Text, with_texts}
@@ -15,7 +16,7 @@ use Rattle.builtin_path.specs.Members.{is_in}
 use Rattle.builtin_path.specs.Texts.{first_place}
 use Rattle.builtin_path.specs.Way.{members_of, stops_of}
 use Rattle.builtin_path.specs.declared.stops.Next.{Next}
-use Rattle.builtin_path.specs.declared.stops.Next.TheVariants.{On, Ends, Fails}
+use Rattle.builtin_path.specs.declared.stops.Next.TheVariants.{Fails}
 use Rattle.builtin_path.specs.declared.stops.Share.{Share}
 use Rattle.builtin_path.specs.declared.stops.Share.TheVariants.{Apart, Both, Ata}
 use Rattle.builtin_path.specs.declared.stops.Stop.{Stop}
@@ -37,8 +38,7 @@ shared s = share_of s.share s.part
 -- whether a share is that of a port of ATA
 abbrev pub is_ata : Share → Bool
 is_ata (Ata port) = true
-is_ata Both = false
-is_ata Apart = false
+is_ata _ = false
 
 -- the parts of the compatible path, the highest first: it begins at the first port of ATA
 abbrev pub compatible_parts : List Stop → List Text
@@ -46,9 +46,8 @@ compatible_parts stops = reverse (filter_map shared (drop (prefix_len (λ s. not
 
 -- whether a stop makes path_id fail
 abbrev pub is_failing : Next → Bool
-is_failing (On count) = false
-is_failing Ends = false
 is_failing Fails = true
+is_failing _ = false
 
 -- whether a known transport leads to the event device, which only a block device needs
 abbrev pub is_reached : EventValue → List Stop → Bool
@@ -58,10 +57,8 @@ is_reached event stops = not (is_text (codes "block") event.device.subsystem) ||
 -- device one is a known transport
 unfoldable pub is_whole : EventValue → List Stop → Bool
 is_whole event stops =
-    not (list_any (λ s. is_failing s.next) stops)
-    && (list_any (λ s. is_some s.part) stops
-    && (list_any (λ s. s.parent) stops
-    && is_reached event stops))
+    not (list_any (λ s. is_failing s.next) stops) && list_any (λ s. is_some s.part) stops && list_any (λ s. s.parent) stops
+    && is_reached event stops
 
 -- whether a digit and `-` follow the `-usbv` at a place
 abbrev pub is_revision : Text → ℕ → Bool
@@ -80,21 +77,15 @@ revision_place text = if_revision text (first_place (codes "-usbv") text)
 unfoldable pub without_revision : Text → ℕ → Text
 without_revision text place = take (place + 4) text ++ drop (place + 6) text
 
--- the bytes that stay in a tag: letters and digits of ASCII, and `-`
-abbrev pub stays_in_tag : ℕ → Bool
-stays_in_tag b = is_ascii_alphanumeric b || b == minus
-
--- a byte for a tag: itself if it stays, else a space
+-- a byte for a tag: letters and digits of ASCII and `-` stay, and any other is a space
 abbrev pub tag_byte : ℕ → ℕ
-tag_byte b = if stays_in_tag b then b else space
-
--- a text without a `_` at its end
-abbrev pub without_last : Text → Text
-without_last text = if ends_in underscore text then take (length text - 1) text else text
+tag_byte b = if is_ascii_alphanumeric b || b == minus then b else space
 
 -- the first 511 bytes of a text, without a `_` at their end
 abbrev pub cut_tag : Text → Text
-cut_tag text = without_last (take 511 text)
+cut_tag text =
+    let tag = take 511 text in
+    if ends_in underscore tag then take (length tag - 1) tag else tag
 
 -- a text as a tag: runs of other bytes are one `_` each, with none at the ends, of at most 511 bytes
 unfoldable pub tag : Text → Text

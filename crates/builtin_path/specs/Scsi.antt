@@ -1,6 +1,8 @@
 -- SCSI: the transport that the path of a device shows, and what the device adds by it.
-use Rattle.std.specs.Prelude.{ℕ, ◌+◌, ◌-◌, ◌^◌, ◌==◌, ◌/◌, ◌%◌, Bool, false, true, not, ◌&&◌, nat_lt, List, [], ◌∷◌, ◌++◌, codes, decimal, drop, filter, filter_map, find, fold, if◌then◌else◌, is_some, length, min, Option, Some, None, option_and_then, slice_get, slice_index, take}
-use Rattle.std.specs.List.{concat, list_any, prefix_len}
+use Rattle.std.specs.Prelude.{ℕ, ◌+◌, ◌-◌, ◌^◌, ◌==◌, ◌/◌, ◌%◌, Bool, false, true, not, ◌&&◌, nat_lt, List, [], ◌∷◌, ◌++◌, codes, decimal, drop}
+use Rattle.std.specs.Prelude.{filter, filter_map, find, fold, if◌then◌else◌, min, Option, Some, None, option_and_then, slice_get}
+use Rattle.std.specs.Prelude.{slice_index, take}
+use Rattle.std.specs.List.{concat, prefix_len}
 use Rattle.text_bytes.specs.Names.{close_brace, minus, open_brace, slash}
 use Rattle.text_bytes.specs.Texts.{begins_with, split_once}
 use Rattle.text_tables.specs.Texts.{Text, is_among, same_text}
@@ -18,7 +20,7 @@ use Rattle.builtin_path.specs.Texts.{contains}
 use Rattle.builtin_path.specs.declared.scsi.Transport.{Transport}
 use Rattle.builtin_path.specs.declared.scsi.Transport.TheVariants as transport
 use Rattle.builtin_path.specs.declared.stops.Next.TheVariants.{Fails, On}
-use Rattle.builtin_path.specs.declared.stops.Share.TheVariants.{Apart, Ata}
+use Rattle.builtin_path.specs.declared.stops.Share.TheVariants.{Ata}
 use Rattle.builtin_path.specs.declared.stops.Stop.{Stop}
 
 -- texts that are in the path of a device, each with the transport that it shows
@@ -241,7 +243,8 @@ lowest names = fold lower None (filter_map host_number names)
 -- device's own
 abbrev pub host_part : Address → ℕ → Text
 host_part place first =
-    concat (codes "scsi-" ∷ decimal (place.host - first) ∷ codes ":" ∷ decimal place.bus ∷ codes ":" ∷ decimal place.target ∷ codes ":" ∷ decimal place.unit ∷ [])
+    concat (codes "scsi-" ∷ decimal (place.host - first) ∷ codes ":" ∷ decimal place.bus
+    ∷ codes ":" ∷ decimal place.target ∷ codes ":" ∷ decimal place.unit ∷ [])
 
 -- what a device adds by every other transport, by the lowest number: nothing without one; the way goes on above the
 -- host
@@ -269,7 +272,8 @@ host_stop place count (Some host) above = hosts_stop place count (last_component
 abbrev pub other_by : Option Address → List DeviceValue → Stop
 other_by None above = ending true false []
 other_by (Some place) above =
-    host_stop place (prefix_len (λ m. not (is_of (codes "scsi") (Some (codes "scsi_host")) m)) above + 1) (slice_get (from_host above) 0) (slice_get (from_host above) 1)
+    host_stop place (prefix_len (λ m. not (is_of (codes "scsi") (Some (codes "scsi_host")) m)) above + 1)
+    (slice_get (from_host above) 0) (slice_get (from_host above) 1)
 
 -- what a device adds by every other transport
 unfoldable pub other_stop : DeviceValue → List DeviceValue → Stop

@@ -1,7 +1,8 @@
 -- What devices of each subsystem add to a path.
-use Rattle.std.specs.Prelude.{ℕ, ◌+◌, Bool, false, true, List, [], ◌∷◌, codes, decimal, drop, find, if◌then◌else◌, is_some, length, not, ◌&&◌, ◌||◌, ◌^◌, Option, Some, None, take, unwrap_or}
-use Rattle.std.specs.List.{concat, list_any, prefix_len}
-use Rattle.std.specs.Option.{option_and_then, option_map}
+use Rattle.std.specs.Prelude.{ℕ, Bool, false, true, List, [], ◌∷◌, codes, decimal, drop, if◌then◌else◌}
+use Rattle.std.specs.Prelude.{◌^◌, Option, Some, None, take}
+use Rattle.std.specs.List.{concat, prefix_len}
+use Rattle.std.specs.Option.{option_and_then, option_map, option_map_or}
 use Rattle.text_bytes.specs.Numbers.{decimal_below, is_digit}
 use Rattle.text_tables.specs.Texts.{Text, is_among, same_text}
 use Rattle.text_links.specs.Kernels.{kernel_name, last_component}
@@ -135,32 +136,36 @@ tape_by (Some part) = adding part false false 0
 abbrev pub tape_stop : (is_begun : Bool) → DeviceValue → Stop
 tape_stop is_begun m = if is_begun then passing false else tape_by (tape_part (kernel_name m.path))
 
--- what a device adds in each manner; `is_begun` says whether a device below has added a part
-abbrev pub stop_as : Manner → EventValue → (is_begun : Bool) → (subsystem : Text) → DeviceValue → List DeviceValue → Stop
-stop_as manner.Parent event is_begun subsystem m above = named_stop subsystem false m above
-stop_as manner.Transport event is_begun subsystem m above = named_stop subsystem true m above
-stop_as manner.Ap event is_begun subsystem m above = ap_stop m above
-stop_as manner.Virtio event is_begun subsystem m above = virtio_stop subsystem above
-stop_as manner.Usb event is_begun subsystem m above = usb_stop m above
-stop_as manner.Scsi event is_begun subsystem m above = scsi_stop m above
-stop_as manner.Nvme event is_begun subsystem m above = nvme_stop event above
-stop_as manner.NvmeSubsystem event is_begun subsystem m above = ways_stop event m above
-stop_as manner.Serio event is_begun subsystem m above = numbered_stop subsystem (codes "serio-") m above
-stop_as manner.Spi event is_begun subsystem m above = numbered_stop subsystem (codes "cs-") m above
-stop_as manner.Bcma event is_begun subsystem m above = bcma_stop m
-stop_as manner.Cciss event is_begun subsystem m above = cciss_stop m above
-stop_as manner.ScsiTape event is_begun subsystem m above = tape_stop is_begun m
+-- A device of the way as it is passed: its subsystem, those above it, and whether one below has added a part.
+pub record Passed : Type 0 where
+  pub event : EventValue
+  pub is_begun : Bool
+  pub subsystem : Text
+  pub member : DeviceValue
+  pub above : List DeviceValue
 
--- the same by how its subsystem adds, if the table has that; else it adds nothing
-abbrev pub stop_by : Option Manner → EventValue → (is_begun : Bool) → (subsystem : Text) → DeviceValue → List DeviceValue → Stop
-stop_by None event is_begun subsystem m above = passing false
-stop_by (Some manner) event is_begun subsystem m above = stop_as manner event is_begun subsystem m above
+-- what a device adds in each manner
+abbrev pub stop_as : Manner → Passed → Stop
+stop_as manner.Parent p = named_stop p.subsystem false p.member p.above
+stop_as manner.Transport p = named_stop p.subsystem true p.member p.above
+stop_as manner.Ap p = ap_stop p.member p.above
+stop_as manner.Virtio p = virtio_stop p.subsystem p.above
+stop_as manner.Usb p = usb_stop p.member p.above
+stop_as manner.Scsi p = scsi_stop p.member p.above
+stop_as manner.Nvme p = nvme_stop p.event p.above
+stop_as manner.NvmeSubsystem p = ways_stop p.event p.member p.above
+stop_as manner.Serio p = numbered_stop p.subsystem (codes "serio-") p.member p.above
+stop_as manner.Spi p = numbered_stop p.subsystem (codes "cs-") p.member p.above
+stop_as manner.Bcma p = bcma_stop p.member
+stop_as manner.Cciss p = cciss_stop p.member p.above
+stop_as manner.ScsiTape p = tape_stop p.is_begun p.member
+
+-- what a device adds, with those above it: nothing if the table does not have its subsystem
+abbrev pub stop_by : (subsystem : Text) → EventValue → (is_begun : Bool) → DeviceValue → List DeviceValue → Stop
+stop_by subsystem event is_begun m above =
+    let here : Passed = record { event = event; is_begun = is_begun; subsystem = subsystem; member = m; above = above } in
+    option_map_or (λ by. stop_as by here) (manner_of subsystem) (passing false)
 
 -- the same by its subsystem; without one it adds nothing
-abbrev pub stop_of : Option Text → EventValue → (is_begun : Bool) → DeviceValue → List DeviceValue → Stop
-stop_of None event is_begun m above = passing false
-stop_of (Some subsystem) event is_begun m above = stop_by (manner_of subsystem) event is_begun subsystem m above
-
--- what a device adds, with those above it
 unfoldable pub stop : EventValue → (is_begun : Bool) → DeviceValue → List DeviceValue → Stop
-stop event is_begun m above = stop_of m.subsystem event is_begun m above
+stop event is_begun m above = option_map_or (λ subsystem. stop_by subsystem event is_begun m above) m.subsystem (passing false)

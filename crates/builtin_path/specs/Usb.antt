@@ -1,5 +1,6 @@
 -- USB: the port of a device or an interface, and the revision of its root hub.
-use Rattle.std.specs.Prelude.{ℕ, ◌==◌, ◌||◌, Bool, false, true, List, [], ◌∷◌, ◌++◌, codes, if◌then◌else◌, is_some, Option, Some, None, option_map, unwrap_or, slice_get}
+use Rattle.std.specs.Prelude.{ℕ, ◌==◌, ◌||◌, Bool, false, true, List, [], ◌∷◌, ◌++◌, codes, if◌then◌else◌, is_some, Option, Some, None, option_map}
+use Rattle.std.specs.Prelude.{unwrap_or, slice_get}
 use Rattle.std.specs.Option.{option_and_then}
 use Rattle.text_bytes.specs.Names.{minus}
 use Rattle.text_bytes.specs.Texts.{split_once}
@@ -58,7 +59,8 @@ speed_needs (Some protocol) speed = if protocol == 0 then absent (codes "speed")
 
 -- what the revision of a root hub is read from, and is absent
 unfoldable pub revision_needs : DeviceValue → List Text
-revision_needs m = if is_some (attribute m (codes "bDeviceProtocol")) then speed_needs (protocol_of m) (attribute m (codes "speed")) else codes "bDeviceProtocol" ∷ []
+revision_needs m =
+    if is_some (attribute m (codes "bDeviceProtocol")) then speed_needs (protocol_of m) (attribute m (codes "speed")) else codes "bDeviceProtocol" ∷ []
 
 -- how the part of a port begins: the number of the bus does not count
 abbrev pub port_start : Option Revision → Text

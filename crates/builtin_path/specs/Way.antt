@@ -1,5 +1,6 @@
 -- The way up from the event device: which devices it passes, and what they add.
-use Rattle.std.specs.Prelude.{ℕ, zero, suc, ◌+◌, Bool, false, not, ◌||◌, List, [], ◌∷◌, ◌++◌, codes, if◌then◌else◌, is_some, length, map, Option, Some, None, slice_get, take}
+use Rattle.std.specs.Prelude.{ℕ, zero, suc, ◌+◌, Bool, false, not, ◌||◌, List, [], ◌∷◌, ◌++◌, codes, is_some, Option}
+use Rattle.std.specs.Prelude.{Some, None, slice_get, take}
 use Rattle.std.specs.List.{prefix_len}
 use Rattle.std.specs.Option.{option_and_then}
 use Rattle.text_tables.specs.Texts.{Text}

@@ -10,7 +10,8 @@ ghost use Rattle.builtin_path.specs.declared.usb.Revision.{Revision};
 
 /// Paths whose parts are the same except for one are the same only if that one is.
 pub fn each_part_distinguishes_paths()
-    ensures { (prefix back : List Text) (part other : Text) → join_with_byte minus (prefix ++ part ∷ back) ≡ join_with_byte minus (prefix ++ other ∷ back) → part ≡ other }
+    ensures { (prefix back : List Text) (part other : Text)
+        → join_with_byte minus (prefix ++ part ∷ back) ≡ join_with_byte minus (prefix ++ other ∷ back) → part ≡ other }
 {}
 
 /// Parts of ports below root hubs of one revision are the same only if the ports are.

@@ -1,16 +1,15 @@
 //! NVMe: the number of a disk's namespace, and the controller by which a disk of several ways is reached.
-ghost use Rattle.std.specs.Prelude.{◌≡◌, ◌∷◌, [], IfOk, codes, Some, None, option_copied, option_map, length, ◌≤◌, drop};
-ghost use Rattle.std.specs.List.{prefix_len};
-ghost use Rattle.text_bytes.specs.Numbers.{is_digit};
-ghost use Rattle.builtin_path.specs.Nvme.{controller, controller_name, controller_needs, described_controller, described_link, if_real, is_bare_disk, name_needed, namespace, namespace_needs, namespace_stop, nvme_by, nvme_stop, ways_by, ways_stop};
+ghost use Rattle.std.specs.Prelude.{◌≡◌, [], IfOk, None, option_copied, option_map};
+ghost use Rattle.std.specs.Option.{option_to_list};
+ghost use Rattle.builtin_path.specs.Nvme.{controller, controller_name, controller_needs, described_controller, described_link, if_real, is_bare_disk};
+ghost use Rattle.builtin_path.specs.Nvme.{namespace, namespace_needs, namespace_stop, nvme_by, nvme_stop, ways_stop};
 
 use crate::members::{Member, last_component, row};
 use crate::stops::{Next, Stop, needed};
-use crate::texts::concatenated;
+use crate::texts::{concatenated, leading_digits};
 use builtin_devices::{Devices, file_at, is_text, type_of};
 use device_core::{Device, Event};
 use std::alloc::{AllocError, Global};
-use text_bytes::is_digit;
 use text_tables::OwnedTexts;
 
 /// The number of the event device's namespace.
@@ -18,14 +17,6 @@ pub(crate) fn namespace<'a>(event: &Event<'a>) -> Option<&'a [u8]>
     ensures { option_map (λ t. t.now) result ≡ namespace event.now }
 {
     event.device().attrs().get(b"nsid")
-}
-
-/// How many digits a text begins with.
-fn leading_digits(text: &[u8]) -> usize
-    ensures value { result ≡ prefix_len is_digit text.now }
-    ensures within { result ≤ length text.now }
-{
-    text.iter().take_while(|byte| is_digit(**byte)).count()
 }
 
 /// The name of the controller of a disk.
@@ -96,7 +87,7 @@ fn if_real<'d>(device: &'d Device<'d>) -> Option<&'d Device<'d>>
 
 /// What the block would have to report about the controller: its name, if the disk's name gives one.
 fn name_needed(alloc: Global, name: Option<&[u8]>) -> Result<OwnedTexts, AllocError>
-    ensures { IfOk result (λ needs. needs ≡ name_needed (option_map (λ t. t.now) name.entry)) }
+    ensures { IfOk result (λ needs. needs ≡ option_to_list (option_map (λ t. t.now) name.entry)) }
 {
     match name {
         Some(name) => needed(alloc, name),
@@ -165,24 +156,6 @@ pub(crate) fn nvme_stop(
     }
 }
 
-/// What a device of subsystem nvme-subsystem adds, if the event device has a namespace.
-fn reached_stop(
-    alloc: Global,
-    devices: &Devices<'_>,
-    nsid: &[u8],
-    member: &Member<'_>,
-    above: &[Member<'_>],
-) -> Result<Stop, AllocError>
-    ensures { IfOk result (λ stop. stop ≡ ways_by devices.now (Some nsid.now) member.now above.now) }
-{
-    if controller(alloc, devices, member)?.is_some() {
-        return namespace_stop(alloc, nsid, above);
-    }
-    let mut stop = Stop::ending(false, false, controller_needs(alloc, devices, member)?);
-    stop.next = Next::Fails;
-    Ok(stop)
-}
-
 /// What a device of subsystem nvme-subsystem adds.
 #[tactic(auto, unfolding(crate::specs::Nvme::ways_stop))]
 pub(crate) fn ways_stop(
@@ -193,8 +166,13 @@ pub(crate) fn ways_stop(
 ) -> Result<Stop, AllocError>
     ensures { IfOk result (λ stop. stop ≡ ways_stop devices.now member.now above.now) }
 {
-    match namespace(devices.event()) {
-        Some(nsid) => reached_stop(alloc, devices, nsid, member, above),
-        None => bare_stop(alloc, devices.event()),
+    let Some(nsid) = namespace(devices.event()) else {
+        return bare_stop(alloc, devices.event());
+    };
+    if controller(alloc, devices, member)?.is_some() {
+        return namespace_stop(alloc, nsid, above);
     }
+    let mut stop = Stop::ending(false, false, controller_needs(alloc, devices, member)?);
+    stop.next = Next::Fails;
+    Ok(stop)
 }

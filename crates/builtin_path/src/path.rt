@@ -3,7 +3,8 @@ ghost use Rattle.std.specs.Prelude.{◌≡◌, ◌++◌, ◌+◌, ◌≤◌, IfO
 ghost use Rattle.std.specs.List.{join_with_byte, list_any, prefix_len};
 ghost use Rattle.text_bytes.specs.Names.{minus};
 ghost use Rattle.text_tables.specs.Texts.{with_texts};
-ghost use Rattle.builtin_path.specs.Path.{compatible_pairs, compatible_parts, is_ata, is_failing, is_reached, is_whole, lacks_type, needs, parts, path_id, path_pairs, plain_path, properties_of, revision_pairs, shared, type_needs};
+ghost use Rattle.builtin_path.specs.Path.{compatible_pairs, compatible_parts, is_ata, is_failing, is_reached, is_whole, lacks_type, needs, parts};
+ghost use Rattle.builtin_path.specs.Path.{path_id, path_pairs, plain_path, properties_of, revision_pairs, shared, type_needs};
 
 use crate::members::Member;
 use crate::revisions::{revision_place, without_revision};
@@ -44,8 +45,7 @@ fn is_ata(share: &Share) -> bool
 {
     match share {
         Share::Ata(_) => true,
-        Share::Both => false,
-        Share::Apart => false,
+        _ => false,
     }
 }
 
@@ -84,13 +84,6 @@ fn reversed<'t>(mut texts: Vec<&'t [u8]>) -> Vec<&'t [u8]>
     texts
 }
 
-/// The parts that stops add, the highest first.
-fn parts(alloc: Global, stops: &[Stop]) -> Result<Vec<&[u8]>, AllocError>
-    ensures { IfOk result (λ found. map (λ t. t.now) found.items ≡ parts stops.now) }
-{
-    Ok(reversed(parts_up(alloc, stops)?))
-}
-
 /// How many stops a list begins with that are not a port of ATA.
 fn below_ata(stops: &[Stop]) -> usize
     ensures value { result ≡ prefix_len (λ s. not (is_ata s.share)) stops.now }
@@ -113,8 +106,7 @@ fn is_failing(next: Next) -> bool
 {
     match next {
         Next::Fails => true,
-        Next::Ends => false,
-        Next::On(_) => false,
+        _ => false,
     }
 }
 
@@ -220,7 +212,7 @@ fn add_compatible(
 fn path_text(alloc: Global, stops: &[Stop]) -> Result<Bytes, AllocError>
     ensures { IfOk result (λ text. text ≡ join_with_byte minus (parts stops.now)) }
 {
-    let parts = parts(alloc, stops)?;
+    let parts = reversed(parts_up(alloc, stops)?);
     joined(alloc, &parts)
 }
 

@@ -2,7 +2,8 @@
 ghost use Rattle.std.specs.Prelude.{◌≡◌, ◌-◌, ◌^◌, IfOk, option_and_then, option_copied, option_map};
 ghost use Rattle.builtin_devices.specs.Numbers.{number_in};
 ghost use Rattle.builtin_devices.specs.declared.numbers.Base.TheVariants.{AsWritten};
-ghost use Rattle.builtin_path.specs.Scsi.{counted_stop, expander_needs, expander_start, expander_stop, narrow_stop, phy_part, phy_stop, phys_stop, sas_by, sas_stop, wide_stop};
+ghost use Rattle.builtin_path.specs.Scsi.{counted_stop, expander_needs, expander_start, expander_stop, narrow_stop, phy_part, phy_stop, phys_stop};
+ghost use Rattle.builtin_path.specs.Scsi.{sas_by, sas_stop, wide_stop};
 
 use crate::members::{Member, class_attribute_at, from_first};
 use crate::scsi::unit_text;

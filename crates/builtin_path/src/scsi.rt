@@ -2,7 +2,8 @@
 ghost use Rattle.std.specs.Prelude.{◌≡◌, ◌∷◌, ◌<◌, ◌^◌, [], codes, decimal, IfOk, IfSome, length, map, option_map};
 ghost use Rattle.std.specs.List.{concat};
 ghost use Rattle.builtin_devices.specs.Devices.{attribute};
-ghost use Rattle.builtin_path.specs.Scsi.{address, described_by, firewire_stop, four_digits, hex_digit, numbered_unit, scsi_stop, transport_of, transport_stop, unit_number, unit_text};
+ghost use Rattle.builtin_path.specs.Scsi.{address, described_by, firewire_stop, four_digits, hex_digit, numbered_unit, scsi_stop, transport_of};
+ghost use Rattle.builtin_path.specs.Scsi.{transport_stop, unit_number, unit_text};
 
 use crate::members::{Member, row};
 use crate::sas::sas_stop;
@@ -91,30 +92,16 @@ fn four_digits(number: u64) -> [u8; 4]
     ]
 }
 
-/// A unit below 256.
-fn low_unit(alloc: Global, number: u64) -> Result<Bytes, AllocError>
-    ensures { IfOk result (λ text. text ≡ concat (codes "lun-" ∷ decimal number ∷ [])) }
-{
-    let mut buffer = Buffer::new();
-    concatenated(alloc, &[b"lun-", buffer.format(number).as_bytes()])
-}
-
 /// A unit by its number.
 fn numbered_unit(alloc: Global, number: Option<u64>) -> Result<Bytes, AllocError>
     ensures { IfOk result (λ text. text ≡ numbered_unit number) }
 {
-    match number {
-        None => Bytes::copy_of(alloc, b"(null)"),
-        Some(number) => known_unit(alloc, number),
-    }
-}
-
-/// A unit by its number, if it has one.
-fn known_unit(alloc: Global, number: u64) -> Result<Bytes, AllocError>
-    ensures { IfOk result (λ text. text ≡ numbered_unit (Some number)) }
-{
+    let Some(number) = number else {
+        return Bytes::copy_of(alloc, b"(null)");
+    };
     if number < 256 {
-        return low_unit(alloc, number);
+        let mut buffer = Buffer::new();
+        return concatenated(alloc, &[b"lun-", buffer.format(number).as_bytes()]);
     }
     let low = four_digits(number);
     let high = four_digits(number / 65536);

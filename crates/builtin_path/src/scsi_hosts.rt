@@ -2,7 +2,8 @@
 ghost use Rattle.std.specs.Prelude.{◌≡◌, ◌∷◌, [], IfOk, codes, filter_map, fold, length, map, option_map, option_copied};
 ghost use Rattle.text_tables.specs.Texts.{same_text};
 ghost use Rattle.std.specs.List.{list_any};
-ghost use Rattle.builtin_path.specs.Scsi.{beside_host, host_name, host_names, host_number, host_part, host_stop, hosts_stop, in_host, lower, lowest, numbered_host_stop, other_by, other_stop};
+ghost use Rattle.builtin_path.specs.Scsi.{beside_host, host_name, host_names, host_number, host_part, host_stop, hosts_stop, in_host, lower, lowest};
+ghost use Rattle.builtin_path.specs.Scsi.{numbered_host_stop, other_by, other_stop};
 
 use crate::members::{Member, below_first, folder};
 use crate::scsi::place_of;

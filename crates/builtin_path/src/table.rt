@@ -4,18 +4,20 @@ ghost use Rattle.std.specs.List.{concat, prefix_len};
 ghost use Rattle.text_bytes.specs.Numbers.{is_digit};
 ghost use Rattle.builtin_devices.specs.Devices.{attribute};
 ghost use Rattle.builtin_path.specs.Members.{begins, row};
-ghost use Rattle.builtin_path.specs.Table.{ap_part, ap_stop, bcma_stop, begun_tapes, beside, first_begun, cciss_stop, leading_number, manner_of, named_stop, numbered_by, numbered_stop, second_by, second_number, stop, stop_as, stop_by, tape_by, tape_part, tape_stop, virtio_stop};
+ghost use Rattle.builtin_path.specs.Table.{ap_part, ap_stop, bcma_stop, begun_tapes, beside, first_begun, cciss_stop, leading_number, manner_of};
+ghost use Rattle.builtin_path.specs.Table.{named_stop, numbered_by, numbered_stop, second_by, second_number, stop, stop_as, tape_by};
+ghost use Rattle.builtin_path.specs.Table.{tape_part, tape_stop, virtio_stop};
 
 use crate::members::{Member, row};
 use crate::nvme::{nvme_stop, ways_stop};
 use crate::scsi::scsi_stop;
 use crate::stops::{Next, Stop};
-use crate::texts::{concatenated, is_among};
+use crate::texts::{concatenated, is_among, leading_digits};
 use crate::usb::usb_stop;
 use builtin_devices::{Devices, name_number};
 use itoa::Buffer;
 use std::alloc::{AllocError, Global};
-use text_bytes::{Bytes, decimal_below, following, is_digit};
+use text_bytes::{Bytes, decimal_below, following};
 use text_links::kernel_name;
 use text_tables::OwnedTexts;
 
@@ -172,14 +174,6 @@ fn numbered_stop(
     }
 }
 
-/// How many digits a text begins with.
-fn leading_digits(text: &[u8]) -> usize
-    ensures value { result ≡ prefix_len is_digit text.now }
-    ensures within { result ≤ length text.now }
-{
-    text.iter().take_while(|byte| is_digit(**byte)).count()
-}
-
 /// The number that a text begins with, and what follows it.
 #[tactic(auto, unfolding(crate::specs::Table::leading_number))]
 fn leading_number(text: &[u8]) -> Option<(u64, &[u8])>
@@ -288,7 +282,8 @@ fn stop_as(
     member: &Member<'_>,
     above: &[Member<'_>],
 ) -> Result<Stop, AllocError>
-    ensures { IfOk result (λ stop. stop ≡ stop_as manner devices.now is_begun subsystem.now member.now above.now) }
+    ensures { IfOk result (λ stop. stop
+        ≡ stop_as manner (record { event = devices.now; is_begun = is_begun; subsystem = subsystem.now; member = member.now; above = above.now })) }
 {
     match manner {
         Manner::Parent => named_stop(alloc, subsystem, false, member, above),
@@ -307,23 +302,6 @@ fn stop_as(
     }
 }
 
-/// What a device of a subsystem adds.
-fn stop_by(
-    alloc: Global,
-    devices: &Devices<'_>,
-    is_begun: bool,
-    subsystem: &[u8],
-    member: &Member<'_>,
-    above: &[Member<'_>],
-) -> Result<Stop, AllocError>
-    ensures { IfOk result (λ stop. stop ≡ stop_by (manner_of subsystem.now) devices.now is_begun subsystem.now member.now above.now) }
-{
-    match manner_of(subsystem) {
-        Some(manner) => stop_as(alloc, manner, devices, is_begun, subsystem, member, above),
-        None => Ok(Stop::passing(alloc, false)),
-    }
-}
-
 /// What a device adds, with those above it; `is_begun` says whether a device below has added a part.
 #[tactic(auto, unfolding(crate::specs::Table::stop))]
 pub(crate) fn stop(
@@ -335,8 +313,11 @@ pub(crate) fn stop(
 ) -> Result<Stop, AllocError>
     ensures { IfOk result (λ here. here ≡ stop devices.now is_begun member.now above.now) }
 {
-    match member.device.subsystem() {
-        Some(subsystem) => stop_by(alloc, devices, is_begun, subsystem, member, above),
+    let Some(subsystem) = member.device.subsystem() else {
+        return Ok(Stop::passing(alloc, false));
+    };
+    match manner_of(subsystem) {
+        Some(manner) => stop_as(alloc, manner, devices, is_begun, subsystem, member, above),
         None => Ok(Stop::passing(alloc, false)),
     }
 }

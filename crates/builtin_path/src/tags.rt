@@ -1,6 +1,6 @@
 //! The tag of a path.
 ghost use Rattle.std.specs.Prelude.{◌≡◌, IfOk, map};
-ghost use Rattle.builtin_path.specs.Path.{cut_tag, stays_in_tag, tag, tag_byte, without_last};
+ghost use Rattle.builtin_path.specs.Path.{cut_tag, tag, tag_byte};
 
 use crate::texts::first_bytes;
 use std::alloc::{AllocError, Global};
@@ -10,28 +10,14 @@ use text_links::underscored;
 /// The most bytes of a tag.
 const MAX_TAG: usize = 511;
 
-/// Whether a byte stays in a tag.
-fn stays_in_tag(byte: u8) -> bool
-    ensures { result ≡ stays_in_tag byte }
-{
-    byte.is_ascii_alphanumeric() || byte == b'-'
-}
-
 /// A byte that stays in a tag, and a space for any other.
 fn tag_byte(byte: u8) -> u8
     ensures { result ≡ tag_byte byte }
 {
-    if stays_in_tag(byte) { byte } else { b' ' }
-}
-
-/// A text without a `_` at its end.
-fn without_last(text: &[u8]) -> &[u8]
-    ensures { result.now ≡ without_last text.now }
-{
-    if ends_in(b'_', text) {
-        first_bytes(text.len().saturating_sub(1), text)
+    if byte.is_ascii_alphanumeric() || byte == b'-' {
+        byte
     } else {
-        text
+        b' '
     }
 }
 
@@ -39,7 +25,11 @@ fn without_last(text: &[u8]) -> &[u8]
 fn cut_tag(text: &[u8]) -> &[u8]
     ensures { result.now ≡ cut_tag text.now }
 {
-    without_last(first_bytes(MAX_TAG, text))
+    let tag = first_bytes(MAX_TAG, text);
+    if ends_in(b'_', tag) {
+        return first_bytes(tag.len().saturating_sub(1), tag);
+    }
+    tag
 }
 
 /// A text in which each byte that does not stay in a tag is a space.

@@ -1,12 +1,13 @@
 //! What a text has in it, and texts put together.
-ghost use Rattle.std.specs.Prelude.{◌≡◌, ◌<◌, IfOk, IfSome, drop, length, map, take};
-ghost use Rattle.std.specs.List.{concat, join_with_byte};
+ghost use Rattle.std.specs.Prelude.{◌≡◌, ◌<◌, ◌≤◌, IfOk, IfSome, drop, length, map, take};
+ghost use Rattle.std.specs.List.{concat, join_with_byte, prefix_len};
 ghost use Rattle.text_bytes.specs.Names.{minus};
+ghost use Rattle.text_bytes.specs.Numbers.{is_digit};
 ghost use Rattle.text_tables.specs.Texts.{is_among};
 ghost use Rattle.builtin_path.specs.Texts.{contains, first_place, is_at};
 
 use std::alloc::{AllocError, Global};
-use text_bytes::Bytes;
+use text_bytes::{Bytes, is_digit};
 
 /// A text without its first bytes, so many of them.
 pub(crate) fn after_first(count: usize, text: &[u8]) -> &[u8]
@@ -20,6 +21,14 @@ pub(crate) fn first_bytes(count: usize, text: &[u8]) -> &[u8]
     ensures { result.now ≡ take count text.now }
 {
     text.get(..count).unwrap_or(text)
+}
+
+/// How many digits a text begins with.
+pub(crate) fn leading_digits(text: &[u8]) -> usize
+    ensures value { result ≡ prefix_len is_digit text.now }
+    ensures within { result ≤ length text.now }
+{
+    text.iter().take_while(|byte| is_digit(**byte)).count()
 }
 
 /// Whether a text is at a place of another.

@@ -1,8 +1,7 @@
 //! USB: the port of a device or an interface, and the revision of its root hub.
-ghost use Rattle.std.specs.Prelude.{◌≡◌, ◌∷◌, ◌≤◌, IfOk, IfSome, codes, length, option_map};
-ghost use Rattle.text_bytes.specs.Names.{minus};
-ghost use Rattle.text_bytes.specs.Texts.{split_once};
-ghost use Rattle.builtin_path.specs.Usb.{by_speed, is_at_port, port_of, port_start, port_stop, protocol_of, revision_by, revision_needs, revision_of, root, speed_needs, usb_stop};
+ghost use Rattle.std.specs.Prelude.{◌≡◌, IfOk, codes, option_map};
+ghost use Rattle.builtin_path.specs.Usb.{by_speed, is_at_port, port_of, port_start, port_stop, protocol_of, revision_by, revision_needs, revision_of};
+ghost use Rattle.builtin_path.specs.Usb.{root, speed_needs, usb_stop};
 ghost use Rattle.builtin_devices.specs.Devices.{attribute};
 ghost use Rattle.builtin_path.specs.Members.{row};
 
@@ -33,16 +32,6 @@ fn is_at_port(member: &Member<'_>) -> bool
     is_text(b"usb_device", kind) || is_text(b"usb_interface", kind)
 }
 
-/// What follows the first `-` of a name.
-fn after_bus(alloc: Global, name: &[u8]) -> Result<Option<Bytes>, AllocError>
-    ensures { IfOk result (λ port. port ≡ option_map (λ cut. cut.1) (split_once minus name.now)) }
-{
-    match split_once(b'-', name) {
-        Some((_, port)) => Ok(Some(Bytes::copy_of(alloc, port)?)),
-        None => Ok(None),
-    }
-}
-
 /// The ports of a device, which its name has after the number of the bus and a `-`.
 fn port_of(alloc: Global, member: &Member<'_>) -> Result<Option<Bytes>, AllocError>
     ensures { IfOk result (λ port. port ≡ port_of member.now) }
@@ -51,7 +40,10 @@ fn port_of(alloc: Global, member: &Member<'_>) -> Result<Option<Bytes>, AllocErr
         return Ok(None);
     }
     let name = kernel_name(alloc, member.device.path())?;
-    after_bus(alloc, name.as_slice())
+    match split_once(b'-', name.as_slice()) {
+        Some((_, port)) => Ok(Some(Bytes::copy_of(alloc, port)?)),
+        None => Ok(None),
+    }
 }
 
 /// The last of the devices of USB above one another, the first of which is given: the root hub.

@@ -1,9 +1,8 @@
-use Rattle.std.proofs.Common.{◌≡◌, List, map, ap, subst, sym, ◌∙◌, arith}
+use Rattle.std.proofs.Common.{◌≡◌, map, ap, sym, ◌∙◌, arith}
 use Rattle.std.specs.List.{flat_map}
-use Rattle.rule_types.specs.Rules.{tokens_in}
-use Rattle.rule_core.specs.Rules.{set_of_as}
 use Rattle.engine_formats.specs.Diagnostics.{shown}
 use Rattle.engine_checks.specs.Files.{rules_reported}
+use Rattle.engine_checks.specs.Outcomes.{checks_said}
 use Rattle.engine_checks.specs.Tables.{rules_reported_by}
 use Rattle.engine_checks.proofs.Checking.{checks_few, checks_many, files_by}
 use Rattle.engine_checks.proofs.TokensLeft.{all_left}
@@ -24,4 +23,4 @@ returns-clause-said c =
     ∙ c.in_ok-found.ensures.reported
     ∙ ap (flat_map (rules_reported_by c.in_ok-asked.asked)) road
     ∙ files_by c.args.line.now c.in_ok-asked.asked c.in_ok-asked.ensures.profile c.in_ok-asked.ensures.accounts c.in_ok-asked.ensures.style c.in_ok-asked.ensures.lint c.in_ok-asked.ensures.ignored c.args.files.now in
-    rw (few, ← shows) c.in_ok-report.ensures.said
+    c.in_ok-report.ensures.said ∙ ap (checks_said c.args.line.now c.args.files.now) shows ∙ sym few

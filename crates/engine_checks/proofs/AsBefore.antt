@@ -87,9 +87,9 @@ messages_reported line file unasked none =
 
 file_made : (line : Line) (file : SourceFile) → line.profile ≡ Manual → line.lint ≡ false → ignored_by line ≡ [] → AreMadeFrom (reported line.style (file_messages Manual file)) (rules_reported line file)
 unfolding findings_as
-file_made line file plain unasked none =
+file_made line file manual unasked none =
     subst (λ ds. AreMadeFrom (reported line.style (file_messages Manual file)) ds) (sym (messages_reported line file unasked none))
-    (subst (λ ms. AreMadeFrom (reported line.style ms) (filter (is_reported (plain (asked_by line) line.style) []) (messages_in line file))) (ap (λ by. map (as_message file.name) (findings_as by (accounts_by line) file)) plain ∙ findings_reported Manual file) (findings_made (asked_by line) line.style (file_text line file) (findings_of line file)))
+    (subst (λ ms. AreMadeFrom (reported line.style ms) (filter (is_reported (plain (asked_by line) line.style) []) (messages_in line file))) (ap (λ by. map (as_message file.name) (findings_as by (accounts_by line) file)) manual ∙ findings_reported Manual file) (findings_made (asked_by line) line.style (file_text line file) (findings_of line file)))
 
 pub both_made : (ms ns : List Message) (ds es : List DiagnosticValue) → AreMadeFrom ms ds → AreMadeFrom ns es → AreMadeFrom (ms ++ ns) (ds ++ es)
 both_made [] ns [] es f g = g
@@ -108,10 +108,10 @@ reported_none true = refl
 reported_none false = refl
 
 files_made : (line : Line) (files : List SourceFile) → line.profile ≡ Manual → line.lint ≡ false → ignored_by line ≡ [] → AreMadeFrom (reported line.style (flat_map (file_messages Manual) files)) (flat_map (rules_reported line) files)
-files_made line [] plain unasked none = subst (λ ms. AreMadeFrom ms []) (sym (reported_none line.style)) tt
-files_made line (file ∷ files) plain unasked none =
+files_made line [] manual unasked none = subst (λ ms. AreMadeFrom ms []) (sym (reported_none line.style)) tt
+files_made line (file ∷ files) manual unasked none =
     subst (λ ms. AreMadeFrom ms (rules_reported line file ++ flat_map (rules_reported line) files)) (sym (reported_both line.style (file_messages Manual file) (flat_map (file_messages Manual) files)))
-    (both_made (reported line.style (file_messages Manual file)) (reported line.style (flat_map (file_messages Manual) files)) (rules_reported line file) (flat_map (rules_reported line) files) (file_made line file plain unasked none) (files_made line files plain unasked none))
+    (both_made (reported line.style (file_messages Manual file)) (reported line.style (flat_map (file_messages Manual) files)) (rules_reported line file) (flat_map (rules_reported line) files) (file_made line file manual unasked none) (files_made line files manual unasked none))
 
 same_names : (ms : List Message) (ds : List DiagnosticValue) → AreMadeFrom ms ds → map (λ d. d.name) ds ≡ map (λ m. m.file) ms
 same_names [] [] made = refl
@@ -126,14 +126,14 @@ module _ (plainly : (ms : List Message) (ds : List DiagnosticValue) → AreMadeF
 
   same_rules : (line : Line) (files : List SourceFile) → line.profile ≡ Manual → line.format ≡ Plain → line.lint ≡ false → ignored_by line ≡ [] → rules_checks line files ≡ rules_outcome line files
   unfolding rules_checks rules_outcome set_of_as
-  same_rules line files plain format unasked none =
-      ap (λ by. cond (nat_le (tokens_in (set_of_as by files).rules) (2 ^ 24)) (checks_said line files (flat_map (rules_reported line) files)) too_many_rules) plain
+  same_rules line files manual format unasked none =
+      ap (λ by. cond (nat_le (tokens_in (set_of_as by files).rules) (2 ^ 24)) (checks_said line files (flat_map (rules_reported line) files)) too_many_rules) manual
       ∙ ap (λ o. cond (nat_le (tokens_in (set_of_as Manual files).rules) (2 ^ 24)) o too_many_rules)
-      (same_said line files (reported line.style (set_of_as Manual files).messages) (flat_map (rules_reported line) files) format (files_made line files plain unasked none))
+      (same_said line files (reported line.style (set_of_as Manual files).messages) (flat_map (rules_reported line) files) format (files_made line files manual unasked none))
 
   -- what `verify` says is as before
   pub as_before : (line : Line) (files : List SourceFile) → line.profile ≡ Manual → line.format ≡ Plain → line.lint ≡ false → ignored_by line ≡ [] → checks_outcome line files ≡ verify_outcome line files
-  as_before line files plain format unasked none =
-      ap (λ by. rules_checks line (map (file_as_read by) (files_read Rules line files))) plain
+  as_before line files manual format unasked none =
+      ap (λ by. rules_checks line (map (file_as_read by) (files_read Rules line files))) manual
       ∙ ap (rules_checks line) (map-id (files_read Rules line files))
-      ∙ same_rules line (files_read Rules line files) plain format unasked none
+      ∙ same_rules line (files_read Rules line files) manual format unasked none

@@ -26,7 +26,7 @@ use Rattle.engine_formats.specs.Diagnostics.{DiagnosticValue}
 use Rattle.engine_checks.specs.Codes.{has_comments}
 use Rattle.engine_checks.specs.Files.{found_with, rule_diagnostic}
 use Rattle.engine_checks.specs.LinesFound.{read_findings, read_found}
-use Rattle.engine_checks.specs.Reported.{Asked}
+use Rattle.engine_checks.specs.Reported.{Asked, FileText}
 use Rattle.engine_checks.specs.Tables.{FileRead, rules_found_by}
 use Rattle.engine_checks.proofs.ByLines.{alone}
 
@@ -71,10 +71,11 @@ all_once Manual accounts f bytes joined b j o =
 all_once Udev accounts f bytes joined b j o =
     ap₂ (by_line (λ p. p.begins)) (findings_once Udev f bytes joined b j o) (remarks_once accounts f bytes joined b (lines_joined Udev f bytes joined b j o) o)
 
-pub found_once : (asked : Asked) (read : FileRead) (bytes : List ℕ) (joined : Joined) → bytes ≡ read.file.bytes → joined ≡ joined_lines asked.profile read.file.bytes → abandoned asked.profile bytes ≡ None
-    → read_found asked read.text (kept_lines bytes) (landed (map (reading_of asked.profile) joined.lines)) joined.open_at ≡ rules_found_by asked read
-found_once asked read bytes joined b j o =
-    ap₂ (found_with read.text) (all_once asked.profile asked.accounts read.file bytes joined b j o)
+pub found_once : (asked : Asked) (read : FileRead) (file : FileText) (bytes : List ℕ) (joined : Joined) → file ≡ read.text → bytes ≡ read.file.bytes → joined ≡ joined_lines asked.profile read.file.bytes → abandoned asked.profile bytes ≡ None
+    → read_found asked file (kept_lines bytes) (landed (map (reading_of asked.profile) joined.lines)) joined.open_at ≡ rules_found_by asked read
+found_once asked read file bytes joined t b j o =
+    ap (λ (x : FileText). read_found asked x (kept_lines bytes) (landed (map (reading_of asked.profile) joined.lines)) joined.open_at) t
+    ∙ ap₂ (found_with read.text) (all_once asked.profile asked.accounts read.file bytes joined b j o)
     (ap (λ (x : List (PlacedFinding Lint)). cond (asked.lint || has_comments asked.ignored) x []) (lints_once asked.profile read.file bytes joined b j o))
 
 -- a file that is given up
@@ -94,10 +95,11 @@ none_counted : (b : Bool) (lints : List (PlacedFinding Lint)) → lints ≡ [] �
 none_counted true lints e = e
 none_counted false lints e = refl
 
-pub found_abandoned : (asked : Asked) (read : FileRead) (bytes : List ℕ) (number : ℕ) → bytes ≡ read.file.bytes → abandoned asked.profile bytes ≡ Some number
-    → map (rule_diagnostic read.text) (abandoned_findings bytes number) ≡ rules_found_by asked read
-found_abandoned asked read bytes number b o =
-    sym (alone (λ (d : DiagnosticValue). d.begins) (map (rule_diagnostic read.text) (abandoned_findings bytes number)))
+pub found_abandoned : (asked : Asked) (read : FileRead) (file : FileText) (bytes : List ℕ) (number : ℕ) → file ≡ read.text → bytes ≡ read.file.bytes → abandoned asked.profile bytes ≡ Some number
+    → map (rule_diagnostic file) (abandoned_findings bytes number) ≡ rules_found_by asked read
+found_abandoned asked read file bytes number t b o =
+    ap (λ (x : FileText). map (rule_diagnostic x) (abandoned_findings bytes number)) t
+    ∙ sym (alone (λ (d : DiagnosticValue). d.begins) (map (rule_diagnostic read.text) (abandoned_findings bytes number)))
     ∙ sym (ap₂ (found_with read.text) (abandoned_once asked.profile asked.accounts read.file bytes number b o)
     (none_counted (asked.lint || has_comments asked.ignored) (placed_lints asked.profile read.file) (no_lints asked.profile read.file bytes number b o)))
 

@@ -35,10 +35,11 @@ pub(crate) fn rules_found<'r>(
     ensures tokens { IfOk result (λ c. c.tokens ≡ tokens_in (file_rules asked.now.profile read.now.file)) }
 {
     let file = read.file();
+    let text = read.text();
     let bytes = file.bytes.as_slice();
     match abandoned_at(asked.profile, bytes) {
-        Some(number) => found_abandoned(alloc, read.text(), bytes, number),
-        None => found_in_lines(alloc, asked, read.text(), bytes, joined),
+        Some(number) => found_abandoned(alloc, text, bytes, number),
+        None => found_in_lines(alloc, asked, text, bytes, joined),
     }
 }
 

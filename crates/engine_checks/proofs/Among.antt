@@ -3,7 +3,7 @@ use Rattle.std.proofs.Common.{◌≡◌, Bool, true, false, not, ◌&&◌, ◌||
 use Rattle.std.specs.List.{cons_option, list_any}
 use Rattle.std.proofs.lemmas.List.Elements.{All-cons, All-filter, All-map, All-nil, All-weaker}
 use Rattle.text_bytes.specs.declared.source_file.SourceFile.{SourceFile}
-use Rattle.text_tables.specs.Texts.{Text, is_among}
+use Rattle.text_tables.specs.Texts.{is_among}
 use Rattle.hwdb_core.specs.Sources.{messages_of}
 use Rattle.engine_ends.specs.declared.line.Line.{Line}
 use Rattle.engine_formats.specs.Diagnostics.{DiagnosticValue}

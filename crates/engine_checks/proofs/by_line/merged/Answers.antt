@@ -1,7 +1,5 @@
-use Rattle.std.proofs.Common.{◌≡◌, ◌∙◌, [], List, ap, eqb-true, length, map, rules, sym, vec_len}
+use Rattle.std.proofs.Common.{◌≡◌, ◌∙◌, eqb-true, length, rules, sym, vec_len}
 use Rattle.engine_formats.specs.Diagnostics.{shown}
-use Rattle.engine_formats.specs.declared.diagnostic.Diagnostic.{Diagnostic}
-use Rattle.engine_checks.specs.Reported.{merged}
 use Rattle.engine_checks.proofs.ByLines.{none_others}
 use Rattle.engine_checks.proofs.by_line.merged.Goals as goal
 

@@ -1,5 +1,6 @@
 -- The devices of a block, and what is above one.
-use Rattle.std.specs.Prelude.{ℕ, nat_lt, ◌==◌, ◌&&◌, Bool, true, false, List, Option, Some, None, filter_map, length, take, slice_index, reverse, if◌then◌else◌, codes}
+use Rattle.std.specs.Prelude.{ℕ, nat_lt, ◌==◌, ◌&&◌, Bool, true, false, List, Option, Some, None, filter_map}
+use Rattle.std.specs.Prelude.{length, take, slice_index, reverse, if◌then◌else◌, codes}
 use Rattle.std.specs.List.{find, range_with_len}
 use Rattle.std.specs.Option.{option_or}
 use Rattle.text_bytes.specs.Names.{slash}

@@ -1,5 +1,6 @@
 //! The devices that a block describes by their paths, each with the files in its folder.
-ghost use Rattle.std.specs.Prelude.{◌≡◌, ◌∷◌, ◌++◌, ◌≤◌, ◌+◌, [], Some, true, IfOk, OnOk, filter_map, length, map, option_map, nat_eq, take, drop, false, ℕ, ◌||◌, slice_index_or, if◌then◌else◌};
+ghost use Rattle.std.specs.Prelude.{◌≡◌, ◌∷◌, ◌++◌, ◌≤◌, ◌+◌, [], Some, true, IfOk, OnOk, filter_map, length, map};
+ghost use Rattle.std.specs.Prelude.{option_map, nat_eq, take, drop, false, ℕ, ◌||◌, slice_index_or, if◌then◌else◌};
 ghost use Rattle.std.specs.List.{ends_with};
 ghost use Rattle.text_bytes.specs.Names.{slash};
 ghost use Rattle.text_bytes.specs.Texts.{begins_with};
@@ -31,7 +32,8 @@ fn described_path(path: &[u8]) -> Option<&[u8]>
 
 /// Marks the length of a path.
 fn mark_length(path: &[u8], lengths: &mut Vec<bool>) -> Result<(), AllocError>
-    ensures { OnOk result ((place : ℕ) → slice_index_or lengths.new.items place false ≡ (nat_eq place (length path.now) || slice_index_or lengths.old.items place false)) }
+    ensures { OnOk result ((place : ℕ) → slice_index_or lengths.new.items place false ≡ (nat_eq place (length path.now)
+        || slice_index_or lengths.old.items place false)) }
 {
     let place = path.len();
     if lengths.len() <= place {
@@ -43,7 +45,8 @@ fn mark_length(path: &[u8], lengths: &mut Vec<bool>) -> Result<(), AllocError>
 
 /// Marks for the lengths of the paths of the devices that a block describes.
 fn described_lengths(alloc: Global, event: &Event<'_>) -> Result<Vec<bool>, AllocError>
-    ensures { IfOk result (λ lengths. (folder : Text) → is_among (described_paths event.now.constants) folder ≡ true → slice_index_or lengths.items (length folder) false ≡ true) }
+    ensures { IfOk result (λ lengths. (folder : Text) → is_among (described_paths event.now.constants) folder ≡ true
+        → slice_index_or lengths.items (length folder) false ≡ true) }
 {
     let mut lengths = Vec::new(alloc);
     for (path, _) in event.constants().as_map().iter() {
@@ -74,7 +77,9 @@ fn add_to_folder<'a>(
     text: &'a [u8],
     folders: &mut Folders<'a>,
 ) -> Result<(), AllocError>
-    ensures { OnOk result ((other : Text) → files_in folders.new other ≡ (if same_text other folder.now then with_file (name.now, text.now) (files_in folders.old other) else files_in folders.old other)) }
+    ensures { OnOk result ((other : Text)
+        → files_in folders.new other
+        ≡ (if same_text other folder.now then with_file (name.now, text.now) (files_in folders.old other) else files_in folders.old other)) }
 {
     if let Some(files) = folders.get_mut(folder) {
         files.push((name, text))?;
@@ -89,7 +94,8 @@ fn add_file<'a>(
     text: &'a [u8],
     folders: &mut Folders<'a>,
 ) -> Result<(), AllocError>
-    ensures { OnOk result ((folder : Text) → slice_index_or lengths.now (length folder) false ≡ true → files_in folders.new folder ≡ with_files folder ((path.now, text.now) ∷ []) (files_in folders.old folder)) }
+    ensures { OnOk result ((folder : Text) → slice_index_or lengths.now (length folder) false ≡ true
+        → files_in folders.new folder ≡ with_files folder ((path.now, text.now) ∷ []) (files_in folders.old folder)) }
 {
     for place in 0..path.len().min(lengths.len()) {
         let (folder, following) = path.split_at(place);
@@ -108,7 +114,8 @@ fn described_folders<'a>(
     event: &Event<'a>,
     lengths: &[bool],
 ) -> Result<Folders<'a>, AllocError>
-    ensures { IfOk result (λ folders. (folder : Text) → is_among (described_paths event.now.constants) folder ≡ true → slice_index_or lengths.now (length folder) false ≡ true → files_in folders folder ≡ Some (files_below event.now folder)) }
+    ensures { IfOk result (λ folders. (folder : Text) → is_among (described_paths event.now.constants) folder ≡ true
+        → slice_index_or lengths.now (length folder) false ≡ true → files_in folders folder ≡ Some (files_below event.now folder)) }
 {
     let mut folders = empty_folders(alloc, event)?;
     for (path, text) in event.constants().as_map().iter() {

@@ -1,7 +1,5 @@
 //! What udev's builtins usb_id, path_id, input_id and net_id share: the devices and files that a block describes,
 //! numbers, and the outcome of a builtin.
-//!
-//! Functions that allocate return `AllocError` when memory runs out.
 #![tactic(auto)]
 
 mod addresses;

@@ -3,7 +3,8 @@ ghost use Rattle.std.specs.Prelude.{◌≡◌, ◌≤◌, ◌<◌, ◌^◌, IfOk
 ghost use Rattle.std.specs.List.{prefix_len};
 ghost use Rattle.text_bytes.specs.Names.{minus, is_whitespace};
 ghost use Rattle.text_bytes.specs.Texts.{begins_with, skip_while};
-ghost use Rattle.builtin_devices.specs.Numbers.{bytes_of, digit_value, digits_in, is_below_zero, is_marked, is_number, name_number, number_in, size_in, unsigned, written};
+ghost use Rattle.builtin_devices.specs.Numbers.{bytes_of, digit_value, digits_in, is_below_zero, is_marked, is_number};
+ghost use Rattle.builtin_devices.specs.Numbers.{name_number, number_in, size_in, unsigned, written};
 
 use hex::{FromHexError, decode};
 use std::alloc::{AllocError, Global};

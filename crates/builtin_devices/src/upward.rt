@@ -22,7 +22,8 @@ pub(crate) fn add_device<'d, 'a>(
     device: &'d Device<'a>,
     above: &mut IndexMap<usize, &'d Device<'a>>,
 ) -> Result<(), AllocError>
-    ensures { OnOk result ((place : ℕ) → place < length path.now → device_at above.new place ≡ option_or (device_at above.old place) (first_before (device.now ∷ []) path.now place)) }
+    ensures { OnOk result ((place : ℕ) → place < length path.now
+        → device_at above.new place ≡ option_or (device_at above.old place) (first_before (device.now ∷ []) path.now place)) }
 {
     let own = device.path();
     if is_above(own, path) {
@@ -38,7 +39,8 @@ pub(crate) fn add_devices<'d, 'a>(
     devices: &'d [Device<'a>],
     above: &mut IndexMap<usize, &'d Device<'a>>,
 ) -> Result<(), AllocError>
-    ensures { OnOk result ((place : ℕ) → place < length path.now → device_at above.new place ≡ option_or (device_at above.old place) (first_before devices.now path.now place)) }
+    ensures { OnOk result ((place : ℕ) → place < length path.now
+        → device_at above.new place ≡ option_or (device_at above.old place) (first_before devices.now path.now place)) }
 {
     for device in devices {
         add_device(path, device, above)?;

@@ -4,7 +4,8 @@ use Rattle.text_tables.specs.Texts.{Text}
 use Rattle.builtin_input.specs.Bitmaps.{has, count_of}
 use Rattle.builtin_input.specs.Groups.{is_in}
 use Rattle.builtin_input.specs.Capabilities.{CapabilitiesValue}
-use Rattle.builtin_input.specs.Signs.{accelerometer, has_multitouch, has_mouse_buttons, has_motion, has_pad_buttons, has_position, has_usual_keys, has_wheel, i2c_bus, takes_touch, joystick_parts, key_event, pointing_stick, switch_event, takes_finger, takes_pen, axis_z}
+use Rattle.builtin_input.specs.Signs.{accelerometer, has_multitouch, has_mouse_buttons, has_motion, has_pad_buttons, has_position, has_usual_keys, has_wheel}
+use Rattle.builtin_input.specs.Signs.{i2c_bus, takes_touch, joystick_parts, key_event, pointing_stick, switch_event, takes_finger, takes_pen, axis_z}
 use Rattle.builtin_input.specs.declared.groups.Group.TheVariants as group
 use Rattle.builtin_input.specs.declared.kinds.Kind.{Kind}
 use Rattle.builtin_input.specs.declared.kinds.Kind.TheVariants as kind

@@ -25,7 +25,14 @@ impl Model for Capabilities {
 
     ghost Value = { CapabilitiesValue };
 
-    ghost view = { λ c. record { events = c.events; keys = c.keys; absolute_axes = c.absolute_axes; relative_axes = c.relative_axes; properties = c.properties; bus = c.bus } };
+    ghost view = { λ c. record {
+      events = c.events;
+      keys = c.keys;
+      absolute_axes = c.absolute_axes;
+      relative_axes = c.relative_axes;
+      properties = c.properties;
+      bus = c.bus;
+    } };
 }
 
 /// The text of an attribute, empty if it is absent.

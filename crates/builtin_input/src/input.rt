@@ -4,7 +4,8 @@ ghost use Rattle.std.specs.List.{find, list_any};
 ghost use Rattle.text_tables.specs.Texts.{with_texts};
 ghost use Rattle.device_core.specs.Values.{chain};
 ghost use Rattle.builtin_devices.specs.Outcomes.{needs_of};
-ghost use Rattle.builtin_input.specs.Input.{attribute_needs, chain_needs, device_needs, input_device, input_id, is_input, is_input_device, is_input_path, kind_properties, outcome_of, reports, set, size_needs};
+ghost use Rattle.builtin_input.specs.Input.{attribute_needs, chain_needs, device_needs, input_device, input_id, is_input, is_input_device};
+ghost use Rattle.builtin_input.specs.Input.{is_input_path, kind_properties, outcome_of, reports, set, size_needs};
 ghost use Rattle.builtin_input.specs.Kinds.{property_of};
 ghost use Rattle.builtin_input.specs.Capabilities.{capabilities};
 

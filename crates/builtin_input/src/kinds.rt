@@ -1,6 +1,8 @@
 //! The kinds of input devices.
 ghost use Rattle.std.specs.Prelude.{◌≡◌, IfOk};
-ghost use Rattle.builtin_input.specs.Kinds.{has_keys, is_accelerometer, is_joystick, is_keyboard, is_mouse, is_of, is_plain_mouse, is_pointer, is_pointing_stick, is_tablet, is_tablet_pad, is_touchpad, is_touchscreen, kinds, may_be_joystick, property_of};
+ghost use Rattle.builtin_input.specs.Kinds.{has_keys, is_accelerometer, is_joystick, is_keyboard, is_mouse, is_of};
+ghost use Rattle.builtin_input.specs.Kinds.{is_plain_mouse, is_pointer, is_pointing_stick, is_tablet, is_tablet_pad};
+ghost use Rattle.builtin_input.specs.Kinds.{is_touchpad, is_touchscreen, kinds, may_be_joystick, property_of};
 
 use crate::capabilities::Capabilities;
 use crate::groups::Group;

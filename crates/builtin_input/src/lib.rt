@@ -1,6 +1,4 @@
 //! The builtin input_id of udev (systemd 257): the kinds of an input device, by the bitmaps of what it can do.
-//!
-//! Functions that allocate return `AllocError` when memory runs out.
 #![tactic(auto)]
 
 mod bitmaps;

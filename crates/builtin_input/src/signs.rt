@@ -1,6 +1,7 @@
 //! Conditions on what an input device says about itself, from which its kinds follow.
 ghost use Rattle.std.specs.Prelude.{◌≡◌, ◌≤◌};
-ghost use Rattle.builtin_input.specs.Signs.{has_multitouch, has_motion, has_mouse_buttons, has_pad_buttons, has_position, has_usual_keys, has_wheel, takes_touch, joystick_buttons, joystick_parts, takes_finger, takes_pen};
+ghost use Rattle.builtin_input.specs.Signs.{has_multitouch, has_motion, has_mouse_buttons, has_pad_buttons, has_position, has_usual_keys};
+ghost use Rattle.builtin_input.specs.Signs.{has_wheel, takes_touch, joystick_buttons, joystick_parts, takes_finger, takes_pen};
 
 use crate::capabilities::Capabilities;
 use crate::groups::Group;

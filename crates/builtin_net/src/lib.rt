@@ -1,6 +1,4 @@
 //! The builtin net_id of udev (systemd 257): names for network interfaces, by what they are attached to.
-//!
-//! Functions that allocate return `AllocError` when memory runs out.
 #![tactic(auto)]
 
 mod address;

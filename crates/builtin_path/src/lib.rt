@@ -1,6 +1,4 @@
 //! The builtin path_id of udev (systemd 257): the path of buses and ports that leads to a device.
-//!
-//! Functions that allocate return `AllocError` when memory runs out.
 #![tactic(auto)]
 
 mod laws;

@@ -2,7 +2,8 @@
 ghost use Rattle.std.specs.Prelude.{◌≡◌, ◌∷◌, [], ◌-◌, IfOk, codes, find, length, map, option_and_then, option_copied, option_map, true, ◌≤◌, ◌^◌};
 ghost use Rattle.std.specs.List.{concat};
 ghost use Rattle.builtin_path.specs.Members.{class_attribute};
-ghost use Rattle.builtin_path.specs.Scsi.{ata_by, ata_place, ata_port_stop, ata_stop, braced, fibre_by, fibre_stop, guid_by, guid_stop, has_braces, is_session, iscsi_by, iscsi_stop, portal_attribute, portal_needs, portal_stop, session_stop};
+ghost use Rattle.builtin_path.specs.Scsi.{ata_by, ata_place, ata_port_stop, ata_stop, braced, fibre_by, fibre_stop, guid_by, guid_stop, has_braces};
+ghost use Rattle.builtin_path.specs.Scsi.{is_session, iscsi_by, iscsi_stop, portal_attribute, portal_needs, portal_stop, session_stop};
 
 use crate::members::{Member, attribute_at, class_attribute_at, from_first};
 use crate::scsi::{place_of, unit_text};

@@ -1,6 +1,4 @@
 //! The builtin usb_id of udev (systemd 257): what a USB device says about itself.
-//!
-//! Functions that allocate return `AllocError` when memory runs out.
 #![tactic(auto)]
 
 mod identities;

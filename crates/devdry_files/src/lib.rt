@@ -2,8 +2,6 @@
 //!
 //! No crate below this one opens a file: they receive whole files, in memory. So everything that can fail outside the
 //! program before its input and output begin fails here, and each fault has the path that its message names.
-//!
-//! Functions that allocate return `AllocError` when memory runs out.
 #![tactic(auto)]
 
 mod account_files;

@@ -1,5 +1,6 @@
 -- What is reported if no file was read at all.
-use Rattle.std.specs.Prelude.{◌≡◌, ◌++◌, ◌∷◌, ◌⊎◌, ◌==◌, ℕ, All, Bool, true, false, List, [], None, Option, Some, codes, decimal, filter, flat_map, if◌then◌else◌, length, map}
+use Rattle.std.specs.Prelude.{◌≡◌, ◌++◌, ◌∷◌, ◌⊎◌, ◌==◌, ℕ, All, Bool, true, false, List, [], None, Option}
+use Rattle.std.specs.Prelude.{Some, codes, decimal, filter, flat_map, if◌then◌else◌, length, map}
 use Rattle.std.specs.List.{count_by, list_all, list_any}
 use Rattle.text_bytes.specs.Escapes.{escape_text}
 use Rattle.text_bytes.specs.Kinds.{suffix_of}

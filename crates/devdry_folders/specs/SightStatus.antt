@@ -1,5 +1,6 @@
 -- Which files of the folders count, as reported line by line.
-use Rattle.std.specs.Prelude.{◌≡◌, ◌++◌, ◌∷◌, ◌==◌, ◌&&◌, ℕ, IsPermutation, IsSortedByKey, List, [], None, Option, Some, codes, find, flat_map, if◌then◌else◌, length}
+use Rattle.std.specs.Prelude.{◌≡◌, ◌++◌, ◌∷◌, ◌==◌, ◌&&◌, ℕ, IsPermutation, IsSortedByKey, List, []}
+use Rattle.std.specs.Prelude.{None, Option, Some, codes, find, flat_map, if◌then◌else◌, length}
 use Rattle.std.specs.List.Sorted.{IsStableByKey}
 use Rattle.text_bytes.specs.Escapes.{escape_text}
 use Rattle.text_bytes.specs.Insertion.{text_order}

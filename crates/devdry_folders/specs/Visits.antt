@@ -1,6 +1,7 @@
 -- The folders and files that a line asks for, and the outcome of each visit, as it comes from the answers that a disk
 -- may give.
-use Rattle.std.specs.Prelude.{◌≡◌, ◌++◌, ◌∷◌, ℕ, All, true, false, IsPermutation, IsSorted, List, [], None, Option, Some, String, if◌then◌else◌, map, nat_eq, string_bytes}
+use Rattle.std.specs.Prelude.{◌≡◌, ◌++◌, ◌∷◌, ℕ, All, true, false, IsPermutation, IsSorted, List, []}
+use Rattle.std.specs.Prelude.{None, Option, Some, String, if◌then◌else◌, map, nat_eq, string_bytes}
 use Rattle.std.specs.List.{ends_with}
 use Rattle.std.specs.String.{string_cmp}
 use Rattle.std.specs.declared.alloc.Global.{Global}

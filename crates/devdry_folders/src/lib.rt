@@ -3,8 +3,6 @@
 //! `devdry_files` stops at the first file that can't be read, as the commands do by default. This crate visits every
 //! file and folder that a command line asks for: it keeps what it found there, or why it could not be read, and makes
 //! the whole report from that.
-//!
-//! Functions that allocate return `AllocError` when memory runs out.
 #![tactic(auto)]
 
 mod elsewhere;

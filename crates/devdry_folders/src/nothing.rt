@@ -4,7 +4,8 @@
 ghost use Rattle.std.specs.List.{list_all};
 ghost use Rattle.std.specs.Prelude.{◌≡◌, ◌++◌, ◌==◌, IfOk, OnOk, flat_map, option_map};
 ghost use Rattle.text_bytes.specs.Names.{slash};
-ghost use Rattle.devdry_folders.specs.Nothing.{folder_line, has_unread, is_unread, line_elsewhere, line_on, files_word, line_on_target, lines_on_place, link_line, nothing_lines, why_no_file};
+ghost use Rattle.devdry_folders.specs.Nothing.{folder_line, has_unread, is_unread, line_elsewhere, line_on, files_word};
+ghost use Rattle.devdry_folders.specs.Nothing.{line_on_target, lines_on_place, link_line, nothing_lines, why_no_file};
 
 use crate::elsewhere::Elsewhere;
 use crate::reasons::push_escaped;

@@ -6,7 +6,8 @@ ghost use Rattle.text_bytes.specs.Kinds.{suffix_of};
 ghost use Rattle.devdry_files.specs.Answers.Answer.{Listing};
 ghost use Rattle.devdry_files.specs.Places.{place_of};
 ghost use Rattle.devdry_folders.specs.Meetings.{IsMet};
-ghost use Rattle.devdry_folders.specs.Visits.{AreFolderVisits, AreNamedVisits, AreSightsAt, AreSightsIn, AreVisits, IsFolderVisit, IsListedSo, IsNamedSo, IsNamedVisit, IsOneFile, IsScannedBy, IsSightIn, IsUnlisted, below, missing_folder, place_of_visit};
+ghost use Rattle.devdry_folders.specs.Visits.{AreFolderVisits, AreNamedVisits, AreSightsAt, AreSightsIn, AreVisits, IsFolderVisit, IsListedSo, IsNamedSo};
+ghost use Rattle.devdry_folders.specs.Visits.{IsNamedVisit, IsOneFile, IsScannedBy, IsSightIn, IsUnlisted, below, missing_folder, place_of_visit};
 
 use crate::meetings::{met_at, met_by};
 use crate::reasons::Reason;

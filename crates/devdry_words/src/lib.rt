@@ -2,8 +2,6 @@
 //!
 //! This is a crate of its own because everything that depends on `clap` is slow to check: the types that the arguments
 //! become are in `engine_ends`, and only the program needs this crate.
-//!
-//! Functions that allocate return `AllocError` when memory runs out.
 #![tactic(auto)]
 
 mod commands;

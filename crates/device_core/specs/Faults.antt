@@ -1,5 +1,6 @@
 -- What is wrong with a line, given the lines above it, and with a block.
-use Rattle.std.specs.Prelude.{ℕ, ◌+◌, Bool, false, not, ◌&&◌, ◌||◌, List, [], ◌∷◌, ◌++◌, length, position, ◌==◌, nat_le, Option, Some, None, Result, Ok, Err, if◌then◌else◌, is_some, is_none}
+use Rattle.std.specs.Prelude.{ℕ, ◌+◌, Bool, false, not, ◌&&◌, ◌||◌, List, [], ◌∷◌, ◌++◌, length, position, ◌==◌}
+use Rattle.std.specs.Prelude.{nat_le, Option, Some, None, Result, Ok, Err, if◌then◌else◌, is_some, is_none}
 use Rattle.std.specs.Option.{option_to_list}
 use Rattle.text_bytes.specs.Names.{nul}
 use Rattle.text_bytes.specs.Texts.{is_empty, last}

@@ -1,5 +1,6 @@
 -- What the rest of a line says: two parts, numbers, answers and paths.
-use Rattle.std.specs.Prelude.{ℕ, ◌^◌, Bool, true, false, not, ◌&&◌, [], ◌∷◌, ◌++◌, length, ◌==◌, nat_le, Option, Some, None, option_map, if◌then◌else◌, nat_eq, is_some}
+use Rattle.std.specs.Prelude.{ℕ, ◌^◌, Bool, true, false, not, ◌&&◌, [], ◌∷◌, ◌++◌, length, ◌==◌, nat_le}
+use Rattle.std.specs.Prelude.{Option, Some, None, option_map, if◌then◌else◌, nat_eq, is_some}
 use Rattle.std.specs.Option.{option_and_then}
 use Rattle.std.specs.List.{starts_with}
 use Rattle.text_bytes.specs.Names.{slash, colon, equals, space}

@@ -57,7 +57,17 @@ impl<'a> Model for Device<'a> {
 
     ghost Value = { DeviceValue };
 
-    ghost view = { λ d. record { path = d.path.now; subsystem = option_map (λ t. t.now) d.subsystem; driver = option_map (λ t. t.now) d.driver; node = option_map (λ t. t.now) d.node; number = d.number; attrs = d.attrs; env = d.env; tags = d.tags; links = d.links } };
+    ghost view = { λ d. record {
+      path = d.path.now;
+      subsystem = option_map (λ t. t.now) d.subsystem;
+      driver = option_map (λ t. t.now) d.driver;
+      node = option_map (λ t. t.now) d.node;
+      number = d.number;
+      attrs = d.attrs;
+      env = d.env;
+      tags = d.tags;
+      links = d.links;
+    } };
 }
 
 impl<'a> Device<'a> {

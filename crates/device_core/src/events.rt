@@ -28,7 +28,14 @@ impl<'a> Model for Event<'a> {
 
     ghost Value = { EventValue };
 
-    ghost view = { λ e. record { action = e.action.now; device = e.device; parents = e.parents.items; programs = e.programs; constants = e.constants; profile = e.profile } };
+    ghost view = { λ e. record {
+      action = e.action.now;
+      device = e.device;
+      parents = e.parents.items;
+      programs = e.programs;
+      constants = e.constants;
+      profile = e.profile;
+    } };
 
     ghost invariant = { λ e. length e.parents.items < most_devices };
 }

@@ -63,7 +63,8 @@ fn scan(pending: &[u8], room: usize, begins: bool, piece: &[u8]) -> Scanned
     ensures len { length pending.now + (result.end - result.start) ≤ room }
     ensures used { used_by result.stop result.end ≤ length piece.now }
     ensures before { (n : ℕ) → n < used_by result.stop result.end → complete_runs (pending.now ++ take n piece.now) ≡ [] }
-    ensures scans { FillsBy result.stop pending.now piece.now (used_by result.stop result.end) result.at_start (pending.now ++ taken piece.now result.start result.end) room }
+    ensures scans { FillsBy result.stop pending.now piece.now (used_by result.stop result.end) result.at_start (pending.now
+        ++ taken piece.now result.start result.end) room }
 {
     let mut start = 0;
     let mut end = 0;

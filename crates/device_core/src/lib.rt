@@ -1,6 +1,4 @@
 //! Events and their devices: cuts the input of events into blocks in bounded memory, and reads a block as an event.
-//!
-//! Functions that allocate return `AllocError` when memory runs out.
 #![tactic(auto)]
 
 mod devices;

@@ -6,7 +6,8 @@ ghost use Rattle.device_core.specs.Values.{most_devices};
 ghost use Rattle.device_core.specs.Lines.{begins_answer};
 ghost use Rattle.device_core.specs.RunBlocks.{line_of_excess, most_bytes};
 ghost use Rattle.device_core.specs.Faults.{block_gives, has_nul};
-ghost use Rattle.device_core.specs.Steps.{Gives, GivesAt, HaveNoNul, sofar, nothing_read, first_step, line_step, steps, some_devices, finished_event, read_lines};
+ghost use Rattle.device_core.specs.Steps.{Gives, GivesAt, HaveNoNul, sofar, nothing_read, first_step};
+ghost use Rattle.device_core.specs.Steps.{line_step, steps, some_devices, finished_event, read_lines};
 
 use crate::devices::Device;
 use crate::draft::{Draft, add_row, close_last, new_draft};

@@ -3,7 +3,8 @@ ghost use Rattle.std.specs.Prelude.{◌≡◌, ◌++◌, ◌∷◌, [], IfOk, On
 ghost use Rattle.eval_effects.specs.Items.{watch_word};
 ghost use Rattle.engine_answers.specs.Answers.{lines_after};
 ghost use Rattle.engine_answers.specs.Inner.{lines_as_is, shown_count};
-ghost use Rattle.engine_answers.specs.Items.{env_lines, given_lines, item_lines, label_lines, member_lines, node_lines, persist_lines, priority_lines, value_lines, watch_lines};
+ghost use Rattle.engine_answers.specs.Items.{env_lines, given_lines, item_lines, label_lines, member_lines, node_lines};
+ghost use Rattle.engine_answers.specs.Items.{persist_lines, priority_lines, value_lines, watch_lines};
 
 use crate::front::Front;
 use crate::lines::{is_hidden, push_as_is, push_bare, push_line, push_pair, push_text};

@@ -4,8 +4,6 @@
 //! that no text can be taken for a line. The lines about items and of commands can each have in front of them which rule
 //! they come from. What rules ask and the event's block does not answer is written as lines that can be filled in and put
 //! into the block.
-//!
-//! Functions that allocate return `AllocError` when memory runs out.
 #![tactic(auto)]
 
 mod answers;

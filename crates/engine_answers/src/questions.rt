@@ -2,9 +2,9 @@
 ghost use Rattle.std.specs.Prelude.{◌≡◌, ◌++◌, IfOk, OnOk};
 ghost use Rattle.engine_answers.specs.Questions.{question_answer, question_line, question_lines};
 
+use crate::lines::push_event;
 use builtin_devices::Knowledge;
 use device_core::Event;
-use crate::lines::push_event;
 use eval_courses::questions;
 use rule_types::RuleSet;
 use std::alloc::{AllocError, Global};

@@ -4,8 +4,6 @@
 //! lints with these codes are neither printed nor counted. If the word `comments` is among them, comments in the files
 //! can name codes too. The report is assembled as diagnostics, file by file, and written in the format that was
 //! asked for.
-//!
-//! Functions that allocate return `AllocError` when memory runs out.
 #![tactic(auto)]
 
 mod asked;

@@ -2,8 +2,6 @@
 //! over files and an index in memory and an input.
 //!
 //! Like `engine_core` with its `serve`, this crate opens no file and knows no terminal.
-//!
-//! Functions that allocate return `AllocError` when memory runs out.
 #![tactic(auto)]
 
 mod answers;

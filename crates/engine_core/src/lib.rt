@@ -4,8 +4,6 @@
 //! This crate opens no file and knows no terminal: files and index are bytes, the input is a source and the outputs
 //! are sinks, so that the contract of `serve` can say what is written, to the byte. Reports on files are built by
 //! the crates below; this one takes `events` from its messages to its answers.
-//!
-//! Functions that allocate return `AllocError` when memory runs out.
 #![tactic(auto)]
 
 mod asked;

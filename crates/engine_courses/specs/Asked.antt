@@ -1,5 +1,6 @@
 -- Which rules the texts of `--why` ask for, and what is said about a text that asks for none.
-use Rattle.std.specs.Prelude.{ℕ, Bool, true, false, not, ◌==◌, ◌||◌, ◌&&◌, List, [], ◌∷◌, ◌++◌, map, filter, find, codes, decimal, Option, Some, None, option_map}
+use Rattle.std.specs.Prelude.{ℕ, Bool, true, false, not, ◌==◌, ◌||◌, ◌&&◌, List, [], ◌∷◌, ◌++◌, map}
+use Rattle.std.specs.Prelude.{filter, find, codes, decimal, Option, Some, None, option_map}
 use Rattle.std.specs.List.{list_any}
 use Rattle.text_bytes.specs.Escapes.{escape_text}
 use Rattle.text_bytes.specs.Names.{colon, newline}

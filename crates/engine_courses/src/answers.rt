@@ -52,11 +52,5 @@ pub fn push_why_lines<K: Knowledge>(
         (K.known knowledge.now) event.now) }
 {
     push_unread_lines(alloc, lines, why, rules.messages(), rules.rules().rules())?;
-    lines.extend_from_slice(&reported_lines(
-        alloc,
-        why,
-        rules.rules().rules(),
-        event,
-        knowledge,
-    )?)
+    lines.extend_from_slice(&reported_lines(alloc, why, rules.rules().rules(), event, knowledge)?)
 }

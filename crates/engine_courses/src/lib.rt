@@ -4,8 +4,6 @@
 //! event. The answer to an event is followed by lines on the rules that were asked for: why a line is not a rule,
 //! which rule's GOTO skips a rule, or what each of its keys found. For these lines the rules are evaluated again, while
 //! something watches them.
-//!
-//! Functions that allocate return `AllocError` when memory runs out.
 #![tactic(auto)]
 
 mod answers;

@@ -129,7 +129,8 @@ impl<'w, 't, 'a> Reporter<'w, 't, 'a> {
 
     /// Passes a rule over.
     fn pass(&mut self, alloc: Global, rule: &'a Rule) -> Result<(), AllocError>
-        ensures { OnOk result (self.new ≡ record (self.old) { lines = self.old.lines ++ flat_map rule_lines (reported_if_asked self.old.why rule.now (passed_texts self.old.jumping)) }) }
+        ensures { OnOk result (self.new
+            ≡ record (self.old) { lines = self.old.lines ++ flat_map rule_lines (reported_if_asked self.old.why rule.now (passed_texts self.old.jumping)) }) }
     {
         report_passed(alloc, &mut self.lines, self.why, self.jumping, rule)
     }

@@ -1,8 +1,6 @@
 //! The two ends of a run: what a command line asks for, and the streams for input and output.
 //!
 //! This crate also writes what a run says, with the status that results, and shows places and words in messages.
-//!
-//! Functions that allocate return `AllocError` when memory runs out.
 #![tactic(auto)]
 
 mod delivery;

@@ -2,8 +2,6 @@
 //!
 //! A diagnostic is made from a message about a file and the place that the message is about. The whole report is built
 //! as one text before any of it is written.
-//!
-//! Functions that allocate return `AllocError` when memory runs out.
 #![tactic(auto)]
 
 mod advice;

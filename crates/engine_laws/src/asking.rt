@@ -16,6 +16,8 @@ ghost use Rattle.engine_sessions.specs.Sessions.{answers_as};
 /// Without `--questions`, `--sources` and `--why` events get the answers by rules and entries, over which rules are
 /// evaluated by the line's profile, and nothing is said before them but the messages.
 pub fn a_line_that_asks_for_no_more_gets_the_answers_alone()
-    ensures answers { (line : Line) (opened : OpeningValue) → line.questions ≡ false → line.sources ≡ false → vec_len line.why ≡ 0 → answer_with line opened ≡ answers_as line.profile (answer_by opened.rules (known_by opened.entries)) }
-    ensures opening { (line : Line) (files : List SourceFile) (index : Option (Result Contents IndexFault)) → vec_len line.why ≡ 0 → before_input Events line files index ≡ opening line files index }
+    ensures answers { (line : Line) (opened : OpeningValue) → line.questions ≡ false → line.sources ≡ false → vec_len line.why ≡ 0
+        → answer_with line opened ≡ answers_as line.profile (answer_by opened.rules (known_by opened.entries)) }
+    ensures opening { (line : Line) (files : List SourceFile) (index : Option (Result Contents IndexFault)) → vec_len line.why ≡ 0
+        → before_input Events line files index ≡ opening line files index }
 {}

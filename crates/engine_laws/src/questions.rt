@@ -27,7 +27,8 @@ ghost use Rattle.eval_courses.specs.Questions.{act_asks, can_be_asked, questions
 /// No command is asked that the event's block answers, and none that no line of a block can have.
 #[tactic(auto, using(crate::proofs::Unanswered::all_unanswered))]
 pub fn no_answered_command_is_asked()
-    ensures { (read : List rules.Rule) (known : Known) (event : EventValue) → list_all (λ command. is_none (value_of event.programs command) && can_be_asked command) (questions read known event) ≡ true }
+    ensures { (read : List rules.Rule) (known : Known) (event : EventValue)
+        → list_all (λ command. is_none (value_of event.programs command) && can_be_asked command) (questions read known event) ≡ true }
 {}
 
 /// No command is asked twice.
@@ -39,15 +40,19 @@ pub fn each_command_is_asked_once()
 /// Rules without PROGRAM and IMPORT ask nothing.
 #[tactic(auto, using(crate::proofs::Unanswered::nothing_asked))]
 pub fn rules_without_programs_ask_nothing()
-    ensures { (read : List rules.Rule) (known : Known) (event : EventValue) → list_all (λ r. not (list_any (λ act. act_kind_counts act.kind) r.acts)) read ≡ true → questions read known event ≡ [] }
+    ensures { (read : List rules.Rule) (known : Known) (event : EventValue)
+        → list_all (λ r. not (list_any (λ act. act_kind_counts act.kind) r.acts)) read ≡ true → questions read known event ≡ [] }
 {}
 
 /// The notes of a PROGRAM that its command has no answer are those of the commands that it looks up and the block does
 /// not answer. Of udev's IMPORT{program} it is the same.
 #[tactic(auto, using(crate::proofs::Noting::program_noted, crate::proofs::Noting::import_noted))]
 pub fn programs_ask_where_they_have_no_answer()
-    ensures program { (known : Known) (r : rules.Rule) (act : Act) (template : templates.Parts) (s : Scene) → act.kind ≡ act_kind.Program template → filter is_no_answer (act_step known r act s).0.notes ≡ filter is_no_answer s.notes ++ map (note_about r NoAnswer) (act_asks act.kind s.state) }
-    ensures imported { (known : Known) (r : rules.Rule) (act : Act) (template : templates.Parts) (s : Scene) → act.kind ≡ act_kind.Import (import.Program template) → s.state.event.profile ≡ Udev → filter is_no_answer (act_step known r act s).0.notes ≡ filter is_no_answer s.notes ++ map (note_about r NoAnswer) (act_asks act.kind s.state) }
+    ensures program { (known : Known) (r : rules.Rule) (act : Act) (template : templates.Parts) (s : Scene) → act.kind ≡ act_kind.Program template
+        → filter is_no_answer (act_step known r act s).0.notes ≡ filter is_no_answer s.notes ++ map (note_about r NoAnswer) (act_asks act.kind s.state) }
+    ensures imported { (known : Known) (r : rules.Rule) (act : Act) (template : templates.Parts) (s : Scene)
+        → act.kind ≡ act_kind.Import (import.Program template) → s.state.event.profile ≡ Udev
+        → filter is_no_answer (act_step known r act s).0.notes ≡ filter is_no_answer s.notes ++ map (note_about r NoAnswer) (act_asks act.kind s.state) }
 {}
 
 /// A command can be asked just where a block that asks and answers it has that answer under it. So every command that any
@@ -62,5 +67,6 @@ pub fn filled_in_questions_are_answers()
 /// each time that they do.
 #[tactic(auto, using(crate::proofs::Saying::asked_is_noted))]
 pub fn rules_ask_what_their_notes_say()
-    ensures { (read : List rules.Rule) (known : Known) (event : EventValue) → event.profile ≡ Manual → map (λ note. note.word) (filter is_no_answer (outcome read known event).notes) ≡ map word_of (rules_ask known None read (start event)) }
+    ensures { (read : List rules.Rule) (known : Known) (event : EventValue) → event.profile ≡ Manual
+        → map (λ note. note.word) (filter is_no_answer (outcome read known event).notes) ≡ map word_of (rules_ask known None read (start event)) }
 {}

@@ -18,16 +18,20 @@ ghost use Rattle.engine_answers.specs.Answers.{answer_lines, lines_by};
 /// Taking the sources away gives the answer: with nothing before any line, the lines are those of the
 /// answer, each once and in their order.
 pub fn without_their_sources_the_lines_are_the_answer()
-    ensures { (rules : List Rule) (known : Known) (event : EventValue) → lines_by (λ source. []) rules known event ≡ answer_lines event (outcome rules known event) }
+    ensures { (rules : List Rule) (known : Known) (event : EventValue)
+        → lines_by (λ source. []) rules known event ≡ answer_lines event (outcome rules known event) }
 {}
 
 /// An item comes from a rule if and only if it is there at the end and was not there like this at all stages from
 /// the start on.
 pub fn what_was_there_from_the_start_comes_from_no_rule()
-    ensures { (rules : List Rule) (known : Known) (event : EventValue) (item : Pair) → is_some (source_of (stages rules known event) item) ≡ (is_present item (items (run_all known rules (start event))) && not (is_present_throughout item (stages rules known event))) }
+    ensures { (rules : List Rule) (known : Known) (event : EventValue) (item : Pair)
+        → is_some (source_of (stages rules known event) item)
+        ≡ (is_present item (items (run_all known rules (start event))) && not (is_present_throughout item (stages rules known event))) }
 {}
 
 /// An item comes from a stage if it is there at this stage and all later ones, and not at the stage before.
 pub fn an_item_comes_from_the_stage_since_which_it_is_there()
-    ensures { (before later : List Stage) (last stage : Stage) (item : Pair) → is_present item last.1 ≡ false → is_present_throughout item (stage ∷ later) ≡ true → source_of (before ++ last ∷ stage ∷ later) item ≡ stage.0 }
+    ensures { (before later : List Stage) (last stage : Stage) (item : Pair) → is_present item last.1 ≡ false
+        → is_present_throughout item (stage ∷ later) ≡ true → source_of (before ++ last ∷ stage ∷ later) item ≡ stage.0 }
 {}

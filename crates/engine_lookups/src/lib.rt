@@ -3,8 +3,6 @@
 //! This crate uses the reports, which say how a modalias is answered, and the sessions, which say what a run over an input
 //! serves. Nothing of a line is kept after its answer, and nothing more is read after more than 65,536 bytes of one that has
 //! not ended.
-//!
-//! Functions that allocate return `AllocError` when memory runs out.
 #![tactic(auto)]
 
 mod answers;

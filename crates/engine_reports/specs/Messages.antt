@@ -4,7 +4,14 @@ use Rattle.text_bytes.specs.Names.{newline}
 use Rattle.engine_ends.specs.Places.{place_of, word_part}
 use Rattle.file_messages.specs.declared.message.Message.{Message}
 use Rattle.file_messages.specs.declared.message.MessageKind.{MessageKind}
-use Rattle.file_messages.specs.declared.message.MessageKind.TheVariants.{PropertyWithoutMatch, MatchWithoutProperty, UnindentedLine, NoEquals, EmptyKey, PatternNotSupported, BadSyntax, UnknownKey, OperatorNotAllowed, WrongAttribute, BadValue, BadSubstitution, NoLaterLabel, GivenTwice, LineTooLong, BadPrefix, SetNotSupported, OpenAtEnd, ReservedProperty, NameWithoutEffect, UnknownBuiltin, MatchesExclude, SaidTwice, RuleWithoutEffect, ResultBeforeProgram, EmptyValue, BadAttributeSubstitution, AttributeElsewhere, OldSubsystemName, AssignExpected, UnknownAccount, FileAbandoned, CommaExpected, BlankExpected, ReadAsAssign, LabelUnused, LeadingComma, BlankBeforeComma}
+use Rattle.file_messages.specs.declared.message.MessageKind.TheVariants.{PropertyWithoutMatch, MatchWithoutProperty, UnindentedLine, NoEquals, EmptyKey}
+use Rattle.file_messages.specs.declared.message.MessageKind.TheVariants.{PatternNotSupported, BadSyntax, UnknownKey, OperatorNotAllowed, WrongAttribute}
+use Rattle.file_messages.specs.declared.message.MessageKind.TheVariants.{BadValue, BadSubstitution, NoLaterLabel, GivenTwice, LineTooLong}
+use Rattle.file_messages.specs.declared.message.MessageKind.TheVariants.{BadPrefix, SetNotSupported, OpenAtEnd, ReservedProperty, NameWithoutEffect}
+use Rattle.file_messages.specs.declared.message.MessageKind.TheVariants.{UnknownBuiltin, MatchesExclude, SaidTwice, RuleWithoutEffect, ResultBeforeProgram}
+use Rattle.file_messages.specs.declared.message.MessageKind.TheVariants.{EmptyValue, BadAttributeSubstitution, AttributeElsewhere, OldSubsystemName}
+use Rattle.file_messages.specs.declared.message.MessageKind.TheVariants.{AssignExpected, UnknownAccount, FileAbandoned, CommaExpected}
+use Rattle.file_messages.specs.declared.message.MessageKind.TheVariants.{BlankExpected, ReadAsAssign, LabelUnused, LeadingComma, BlankBeforeComma}
 
 -- the code of a kind of message, and what it says
 abbrev pub heading_of : MessageKind → List ℕ

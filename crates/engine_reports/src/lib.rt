@@ -4,8 +4,6 @@
 //! one text for each output, and then written, so that running out of memory never leaves half an answer. For `events`
 //! this is only what comes before the first answer; the answers are made by the crates above, since they need
 //! everything that evaluates rules.
-//!
-//! Functions that allocate return `AllocError` when memory runs out.
 #![tactic(auto)]
 
 mod answers;

@@ -1,6 +1,4 @@
 //! Answers the blocks of an input one by one, and a whole input turn by turn, for any way of answering events.
-//!
-//! Functions that allocate return `AllocError` when memory runs out.
 #![tactic(auto)]
 
 mod answering;

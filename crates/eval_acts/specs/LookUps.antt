@@ -1,5 +1,6 @@
 -- What `hwdb` looks up in the hardware database, and what it finds.
-use Rattle.std.specs.Prelude.{ℕ, Bool, true, not, ◌&&◌, if◌then◌else◌, List, [], ◌∷◌, ◌++◌, take, drop, map, filter, filter_map, find, Option, Some, None, is_some, codes}
+use Rattle.std.specs.Prelude.{ℕ, Bool, true, not, ◌&&◌, if◌then◌else◌, List, [], ◌∷◌, ◌++◌, take, drop}
+use Rattle.std.specs.Prelude.{map, filter, filter_map, find, Option, Some, None, is_some, codes}
 use Rattle.std.specs.List.{position_or_len}
 use Rattle.std.specs.Option.{option_or, unwrap_or}
 use Rattle.text_bytes.specs.declared.profile.Profile.{Profile}

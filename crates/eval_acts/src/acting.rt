@@ -28,7 +28,8 @@ fn test(
     template: &Template,
     scene: &mut Scene<'_>,
 ) -> Result<Option<bool>, AllocError>
-    ensures scene { IfOk result (λ done. (scene.new, done) ≡ on_text (tested rule.now (option_copied mask.entry)) (test_text template.now scene.old.state) scene.old) }
+    ensures scene { IfOk result (λ done. (scene.new, done)
+        ≡ on_text (tested rule.now (option_copied mask.entry)) (test_text template.now scene.old.state) scene.old) }
     ensures refused { OnErr result (scene.new.state.event ≡ scene.old.state.event) }
 {
     match test_text(alloc, template, &scene.state)? {
@@ -47,7 +48,8 @@ fn program(
     template: &Template,
     scene: &mut Scene<'_>,
 ) -> Result<Option<bool>, AllocError>
-    ensures scene { IfOk result (λ done. (scene.new, done) ≡ on_text (answered_by_block rule.now) (program_text template.now scene.old.state) (with_result [] scene.old)) }
+    ensures scene { IfOk result (λ done. (scene.new, done)
+        ≡ on_text (answered_by_block rule.now) (program_text template.now scene.old.state) (with_result [] scene.old)) }
     ensures refused { OnErr result (scene.new.state.event ≡ scene.old.state.event) }
 {
     let text = program_text(alloc, template, &mut scene.state)?;
@@ -66,7 +68,8 @@ fn builtin<K: Knowledge>(
     knowledge: &K,
     scene: &mut Scene<'_>,
 ) -> Result<Option<bool>, AllocError>
-    ensures scene { IfOk result (λ done. (scene.new, done) ≡ on_text (run_builtin (K.known knowledge.now) rule.now) (import_text most_command_bytes template.now scene.old.state) scene.old) }
+    ensures scene { IfOk result (λ done. (scene.new, done)
+        ≡ on_text (run_builtin (K.known knowledge.now) rule.now) (import_text most_command_bytes template.now scene.old.state) scene.old) }
     ensures refused { OnErr result (scene.new.state.event ≡ scene.old.state.event) }
 {
     if let Some(command) = plain_command(template) {
@@ -104,7 +107,8 @@ fn program_answered(
     template: &Template,
     scene: &mut Scene<'_>,
 ) -> Result<Option<bool>, AllocError>
-    ensures scene { IfOk result (λ done. (scene.new, done) ≡ on_text (from_program rule.now) (import_text most_command_bytes template.now scene.old.state) scene.old) }
+    ensures scene { IfOk result (λ done. (scene.new, done)
+        ≡ on_text (from_program rule.now) (import_text most_command_bytes template.now scene.old.state) scene.old) }
     ensures refused { OnErr result (scene.new.state.event ≡ scene.old.state.event) }
 {
     match import_text(alloc, MAX_COMMAND_BYTES, template, &scene.state)? {
@@ -123,7 +127,8 @@ fn file_named(
     template: &Template,
     scene: &mut Scene<'_>,
 ) -> Result<Option<bool>, AllocError>
-    ensures scene { IfOk result (λ done. (scene.new, done) ≡ on_text (λ path. not_run rule.now File) (import_text most_path_bytes template.now scene.old.state) scene.old) }
+    ensures scene { IfOk result (λ done. (scene.new, done)
+        ≡ on_text (λ path. not_run rule.now File) (import_text most_path_bytes template.now scene.old.state) scene.old) }
     ensures refused { OnErr result (scene.new.state.event ≡ scene.old.state.event) }
 {
     match import_text(alloc, MAX_PATH_BYTES, template, &scene.state)? {
@@ -242,7 +247,9 @@ fn act_noted<K: Knowledge>(
     knowledge: &K,
     scene: &mut Scene<'_>,
 ) -> Result<Option<bool>, AllocError>
-    ensures scene { IfOk result (λ done. (scene.new ≡ too_long_noted rule.now act_kind.now done (performed (K.known knowledge.now) rule.now act_kind.now scene.old).0) × (done ≡ (performed (K.known knowledge.now) rule.now act_kind.now scene.old).1)) }
+    ensures scene { IfOk result (λ done. (scene.new
+        ≡ too_long_noted rule.now act_kind.now done (performed (K.known knowledge.now) rule.now act_kind.now scene.old).0)
+        × (done ≡ (performed (K.known knowledge.now) rule.now act_kind.now scene.old).1)) }
     ensures refused { OnErr result (scene.new.state.event ≡ scene.old.state.event) }
 {
     let done = perform(alloc, rule, act_kind, knowledge, scene)?;

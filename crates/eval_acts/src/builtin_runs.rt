@@ -4,7 +4,8 @@ ghost use Rattle.hwdb_lookup.specs.Query.{shown};
 ghost use Rattle.rule_types.specs.Builtins.{builtin_name};
 ghost use Rattle.rule_types.specs.declared.builtins.Builtin.TheVariants.{NetId};
 ghost use Rattle.eval_state.specs.Properties.{properties_set};
-ghost use Rattle.eval_acts.specs.BuiltinRuns.{input_id_run, is_address_name, looked_up, most_set, need_noted, need_word, net_id_run, outcome_set, outcome_taken, path_id_run, properties_size, property_size, usb_id_run, with_maker};
+ghost use Rattle.eval_acts.specs.BuiltinRuns.{input_id_run, is_address_name, looked_up, most_set, need_noted, need_word, net_id_run, outcome_set};
+ghost use Rattle.eval_acts.specs.BuiltinRuns.{outcome_taken, path_id_run, properties_size, property_size, usb_id_run, with_maker};
 
 use crate::imports::set_as_udev;
 use builtin_devices::{BuiltinOutcome, Knowledge};
@@ -214,7 +215,8 @@ fn take_names(
     found: &[(&[u8], &[u8])],
     scene: &mut Scene<'_>,
 ) -> Result<bool, AllocError>
-    ensures scene { IfOk result (λ done. (scene.new, done) ≡ outcome_set rule.now (builtin_name NetId) names.now (with_maker (shown found.now) names.now.properties) scene.old) }
+    ensures scene { IfOk result (λ done. (scene.new, done)
+        ≡ outcome_set rule.now (builtin_name NetId) names.now (with_maker (shown found.now) names.now.properties) scene.old) }
     ensures refused { OnErr result (scene.new.state.event ≡ scene.old.state.event) }
 {
     if !may_be_set(names.properties()) {

@@ -1,7 +1,5 @@
 //! What TEST, PROGRAM and IMPORT do, which builtin a command names with which options, and what a match that is
 //! reached leaves.
-//!
-//! Functions that allocate return `AllocError` when memory runs out.
 #![tactic(auto)]
 
 mod act_texts;

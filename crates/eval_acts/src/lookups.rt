@@ -63,7 +63,8 @@ fn counted<'k>(
     pattern: Option<&Pattern>,
     found: Vec<(&'k [u8], &'k [u8])>,
 ) -> Result<Vec<(&'k [u8], &'k [u8])>, AllocError>
-    ensures { IfOk result (λ kept. shown kept.items ≡ filter (λ property. counts (option_map (λ p. p.now) pattern.entry) property.0) (shown found.entry.items)) }
+    ensures { IfOk result (λ kept. shown kept.items
+        ≡ filter (λ property. counts (option_map (λ p. p.now) pattern.entry) property.0) (shown found.entry.items)) }
 {
     match pattern {
         Some(pattern) => fitting(alloc, pattern, &found),
@@ -109,7 +110,8 @@ fn found_by_manual<'k, K: Knowledge>(
     state: &State<'_>,
     knowledge: &'k K,
 ) -> Result<Vec<(&'k [u8], &'k [u8])>, AllocError>
-    ensures { IfOk result (λ properties. shown properties.items ≡ answer_of (K.known knowledge.now) request.now (modaliases_of request.now.subsystem (candidates_as Profile.Manual state.now))) }
+    ensures { IfOk result (λ properties. shown properties.items
+        ≡ answer_of (K.known knowledge.now) request.now (modaliases_of request.now.subsystem (candidates_as Profile.Manual state.now))) }
 {
     let modaliases = modaliases_of(alloc, request.subsystem, state)?;
     first_answer(alloc, request, &modaliases, knowledge)
@@ -122,7 +124,8 @@ fn found_by_udev<'k, K: Knowledge>(
     state: &State<'_>,
     knowledge: &'k K,
 ) -> Result<Vec<(&'k [u8], &'k [u8])>, AllocError>
-    ensures { IfOk result (λ properties. shown properties.items ≡ answer_of (K.known knowledge.now) request.now (udev_modaliases_of request.now.subsystem (candidates_as Profile.Udev state.now))) }
+    ensures { IfOk result (λ properties. shown properties.items
+        ≡ answer_of (K.known knowledge.now) request.now (udev_modaliases_of request.now.subsystem (candidates_as Profile.Udev state.now))) }
 {
     let devices = candidates(alloc, state)?;
     let modaliases = udev_modaliases_of(alloc, request.subsystem, &devices)?;
@@ -136,7 +139,8 @@ fn found_for_devices<'k, K: Knowledge>(
     state: &State<'_>,
     knowledge: &'k K,
 ) -> Result<Vec<(&'k [u8], &'k [u8])>, AllocError>
-    ensures { IfOk result (λ properties. shown properties.items ≡ answer_of (K.known knowledge.now) request.now (modaliases_by state.now.event.profile request.now.subsystem (candidates state.now))) }
+    ensures { IfOk result (λ properties. shown properties.items
+        ≡ answer_of (K.known knowledge.now) request.now (modaliases_by state.now.event.profile request.now.subsystem (candidates state.now))) }
 {
     match state.event.event().profile() {
         Profile::Manual => found_by_manual(alloc, request, state, knowledge),

@@ -52,7 +52,8 @@ fn is_usb_parent(device: &Device<'_>) -> bool
 
 /// What is taken from the event device, by its properties as they are now.
 fn see_event<'a>(named: Option<&[u8]>, state: &'a State<'_>) -> Seen<'a>
-    ensures modalias { option_map (λ t. t.now) result.modalias ≡ (seen (option_map (λ t. t.now) named.entry) (candidate Manual state.now.event.device state.now.env)).modalias }
+    ensures modalias { option_map (λ t. t.now) result.modalias
+        ≡ (seen (option_map (λ t. t.now) named.entry) (candidate Manual state.now.event.device state.now.env)).modalias }
     ensures is_last { result.is_last ≡ (seen (option_map (λ t. t.now) named.entry) (candidate Manual state.now.event.device state.now.env)).is_last }
 {
     if !is_wanted(named, state.event.device().subsystem()) {
@@ -66,7 +67,8 @@ fn see_event<'a>(named: Option<&[u8]>, state: &'a State<'_>) -> Seen<'a>
 
 /// What is taken from a parent, by its own properties.
 fn see_parent<'a>(named: Option<&[u8]>, device: &'a Device<'_>) -> Seen<'a>
-    ensures modalias { option_map (λ t. t.now) result.modalias ≡ (seen (option_map (λ t. t.now) named.entry) (candidate Manual device.now device.now.env)).modalias }
+    ensures modalias { option_map (λ t. t.now) result.modalias
+        ≡ (seen (option_map (λ t. t.now) named.entry) (candidate Manual device.now device.now.env)).modalias }
     ensures is_last { result.is_last ≡ (seen (option_map (λ t. t.now) named.entry) (candidate Manual device.now device.now.env)).is_last }
 {
     if !is_wanted(named, device.subsystem()) {
@@ -94,7 +96,8 @@ fn with_parents<'a>(
     parents: &'a [Device<'_>],
     mut found: Vec<&'a [u8]>,
 ) -> Result<Vec<&'a [u8]>, AllocError>
-    ensures { IfOk result (λ all. map (λ m. m.now) all.items ≡ map (λ m. m.now) found.entry.items ++ modaliases_of (option_map (λ t. t.now) named.entry) (parents_seen parents.now)) }
+    ensures { IfOk result (λ all. map (λ m. m.now) all.items
+        ≡ map (λ m. m.now) found.entry.items ++ modaliases_of (option_map (λ t. t.now) named.entry) (parents_seen parents.now)) }
 {
     for device in parents {
         let seen = see_parent(named, device);

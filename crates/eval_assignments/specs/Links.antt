@@ -1,5 +1,6 @@
 -- The links in a text, and which of them udev keeps: each as the plain path below `/dev`.
-use Rattle.std.specs.Prelude.{ℕ, Bool, not, ◌==◌, ◌||◌, ◌&&◌, nat_lt, if◌then◌else◌, List, [], ◌∷◌, length, filter, find, flat_map, codes, Option, Some, None, is_none}
+use Rattle.std.specs.Prelude.{ℕ, Bool, not, ◌==◌, ◌||◌, ◌&&◌, nat_lt, if◌then◌else◌, List, [], ◌∷◌}
+use Rattle.std.specs.Prelude.{length, filter, find, flat_map, codes, Option, Some, None, is_none}
 use Rattle.std.specs.List.{list_any, join_with_byte, slice_split}
 use Rattle.text_bytes.specs.Names.{carriage_return, newline, slash, space, tab}
 use Rattle.text_bytes.specs.Texts.{begins_with, is_empty}

@@ -17,8 +17,10 @@ pub fn kept_links_are_plain()
 
 /// A path of such components is a link that udev keeps as it is, also after `/dev/`.
 pub fn plain_paths_are_links()
-    ensures relative { (link : Text) → All (λ component. is_step component ≡ true) (slice_split (λ b. b == slash) link) → All (λ component. is_barred component ≡ false) (slice_split (λ b. b == slash) link) → plain_link link ≡ Some link }
-    ensures absolute { (link : Text) → All (λ component. is_step component ≡ true) (slice_split (λ b. b == slash) link) → All (λ component. is_barred component ≡ false) (slice_split (λ b. b == slash) link) → plain_link (codes "/dev/" ++ link) ≡ Some link }
+    ensures relative { (link : Text) → All (λ component. is_step component ≡ true) (slice_split (λ b. b == slash) link)
+        → All (λ component. is_barred component ≡ false) (slice_split (λ b. b == slash) link) → plain_link link ≡ Some link }
+    ensures absolute { (link : Text) → All (λ component. is_step component ≡ true) (slice_split (λ b. b == slash) link)
+        → All (λ component. is_barred component ≡ false) (slice_split (λ b. b == slash) link) → plain_link (codes "/dev/" ++ link) ≡ Some link }
 {}
 
 /// A mode as it is reported is read as the same mode.

@@ -3,8 +3,6 @@
 //! A definition has one row for each key, and the code one arm; if an arm needs more than a line, it has a function of
 //! its own. Whether a key is final is checked before anything else, so that nothing is rendered for an assignment that
 //! is not made.
-//!
-//! Functions that allocate return `AllocError` when memory runs out.
 #![tactic(auto)]
 
 mod assigning;

@@ -4,7 +4,8 @@ ghost use Rattle.std.specs.List.{join_with_byte, list_any, slice_split};
 ghost use Rattle.std.specs.Option.{option_or};
 ghost use Rattle.text_bytes.specs.Names.{slash};
 ghost use Rattle.text_tables.specs.Texts.{same_text};
-ghost use Rattle.eval_assignments.specs.Links.{after_dev, components, first_refused, is_barred, is_between, is_step, link_noted, links_changed, listed, path_of, plain_link, plain_links, words};
+ghost use Rattle.eval_assignments.specs.Links.{after_dev, components, first_refused, is_barred, is_between, is_step, link_noted};
+ghost use Rattle.eval_assignments.specs.Links.{links_changed, listed, path_of, plain_link, plain_links, words};
 
 use crate::lists::{change, push_name};
 use eval_state::{NoteKind, Scene};
@@ -167,7 +168,8 @@ impl<'a> Links<'a> {
     /// Takes one word more.
     fn take(&mut self, alloc: Global, word: &'a [u8]) -> Result<(), AllocError>
         ensures kept { OnOk result (self.new.kept.items ≡ self.old.kept.items ++ listed (plain_link word.now)) }
-        ensures refused { OnOk result (option_map (λ t. t.now) self.new.refused ≡ option_or (option_map (λ t. t.now) self.old.refused) (first_refused (word.now ∷ []))) }
+        ensures refused { OnOk result (option_map (λ t. t.now) self.new.refused
+            ≡ option_or (option_map (λ t. t.now) self.old.refused) (first_refused (word.now ∷ []))) }
     {
         match plain_link(alloc, word)? {
             Some(link) => self.kept.push(link)?,

@@ -2,7 +2,8 @@
 ghost use Rattle.std.specs.Prelude.{◌≡◌, ◌∷◌, ◌++◌, OnOk, OnErr, IfOk, option_map};
 ghost use Rattle.text_bytes.specs.Names.{space};
 ghost use Rattle.eval_rendering.specs.Bounds.{short};
-ghost use Rattle.eval_assignments.specs.Properties.{appended, env_text, extended, property_added, property_changed, property_extended, property_joined, property_put, udev_property_changed, unslashed_byte};
+ghost use Rattle.eval_assignments.specs.Properties.{appended, env_text, extended, property_added, property_changed, property_extended};
+ghost use Rattle.eval_assignments.specs.Properties.{property_joined, property_put, udev_property_changed, unslashed_byte};
 
 use crate::escapes::{Escape, with_underscores};
 use eval_rendering::{MAX_BYTES, MAX_VALUE_BYTES, link_safe};

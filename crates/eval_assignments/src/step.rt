@@ -2,7 +2,8 @@
 ghost use Rattle.std.specs.Prelude.{◌≡◌, OnOk, OnErr, option_copied, fold};
 ghost use Rattle.eval_state.specs.Scenes.{blank};
 ghost use Rattle.eval_assignments.specs.Escapes.{escape_of};
-ghost use Rattle.eval_assignments.specs.Steps.{emptied, finally_too_long, is_ignored, is_of_node, lacks_number, run_step, set_step, step_by, text_given, text_rendered, text_set, text_step, without_links};
+ghost use Rattle.eval_assignments.specs.Steps.{emptied, finally_too_long, is_ignored, is_of_node, lacks_number, run_step, set_step};
+ghost use Rattle.eval_assignments.specs.Steps.{step_by, text_given, text_rendered, text_set, text_step, without_links};
 
 use crate::assigning::assign;
 use crate::bounds::most_bytes_of;

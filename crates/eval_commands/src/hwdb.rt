@@ -133,7 +133,8 @@ pub(crate) fn pattern_of(
     alloc: Global,
     text: Option<&[u8]>,
 ) -> Result<Option<Option<Pattern>>, AllocError>
-    ensures { IfOk result (λ found. found ≡ (if is_bad_filter (option_map (λ t. t.now) text.entry) then None else Some (option_and_then pattern_of (option_map (λ t. t.now) text.entry)))) }
+    ensures { IfOk result (λ found. found
+        ≡ (if is_bad_filter (option_map (λ t. t.now) text.entry) then None else Some (option_and_then pattern_of (option_map (λ t. t.now) text.entry)))) }
 {
     let Some(text) = text else {
         return Ok(Some(None));

@@ -1,6 +1,4 @@
 //! What the command of an IMPORT{builtin} asks for: its words, the builtin that it names, and the options of `hwdb`.
-//!
-//! Functions that allocate return `AllocError` when memory runs out.
 #![tactic(auto)]
 
 mod builtin;

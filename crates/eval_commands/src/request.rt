@@ -30,7 +30,12 @@ impl<'a> Model for Request<'a> {
 
     ghost Value = { Hwdb };
 
-    ghost view = { λ r. record { subsystem = option_map (λ t. t.now) r.subsystem; prefix = r.prefix.now; filter = option_map (λ p. p.now) r.filter; modalias = option_map (λ t. t.now) r.modalias } };
+    ghost view = { λ r. record {
+      subsystem = option_map (λ t. t.now) r.subsystem;
+      prefix = r.prefix.now;
+      filter = option_map (λ p. p.now) r.filter;
+      modalias = option_map (λ t. t.now) r.modalias;
+    } };
 }
 
 impl<'a> Request<'a> {

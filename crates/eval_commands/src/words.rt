@@ -2,7 +2,8 @@
 //!
 //! A command is read byte by byte, since a quote may open and close inside a word.
 ghost use Rattle.std.specs.Prelude.{◌≡◌, IfOk, OnOk, option_map};
-ghost use Rattle.eval_commands.specs.Words.{added, begun, closed, command_words, ended, finished_words, is_quote, quoted, separates, unread_command, took, udev_words};
+ghost use Rattle.eval_commands.specs.Words.{added, begun, closed, command_words, ended, finished_words, is_quote};
+ghost use Rattle.eval_commands.specs.Words.{quoted, separates, unread_command, took, udev_words};
 
 use rule_templates::is_separator;
 use std::alloc::{AllocError, Global};

@@ -5,7 +5,8 @@
 //! the event has something other than one text, and those that search for a device with something that no device of
 //! the chain has. For an event by udev's profile nothing is foretold: there each rule is looked at.
 ghost use Rattle.std.specs.Prelude.{◌≡◌, map, IfOk};
-ghost use Rattle.eval_core.specs.Courses.{checked_course, course_after, course_of, guard_in, guarded, last_mark, part_mark, predicted, predicted_by, search_in, searched, thing_of, told, told_by, unequal_check};
+ghost use Rattle.eval_core.specs.Courses.{checked_course, course_after, course_of, guard_in, guarded, last_mark, part_mark, predicted};
+ghost use Rattle.eval_core.specs.Courses.{predicted_by, search_in, searched, thing_of, told, told_by, unequal_check};
 
 use crate::actions::{ByAction, by_action, has_no_more};
 use crate::checks::{Check, check_of, choice_check};

@@ -13,8 +13,6 @@
 //! what the event says about its devices; a text with another sketch or first byte does not fit; and a device without
 //! the mark does not meet the match. If two things have the same sketch or mark, the rule is evaluated, and so is every
 //! rule under udev's profile.
-//!
-//! Functions that allocate return `AllocError` when memory runs out.
 #![tactic(auto)]
 
 mod actions;

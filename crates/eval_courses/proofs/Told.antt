@@ -20,13 +20,13 @@ use Rattle.eval_courses.specs.Upward.{search_reports}
 use Rattle.eval_courses.proofs.Gathering.{keys_gather, seen}
 
 module _ {W : Type 0} (tell : Telling W) (held : List Text → W) (known : Known) (since : Since) (r : Rule)
-         (meet : (part : PlainMatch) (s : Scene) (texts : List Text) → tell (held texts) (meeting r part) s ≡ held (texts ++ plain_report part s.state ∷ []))
-         (find : (s : Scene) (texts : List Text) → tell (held texts) (searching r) s ≡ held (texts ++ search_reports r.up s.state))
-         (act : (act : Act) (s : Scene) (texts : List Text) → tell (held texts) (acted r act (act_step known r act s)) s ≡ held (texts ++ act_report known r act s ∷ []))
-         (compare : (part : Comparison) (s : Scene) (texts : List Text) → tell (held texts) (comparing r part) s ≡ held (texts ++ result_report part s.state ∷ []))
-         (stop : (s : Scene) (texts : List Text) → tell (held texts) (stopped r) s ≡ held (texts ++ codes "stops there" ∷ []))
-         (skip : (s : Scene) (texts : List Text) → tell (held texts) (skipped r) s ≡ held (texts ++ codes "nothing in it counts for this device" ∷ []))
-         (assign : (s : Scene) (texts : List Text) → tell (held texts) (assigned r (set_all r s).0) s ≡ held (texts ++ ending since r s ∷ [])) where
+    (meet : (part : PlainMatch) (s : Scene) (texts : List Text) → tell (held texts) (meeting r part) s ≡ held (texts ++ plain_report part s.state ∷ []))
+    (find : (s : Scene) (texts : List Text) → tell (held texts) (searching r) s ≡ held (texts ++ search_reports r.up s.state))
+    (act : (act : Act) (s : Scene) (texts : List Text) → tell (held texts) (acted r act (act_step known r act s)) s ≡ held (texts ++ act_report known r act s ∷ []))
+    (compare : (part : Comparison) (s : Scene) (texts : List Text) → tell (held texts) (comparing r part) s ≡ held (texts ++ result_report part s.state ∷ []))
+    (stop : (s : Scene) (texts : List Text) → tell (held texts) (stopped r) s ≡ held (texts ++ codes "stops there" ∷ []))
+    (skip : (s : Scene) (texts : List Text) → tell (held texts) (skipped r) s ≡ held (texts ++ codes "nothing in it counts for this device" ∷ []))
+    (assign : (s : Scene) (texts : List Text) → tell (held texts) (assigned r (set_all r s).0) s ≡ held (texts ++ ending since r s ∷ [])) where
   keys_are : (s : Scene) (texts : List Text) → keys_watched tell known r (s, held texts) ≡ seen tell held (before_sets known r s) (texts ++ key_reports known r s)
   unfolding key_reports
   keys_are s texts =

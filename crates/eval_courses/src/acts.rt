@@ -9,7 +9,8 @@ ghost use Rattle.eval_acts.specs.ActTexts.{import_text, names_text, program_text
 ghost use Rattle.eval_acts.specs.Acts.{act_step};
 ghost use Rattle.text_bytes.specs.Names.{space};
 ghost use Rattle.eval_effects.specs.Shown.{shown};
-ghost use Rattle.eval_courses.specs.Acts.{act_kind_report, act_report, answer_report, asks_elsewhere, import_report, on_rendered, parent_report, path_report, printed_report, program_import_report, taken_report, unrun_report};
+ghost use Rattle.eval_courses.specs.Acts.{act_kind_report, act_report, answer_report, asks_elsewhere, import_report, on_rendered, parent_report};
+ghost use Rattle.eval_courses.specs.Acts.{path_report, printed_report, program_import_report, taken_report, unrun_report};
 ghost use Rattle.eval_courses.specs.Inner.{done_report, report_after};
 ghost use Rattle.eval_courses.specs.Keys.{act_key};
 ghost use Rattle.eval_courses.specs.Looks.{met};
@@ -87,7 +88,8 @@ fn program_report(
     template: &Template,
     state: &mut State<'_>,
 ) -> Result<Bytes, AllocError>
-    ensures text { IfOk result (λ text. text ≡ on_rendered (λ command. answer_report command (value_of state.old.event.programs command)) (program_text template.now state.old)) }
+    ensures text { IfOk result (λ text. text
+        ≡ on_rendered (λ command. answer_report command (value_of state.old.event.programs command)) (program_text template.now state.old)) }
     ensures kept { state.new ≡ state.old }
 {
     match program_text(alloc, template, state)? {
@@ -136,7 +138,8 @@ fn names_report_before(
     value: &[u8],
     state: &State<'_>,
 ) -> Result<ReportBefore, AllocError>
-    ensures { IfOk result (λ o. (env : List Pair) → report_after o env ≡ on_rendered (λ names. taken_report state.now.env env) (names_text value.now state.now)) }
+    ensures { IfOk result (λ o. (env : List Pair)
+        → report_after o env ≡ on_rendered (λ names. taken_report state.now.env env) (names_text value.now state.now)) }
 {
     match names_text(alloc, value, state)? {
         Rendered::Text(_) => taking(alloc, state),
@@ -164,7 +167,8 @@ fn printed_report_before(
     command: &[u8],
     state: &State<'_>,
 ) -> Result<ReportBefore, AllocError>
-    ensures { IfOk result (λ o. (env : List Pair) → report_after o env ≡ printed_report command.now (value_of state.now.event.programs command.now) state.now.env env) }
+    ensures { IfOk result (λ o. (env : List Pair)
+        → report_after o env ≡ printed_report command.now (value_of state.now.event.programs command.now) state.now.env env) }
 {
     match answer_to(state, command) {
         Some(answer) => Ok(ReportBefore::Taking(
@@ -322,7 +326,8 @@ fn report_done<K: Knowledge>(
     texts: &mut Vec<Bytes>,
 ) -> Result<bool, AllocError>
     ensures scene { IfOk result (λ on. (scene.new, on) ≡ act_step (K.known knowledge.now) rule.now act.now scene.old) }
-    ensures text { OnOk result (texts.new.items ≡ texts.old.items ++ done_report act.now before.now (act_step (K.known knowledge.now) rule.now act.now scene.old) ∷ []) }
+    ensures text { OnOk result (texts.new.items
+        ≡ texts.old.items ++ done_report act.now before.now (act_step (K.known knowledge.now) rule.now act.now scene.old) ∷ []) }
     ensures event { scene.new.state.event ≡ scene.old.state.event }
 {
     let proceeds = act_step(alloc, rule, act, knowledge, scene)?;

@@ -1,6 +1,7 @@
 //! How a key of a rule is written.
 ghost use Rattle.std.specs.Prelude.{◌≡◌, ◌++◌, OnOk};
-ghost use Rattle.eval_courses.specs.Keys.{act_key, case_mark, comparison_text, operator_text, plain_key, result_key, up_key, value_of_act_kind, value_of_import, wanted_text};
+ghost use Rattle.eval_courses.specs.Keys.{act_key, case_mark, comparison_text, operator_text, plain_key, result_key};
+ghost use Rattle.eval_courses.specs.Keys.{up_key, value_of_act_kind, value_of_import, wanted_text};
 
 use eval_effects::{push_key, push_shortened};
 use rule_types::{Act, ActKind, Comparison, Import, Key, MatchOperator, PlainMatch, UpMatch};

@@ -17,20 +17,24 @@ ghost use Rattle.eval_courses.specs.Laws.{last_of};
 /// The last text of a course is `stops there` exactly if the rule's end was not reached, unless the rule is
 /// skipped.
 pub fn course_ends_as_its_rule()
-    ensures { (known : Known) (since : finals.Since) (r : rules.Rule) (s : Scene) → is_idle r s.state.event ≡ false → (last_of (course known since r s) ≡ Some (codes "stops there")) ↔ ((apply known r s).1 ≡ false) }
+    ensures { (known : Known) (since : finals.Since) (r : rules.Rule) (s : Scene) → is_idle r s.state.event ≡ false
+        → (last_of (course known since r s) ≡ Some (codes "stops there")) ↔ ((apply known r s).1 ≡ false) }
 {}
 
 /// The last text of the course of a rule that is skipped says so exactly if all its keys let it go on.
 pub fn course_says_what_is_skipped()
-    ensures { (known : Known) (since : finals.Since) (r : rules.Rule) (s : Scene) → is_idle r s.state.event ≡ true → (last_of (course known since r s) ≡ Some (codes "nothing in it counts for this device")) ↔ ((before_sets known r s).1 ≡ true) }
+    ensures { (known : Known) (since : finals.Since) (r : rules.Rule) (s : Scene) → is_idle r s.state.event ≡ true
+        → (last_of (course known since r s) ≡ Some (codes "nothing in it counts for this device")) ↔ ((before_sets known r s).1 ≡ true) }
 {}
 
 /// What is reported for a search names the nearest device that meets all of the matches.
 pub fn search_names_the_first_to_meet()
-    ensures { (part : UpMatch) (parts : List UpMatch) (state : State) (place : ℕ) → IsFirstToMeet (part ∷ parts) state place → last_of (search_reports (part ∷ parts) state) ≡ Some (name_at state place ++ codes " meets all") }
+    ensures { (part : UpMatch) (parts : List UpMatch) (state : State) (place : ℕ) → IsFirstToMeet (part ∷ parts) state place
+        → last_of (search_reports (part ∷ parts) state) ≡ Some (name_at state place ++ codes " meets all") }
 {}
 
 /// What is reported for a search that finds none begins with `no device meets `.
 pub fn search_names_no_device_where_none_meets()
-    ensures { (part : UpMatch) (parts : List UpMatch) (state : State) → NoneMeets (part ∷ parts) state → (rest : Text) × (last_of (search_reports (part ∷ parts) state) ≡ Some (codes "no device meets " ++ rest)) }
+    ensures { (part : UpMatch) (parts : List UpMatch) (state : State) → NoneMeets (part ∷ parts) state
+        → (rest : Text) × (last_of (search_reports (part ∷ parts) state) ≡ Some (codes "no device meets " ++ rest)) }
 {}

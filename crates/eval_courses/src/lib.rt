@@ -8,8 +8,6 @@
 //! A command is asked if a PROGRAM looks it up while the rules are evaluated, under udev also an IMPORT{program}, and the
 //! event has no answer to it. What an act asks is looked at before the act is done. So an answer that is filled in may
 //! lead to further questions, since rules then go on.
-//!
-//! Functions that allocate return `AllocError` when memory runs out.
 #![tactic(auto)]
 
 mod acts;
@@ -22,15 +20,14 @@ mod laws;
 mod moments;
 mod plain;
 mod properties;
-
 mod subjects;
 mod upward;
 
 pub use acts::report_act;
+pub use asking::questions;
 pub use commands::can_be_asked;
 pub use laws::{
     course_ends_as_its_rule, course_says_what_is_skipped, search_names_no_device_where_none_meets,
     search_names_the_first_to_meet,
 };
 pub use moments::report_moment;
-pub use asking::questions;

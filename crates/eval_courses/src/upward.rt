@@ -4,7 +4,8 @@ ghost use Rattle.std.specs.List.{list_any};
 ghost use Rattle.device_core.specs.Values.{chain};
 ghost use Rattle.eval_matching.specs.Subjects.{found_place, holds_at, up_subject};
 ghost use Rattle.eval_courses.specs.Inner.{subject_of};
-ghost use Rattle.eval_courses.specs.Upward.{device_report, found_report, hits, met_at, name_at, partial_report, partly, places, search_reports, unmet, up_report};
+ghost use Rattle.eval_courses.specs.Upward.{device_report, found_report, hits, met_at, name_at, partial_report};
+ghost use Rattle.eval_courses.specs.Upward.{partly, places, search_reports, unmet, up_report};
 
 use crate::keys::push_up_key;
 use crate::subjects::{Subject, is_absent, kernel_at, push_looked, up_subject};

@@ -8,7 +8,8 @@ use Rattle.eval_state.specs.Finals.{is_final}
 use Rattle.eval_state.specs.declared.finals.FinalKey.{FinalKey}
 use Rattle.eval_state.specs.declared.finals.Finals.{Finals}
 use Rattle.eval_state.specs.declared.note_kind.NoteKind.{NoteKind}
-use Rattle.eval_state.specs.declared.note_kind.NoteKind.TheVariants.{TextTooLong, NameIgnored, NoDeviceNumber, NoValue, LinkIgnored, ModeIgnored, TagIgnored, AttributeNotFound}
+use Rattle.eval_state.specs.declared.note_kind.NoteKind.TheVariants.{TextTooLong, NameIgnored, NoDeviceNumber, NoValue, LinkIgnored}
+use Rattle.eval_state.specs.declared.note_kind.NoteKind.TheVariants.{ModeIgnored, TagIgnored, AttributeNotFound}
 use Rattle.eval_state.specs.declared.notes.Note.{Note}
 use Rattle.eval_state.specs.declared.scene.Scene.{Scene}
 use Rattle.eval_assignments.specs.Finality.{final_key}

@@ -4,7 +4,8 @@ ghost use Rattle.text_bytes.specs.Names.{equals};
 ghost use Rattle.eval_state.specs.Texts.{filled};
 ghost use Rattle.eval_assignments.specs.Tags.{current_tags};
 ghost use Rattle.eval_effects.specs.Inner.{tag_item};
-ghost use Rattle.eval_effects.specs.Items.{given_item, item_name, items, label_item, label_items, node_items, pair_items, persist_item, priority_item, text_items, watch_item, watch_word};
+ghost use Rattle.eval_effects.specs.Items.{given_item, item_name, items, label_item, label_items, node_items, pair_items};
+ghost use Rattle.eval_effects.specs.Items.{persist_item, priority_item, text_items, watch_item, watch_word};
 
 use eval_state::{Label, Scene};
 use itoa::Buffer;

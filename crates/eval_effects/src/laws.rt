@@ -10,7 +10,8 @@ ghost use Rattle.eval_effects.specs.Laws.{ReportsIgnored, ReportsNone, ReportsSk
 
 /// A key has been final since the first rule after which it is final.
 pub fn final_since_the_first_rule()
-    ensures { (stages : List (Rule × Finals)) (key : FinalKey) → since_over stages key ≡ option_map (λ stage. stage.0) (find (λ stage. is_final stage.1 key) stages) }
+    ensures { (stages : List (Rule × Finals)) (key : FinalKey)
+        → since_over stages key ≡ option_map (λ stage. stage.0) (find (λ stage. is_final stage.1 key) stages) }
 {}
 
 /// The note that an assignment leaves says that its text was too long or its NAME ignored, and for udev that the

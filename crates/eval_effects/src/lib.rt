@@ -3,8 +3,6 @@
 //! Each assignment is made alone, and the scene's items and RUNs before and after it are compared. An assignment that
 //! was left out is reported with its cause. This crate also says how lines of `--why` show texts and name keys and
 //! rules.
-//!
-//! Functions that allocate return `AllocError` when memory runs out.
 #![tactic(auto)]
 
 mod changes;

@@ -8,7 +8,8 @@ use Rattle.text_core.specs.declared.item.Item.{Item}
 use Rattle.text_core.specs.declared.item.Item.TheVariants as item
 use Rattle.rule_types.specs.declared.roles.MatchOperator.TheVariants.{Equal}
 use Rattle.rule_types.specs.declared.part.Comparison.{Comparison}
-use Rattle.eval_matching.specs.Holding.{Subject, one, attribute, constant, members, never, unread, udev_subsystem, udev_attribute, udev_members, udev_unread, holds}
+use Rattle.eval_matching.specs.Holding.{Subject, one, attribute, constant, members, never, unread, udev_subsystem}
+use Rattle.eval_matching.specs.Holding.{udev_attribute, udev_members, udev_unread, holds}
 
 -- the texts that are there
 abbrev pub texts_of : Subject → List Text

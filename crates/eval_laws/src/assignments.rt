@@ -29,7 +29,8 @@ ghost use Rattle.eval_assignments.specs.Steps.{set_step};
 /// A key that is final keeps its value through any further assignments of any rule, and stays final. For udev the
 /// priority of links is never final.
 pub fn final_keys_stay()
-    ensures { (r : Rule) (key : FinalKey) (sets : List Assignment) (s : Scene) → may_be_final s.state.event.profile key ≡ true → is_final s.finals key ≡ true → Keeps key s (fold (set_step r) s sets) }
+    ensures { (r : Rule) (key : FinalKey) (sets : List Assignment) (s : Scene) → may_be_final s.state.event.profile key ≡ true
+        → is_final s.finals key ≡ true → Keeps key s (fold (set_step r) s sets) }
 {}
 
 /// Tags and links that are all there are not added again.
@@ -50,7 +51,13 @@ pub fn runs_that_are_there_stay_alone()
 /// With udev a tag that `-=` removes is not in the answer, but matches of tags still find it. `+=` leaves a tag
 /// that is in the answer and found, whether it was removed before or not, and so does `=`.
 pub fn a_tag_that_is_taken_away_is_met_and_not_reported()
-    ensures met { (r : Rule) (template : templates.Parts) (s : Scene) (t : Text) → s.state.event.profile ≡ Udev → within most_path_bytes (render template s.state Plain) ≡ rendered.Text t → (set_step r s (record { operator = Remove; change = change.Text target.Tag template })).state.tags ≡ s.state.tags }
-    ensures not_reported { (r : Rule) (template : templates.Parts) (s : Scene) (t : Text) → s.state.event.profile ≡ Udev → within most_path_bytes (render template s.state Plain) ≡ rendered.Text t → is_among (current_tags (set_step r s (record { operator = Remove; change = change.Text target.Tag template }))) t ≡ false }
-    ensures reported { (r : Rule) (o : AssignOperator) (template : templates.Parts) (s : Scene) (t : Text) → s.state.event.profile ≡ Udev → within most_path_bytes (render template s.state Plain) ≡ rendered.Text t → o ≢ Remove → is_empty t ≡ false → is_tag t ≡ true → is_among (current_tags (set_step r s (record { operator = o; change = change.Text target.Tag template }))) t ≡ true }
+    ensures met { (r : Rule) (template : templates.Parts) (s : Scene) (t : Text) → s.state.event.profile ≡ Udev
+        → within most_path_bytes (render template s.state Plain) ≡ rendered.Text t
+        → (set_step r s (record { operator = Remove; change = change.Text target.Tag template })).state.tags ≡ s.state.tags }
+    ensures not_reported { (r : Rule) (template : templates.Parts) (s : Scene) (t : Text) → s.state.event.profile ≡ Udev
+        → within most_path_bytes (render template s.state Plain) ≡ rendered.Text t
+        → is_among (current_tags (set_step r s (record { operator = Remove; change = change.Text target.Tag template }))) t ≡ false }
+    ensures reported { (r : Rule) (o : AssignOperator) (template : templates.Parts) (s : Scene) (t : Text) → s.state.event.profile ≡ Udev
+        → within most_path_bytes (render template s.state Plain) ≡ rendered.Text t → o ≢ Remove → is_empty t ≡ false → is_tag t ≡ true
+        → is_among (current_tags (set_step r s (record { operator = o; change = change.Text target.Tag template }))) t ≡ true }
 {}

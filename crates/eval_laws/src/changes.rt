@@ -1,7 +1,8 @@
 //! What an assignment changes, whatever the rule is.
 //!
 //! Each function here is empty: its contract is the law.
-ghost use Rattle.std.specs.Prelude.{◌≡◌, ◌≢◌, ◌∷◌, ◌++◌, [], ◌||◌, not, true, false, filter, fold, if◌then◌else◌, is_some, option_map, List, Option, Some, None};
+ghost use Rattle.std.specs.Prelude.{◌≡◌, ◌≢◌, ◌∷◌, ◌++◌, [], ◌||◌, not, true, false, filter, fold};
+ghost use Rattle.std.specs.Prelude.{if◌then◌else◌, is_some, option_map, List, Option, Some, None};
 ghost use Rattle.std.specs.List.{list_any};
 ghost use Rattle.text_bytes.specs.Texts.{is_empty};
 ghost use Rattle.text_bytes.specs.declared.profile.Profile.TheVariants.{Manual, Udev};
@@ -58,8 +59,10 @@ pub fn only_the_given_texts_are_removed()
 /// `:=` makes its key final if it is made, so that no later assignment changes the key. No other operator makes a
 /// key final. For udev an assignment whose text is too long also counts as made.
 pub fn a_final_assignment_makes_its_key_final()
-    ensures made { (r : Rule) (a : Assignment) (s : Scene) (k : FinalKey) → a.operator ≡ AssignFinal → final_key s.state.event.profile a.change ≡ Some k → is_final s.finals k ≡ false → is_final (set_step r s a).finals k ≡ is_made r a.change s }
-    ensures later { (r : Rule) (a : Assignment) (s : Scene) (k : FinalKey) → a.operator ≡ AssignFinal → final_key s.state.event.profile a.change ≡ Some k → is_made r a.change s ≡ true → (other : Rule) (sets : List Assignment) → Keeps k (set_step r s a) (fold (set_step other) (set_step r s a) sets) }
+    ensures made { (r : Rule) (a : Assignment) (s : Scene) (k : FinalKey) → a.operator ≡ AssignFinal → final_key s.state.event.profile a.change ≡ Some k
+        → is_final s.finals k ≡ false → is_final (set_step r s a).finals k ≡ is_made r a.change s }
+    ensures later { (r : Rule) (a : Assignment) (s : Scene) (k : FinalKey) → a.operator ≡ AssignFinal → final_key s.state.event.profile a.change ≡ Some k
+        → is_made r a.change s ≡ true → (other : Rule) (sets : List Assignment) → Keeps k (set_step r s a) (fold (set_step other) (set_step r s a) sets) }
     ensures others { (r : Rule) (a : Assignment) (s : Scene) → a.operator ≢ AssignFinal → (set_step r s a).finals ≡ s.finals }
 {}
 
@@ -72,21 +75,44 @@ pub fn a_key_becomes_final_alone()
 /// An assignment of OWNER, GROUP or MODE that is made leaves its text, and with the empty text none. With udev the
 /// empty text keeps what was there, and so does an invalid mode; a mode is reported with four octal digits.
 pub fn assigned_texts_are_there()
-    ensures owner { (r : Rule) (o : AssignOperator) (template : templates.Parts) (s : Scene) (t : Text) → s.state.event.profile ≡ Manual → is_final s.finals key.Owner ≡ false → render template s.state Plain ≡ rendered.Text t → (set_step r s (record { operator = o; change = change.Text target.Owner template })).owner ≡ (if is_empty t then None else Some t) }
-    ensures group { (r : Rule) (o : AssignOperator) (template : templates.Parts) (s : Scene) (t : Text) → s.state.event.profile ≡ Manual → is_final s.finals key.Group ≡ false → render template s.state Plain ≡ rendered.Text t → (set_step r s (record { operator = o; change = change.Text target.Group template })).group ≡ (if is_empty t then None else Some t) }
-    ensures mode { (r : Rule) (o : AssignOperator) (template : templates.Parts) (s : Scene) (t : Text) → s.state.event.profile ≡ Manual → is_final s.finals key.Mode ≡ false → render template s.state Plain ≡ rendered.Text t → (set_step r s (record { operator = o; change = change.Text target.Mode template })).mode ≡ (if is_empty t then None else Some t) }
-    ensures udev_owner { (r : Rule) (o : AssignOperator) (template : templates.Parts) (s : Scene) (t : Text) → s.state.event.profile ≡ Udev → (number : NumberValue) → s.state.event.device.number ≡ Some number → is_final s.finals key.Owner ≡ false → within most_value_bytes (render template s.state Plain) ≡ rendered.Text t → (set_step r s (record { operator = o; change = change.Text target.Owner template })).owner ≡ (if is_empty t then s.owner else Some t) }
-    ensures udev_group { (r : Rule) (o : AssignOperator) (template : templates.Parts) (s : Scene) (t : Text) → s.state.event.profile ≡ Udev → (number : NumberValue) → s.state.event.device.number ≡ Some number → is_final s.finals key.Group ≡ false → within most_value_bytes (render template s.state Plain) ≡ rendered.Text t → (set_step r s (record { operator = o; change = change.Text target.Group template })).group ≡ (if is_empty t then s.group else Some t) }
-    ensures udev_mode { (r : Rule) (o : AssignOperator) (template : templates.Parts) (s : Scene) (t : Text) → s.state.event.profile ≡ Udev → (number : NumberValue) → s.state.event.device.number ≡ Some number → is_final s.finals key.Mode ≡ false → within most_value_bytes (render template s.state Plain) ≡ rendered.Text t → (set_step r s (record { operator = o; change = change.Text target.Mode template })).mode ≡ (if is_empty t then s.mode else if is_some (mode_of t) then option_map four_digits (mode_of t) else s.mode) }
+    ensures owner { (r : Rule) (o : AssignOperator) (template : templates.Parts) (s : Scene) (t : Text) → s.state.event.profile ≡ Manual
+        → is_final s.finals key.Owner ≡ false → render template s.state Plain ≡ rendered.Text t
+        → (set_step r s (record { operator = o; change = change.Text target.Owner template })).owner ≡ (if is_empty t then None else Some t) }
+    ensures group { (r : Rule) (o : AssignOperator) (template : templates.Parts) (s : Scene) (t : Text) → s.state.event.profile ≡ Manual
+        → is_final s.finals key.Group ≡ false → render template s.state Plain ≡ rendered.Text t
+        → (set_step r s (record { operator = o; change = change.Text target.Group template })).group ≡ (if is_empty t then None else Some t) }
+    ensures mode { (r : Rule) (o : AssignOperator) (template : templates.Parts) (s : Scene) (t : Text) → s.state.event.profile ≡ Manual
+        → is_final s.finals key.Mode ≡ false → render template s.state Plain ≡ rendered.Text t
+        → (set_step r s (record { operator = o; change = change.Text target.Mode template })).mode ≡ (if is_empty t then None else Some t) }
+    ensures udev_owner { (r : Rule) (o : AssignOperator) (template : templates.Parts) (s : Scene) (t : Text) → s.state.event.profile ≡ Udev
+        → (number : NumberValue) → s.state.event.device.number ≡ Some number → is_final s.finals key.Owner ≡ false
+        → within most_value_bytes (render template s.state Plain) ≡ rendered.Text t
+        → (set_step r s (record { operator = o; change = change.Text target.Owner template })).owner ≡ (if is_empty t then s.owner else Some t) }
+    ensures udev_group { (r : Rule) (o : AssignOperator) (template : templates.Parts) (s : Scene) (t : Text) → s.state.event.profile ≡ Udev
+        → (number : NumberValue) → s.state.event.device.number ≡ Some number → is_final s.finals key.Group ≡ false
+        → within most_value_bytes (render template s.state Plain) ≡ rendered.Text t
+        → (set_step r s (record { operator = o; change = change.Text target.Group template })).group ≡ (if is_empty t then s.group else Some t) }
+    ensures udev_mode { (r : Rule) (o : AssignOperator) (template : templates.Parts) (s : Scene) (t : Text) → s.state.event.profile ≡ Udev
+        → (number : NumberValue) → s.state.event.device.number ≡ Some number → is_final s.finals key.Mode ≡ false
+        → within most_value_bytes (render template s.state Plain) ≡ rendered.Text t
+        → (set_step r s (record { operator = o; change = change.Text target.Mode template })).mode
+        ≡ (if is_empty t then s.mode else if is_some (mode_of t) then option_map four_digits (mode_of t) else s.mode) }
 {}
 
 /// A RUN that is not there, and whose written text is not empty, is the last of the runs after `+=`, and the only
 /// one after any other operator. One whose written text is empty is not added. udev adds the text that it is
 /// rendered to at its rule, if that has a word, after those that the operator leaves.
 pub fn new_runs_come_last()
-    ensures added { (runs : List RunValue) (run : RunValue) → is_empty run.template.written ≡ false → list_any (same_run run) runs ≡ false → runs_after Add runs run ≡ runs ++ run ∷ [] }
-    ensures alone { (o : AssignOperator) (runs : List RunValue) (run : RunValue) → o ≢ Add → is_empty run.template.written ≡ false → runs_after o runs run ≡ run ∷ [] }
+    ensures added { (runs : List RunValue) (run : RunValue) → is_empty run.template.written ≡ false → list_any (same_run run) runs ≡ false
+        → runs_after Add runs run ≡ runs ++ run ∷ [] }
+    ensures alone { (o : AssignOperator) (runs : List RunValue) (run : RunValue) → o ≢ Add → is_empty run.template.written ≡ false
+        → runs_after o runs run ≡ run ∷ [] }
     ensures empty { (runs : List RunValue) (run : RunValue) → is_empty run.template.written ≡ true → runs_after Add runs run ≡ runs }
-    ensures kept { (r : Rule) (o : AssignOperator) (braces : Option RunType) (template : templates.Parts) (s : Scene) → s.state.event.profile ≡ Manual → is_final s.finals key.Run ≡ false → (set_step r s (record { operator = o; change = change.Run braces template })).runs ≡ runs_after o s.runs (record { rule = r; braces = braces; template = template; selected = s.state.selected }) }
-    ensures made { (r : Rule) (o : AssignOperator) (braces : Option RunType) (template : templates.Parts) (s : Scene) (text : Text) → s.state.event.profile ≡ Udev → is_final s.finals key.Run ≡ false → within most_command_bytes (render template s.state Plain) ≡ rendered.Text text → is_empty (words text) ≡ false → (set_step r s (record { operator = o; change = change.Run braces template })).made ≡ made_before o s.made ++ record { run = record { rule = r; braces = braces; template = template; selected = s.state.selected }; text = text } ∷ [] }
+    ensures kept { (r : Rule) (o : AssignOperator) (braces : Option RunType) (template : templates.Parts) (s : Scene) → s.state.event.profile ≡ Manual
+        → is_final s.finals key.Run ≡ false → (set_step r s (record { operator = o; change = change.Run braces template })).runs
+        ≡ runs_after o s.runs (record { rule = r; braces = braces; template = template; selected = s.state.selected }) }
+    ensures made { (r : Rule) (o : AssignOperator) (braces : Option RunType) (template : templates.Parts) (s : Scene) (text : Text)
+        → s.state.event.profile ≡ Udev → is_final s.finals key.Run ≡ false → within most_command_bytes (render template s.state Plain) ≡ rendered.Text text
+        → is_empty (words text) ≡ false → (set_step r s (record { operator = o; change = change.Run braces template })).made ≡ made_before o s.made
+        ++ record { run = record { rule = r; braces = braces; template = template; selected = s.state.selected }; text = text } ∷ [] }
 {}

@@ -24,12 +24,14 @@ pub fn faultless_lines_with_a_device_give_an_event()
 
 /// The devices of an event are those of its lines, and so is all else.
 pub fn an_event_is_that_of_its_lines()
-    ensures { (lines : List Text) (given : EventValue) → given_by lines ≡ Ok given → (chain given ≡ devices (rows_of lines)) × (given ≡ event (rows_of lines) given.device given.parents) }
+    ensures { (lines : List Text) (given : EventValue) → given_by lines ≡ Ok given
+        → (chain given ≡ devices (rows_of lines)) × (given ≡ event (rows_of lines) given.device given.parents) }
 {}
 
 /// If no line is faulty and none is a `P:`, that is the fault of the last line.
 pub fn faultless_lines_without_a_device_lack_it()
-    ensures { (line : Text) (below : List Text) → AreFaultless (line ∷ below) → has_device (rows_of (line ∷ below)) ≡ false → given_by (line ∷ below) ≡ Err (record { line = length (line ∷ below); kind = NoDevice }) }
+    ensures { (line : Text) (below : List Text) → AreFaultless (line ∷ below) → has_device (rows_of (line ∷ below)) ≡ false
+        → given_by (line ∷ below) ≡ Err (record { line = length (line ∷ below); kind = NoDevice }) }
 {}
 
 /// A line belongs to the last `P:` at or above it: lines are some without a `P:`, and then groups,

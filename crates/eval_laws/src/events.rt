@@ -23,7 +23,8 @@ ghost use Rattle.eval_rules.specs.Steps.{apply};
 /// If a rule with matches along the chain reaches its end, one device of the chain meets all of them, and no nearer
 /// one does.
 pub fn one_device_meets_all_matches_of_a_rule()
-    ensures { (known : Known) (r : Rule) (s : Scene) (part : UpMatch) (parts : List UpMatch) → r.up ≡ part ∷ parts → (apply known r s).1 ≡ true → IsMetByOneDevice r.up s.state }
+    ensures { (known : Known) (r : Rule) (s : Scene) (part : UpMatch) (parts : List UpMatch) → r.up ≡ part ∷ parts → (apply known r s).1 ≡ true
+        → IsMetByOneDevice r.up s.state }
 {}
 
 /// A rule with a match of the event that does not hold changes nothing but the notes.
@@ -33,20 +34,24 @@ pub fn unmatched_rules_change_nothing()
 
 /// If no rule's matches of the event hold, the outcome of an event is what it began with, apart from notes.
 pub fn unmatched_events_stay_as_they_are()
-    ensures { (known : Known) (rules : List Rule) (event : EventValue) → list_any (plain_hold (start event).state) rules ≡ false → SameOutcomeButNotes (outcome_of (start event)) (outcome rules known event) }
+    ensures { (known : Known) (rules : List Rule) (event : EventValue) → list_any (plain_hold (start event).state) rules ≡ false
+        → SameOutcomeButNotes (outcome_of (start event)) (outcome rules known event) }
 {}
 
 /// A rule that jumps and whose end is reached is followed by the next rule that has the label, which is evaluated;
 /// the rules between them are skipped. That this rule is in the same file is a law of rules as they are read,
 /// `jumps_stay_in_their_files`.
 pub fn jumps_lead_to_the_next_label()
-    ensures { (known : Known) (name : Text) (landing : Rule) (following : List Rule) → landing.label ≡ Some name → (r : Rule) (between : List Rule) (s : Scene) → r.goto ≡ Some name → (apply known r s).1 ≡ true → ¬ HasLabel name between → run_all known (r ∷ (between ++ landing ∷ following)) s ≡ run_all known (landing ∷ following) (apply known r s).0 }
+    ensures { (known : Known) (name : Text) (landing : Rule) (following : List Rule) → landing.label ≡ Some name
+        → (r : Rule) (between : List Rule) (s : Scene) → r.goto ≡ Some name → (apply known r s).1 ≡ true → ¬ HasLabel name between
+        → run_all known (r ∷ (between ++ landing ∷ following)) s ≡ run_all known (landing ∷ following) (apply known r s).0 }
 {}
 
 /// A key that is final keeps its value through any further rules, of whatever files, and stays final. For udev the
 /// priority of links is never final.
 pub fn final_keys_stay_through_all_rules()
-    ensures { (known : Known) (sought : Option Text) (rules : List Rule) (key : FinalKey) (s : Scene) → may_be_final s.state.event.profile key ≡ true → is_final s.finals key ≡ true → Keeps key s (run known sought rules s) }
+    ensures { (known : Known) (sought : Option Text) (rules : List Rule) (key : FinalKey) (s : Scene) → may_be_final s.state.event.profile key ≡ true
+        → is_final s.finals key ≡ true → Keeps key s (run known sought rules s) }
 {}
 
 /// The names of the properties in the outcome of an event rise, so that none is there twice.

@@ -32,28 +32,38 @@ pub fn nothing_is_found_where_no_device_meets_all_matches()
 
 /// `!=` of a list holds if and only if no member fits.
 pub fn a_list_differs_where_no_member_fits()
-    ensures { (texts : List Text) (wanted : Comparison) → wanted.operator ≡ NotEqual → holds (members texts) wanted ≡ not (list_any (choice_fits wanted.choice) texts) }
+    ensures { (texts : List Text) (wanted : Comparison) → wanted.operator ≡ NotEqual
+        → holds (members texts) wanted ≡ not (list_any (choice_fits wanted.choice) texts) }
 {}
 
 /// `==` of any key except ATTR and ATTRS holds if and only if the choice fits a text that the key looks at, as it
 /// is. With udev that is so for keys other than SUBSYSTEM, and those of links and tags.
 pub fn texts_are_compared_as_they_are()
-    ensures event { (key : PlainKey) (state : State) → state.event.profile ≡ Manual → ((name : Text) → ¬ (key ≡ plain.Attr name)) → ComparesAsItIs (plain_subject key state) }
-    ensures device { (key : UpKey) (state : State) (place : ℕ) → state.event.profile ≡ Manual → ((name : Text) → ¬ (key ≡ up.Attrs name)) → ComparesAsItIs (up_subject key state place) }
-    ensures udev_event { (key : PlainKey) (state : State) → ((name : Text) → ¬ (key ≡ plain.Attr name)) → key ≢ plain.Subsystem → key ≢ plain.Symlink → key ≢ plain.Tag → ComparesAsItIs (plain_subject key state) }
-    ensures udev_device { (key : UpKey) (state : State) (place : ℕ) → ((name : Text) → ¬ (key ≡ up.Attrs name)) → key ≢ up.Tags → ComparesAsItIs (up_subject key state place) }
+    ensures event { (key : PlainKey) (state : State) → state.event.profile ≡ Manual → ((name : Text) → ¬ (key ≡ plain.Attr name))
+        → ComparesAsItIs (plain_subject key state) }
+    ensures device { (key : UpKey) (state : State) (place : ℕ) → state.event.profile ≡ Manual → ((name : Text) → ¬ (key ≡ up.Attrs name))
+        → ComparesAsItIs (up_subject key state place) }
+    ensures udev_event { (key : PlainKey) (state : State) → ((name : Text) → ¬ (key ≡ plain.Attr name)) → key ≢ plain.Subsystem → key ≢ plain.Symlink
+        → key ≢ plain.Tag → ComparesAsItIs (plain_subject key state) }
+    ensures udev_device { (key : UpKey) (state : State) (place : ℕ) → ((name : Text) → ¬ (key ≡ up.Attrs name)) → key ≢ up.Tags
+        → ComparesAsItIs (up_subject key state place) }
     ensures program { (state : State) → ComparesAsItIs (one state.result) }
 {}
 
 /// CONST looks at the constant of its name as it is, and if the event gives none, `==` fails and `!=` holds.
 pub fn constants_are_compared_as_they_are()
-    ensures given { (name text : Text) (state : State) (wanted : Comparison) → is_known name ≡ true → value_of state.event.constants name ≡ Some text → holds (plain_subject (plain.Const name) state) wanted ≡ agrees wanted.operator (choice_fits wanted.choice text) }
-    ensures absent { (name : Text) (state : State) (wanted : Comparison) → is_known name ≡ true → value_of state.event.constants name ≡ None → holds (plain_subject (plain.Const name) state) wanted ≡ agrees wanted.operator false }
+    ensures given { (name text : Text) (state : State) (wanted : Comparison) → is_known name ≡ true → value_of state.event.constants name ≡ Some text
+        → holds (plain_subject (plain.Const name) state) wanted ≡ agrees wanted.operator (choice_fits wanted.choice text) }
+    ensures absent { (name : Text) (state : State) (wanted : Comparison) → is_known name ≡ true → value_of state.event.constants name ≡ None
+        → holds (plain_subject (plain.Const name) state) wanted ≡ agrees wanted.operator false }
 {}
 
 /// `==` of ATTR and ATTRS holds if and only if the choice fits the attribute, if the last pattern of the choice
 /// ends in whitespace, and else if and only if it fits the attribute without the whitespace at its end.
 pub fn attributes_are_compared_without_their_end()
-    ensures event { (name text : Text) (state : State) → state.event.profile ≡ Manual → value_of state.event.device.attrs name ≡ Some text → ComparesWithoutItsEnd (plain_subject (plain.Attr name) state) text }
-    ensures device { (name text : Text) (state : State) (place : ℕ) (device : DeviceValue) → state.event.profile ≡ Manual → device_at state.event place ≡ Some device → value_of device.attrs name ≡ Some text → ComparesWithoutItsEnd (up_subject (up.Attrs name) state place) text }
+    ensures event { (name text : Text) (state : State) → state.event.profile ≡ Manual → value_of state.event.device.attrs name ≡ Some text
+        → ComparesWithoutItsEnd (plain_subject (plain.Attr name) state) text }
+    ensures device { (name text : Text) (state : State) (place : ℕ) (device : DeviceValue) → state.event.profile ≡ Manual
+        → device_at state.event place ≡ Some device → value_of device.attrs name ≡ Some text
+        → ComparesWithoutItsEnd (up_subject (up.Attrs name) state place) text }
 {}

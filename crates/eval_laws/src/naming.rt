@@ -14,15 +14,18 @@ ghost use Rattle.eval_laws.specs.Naming.{HasNone, IsNearestNamed, IsWrittenSo, b
 /// no slash and the kernel's name no `]`. One slash before the attribute is not part of it. No other name names a
 /// device.
 pub fn a_name_in_brackets_names_a_device()
-    ensures plain { (subsystem kernel attribute : Text) → HasNone slash subsystem → HasNone close_bracket kernel → begins_with slash attribute ≡ false → named (bracketed subsystem kernel attribute) ≡ Some (record { subsystem = subsystem; kernel = kernel; attribute = attribute }) }
-    ensures slashed { (subsystem kernel attribute : Text) → HasNone slash subsystem → HasNone close_bracket kernel → named (bracketed subsystem kernel (slash ∷ attribute)) ≡ Some (record { subsystem = subsystem; kernel = kernel; attribute = attribute }) }
+    ensures plain { (subsystem kernel attribute : Text) → HasNone slash subsystem → HasNone close_bracket kernel → begins_with slash attribute ≡ false
+        → named (bracketed subsystem kernel attribute) ≡ Some (record { subsystem = subsystem; kernel = kernel; attribute = attribute }) }
+    ensures slashed { (subsystem kernel attribute : Text) → HasNone slash subsystem → HasNone close_bracket kernel
+        → named (bracketed subsystem kernel (slash ∷ attribute)) ≡ Some (record { subsystem = subsystem; kernel = kernel; attribute = attribute }) }
     ensures others { (name : Text) (is : NamedValue) → named name ≡ Some is → IsWrittenSo name is }
 {}
 
 /// Of the devices of a chain that have the subsystem and the kernel's name, the nearest is meant.
 pub fn the_nearest_device_is_named()
     ensures found { (is : NamedValue) (event : EventValue) (place : ℕ) → named_place is event ≡ Some place → IsNearestNamed is event place }
-    ensures none { (is : NamedValue) (event : EventValue) → (named_place is event ≡ None) ↔ ((place : ℕ) → place < length (chain event) → is_named is (device_at event place) ≡ false) }
+    ensures none { (is : NamedValue) (event : EventValue) → (named_place is event ≡ None) ↔ ((place : ℕ) → place < length (chain event)
+        → is_named is (device_at event place) ≡ false) }
 {}
 
 /// An attribute that is found on a device above is reported with what stands before the attribute in the written name.

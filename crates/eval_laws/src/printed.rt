@@ -19,7 +19,8 @@ ghost use Rattle.eval_laws.specs.PrintedLines.{IsGiven, IsPrinted, program_impor
 
 /// A text is read line by line, and its properties come in the order of its lines, whichever byte ends them.
 pub fn a_printed_text_is_read_line_by_line()
-    ensures { (end : ℕ) (lines : List Text) → ends_line end ≡ true → All (λ line. All (λ b. ends_line b ≡ false) line) lines → printed_properties (flat_map (λ line. line ++ end ∷ []) lines) ≡ filter_map line_property lines }
+    ensures { (end : ℕ) (lines : List Text) → ends_line end ≡ true → All (λ line. All (λ b. ends_line b ≡ false) line) lines
+        → printed_properties (flat_map (λ line. line ++ end ∷ []) lines) ≡ filter_map line_property lines }
 {}
 
 /// What is read of a line is just what is written in it: a name and a value with blanks around them, the value as it is
@@ -34,7 +35,12 @@ pub fn a_written_property_is_read_back()
 /// status 0, and nothing else: neither the result of a PROGRAM nor a link, with either operator. If it fails, the
 /// properties are as they were.
 pub fn a_program_that_is_imported_sets_what_it_printed()
-    ensures answered { (known : Known) (rule : Rule) (operator : MatchOperator) (template : templates.Parts) (scene : Scene) (text : Text) → scene.state.event.profile ≡ Udev → IsPrinted template scene text → (act_step known rule (program_import operator template) scene).0 ≡ with_env (properties_set scene.state.env (printed_properties text)) scene }
-    ensures holds { (known : Known) (rule : Rule) (template : templates.Parts) (scene : Scene) → scene.state.event.profile ≡ Udev → ((act_step known rule (program_import Equal template) scene).1 ≡ true) ↔ ((text : Text) × IsPrinted template scene text) }
-    ensures failed { (known : Known) (rule : Rule) (template : templates.Parts) (scene : Scene) → scene.state.event.profile ≡ Udev → (act_step known rule (program_import Equal template) scene).1 ≡ false → (act_step known rule (program_import Equal template) scene).0.state ≡ scene.state }
+    ensures answered { (known : Known) (rule : Rule) (operator : MatchOperator) (template : templates.Parts) (scene : Scene) (text : Text)
+        → scene.state.event.profile ≡ Udev → IsPrinted template scene text
+        → (act_step known rule (program_import operator template) scene).0 ≡ with_env (properties_set scene.state.env (printed_properties text)) scene }
+    ensures holds { (known : Known) (rule : Rule) (template : templates.Parts) (scene : Scene) → scene.state.event.profile ≡ Udev
+        → ((act_step known rule (program_import Equal template) scene).1 ≡ true) ↔ ((text : Text) × IsPrinted template scene text) }
+    ensures failed { (known : Known) (rule : Rule) (template : templates.Parts) (scene : Scene) → scene.state.event.profile ≡ Udev
+        → (act_step known rule (program_import Equal template) scene).1 ≡ false
+        → (act_step known rule (program_import Equal template) scene).0.state ≡ scene.state }
 {}

@@ -14,7 +14,10 @@ ghost use Rattle.eval_laws.specs.Answered.{IsAnswered, program};
 /// result is empty, whatever it was before: if the command is too long, if the block has no answer to it, or if the
 /// answer has another status.
 pub fn a_program_that_fails_leaves_no_result()
-    ensures holds { (known : Known) (rule : Rule) (template : templates.Parts) (scene : Scene) → ((act_step known rule (program template) scene).1 ≡ true) ↔ ((text : Text) × IsAnswered template scene text) }
-    ensures answered { (known : Known) (rule : Rule) (template : templates.Parts) (scene : Scene) (text : Text) → IsAnswered template scene text → act_step known rule (program template) scene ≡ (with_result (result_of scene.state.event.profile text) scene, true) }
-    ensures failed { (known : Known) (rule : Rule) (template : templates.Parts) (scene : Scene) → (act_step known rule (program template) scene).1 ≡ false → (act_step known rule (program template) scene).0.state.result ≡ [] }
+    ensures holds { (known : Known) (rule : Rule) (template : templates.Parts) (scene : Scene)
+        → ((act_step known rule (program template) scene).1 ≡ true) ↔ ((text : Text) × IsAnswered template scene text) }
+    ensures answered { (known : Known) (rule : Rule) (template : templates.Parts) (scene : Scene) (text : Text) → IsAnswered template scene text
+        → act_step known rule (program template) scene ≡ (with_result (result_of scene.state.event.profile text) scene, true) }
+    ensures failed { (known : Known) (rule : Rule) (template : templates.Parts) (scene : Scene) → (act_step known rule (program template) scene).1 ≡ false
+        → (act_step known rule (program template) scene).0.state.result ≡ [] }
 {}

@@ -34,12 +34,17 @@ pub fn rendered_links_are_safe()
 /// By the manual a text is rendered piece by piece, and too long only if the whole of it is. For udev a text is
 /// also too long if it has an attribute of over 511 bytes that is not named with its device.
 pub fn long_attributes_are_too_long()
-    ensures manual { (template : templates.Parts) (state : states.State) (mode : Mode) → state.event.profile ≡ Manual → render template state mode ≡ as_rendered mode (bounded (flat_map (text_in mode state) template.pieces)) }
-    ensures udev { (template : templates.Parts) (state : states.State) (mode : Mode) (before following : List Piece) (name : Text) → state.event.profile ≡ Udev → template.pieces ≡ before ++ piece.Attr name ∷ following → named_attribute name state.event ≡ None → 511 < length (or_empty (attribute name state)) → render template state mode ≡ rendered.TooLong }
+    ensures manual { (template : templates.Parts) (state : states.State) (mode : Mode) → state.event.profile ≡ Manual
+        → render template state mode ≡ as_rendered mode (bounded (flat_map (text_in mode state) template.pieces)) }
+    ensures udev { (template : templates.Parts) (state : states.State) (mode : Mode) (before following : List Piece) (name : Text)
+        → state.event.profile ≡ Udev → template.pieces ≡ before ++ piece.Attr name ∷ following → named_attribute name state.event ≡ None
+        → 511 < length (or_empty (attribute name state)) → render template state mode ≡ rendered.TooLong }
 {}
 
 /// With udev an attribute that is named with its device is that of this device in any text, made safe, up to its
 /// first 511 bytes.
 pub fn named_attributes_are_cut()
-    ensures { (state : states.State) (name : Text) (is : NamedValue) (place : ℕ) (device : DeviceValue) → state.event.profile ≡ Udev → named name ≡ Some is → is_empty is.attribute ≡ false → named_place is state.event ≡ Some place → device_at state.event place ≡ Some device → piece_text state (piece.Attr name) ≡ safe attribute_marks (trimmed (take 511 (or_empty (value_of device.attrs is.attribute)))) }
+    ensures { (state : states.State) (name : Text) (is : NamedValue) (place : ℕ) (device : DeviceValue) → state.event.profile ≡ Udev → named name ≡ Some is
+        → is_empty is.attribute ≡ false → named_place is state.event ≡ Some place → device_at state.event place ≡ Some device
+        → piece_text state (piece.Attr name) ≡ safe attribute_marks (trimmed (take 511 (or_empty (value_of device.attrs is.attribute)))) }
 {}

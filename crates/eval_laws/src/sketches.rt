@@ -12,5 +12,6 @@ pub fn texts_that_fit_have_the_sketch()
 
 /// A text that a choice fits has the first byte that is found for the choice.
 pub fn texts_that_fit_have_the_first_byte()
-    ensures { (choice : List (List Item)) (found : ℕ) (text : Text) → exact_head choice ≡ Some found → choice_fits choice text ≡ true → first_byte text ≡ found }
+    ensures { (choice : List (List Item)) (found : ℕ) (text : Text) → exact_head choice ≡ Some found → choice_fits choice text ≡ true
+        → first_byte text ≡ found }
 {}

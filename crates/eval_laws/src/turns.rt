@@ -23,14 +23,18 @@ ghost use Rattle.eval_rules.specs.Steps.{apply};
 /// A rule of assignments alone makes them, one after another, and its end is reached. udev does so if it does not
 /// skip the rule.
 pub fn a_rule_of_assignments_makes_them()
-    ensures manual { (known : Known) (r : Rule) (s : Scene) → s.state.event.profile ≡ Manual → r.plain ≡ [] → r.up ≡ [] → r.acts ≡ [] → r.results ≡ [] → apply known r s ≡ (fold (set_step r) s r.sets, true) }
-    ensures counts { (known : Known) (r : Rule) (s : Scene) → is_idle r s.state.event ≡ false → r.plain ≡ [] → r.up ≡ [] → r.acts ≡ [] → r.results ≡ [] → apply known r s ≡ (fold (set_step r) s r.sets, true) }
+    ensures manual { (known : Known) (r : Rule) (s : Scene) → s.state.event.profile ≡ Manual → r.plain ≡ [] → r.up ≡ [] → r.acts ≡ [] → r.results ≡ []
+        → apply known r s ≡ (fold (set_step r) s r.sets, true) }
+    ensures counts { (known : Known) (r : Rule) (s : Scene) → is_idle r s.state.event ≡ false → r.plain ≡ [] → r.up ≡ [] → r.acts ≡ [] → r.results ≡ []
+        → apply known r s ≡ (fold (set_step r) s r.sets, true) }
 {}
 
 /// A rule whose end is not reached, or that has no jump, is followed by the next one.
 pub fn the_next_rule_follows()
-    ensures stopped { (known : Known) (r : Rule) (rules : List Rule) (s : Scene) → (apply known r s).1 ≡ false → run_all known (r ∷ rules) s ≡ run_all known rules (apply known r s).0 }
-    ensures plain { (known : Known) (r : Rule) (rules : List Rule) (s : Scene) → r.goto ≡ None → run_all known (r ∷ rules) s ≡ run_all known rules (apply known r s).0 }
+    ensures stopped { (known : Known) (r : Rule) (rules : List Rule) (s : Scene) → (apply known r s).1 ≡ false
+        → run_all known (r ∷ rules) s ≡ run_all known rules (apply known r s).0 }
+    ensures plain { (known : Known) (r : Rule) (rules : List Rule) (s : Scene) → r.goto ≡ None
+        → run_all known (r ∷ rules) s ≡ run_all known rules (apply known r s).0 }
 {}
 
 /// Properties have the same values when they are sorted.
@@ -42,6 +46,9 @@ pub fn sorted_properties_have_their_values()
 /// known about the event, with the device that was selected when its rule was reached. Those that udev rendered at
 /// their rules follow them, in their order.
 pub fn commands_are_rendered_in_the_end()
-    ensures kept { (s : Scene) (before following : List RunValue) (kept : RunValue) (text : Text) → s.runs ≡ before ++ kept ∷ following → render kept.template (record s.state { selected = kept.selected }) Plain ≡ rendered.Text text → (outcome_of s).runs ≡ commands s.state before ++ record { kind = run_kind kept.braces; text = text } ∷ (commands s.state following ++ map made_command s.made) }
+    ensures kept { (s : Scene) (before following : List RunValue) (kept : RunValue) (text : Text) → s.runs ≡ before ++ kept ∷ following
+        → render kept.template (record s.state { selected = kept.selected }) Plain ≡ rendered.Text text
+        → (outcome_of s).runs ≡ commands s.state before ++ record { kind = run_kind kept.braces; text = text } ∷ (commands s.state following
+        ++ map made_command s.made) }
     ensures made { (s : Scene) → s.runs ≡ [] → (outcome_of s).runs ≡ map made_command s.made }
 {}

@@ -20,7 +20,8 @@ ghost use Rattle.eval_laws.specs.Weights.{outcome_weight};
 /// each IMPORT twice the block and all keys and values of the database, each with one more. For udev the outcome
 /// may have more: the text of each SECLABEL as it is written, the block for each ATTR, and 65,536 for each IMPORT.
 pub fn an_answer_weighs_no_more_than_is_allowed()
-    ensures { (profile : Profile) (rules : List Rule) (known : Known) (block : Text) (event : EventValue) → block_gives block ≡ Ok event → outcome_weight (outcome rules known (by_profile profile event)) ≤ most_weight profile (length block) known.entries rules }
+    ensures { (profile : Profile) (rules : List Rule) (known : Known) (block : Text) (event : EventValue) → block_gives block ≡ Ok event
+        → outcome_weight (outcome rules known (by_profile profile event)) ≤ most_weight profile (length block) known.entries rules }
 {}
 
 /// The outcome of an event has no more notes than its rules have parts: each part is met at most once, and leaves

@@ -6,7 +6,8 @@ ghost use Rattle.rule_types.specs.declared.roles.PlainKey.TheVariants as plain;
 ghost use Rattle.rule_types.specs.declared.roles.UpKey.TheVariants as up;
 ghost use Rattle.eval_state.specs.Named.{named, named_place};
 ghost use Rattle.eval_state.specs.Texts.{or_empty};
-ghost use Rattle.eval_matching.specs.Attributes.{attribute_by, attribute_of, found_value, is_elsewhere, is_not_read, is_rendered, is_unknown, named_value, own_attribute, sought, udev_subject, udev_value, value_by};
+ghost use Rattle.eval_matching.specs.Attributes.{attribute_by, attribute_of, found_value, is_elsewhere, is_not_read, is_rendered, is_unknown};
+ghost use Rattle.eval_matching.specs.Attributes.{named_value, own_attribute, sought, udev_subject, udev_value, value_by};
 ghost use Rattle.eval_matching.specs.Holding.{holds};
 ghost use Rattle.eval_matching.specs.Borrowed.{borrowed_subject};
 ghost use Rattle.eval_matching.specs.Subjects.{plain_subject, up_subject};
@@ -117,7 +118,8 @@ fn value_of_rendered<'a>(
     name: &[u8],
     attrs: &Pairs<'a>,
 ) -> Option<&'a [u8]>
-    ensures { option_map (λ value. value.now) result ≡ option_and_then (value_of attrs.now) (short (name_text name.now (record state.now { selected = selected }))) }
+    ensures { option_map (λ value. value.now) result
+        ≡ option_and_then (value_of attrs.now) (short (name_text name.now (record state.now { selected = selected }))) }
 {
     let rendered = rendered_name(state, selected, name);
     match rendered.text() {
@@ -178,7 +180,8 @@ fn sought<'a>(
     place: usize,
     name: &[u8],
 ) -> Option<&'a [u8]>
-    ensures { option_map (λ value. value.now) result ≡ sought name.now state.now.event (own_attribute name.now (record state.now { selected = selected }) place) }
+    ensures { option_map (λ value. value.now) result
+        ≡ sought name.now state.now.event (own_attribute name.now (record state.now { selected = selected }) place) }
 {
     if begins_with(b'[', name) {
         named_value(&state.event, Named::read(name))
@@ -212,7 +215,8 @@ fn attribute_by<'a>(
     place: usize,
     name: &[u8],
 ) -> Attribute<'a>
-    ensures { borrowed_subject result ≡ attribute_by state.now.event.profile name.now state.now.event (own_attribute name.now (record state.now { selected = selected }) place) }
+    ensures { borrowed_subject result
+        ≡ attribute_by state.now.event.profile name.now state.now.event (own_attribute name.now (record state.now { selected = selected }) place) }
 {
     match state.event.event().profile() {
         Profile::Manual => Attribute::Manual(own_attribute(state, selected, place, name)),

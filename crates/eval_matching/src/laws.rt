@@ -25,42 +25,54 @@ ghost use Rattle.eval_matching.specs.Udev.{capped, first_part, last_is, without_
 
 /// For udev, ATTR with an attribute that the device does not have fails, with `==` and with `!=`.
 pub fn an_absent_attribute_fails_both()
-    ensures { (name : Text) (state : State) (wanted : Comparison) → state.event.profile ≡ profile.Udev → begins_with open_bracket name ≡ false → udev_value name state state.event.device.attrs ≡ None → holds (plain_subject (plain.Attr name) state) wanted ≡ false }
+    ensures { (name : Text) (state : State) (wanted : Comparison) → state.event.profile ≡ profile.Udev → begins_with open_bracket name ≡ false
+        → udev_value name state state.event.device.attrs ≡ None → holds (plain_subject (plain.Attr name) state) wanted ≡ false }
 {}
 
 /// A name that names a device of the chain, and an attribute, looks at that attribute of that device, and the device's
 /// own attribute does not matter; it is empty if the device has none. Of a device that is not in the chain it is
 /// not read.
 pub fn a_named_device_is_looked_at()
-    ensures there { (text : Text) (event : EventValue) (own : Option Text) (n : NamedValue) (place : ℕ) (device : DeviceValue) → named (open_bracket ∷ text) ≡ Some n → is_empty n.attribute ≡ false → named_place n event ≡ Some place → device_at event place ≡ Some device → udev_subject (open_bracket ∷ text) event own ≡ udev_attribute (Some (capped (or_empty (value_of device.attrs n.attribute)))) }
-    ensures elsewhere { (text : Text) (event : EventValue) (own : Option Text) (n : NamedValue) → named (open_bracket ∷ text) ≡ Some n → is_empty n.attribute ≡ false → named_place n event ≡ None → udev_subject (open_bracket ∷ text) event own ≡ udev_unread }
-    ensures nameless { (text : Text) (event : EventValue) (own : Option Text) (n : NamedValue) → named (open_bracket ∷ text) ≡ Some n → is_empty n.attribute ≡ true → udev_subject (open_bracket ∷ text) event own ≡ udev_attribute None }
-    ensures unnamed { (text : Text) (event : EventValue) (own : Option Text) → named (open_bracket ∷ text) ≡ None → udev_subject (open_bracket ∷ text) event own ≡ udev_attribute None }
+    ensures there { (text : Text) (event : EventValue) (own : Option Text) (n : NamedValue) (place : ℕ) (device : DeviceValue)
+        → named (open_bracket ∷ text) ≡ Some n → is_empty n.attribute ≡ false → named_place n event ≡ Some place → device_at event place ≡ Some device
+        → udev_subject (open_bracket ∷ text) event own ≡ udev_attribute (Some (capped (or_empty (value_of device.attrs n.attribute)))) }
+    ensures elsewhere { (text : Text) (event : EventValue) (own : Option Text) (n : NamedValue) → named (open_bracket ∷ text) ≡ Some n
+        → is_empty n.attribute ≡ false → named_place n event ≡ None → udev_subject (open_bracket ∷ text) event own ≡ udev_unread }
+    ensures nameless { (text : Text) (event : EventValue) (own : Option Text) (n : NamedValue) → named (open_bracket ∷ text) ≡ Some n
+        → is_empty n.attribute ≡ true → udev_subject (open_bracket ∷ text) event own ≡ udev_attribute None }
+    ensures unnamed { (text : Text) (event : EventValue) (own : Option Text) → named (open_bracket ∷ text) ≡ None
+        → udev_subject (open_bracket ∷ text) event own ≡ udev_attribute None }
 {}
 
 /// A name that does not begin with `[` looks at the device's own attribute.
 pub fn a_plain_name_looks_at_the_device()
-    ensures { (name : Text) (event : EventValue) (own : Option Text) → begins_with open_bracket name ≡ false → udev_subject name event own ≡ udev_attribute own }
+    ensures { (name : Text) (event : EventValue) (own : Option Text) → begins_with open_bracket name ≡ false
+        → udev_subject name event own ≡ udev_attribute own }
 {}
 
 /// A name without a byte that begins a substitution stands for itself. Any other that does not begin with `[` stands
 /// for what it is rendered to, if that has at most 511 bytes; no attribute has a longer name.
 pub fn a_name_with_a_sign_is_rendered()
     ensures plain { (name : Text) (state : State) (attrs : List Pair) → has_sign name ≡ false → udev_value name state attrs ≡ value_of attrs name }
-    ensures rendered { (name : Text) (state : State) (attrs : List Pair) → begins_with open_bracket name ≡ false → has_sign name ≡ true → length (name_text name state) ≤ 511 → udev_value name state attrs ≡ value_of attrs (name_text name state) }
-    ensures long { (name : Text) (state : State) (attrs : List Pair) → begins_with open_bracket name ≡ false → has_sign name ≡ true → 511 < length (name_text name state) → udev_value name state attrs ≡ None }
+    ensures rendered { (name : Text) (state : State) (attrs : List Pair) → begins_with open_bracket name ≡ false → has_sign name ≡ true
+        → length (name_text name state) ≤ 511 → udev_value name state attrs ≡ value_of attrs (name_text name state) }
+    ensures long { (name : Text) (state : State) (attrs : List Pair) → begins_with open_bracket name ≡ false → has_sign name ≡ true
+        → 511 < length (name_text name state) → udev_value name state attrs ≡ None }
 {}
 
 /// ATTRS with a name that does not begin with `[` looks at each device by the name that is rendered while that device
 /// is selected.
 pub fn a_device_that_is_tried_is_selected()
-    ensures { (name : Text) (state : State) (place : ℕ) (device : DeviceValue) → state.event.profile ≡ profile.Udev → begins_with open_bracket name ≡ false → device_at state.event place ≡ Some device → up_subject (up.Attrs name) state place ≡ udev_attribute (udev_value name (record state { selected = Some place }) device.attrs) }
+    ensures { (name : Text) (state : State) (place : ℕ) (device : DeviceValue) → state.event.profile ≡ profile.Udev → begins_with open_bracket name ≡ false
+        → device_at state.event place ≡ Some device → up_subject (up.Attrs name) state place
+        ≡ udev_attribute (udev_value name (record state { selected = Some place }) device.attrs) }
 {}
 
 /// The first part of a value follows its first bars, and before the next one or its end.
 pub fn the_first_part_is_between_bars()
     ensures last { (bars part : Text) → list_all is_bar bars ≡ true → list_any is_bar part ≡ false → first_part (bars ++ part) ≡ part }
-    ensures others { (bars part rest : Text) → list_all is_bar bars ≡ true → list_any is_bar part ≡ false → is_empty part ≡ false → first_part (bars ++ (part ++ bar ∷ rest)) ≡ part }
+    ensures others { (bars part rest : Text) → list_all is_bar bars ≡ true → list_any is_bar part ≡ false → is_empty part ≡ false
+        → first_part (bars ++ (part ++ bar ∷ rest)) ≡ part }
 {}
 
 /// What is cut off at the end of an attribute is all of the spaces, tabs and ends of lines there, and no other byte.

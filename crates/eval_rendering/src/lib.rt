@@ -1,6 +1,4 @@
 //! Renders texts with substitutions over an event, and replaces the bytes that may not be in a link or an attribute.
-//!
-//! Functions that allocate return `AllocError` when memory runs out.
 #![tactic(auto)]
 
 mod attributes;

@@ -1,7 +1,8 @@
 //! Rules that udev skips, since nothing in them counts for the event.
 ghost use Rattle.std.specs.Prelude.{◌≡◌, OnOk, OnErr, fold};
 ghost use Rattle.std.specs.List.{list_any};
-ghost use Rattle.eval_rules.specs.Idle.{act_kind_counts, applies, change_applies, change_counts, is_idle, is_idle_by, is_of_device, is_removal, note_all, note_step, something_counts, text_counts};
+ghost use Rattle.eval_rules.specs.Idle.{act_kind_counts, applies, change_applies, change_counts, is_idle, is_idle_by};
+ghost use Rattle.eval_rules.specs.Idle.{is_of_device, is_removal, note_all, note_step, something_counts, text_counts};
 ghost use Rattle.eval_rules.specs.Steps.{if_proceeding};
 
 use device_core::{Device, Event};

@@ -15,5 +15,6 @@ pub fn manual_evaluates_every_rule()
 /// Unless the device is removed, a rule that is skipped leaves what it would leave if it were evaluated, apart from
 /// the device that is selected and the keys that are final, and its end is not reached.
 pub fn skipped_rule_lacks_nothing()
-    ensures { (known : Known) (r : rules.Rule) (s : Scene) → is_idle r s.state.event ≡ true → is_removal s.state.event ≡ false → apply known r s ≡ (record (steps known r s).0 { finals = s.finals; state = with_selected s.state.selected (steps known r s).0.state }, false) }
+    ensures { (known : Known) (r : rules.Rule) (s : Scene) → is_idle r s.state.event ≡ true → is_removal s.state.event ≡ false
+        → apply known r s ≡ (record (steps known r s).0 { finals = s.finals; state = with_selected s.state.selected (steps known r s).0.state }, false) }
 {}

@@ -5,8 +5,6 @@
 //! holds for each step holds for all rules. Commands are rendered when no rule is left, and only then is the outcome
 //! made. Under udev's profile, a rule with nothing that counts for the event is skipped, and commands are rendered at
 //! their rule.
-//!
-//! Functions that allocate return `AllocError` when memory runs out.
 #![tactic(auto)]
 
 mod evaluating;

@@ -1,5 +1,6 @@
 -- Serves inner proofs only: the items that the assignments of a rule can have changed.
-use Rattle.std.specs.Prelude.{Bool, true, false, not, ◌||◌, nat_eq, List, [], ◌∷◌, ◌++◌, drop, length, map, flat_map, Option, Some, None, option_map, if◌then◌else◌, codes}
+use Rattle.std.specs.Prelude.{Bool, true, false, not, ◌||◌, nat_eq, List, [], ◌∷◌, ◌++◌, drop, length}
+use Rattle.std.specs.Prelude.{map, flat_map, Option, Some, None, option_map, if◌then◌else◌, codes}
 use Rattle.std.specs.Fmt.{signed_decimal}
 use Rattle.std.specs.List.{list_any}
 use Rattle.text_bytes.specs.declared.profile.Profile.{Profile}

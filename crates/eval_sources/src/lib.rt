@@ -4,8 +4,6 @@
 //! last; after each rule the items that it may have changed are looked at, and only after a rule that acts or replaces
 //! links or tags all of them. The definition needs no walk: an item comes from the first rule after which it is present,
 //! unchanged, until the end.
-//!
-//! Functions that allocate return `AllocError` when memory runs out.
 #![tactic(auto)]
 
 mod commands;

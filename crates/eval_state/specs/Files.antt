@@ -1,6 +1,7 @@
 -- The files and folders of a device in sysfs, as far as the names of its attributes show them. A name is a path below
 -- the device's own folder.
-use Rattle.std.specs.Prelude.{ℕ, ◌+◌, ◌-◌, Bool, false, not, ◌==◌, ◌||◌, ◌&&◌, nat_eq, if◌then◌else◌, List, [], ◌∷◌, ◌++◌, length, take, drop, slice_index, Option, Some, None, option_map, position}
+use Rattle.std.specs.Prelude.{ℕ, ◌+◌, ◌-◌, Bool, false, not, ◌==◌, ◌||◌, ◌&&◌, nat_eq, if◌then◌else◌, List, [], ◌∷◌}
+use Rattle.std.specs.Prelude.{◌++◌, length, take, drop, slice_index, Option, Some, None, option_map, position}
 use Rattle.std.specs.List.{list_any, prefix_len, range_with_len, starts_with}
 use Rattle.std.specs.Option.{option_and_then, option_or}
 use Rattle.text_bytes.specs.Names.{dot, slash, star}

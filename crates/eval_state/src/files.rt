@@ -3,7 +3,8 @@ ghost use Rattle.std.specs.Prelude.{◌≡◌, ◌≤◌, ◌<◌, ◌==◌, not
 ghost use Rattle.std.specs.List.{list_any, prefix_len};
 ghost use Rattle.text_bytes.specs.Names.{slash};
 ghost use Rattle.text_tables.specs.Pairs.{names};
-ghost use Rattle.eval_state.specs.Files.{after_component, first_component, first_folder, folder_before, folder_between, has_file, has_name, is_folder, is_star, lies_at, star_place, starred};
+ghost use Rattle.eval_state.specs.Files.{after_component, first_component, first_folder, folder_before, folder_between};
+ghost use Rattle.eval_state.specs.Files.{has_file, has_name, is_folder, is_star, lies_at, star_place, starred};
 
 use device_core::Device;
 use std::alloc::{AllocError, Global};

@@ -1,6 +1,4 @@
 //! The state of an event while rules run: what is known about it, and what the rules have collected.
-//!
-//! Functions that allocate return `AllocError` when memory runs out.
 #![tactic(auto)]
 
 mod chain;

@@ -1,5 +1,6 @@
 -- The properties that a paragraph gives the devices that its matches fit.
-use Rattle.std.specs.Prelude.{ℕ, ◌+◌, Bool, ◌&&◌, ◌==◌, if◌then◌else◌, List, [], ◌∷◌, length, take, drop, position, flat_map, sum_by, Option, Some, None, Result, Ok, Err, is_ok}
+use Rattle.std.specs.Prelude.{ℕ, ◌+◌, Bool, ◌&&◌, ◌==◌, if◌then◌else◌, List, [], ◌∷◌, length, take, drop}
+use Rattle.std.specs.Prelude.{position, flat_map, sum_by, Option, Some, None, Result, Ok, Err, is_ok}
 use Rattle.std.specs.List.{list_any}
 use Rattle.text_bytes.specs.Names.{equals}
 use Rattle.text_bytes.specs.Lines.{NumberedLine}

@@ -1,5 +1,6 @@
 -- Serves inner proofs only: which matches are known not to fit a modalias before they are read as patterns.
-use Rattle.std.specs.Prelude.{◌≡◌, ℕ, Bool, true, false, not, ◌==◌, ◌||◌, ◌&&◌, nat_le, if◌then◌else◌, List, [], ◌∷◌, length, Option, Some, None, position, is_none, Ok}
+use Rattle.std.specs.Prelude.{◌≡◌, ℕ, Bool, true, false, not, ◌==◌, ◌||◌, ◌&&◌, nat_le, if◌then◌else◌}
+use Rattle.std.specs.Prelude.{List, [], ◌∷◌, length, Option, Some, None, position, is_none, Ok}
 use Rattle.text_bytes.specs.Names.{open_bracket, question_mark, star}
 use Rattle.text_core.specs.Spell.{max_len, spell}
 use Rattle.text_core.specs.declared.item.Item.{Item}

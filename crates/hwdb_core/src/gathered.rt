@@ -165,7 +165,17 @@ impl Gathered {
         number: usize,
         pair: &Pair<'_>,
     ) -> Result<(), HwdbFault>
-        ensures { Adds self.old self.new (record { properties = record { pattern = pattern; key = pair.now.key.now; value = pair.now.value.now; file = file.now; line = capped number } ∷ []; messages = []; match_bytes = 0 }) result }
+        ensures { Adds self.old self.new (record {
+          properties = record {
+            pattern = pattern;
+            key = pair.now.key.now;
+            value = pair.now.value.now;
+            file = file.now;
+            line = capped number;
+          } ∷ [];
+          messages = [];
+          match_bytes = 0;
+        }) result }
     {
         let order = self.count;
         self.count_entry(pair.key.len() + pair.value.len())?;

@@ -4,8 +4,6 @@
 //! pair of match and property. A file is read by lines, in one pass. Each paragraph is then cut into its four parts and
 //! read part by part, so that each part has a small function with a clause of its own. `hwdb_lookup`, whose entries
 //! are read here, comes with this crate.
-//!
-//! Functions that allocate return `AllocError` when memory runs out.
 #![tactic(auto)]
 
 mod database;

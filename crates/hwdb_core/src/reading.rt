@@ -154,7 +154,8 @@ fn pass_over(
 
 /// Counts the entries that properties give a pattern whose entries do not count.
 fn count_pairs(found: &mut Gathered, properties: &[Line<'_>]) -> Result<(), HwdbFault>
-    ensures { (file : List ℕ) (pattern : List Item) → counts found.old.wanted pattern ≡ false → Adds found.old found.new (found_in (pair_found file pattern) properties.now) result }
+    ensures { (file : List ℕ) (pattern : List Item) → counts found.old.wanted pattern ≡ false
+        → Adds found.old found.new (found_in (pair_found file pattern) properties.now) result }
 {
     for line in properties {
         count_pair(found, line)?;
@@ -165,7 +166,8 @@ fn count_pairs(found: &mut Gathered, properties: &[Line<'_>]) -> Result<(), Hwdb
 /// Counts the entry that a property gives a pattern whose entries do not count, if nothing is wrong with the
 /// property.
 fn count_pair(found: &mut Gathered, line: &Line<'_>) -> Result<(), HwdbFault>
-    ensures added { (file : List ℕ) (pattern : List Item) → counts found.old.wanted pattern ≡ false → Adds found.old found.new (pair_found file pattern line.now) result }
+    ensures added { (file : List ℕ) (pattern : List Item) → counts found.old.wanted pattern ≡ false
+        → Adds found.old found.new (pair_found file pattern line.now) result }
     ensures wanted { OnOk result (found.new.wanted ≡ found.old.wanted) }
 {
     match pair_of(line) {

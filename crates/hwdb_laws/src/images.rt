@@ -30,7 +30,10 @@ pub fn two_images()
 pub fn images_are_indexes()
     ensures accepted { (es : List Entry) → Rising es → KeepsBounds es → AreTyped es → Accepted (image es) }
     ensures length { (es : List Entry) → Rising es → KeepsBounds es → AreTyped es → length (image es) ≡ index_len es }
-    ensures listed { (es : List Entry) → Rising es → KeepsBounds es → AreTyped es → IsPermutation es (listed (contents (image es)).nodes (contents (image es)).values) }
-    ensures paths { (es : List Entry) → Rising es → KeepsBounds es → AreTyped es → map (path (contents (image es)).nodes) (numbers (contents (image es)).nodes) ≡ paths_of es }
-    ensures in_order { (es : List Entry) → Rising es → KeepsBounds es → AreTyped es → listed (contents (image es)).nodes (contents (image es)).values ≡ by_nodes es }
+    ensures listed { (es : List Entry) → Rising es → KeepsBounds es → AreTyped es
+        → IsPermutation es (listed (contents (image es)).nodes (contents (image es)).values) }
+    ensures paths { (es : List Entry) → Rising es → KeepsBounds es → AreTyped es
+        → map (path (contents (image es)).nodes) (numbers (contents (image es)).nodes) ≡ paths_of es }
+    ensures in_order { (es : List Entry) → Rising es → KeepsBounds es → AreTyped es
+        → listed (contents (image es)).nodes (contents (image es)).values ≡ by_nodes es }
 {}

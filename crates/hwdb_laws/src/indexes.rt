@@ -26,7 +26,10 @@ pub fn what_is_read_has_the_types_of_entries()
 pub fn what_is_read_makes_an_index()
     ensures accepted { (files : List SourceFile) → WithinBounds files → Accepted (image (entries_of files)) }
     ensures length { (files : List SourceFile) → WithinBounds files → length (image (entries_of files)) ≤ max_index_len }
-    ensures listed { (files : List SourceFile) → WithinBounds files → let index = contents (image (entries_of files)) in IsPermutation (entries_of files) (listed index.nodes index.values) }
-    ensures query { (files : List SourceFile) → WithinBounds files → (modalias : List ℕ) → let index = contents (image (entries_of files)) in query (listed index.nodes index.values) modalias ≡ query (entries_of files) modalias }
-    ensures sources { (files : List SourceFile) → WithinBounds files → (modalias : List ℕ) → let index = contents (image (entries_of files)) in sourced (listed index.nodes index.values) modalias ≡ sourced (entries_of files) modalias }
+    ensures listed { (files : List SourceFile) → WithinBounds files
+        → let index = contents (image (entries_of files)) in IsPermutation (entries_of files) (listed index.nodes index.values) }
+    ensures query { (files : List SourceFile) → WithinBounds files → (modalias : List ℕ)
+        → let index = contents (image (entries_of files)) in query (listed index.nodes index.values) modalias ≡ query (entries_of files) modalias }
+    ensures sources { (files : List SourceFile) → WithinBounds files → (modalias : List ℕ)
+        → let index = contents (image (entries_of files)) in sourced (listed index.nodes index.values) modalias ≡ sourced (entries_of files) modalias }
 {}

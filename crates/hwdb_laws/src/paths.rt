@@ -26,14 +26,18 @@ pub fn trees_are_laid_out_level_by_level()
 /// children of each follow it.
 pub fn paths_are_a_tree()
     ensures tree { (patterns : List (List Item)) → IsTree (paths_among patterns) }
-    ensures children { (patterns : List (List Item)) → 1 + sum_by (λ p. count_by (is_child p) (paths_among patterns)) (paths_among patterns) ≡ length (paths_among patterns) }
-    ensures later { (patterns : List (List Item)) (i : ℕ) → i < length (paths_among patterns) → i < 1 + sum_by (λ p. count_by (is_child p) (paths_among patterns)) (take i (paths_among patterns)) }
+    ensures children { (patterns : List (List Item)) → 1 + sum_by (λ p. count_by (is_child p) (paths_among patterns)) (paths_among patterns)
+        ≡ length (paths_among patterns) }
+    ensures later { (patterns : List (List Item)) (i : ℕ) → i < length (paths_among patterns)
+        → i < 1 + sum_by (λ p. count_by (is_child p) (paths_among patterns)) (take i (paths_among patterns)) }
 {}
 
 /// A trie has at most one node more than its patterns have labels, a pattern that is there twice counted once; at
 /// most as many sets as nodes; and its files' names are no longer than those of the files that it comes from.
 pub fn a_trie_is_small()
-    ensures nodes { (patterns listed : List (List Item)) → ((p : List Item) → IsIn p patterns → IsIn p listed) → length (paths_among patterns) ≤ 1 + sum_by length listed }
+    ensures nodes { (patterns listed : List (List Item)) → ((p : List Item) → IsIn p patterns → IsIn p listed)
+        → length (paths_among patterns) ≤ 1 + sum_by length listed }
     ensures sets { (entries : List Entry) → length (sets_of entries) ≤ length (paths_of entries) }
-    ensures names { (entries : List Entry) (names : List (List ℕ)) → ((e : Entry) → IsIn e entries → IsIn e.file names) → sum_by length (names_of entries) ≤ sum_by length names }
+    ensures names { (entries : List Entry) (names : List (List ℕ)) → ((e : Entry) → IsIn e entries → IsIn e.file names)
+        → sum_by length (names_of entries) ≤ sum_by length names }
 {}

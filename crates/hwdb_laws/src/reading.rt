@@ -35,14 +35,17 @@ pub fn indexes_of_version_1_are_kept()
     ensures accepted { (bytes : List ℕ) → Accepted1 bytes ↔ (Accepted bytes × ((header_of bytes).version ≡ first_version)) }
     ensures nodes { (bytes : List ℕ) → Accepted1 bytes → (contents bytes).nodes ≡ nodes_1 bytes }
     ensures listed { (bytes : List ℕ) → Accepted1 bytes → listed (contents bytes).nodes (contents bytes).values ≡ listed_1 bytes }
-    ensures query { (bytes modalias : List ℕ) → Accepted1 bytes → query (listed (contents bytes).nodes (contents bytes).values) modalias ≡ query (listed_1 bytes) modalias }
-    ensures sources { (bytes modalias : List ℕ) → Accepted1 bytes → sourced (listed (contents bytes).nodes (contents bytes).values) modalias ≡ sourced (listed_1 bytes) modalias }
+    ensures query { (bytes modalias : List ℕ) → Accepted1 bytes
+        → query (listed (contents bytes).nodes (contents bytes).values) modalias ≡ query (listed_1 bytes) modalias }
+    ensures sources { (bytes modalias : List ℕ) → Accepted1 bytes
+        → sourced (listed (contents bytes).nodes (contents bytes).values) modalias ≡ sourced (listed_1 bytes) modalias }
 {}
 
 /// The law of the texts of answers.
 ///
 /// Each text of an answer, the names of files too, is in the bytes of the file that was queried.
 pub fn answers_are_in_the_file()
-    ensures query { (bytes modalias : List ℕ) → All (λ p. IsPartOf bytes p.0 × IsPartOf bytes p.1) (query (listed (contents bytes).nodes (contents bytes).values) modalias) }
+    ensures query { (bytes modalias : List ℕ)
+        → All (λ p. IsPartOf bytes p.0 × IsPartOf bytes p.1) (query (listed (contents bytes).nodes (contents bytes).values) modalias) }
     ensures sources { (bytes modalias : List ℕ) → All (IsFoundIn bytes) (sourced (listed (contents bytes).nodes (contents bytes).values) modalias) }
 {}

@@ -11,5 +11,6 @@ ghost use Rattle.trie_build.specs.Paths.{ending_at, paths_of};
 /// entries whose pattern is its path, in theirs.
 pub fn tries_hold_their_entries()
     ensures paths { (t : Content) → IsTrie t → map (path t.nodes) (numbers t.nodes) ≡ paths_of t.entries }
-    ensures values { (t : Content) (i : ℕ) → IsTrie t → i < length t.nodes → values_of t.nodes (all_values t) i ≡ map value_of (ending_at t.entries (path t.nodes i)) }
+    ensures values { (t : Content) (i : ℕ) → IsTrie t → i < length t.nodes
+        → values_of t.nodes (all_values t) i ≡ map value_of (ending_at t.entries (path t.nodes i)) }
 {}

@@ -14,6 +14,8 @@ ghost use Rattle.trie_core.specs.Image.{image};
 /// The index that is written from some entries answers every modalias as the entries do, with the same files and
 /// lines.
 pub fn indexes_answer_as_their_entries()
-    ensures query { (es : List Entry) → Rising es → KeepsBounds es → AreTyped es → (modalias : List ℕ) → query (listed (contents (image es)).nodes (contents (image es)).values) modalias ≡ query es modalias }
-    ensures sources { (es : List Entry) → Rising es → KeepsBounds es → AreTyped es → (modalias : List ℕ) → sourced (listed (contents (image es)).nodes (contents (image es)).values) modalias ≡ sourced es modalias }
+    ensures query { (es : List Entry) → Rising es → KeepsBounds es → AreTyped es → (modalias : List ℕ)
+        → query (listed (contents (image es)).nodes (contents (image es)).values) modalias ≡ query es modalias }
+    ensures sources { (es : List Entry) → Rising es → KeepsBounds es → AreTyped es → (modalias : List ℕ)
+        → sourced (listed (contents (image es)).nodes (contents (image es)).values) modalias ≡ sourced es modalias }
 {}

@@ -2,8 +2,6 @@
 //!
 //! This crate is below the one that reads database files and those that hold the entries in another form, so that
 //! all of them speak of the same list.
-//!
-//! Functions that allocate return `AllocError` when memory runs out.
 #![tactic(auto)]
 
 mod bounds;

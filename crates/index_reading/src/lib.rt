@@ -2,8 +2,6 @@
 //!
 //! An index is checked once, when it is opened. Every later lookup relies on that, and allocates nothing for what it
 //! finds.
-//!
-//! Functions that allocate return `AllocError` when memory runs out.
 #![tactic(auto)]
 
 mod checked_records;

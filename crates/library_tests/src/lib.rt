@@ -8,8 +8,6 @@
 //!
 //! A test is a subject. Each of its questions is a function that answers whether something is so, and the test asserts
 //! that: each assertion and each test costs a proof several times what such a function does.
-//!
-//! Functions that allocate return `AllocError` when memory runs out.
 #![tactic(auto)]
 
 #[cfg(test)]

@@ -3,7 +3,8 @@ use Rattle.std.specs.Prelude.{ℕ, ◌-◌, ◌==◌, Bool, false, not, ◌&&◌
 use Rattle.std.specs.List.{count_by}
 use Rattle.text_bytes.specs.Names.{comma, is_blank}
 use Rattle.file_messages.specs.declared.message.MessageKind.{MessageKind}
-use Rattle.file_messages.specs.declared.message.MessageKind.TheVariants.{CommaExpected, BlankExpected, ReadAsAssign, LeadingComma, BlankBeforeComma, AssignExpected}
+use Rattle.file_messages.specs.declared.message.MessageKind.TheVariants.{CommaExpected, BlankExpected, ReadAsAssign, LeadingComma}
+use Rattle.file_messages.specs.declared.message.MessageKind.TheVariants.{BlankBeforeComma, AssignExpected}
 use Rattle.text_bytes.specs.declared.profile.Profile.{Profile}
 use Rattle.text_bytes.specs.declared.profile.Profile.TheVariants.{Manual, Udev}
 use Rattle.rule_tokens.specs.Grammar.{Placed}

@@ -5,8 +5,6 @@
 //!
 //! Where udev(7) and udev itself differ, a `Profile` says which of them to follow. For udev, line ends have to be
 //! turned into newlines first, by `files_as_read`.
-//!
-//! Functions that allocate return `AllocError` when memory runs out.
 #![tactic(auto)]
 
 mod checking;

@@ -1,7 +1,5 @@
 //! Jumps and labels: which jumps have no later label, which labels have no jump, and how many rules each jump
 //! skips.
-//!
-//! Functions that allocate return `AllocError` when memory runs out.
 #![tactic(auto)]
 
 mod jumps;

@@ -2,7 +2,8 @@
 use Rattle.std.specs.Prelude.{◌≡◌, ℕ, Bool, true, false, not, ◌&&◌, if◌then◌else◌, List, [], ◌∷◌, Option, Some, None, is_none, is_err, Result, Err}
 use Rattle.std.specs.Option.{option_and_then}
 use Rattle.std.specs.Result.{result_err}
-use Rattle.file_messages.specs.declared.message.MessageKind.TheVariants.{UnknownKey, OperatorNotAllowed, WrongAttribute, BadValue, BadSubstitution, SetNotSupported}
+use Rattle.file_messages.specs.declared.message.MessageKind.TheVariants.{UnknownKey, OperatorNotAllowed, WrongAttribute}
+use Rattle.file_messages.specs.declared.message.MessageKind.TheVariants.{BadValue, BadSubstitution, SetNotSupported}
 use Rattle.text_bytes.specs.declared.profile.Profile.TheVariants.{Manual}
 use Rattle.text_core.specs.Choices.{choice, choice_blind}
 use Rattle.text_core.specs.declared.glob_fault.GlobFault.{GlobFault}

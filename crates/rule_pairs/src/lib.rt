@@ -2,8 +2,6 @@
 //!
 //! Each token is reduced to its subject and its comparison, so that two tokens are compared regardless of their
 //! spelling. Neither finding rejects a rule.
-//!
-//! Functions that allocate return `AllocError` when memory runs out.
 #![tactic(auto)]
 
 mod accounts;

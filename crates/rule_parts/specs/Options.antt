@@ -1,5 +1,6 @@
 -- The options of OPTIONS.
-use Rattle.std.specs.Prelude.{ℕ, ◌+◌, ◌^◌, ℤ, pos, neg_ℤ, int_le, int_lt, ◌&&◌, ◌||◌, Bool, nat_le, if◌then◌else◌, List, [], ◌∷◌, Option, Some, None, is_some, option_map, nat_eq, codes}
+use Rattle.std.specs.Prelude.{ℕ, ◌+◌, ◌^◌, ℤ, pos, neg_ℤ, int_le, int_lt, ◌&&◌, ◌||◌, Bool, nat_le, if◌then◌else◌}
+use Rattle.std.specs.Prelude.{List, [], ◌∷◌, Option, Some, None, is_some, option_map, nat_eq, codes}
 use Rattle.std.specs.Option.{option_and_then, unwrap_or}
 use Rattle.std.specs.Cmp.Lexicographic.{pointwise}
 use Rattle.text_bytes.specs.Texts.{following}
@@ -8,7 +9,8 @@ use Rattle.text_bytes.specs.declared.profile.Profile.{Profile}
 use Rattle.text_bytes.specs.declared.profile.Profile.TheVariants as profile
 use Rattle.rule_templates.specs.Integers.{integer_of, natural_of}
 use Rattle.rule_types.specs.declared.rule_option.RuleOption.{RuleOption}
-use Rattle.rule_types.specs.declared.rule_option.RuleOption.TheVariants.{LinkPriority, KeepEscapes, ReplaceEscapes, Watch, NoWatch, DbPersist, LogLevel, Ignored}
+use Rattle.rule_types.specs.declared.rule_option.RuleOption.TheVariants.{LinkPriority, KeepEscapes, ReplaceEscapes, Watch}
+use Rattle.rule_types.specs.declared.rule_option.RuleOption.TheVariants.{NoWatch, DbPersist, LogLevel, Ignored}
 
 -- what is beside a name in a table
 abbrev pub beside : {X : Type 0} → List (List ℕ × X) → List ℕ → Option X

@@ -2,8 +2,6 @@
 //!
 //! Faults of a token are found here, in the order in which udev looks for them: the key, the attribute, the operator,
 //! the value. `rule_types` says what each key takes, so that no key needs a case of its own here.
-//!
-//! Functions that allocate return `AllocError` when memory runs out.
 #![tactic(auto)]
 
 mod finding;

@@ -6,7 +6,13 @@ use Rattle.text_bytes.specs.Names.{backslash, double_quote}
 use Rattle.text_bytes.specs.Texts.{ends_in}
 use Rattle.file_messages.specs.declared.message.Message.{Message}
 use Rattle.file_messages.specs.declared.message.MessageKind.{MessageKind}
-use Rattle.file_messages.specs.declared.message.MessageKind.TheVariants.{BadSyntax, BadPrefix, UnknownKey, OperatorNotAllowed, WrongAttribute, BadValue, BadSubstitution, NoLaterLabel, GivenTwice, LineTooLong, SetNotSupported, ReservedProperty, NameWithoutEffect, UnknownBuiltin, MatchesExclude, SaidTwice, RuleWithoutEffect, ResultBeforeProgram, EmptyValue, BadAttributeSubstitution, AttributeElsewhere, OldSubsystemName, AssignExpected, UnknownAccount, FileAbandoned, CommaExpected, BlankExpected, ReadAsAssign, OpenAtEnd, LabelUnused, LeadingComma, BlankBeforeComma}
+use Rattle.file_messages.specs.declared.message.MessageKind.TheVariants.{BadSyntax, BadPrefix, UnknownKey, OperatorNotAllowed, WrongAttribute, BadValue}
+use Rattle.file_messages.specs.declared.message.MessageKind.TheVariants.{BadSubstitution, NoLaterLabel, GivenTwice, LineTooLong, SetNotSupported}
+use Rattle.file_messages.specs.declared.message.MessageKind.TheVariants.{ReservedProperty, NameWithoutEffect, UnknownBuiltin, MatchesExclude}
+use Rattle.file_messages.specs.declared.message.MessageKind.TheVariants.{SaidTwice, RuleWithoutEffect, ResultBeforeProgram, EmptyValue}
+use Rattle.file_messages.specs.declared.message.MessageKind.TheVariants.{BadAttributeSubstitution, AttributeElsewhere, OldSubsystemName, AssignExpected}
+use Rattle.file_messages.specs.declared.message.MessageKind.TheVariants.{UnknownAccount, FileAbandoned, CommaExpected, BlankExpected}
+use Rattle.file_messages.specs.declared.message.MessageKind.TheVariants.{ReadAsAssign, OpenAtEnd, LabelUnused, LeadingComma, BlankBeforeComma}
 use Rattle.rule_tokens.specs.Grammar.{AllAre, BeginsOther, is_gap_byte}
 use Rattle.rule_core.specs.Ends.{is_too_long}
 use Rattle.rule_core.specs.Lines.{kept, piece_of}

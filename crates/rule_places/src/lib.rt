@@ -2,8 +2,6 @@
 //!
 //! Each finding about a joined line has its place among the joined bytes. The physical place follows from the lines of
 //! the file that were kept, each with the place at which it begins among these bytes.
-//!
-//! Functions that allocate return `AllocError` when memory runs out.
 #![tactic(auto)]
 
 mod abandoned;

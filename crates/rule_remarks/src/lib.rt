@@ -3,8 +3,6 @@
 //!
 //! A line that is not a rule is reported when it is read, and not here. Each report has the place that it is about,
 //! so that it can be sorted among the findings of reading.
-//!
-//! Functions that allocate return `AllocError` when memory runs out.
 #![tactic(auto)]
 
 mod account_lines;

@@ -1,6 +1,7 @@
 -- Reading a template: each step gives the piece at the front of a text, and what is left of the text after it.
 -- That this is the language of Grammar is a law of the crate.
-use Rattle.std.specs.Prelude.{ℕ, zero, suc, Bool, not, true, false, ◌==◌, ◌&&◌, nat_lt, List, [], ◌∷◌, length, take_while, Option, Some, None, Result, Ok, Err, is_err, if◌then◌else◌}
+use Rattle.std.specs.Prelude.{ℕ, zero, suc, Bool, not, true, false, ◌==◌, ◌&&◌, nat_lt, List, [], ◌∷◌, length}
+use Rattle.std.specs.Prelude.{take_while, Option, Some, None, Result, Ok, Err, is_err, if◌then◌else◌}
 use Rattle.text_bytes.specs.Names.{dollar, percent, open_brace, close_brace}
 use Rattle.text_bytes.specs.Texts.{begins_with, skip_while, split_once}
 use Rattle.text_bytes.specs.declared.profile.Profile.{Profile}

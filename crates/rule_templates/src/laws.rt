@@ -26,15 +26,18 @@ pub fn natural_numbers_are_integers()
 
 /// A sign that no name follows stands for itself, and what follows it is read on.
 pub fn an_unknown_sign_is_a_byte()
-    ensures dollar { (text : List ℕ) → ((n : List ℕ) (s : Substitution) (rest : List ℕ) → HasName (long_names_as Udev) n s → text ≢ n ++ rest) → left_of (dollar ∷ text) ≡ piece.Plain (dollar ∷ []) ∷ left_of text }
-    ensures percent { (text : List ℕ) → ((n : List ℕ) (s : Substitution) (rest : List ℕ) → HasName (short_names_as Udev) n s → text ≢ n ++ rest) → left_of (percent ∷ text) ≡ piece.Plain (percent ∷ []) ∷ left_of text }
+    ensures dollar { (text : List ℕ) → ((n : List ℕ) (s : Substitution) (rest : List ℕ) → HasName (long_names_as Udev) n s → text ≢ n ++ rest)
+        → left_of (dollar ∷ text) ≡ piece.Plain (dollar ∷ []) ∷ left_of text }
+    ensures percent { (text : List ℕ) → ((n : List ℕ) (s : Substitution) (rest : List ℕ) → HasName (short_names_as Udev) n s → text ≢ n ++ rest)
+        → left_of (percent ∷ text) ≡ piece.Plain (percent ∷ []) ∷ left_of text }
 {}
 
 /// What udev takes from some texts, and what it reads between the braces of `$result`.
 pub fn texts_are_taken_as_udev_takes_them()
     ensures braces { left_of (codes "x$kernel{foo}y") ≡ piece.Plain (codes "x") ∷ piece.Kernel ∷ piece.Plain (codes "y") ∷ [] }
     ensures ends { left_of (codes "q$attr r") ≡ piece.Plain (codes "q") ∷ [] }
-    ensures names { left_of (codes "$tempnode %D $sysfs{model}") ≡ piece.Devnode ∷ piece.Plain (codes " ") ∷ piece.Name ∷ piece.Plain (codes " ") ∷ piece.Attr (codes "model") ∷ [] }
+    ensures names { left_of (codes "$tempnode %D $sysfs{model}")
+        ≡ piece.Devnode ∷ piece.Plain (codes " ") ∷ piece.Name ∷ piece.Plain (codes " ") ∷ piece.Attr (codes "model") ∷ [] }
     ensures octal { udev_word_of (codes "010") ≡ Some (piece.Word 8) }
     ensures hexadecimal { udev_word_of (codes "0x10+") ≡ Some (piece.From 16) }
     ensures zero { udev_word_of (codes "-0+") ≡ Some piece.Result }

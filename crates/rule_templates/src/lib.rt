@@ -2,8 +2,6 @@
 //!
 //! A value is read into pieces once, so that a rule that is tried on a thousand devices is not read a thousand times,
 //! and so that a bad substitution is found when rules are checked.
-//!
-//! Functions that allocate return `AllocError` when memory runs out.
 #![tactic(auto)]
 
 mod braces;

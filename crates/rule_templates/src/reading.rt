@@ -6,7 +6,8 @@ ghost use Rattle.std.specs.Prelude.{◌≡◌, ◌≤◌, ◌∷◌, IfOk, IfSom
 ghost use Rattle.std.specs.List.{prefix_len};
 ghost use Rattle.rule_templates.specs.Cuts.{copied};
 ghost use Rattle.rule_templates.specs.Faults.{Gives, GivesJust};
-ghost use Rattle.rule_templates.specs.Reading.{argument_of, asked_as, asked_with, first_as, first_at, is_faulty, is_no_sign, is_twice, kept, plain_first, result_piece, substituted_by, udev_asked, udev_first};
+ghost use Rattle.rule_templates.specs.Reading.{argument_of, asked_as, asked_with, first_as, first_at, is_faulty, is_no_sign, is_twice};
+ghost use Rattle.rule_templates.specs.Reading.{kept, plain_first, result_piece, substituted_by, udev_asked, udev_first};
 
 use crate::braces::braced;
 use crate::cut::Cut;

@@ -1,5 +1,6 @@
 -- Reading a line token by token, as a function of lists. That this is the language of Grammar is proved of Tokens::new.
-use Rattle.std.specs.Prelude.{◌≡◌, ◌↔◌, ℕ, zero, suc, ◌+◌, ◌-◌, Bool, true, false, List, [], ◌∷◌, length, drop, Option, Result, Ok, Err, All, if◌then◌else◌, ◌==◌, ◌&&◌, nat_lt}
+use Rattle.std.specs.Prelude.{◌≡◌, ◌↔◌, ℕ, zero, suc, ◌+◌, ◌-◌, Bool, true, false, List, [], ◌∷◌, length}
+use Rattle.std.specs.Prelude.{drop, Option, Result, Ok, Err, All, if◌then◌else◌, ◌==◌, ◌&&◌, nat_lt}
 use Rattle.text_bytes.specs.Texts.{skip_while}
 use Rattle.rule_tokens.specs.declared.kinds.TokenFault.{TokenFault}
 use Rattle.rule_tokens.specs.declared.kinds.TokenFaultKind.{TokenFaultKind}

@@ -5,7 +5,8 @@ use Rattle.std.specs.Char.{encode_utf8, digit_value}
 use Rattle.std.specs.Str.Parse.{digits_value}
 use Rattle.text_bytes.specs.Names.{nul, tab, newline, vertical_tab, form_feed, carriage_return, space, double_quote, single_quote, backslash}
 pub use Rattle.text_bytes.specs.Texts.{ends_in}
-use Rattle.rule_tokens.specs.Letters.{bell, backspace, capital_u, letter_a, letter_b, letter_f, letter_n, letter_r, letter_s, letter_t, letter_u, letter_v, letter_x}
+use Rattle.rule_tokens.specs.Letters.{bell, backspace, capital_u, letter_a, letter_b, letter_f, letter_n}
+use Rattle.rule_tokens.specs.Letters.{letter_r, letter_s, letter_t, letter_u, letter_v, letter_x}
 use Rattle.rule_tokens.specs.declared.kinds.Quote.{Quote}
 use Rattle.rule_tokens.specs.declared.kinds.Quote.TheVariants.{Plain, Escaped, Blind, BlindEscaped}
 

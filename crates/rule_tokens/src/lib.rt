@@ -6,8 +6,6 @@
 //!
 //! `specs/Grammar.antt` states the language of lines as a relation, and is what a reader has to believe;
 //! `specs/Values.antt` does the same for the text between the quotes.
-//!
-//! Functions that allocate return `AllocError` when memory runs out.
 #![tactic(auto)]
 
 mod escapes;

@@ -1,5 +1,6 @@
 -- What may be in the braces after each key.
-use Rattle.std.specs.Prelude.{ℕ, ◌+◌, ◌-◌, ◌*◌, ◌^◌, Bool, not, ◌&&◌, ◌||◌, codes, List, [], ◌∷◌, length, Option, Some, None, is_some, option_map, nat_le, nat_lt, nat_eq, if◌then◌else◌}
+use Rattle.std.specs.Prelude.{ℕ, ◌+◌, ◌-◌, ◌*◌, ◌^◌, Bool, not, ◌&&◌, ◌||◌, codes, List, [], ◌∷◌, length, Option}
+use Rattle.std.specs.Prelude.{Some, None, is_some, option_map, nat_le, nat_lt, nat_eq, if◌then◌else◌}
 use Rattle.std.specs.List.{list_all, prefix_len}
 use Rattle.std.specs.Cmp.Lexicographic.{pointwise}
 use Rattle.text_bytes.specs.Names.{digit_zero}

@@ -1,5 +1,6 @@
 -- Words for texts that several readers use.
-use Rattle.std.specs.Prelude.{ℕ, Bool, true, false, ◌==◌, List, [], ◌∷◌, length, take, drop, slice_index, position, Option, Some, None, option_map, ◌+◌, ◌-◌, nat_eq, if◌then◌else◌}
+use Rattle.std.specs.Prelude.{ℕ, Bool, true, false, ◌==◌, List, [], ◌∷◌, length, take, drop, slice_index}
+use Rattle.std.specs.Prelude.{position, Option, Some, None, option_map, ◌+◌, ◌-◌, nat_eq, if◌then◌else◌}
 use Rattle.std.specs.Cmp.Lexicographic.{pointwise}
 use Rattle.std.specs.List.{prefix_len, suffix_len}
 use Rattle.text_bytes.specs.Names.{is_blank, is_whitespace}

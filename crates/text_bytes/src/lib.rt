@@ -2,8 +2,6 @@
 //!
 //! A text is bytes, and need not be UTF-8. This crate has the search for a byte, what readers share (lines and their
 //! numbers, decimal numbers, blanks), and the input files with their order.
-//!
-//! Functions that allocate return `AllocError` when memory runs out.
 #![tactic(auto)]
 
 mod bytes;

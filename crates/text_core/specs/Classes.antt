@@ -1,11 +1,13 @@
 -- The classes of bytes in the C locale.
 use Rattle.std.specs.Prelude.{ℕ, Bool, ◌==◌, ◌||◌, List, [], ◌∷◌, Option, nat_eq, codes}
-use Rattle.std.specs.Char.{is_ascii_alphabetic, is_ascii_alphanumeric, is_ascii_control, is_ascii_digit, is_ascii_graphic, is_ascii_hexdigit, is_ascii_lowercase, is_ascii_punctuation, is_ascii_uppercase}
+use Rattle.std.specs.Char.{is_ascii_alphabetic, is_ascii_alphanumeric, is_ascii_control, is_ascii_digit, is_ascii_graphic}
+use Rattle.std.specs.Char.{is_ascii_hexdigit, is_ascii_lowercase, is_ascii_punctuation, is_ascii_uppercase}
 use Rattle.std.specs.Cmp.Lexicographic.{pointwise}
 use Rattle.std.specs.List.{find}
 use Rattle.text_bytes.specs.Names.{is_blank, is_whitespace, space}
 use Rattle.text_core.specs.declared.byte_class.ByteClass.{ByteClass}
-use Rattle.text_core.specs.declared.byte_class.ByteClass.TheVariants.{Alphanumeric, Alphabetic, Blank, Control, Digit, Graphic, Lowercase, Printed, Punctuation, Whitespace, Uppercase, Hexdigit}
+use Rattle.text_core.specs.declared.byte_class.ByteClass.TheVariants.{Alphanumeric, Alphabetic, Blank, Control, Digit, Graphic, Lowercase}
+use Rattle.text_core.specs.declared.byte_class.ByteClass.TheVariants.{Printed, Punctuation, Whitespace, Uppercase, Hexdigit}
 
 -- The name of a class.
 abbrev pub class_name : ByteClass → List ℕ

@@ -1,5 +1,6 @@
 -- What a text spells as a pattern of fnmatch(3) in the C locale, and as a choice of such patterns.
-use Rattle.std.specs.Prelude.{ℕ, zero, suc, ◌-◌, Bool, true, false, ◌==◌, ◌||◌, nat_lt, if◌then◌else◌, List, ◌∷◌, [], map, length, drop, Option, Some, None, Result, Ok, Err}
+use Rattle.std.specs.Prelude.{ℕ, zero, suc, ◌-◌, Bool, true, false, ◌==◌, ◌||◌, nat_lt, if◌then◌else◌}
+use Rattle.std.specs.Prelude.{List, ◌∷◌, [], map, length, drop, Option, Some, None, Result, Ok, Err}
 use Rattle.std.specs.List.{list_any, slice_split}
 use Rattle.text_bytes.specs.Names.{backslash, open_bracket, question_mark, star}
 use Rattle.text_core.specs.Brackets.{Closed, elements_at}

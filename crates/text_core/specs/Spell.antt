@@ -1,5 +1,6 @@
 -- What a text spells as a pattern: its items from the left, or its first fault.
-use Rattle.std.specs.Prelude.{ℕ, zero, suc, ◌+◌, Bool, false, not, ◌==◌, ◌||◌, ◌&&◌, nat_lt, if◌then◌else◌, List, ◌∷◌, [], length, take, drop, position, Option, Some, None, Result, Ok, Err}
+use Rattle.std.specs.Prelude.{ℕ, zero, suc, ◌+◌, Bool, false, not, ◌==◌, ◌||◌, ◌&&◌, nat_lt, if◌then◌else◌, List}
+use Rattle.std.specs.Prelude.{◌∷◌, [], length, take, drop, position, Option, Some, None, Result, Ok, Err}
 use Rattle.std.specs.Char.{is_ascii_alphabetic}
 use Rattle.std.specs.List.{zip}
 use Rattle.std.specs.Option.{option_map}

@@ -56,7 +56,8 @@ pub(crate) fn closed_ends(
     text: &[u8],
 ) -> Result<Vec<bool>, AllocError>
     requires { (k : ℕ) → slice_get lens.now (length (drop k text.now)) ≡ Some (symbol_len (drop k text.now)) }
-    ensures { IfOk result (λ closed. (k : ℕ) → slice_get closed.items (length (drop k text.now)) ≡ Some (is_some (elements_at reading false (drop k text.now) 0))) }
+    ensures { IfOk result (λ closed. (k : ℕ) → slice_get closed.items (length (drop k text.now))
+        ≡ Some (is_some (elements_at reading false (drop k text.now) 0))) }
 {
     let mut closed = Vec::with_capacity(alloc, text.len() + 1)?;
     closed.push(false)?;

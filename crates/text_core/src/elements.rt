@@ -3,7 +3,9 @@ ghost use Rattle.std.specs.Prelude.{◌≡◌, ◌+◌, ◌≤◌, ℕ, length, 
 ghost use Rattle.std.specs.Bool.{OnTrue};
 ghost use Rattle.std.specs.List.{prefix_len, slice_get};
 ghost use Rattle.text_core.specs.Classes.{class_of};
-ghost use Rattle.text_core.specs.Elements.{class_element, class_or_equivalence, element_of, end_of, equivalence, element_has, escaped, folded, proceeds, is_ended, is_small_letter, is_unknown, named_class, point, range_between, ranged, single, symbol, symbol_element, symbol_len, symbol_or_bracket, takes_among};
+ghost use Rattle.text_core.specs.Elements.{class_element, class_or_equivalence, element_of, end_of, equivalence, element_has, escaped};
+ghost use Rattle.text_core.specs.Elements.{folded, proceeds, is_ended, is_small_letter, is_unknown, named_class, point, range_between};
+ghost use Rattle.text_core.specs.Elements.{ranged, single, symbol, symbol_element, symbol_len, symbol_or_bracket, takes_among};
 
 use crate::byte_class::{ByteClass, class_of};
 use crate::reading::Reading;

@@ -2,8 +2,6 @@
 //!
 //! Rules and the hardware database both match texts against patterns, so patterns are below the crates that read them.
 //! `text_bytes` comes with this crate.
-//!
-//! Functions that allocate return `AllocError` when memory runs out.
 #![tactic(auto)]
 
 mod brackets;

@@ -21,5 +21,6 @@ pub fn quoted_byte_means_itself()
 
 /// A class between brackets takes just its bytes, in both readings.
 pub fn class_takes_its_bytes()
-    ensures { (reading : Reading) (class : ByteClass) (b : ℕ) → b < 256 → fits (fnmatch_items reading (codes "[[:" ++ class_name class ++ codes ":]]") 0) (b ∷ []) ≡ class_has class b }
+    ensures { (reading : Reading) (class : ByteClass) (b : ℕ) → b < 256
+        → fits (fnmatch_items reading (codes "[[:" ++ class_name class ++ codes ":]]") 0) (b ∷ []) ≡ class_has class b }
 {}

@@ -1,7 +1,5 @@
 //! Texts that devices report about themselves: made safe for links and attributes, joined to one word, encoded, and the
 //! names that the kernel gives devices.
-//!
-//! Functions that allocate return `AllocError` when memory runs out.
 #![tactic(auto)]
 
 mod encodings;

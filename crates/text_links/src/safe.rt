@@ -1,6 +1,7 @@
 //! A text made safe, byte by byte.
 ghost use Rattle.std.specs.Prelude.{◌≡◌, ◌<◌, IfOk, length};
-ghost use Rattle.text_links.specs.Safe.{attribute_marks, is_hex_escape, is_in_sequence, stays_anywhere, is_reached, link_marks, safe, safe_byte, sequence_len, stays, value_marks};
+ghost use Rattle.text_links.specs.Safe.{attribute_marks, is_hex_escape, is_in_sequence, stays_anywhere, is_reached};
+ghost use Rattle.text_links.specs.Safe.{link_marks, safe, safe_byte, sequence_len, stays, value_marks};
 
 use bstr::decode_utf8;
 use std::alloc::{AllocError, Global};

@@ -23,7 +23,8 @@ pub fn removed_texts_are_gone()
 
 /// A name that was set has its value, and other names keep theirs.
 pub fn set_names_have_their_values<V>()
-    ensures { (pairs : List (Text × V)) (name : Text) (value : V) (other : Text) → value_of (with_value pairs name value) other ≡ (if same_text other name then Some value else value_of pairs other) }
+    ensures { (pairs : List (Text × V)) (name : Text) (value : V) (other : Text)
+        → value_of (with_value pairs name value) other ≡ (if same_text other name then Some value else value_of pairs other) }
 {}
 
 /// A name that is new follows the others.
@@ -38,7 +39,8 @@ pub fn set_names_stay_in_place<V>()
 
 /// A name that was removed has no value, and other names keep theirs.
 pub fn removed_names_are_gone<V>()
-    ensures { (pairs : List (Text × V)) (name other : Text) → value_of (without_name pairs name) other ≡ (if same_text other name then None else value_of pairs other) }
+    ensures { (pairs : List (Text × V)) (name other : Text)
+        → value_of (without_name pairs name) other ≡ (if same_text other name then None else value_of pairs other) }
 {}
 
 /// A name is there if and only if it has a value.

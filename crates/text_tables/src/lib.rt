@@ -4,8 +4,6 @@
 //! and no lookup walks the list. A table borrows its texts (`Texts`, `Pairs`, `Table`), owns them (`OwnedTexts`), or
 //! borrows each until it is set (`CowPairs`); to a contract all are the same lists, and the definitions in `specs/` serve
 //! all. The crate is small on purpose, so that it is checked quickly.
-//!
-//! Functions that allocate return `AllocError` when memory runs out.
 #![tactic(auto)]
 
 mod cow_pairs;

@@ -39,7 +39,8 @@ pub(crate) fn nodes_of(alloc: Global, sorted: Sorted<'_, '_>) -> Result<Vec<Node
     requires shared { AreShared (patterns sorted.rows.now) sorted.shared.now }
     requires first_labels { All HasPrefix sorted.rows.now }
     ensures nodes { IfOk result (λ nodes. AreNodes (patterns sorted.entry.rows.now) nodes.items) }
-    ensures fits { MatchResult result (λ _. length (paths_among (patterns sorted.entry.rows.now)) ≤ max_nodes) (λ fault. fault ≡ TooLarge → max_nodes < length (paths_among (patterns sorted.entry.rows.now))) }
+    ensures fits { MatchResult result (λ _. length (paths_among (patterns sorted.entry.rows.now)) ≤ max_nodes) (λ fault. fault ≡ TooLarge
+        → max_nodes < length (paths_among (patterns sorted.entry.rows.now))) }
 {
     let mut nodes = Vec::new(alloc);
     let mut groups = Vec::new(alloc);

@@ -108,7 +108,8 @@ fn word(prefix: &[u8; PREFIX], from: usize) -> u64
 /// How eight bytes of a front compare with those of another.
 fn compare_words(prefix: &[u8; PREFIX], other: &[u8; PREFIX], from: usize) -> Ordering
     requires { from + 8 ≤ 24 }
-    ensures { slice_cmp nat_cmp (drop from prefix.now) (drop from other.now) ≡ ordering_then result (slice_cmp nat_cmp (drop (from + 8) prefix.now) (drop (from + 8) other.now)) }
+    ensures { slice_cmp nat_cmp (drop from prefix.now) (drop from other.now)
+        ≡ ordering_then result (slice_cmp nat_cmp (drop (from + 8) prefix.now) (drop (from + 8) other.now)) }
 {
     word(prefix, from).cmp(&word(other, from))
 }

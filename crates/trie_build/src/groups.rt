@@ -58,7 +58,8 @@ fn run_end(sorted: Sorted<'_, '_>, start: usize, end: usize, depth: usize) -> us
     requires within { end ≤ length (patterns sorted.rows.now) }
     requires some { start < end }
     requires longer { (x : ℕ) → start ≤ x → x < end → depth < length (pattern_at (patterns sorted.rows.now) x) }
-    requires alike { (x : ℕ) → start ≤ x → x < end → take depth (pattern_at (patterns sorted.rows.now) x) ≡ take depth (pattern_at (patterns sorted.rows.now) start) }
+    requires alike { (x : ℕ) → start ≤ x → x < end → take depth (pattern_at (patterns sorted.rows.now) x)
+        ≡ take depth (pattern_at (patterns sorted.rows.now) start) }
     ensures run { IsRun (patterns sorted.entry.rows.now) start end depth result }
 {
     for at in start + 1..end {

@@ -1,6 +1,4 @@
 //! The trie of a database: which nodes it has, in which order, and how it is built from the entries.
-//!
-//! Functions that allocate return `AllocError` when memory runs out.
 #![tactic(auto)]
 
 mod build;

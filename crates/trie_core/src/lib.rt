@@ -2,8 +2,6 @@
 //!
 //! A trie is built from the entries that were read; an index is read instead of one, and written from one. This
 //! crate defines what the index of a list of entries is. The trie and the index of the crates below come with it.
-//!
-//! Functions that allocate return `AllocError` when memory runs out.
 #![tactic(auto)]
 
 mod labels;

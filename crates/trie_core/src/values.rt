@@ -69,7 +69,13 @@ fn record_of(entry: &Entry, place: u32, names: &[&[u8]], places: &[u32]) -> Valu
     requires there { IsIn entry.now.file (shown names.now) }
     requires short { IsSmall (length entry.now.file) }
     requires places { length names.now < length places.now }
-    ensures { result ≡ record { key = record { place = place; len = length entry.now.key }; value = record { place = place + length entry.now.key; len = length entry.now.value }; order = entry.now.order; file = record { place = slice_index places.now (number_in text_order (shown names.now) entry.now.file); len = length entry.now.file }; line = entry.now.line } }
+    ensures { result ≡ record {
+      key = record { place = place; len = length entry.now.key };
+      value = record { place = place + length entry.now.key; len = length entry.now.value };
+      order = entry.now.order;
+      file = record { place = slice_index places.now (number_in text_order (shown names.now) entry.now.file); len = length entry.now.file };
+      line = entry.now.line;
+    } }
 {
     let key = entry.key.as_slice();
     let value = entry.value.as_slice();

@@ -17,7 +17,8 @@ fn push_values<'a, D: Database>(
     i: u32,
 ) -> Result<(), AllocError>
     requires { i < length (D.nodes database.now) }
-    ensures { OnOk result (found_entries found.new.items ≡ found_entries found.old.items ++ map bare (values_of (D.nodes database.now) (D.values database.now) i)) }
+    ensures { OnOk result (found_entries found.new.items
+        ≡ found_entries found.old.items ++ map bare (values_of (D.nodes database.now) (D.values database.now) i)) }
 {
     let numbers = database.values_of(i);
     for j in numbers.start..numbers.end {
@@ -32,7 +33,8 @@ fn winners<'a, D: Database>(
     database: &'a D,
     modalias: &[u8],
 ) -> Result<Vec<Found<'a>>, AllocError>
-    ensures { IfOk result (λ won. found_entries won.items ≡ fold put [] (map bare (flat_map (values_of (D.nodes database.now) (D.values database.now)) (active_after (D.nodes database.now) modalias.now)))) }
+    ensures { IfOk result (λ won. found_entries won.items
+        ≡ fold put [] (map bare (flat_map (values_of (D.nodes database.now) (D.values database.now)) (active_after (D.nodes database.now) modalias.now)))) }
 {
     let (active, _) = visits(alloc, database, modalias)?;
     let mut found = Vec::new(alloc);

@@ -81,7 +81,8 @@ is_of kind.Switch c = has c.events switch_event
 
 -- the kinds in the order in which they are reported
 abbrev pub all_kinds : List Kind
-all_kinds = kind.Accelerometer ∷ kind.PointingStick ∷ kind.Mouse ∷ kind.Touchpad ∷ kind.Touchscreen ∷ kind.Joystick ∷ kind.Tablet ∷ kind.TabletPad ∷ kind.Key ∷ kind.Keyboard ∷ kind.Switch ∷ []
+all_kinds = kind.Accelerometer ∷ kind.PointingStick ∷ kind.Mouse ∷ kind.Touchpad ∷ kind.Touchscreen ∷ kind.Joystick
+    ∷ kind.Tablet ∷ kind.TabletPad ∷ kind.Key ∷ kind.Keyboard ∷ kind.Switch ∷ []
 
 -- the kinds of a device
 unfoldable pub kinds : CapabilitiesValue → List Kind

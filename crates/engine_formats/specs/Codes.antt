@@ -20,10 +20,12 @@ use Rattle.engine_formats.specs.declared.remark.Remark.TheVariants.{Message, Idl
 
 -- each kind of message
 abbrev pub kinds : List MessageKind
-kinds = BadSyntax ∷ UnknownKey ∷ OperatorNotAllowed ∷ WrongAttribute ∷ BadValue ∷ BadSubstitution ∷ NoLaterLabel ∷ GivenTwice ∷ LineTooLong ∷ BadPrefix ∷ SetNotSupported
+kinds = BadSyntax ∷ UnknownKey ∷ OperatorNotAllowed ∷ WrongAttribute ∷ BadValue ∷ BadSubstitution ∷ NoLaterLabel ∷ GivenTwice ∷ LineTooLong
+    ∷ BadPrefix ∷ SetNotSupported
     ∷ OpenAtEnd ∷ ReservedProperty ∷ NameWithoutEffect ∷ UnknownBuiltin ∷ MatchesExclude ∷ SaidTwice ∷ RuleWithoutEffect ∷ ResultBeforeProgram
     ∷ EmptyValue ∷ BadAttributeSubstitution ∷ AttributeElsewhere ∷ OldSubsystemName ∷ AssignExpected ∷ UnknownAccount ∷ FileAbandoned
-    ∷ CommaExpected ∷ BlankExpected ∷ ReadAsAssign ∷ LabelUnused ∷ LeadingComma ∷ BlankBeforeComma ∷ PropertyWithoutMatch ∷ MatchWithoutProperty ∷ UnindentedLine ∷ NoEquals ∷ EmptyKey ∷ PatternNotSupported ∷ []
+    ∷ CommaExpected ∷ BlankExpected ∷ ReadAsAssign ∷ LabelUnused ∷ LeadingComma ∷ BlankBeforeComma
+    ∷ PropertyWithoutMatch ∷ MatchWithoutProperty ∷ UnindentedLine ∷ NoEquals ∷ EmptyKey ∷ PatternNotSupported ∷ []
 
 -- each lint
 abbrev pub lints : List Lint

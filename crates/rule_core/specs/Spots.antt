@@ -24,7 +24,8 @@ key_spot kind t = spot_at_key kind t.parts.head.key t
 
 -- the attribute of a token between its braces: it follows the key and an open brace
 abbrev pub attribute_spot : MessageKind → Placed → Spot MessageKind
-attribute_spot kind t = spot kind (attribute_bytes t.parts.head.attribute) (t.span.start + length t.parts.head.key + 1) (length (attribute_bytes t.parts.head.attribute))
+attribute_spot kind t =
+    spot kind (attribute_bytes t.parts.head.attribute) (t.span.start + length t.parts.head.key + 1) (length (attribute_bytes t.parts.head.attribute))
 
 -- the place of the first byte of a token's value: the quote after it is the token's last byte
 abbrev pub value_start : Placed → ℕ
@@ -53,7 +54,8 @@ part_spot kind t = if is_of_key kind then key_spot kind t else (if is_of_attribu
 -- a part of a line, from a place on, that is not a token: all up to the line's end, or the letters before the quote
 abbrev pub token_spot : TokenFaultKind → ℕ → List ℕ → Spot MessageKind
 token_spot Syntax at line = let text = drop at line in spot BadSyntax text at (length text)
-token_spot Prefix at line = let text = drop at line in spot BadPrefix (letters_at text) (start_before_quote line text (letters_at text)) (length (letters_at text))
+token_spot Prefix at line =
+    let text = drop at line in spot BadPrefix (letters_at text) (start_before_quote line text (letters_at text)) (length (letters_at text))
 
 -- a line as a whole, reported with no text
 abbrev pub whole_spot : MessageKind → List ℕ → Spot MessageKind

@@ -58,7 +58,8 @@ between from to line = take (to - from) (drop from line)
 -- the gaps and tokens of a line after a place where a token ends; no token follows the last gap
 abbrev pub style_after : Profile → List ℕ → ℕ → List Placed → List (Spot MessageKind)
 style_after by line place [] = whole_gap CommaExpected place (drop place line)
-style_after by line place (t ∷ tokens) = gap_findings by (between place t.span.start line) t ++ (operator_findings by t ++ style_after by line t.span.end tokens)
+style_after by line place (t ∷ tokens) =
+    gap_findings by (between place t.span.start line) t ++ (operator_findings by t ++ style_after by line t.span.end tokens)
 
 -- the gaps and tokens of a line, in the order of their places
 abbrev pub style_findings : Profile → List ℕ → List Placed → List (Spot MessageKind)

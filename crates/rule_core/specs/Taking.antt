@@ -55,7 +55,8 @@ label_said Udev earlier name = lost_name earlier
 
 -- one more token, which is this part
 abbrev pub with_name : Profile → RuleNames → Placed → Part → RuleNames
-with_name by n t (part.Label name) = record n { label = label_given by n.label (name_place t name); findings = n.findings ++ label_said by n.label (name_place t name) }
+with_name by n t (part.Label name) =
+    record n { label = label_given by n.label (name_place t name); findings = n.findings ++ label_said by n.label (name_place t name) }
 with_name by n t (part.Goto name) = record n { goto = first_given n.goto (name_place t name); findings = n.findings ++ again n.goto (name_place t name) }
 with_name by n t _ = n
 
@@ -92,4 +93,5 @@ with_kind k _ = k
 
 -- a rule of these names and these parts
 abbrev pub rule_with : List ℕ → ℕ → Option (List ℕ) → Option (List ℕ) → Kinds → Rule
-rule_with name line label goto k = record { file = name; line = line; label = label; goto = goto; plain = k.plain; up = k.up; acts = k.acts; results = k.results; sets = k.sets }
+rule_with name line label goto k =
+    record { file = name; line = line; label = label; goto = goto; plain = k.plain; up = k.up; acts = k.acts; results = k.results; sets = k.sets }

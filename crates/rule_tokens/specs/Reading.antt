@@ -152,7 +152,8 @@ meant (Character c) = encode_utf8 c
 
 -- The parts of a token, as the code has them, regardless of where they are in memory.
 abbrev pub parts_of : TokenParts → Parts
-parts_of p = record { head = record { key = p.key.now; attribute = option_map (λ a. a.now) p.attribute; operator = p.operator }; quote = p.quote; value = p.value.now }
+parts_of p =
+    record { head = record { key = p.key.now; attribute = option_map (λ a. a.now) p.attribute; operator = p.operator }; quote = p.quote; value = p.value.now }
 
 -- The number that digits write after those of v, up to 10FFFF.
 unfoldable pub scan : ℕ → ℕ → List ℕ → Option ℕ

@@ -3,7 +3,7 @@ use Rattle.std.specs.Prelude.{◌≡◌, ℕ, ◌⊎◌, List, Option}
 use Rattle.text_bytes.specs.declared.source_file.SourceFile.{SourceFile}
 use Rattle.engine_ends.specs.declared.line.Line.{Line}
 use Rattle.engine_ends.specs.Streams.{Streams}
-use Rattle.engine_compare.specs.Runs.{ComparesOver}
+use Rattle.engine_core.specs.Comparing.{ComparesOver}
 use Rattle.devdry_files.specs.Answers.{Answer}
 use Rattle.devdry_files.specs.Faults.{HasPath, IsFaultyWanted}
 use Rattle.devdry_files.specs.Found.{AreWanted}

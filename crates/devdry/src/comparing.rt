@@ -5,7 +5,7 @@ ghost use Rattle.devdry.specs.Comparing.{AreFilesFor, AreReadForBoth, ComparesLi
 use crate::reporting::report_read_fault;
 use crate::running::{Inputs, read_wanted};
 use devdry_files::{Disk, ReadFault, read_all, wanted};
-use engine_compare::serve_compare;
+use engine_core::serve_compare;
 use engine_ends::{Line, Sink, Source};
 use std::alloc::Global;
 use text_bytes::{Bytes, SourceFile};

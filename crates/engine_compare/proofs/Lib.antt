@@ -1,4 +1,3 @@
 pub mod Counting
 pub mod Tallying
-pub mod Comparing
 pub mod Reporting

@@ -1,5 +1,3 @@
 pub mod Surplus
 pub mod Tallies
 pub mod Differences
-pub mod Outcomes
-pub mod Runs

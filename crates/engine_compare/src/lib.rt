@@ -1,14 +1,10 @@
-//! What appears and disappears between the answers of two sets of rules to one event, and the whole run of `compare`
-//! over files and an index in memory and an input.
-//!
-//! Like `engine_core` with its `serve`, this crate opens no file and knows no terminal.
+//! What appears and disappears between two answers to one event, whatever answers it: the lines, and `Compared`, which
+//! is itself an answering of events, made of two others.
 #![tactic(auto)]
 
 mod answers;
 mod compared;
 mod laws;
-mod serving;
-mod shared;
 mod tallies;
 
 pub use answers::differences;
@@ -19,6 +15,4 @@ pub use laws::{
     nothing_differs_where_lines_are_the_same, nothing_is_reported_where_lines_are_the_same,
     the_last_of_equal_lines_are_reported, the_same_answer_differs_in_nothing,
 };
-pub use serving::serve_compare;
-pub use shared::Shared;
 pub use tallies::surplus;

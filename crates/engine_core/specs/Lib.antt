@@ -2,3 +2,4 @@ pub mod Reported
 pub mod Runs
 pub mod Checking
 pub mod Outcomes
+pub mod Comparing

@@ -2,17 +2,21 @@
 //! bytes and a status.
 //!
 //! This crate opens no file and knows no terminal: files and index are bytes, the input is a source and the outputs
-//! are sinks, so that the contract of `serve` can say what is written, to the byte. Reports on files are built by
-//! the crates below; this one takes `events` from its messages to its answers.
+//! are sinks, so that the contracts of `serve` and `serve_compare` can say what is written, to the byte. Reports on
+//! files and what differs between two answers are built by the crates below; this one takes `events` and `compare`
+//! from their messages to their answers, and is where rules meet udev's builtins.
 #![tactic(auto)]
 
 mod asked;
 mod checking;
+mod comparing;
 mod events;
 mod reported;
 mod serving;
+mod shared;
 
 pub use asked::AskedTables;
+pub use comparing::serve_compare;
 pub use engine_answers::Tables;
 pub use engine_ends::{
     DeviceFault, Format, Line, LineFault, MemorySink, MemorySource, Request, Sink, SinkOver,

@@ -1,6 +1,6 @@
 use Rattle.std.proofs.Common.{◌≡◌, inl, inr, refl, rules, subst}
 use Rattle.std.specs.Option.{option_map}
-use Rattle.engine_compare.specs.Runs.{ComparesOver}
+use Rattle.engine_core.specs.Comparing.{ComparesOver}
 use Rattle.devdry.proofs.comparing.run_compare.Goals as goal
 
 pub returns-in-Ok : goal.returns-in-Ok

@@ -7,7 +7,7 @@ use std::marker::Model;
 
 /// A borrowed database, so that more than one program can query it.
 #[derive(Drop)]
-pub struct Shared<'b, L: Lookup> {
+pub(crate) struct Shared<'b, L: Lookup> {
     lookup: &'b L,
 }
 
@@ -19,7 +19,7 @@ impl<'b, L: Lookup> Model for Shared<'b, L> {
 
 impl<'b, L: Lookup> Shared<'b, L> {
     /// The borrowed database.
-    pub fn new(lookup: &'b L) -> Shared<'b, L>
+    pub(crate) fn new(lookup: &'b L) -> Shared<'b, L>
         ensures { result ≡ lookup.entry.now }
     {
         Shared { lookup }

@@ -1,18 +1,17 @@
-//! The whole comparison.
+//! `compare`: the messages about two sets of rules, and then what appears and disappears between their answers.
 ghost use Rattle.std.specs.Prelude.{◌≡◌, ◌++◌, Ok, Err, Some, None, IfOk, IfErr, option_map, Result};
 ghost use Rattle.engine_ends.specs.Delivery.{RunOutcome};
-ghost use Rattle.engine_compare.specs.Outcomes.{differences_by};
-ghost use Rattle.engine_compare.specs.Runs.{ComparesBy, ComparesOver};
+ghost use Rattle.engine_core.specs.Comparing.{ComparesBy, ComparesOver, differences_by};
 ghost use Rattle.engine_reports.specs.Indexes.{entries_in};
 ghost use Rattle.engine_reports.specs.Openings.{OpeningValue, opening};
 ghost use Rattle.engine_reports.specs.Reports.{IsRefused, shown_rules};
 ghost use Rattle.engine_sessions.specs.Findings.{FindsAll};
 ghost use Rattle.engine_sessions.specs.Sessions.{answers_as};
 
-use crate::compared::Compared;
 use crate::shared::Shared;
 use builtin_core::Builtins;
 use engine_answers::Tables;
+use engine_compare::Compared;
 use engine_ends::{Line, Sink, Source, report_out_of_memory};
 use engine_reports::{
     Refusal, RulesRead, deliver_refusal, open_index, open_rules, open_with_database,

@@ -9,7 +9,7 @@ use crate::codes::remark_with;
 use crate::{comments, database, lints, rules, style, udev};
 use engine_formats::Remark;
 use file_messages::MessageKind;
-use rule_types::Lint;
+use rule_lints::Lint;
 
 /// The section on a kind of message.
 fn section_on_kind(kind: MessageKind) -> &'static str

@@ -3,7 +3,7 @@ use Rattle.std.specs.Prelude.{ℕ, ◌||◌, if◌then◌else◌, List, [], Opti
 use Rattle.text_bytes.specs.declared.profile.Profile.{Profile}
 use Rattle.text_bytes.specs.declared.profile.Profile.TheVariants.{Manual, Udev}
 use Rattle.file_messages.specs.declared.message.MessageKind.{MessageKind}
-use Rattle.rule_types.specs.declared.lint.Lint.{Lint}
+use Rattle.rule_lints.specs.declared.lint.Lint.{Lint}
 use Rattle.rule_jumps.specs.declared.jumps.Landing.{Landing}
 use Rattle.rule_core.specs.Rules.{Reading}
 use Rattle.rule_pairs.specs.Accounts.{Accounts}

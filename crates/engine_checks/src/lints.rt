@@ -10,8 +10,8 @@ use crate::reported::Asked;
 use engine_formats::{Diagnostic, Remark};
 use rule_core::LandedReading;
 use rule_file_lints::lints_of_lines;
+use rule_lints::Lint;
 use rule_places::{KeptLines, PlacedFinding};
-use rule_types::Lint;
 use std::alloc::{AllocError, Global};
 
 /// The lints of the lines of a rules file; none is looked for if none is asked for and comments, which may silence

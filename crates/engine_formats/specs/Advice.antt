@@ -9,9 +9,9 @@ use Rattle.file_messages.specs.declared.message.MessageKind.TheVariants.{Unknown
 use Rattle.file_messages.specs.declared.message.MessageKind.TheVariants.{EmptyValue, BadAttributeSubstitution, AttributeElsewhere, OldSubsystemName}
 use Rattle.file_messages.specs.declared.message.MessageKind.TheVariants.{AssignExpected, UnknownAccount, FileAbandoned, CommaExpected}
 use Rattle.file_messages.specs.declared.message.MessageKind.TheVariants.{BlankExpected, ReadAsAssign, LabelUnused, LeadingComma, BlankBeforeComma}
-use Rattle.rule_types.specs.declared.lint.Lint.{Lint}
-use Rattle.rule_types.specs.declared.lint.Lint.TheVariants.{ModeNotOctal, SignOfShell, RelativeProgram, LetterCase, NoSuchDevice, ImportedBelow, MeantToCompare}
-use Rattle.rule_types.specs.declared.lint.Lint.TheVariants.{NameOutsideNet, LinkWithDev, QuotedName, NotAPattern, AlwaysHolds, NeverReached}
+use Rattle.rule_lints.specs.declared.lint.Lint.{Lint}
+use Rattle.rule_lints.specs.declared.lint.Lint.TheVariants.{ModeNotOctal, SignOfShell, RelativeProgram, LetterCase, NoSuchDevice, ImportedBelow, MeantToCompare}
+use Rattle.rule_lints.specs.declared.lint.Lint.TheVariants.{NameOutsideNet, LinkWithDev, QuotedName, NotAPattern, AlwaysHolds, NeverReached}
 use Rattle.engine_formats.specs.declared.remark.Remark.{Remark}
 use Rattle.engine_formats.specs.declared.remark.Remark.TheVariants as about
 use Rattle.engine_formats.specs.declared.remark.Remark.TheVariants.{Message, IdleIgnore, UnknownCode}

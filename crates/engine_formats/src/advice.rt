@@ -4,7 +4,7 @@ ghost use Rattle.engine_formats.specs.Advice.{advice_of, advice_on, advice_on_li
 
 use crate::remark::Remark;
 use file_messages::MessageKind;
-use rule_types::Lint;
+use rule_lints::Lint;
 
 const PROPERTY_WITHOUT_MATCH: &[u8] = b"Put the match above its properties.";
 

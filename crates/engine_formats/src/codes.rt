@@ -5,7 +5,7 @@ ghost use Rattle.engine_formats.specs.Remarks.{code_of};
 
 use crate::remark::Remark;
 use file_messages::MessageKind;
-use rule_types::Lint;
+use rule_lints::Lint;
 
 /// Each remark.
 const REMARKS: [Remark; 53] = [

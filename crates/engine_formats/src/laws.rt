@@ -10,7 +10,7 @@ ghost use Rattle.file_messages.specs.declared.message.Message.{Message};
 ghost use Rattle.file_messages.specs.declared.message.MessageKind.{MessageKind};
 ghost use Rattle.text_bytes.specs.declared.source_file.SourceFile.{SourceFile};
 ghost use Rattle.hwdb_core.specs.Sources.{messages_of};
-ghost use Rattle.rule_types.specs.declared.lint.Lint.{Lint};
+ghost use Rattle.rule_lints.specs.declared.lint.Lint.{Lint};
 ghost use Rattle.engine_ends.specs.declared.line.Format.{Format};
 ghost use Rattle.engine_reports.specs.Checks.{is_style};
 ghost use Rattle.engine_reports.specs.Messages.{message_lines};

@@ -4,7 +4,7 @@ ghost use Rattle.engine_formats.specs.Remarks.{code_of, heading_parts, lint_head
 
 use engine_reports::heading;
 use file_messages::MessageKind;
-use rule_types::Lint;
+use rule_lints::Lint;
 use text_bytes::{begins_with, split_once};
 
 /// What a diagnostic is about.

@@ -7,7 +7,7 @@ use Rattle.std.proofs.lemmas.Grind.{flat_map-append}
 use Rattle.text_bytes.specs.declared.profile.Profile.{Profile}
 use Rattle.text_bytes.specs.declared.source_file.SourceFile.{SourceFile}
 use Rattle.text_tables.specs.Texts.{Text, is_among, same_text}
-use Rattle.rule_types.specs.declared.lint.Lint.{Lint}
+use Rattle.rule_lints.specs.declared.lint.Lint.{Lint}
 use Rattle.rule_core.specs.Rules.{name_of}
 use Rattle.rule_core.specs.Ends.{abandoned}
 use Rattle.rule_places.specs.Kept.{kept_lines}

@@ -16,7 +16,7 @@ use Rattle.rule_lints.specs.RuleLints.{lints_of_rule}
 use Rattle.rule_file_lints.specs.Steps.{FileNames, RulesAbove, nothing_above, with_rule}
 use Rattle.rule_core.specs.Written.{WrittenPart}
 use Rattle.rule_core.specs.declared.spot.Spot.{Spot}
-use Rattle.rule_types.specs.declared.lint.Lint.{Lint}
+use Rattle.rule_lints.specs.declared.lint.Lint.{Lint}
 use Rattle.rule_places.specs.Placed.{placed}
 use Rattle.rule_places.specs.declared.kept.KeptLine.{KeptLine}
 use Rattle.rule_places.specs.declared.placed_finding.PlacedFinding.{PlacedFinding}

@@ -3,11 +3,11 @@ use Rattle.std.specs.Prelude.{if◌then◌else◌, List, [], ◌∷◌, ◌++◌
 use Rattle.std.specs.List.{list_any}
 use Rattle.text_bytes.specs.Names.{open_brace, close_brace}
 use Rattle.text_tables.specs.Texts.{Text, is_among}
-use Rattle.rule_types.specs.declared.lint.Lint.{Lint}
+use Rattle.rule_lints.specs.declared.lint.Lint.{Lint}
 use Rattle.rule_types.specs.Names.{key_name}
 use Rattle.rule_types.specs.declared.keys.Key.{Key}
 use Rattle.rule_types.specs.declared.keys.Key.TheVariants as key
-use Rattle.rule_types.specs.declared.lint.Lint.TheVariants.{MeantToCompare}
+use Rattle.rule_lints.specs.declared.lint.Lint.TheVariants.{MeantToCompare}
 use Rattle.rule_types.specs.declared.part.Change.{Change}
 use Rattle.rule_types.specs.declared.part.Change.TheVariants as change
 use Rattle.rule_types.specs.declared.part.Part.{Part}

@@ -2,8 +2,8 @@
 use Rattle.std.specs.Prelude.{Bool, ◌||◌, if◌then◌else◌, List, [], ◌∷◌, Option, Some, None, is_some}
 use Rattle.std.specs.List.{list_any}
 use Rattle.text_tables.specs.Texts.{Text}
-use Rattle.rule_types.specs.declared.lint.Lint.{Lint}
-use Rattle.rule_types.specs.declared.lint.Lint.TheVariants.{NeverReached}
+use Rattle.rule_lints.specs.declared.lint.Lint.{Lint}
+use Rattle.rule_lints.specs.declared.lint.Lint.TheVariants.{NeverReached}
 use Rattle.rule_core.specs.Rules.{name_of}
 use Rattle.rule_file_lints.specs.FileRules.{FileRule}
 use Rattle.rule_file_lints.specs.Matches.{may_end_at}

@@ -4,7 +4,8 @@ ghost use Rattle.rule_file_lints.specs.Imported.{asked_for, imported_below, want
 
 use crate::imported::{has_property, is_given};
 use rule_core::{Spot, WrittenPart, spot_at_key};
-use rule_types::{Lint, MatchOperator, Part, PlainKey};
+use rule_lints::Lint;
+use rule_types::{MatchOperator, Part, PlainKey};
 use std::alloc::{AllocError, Global};
 use text_bytes::Bytes;
 use text_core::Choice;

@@ -9,7 +9,7 @@ ghost use Rattle.rule_file_lints.specs.Steps.{before_matches, left_after};
 use crate::matches::is_match;
 use crate::valued::{assigned_value, compared_in, text_of};
 use rule_core::{Spot, WrittenPart, spot_at_key};
-use rule_types::Lint;
+use rule_lints::Lint;
 use std::alloc::{AllocError, Global};
 use text_bytes::Bytes;
 use text_tables::OwnedTexts;

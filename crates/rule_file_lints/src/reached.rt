@@ -7,7 +7,7 @@ ghost use Rattle.rule_file_lints.specs.Reached.{first_spot, is_labelled, jumps_t
 use crate::file_rule::FileRule;
 use crate::matches::may_end_at;
 use rule_core::{Spot, WrittenPart, spot_at_key};
-use rule_types::Lint;
+use rule_lints::Lint;
 use std::alloc::{AllocError, Global};
 use text_bytes::Bytes;
 

@@ -2,9 +2,9 @@
 use Rattle.std.specs.Prelude.{ℕ, Bool, true, false, if◌then◌else◌, List, [], ◌∷◌, ◌++◌, Option, Some, None, option_map}
 use Rattle.std.specs.List.{filter_map}
 use Rattle.rule_tokens.specs.Grammar.{Placed}
-use Rattle.rule_types.specs.declared.lint.Lint.{Lint}
-use Rattle.rule_types.specs.declared.lint.Lint.TheVariants.{ModeNotOctal, SignOfShell, RelativeProgram, LetterCase, NoSuchDevice, NameOutsideNet}
-use Rattle.rule_types.specs.declared.lint.Lint.TheVariants.{LinkWithDev, QuotedName, NotAPattern, AlwaysHolds}
+use Rattle.rule_lints.specs.declared.lint.Lint.{Lint}
+use Rattle.rule_lints.specs.declared.lint.Lint.TheVariants.{ModeNotOctal, SignOfShell, RelativeProgram, LetterCase, NoSuchDevice, NameOutsideNet}
+use Rattle.rule_lints.specs.declared.lint.Lint.TheVariants.{LinkWithDev, QuotedName, NotAPattern, AlwaysHolds}
 use Rattle.rule_lints.specs.Commands.{relative_program, shell_command}
 use Rattle.rule_lints.specs.Devices.{asked_name, stranger}
 use Rattle.rule_lints.specs.LetterCase.{wrong_case}

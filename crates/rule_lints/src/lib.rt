@@ -8,6 +8,7 @@ mod commands;
 mod devices;
 mod laws;
 mod letter_case;
+mod lint;
 mod lints;
 mod modes;
 mod names;
@@ -23,4 +24,5 @@ pub use laws::{
     some_numbers, some_patterns, some_stars, strangers_are_of_two_groups,
     the_first_stranger_is_reported, what_always_holds_fits_each_text,
 };
+pub use lint::Lint;
 pub use lints::lints_of_rule;

@@ -1,18 +1,18 @@
 //! What is reported for a rule by itself.
 ghost use Rattle.std.specs.Prelude.{◌≡◌, ◌∷◌, ◌++◌, [], IfOk, OnOk, option_map};
-ghost use Rattle.rule_types.specs.declared.lint.Lint.TheVariants.{AlwaysHolds, NoSuchDevice};
+ghost use Rattle.rule_lints.specs.declared.lint.Lint.TheVariants.{AlwaysHolds, NoSuchDevice};
 ghost use Rattle.rule_lints.specs.Devices.{stranger};
 ghost use Rattle.rule_lints.specs.RuleLints.{names_reported, reported, reported_if_there, lints_of_rule, spot_of, word_of};
 
 use crate::commands::{relative_program, shell_command};
 use crate::devices::{asked_name, stranger};
 use crate::letter_case::wrong_case;
+use crate::lint::Lint;
 use crate::modes::wrong_mode;
 use crate::names::{dev_link, is_outside_net, name_given, quoted_name};
 use crate::patterns::{always_holds, expression};
 use rule_core::{Spot, WrittenPart, spot_at_key, value_spot};
 use rule_tokens::Token;
-use rule_types::Lint;
 use std::alloc::{AllocError, Global};
 use text_bytes::Bytes;
 

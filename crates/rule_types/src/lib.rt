@@ -5,7 +5,6 @@
 
 mod builtins;
 mod keys;
-mod lint;
 mod modes;
 mod operators;
 mod part;
@@ -20,7 +19,6 @@ mod written_parts;
 
 pub use builtins::{Builtin, builtin_of};
 pub use keys::{Key, key_of};
-pub use lint::Lint;
 pub use modes::mode_of;
 pub use operators::{is_add_or_final, is_read_as_assign, read_as};
 pub use part::{Act, ActKind, Assignment, Change, Comparison, Import, Part, PlainMatch, UpMatch};

@@ -1,5 +1,5 @@
 -- What TEST asks, and what IMPORT takes from the parent and from the hardware database, by the manual.
-use Rattle.std.proofs.Common.{◌≡◌, ◌==◌, ◌||◌, Bool, true, false, cond, not, List, ◌∷◌, [], filter, length, Option, Some, None, is_some, refl, ap, ◌∙◌}
+use Rattle.std.proofs.Common.{◌≡◌, ◌==◌, ◌||◌, Bool, true, false, cond, not, List, filter, length, Option, Some, None, is_some, ap, ◌∙◌}
 use Rattle.text_bytes.specs.Names.{slash}
 use Rattle.text_bytes.specs.Texts.{begins_with}
 use Rattle.text_bytes.specs.declared.profile.Profile.{Profile}
@@ -32,7 +32,7 @@ use Rattle.eval_commands.specs.declared.hwdb.Hwdb.{Hwdb}
 use Rattle.eval_acts.specs.ActTexts.{path_by, within_by}
 use Rattle.eval_acts.specs.Acts as acts
 use Rattle.eval_acts.specs.Acts.{act_step, imported, on_text, proceeds, too_long_noted}
-use Rattle.eval_acts.specs.Imports.{builtin_run, from_parent, names_fitting, run_builtin, with_found}
+use Rattle.eval_acts.specs.Imports.{builtin_run, from_parent, run_builtin, with_found}
 use Rattle.eval_acts.specs.LookUps.{found}
 use Rattle.eval_acts.specs.Questions.{tested, tested_by}
 use Rattle.eval_laws.specs.Acting.{builtin_import, parent_import, test}

@@ -1,5 +1,5 @@
 -- The end of a rule is reached where all its keys let it go on.
-use Rattle.std.proofs.Common.{◌≡◌, ◌↔◌, ℕ, ◌<◌, nat_lt, ltb-true, ltb-false, Bool, true, false, cond, ◌&&◌, List, [], ◌∷◌, Option, Some, None, is_some, length, refl, ap, sym, subst, ◌∙◌, true≢false, arith}
+use Rattle.std.proofs.Common.{◌≡◌, ◌↔◌, ℕ, nat_lt, ltb-true, ltb-false, Bool, true, false, cond, ◌&&◌, List, [], ◌∷◌, Option, Some, None, is_some, length, refl, ap, sym, subst, ◌∙◌, true≢false, arith}
 use Rattle.std.specs.List.{fold, list_all}
 use Rattle.text_bytes.specs.declared.profile.Profile.{Profile}
 use Rattle.text_bytes.specs.declared.profile.Profile.TheVariants.{Manual}
@@ -20,10 +20,10 @@ use Rattle.eval_acts.specs.Acts.{act_step}
 use Rattle.eval_acts.specs.Reaching.{match_reached}
 use Rattle.eval_assignments.specs.Steps.{set_step}
 use Rattle.eval_rules.specs.Idle.{is_idle, is_idle_by}
-use Rattle.eval_rules.specs.Steps.{Went, apply, before_sets, if_proceeding, only_noted, plain_step, result_step, search, set_all, steps, walk, with_selected}
-use Rattle.eval_rules.specs.Laws.{IsMetByOneDevice, plain_hold}
+use Rattle.eval_rules.specs.Steps.{Went, apply, if_proceeding, only_noted, plain_step, result_step, search, set_all, steps, walk, with_selected}
+use Rattle.eval_rules.specs.Laws.{IsMetByOneDevice}
 use Rattle.eval_laws.specs.Reaching.{AllGoOn, IsSearched, LetGoOn, matched}
-use Rattle.eval_laws.proofs.Unmatched.{walk_holds, walk_same}
+use Rattle.eval_laws.proofs.Unmatched.{walk_holds}
 
 -- a step after one that goes on
 on : (f : Scene → Went) (w : Went) (s : Scene) → w ≡ (s, true) → if_proceeding f w ≡ f s

@@ -1,17 +1,17 @@
 -- What each key and each option sets.
-use Rattle.std.proofs.Common.{◌≡◌, ◌≢◌, ℤ, Bool, true, false, cond, List, [], ◌∷◌, ◌++◌, Option, Some, None, refl, ap, sym, ◌∙◌, true≢false}
+use Rattle.std.proofs.Common.{◌≡◌, ◌≢◌, ℤ, true, false, cond, List, [], ◌∷◌, ◌++◌, Option, Some, None, refl, ap, ◌∙◌, true≢false}
 use Rattle.std.specs.Cmp.Lexicographic.{bytes_decides}
 use Rattle.text_bytes.specs.Names.{space}
 use Rattle.text_bytes.specs.Texts.{is_empty}
 use Rattle.text_bytes.specs.declared.profile.Profile.{Profile}
 use Rattle.text_bytes.specs.declared.profile.Profile.TheVariants.{Manual}
 use Rattle.text_tables.specs.Texts.{Text, same_text}
-use Rattle.text_tables.specs.Pairs.{Pair, value_of, with_value, without_name}
+use Rattle.text_tables.specs.Pairs.{Pair, value_of, with_value}
 use Rattle.text_tables.proofs.Found.{value_removed, value_set}
 use Rattle.rule_templates.specs.Template.{Parts as Template}
 use Rattle.rule_types.specs.declared.part.Change.TheVariants as change
 use Rattle.rule_types.specs.declared.roles.AssignOperator.{AssignOperator}
-use Rattle.rule_types.specs.declared.roles.AssignOperator.TheVariants.{Assign, Add, Remove, AssignFinal}
+use Rattle.rule_types.specs.declared.roles.AssignOperator.TheVariants.{Add, AssignFinal}
 use Rattle.rule_types.specs.declared.roles.Target.{Target}
 use Rattle.rule_types.specs.declared.roles.Target.TheVariants as target
 use Rattle.rule_types.specs.declared.rule_option.RuleOption.{RuleOption}
@@ -19,25 +19,23 @@ use Rattle.rule_types.specs.declared.rule_option.RuleOption.TheVariants as optio
 use Rattle.rule_types.specs.Rules.{Rule}
 use Rattle.eval_state.specs.Finals.{is_final}
 use Rattle.eval_state.specs.Properties.{property_set}
-use Rattle.eval_state.specs.Scenes.{noted, with_env}
+use Rattle.eval_state.specs.Scenes.{noted}
 use Rattle.eval_state.specs.Texts.{or_empty}
 use Rattle.eval_state.specs.declared.finals.FinalKey.{FinalKey}
 use Rattle.eval_state.specs.declared.finals.FinalKey.TheVariants as key
 use Rattle.eval_state.specs.declared.note_kind.NoteKind.TheVariants.{NameIgnored}
 use Rattle.eval_state.specs.declared.scene.Scene.{Scene}
 use Rattle.eval_rendering.specs.Bounds.{bounded}
-use Rattle.eval_rendering.specs.Rendering.{render}
 use Rattle.eval_rendering.specs.declared.rendered.Rendered.{Rendered}
-use Rattle.eval_rendering.specs.declared.rendered.Rendered.TheVariants as rendered
 use Rattle.eval_assignments.specs.Assigning.{assigned, labels_before, link_text, unless_empty, with_option}
-use Rattle.eval_assignments.specs.Escapes.{escape_of, mode_of}
+use Rattle.eval_assignments.specs.Escapes.{escape_of}
 use Rattle.eval_assignments.specs.Finality.{final_option, final_priority, final_target, finally, is_settled}
 use Rattle.eval_assignments.specs.Givens.{Given}
 use Rattle.eval_assignments.specs.Inner.{given_by}
 use Rattle.eval_assignments.specs.Lists.{changed, link_names, one_tag}
 use Rattle.eval_assignments.specs.Names.{name_text}
 use Rattle.eval_assignments.specs.Properties.{appended, property_joined}
-use Rattle.eval_assignments.specs.Steps.{is_ignored, text_set, text_step}
+use Rattle.eval_assignments.specs.Steps.{text_set, text_step}
 use Rattle.eval_laws.specs.Making.{IsAssigned, after_option, after_text}
 use Rattle.eval_laws.proofs.Making.{open_step}
 

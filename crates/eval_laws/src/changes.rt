@@ -116,16 +116,17 @@ pub fn each_key_changes_what_it_names()
         → (after_text r o target.Tag template s).state.tags ≡ changed o (one_tag t) s.state.tags }
     ensures name { (r : Rule) (o : AssignOperator) (template : templates.Parts) (s : Scene) (t : Text) → IsAssigned r target.Name template s t
         → (after_text r o target.Name template s).state.name ≡ unless_empty (name_text Manual (escape_of r.sets) t) }
-    ensures property { (name : Text) (r : Rule) (o : AssignOperator) (template : templates.Parts) (s : Scene) (t : Text) → IsAssigned r (target.Env name) template s t
-        → o ≢ Add → value_of (after_text r o (target.Env name) template s).state.env name ≡ unless_empty t }
+    ensures property { (name : Text) (r : Rule) (o : AssignOperator) (template : templates.Parts) (s : Scene) (t : Text)
+        → IsAssigned r (target.Env name) template s t → o ≢ Add → value_of (after_text r o (target.Env name) template s).state.env name ≡ unless_empty t }
     ensures first { (name : Text) (r : Rule) (template : templates.Parts) (s : Scene) (t : Text) → IsAssigned r (target.Env name) template s t
         → is_empty t ≡ false → or_empty (value_of s.state.env name) ≡ []
         → value_of (after_text r Add (target.Env name) template s).state.env name ≡ Some t }
-    ensures extended { (name : Text) (r : Rule) (template : templates.Parts) (s : Scene) (t value whole : Text) → IsAssigned r (target.Env name) template s t
-        → is_empty t ≡ false → is_empty value ≡ false → value_of s.state.env name ≡ Some value → bounded (value ++ space ∷ t) ≡ Some whole
+    ensures extended { (name : Text) (r : Rule) (template : templates.Parts) (s : Scene) (t value whole : Text)
+        → IsAssigned r (target.Env name) template s t → is_empty t ≡ false → is_empty value ≡ false → value_of s.state.env name ≡ Some value
+        → bounded (value ++ space ∷ t) ≡ Some whole
         → value_of (after_text r Add (target.Env name) template s).state.env name ≡ Some whole }
-    ensures attribute { (name : Text) (r : Rule) (o : AssignOperator) (template : templates.Parts) (s : Scene) (t : Text) → IsAssigned r (target.Attr name) template s t
-        → value_of (after_text r o (target.Attr name) template s).attrs name ≡ Some t }
+    ensures attribute { (name : Text) (r : Rule) (o : AssignOperator) (template : templates.Parts) (s : Scene) (t : Text)
+        → IsAssigned r (target.Attr name) template s t → value_of (after_text r o (target.Attr name) template s).attrs name ≡ Some t }
     ensures parameter { (name : Text) (r : Rule) (o : AssignOperator) (template : templates.Parts) (s : Scene) (t : Text)
         → IsAssigned r (target.Sysctl name) template s t → value_of (after_text r o (target.Sysctl name) template s).sysctls name ≡ Some t }
     ensures label { (name : Text) (r : Rule) (o : AssignOperator) (template : templates.Parts) (s : Scene) (t : Text)

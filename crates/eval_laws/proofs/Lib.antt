@@ -50,6 +50,9 @@ pub mod Answers
 pub mod Nodes
 pub mod Changing
 pub mod Making
+pub mod Setting
+pub mod Importing
+pub mod Beginning
 pub mod Following
 pub mod Operators
 pub mod Tagged

@@ -56,7 +56,7 @@ settled_is : (o : Option FinalKey) (k : FinalKey) (s : Scene) → o ≡ Some k �
 settled_is o k s e = ap (λ (j : Option FinalKey). is_final (settled j s).finals k) e ∙ made_is_final s.finals k
 
 -- an assignment to a key that is not final is made
-open_step : (r : Rule) (s : Scene) (a : Assignment) → is_settled (final_key s.state.event.profile a.change) s.finals ≡ false
+pub open_step : (r : Rule) (s : Scene) (a : Assignment) → is_settled (final_key s.state.event.profile a.change) s.finals ≡ false
     → set_step r s a ≡ step_by s.state.event.profile r a.operator a.change s
 unfolding set_step
 open_step r s a h = ap (λ b. cond b s (step_by s.state.event.profile r a.operator a.change s)) h

@@ -14,5 +14,7 @@ pub mod Allowances
 pub mod Weights
 pub mod Counts
 pub mod Making
+pub mod Reaching
+pub mod Acting
 pub mod Naming
 pub mod PrintedLines

@@ -1,10 +1,13 @@
--- When an assignment to a key that is not final is made.
-use Rattle.std.specs.Prelude.{Bool, true, false, not, ◌&&◌}
+-- When an assignment to a key that is not final is made, and the scene after it.
+use Rattle.std.specs.Prelude.{◌≡◌, Bool, true, false, not, ◌&&◌}
 use Rattle.text_bytes.specs.declared.profile.Profile.{Profile}
 use Rattle.text_bytes.specs.declared.profile.Profile.TheVariants.{Manual, Udev}
+use Rattle.text_tables.specs.Texts.{Text}
 use Rattle.rule_templates.specs.Template.{Parts as Template}
+use Rattle.rule_types.specs.declared.roles.AssignOperator.{AssignOperator}
 use Rattle.rule_types.specs.declared.roles.AssignOperator.TheVariants.{AssignFinal}
 use Rattle.rule_types.specs.declared.roles.Target.{Target}
+use Rattle.rule_types.specs.declared.rule_option.RuleOption.{RuleOption}
 use Rattle.rule_types.specs.declared.part.Change.{Change}
 use Rattle.rule_types.specs.declared.part.Change.TheVariants as change
 use Rattle.rule_types.specs.Rules.{Rule}
@@ -15,7 +18,8 @@ use Rattle.eval_rendering.specs.declared.rendered.Rendered.{Rendered}
 use Rattle.eval_rendering.specs.declared.rendered.Rendered.TheVariants as rendered
 use Rattle.eval_assignments.specs.Bounds.{most_bytes_of}
 use Rattle.eval_assignments.specs.Escapes.{escape_of, mode_of}
-use Rattle.eval_assignments.specs.Steps.{emptied, is_ignored, lacks_number}
+use Rattle.eval_assignments.specs.Finality.{final_target, is_settled}
+use Rattle.eval_assignments.specs.Steps.{emptied, is_ignored, lacks_number, set_step}
 
 -- whether an assignment whose text is too long counts: by the manual it is as if it was not written, but udev makes
 -- its key final nevertheless
@@ -40,3 +44,18 @@ abbrev pub is_made : Rule → Change → Scene → Bool
 is_made r (change.Option known) s = true
 is_made r (change.Text about template) s = is_template_made s.state.event.profile r about template s
 is_made r (change.Run braces template) s = true
+
+-- a scene after an assignment of a text
+abbrev pub after_text : Rule → AssignOperator → Target → Template → Scene → Scene
+after_text r o about template s = set_step r s (record { operator = o; change = change.Text about template })
+
+-- a scene after an assignment of an option
+abbrev pub after_option : Rule → AssignOperator → RuleOption → Scene → Scene
+after_option r o known s = set_step r s (record { operator = o; change = change.Option known })
+
+-- By the manual a text is assigned: its key is not final, the device has a name if it is that, and the text is not too long.
+pub record IsAssigned (r : Rule) (about : Target) (template : Template) (s : Scene) (t : Text) : Type 0 where
+  pub manual : s.state.event.profile ≡ Manual
+  pub free : is_settled (final_target about) s.finals ≡ false
+  pub heard : is_ignored Manual about s ≡ false
+  pub text : render template s.state (mode_of Manual about (escape_of r.sets)) ≡ rendered.Text t

@@ -1,12 +1,31 @@
 //! What is true of acts, whatever the rules are. Each function here is empty: its contract is the law.
-ghost use Rattle.std.specs.Prelude.{◌≡◌, ◌&&◌, not, false};
+ghost use Rattle.std.specs.Prelude.{◌≡◌, ◌==◌, ◌&&◌, ◌||◌, not, true, false, filter, is_some, length, List, None, Option, Some};
+ghost use Rattle.text_bytes.specs.Names.{slash};
+ghost use Rattle.text_bytes.specs.Texts.{begins_with};
 ghost use Rattle.text_bytes.specs.declared.profile.Profile.TheVariants.{Manual};
+ghost use Rattle.text_tables.specs.Pairs.{value_of, with_values};
+ghost use Rattle.text_tables.specs.Texts.{Text};
+ghost use Rattle.text_core.specs.Choices.{choice_fits};
+ghost use Rattle.text_core.specs.declared.item.Item.{Item};
 ghost use Rattle.builtin_devices.specs.Knowledge.{Known};
+ghost use Rattle.device_core.specs.Values.{DeviceValue};
+ghost use Rattle.rule_templates.specs.Template as templates;
 ghost use Rattle.rule_types.specs.declared.roles.MatchOperator.TheVariants.{Equal, NotEqual};
 ghost use Rattle.rule_types.specs.declared.part.ActKind.{ActKind};
 ghost use Rattle.rule_types.specs.Rules.{Rule};
+ghost use Rattle.eval_state.specs.Chains.{device_at};
+ghost use Rattle.eval_state.specs.Scenes.{noted, with_env};
+ghost use Rattle.eval_state.specs.declared.note_kind.NoteKind.TheVariants.{TestNotMade};
 ghost use Rattle.eval_state.specs.declared.scene.Scene.{Scene};
+ghost use Rattle.eval_rendering.specs.Rendering.{render};
+ghost use Rattle.eval_rendering.specs.declared.rendered.Mode.TheVariants.{Plain};
+ghost use Rattle.eval_rendering.specs.declared.rendered.Rendered.TheVariants as rendered;
+ghost use Rattle.eval_commands.specs.Builtins.{builtin};
+ghost use Rattle.eval_commands.specs.declared.builtin.Builtin.TheVariants as asked;
+ghost use Rattle.eval_commands.specs.declared.hwdb.Hwdb.{Hwdb};
 ghost use Rattle.eval_acts.specs.Acts.{act_step};
+ghost use Rattle.eval_acts.specs.LookUps.{found};
+ghost use Rattle.eval_laws.specs.Acting.{builtin_import, parent_import, test};
 
 /// `!=` changes just what `==` changes, and the rule goes on if it would not with `==`. With udev a rule goes on
 /// with at most one of the two: a text that is too long stops it with either.
@@ -20,4 +39,34 @@ pub fn an_operator_decides_only_whether_a_rule_goes_on()
     ensures one { (known : Known) (rule : Rule) (act_kind : ActKind) (scene : Scene)
         → ((act_step known rule (record { operator = NotEqual; kind = act_kind }) scene).1
         && (act_step known rule (record { operator = Equal; kind = act_kind }) scene).1) ≡ false }
+{}
+
+/// By the manual TEST changes nothing and holds if and only if the event device has an attribute of this path, which is
+/// relative. With a mask or an absolute path it is not made, which leaves a note and holds only with `!=`.
+pub fn a_test_holds_where_the_attribute_is_there()
+    ensures made { (known : Known) (rule : Rule) (template : templates.Parts) (scene : Scene) (path : Text) → scene.state.event.profile ≡ Manual
+        → render template scene.state Plain ≡ rendered.Text path → begins_with slash path ≡ false
+        → act_step known rule (test None template) scene ≡ (scene, is_some (value_of scene.state.event.device.attrs path)) }
+    ensures unmade { (known : Known) (rule : Rule) (mask : Option Text) (template : templates.Parts) (scene : Scene) (path : Text)
+        → scene.state.event.profile ≡ Manual → render template scene.state Plain ≡ rendered.Text path → (is_some mask || begins_with slash path) ≡ true
+        → act_step known rule (test mask template) scene ≡ (noted rule TestNotMade path scene, false) }
+{}
+
+/// By the manual IMPORT{parent} sets those properties of the next device above whose names fit, one after another; without
+/// such a device it is not done.
+pub fn the_properties_of_the_parent_whose_names_fit_are_set()
+    ensures there { (known : Known) (rule : Rule) (names : List (List Item)) (written : Text) (scene : Scene) (parent : DeviceValue)
+        → scene.state.event.profile ≡ Manual → device_at scene.state.event 1 ≡ Some parent
+        → act_step known rule (parent_import names written) scene
+        ≡ (with_env (with_values scene.state.env (filter (λ property. choice_fits names property.0) parent.env)) scene, true) }
+    ensures absent { (known : Known) (rule : Rule) (names : List (List Item)) (written : Text) (scene : Scene) → scene.state.event.profile ≡ Manual
+        → device_at scene.state.event 1 ≡ None → act_step known rule (parent_import names written) scene ≡ (scene, false) }
+{}
+
+/// By the manual IMPORT{builtin} of `hwdb` sets what is found, one property after another, and is done if anything is found.
+pub fn what_the_database_has_is_set()
+    ensures { (known : Known) (rule : Rule) (template : templates.Parts) (scene : Scene) (command : Text) (hwdb : Hwdb)
+        → scene.state.event.profile ≡ Manual → render template scene.state Plain ≡ rendered.Text command → builtin Manual command ≡ asked.Hwdb hwdb
+        → act_step known rule (builtin_import template) scene
+        ≡ (with_env (with_values scene.state.env (found known hwdb scene.state)) scene, not (length (found known hwdb scene.state) == 0)) }
 {}

@@ -2,10 +2,12 @@
 //!
 //! Each function here is empty: its contract is the law.
 ghost use Rattle.std.specs.Prelude.{◌≡◌, ◌≢◌, ◌∷◌, ◌++◌, [], ◌||◌, not, true, false, filter, fold};
-ghost use Rattle.std.specs.Prelude.{if◌then◌else◌, is_some, option_map, List, Option, Some, None};
+ghost use Rattle.std.specs.Prelude.{if◌then◌else◌, is_some, option_map, List, Option, Some, None, ℤ};
 ghost use Rattle.std.specs.List.{list_any};
+ghost use Rattle.text_bytes.specs.Names.{space};
 ghost use Rattle.text_bytes.specs.Texts.{is_empty};
 ghost use Rattle.text_bytes.specs.declared.profile.Profile.TheVariants.{Manual, Udev};
+ghost use Rattle.text_tables.specs.Pairs.{value_of};
 ghost use Rattle.text_tables.specs.Texts.{Text, is_among, without_text};
 ghost use Rattle.rule_templates.specs.Template as templates;
 ghost use Rattle.rule_types.specs.declared.part.Assignment.{Assignment};
@@ -13,6 +15,7 @@ ghost use Rattle.rule_types.specs.declared.part.Change.TheVariants as change;
 ghost use Rattle.rule_types.specs.declared.roles.AssignOperator.{AssignOperator};
 ghost use Rattle.rule_types.specs.declared.roles.AssignOperator.TheVariants.{Assign, Add, Remove, AssignFinal};
 ghost use Rattle.rule_types.specs.declared.roles.Target.TheVariants as target;
+ghost use Rattle.rule_types.specs.declared.rule_option.RuleOption.TheVariants as option;
 ghost use Rattle.rule_types.specs.declared.types.RunType.{RunType};
 ghost use Rattle.rule_types.specs.Rules.{Rule};
 ghost use Rattle.rule_types.specs.Topics.{mode_of};
@@ -22,19 +25,23 @@ ghost use Rattle.eval_state.specs.Runs.{RunValue, runs_after, same_run};
 ghost use Rattle.eval_state.specs.declared.finals.FinalKey.{FinalKey};
 ghost use Rattle.eval_state.specs.declared.finals.FinalKey.TheVariants as key;
 ghost use Rattle.eval_state.specs.declared.finals.Finals.{Finals};
+ghost use Rattle.eval_state.specs.Texts.{or_empty};
 ghost use Rattle.eval_state.specs.declared.scene.Scene.{Scene};
-ghost use Rattle.eval_rendering.specs.Bounds.{most_command_bytes, most_value_bytes, within};
+ghost use Rattle.eval_rendering.specs.Bounds.{bounded, most_command_bytes, most_value_bytes, within};
 ghost use Rattle.eval_rendering.specs.Rendering.{render};
 ghost use Rattle.eval_rendering.specs.declared.rendered.Mode.TheVariants.{Plain};
 ghost use Rattle.eval_rendering.specs.declared.rendered.Rendered.TheVariants as rendered;
+ghost use Rattle.eval_assignments.specs.Assigning.{link_text, unless_empty};
+ghost use Rattle.eval_assignments.specs.Escapes.{escape_of};
 ghost use Rattle.eval_assignments.specs.Finality.{final_key};
 ghost use Rattle.eval_assignments.specs.Links.{words};
-ghost use Rattle.eval_assignments.specs.Lists.{changed};
+ghost use Rattle.eval_assignments.specs.Lists.{changed, link_names, one_tag};
 ghost use Rattle.eval_assignments.specs.Modes.{four_digits};
+ghost use Rattle.eval_assignments.specs.Names.{name_text};
 ghost use Rattle.eval_assignments.specs.Runs.{made_before};
 ghost use Rattle.eval_assignments.specs.Steps.{set_step};
 ghost use Rattle.eval_laws.specs.AssignmentLaws.{Keeps};
-ghost use Rattle.eval_laws.specs.Making.{is_made};
+ghost use Rattle.eval_laws.specs.Making.{IsAssigned, after_option, after_text, is_made};
 
 /// `=` and `:=` leave just the tags or links that are given, each once: the first, and after it what they leave of
 /// the others without that one.
@@ -97,6 +104,44 @@ pub fn assigned_texts_are_there()
         → within most_value_bytes (render template s.state Plain) ≡ rendered.Text t
         → (set_step r s (record { operator = o; change = change.Text target.Mode template })).mode
         ≡ (if is_empty t then s.mode else if is_some (mode_of t) then option_map four_digits (mode_of t) else s.mode) }
+{}
+
+/// By the manual each other key that is assigned changes what it names: SYMLINK and TAG the links and the tags by its
+/// operator, NAME the name, ENV a property, which the empty text removes and `+=` extends, and ATTR, SYSCTL and SECLABEL the
+/// text of their attribute.
+pub fn each_key_changes_what_it_names()
+    ensures links { (r : Rule) (o : AssignOperator) (template : templates.Parts) (s : Scene) (t : Text) → IsAssigned r target.Symlink template s t
+        → (after_text r o target.Symlink template s).state.links ≡ changed o (link_names (link_text (escape_of r.sets) t)) s.state.links }
+    ensures tags { (r : Rule) (o : AssignOperator) (template : templates.Parts) (s : Scene) (t : Text) → IsAssigned r target.Tag template s t
+        → (after_text r o target.Tag template s).state.tags ≡ changed o (one_tag t) s.state.tags }
+    ensures name { (r : Rule) (o : AssignOperator) (template : templates.Parts) (s : Scene) (t : Text) → IsAssigned r target.Name template s t
+        → (after_text r o target.Name template s).state.name ≡ unless_empty (name_text Manual (escape_of r.sets) t) }
+    ensures property { (name : Text) (r : Rule) (o : AssignOperator) (template : templates.Parts) (s : Scene) (t : Text)
+        → IsAssigned r (target.Env name) template s t → o ≢ Add → value_of (after_text r o (target.Env name) template s).state.env name ≡ unless_empty t }
+    ensures first { (name : Text) (r : Rule) (template : templates.Parts) (s : Scene) (t : Text) → IsAssigned r (target.Env name) template s t
+        → is_empty t ≡ false → or_empty (value_of s.state.env name) ≡ []
+        → value_of (after_text r Add (target.Env name) template s).state.env name ≡ Some t }
+    ensures extended { (name : Text) (r : Rule) (template : templates.Parts) (s : Scene) (t value whole : Text)
+        → IsAssigned r (target.Env name) template s t → is_empty t ≡ false → is_empty value ≡ false → value_of s.state.env name ≡ Some value
+        → bounded (value ++ space ∷ t) ≡ Some whole
+        → value_of (after_text r Add (target.Env name) template s).state.env name ≡ Some whole }
+    ensures attribute { (name : Text) (r : Rule) (o : AssignOperator) (template : templates.Parts) (s : Scene) (t : Text)
+        → IsAssigned r (target.Attr name) template s t → value_of (after_text r o (target.Attr name) template s).attrs name ≡ Some t }
+    ensures parameter { (name : Text) (r : Rule) (o : AssignOperator) (template : templates.Parts) (s : Scene) (t : Text)
+        → IsAssigned r (target.Sysctl name) template s t → value_of (after_text r o (target.Sysctl name) template s).sysctls name ≡ Some t }
+    ensures label { (name : Text) (r : Rule) (o : AssignOperator) (template : templates.Parts) (s : Scene) (t : Text)
+        → IsAssigned r (target.Seclabel name) template s t → value_of (after_text r o (target.Seclabel name) template s).labels name ≡ Some t }
+{}
+
+/// Each option that an answer has sets its own field, if its key is not final.
+pub fn each_option_sets_what_it_names()
+    ensures priority { (r : Rule) (o : AssignOperator) (s : Scene) (priority : ℤ) → is_final s.finals key.Priority ≡ false
+        → (after_option r o (option.LinkPriority priority) s).priority ≡ Some priority }
+    ensures watch { (r : Rule) (o : AssignOperator) (s : Scene) → is_final s.finals key.Watch ≡ false
+        → (after_option r o option.Watch s).watch ≡ Some true }
+    ensures nowatch { (r : Rule) (o : AssignOperator) (s : Scene) → is_final s.finals key.Watch ≡ false
+        → (after_option r o option.NoWatch s).watch ≡ Some false }
+    ensures persist { (r : Rule) (o : AssignOperator) (s : Scene) → (after_option r o option.DbPersist s).persist ≡ true }
 {}
 
 /// A RUN that is not there, and whose written text is not empty, is the last of the runs after `+=`, and the only

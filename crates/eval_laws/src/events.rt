@@ -1,30 +1,53 @@
 //! What an author of rules relies on, whatever the rules, the event and the database are.
 //!
 //! Each function here is empty: its contract is the law.
-ghost use Rattle.std.specs.Prelude.{◌≡◌, ◌∷◌, ◌++◌, true, false, List, Option, Some};
+ghost use Rattle.std.specs.Prelude.{◌≡◌, ◌↔◌, ◌∷◌, ◌++◌, true, false, codes, fold, List, Option, Some};
 ghost use Rattle.std.specs.List.{list_any};
+ghost use Rattle.text_bytes.specs.declared.profile.Profile.TheVariants.{Manual};
+ghost use Rattle.text_tables.specs.Pairs.{Pair, named, value_of};
 ghost use Rattle.text_tables.specs.Sorted.{NamesRise};
 ghost use Rattle.text_tables.specs.Texts.{Text};
 ghost use Rattle.builtin_devices.specs.Knowledge.{Known};
-ghost use Rattle.rule_types.specs.declared.part.UpMatch.{UpMatch};
 ghost use Rattle.rule_laws.specs.Outcomes.{HasLabel};
 ghost use Rattle.rule_types.specs.Rules.{Rule};
-ghost use Rattle.device_core.specs.Values.{EventValue};
+ghost use Rattle.device_core.specs.Values.{EventValue, NumberValue};
 ghost use Rattle.eval_state.specs.Finals.{is_final};
 ghost use Rattle.eval_state.specs.Scenes.{start};
+ghost use Rattle.eval_state.specs.Start.{reported_by};
 ghost use Rattle.eval_state.specs.declared.finals.FinalKey.{FinalKey};
 ghost use Rattle.eval_state.specs.declared.scene.Scene.{Scene};
+ghost use Rattle.eval_assignments.specs.Steps.{set_step};
 ghost use Rattle.eval_laws.specs.AssignmentLaws.{Keeps, may_be_final};
+ghost use Rattle.eval_laws.specs.Reaching.{LetGoOn};
+ghost use Rattle.eval_rules.specs.Idle.{is_idle};
 ghost use Rattle.eval_rules.specs.Jumps.{run, run_all};
-ghost use Rattle.eval_rules.specs.Laws.{IsMetByOneDevice, SameButNotes, SameOutcomeButNotes, plain_hold};
+ghost use Rattle.eval_rules.specs.Laws.{SameButNotes, SameOutcomeButNotes, plain_hold};
 ghost use Rattle.eval_rules.specs.Outcomes.{outcome, outcome_of};
 ghost use Rattle.eval_rules.specs.Steps.{apply};
 
-/// If a rule with matches along the chain reaches its end, one device of the chain meets all of them, and no nearer
-/// one does.
-pub fn one_device_meets_all_matches_of_a_rule()
-    ensures { (known : Known) (r : Rule) (s : Scene) (part : UpMatch) (parts : List UpMatch) → r.up ≡ part ∷ parts → (apply known r s).1 ≡ true
-        → IsMetByOneDevice r.up s.state }
+/// An event begins with the properties of its device, each with its last value, and over these what the event itself says.
+pub fn an_event_begins_with_what_its_block_says()
+    ensures action { (event : EventValue) → value_of (start event).state.env (codes "ACTION") ≡ Some event.action }
+    ensures path { (event : EventValue) → value_of (start event).state.env (codes "DEVPATH") ≡ Some event.device.path }
+    ensures subsystem { (event : EventValue) (subsystem : Text) → event.device.subsystem ≡ Some subsystem
+        → value_of (start event).state.env (codes "SUBSYSTEM") ≡ Some subsystem }
+    ensures node { (event : EventValue) (node : Text) → event.device.node ≡ Some node
+        → value_of (start event).state.env (codes "DEVNAME") ≡ Some (codes "/dev/" ++ node) }
+    ensures number { (event : EventValue) (number : NumberValue) → event.device.number ≡ Some number
+        → (value_of (start event).state.env (codes "MAJOR") ≡ Some number.major) × (value_of (start event).state.env (codes "MINOR") ≡ Some number.minor) }
+    ensures properties { (event : EventValue) (before following : List Pair) (name value : Text) → event.device.env ≡ before ++ (name, value) ∷ following
+        → named following name ≡ false → named (reported_by event) name ≡ false → value_of (start event).state.env name ≡ Some value }
+{}
+
+/// The end of a rule is reached if and only if all its keys let it go on: its matches of the event hold, one device of the
+/// chain meets all others, each act lets it go on, and so do the matches of the result. The nearest such device is then
+/// selected, and the assignments are made over what the acts left. udev also skips some rules, and by the manual none is.
+pub fn a_rule_goes_on_just_where_all_its_keys_let_it()
+    ensures reached { (known : Known) (r : Rule) (s : Scene)
+        → ((apply known r s).1 ≡ true) ↔ ((is_idle r s.state.event ≡ false) × ((done : Scene) × LetGoOn known r s done)) }
+    ensures leaves { (known : Known) (r : Rule) (s done : Scene) → is_idle r s.state.event ≡ false → LetGoOn known r s done
+        → apply known r s ≡ (fold (set_step r) done r.sets, true) }
+    ensures manual { (r : Rule) (event : EventValue) → event.profile ≡ Manual → is_idle r event ≡ false }
 {}
 
 /// A rule with a match of the event that does not hold changes nothing but the notes.

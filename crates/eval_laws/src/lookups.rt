@@ -1,14 +1,16 @@
 //! What `hwdb` is asked, which texts it looks up, and what it finds. Each function here is empty: its
 //! contract is the law.
-ghost use Rattle.std.specs.Prelude.{◌≡◌, ◌↔◌, ◌≤◌, [], ◌∷◌, ◌++◌, ℕ, List, Some, None, Ok, codes, length, take, true, false};
+ghost use Rattle.std.specs.Prelude.{◌≡◌, ◌↔◌, ◌≤◌, [], ◌∷◌, ◌++◌, ℕ, List, Some, None, Ok, codes, filter, length, take, true, false};
 ghost use Rattle.std.specs.List.{flat_map, list_any};
 ghost use Rattle.text_bytes.specs.Texts.{is_empty};
 ghost use Rattle.text_bytes.specs.declared.profile.Profile.{Profile};
 ghost use Rattle.text_bytes.specs.declared.profile.Profile.TheVariants.{Manual, Udev};
 ghost use Rattle.text_tables.specs.Texts.{Text};
 ghost use Rattle.text_tables.specs.Pairs.{Pair, value_of};
+ghost use Rattle.text_core.specs.Fits.{fits};
 ghost use Rattle.text_core.specs.Spell.{spell};
 ghost use Rattle.text_core.specs.declared.item.Item.{Item};
+ghost use Rattle.hwdb_lookup.specs.Query.{query};
 ghost use Rattle.builtin_devices.specs.Knowledge.{Known};
 ghost use Rattle.device_core.specs.Values.{DeviceValue};
 ghost use Rattle.builtin_devices.specs.Devices.{is_of};
@@ -29,6 +31,13 @@ pub fn the_first_answer_is_found()
         → (found known hwdb state ≡ properties) ↔ IsFirstAnswer known hwdb (texts hwdb state) properties }
     ensures none { (known : Known) (hwdb : Hwdb) (state : State)
         → (found known hwdb state ≡ []) ↔ (flat_map (counted_properties known hwdb) (texts hwdb state) ≡ []) }
+{}
+
+/// Of what the database has for a text those properties count whose keys the filter takes, and without one all.
+pub fn properties_that_the_filter_takes_count()
+    ensures filtered { (known : Known) (hwdb : Hwdb) (text : Text) (pattern : List Item) → hwdb.filter ≡ Some pattern
+        → counted_properties known hwdb text ≡ filter (λ property. fits pattern property.0) (query known.entries text) }
+    ensures all { (known : Known) (hwdb : Hwdb) (text : Text) → hwdb.filter ≡ None → counted_properties known hwdb text ≡ query known.entries text }
 {}
 
 /// A modalias that is given is the only text, after the prefix. Without one, the texts are the modaliases

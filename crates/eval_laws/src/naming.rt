@@ -1,11 +1,11 @@
 //! What is true of names of attributes that also name their device, as udev reads them. Each function here is
 //! empty: its contract is the law.
-ghost use Rattle.std.specs.Prelude.{◌≡◌, ◌↔◌, ◌<◌, ◌∷◌, ◌++◌, ℕ, Some, None, false, length};
+ghost use Rattle.std.specs.Prelude.{◌≡◌, ◌↔◌, ◌<◌, ◌∷◌, ◌++◌, ℕ, Some, None, true, false, length};
 ghost use Rattle.text_bytes.specs.Names.{close_bracket, slash};
 ghost use Rattle.text_bytes.specs.Texts.{begins_with};
 ghost use Rattle.text_tables.specs.Texts.{Text};
-ghost use Rattle.device_core.specs.Values.{EventValue, chain};
-ghost use Rattle.eval_state.specs.Chains.{device_at};
+ghost use Rattle.device_core.specs.Values.{DeviceValue, EventValue, chain};
+ghost use Rattle.eval_state.specs.Chains.{device_at, kernel_of};
 ghost use Rattle.eval_state.specs.Named.{NamedValue, is_named, named, named_place};
 ghost use Rattle.eval_assignments.specs.Attributes.{named_whole};
 ghost use Rattle.eval_laws.specs.Naming.{HasNone, IsNearestNamed, IsWrittenSo, bracketed};
@@ -23,6 +23,8 @@ pub fn a_name_in_brackets_names_a_device()
 
 /// Of the devices of a chain that have the subsystem and the kernel's name, the nearest is meant.
 pub fn the_nearest_device_is_named()
+    ensures meant { (is : NamedValue) (device : DeviceValue)
+        → (is_named is (Some device) ≡ true) ↔ ((device.subsystem ≡ Some is.subsystem) × (kernel_of device ≡ is.kernel)) }
     ensures found { (is : NamedValue) (event : EventValue) (place : ℕ) → named_place is event ≡ Some place → IsNearestNamed is event place }
     ensures none { (is : NamedValue) (event : EventValue) → (named_place is event ≡ None) ↔ ((place : ℕ) → place < length (chain event)
         → is_named is (device_at event place) ≡ false) }

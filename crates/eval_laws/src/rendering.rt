@@ -1,17 +1,20 @@
 //! What is true of a rendered text, whatever the template and the event.
-ghost use Rattle.std.specs.Prelude.{◌≡◌, ◌<◌, ◌∷◌, ◌++◌, false, flat_map, length, take, List, None, Some, ℕ};
+ghost use Rattle.std.specs.Prelude.{◌≡◌, ◌<◌, [], ◌∷◌, ◌++◌, ◌-◌, false, codes, flat_map, length, option_map, take, List, None, Some, ℕ};
+ghost use Rattle.text_bytes.specs.Numbers.{is_digit};
 ghost use Rattle.text_bytes.specs.Texts.{is_empty, trimmed};
 ghost use Rattle.text_bytes.specs.declared.profile.Profile.TheVariants.{Manual, Udev};
 ghost use Rattle.text_tables.specs.Pairs.{value_of};
 ghost use Rattle.text_tables.specs.Texts.{Text};
-ghost use Rattle.device_core.specs.Values.{DeviceValue};
+ghost use Rattle.device_core.specs.Values.{DeviceValue, NumberValue};
 ghost use Rattle.rule_templates.specs.declared.piece.Piece.{Piece};
 ghost use Rattle.rule_templates.specs.declared.piece.Piece.TheVariants as piece;
-ghost use Rattle.eval_state.specs.Chains.{device_at};
+ghost use Rattle.eval_state.specs.Chains.{device_at, kernel_of};
 ghost use Rattle.eval_state.specs.Named.{NamedValue, named, named_place};
 ghost use Rattle.eval_state.specs.Texts.{or_empty};
 ghost use Rattle.eval_rendering.specs.Bounds.{bounded};
 ghost use Rattle.eval_rendering.specs.Pieces.{attribute, named_attribute, piece_text};
+ghost use Rattle.eval_rendering.specs.Words.{from_word, spaced, word_at};
+ghost use Rattle.text_links.specs.Kernels.{longest_end};
 ghost use Rattle.text_links.specs.Safe.{attribute_marks, link_marks, safe};
 ghost use Rattle.rule_templates.specs.Template as templates;
 ghost use Rattle.eval_state.specs.declared.state.State as states;
@@ -39,6 +42,36 @@ pub fn long_attributes_are_too_long()
     ensures udev { (template : templates.Parts) (state : states.State) (mode : Mode) (before following : List Piece) (name : Text)
         → state.event.profile ≡ Udev → template.pieces ≡ before ++ piece.Attr name ∷ following → named_attribute name state.event ≡ None
         → 511 < length (or_empty (attribute name state)) → render template state mode ≡ rendered.TooLong }
+{}
+
+/// Each substitution is replaced with its own text: of the event device, of the selected one, of the next device above, of the
+/// result, or of what the rules before left.
+pub fn each_substitution_has_its_own_text()
+    ensures device { (state : states.State) → (piece_text state piece.Kernel ≡ kernel_of state.event.device)
+        × (piece_text state piece.Devpath ≡ state.event.device.path)
+        × (piece_text state piece.Devnode ≡ or_empty (option_map (λ node. codes "/dev/" ++ node) state.event.device.node)) }
+    ensures numbers { (state : states.State) (number : NumberValue) → state.event.device.number ≡ Some number
+        → (piece_text state piece.Major ≡ number.major) × (piece_text state piece.Minor ≡ number.minor) }
+    ensures no_numbers { (state : states.State) → state.event.device.number ≡ None
+        → (piece_text state piece.Major ≡ codes "0") × (piece_text state piece.Minor ≡ codes "0") }
+    ensures selected { (state : states.State) (place : ℕ) (device : DeviceValue) → state.selected ≡ Some place → device_at state.event place ≡ Some device
+        → (piece_text state piece.Id ≡ kernel_of device) × (piece_text state piece.Driver ≡ or_empty device.driver) }
+    ensures none_selected { (state : states.State) → state.selected ≡ None
+        → (piece_text state piece.Id ≡ []) × (piece_text state piece.Driver ≡ []) }
+    ensures parent { (state : states.State) (parent : DeviceValue) → device_at state.event 1 ≡ Some parent
+        → piece_text state piece.Parent ≡ or_empty parent.node }
+    ensures program { (state : states.State) (number : ℕ) → (piece_text state piece.Result ≡ state.result)
+        × (piece_text state (piece.Word number) ≡ word_at (number - 1) state.result)
+        × (piece_text state (piece.From number) ≡ from_word (number - 1) state.result) }
+    ensures kept { (state : states.State) (name : Text) → (piece_text state (piece.Env name) ≡ or_empty (value_of state.env name))
+        × (piece_text state piece.Links ≡ spaced state.links) }
+    ensures assigned { (state : states.State) (name : Text) → state.name ≡ Some name → piece_text state piece.Name ≡ name }
+    ensures manual { (state : states.State) → state.event.profile ≡ Manual
+        → (piece_text state piece.Number ≡ longest_end is_digit (kernel_of state.event.device))
+        × ((name : Text) → piece_text state (piece.Attr name) ≡ safe attribute_marks (trimmed (or_empty (attribute name state))))
+        × (state.name ≡ None → piece_text state piece.Name ≡ kernel_of state.event.device) }
+    ensures written { (state : states.State) (text : Text) → (piece_text state (piece.Plain text) ≡ text)
+        × (piece_text state piece.Root ≡ codes "/dev") × (piece_text state piece.Sys ≡ codes "/sys") }
 {}
 
 /// With udev an attribute that is named with its device is that of this device in any text, made safe, up to its

@@ -2,32 +2,22 @@
 //! the database are.
 //!
 //! Each function here is empty: its contract is the law.
-ghost use Rattle.std.specs.Prelude.{◌≡◌, ◌∷◌, ◌++◌, [], true, false, fold, map, List, None};
-ghost use Rattle.text_bytes.specs.declared.profile.Profile.TheVariants.{Manual};
+ghost use Rattle.std.specs.Prelude.{◌≡◌, ◌∷◌, ◌++◌, [], false, map, List, None};
 ghost use Rattle.text_tables.specs.Texts.{Text, AreOnce};
 ghost use Rattle.text_tables.specs.Pairs.{Pair, names, value_of};
 ghost use Rattle.text_tables.specs.Sorted.{by_name};
 ghost use Rattle.builtin_devices.specs.Knowledge.{Known};
 ghost use Rattle.rule_types.specs.Rules.{Rule};
 ghost use Rattle.eval_state.specs.Runs.{RunValue, run_kind};
+ghost use Rattle.eval_state.specs.Texts.{filled};
 ghost use Rattle.eval_state.specs.declared.scene.Scene.{Scene};
 ghost use Rattle.eval_rendering.specs.Rendering.{render};
 ghost use Rattle.eval_rendering.specs.declared.rendered.Mode.TheVariants.{Plain};
 ghost use Rattle.eval_rendering.specs.declared.rendered.Rendered.TheVariants as rendered;
-ghost use Rattle.eval_assignments.specs.Steps.{set_step};
+ghost use Rattle.eval_assignments.specs.Tags.{current_tags};
 ghost use Rattle.eval_rules.specs.Jumps.{run_all};
-ghost use Rattle.eval_rules.specs.Idle.{is_idle};
-ghost use Rattle.eval_rules.specs.Outcomes.{commands, made_command, outcome_of};
+ghost use Rattle.eval_rules.specs.Outcomes.{commands, late_notes, made_command, outcome_of};
 ghost use Rattle.eval_rules.specs.Steps.{apply};
-
-/// A rule of assignments alone makes them, one after another, and its end is reached. udev does so if it does not
-/// skip the rule.
-pub fn a_rule_of_assignments_makes_them()
-    ensures manual { (known : Known) (r : Rule) (s : Scene) → s.state.event.profile ≡ Manual → r.plain ≡ [] → r.up ≡ [] → r.acts ≡ [] → r.results ≡ []
-        → apply known r s ≡ (fold (set_step r) s r.sets, true) }
-    ensures counts { (known : Known) (r : Rule) (s : Scene) → is_idle r s.state.event ≡ false → r.plain ≡ [] → r.up ≡ [] → r.acts ≡ [] → r.results ≡ []
-        → apply known r s ≡ (fold (set_step r) s r.sets, true) }
-{}
 
 /// A rule whose end is not reached, or that has no jump, is followed by the next one.
 pub fn the_next_rule_follows()
@@ -35,6 +25,22 @@ pub fn the_next_rule_follows()
         → run_all known (r ∷ rules) s ≡ run_all known rules (apply known r s).0 }
     ensures plain { (known : Known) (r : Rule) (rules : List Rule) (s : Scene) → r.goto ≡ None
         → run_all known (r ∷ rules) s ≡ run_all known rules (apply known r s).0 }
+{}
+
+/// An outcome has what the last scene has, each under its own name: the properties sorted, the tags that are not removed, and a
+/// name if it is not empty. Its commands and its notes are those of the scene, and those of the runs that it keeps.
+pub fn an_outcome_is_what_the_last_scene_has()
+    ensures name { (s : Scene) → (outcome_of s).name ≡ filled s.state.name }
+    ensures owner { (s : Scene) → (outcome_of s).owner ≡ s.owner }
+    ensures group { (s : Scene) → (outcome_of s).group ≡ s.group }
+    ensures mode { (s : Scene) → (outcome_of s).mode ≡ s.mode }
+    ensures options { (s : Scene) → ((outcome_of s).priority ≡ s.priority) × ((outcome_of s).watch ≡ s.watch) × ((outcome_of s).persist ≡ s.persist) }
+    ensures labels { (s : Scene) → (outcome_of s).labels ≡ s.labels }
+    ensures links { (s : Scene) → (outcome_of s).links ≡ s.state.links }
+    ensures tags { (s : Scene) → (outcome_of s).tags ≡ current_tags s }
+    ensures properties { (s : Scene) → (outcome_of s).env ≡ by_name s.state.env }
+    ensures written { (s : Scene) → ((outcome_of s).attrs ≡ s.attrs) × ((outcome_of s).sysctls ≡ s.sysctls) }
+    ensures notes { (s : Scene) → (outcome_of s).notes ≡ s.notes ++ late_notes s.state s.runs }
 {}
 
 /// Properties have the same values when they are sorted.

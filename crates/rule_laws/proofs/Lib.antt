@@ -7,6 +7,7 @@ mod Placed
 pub mod Law
 pub mod TemplatesAgain
 mod Conditions
+mod Operators
 mod Again
 mod Counting
 mod GapPlaces

@@ -4,6 +4,7 @@ pub mod Conditions
 pub mod Jumps
 pub mod Outcomes
 pub mod Laws
+pub mod Operators
 pub mod Order
 pub mod LineEnds
 pub mod Udev

@@ -1,10 +1,15 @@
 -- In which order the assignments of a rule are evaluated, in terms of how their values are written.
-use Rattle.std.specs.Prelude.{◌≡◌, ◌↔◌, ◌⊎◌, ◌<◌, ◌≤◌, ◌+◌, ◌==◌, ℕ, Bool, true, List, ◌∷◌, ◌++◌, length, map, filter, All}
+use Rattle.std.specs.Prelude.{◌≡◌, ◌↔◌, ◌⊎◌, ◌<◌, ◌≤◌, ◌+◌, ◌==◌, ℕ, Bool, true, List, [], ◌∷◌, ◌++◌, Option, Some, None, length, map, filter, All}
 use Rattle.std.specs.List.{AllByRecursion}
 use Rattle.text_bytes.specs.Names.{digit_zero, dollar, is_blank, open_bracket, percent}
 use Rattle.rule_tokens.specs.Grammar.{AllAre}
-use Rattle.rule_types.specs.WrittenParts.{key_of_change}
+use Rattle.rule_types.specs.WrittenParts.{key_of_act_kind, key_of_change, type_of}
 use Rattle.rule_types.specs.declared.keys.Key.{Key}
+use Rattle.rule_types.specs.declared.keys.Key.TheVariants as key
+use Rattle.rule_types.specs.declared.types.ImportType.{ImportType}
+use Rattle.rule_types.specs.declared.types.ImportType.TheVariants as import_of
+use Rattle.rule_types.specs.declared.part.ActKind.{ActKind}
+use Rattle.rule_types.specs.declared.part.ActKind.TheVariants as act_kind
 use Rattle.rule_types.specs.declared.part.Assignment.{Assignment}
 use Rattle.rule_types.specs.declared.part.Change.{Change}
 use Rattle.rule_types.specs.declared.part.Change.TheVariants as change
@@ -49,6 +54,25 @@ IsRendered _ = ⊥
 -- none that is rendered comes after one that is known
 abbrev pub KnownComeLast : List Assignment → Type 0
 KnownComeLast sets = (before : List Assignment) (known : Assignment) (following : List Assignment) → sets ≡ before ++ known ∷ following → IsKnown known.change → All (λ other. ¬ IsRendered other.change) following
+
+-- the keys that assign, in the order in which the assignments of a rule are made by the manual
+abbrev pub keys_in_order : List Key
+keys_in_order =
+    key.Options ∷ key.Owner ∷ key.Group ∷ key.Mode ∷ key.Tag ∷ key.Seclabel ∷ key.Env ∷ key.Name ∷ key.Symlink ∷ key.Attr ∷ key.Sysctl
+    ∷ key.Run ∷ []
+
+-- the types of IMPORT, in the order in which those of a rule are done, after TEST and PROGRAM
+abbrev pub imports_in_order : List ImportType
+imports_in_order = import_of.File ∷ import_of.Program ∷ import_of.Builtin ∷ import_of.Db ∷ import_of.Cmdline ∷ import_of.Parent ∷ []
+
+-- what acts in the order in which it is done: each key, and of an IMPORT its type
+abbrev pub acts_in_order : List (Key × Option ImportType)
+acts_in_order = (key.Test, None) ∷ (key.Program, None) ∷ map (λ type. (key.Import, Some type)) imports_in_order
+
+-- the key of what an act does, and of an IMPORT its type
+abbrev pub key_and_type : ActKind → Key × Option ImportType
+key_and_type (act_kind.Import import) = (key.Import, Some (type_of import))
+key_and_type other = (key_of_act_kind other, None)
 
 -- the assignments of each key, by any test that just these pass, are those that were written, in that order
 abbrev pub EachKeyAsWritten : List Assignment → List Assignment → Type 0

@@ -23,7 +23,7 @@ use Rattle.eval_rules.specs.Idle.{is_idle, is_idle_by}
 use Rattle.eval_rules.specs.Steps.{Went, apply, if_proceeding, only_noted, plain_step, result_step, search, set_all, steps, walk, with_selected}
 use Rattle.eval_rules.specs.Laws.{IsMetByOneDevice}
 use Rattle.eval_laws.specs.Reaching.{AllGoOn, IsSearched, LetGoOn, matched}
-use Rattle.eval_laws.proofs.Unmatched.{walk_holds}
+use Rattle.eval_laws.proofs.Unmatched.{walk_holds, walk_same}
 
 -- a step after one that goes on
 on : (f : Scene → Went) (w : Went) (s : Scene) → w ≡ (s, true) → if_proceeding f w ≡ f s
@@ -52,6 +52,13 @@ plain_on r (part ∷ parts) s h = by (plain_on r parts (match_reached r part.key
         → if_proceeding (walk (plain_step r) parts) (match_reached r part.key s, b) ≡ (fold (λ at (p : PlainMatch). match_reached r p.key at) (match_reached r part.key s) parts, true)
     by more true h = more h
     by more false h = absurd (true≢false (sym h))
+
+-- which leave nothing but notes
+plain_let : (r : Rule) (s : Scene) → (walk (plain_step r) r.plain s).1 ≡ true → walk (plain_step r) r.plain s ≡ (matched r s, true)
+plain_let r s h =
+    let left : Scene = fold (λ at (part : PlainMatch). match_reached r part.key at) s r.plain in
+    let whole : walk (plain_step r) r.plain s ≡ (left, true) = plain_on r r.plain s h in
+    whole ∙ ap (λ (t : Scene). (t, true)) (sym (ap (λ (w : Went). record w.0 { notes = left.notes }) whole) ∙ walk_same r r.plain left.notes s)
 
 -- a search that finds a device
 met : (parts : List UpMatch) (state : State) (place : ℕ) → found_place parts state ≡ Some place → IsFirstToMeet parts state place
@@ -136,7 +143,7 @@ module _ (known : Known) (r : Rule) (s : Scene) where
   unfolding steps
   steps_leave done let_on =
       let w : Went = walk (plain_step r) r.plain s in
-      let plain : w ≡ (matched r s, true) = plain_on r r.plain s (walk_holds r r.plain s ∙ let_on.hold) in
+      let plain : w ≡ (matched r s, true) = plain_let r s (walk_holds r r.plain s ∙ let_on.hold) in
       let up : if_proceeding (search r.up) w ≡ (let_on.found, true) = on (search r.up) w (matched r s) plain ∙ searched_is r.up (matched r s) let_on.found let_on.searched in
       let acts : if_proceeding (walk (act_step known r) r.acts) (if_proceeding (search r.up) w) ≡ (done, true) =
       on (walk (act_step known r) r.acts) (if_proceeding (search r.up) w) let_on.found up ∙ acts_done known r r.acts let_on.found done let_on.acted in
@@ -154,7 +161,7 @@ module _ (known : Known) (r : Rule) (s : Scene) where
       let m : Scene = matched r s in
       let a : Went = walk (plain_step r) r.plain s in
       let a_on : a.1 ≡ true = (went_on up a (went_on acts (if_proceeding up a) (went_on results (if_proceeding acts (if_proceeding up a)) (went_on sets (if_proceeding results (if_proceeding acts (if_proceeding up a))) h).0).0).0).0 in
-      let after_plain = ap (λ (w : Went). (if_proceeding sets (if_proceeding results (if_proceeding acts (if_proceeding up w)))).1) (sym (plain_on r r.plain s a_on)) ∙ h in
+      let after_plain = ap (λ (w : Went). (if_proceeding sets (if_proceeding results (if_proceeding acts (if_proceeding up w)))).1) (sym (plain_let r s a_on)) ∙ h in
       let b : Went = up m in
       let b_on : b.1 ≡ true = (went_on acts b (went_on results (if_proceeding acts b) (went_on sets (if_proceeding results (if_proceeding acts b)) after_plain).0).0).0 in
       let after_up = ap (λ (w : Went). (if_proceeding sets (if_proceeding results (if_proceeding acts w))).1) (sym (pairs b b_on)) ∙ after_plain in

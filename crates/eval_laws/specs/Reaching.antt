@@ -12,9 +12,9 @@ use Rattle.eval_acts.specs.Reaching.{match_reached}
 use Rattle.eval_rules.specs.Laws.{IsMetByOneDevice, plain_hold}
 use Rattle.eval_rules.specs.Steps.{with_selected}
 
--- what the matches of the event leave: some leave a note by being reached
+-- what the matches of the event leave: nothing but notes, which some leave by being reached
 abbrev pub matched : Rule → Scene → Scene
-matched r s = fold (λ at part. match_reached r part.key at) s r.plain
+matched r s = record s { notes = (fold (λ at part. match_reached r part.key at) s r.plain).notes }
 
 -- Of the devices of the chain the nearest that meets all matches is selected; without a match nothing changes.
 abbrev pub IsSearched : List UpMatch → Scene → Scene → Type 0

@@ -42,7 +42,7 @@ pub fn an_operator_decides_only_whether_a_rule_goes_on()
 {}
 
 /// By the manual TEST changes nothing and holds if and only if the event device has an attribute of this path, which is
-/// relative. With a mask or an absolute path it is not made, which leaves a note and holds only with `!=`.
+/// relative. With a mask or an absolute path it is not made: it leaves a note and does not hold.
 pub fn a_test_holds_where_the_attribute_is_there()
     ensures made { (known : Known) (rule : Rule) (template : templates.Parts) (scene : Scene) (path : Text) → scene.state.event.profile ≡ Manual
         → render template scene.state Plain ≡ rendered.Text path → begins_with slash path ≡ false

@@ -106,9 +106,8 @@ pub fn assigned_texts_are_there()
         ≡ (if is_empty t then s.mode else if is_some (mode_of t) then option_map four_digits (mode_of t) else s.mode) }
 {}
 
-/// By the manual each other key that is assigned changes what it names: SYMLINK and TAG the links and the tags by its
-/// operator, NAME the name, ENV a property, which the empty text removes and `+=` extends, and ATTR, SYSCTL and SECLABEL the
-/// text of their attribute.
+/// By the manual SYMLINK and TAG change the links and the tags as their operator says, NAME the name, ENV a property, which
+/// the empty text removes and `+=` extends, and ATTR, SYSCTL and SECLABEL the text of the name in their braces.
 pub fn each_key_changes_what_it_names()
     ensures links { (r : Rule) (o : AssignOperator) (template : templates.Parts) (s : Scene) (t : Text) → IsAssigned r target.Symlink template s t
         → (after_text r o target.Symlink template s).state.links ≡ changed o (link_names (link_text (escape_of r.sets) t)) s.state.links }
@@ -133,7 +132,7 @@ pub fn each_key_changes_what_it_names()
         → IsAssigned r (target.Seclabel name) template s t → value_of (after_text r o (target.Seclabel name) template s).labels name ≡ Some t }
 {}
 
-/// Each option that an answer has sets its own field, if its key is not final.
+/// `link_priority`, `watch`, `nowatch` and `db_persist` each set their own field, unless it is final.
 pub fn each_option_sets_what_it_names()
     ensures priority { (r : Rule) (o : AssignOperator) (s : Scene) (priority : ℤ) → is_final s.finals key.Priority ≡ false
         → (after_option r o (option.LinkPriority priority) s).priority ≡ Some priority }

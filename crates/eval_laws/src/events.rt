@@ -41,7 +41,7 @@ pub fn an_event_begins_with_what_its_block_says()
 
 /// The end of a rule is reached if and only if all its keys let it go on: its matches of the event hold, one device of the
 /// chain meets all others, each act lets it go on, and so do the matches of the result. The nearest such device is then
-/// selected, and the assignments are made over what the acts left. udev also skips some rules, and by the manual none is.
+/// selected, and the assignments are made over what the acts left. By the manual no rule is skipped, as some are by udev.
 pub fn a_rule_goes_on_just_where_all_its_keys_let_it()
     ensures reached { (known : Known) (r : Rule) (s : Scene)
         → ((apply known r s).1 ≡ true) ↔ ((is_idle r s.state.event ≡ false) × ((done : Scene) × LetGoOn known r s done)) }

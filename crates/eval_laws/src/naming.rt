@@ -21,7 +21,8 @@ pub fn a_name_in_brackets_names_a_device()
     ensures others { (name : Text) (is : NamedValue) → named name ≡ Some is → IsWrittenSo name is }
 {}
 
-/// Of the devices of a chain that have the subsystem and the kernel's name, the nearest is meant.
+/// A device is the named one if and only if it has both the subsystem and the kernel's name; of several in a chain the nearest is
+/// meant.
 pub fn the_nearest_device_is_named()
     ensures meant { (is : NamedValue) (device : DeviceValue)
         → (is_named is (Some device) ≡ true) ↔ ((device.subsystem ≡ Some is.subsystem) × (kernel_of device ≡ is.kernel)) }

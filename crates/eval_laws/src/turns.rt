@@ -28,7 +28,7 @@ pub fn the_next_rule_follows()
 {}
 
 /// An outcome has what the last scene has, each under its own name: the properties sorted, the tags that are not removed, and a
-/// name if it is not empty. Its commands and its notes are those of the scene, and those of the runs that it keeps.
+/// name if it is not empty. Its notes are those of the scene, and those of the runs that it keeps.
 pub fn an_outcome_is_what_the_last_scene_has()
     ensures name { (s : Scene) → (outcome_of s).name ≡ filled s.state.name }
     ensures owner { (s : Scene) → (outcome_of s).owner ≡ s.owner }

@@ -241,6 +241,23 @@ CASES = [
       'ENV{B}="$attr{model}"\n'),
      DISK,
      ['env A=1', 'env B=Disk', 'attr model=New']),
+    ('an attribute that was assigned keeps its value, as nothing is written',
+     ('ATTR{model}="new $attr{size}", ENV{A}="$attr{model}"\n' +
+      'ATTR{model}=="new*", ENV{B}="1"\n' +
+      'ATTR{model}=="Disk", ENV{C}="$attr{model}"\n' +
+      'ATTRS{model}=="Disk", ENV{D}="1"\n' +
+      'ATTR{none}="1"\n' +
+      'ATTR{none}=="1", ENV{E}="1"\n' +
+      'TEST=="none", ENV{F}="1"\n' +
+      'ENV{G}="$attr{none}|"\n' +
+      'ATTR{size}=""\n' +
+      'ATTR{size}=="2048", ENV{H}="$attr{size}"\n' +
+      'ATTR{[usb/usb1]serial}="9"\n' +
+      'ATTR{[usb/usb1]serial}=="7", ENV{I}="$attr{[usb/usb1]serial}"\n' +
+      'ATTRS{serial}=="7", ENV{J}="$attr{serial}"\n'),
+     DISK,
+     ['env A=Disk', 'env C=Disk', 'env D=1', 'env G=|', 'env H=2048', 'env I=7', 'env J=7',
+      'attr model=new 2048', 'attr none=1', 'attr size=', 'attr [usb/usb1]serial=9']),
     ('an attribute of blanks and ?*',
      ('ATTR{blank}=="?*", ENV{J}="1"\n' +
       'ATTR{blank}!="", ENV{I}="1"\n'),

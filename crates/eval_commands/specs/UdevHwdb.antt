@@ -1,5 +1,5 @@
 -- The words after `hwdb` as udev takes them, one after another: options as getopt_long(3) reads them, and a modalias.
-use Rattle.std.specs.Prelude.{ℕ, true, not, ◌==◌, ◌||◌, nat_eq, List, [], ◌∷◌, drop, find, fold, Option, Some, None, is_some, codes, false, if◌then◌else◌}
+use Rattle.std.specs.Prelude.{ℕ, Bool, true, not, ◌==◌, ◌&&◌, ◌||◌, nat_eq, List, [], ◌∷◌, drop, find, fold, Option, Some, None, is_none, is_some, codes, false, if◌then◌else◌}
 use Rattle.std.specs.List.{starts_with}
 use Rattle.std.specs.Option.{option_and_then, option_or, unwrap_or}
 use Rattle.text_bytes.specs.Names.{equals, minus}
@@ -95,10 +95,15 @@ word_given (Some known) word g = with_option known word g
 abbrev pub took : Given → Text → Given
 took g word = word_given g.wanted word g
 
--- what the words ask for; nothing if they name another device than the event's, which is not looked at, or if the filter is not a pattern
+-- whether words ask to look at another device than the event's, which is not looked at: one is named, and there is no modalias, with which no
+-- device is looked at
+abbrev pub is_of_other : Given → Bool
+is_of_other g = is_some g.device && is_none g.modalias
+
+-- what the words ask for; nothing if that is another device than the event's, or if the filter is not a pattern
 abbrev pub asked_by : Given → Option Hwdb
 asked_by g =
-    if is_some g.device || is_bad_filter g.filter then None
+    if is_of_other g || is_bad_filter g.filter then None
     else Some (record { subsystem = g.subsystem; prefix = unwrap_or g.prefix []; filter = option_and_then pattern_of g.filter; modalias = g.modalias })
 
 -- what the words after `hwdb` ask for

@@ -103,7 +103,8 @@ impl Builtin {
     /// builtin has its whole name. The command of `hwdb` is then split at spaces, tabs, newlines and carriage
     /// returns, and a quote that stays open ends with it. Its options are read as getopt_long(3) does: `--NAME VALUE`,
     /// the beginning of a name, and the letters `-s`, `-p` and `-f` are options too; unknown options and words after
-    /// the modalias are skipped. Bad arguments are then `--device` and a last filter that is not a pattern.
+    /// the modalias are skipped. Bad arguments are then `--device` without a modalias, and a last filter that is not
+    /// a pattern.
     pub fn read(alloc: Global, profile: Profile, command: &[u8]) -> Result<Builtin, AllocError>
         ensures { IfOk result (λ b. b ≡ builtin profile command.now) }
     {

@@ -3,6 +3,7 @@
 
 mod builtin;
 mod hwdb;
+mod laws;
 mod request;
 mod udev_hwdb;
 mod unquoted;
@@ -10,5 +11,6 @@ mod words;
 
 pub use builtin::Builtin;
 pub use hwdb::Hwdb;
+pub use laws::a_modalias_is_looked_up_whatever_device_is_named;
 pub use request::{Request, other_name, request_of};
 pub use words::is_quote;

@@ -8,7 +8,7 @@ ghost use Rattle.std.specs.Option.{option_and_then};
 ghost use Rattle.text_bytes.specs.Names.{equals};
 ghost use Rattle.text_bytes.specs.Texts.{split_once};
 ghost use Rattle.eval_commands.specs.Hwdb.{is_bad_filter, pattern_of};
-ghost use Rattle.eval_commands.specs.UdevHwdb.{asked_by, cut_given, letter_given, letters_given, long_given, named_given, nothing_given, option_given};
+ghost use Rattle.eval_commands.specs.UdevHwdb.{asked_by, cut_given, is_of_other, letter_given, letters_given, long_given, named_given, nothing_given, option_given};
 ghost use Rattle.eval_commands.specs.UdevHwdb.{option_letter, option_lettered, option_name, option_named, took, udev_hwdb_of, with_option, with_word};
 
 use crate::hwdb::{Hwdb, pattern_of};
@@ -21,7 +21,7 @@ use text_core::Pattern;
 pub(crate) enum HwdbOption {
     /// `--filter`, `-f`: which keys count.
     Filter,
-    /// `--device`, `-d`: the device to look at instead of the event's.
+    /// `--device`, `-d`: the device to look at instead of the event's, unless there is a modalias.
     Device,
     /// `--subsystem`, `-s`: the subsystem of the devices that are looked up.
     Subsystem,
@@ -249,11 +249,18 @@ impl Given {
         pattern_of(alloc, self.filter.as_ref().map(Bytes::as_slice))
     }
 
-    /// What the words ask for; `None` if they name another device, or if the filter is not a pattern.
+    /// Whether the words ask to look at another device than the event's: one is named, and there is no modalias.
+    fn is_of_other(&self) -> bool
+        ensures { result ≡ is_of_other self.now }
+    {
+        self.device.is_some() && self.modalias.is_none()
+    }
+
+    /// What the words ask for; `None` if that is another device, or if the filter is not a pattern.
     fn finish(self, alloc: Global) -> Result<Option<Hwdb>, AllocError>
         ensures { IfOk result (λ hwdb. hwdb ≡ asked_by self) }
     {
-        if self.device.is_some() {
+        if self.is_of_other() {
             return Ok(None);
         }
         let Some(filter) = self.pattern(alloc)? else {

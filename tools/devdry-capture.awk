@@ -159,6 +159,8 @@ BEGIN {
 }
 
 { letter = substr($0, 1, 2); text = substr($0, 4) }
+letter == "c:" { constants = constants "K: " text "\n"; next }
+letter == "m:" { elsewhere = elsewhere "A: " text "\n"; next }
 letter == "x:" { guarded[text]; next }
 letter == "w:" { if (text == "") failed = 1; else order[++orders] = text; next }
 letter == "P:" {
@@ -232,6 +234,7 @@ function device(path, first,    of, i, line, letter) {
         letter = substr(line, 1, 1)
         of[letter] = of[letter] (walk ? as_key(line, first ? "" : "S") : line == "" ? "" : line "\n")
     }
+    if (first) of["A"] = of["A"] elsewhere
     return of["P"] of["U"] of["V"] of["N"] of["D"] of["A"] of["E"] of["G"] of["S"] of["K"]
 }
 
@@ -244,6 +247,7 @@ function block(path,    out, parent, devices) {
         out = out (walk ? "\n" : "") device(parent, 0)
         devices++
     }
+    out = out constants
     if (devices > 64 && !walk) complain(path ": it has over 63 parents, and is left out")
     else if (length(out) > 65536 && !walk) complain(path ": its block has over 65,536 bytes, and is left out")
     else printf "%s\n", out

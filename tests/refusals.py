@@ -33,6 +33,8 @@ import sys
 import tempfile
 from concurrent.futures import ThreadPoolExecutor
 
+from tables.kinds.row import Link
+
 OUT_OF_MEMORY = b"devdry: out of memory\n"
 FAILED = re.compile(rb"devdry: (write failed|read failed|cannot read [^\n]*)\n$")
 STREAM_FAILED = re.compile(rb"devdry: (write|read) failed\n$")
@@ -340,6 +342,10 @@ ROWS = [
         "the files of folders", ["files", "-r", "."],
         {f"{LATER}/a.rules": "", f"{EARLIER}/a.rules": "x", f"{EARLIER}/b.rules": "x", f"{EARLIER}/README": "", f"{SECOND}/c.hwdb": "x"},
         output=LISTED, each_byte=True),
+    Row(
+        "links inside a root", ["query", "-r", ".", "mx"],
+        {FIRST: Link("/other/../own/."), "own/a.hwdb": Link("../text"), "other/x": "", "text": "m*\n A=1\n", "own/b.hwdb": Link("/dev/null")},
+        output="A=1\n", each_byte=True),
     Row("a section on a code", ["explain", "S2"], output=None, each_byte=True),
     Row(
         "rules that are read as far as they can be", ["verify", "--all", "none.rules", "v.rules"], {"v.rules": "A\n"},
@@ -490,6 +496,9 @@ def lay_out(row, folder):
     for name, text in row.files.items():
         path = f"{folder}/here/{name}"
         os.makedirs(os.path.dirname(path), exist_ok=True)
+        if isinstance(text, Link):
+            os.symlink(text, path)
+            continue
         with open(path, "wb") as file:
             file.write(as_bytes(text))
 

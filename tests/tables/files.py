@@ -126,8 +126,16 @@ NOTHING = [
     listed("a folder with a name that is not UTF-8", {f"{ETC}/".encode() + b"\xff.rules": RULE, f"{LIB}/a.rules": RULE},
            (f"{LIB}/a.rules", "used"), messages=unread(ETC, "a name is not UTF-8"), status=3),
     listed("a folder that is a symlink out of the root", {ETC: Link("/no/such/rules.d")},
-        messages=unread(ETC, "link to nothing: /no/such/rules.d")
-        + folders({ETC: "link out of the root: /no/such/rules.d"}, of=RULES + HWDB), status=3),
+        messages=unread(ETC, "link to nothing: /no/such/rules.d") + folders({ETC: None}, of=RULES + HWDB), status=3),
+    listed("a folder that is an absolute symlink in the root", {ETC: Link("/usr/lib/udev/rules.d"), f"{LIB}/a.rules": RULE},
+        (f"{ETC}/a.rules", "used"), (f"{LIB}/a.rules", hidden(f"{ETC}/a.rules"))),
+    listed("a file that is an absolute symlink in the root", {f"{ETC}/a.rules": Link("/some"), "mnt/some": RULE, f"{LIB}/a.rules": RULE},
+        (f"{ETC}/a.rules", "used"), (f"{LIB}/a.rules", hidden(f"{ETC}/a.rules"))),
+    listed("a mask by a symlink to a mask", {f"{ETC}/a.rules": Link("/b"), "mnt/b": Link("/dev/null"), f"{LIB}/a.rules": RULE},
+        (f"{ETC}/a.rules", "masked"), (f"{LIB}/a.rules", hidden(f"{ETC}/a.rules"))),
+    listed("a name below a mask", {f"{ETC}/a.rules": Link("/b/c"), "mnt/b": Link("/dev/null"), f"{LIB}/a.rules": RULE},
+        (f"{ETC}/a.rules", over("not a regular file")), (f"{LIB}/a.rules", "used"),
+        messages=unread(f"{ETC}/a.rules", "not a regular file"), status=3),
     listed("only database files", {f"{LIB_HWDB}/a.hwdb": "m\n A=1\n"}, (f"{LIB_HWDB}/a.hwdb", "used")),
 ]
 

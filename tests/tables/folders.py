@@ -3,7 +3,7 @@
 A row may be run by root, whom no permission stops. So what can't be read is a link that leads to itself, and what can't
 be listed is a file in place of a folder; bench/odd_files.sh tries a folder without permission for another user.
 """
-from tables.kinds.row import FOLDER, Link, Row
+from tables.kinds.row import FOLDER, PIPE, Link, Row
 from tables.words import EMPTY_INDEX, FIRST_VERSION
 
 ETC, LIB = "mnt/etc/udev/hwdb.d", "mnt/usr/lib/udev/hwdb.d"
@@ -50,7 +50,13 @@ QUERIED = [
     ("an empty folder, and an absent folder", {ETC: FOLDER}, ""),
     ("an absent root", {}, ""),
     ("a broken symlink is an absent folder", {f"{ETC}/a.hwdb": record("A=1"), LIB: Link("nothing")}, "a.hwdb:2: A=1\n"),
-    ("a symlink to a folder is read as that folder", {"other/a.hwdb": record("A=1"), LIB: Link("../../../../other")}, "a.hwdb:2: A=1\n"),
+    ("a symlink to a folder is read as that folder", {"mnt/other/a.hwdb": record("A=1"), LIB: Link("../../../other")}, "a.hwdb:2: A=1\n"),
+    ("a symlink to an absolute path begins at the root", {"mnt/other/a.hwdb": record("A=1"), "other/a.hwdb": record("B=1"), LIB: Link("/other")}, "a.hwdb:2: A=1\n"),
+    ("a symlink upward stops at the root", {"mnt/other/a.hwdb": record("A=1"), "other/a.hwdb": record("B=1"), LIB: Link("../../../../../../other/.")}, "a.hwdb:2: A=1\n"),
+    ("a symlink to a folder outside is an absent folder", {"other/a.hwdb": record("A=1"), LIB: Link("../../../../other")}, ""),
+    ("a file by an absolute symlink, over two more", {"mnt/a": record("A=1"), "a": record("B=1"), f"{LIB}/a.hwdb": Link("/b"), "mnt/b": Link("x/../a"), "mnt/x": Link("usr")}, "a.hwdb:2: A=1\n"),
+    ("an absolute symlink to a folder is passed over", {f"{ETC}/a.hwdb": Link("/usr"), f"{LIB}/b.hwdb": record("A=1")}, "b.hwdb:2: A=1\n"),
+    ("forty symlinks are followed", {**{f"mnt/l{number}": Link(f"l{number + 1}") for number in range(1, 40)}, "mnt/l40": record("A=1"), f"{LIB}/a.hwdb": Link("/l1")}, "a.hwdb:2: A=1\n"),
     ("query does not open the folders of rules", {RULES[0]: "", RULES[3]: "", f"{ETC}/a.hwdb": record("A=1")},
      "a.hwdb:2: A=1\n"),
     ("a file name is escaped, and shown in full",
@@ -66,7 +72,16 @@ UNREAD = [
     ("a folder as a named file, with a trailing slash", f"query m {ETC}/", {ETC: FOLDER}, f"{ETC}/"),
     ("- is the name of a file", "verify -", {}, "-"),
     ("a file in place of a folder of the database", "query m -r mnt", {ETC: ""}, ETC),
-    ("a file in place of the other folder of the database", "update -r mnt", {LIB: Link("/proc/self/status")}, LIB),
+    ("a file in place of the other folder of the database", "update -r mnt", {LIB: Link("/file"), "mnt/file": ""}, LIB),
+    ("a database file that is a symlink out of the root", "query m -r mnt", {f"{ETC}/d.hwdb": Link("../../../../d"), "d": ""}, f"{ETC}/d.hwdb"),
+    ("a database file behind forty-one symlinks", "query m -r mnt", {**{f"mnt/l{number}": Link(f"l{number + 1}") for number in range(1, 41)}, "mnt/l41": "", f"{ETC}/d.hwdb": Link("/l1")}, f"{ETC}/d.hwdb"),
+    ("a pipe among the rules is not waited for", "verify -r mnt", {f"{RULES[1]}/a.rules": PIPE}, f"{RULES[1]}/a.rules"),
+    ("a symlink to a pipe", "events -r mnt", {f"{RULES[1]}/a.rules": Link("/pipe"), "mnt/pipe": PIPE}, f"{RULES[1]}/a.rules"),
+    ("a pipe among the database files", "query m -r mnt", {f"{LIB}/a.hwdb": PIPE}, f"{LIB}/a.hwdb"),
+    ("a pipe named .rules", "verify a.rules", {"a.rules": PIPE}, "a.rules"),
+    ("a pipe named .hwdb", "update d/.hwdb", {"d/.hwdb": PIPE}, "d/.hwdb"),
+    ("a pipe in one of two roots", "compare none mnt", {f"{RULES[1]}/a.rules": PIPE}, f"{RULES[1]}/a.rules"),
+    ("a name below a file", "query m -r mnt", {f"{ETC}/d.hwdb": Link("/file/"), "mnt/file": ""}, f"{ETC}/d.hwdb"),
     ("a folder that is a symlink to itself", "query m -r mnt", {LIB: Link("hwdb.d")}, LIB),
     ("a file in place of a folder of rules", "verify -r mnt", {RULES[0]: ""}, RULES[0]),
     ("a database file that is a broken symlink", "query m -r mnt", {f"{ETC}/a.hwdb": "", f"{ETC}/d.hwdb": Link("nothing")}, f"{ETC}/d.hwdb"),

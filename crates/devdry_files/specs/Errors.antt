@@ -1,15 +1,19 @@
 -- What an error of the system means for a disk.
-use Rattle.std.specs.Prelude.{◌≡◌, ◌⊎◌, ℕ, Bool, true, false, List, None, Option, Some, Result, Ok, Err, alloc_error, codes, map}
+use Rattle.std.specs.Prelude.{◌≡◌, ◌⊎◌, ◌||◌, ℕ, Bool, true, false, List, None, Option, Some, Result, Ok, Err, map, nat_eq, option_map}
 use Rattle.std.specs.IoError.{error_kind}
+use Rattle.std.specs.List.{ends_with}
+use Rattle.text_bytes.specs.Kinds.{suffix_of}
+use Rattle.text_bytes.specs.declared.source_file.FileKind.TheVariants.{Hwdb, Rules}
 use Rattle.std.specs.Iterator.{YieldsThen}
 use Rattle.std.specs.declared.io.Error.{Error}
-use Rattle.std.specs.declared.alloc.AllocError.{AllocError}
 use Rattle.std.specs.declared.io.ErrorKind.{ErrorKind}
 use Rattle.std.specs.declared.io.ErrorKind.TheVariants as kind
 use Rattle.devdry_files.specs.declared.disk.DiskFault.{DiskFault}
 use Rattle.devdry_files.specs.declared.disk.DiskFault.TheVariants.{Absent, Unreadable, NotUtf8, OutOfMemory}
 use Rattle.devdry_files.specs.declared.look.Look.{Look}
 use Rattle.devdry_files.specs.declared.look.Look.TheVariants as look
+use Rattle.devdry_files.specs.declared.step.Step.{Step}
+use Rattle.devdry_files.specs.declared.step.Step.TheVariants as step
 
 -- nothing is there, memory ran out, or what is there can't be read
 abbrev pub fault_from : ErrorKind → DiskFault
@@ -47,6 +51,16 @@ is_opened look.Folder = true
 is_opened look.File = true
 is_opened _ = false
 
+-- a path that ends like the names of rules or of database files
+abbrev pub is_named_as_read : List ℕ → Bool
+is_named_as_read path = ends_with nat_eq path (suffix_of Rules) || ends_with nat_eq path (suffix_of Hwdb)
+
+-- whether what a look shows at a path is not opened: what is neither a folder nor a file, such as a FIFO, which would be waited for, at
+-- such a name
+abbrev pub is_refused : Look → List ℕ → Bool
+is_refused look.Other path = is_named_as_read path
+is_refused _ path = false
+
 -- What a look that failed shows, or nothing if memory ran out. Nothing that can be read is below a file, and links
 -- that lead to one another lead nowhere: neither is an absence.
 abbrev pub look_from : ErrorKind → Option Look
@@ -56,12 +70,10 @@ look_from kind.PermissionDenied = Some look.Forbidden
 look_from kind.OutOfMemory = None
 look_from _ = Some look.Failed
 
--- what is reported for a symlink that can't be read: a question mark for a target that is not UTF-8, no target, or
--- that memory ran out
-abbrev pub target_unread : ErrorKind → Result (Option (List ℕ)) AllocError
-target_unread kind.OutOfMemory = Err alloc_error
-target_unread kind.InvalidFilename = Ok (Some (codes "?"))
-target_unread _ = Ok None
+-- what a step shows at a symlink that can't be read: one that leads to a path that is not UTF-8, or what a look that failed shows
+abbrev pub step_unread : ErrorKind → Option Step
+step_unread kind.InvalidFilename = Some step.OddLink
+step_unread other = option_map step.NoWay (look_from other)
 
 -- Why the entries of a listing can't be given: memory ran out, or one could not be taken, after some that could.
 abbrev pub IsEntriesFault : {S A : Type 0} → (S → Option (Result A Error) → S → Type 0) → S → DiskFault → Type 0

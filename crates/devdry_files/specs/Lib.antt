@@ -2,6 +2,8 @@ pub mod Found
 pub mod Errors
 pub mod Places
 pub mod Answers
+pub mod Walks
+pub mod Inside
 pub mod Memory
 pub mod Faults
 pub mod FaultTexts

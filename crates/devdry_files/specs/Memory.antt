@@ -3,12 +3,15 @@ use Rattle.std.specs.Prelude.{◌≡◌, ℕ, Bool, List, Option, Some, None, fi
 use Rattle.std.specs.Option.{option_map}
 use Rattle.std.specs.Str.{bytes_eq}
 use Rattle.devdry_files.specs.Answers.{Answer}
-use Rattle.devdry_files.specs.Answers.Answer.{Content, Listing, Looked, NoContent, NoListing, Target}
+use Rattle.devdry_files.specs.Answers.Answer.{Content, Listing, Looked, NoContent, NoListing, NoOwnContent, OwnContent, Stepped}
 use Rattle.devdry_files.specs.declared.disk.DiskFault.{DiskFault}
 use Rattle.devdry_files.specs.declared.disk.DiskFault.TheVariants.{Absent, Unreadable, OutOfMemory}
 use Rattle.devdry_files.specs.declared.disk.Entry.{Entry}
 use Rattle.devdry_files.specs.declared.look.Look.{Look}
 use Rattle.devdry_files.specs.declared.look.Look.TheVariants as look
+use Rattle.devdry_files.specs.declared.step.Identity.{Identity}
+use Rattle.devdry_files.specs.declared.step.Step.{Step}
+use Rattle.devdry_files.specs.declared.step.Step.TheVariants as step
 use Rattle.devdry_files.specs.declared.memory_disk.MemoryDisk.{MemoryDisk}
 use Rattle.devdry_files.specs.declared.memory_disk.MemoryEntry.{MemoryEntry}
 use Rattle.devdry_files.specs.declared.memory_disk.DiskNode.{DiskNode}
@@ -36,6 +39,7 @@ abbrev pub ListsAs : Option DiskNode → List Entry → Type 0
 ListsAs (Some (disk_node.Folder own)) entries = map seen_entry entries ≡ map seen_in_memory own.now
 ListsAs (Some (disk_node.File bytes)) entries = ⊥
 ListsAs (Some disk_node.Unreadable) entries = ⊥
+ListsAs (Some (disk_node.Link target)) entries = ⊥
 ListsAs None entries = ⊥
 
 -- what is there is read like this
@@ -43,6 +47,7 @@ abbrev pub ReadsAs : Option DiskNode → List ℕ → Type 0
 ReadsAs (Some (disk_node.Folder own)) bytes = ⊥
 ReadsAs (Some (disk_node.File own)) bytes = bytes ≡ own.now
 ReadsAs (Some disk_node.Unreadable) bytes = ⊥
+ReadsAs (Some (disk_node.Link target)) bytes = ⊥
 ReadsAs None bytes = ⊥
 
 -- why what is there can't be listed
@@ -50,6 +55,7 @@ abbrev pub ListsNot : Option DiskNode → DiskFault → Type 0
 ListsNot (Some (disk_node.Folder own)) fault = fault ≡ OutOfMemory
 ListsNot (Some (disk_node.File bytes)) fault = fault ≡ Unreadable
 ListsNot (Some disk_node.Unreadable) fault = fault ≡ Unreadable
+ListsNot (Some (disk_node.Link target)) fault = fault ≡ Unreadable
 ListsNot None fault = fault ≡ Absent
 
 -- why what is there can't be read
@@ -57,6 +63,7 @@ abbrev pub ReadsNot : Option DiskNode → DiskFault → Type 0
 ReadsNot (Some (disk_node.Folder own)) fault = fault ≡ Unreadable
 ReadsNot (Some (disk_node.File bytes)) fault = fault ≡ OutOfMemory
 ReadsNot (Some disk_node.Unreadable) fault = fault ≡ Unreadable
+ReadsNot (Some (disk_node.Link target)) fault = fault ≡ Unreadable
 ReadsNot None fault = fault ≡ Absent
 
 -- what a look at what is there shows
@@ -64,7 +71,25 @@ abbrev pub look_of : Option DiskNode → Look
 look_of (Some (disk_node.Folder own)) = look.Folder
 look_of (Some (disk_node.File bytes)) = look.File
 look_of (Some disk_node.Unreadable) = look.Failed
+look_of (Some (disk_node.Link target)) = look.Failed
 look_of None = look.Absent
+
+-- the identity of each file
+abbrev pub no_identity : Identity
+no_identity = record { device = 0; number = 0 }
+
+-- a symlink with this target
+abbrev pub LinksTo : List ℕ → Step → Type 0
+LinksTo target (step.Link own) = string_bytes own ≡ target
+LinksTo target _ = ⊥
+
+-- what a step to what is there shows
+abbrev pub ShowsStep : Option DiskNode → Step → Type 0
+ShowsStep (Some (disk_node.Folder own)) it = it ≡ step.Folder
+ShowsStep (Some (disk_node.File bytes)) it = it ≡ step.File no_identity
+ShowsStep (Some disk_node.Unreadable) it = it ≡ step.NoWay look.Failed
+ShowsStep (Some (disk_node.Link target)) it = LinksTo target.now it
+ShowsStep None it = it ≡ step.NoWay look.Absent
 
 -- the answers that a disk over memory gives: one to each question, or out of memory instead of a text
 abbrev pub MayAnswer : MemoryDisk → Answer → Type 0
@@ -73,4 +98,6 @@ MayAnswer disk (NoListing path fault) = ListsNot (node_at disk path) fault
 MayAnswer disk (Content path bytes) = ReadsAs (node_at disk path) bytes
 MayAnswer disk (NoContent path fault) = ReadsNot (node_at disk path) fault
 MayAnswer disk (Looked path shown) = shown ≡ look_of (node_at disk path)
-MayAnswer disk (Target path target) = target ≡ None
+MayAnswer disk (OwnContent path identity bytes) = ReadsAs (node_at disk path) bytes
+MayAnswer disk (NoOwnContent path identity fault) = ReadsNot (node_at disk path) fault
+MayAnswer disk (Stepped path it) = ShowsStep (node_at disk path) it

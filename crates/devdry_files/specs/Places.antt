@@ -37,9 +37,10 @@ folders_of_kind line kind = if reads_folders_of line kind then folders_of kind l
 abbrev pub folders_for : Line → List Place
 folders_for line = flat_map (folders_of_kind line) (kinds_read line.verb)
 
--- what the line asks for: the files that it names, in their order, what they hold, the folders, and the index that it names
+-- what the line asks for: the files that it names, in their order, what they hold, the folders, their root, and the index that it names
 pub record Wants (line : Line) (w : Wanted) : Type 0 where
   pub files : map (λ f. f.now) w.files.now ≡ map (λ f. f.now) line.files.items
   pub kind : w.kind ≡ kind_named line.verb
   pub folders : map place_of w.folders.items ≡ folders_for line
+  pub root : w.root.now ≡ line.root.now
   pub index : option_copied w.index ≡ option_copied line.index

@@ -82,6 +82,7 @@ pub fn wanted<'b, 'a>(alloc: Global, line: &'b Line<'a>) -> Result<Wanted<'b, 'a
         kind: line.verb.kind_named(),
         files: line.files.as_slice(),
         folders: asked_folders(alloc, line)?,
+        root: line.root,
         index: line.index,
     })
 }

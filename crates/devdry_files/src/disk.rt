@@ -7,11 +7,12 @@
 ghost use Rattle.std.specs.IoError.{error_kind};
 ghost use Rattle.std.specs.Prelude.{◌≡◌, IfErr, IfOk};
 ghost use Rattle.devdry_files.specs.Answers.{Answer};
-ghost use Rattle.devdry_files.specs.Answers.Answer.{Content, Listing, Looked, NoContent, NoListing, Target};
+ghost use Rattle.devdry_files.specs.Answers.Answer.{Content, Listing, Looked, NoContent, NoListing, NoOwnContent, OwnContent, Stepped};
 ghost use Rattle.devdry_files.specs.Errors.{fault_from};
 ghost use Rattle.devdry_files.specs.declared.disk.DiskFault.TheVariants.{OutOfMemory};
 
 use crate::look::Look;
+use crate::step::{Identity, Step};
 use std::alloc::{AllocError, AllocFailed, Global};
 use std::io;
 use text_bytes::Bytes;
@@ -87,13 +88,19 @@ pub trait Disk {
         ensures read { IfOk result (λ bytes. may_answer self.now (Content path.now bytes)) }
         ensures fault { IfErr result (λ fault. may_answer self.now (NoContent path.now fault)) };
 
+    /// All bytes of the file at a path, if it is the one with this identity, which a step showed there.
+    ///
+    /// `DiskFault::Unreadable` means that another file is there by now, or that the reading fails.
+    fn read_own(&self, alloc: Global, path: &str, identity: Identity) -> Result<Bytes, DiskFault>
+        ensures read { IfOk result (λ bytes. may_answer self.now (OwnContent path.now identity bytes)) }
+        ensures fault { IfErr result (λ fault. may_answer self.now (NoOwnContent path.now identity fault)) };
+
     /// What is at a path. A symlink is followed, and nothing is read: a FIFO is not opened, so that a look never
     /// waits.
-    fn look(&self, path: &str) -> Result<Look, AllocError>
+    fn look(&self, alloc: Global, path: &str) -> Result<Look, AllocError>
         ensures { IfOk result (λ look. may_answer self.now (Looked path.now look)) };
 
-    /// Where the symlink at a path leads, as it is written, or `?` if that is not UTF-8; `None` if there is no
-    /// symlink at the path, or if it can't be read.
-    fn target(&self, alloc: Global, path: &str) -> Result<Option<Bytes>, AllocError>
-        ensures { IfOk result (λ target. may_answer self.now (Target path.now target)) };
+    /// What is at a path, with no symlink followed at its end. Nothing is opened.
+    fn step(&self, alloc: Global, path: &str) -> Result<Step, AllocError>
+        ensures { IfOk result (λ step. may_answer self.now (Stepped path.now step)) };
 }

@@ -15,6 +15,10 @@ mod places;
 mod reading;
 mod real_disk;
 mod real_looks;
+mod real_steps;
+mod rooted_disk;
+mod step;
+mod walking;
 
 pub use account_files::read_account_files;
 pub use asking::wanted;
@@ -26,3 +30,6 @@ pub use memory_disk::{DiskNode, MemoryDisk, MemoryEntry, MemoryPlace};
 pub use places::{Folder, Wanted};
 pub use reading::{read_all, read_index};
 pub use real_disk::RealDisk;
+pub use rooted_disk::RootedDisk;
+pub use step::{End, Identity, Step};
+pub use walking::Next;

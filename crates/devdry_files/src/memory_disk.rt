@@ -2,10 +2,11 @@
 //!
 //! It shows that the contract of `Disk` can be met, and serves tests that need odd folders.
 ghost use Rattle.std.specs.Prelude.{◌≡◌, IfOk, map};
-ghost use Rattle.devdry_files.specs.Memory.{MayAnswer, look_of, node_at, seen_entry, seen_in_memory};
+ghost use Rattle.devdry_files.specs.Memory.{MayAnswer, ShowsStep, look_of, node_at, seen_entry, seen_in_memory};
 
 use crate::disk::{Disk, DiskFault, Entry};
 use crate::look::Look;
+use crate::step::{Identity, Step};
 use std::alloc::{AllocError, Global};
 use text_bytes::Bytes;
 
@@ -27,6 +28,8 @@ pub enum DiskNode<'a> {
     File(&'a [u8]),
     /// Something that can't be read.
     Unreadable,
+    /// A symlink that leads there. It is followed by whoever asks for it, inside a root: the disk itself follows none.
+    Link(&'a str),
 }
 
 /// A path, and what is there.
@@ -38,13 +41,19 @@ pub struct MemoryPlace<'a> {
     pub disk_node: DiskNode<'a>,
 }
 
-/// A disk over memory. Of places with the same path the first counts; at any other path there is nothing. It has
-/// no symlinks.
+/// A disk over memory. Of places with the same path the first counts; at any other path there is nothing. Its files
+/// have no identities: each step shows the same.
 #[derive(Clone, Copy, Debug)]
 pub struct MemoryDisk<'a> {
     /// All places.
     pub places: &'a [MemoryPlace<'a>],
 }
+
+/// The identity of each file.
+const NO_IDENTITY: Identity = Identity {
+    device: 0,
+    number: 0,
+};
 
 /// What is at a path.
 fn node_at<'a>(disk: &MemoryDisk<'a>, path: &str) -> Option<DiskNode<'a>>
@@ -61,9 +70,22 @@ fn look_of(disk_node: Option<DiskNode<'_>>) -> Look
     match disk_node {
         Some(DiskNode::Folder(_)) => Look::Folder,
         Some(DiskNode::File(_)) => Look::File,
-        Some(DiskNode::Unreadable) => Look::Failed,
+        Some(DiskNode::Unreadable | DiskNode::Link(_)) => Look::Failed,
         None => Look::Absent,
     }
+}
+
+/// What a step to what is at a path shows.
+fn step_of(alloc: Global, disk_node: Option<DiskNode<'_>>) -> Result<Step, AllocError>
+    ensures { IfOk result (ShowsStep disk_node.entry) }
+{
+    Ok(match disk_node {
+        Some(DiskNode::Folder(_)) => Step::Folder,
+        Some(DiskNode::File(_)) => Step::File(NO_IDENTITY),
+        Some(DiskNode::Unreadable) => Step::NoWay(Look::Failed),
+        Some(DiskNode::Link(target)) => Step::Link(String::from_str(alloc, target)?),
+        None => Step::NoWay(Look::Absent),
+    })
 }
 
 /// A copy of an entry.
@@ -106,11 +128,15 @@ impl Disk for MemoryDisk<'_> {
         }
     }
 
-    fn look(&self, path: &str) -> Result<Look, AllocError> {
+    fn read_own(&self, alloc: Global, path: &str, _identity: Identity) -> Result<Bytes, DiskFault> {
+        self.read(alloc, path)
+    }
+
+    fn look(&self, _alloc: Global, path: &str) -> Result<Look, AllocError> {
         Ok(look_of(node_at(self, path)))
     }
 
-    fn target(&self, _alloc: Global, _path: &str) -> Result<Option<Bytes>, AllocError> {
-        Ok(None)
+    fn step(&self, alloc: Global, path: &str) -> Result<Step, AllocError> {
+        step_of(alloc, node_at(self, path))
     }
 }

@@ -22,6 +22,8 @@ pub struct Wanted<'b, 'a> {
     pub files: &'b [&'a str],
     /// The folders, in the order in which they are read.
     pub folders: Vec<Folder>,
+    /// The root that the folders are in. Their paths begin with it.
+    pub root: &'a str,
     /// The path of the index, if one is named. It is read last.
     pub index: Option<&'a str>,
 }

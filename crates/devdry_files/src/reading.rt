@@ -9,6 +9,7 @@ use crate::disk::{Disk, DiskFault};
 use crate::fault::{ReadFault, fault_at};
 use crate::listing::names_in;
 use crate::places::{Folder, Wanted};
+use crate::rooted_disk::RootedDisk;
 use std::alloc::{AllocError, Global};
 use text_bytes::{Bytes, FileKind, SourceFile};
 
@@ -149,8 +150,8 @@ fn named_files<D: Disk>(
 ///
 /// Named files are read whatever their suffix, and have rank 0 and their names as given. In a folder only files
 /// whose names end in the suffix of their kind are opened, `.hwdb` as hwdb(7) says or `.rules` as udev(7) does,
-/// each under its name without the folder; folders in it are skipped, a symlink is followed, and an absent folder
-/// is empty.
+/// each under its name without the folder; folders in it are skipped, a symlink is followed inside the root of the
+/// folders, and an absent folder is empty.
 ///
 /// `ReadFault::Path` means a file that can't be read, the first one, with its path; a folder given as a file is
 /// one, and so is a symlink to nothing in a folder, as `systemd-hwdb update --strict` has it. If a folder can't be
@@ -166,7 +167,8 @@ pub fn read_all<D: Disk>(
     ensures fault { IfErr result (HasPath (IsFaultyWanted (D.may_answer disk.now) wanted.now)) }
 {
     let mut files = named_files(alloc, disk, wanted.kind, wanted.files)?;
-    files.append(&mut files_of_folders(alloc, disk, wanted.folders.as_slice())?)?;
+    let inside = RootedDisk::new(disk, wanted.root);
+    files.append(&mut files_of_folders(alloc, &inside, wanted.folders.as_slice())?)?;
     Ok(files)
 }
 

@@ -9,18 +9,20 @@ ghost use Rattle.std.specs.Iterator.{Drains, IsFinite};
 ghost use Rattle.std.specs.declared.alloc.Global.{Global};
 ghost use Rattle.std.specs.declared.fs.DirEntry.{DirEntry};
 ghost use Rattle.std.specs.Prelude.{◌≡◌, ◌↔◌, ◌⊎◌, ⊤, Bool, Err, IfErr, IfOk, IfSome, IsTrue, List, MatchResult, Ok, map, string_bytes};
-ghost use Rattle.devdry_files.specs.Errors.{IsEntriesFault, entry_fault_from, fault_from, read_fault_from, unseen_folder};
+ghost use Rattle.devdry_files.specs.Errors.{IsEntriesFault, entry_fault_from, fault_from, is_named_as_read, is_refused, read_fault_from, unseen_folder};
 ghost use Rattle.devdry_files.specs.declared.disk.DiskFault.TheVariants.{OutOfMemory, Unreadable};
 
 use crate::disk::{Disk, DiskFault, Entry};
 use crate::look::Look;
-use crate::real_looks::{look_at, target_from};
+use crate::real_looks::{look_at, seen_at};
+use crate::real_steps::{own_bytes_from, step_at};
+use crate::step::{Identity, Step};
 use std::alloc::{AllocError, Global};
 use std::fs;
 use std::fs::{DirEntry, File, Metadata};
 use std::io::{self, Read};
 use std::rt::Files;
-use text_bytes::Bytes;
+use text_bytes::{Bytes, FileKind};
 
 /// The disk that the runtime reaches.
 #[derive(Drop)]
@@ -141,7 +143,7 @@ pub(crate) fn bytes_of<F: Read + Drop>(alloc: Global, mut file: F) -> io::Result
 }
 
 /// Why a file that was opened could not be read.
-fn read_fault(error: io::Error) -> DiskFault
+pub(crate) fn read_fault(error: io::Error) -> DiskFault
     ensures { result ≡ read_fault_from (error_kind error) }
 {
     match error.kind() {
@@ -151,7 +153,10 @@ fn read_fault(error: io::Error) -> DiskFault
 }
 
 /// The bytes of a file, or why it could not be opened or read.
-fn bytes_from<F: Read + Drop>(alloc: Global, opened: io::Result<F>) -> Result<Bytes, DiskFault>
+pub(crate) fn bytes_from<F: Read + Drop>(
+    alloc: Global,
+    opened: io::Result<F>,
+) -> Result<Bytes, DiskFault>
     ensures bytes { MatchResult opened
         (λ file. IfOk result (λ read. IfSome (F.remaining file) (λ bytes. read ≡ bytes)))
         (λ error. result ≡ Err (fault_from (error_kind error))) }
@@ -163,6 +168,25 @@ fn bytes_from<F: Read + Drop>(alloc: Global, opened: io::Result<F>) -> Result<By
     }
 }
 
+/// Whether a path ends like the names of rules or of database files.
+fn is_named_as_read(path: &str) -> bool
+    ensures { result ≡ is_named_as_read path.now }
+{
+    let path = path.as_bytes();
+    path.ends_with(FileKind::Rules.suffix().as_bytes())
+        || path.ends_with(FileKind::Hwdb.suffix().as_bytes())
+}
+
+/// Whether what a look shows at a path is not opened: a FIFO, which would be waited for, or a device, at such a name.
+fn is_refused(look: Look, path: &str) -> bool
+    ensures { result ≡ is_refused look path.now }
+{
+    match look {
+        Look::Other => is_named_as_read(path),
+        _ => false,
+    }
+}
+
 impl<R: Files + AllocGlobal + Clone + Drop> Disk for RealDisk<'_, R> {
     ghost may_answer = { λ _ _. ⊤ };
 
@@ -171,14 +195,21 @@ impl<R: Files + AllocGlobal + Clone + Drop> Disk for RealDisk<'_, R> {
     }
 
     fn read(&self, alloc: Global, path: &str) -> Result<Bytes, DiskFault> {
+        if is_refused(seen_at(self.rt, path)?, path) {
+            return Err(DiskFault::Unreadable);
+        }
         bytes_from(alloc, File::open(self.rt, path))
     }
 
-    fn look(&self, path: &str) -> Result<Look, AllocError> {
+    fn read_own(&self, alloc: Global, path: &str, identity: Identity) -> Result<Bytes, DiskFault> {
+        own_bytes_from(alloc, File::open(self.rt, path), identity)
+    }
+
+    fn look(&self, _alloc: Global, path: &str) -> Result<Look, AllocError> {
         look_at(self.rt, path)
     }
 
-    fn target(&self, alloc: Global, path: &str) -> Result<Option<Bytes>, AllocError> {
-        target_from(alloc, fs::read_link(self.rt, path))
+    fn step(&self, _alloc: Global, path: &str) -> Result<Step, AllocError> {
+        step_at(self.rt, path)
     }
 }

@@ -3,25 +3,21 @@
 //! What is made from an answer of the system is said by clauses, as in `real_disk`.
 ghost use Rattle.std.specs.Fs.{IsDir, IsFile, file_type};
 ghost use Rattle.std.specs.IoError.{error_kind};
-ghost use Rattle.std.specs.Path.{path_buf_bytes};
-ghost use Rattle.std.specs.Prelude.{◌≡◌, ◌≢◌, ◌&&◌, ◌==◌, IfErr, IfOk, IfSome, MatchResult, None, Ok, Some, alloc_error, if◌then◌else◌, ok_or};
-ghost use Rattle.std.specs.declared.io.ErrorKind.{ErrorKind};
-ghost use Rattle.devdry_files.specs.Errors.{is_opened, look_from, null_device, target_unread};
+ghost use Rattle.std.specs.Prelude.{◌≡◌, ◌&&◌, ◌==◌, IfErr, IfOk, IfSome, MatchResult, None, Ok, alloc_error, if◌then◌else◌, ok_or};
+ghost use Rattle.devdry_files.specs.Errors.{is_opened, look_from, null_device};
 
 use crate::look::Look;
-use std::alloc::{AllocError, Global};
+use std::alloc::AllocError;
 use std::fs::{self, File, Metadata};
 use std::io;
 use std::os::unix::fs::{FileTypeExt, MetadataExt};
-use std::path::PathBuf;
 use std::rt::Files;
-use text_bytes::Bytes;
 
 /// The number of the null device, 1:3 as the system writes it.
 const NULL_DEVICE: u64 = 0x103;
 
 /// What a look that failed shows, or nothing if it ran out of memory.
-fn failed_look(error: &io::Error) -> Option<Look>
+pub(crate) fn failed_look(error: &io::Error) -> Option<Look>
     ensures { result ≡ look_from (error_kind error.now) }
 {
     match error.kind() {
@@ -35,7 +31,7 @@ fn failed_look(error: &io::Error) -> Option<Look>
 
 /// Whether a device is the null device, which hides a file if a link leads to it: a character device with that
 /// number.
-fn is_null(is_char_device: bool, number: u64) -> bool
+pub(crate) fn is_null(is_char_device: bool, number: u64) -> bool
     ensures { result ≡ (is_char_device && number == null_device) }
 {
     is_char_device & (number == NULL_DEVICE)
@@ -92,40 +88,18 @@ fn tried_look<F: Drop>(look: Look, opened: Option<io::Result<F>>) -> Result<Look
     }
 }
 
-/// What is at a path: what is there is looked at, and what is to be opened is opened.
-pub(crate) fn look_at<R: Files>(rt: &R, path: &str) -> Result<Look, AllocError> {
+/// What a look at a path shows before anything is opened.
+pub(crate) fn seen_at<R: Files>(rt: &R, path: &str) -> Result<Look, AllocError> {
     let looked = fs::metadata(rt, path);
     let is_null = looked.as_ref().is_ok_and(|metadata| {
         is_null(metadata.file_type().is_char_device(), metadata.rdev())
     });
-    let look = look_by(looked, is_null)?;
+    look_by(looked, is_null)
+}
+
+/// What is at a path: what is there is looked at, and what is to be opened is opened.
+pub(crate) fn look_at<R: Files>(rt: &R, path: &str) -> Result<Look, AllocError> {
+    let look = seen_at(rt, path)?;
     let opened = is_opened(look).then(|| File::open(rt, path));
     tried_look(look, opened)
-}
-
-/// Where a symlink leads, if it could be read.
-pub(crate) fn target_from(
-    alloc: Global,
-    read: io::Result<PathBuf>,
-) -> Result<Option<Bytes>, AllocError>
-    ensures { MatchResult read (λ path. result ≡ Ok (Some (path_buf_bytes path)))
-        (λ error. IfOk result (λ target. target_unread (error_kind error) ≡ Ok target)) }
-{
-    match read {
-        Ok(path) => Ok(Some(Bytes::new(path.into_string().into_bytes()))),
-        Err(error) => untargeted(alloc, &error),
-    }
-}
-
-/// What is reported for a symlink that can't be read, or out of memory.
-fn untargeted(alloc: Global, error: &io::Error) -> Result<Option<Bytes>, AllocError>
-    ensures reported { IfOk result (λ target. target_unread (error_kind error.now) ≡ Ok target) }
-    ensures unreported { (error_kind error.now ≢ ErrorKind.InvalidFilename)
-        → result ≡ target_unread (error_kind error.now) }
-{
-    match error.kind() {
-        io::ErrorKind::OutOfMemory => Err(AllocError),
-        io::ErrorKind::InvalidFilename => Ok(Some(Bytes::copy_of(alloc, b"?")?)),
-        _ => Ok(None),
-    }
 }

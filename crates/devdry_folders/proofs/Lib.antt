@@ -1,2 +1,4 @@
 pub mod Counting
 pub mod HandedOn
+pub mod Staying
+pub mod OneFile

@@ -5,3 +5,5 @@ pub mod Unread
 pub mod Nothing
 pub mod SightStatus
 pub mod Surveys
+pub mod Staying
+pub mod Laws

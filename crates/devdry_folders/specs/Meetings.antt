@@ -1,14 +1,22 @@
 -- What is met at the path of a file, as it comes from the answers that a disk may give.
-use Rattle.std.specs.Prelude.{◌≡◌, ℕ, List, Option, Some, None}
+use Rattle.std.specs.Prelude.{◌≡◌, ℕ, List, Option, Some, None, codes, string_bytes}
 use Rattle.devdry_files.specs.Answers.{Answer}
-use Rattle.devdry_files.specs.Answers.Answer.{Content, Looked, NoContent, Target}
+use Rattle.devdry_files.specs.Answers.Answer.{Content, Looked, NoContent, Stepped}
 use Rattle.devdry_files.specs.declared.disk.DiskFault.TheVariants as disk
 use Rattle.devdry_files.specs.declared.look.Look.{Look}
 use Rattle.devdry_files.specs.declared.look.Look.TheVariants as looks
+use Rattle.devdry_files.specs.declared.step.Step.{Step}
+use Rattle.devdry_files.specs.declared.step.Step.TheVariants as step
 use Rattle.devdry_folders.specs.declared.reasons.Reason.{Reason}
 use Rattle.devdry_folders.specs.declared.reasons.Reason.TheVariants as reasons
 use Rattle.devdry_folders.specs.declared.sights.Met.{Met}
 use Rattle.devdry_folders.specs.declared.sights.Met.TheVariants as met
+
+-- where the symlink that a step shows leads, as it is written, or a question mark if that is not UTF-8
+abbrev pub target_of : Step → Option (List ℕ)
+target_of (step.Link target) = Some (string_bytes target)
+target_of step.OddLink = Some (codes "?")
+target_of _ = None
 
 -- why nothing is at a path, by the target of the symlink there, if there is one
 abbrev pub absence : Option (List ℕ) → Reason
@@ -25,7 +33,7 @@ IsReadSo may path _ = ⊥
 
 -- nothing is at the path, for the reason that the symlink there gives, if there is one
 abbrev pub IsMissing : (Answer → Type 0) → List ℕ → Met → Type 0
-IsMissing may path it = (target : Option (List ℕ)) × may (Target path target) × (it ≡ met.Unread (absence target))
+IsMissing may path it = (shown : Step) × may (Stepped path shown) × (it ≡ met.Unread (absence (target_of shown)))
 
 -- What is met at the path, by a look at it: a file is read, a folder is skipped, and all else can't be read.
 abbrev pub IsMetBy : (Answer → Type 0) → List ℕ → Look → Met → Type 0

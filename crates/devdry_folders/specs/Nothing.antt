@@ -1,19 +1,21 @@
 -- What is reported if no file was read at all.
-use Rattle.std.specs.Prelude.{◌≡◌, ◌++◌, ◌∷◌, ◌⊎◌, ◌==◌, ℕ, All, Bool, true, false, List, [], None, Option}
-use Rattle.std.specs.Prelude.{Some, codes, decimal, filter, flat_map, if◌then◌else◌, length, map}
-use Rattle.std.specs.List.{count_by, list_all, list_any}
+use Rattle.std.specs.Prelude.{◌≡◌, ◌++◌, ◌∷◌, ◌⊎◌, ◌==◌, ℕ, All, Bool, true, false, List, []}
+use Rattle.std.specs.Prelude.{codes, decimal, filter, flat_map, if◌then◌else◌, is_some, length, map}
+use Rattle.std.specs.List.{count_by, list_any}
 use Rattle.text_bytes.specs.Escapes.{escape_text}
 use Rattle.text_bytes.specs.Kinds.{suffix_of}
-use Rattle.text_bytes.specs.Names.{newline, slash}
+use Rattle.text_bytes.specs.Names.{newline}
 use Rattle.text_bytes.specs.declared.source_file.FileKind.{FileKind}
 use Rattle.text_bytes.specs.declared.source_file.FileKind.TheVariants.{Hwdb, Rules}
 use Rattle.engine_ends.specs.Kinds.{kinds_read, reads_folders_of}
 use Rattle.engine_ends.specs.declared.line.Line.{Line}
 use Rattle.devdry_files.specs.Answers.{Answer}
-use Rattle.devdry_files.specs.Answers.Answer.{Listing, NoListing, Target}
+use Rattle.devdry_files.specs.Answers.Answer.{Listing, NoListing, Stepped}
 use Rattle.devdry_files.specs.Found.{counts}
 use Rattle.devdry_files.specs.declared.disk.DiskFault.TheVariants.{Absent, Unreadable, NotUtf8}
 use Rattle.devdry_files.specs.declared.disk.Entry.{Entry}
+use Rattle.devdry_files.specs.declared.step.Step.{Step}
+use Rattle.devdry_folders.specs.Meetings.{target_of}
 use Rattle.devdry_folders.specs.declared.elsewhere.Elsewhere.{Elsewhere}
 use Rattle.devdry_folders.specs.declared.sights.Met.{Met}
 use Rattle.devdry_folders.specs.declared.sights.Met.TheVariants as met
@@ -49,21 +51,9 @@ folder_line kind path spot.Folder sights =
 folder_line kind path spot.File sights = []
 folder_line kind path (spot.Unread reason) sights = []
 
--- the line on a link to an absolute path, which is taken from the root of the running system
-abbrev pub line_on_target : List ℕ → List ℕ → List ℕ
-line_on_target path (first ∷ rest) =
-    if first == slash then line_on path (codes ": link out of the root: " ++ escape_text (first ∷ rest)) else []
-line_on_target path [] = []
-
--- the same if there is a link at the path, and the root is neither empty nor only slashes, which mean the root of the
--- running system
-abbrev pub link_line : List ℕ → List ℕ → Option (List ℕ) → List ℕ
-link_line root path None = []
-link_line root path (Some target) = if list_all (λ b. b == slash) root then [] else line_on_target path target
-
--- the lines on what was visited below a root
-abbrev pub lines_on_place : List ℕ → Visit → List ℕ
-lines_on_place root v = folder_line v.kind v.path v.scan.spot v.scan.sights.items ++ link_line root v.path v.link
+-- the line on what was visited
+abbrev pub line_on_place : Visit → List ℕ
+line_on_place v = folder_line v.kind v.path v.scan.spot v.scan.sights.items
 
 -- where an image whose `/lib` is not a link to `/usr/lib` keeps the files of a kind
 abbrev pub unmerged_folder : FileKind → List ℕ
@@ -79,9 +69,9 @@ abbrev pub line_elsewhere : Elsewhere → List ℕ
 line_elsewhere e = if e.count == 0 then [] else line_on e.path (codes " has " ++ decimal e.count ++ files_word e.count)
 
 -- all that is reported if no file was read
-abbrev pub nothing_lines : List ℕ → List Visit → List Elsewhere → List ℕ
-nothing_lines root visits others =
-    codes "devdry: no files\n" ++ flat_map (lines_on_place root) visits ++ flat_map line_elsewhere others
+abbrev pub nothing_lines : List Visit → List Elsewhere → List ℕ
+nothing_lines visits others =
+    codes "devdry: no files\n" ++ flat_map line_on_place visits ++ flat_map line_elsewhere others
 
 -- how many files of the kind are in the folder at the path, as the disk may list it, and none if it may not
 pub record IsCounted (may : Answer → Type 0) (kind : FileKind) (path : List ℕ) (count : ℕ) : Type 0 where
@@ -101,12 +91,12 @@ pub record AreElsewhereOf (may : Answer → Type 0) (root : List ℕ) (kinds : L
 
 -- such a folder for each kind whose folders the line reads; but none if there is a symlink at `/lib`, since the files
 -- below it are those of the folder that it leads to
-abbrev pub AreElsewhereBy : (Answer → Type 0) → Line → Option (List ℕ) → List Elsewhere → Type 0
-AreElsewhereBy may line None others = AreElsewhereOf may line.root.now (filter (reads_folders_of line) (kinds_read line.verb)) others
-AreElsewhereBy may line (Some target) others = others ≡ []
+abbrev pub AreElsewhereBy : (Answer → Type 0) → Line → Bool → List Elsewhere → Type 0
+AreElsewhereBy may line false others = AreElsewhereOf may line.root.now (filter (reads_folders_of line) (kinds_read line.verb)) others
+AreElsewhereBy may line true others = others ≡ []
 
--- the same, by what the disk may say about a symlink at `/lib` after the root
+-- the same, by what the disk may show at `/lib` after the root
 pub record AreElsewhere (may : Answer → Type 0) (line : Line) (others : List Elsewhere) : Type 0 where
-  pub link : Option (List ℕ)
-  pub linked : may (Target (line.root.now ++ codes "/lib") link)
-  pub are : AreElsewhereBy may line link others
+  pub shown : Step
+  pub stepped : may (Stepped (line.root.now ++ codes "/lib") shown)
+  pub are : AreElsewhereBy may line (is_some (target_of shown)) others

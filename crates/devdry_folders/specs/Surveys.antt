@@ -2,6 +2,7 @@
 use Rattle.std.specs.Prelude.{◌≡◌, ◌++◌, ℕ, false, List, [], if◌then◌else◌}
 use Rattle.engine_ends.specs.declared.line.Line.{Line}
 use Rattle.devdry_files.specs.Answers.{Answer}
+use Rattle.devdry_files.specs.Inside.{MayInside}
 use Rattle.devdry_files.specs.Places.{Wants}
 use Rattle.devdry_files.specs.declared.places.Wanted.{Wanted}
 use Rattle.devdry_folders.specs.Nothing.{AreElsewhere, nothing_lines}
@@ -22,8 +23,8 @@ pub record AreVisitsFor (may : Answer → Type 0) (line : Line) (visits : List V
 -- What is reported for visits before the run: what can't be read, and what was looked at if no file was read.
 pub record IsReported (may : Answer → Type 0) (line : Line) (visits : List Visit) (reported : List ℕ) : Type 0 where
   pub others : List Elsewhere
-  pub elsewhere : has_files visits ≡ false → AreElsewhere may line others
-  pub reported_is : reported ≡ unread_lines visits ++ (if has_files visits then [] else nothing_lines line.root.now visits others)
+  pub elsewhere : has_files visits ≡ false → AreElsewhere (MayInside may line.root.now) line others
+  pub reported_is : reported ≡ unread_lines visits ++ (if has_files visits then [] else nothing_lines visits others)
 
 -- What the line asks for was visited; the files that were read, what is reported and the least status follow from
 -- that.

@@ -9,14 +9,16 @@ use Rattle.text_bytes.specs.Kinds.{suffix_of}
 use Rattle.text_bytes.specs.Names.{slash}
 use Rattle.text_bytes.specs.declared.source_file.FileKind.{FileKind}
 use Rattle.devdry_files.specs.Answers.{Answer}
-use Rattle.devdry_files.specs.Answers.Answer.{Listing, Looked, NoListing, Target}
+use Rattle.devdry_files.specs.Answers.Answer.{Listing, Looked, NoListing, Stepped}
+use Rattle.devdry_files.specs.Inside.{MayInside}
 use Rattle.devdry_files.specs.Places.{Place, place_of}
 use Rattle.devdry_files.specs.declared.disk.DiskFault.TheVariants as disk
 use Rattle.devdry_files.specs.declared.disk.Entry.{Entry}
 use Rattle.devdry_files.specs.declared.look.Look.{Look}
 use Rattle.devdry_files.specs.declared.look.Look.TheVariants as looks
 use Rattle.devdry_files.specs.declared.places.Wanted.{Wanted}
-use Rattle.devdry_folders.specs.Meetings.{IsMet, IsMetBy}
+use Rattle.devdry_files.specs.declared.step.Step.{Step}
+use Rattle.devdry_folders.specs.Meetings.{IsMet, IsMetBy, target_of}
 use Rattle.devdry_folders.specs.declared.reasons.Reason.TheVariants as reasons
 use Rattle.devdry_folders.specs.declared.sights.Met.{Met}
 use Rattle.devdry_folders.specs.declared.sights.Met.TheVariants as met
@@ -74,22 +76,25 @@ missing_folder (Some target) = spot.Unread (reasons.LinkToNothing target)
 abbrev pub IsUnlisted : Spot → Scan → Type 0
 IsUnlisted it scan = (scan.spot ≡ it) × (scan.sights.items ≡ [])
 
--- the outcome for a folder that is wanted, by the symlink at its path, if there is one, and a look
-abbrev pub IsScannedBy : (Answer → Type 0) → FileKind → List ℕ → Option (List ℕ) → Look → Scan → Type 0
-IsScannedBy may kind path link looks.Absent scan = IsUnlisted (missing_folder link) scan
-IsScannedBy may kind path link looks.Folder scan = IsListedSo may kind path scan.spot scan.sights.items
-IsScannedBy may kind path link looks.File scan = IsUnlisted (spot.Unread reasons.NotFolder) scan
-IsScannedBy may kind path link looks.Forbidden scan = IsUnlisted (spot.Unread reasons.Forbidden) scan
-IsScannedBy may kind path link looks.Other scan = IsUnlisted (spot.Unread reasons.NotFolder) scan
-IsScannedBy may kind path link looks.Failed scan = IsUnlisted (spot.Unread reasons.Failed) scan
+-- the outcome for a folder that is wanted and not there, by the symlink at its path, if there is one
+abbrev pub IsMissingFolder : (Answer → Type 0) → List ℕ → Scan → Type 0
+IsMissingFolder may path scan = (shown : Step) × may (Stepped path shown) × IsUnlisted (missing_folder (target_of shown)) scan
+
+-- the outcome for a folder that is wanted, by a look
+abbrev pub IsScannedBy : (Answer → Type 0) → FileKind → List ℕ → Look → Scan → Type 0
+IsScannedBy may kind path looks.Absent scan = IsMissingFolder may path scan
+IsScannedBy may kind path looks.Folder scan = IsListedSo may kind path scan.spot scan.sights.items
+IsScannedBy may kind path looks.File scan = IsUnlisted (spot.Unread reasons.NotFolder) scan
+IsScannedBy may kind path looks.Forbidden scan = IsUnlisted (spot.Unread reasons.Forbidden) scan
+IsScannedBy may kind path looks.Other scan = IsUnlisted (spot.Unread reasons.NotFolder) scan
+IsScannedBy may kind path looks.Failed scan = IsUnlisted (spot.Unread reasons.Failed) scan
 
 -- a visit of a folder that is wanted
 pub record IsFolderVisit (may : Answer → Type 0) (v : Visit) : Type 0 where
   pub unnamed : v.is_named ≡ false
-  pub linked : may (Target v.path v.link)
   pub look : Look
   pub looked : may (Looked v.path look)
-  pub scanned : IsScannedBy may v.kind v.path v.link look v.scan
+  pub scanned : IsScannedBy may v.kind v.path look v.scan
 
 -- the outcome for a named file: what is met at its path
 pub record IsOneFile (may : Answer → Type 0) (path : List ℕ) (look : Look) (scan : Scan) : Type 0 where
@@ -108,7 +113,6 @@ pub record IsNamedVisit (may : Answer → Type 0) (kind : FileKind) (v : Visit) 
   pub kind_is : v.kind ≡ kind
   pub rank_is : v.rank ≡ 0
   pub named : v.is_named ≡ true
-  pub unlinked : v.link ≡ None
   pub look : Look
   pub looked : may (Looked v.path look)
   pub scanned : IsNamedSo may kind v.path look v.scan
@@ -127,10 +131,10 @@ pub record AreFolderVisits (may : Answer → Type 0) (places : List Place) (visi
   pub placed_so : map place_of_visit visits ≡ places
   pub each : All (IsFolderVisit may) visits
 
--- visits of all that is wanted: of what is named, and then of the folders
+-- visits of all that is wanted: of what is named, and then of the folders, inside their root
 pub record AreVisits (may : Answer → Type 0) (w : Wanted) (visits : List Visit) : Type 0 where
   pub named : List Visit
   pub found : List Visit
   pub cut : visits ≡ named ++ found
   pub are_named : AreNamedVisits may w.kind (map (λ f. f.now) w.files.now) named
-  pub are_found : AreFolderVisits may (map place_of w.folders.items) found
+  pub are_found : AreFolderVisits (MayInside may w.root.now) (map place_of w.folders.items) found

@@ -1,11 +1,12 @@
 //! Files that are where none is read: below `/lib`, if that is not a symlink, as it mostly is to `/usr/lib`.
-ghost use Rattle.std.specs.Prelude.{◌≡◌, ◌++◌, ◌⊎◌, [], IfErr, IfOk, codes, filter};
+ghost use Rattle.std.specs.Prelude.{◌≡◌, ◌++◌, ◌⊎◌, [], IfErr, IfOk, codes, filter, is_some};
 ghost use Rattle.engine_ends.specs.Kinds.{kinds_read, reads_folders_of};
-ghost use Rattle.devdry_files.specs.Answers.Answer.{Listing, NoListing, Target};
+ghost use Rattle.devdry_files.specs.Answers.Answer.{Listing, NoListing, Stepped};
 ghost use Rattle.devdry_files.specs.declared.disk.DiskFault.TheVariants as faults;
+ghost use Rattle.devdry_folders.specs.Meetings.{target_of};
 ghost use Rattle.devdry_folders.specs.Nothing.{AreElsewhere, AreElsewhereOf, IsCounted, IsElsewhere, unmerged_folder};
 
-use devdry_files::{Disk, DiskFault, Entry, counts};
+use devdry_files::{Disk, DiskFault, Entry, Step, counts};
 use engine_ends::Line;
 use std::alloc::{AllocError, Global};
 use text_bytes::{Bytes, FileKind};
@@ -106,13 +107,20 @@ fn elsewhere_of_kinds<D: Disk>(
     Ok(others)
 }
 
-/// Where the symlink at `/lib` after a root leads, if there is one.
-fn lib_target<D: Disk>(alloc: Global, disk: &D, root: &str) -> Result<Option<Bytes>, AllocError>
-    ensures { IfOk result (λ target. D.may_answer disk.now (Target (root.now ++ codes "/lib") target)) }
+/// Whether what a step shows is a symlink.
+fn is_link(step: &Step) -> bool
+    ensures { result ≡ is_some (target_of step.now) }
+{
+    matches!(step, Step::Link(_) | Step::OddLink)
+}
+
+/// What is at `/lib` after a root, with no symlink followed there.
+fn step_to_lib<D: Disk>(alloc: Global, disk: &D, root: &str) -> Result<Step, AllocError>
+    ensures { IfOk result (λ step. D.may_answer disk.now (Stepped (root.now ++ codes "/lib") step)) }
 {
     let mut path = String::from_str(alloc, root)?;
     path.push_str("/lib")?;
-    disk.target(alloc, path.as_str())
+    disk.step(alloc, path.as_str())
 }
 
 /// The files that are elsewhere, for each kind that the line reads from folders; none if `/lib` is a symlink, since
@@ -124,7 +132,7 @@ pub(crate) fn files_elsewhere<D: Disk>(
 ) -> Result<Vec<Elsewhere>, AllocError>
     ensures { IfOk result (λ others. AreElsewhere (D.may_answer disk.now) line.now others.items) }
 {
-    if lib_target(alloc, disk, line.root)?.is_some() {
+    if is_link(&step_to_lib(alloc, disk, line.root)?) {
         return Ok(Vec::new(alloc));
     }
     let kinds = kinds_in_folders(alloc, line)?;

@@ -17,5 +17,8 @@ mod sights;
 mod unread;
 mod visiting;
 
-pub use laws::no_file_is_reported_where_none_is_handed_on;
+pub use laws::{
+    a_path_leads_to_a_place_inside_its_root, no_file_is_reported_where_none_is_handed_on,
+    the_file_that_counts_is_the_one_that_is_read, what_could_not_be_read_makes_the_status,
+};
 pub use reading::{Listed, ReadSome, list_files, read_what_can};

@@ -1,11 +1,12 @@
 //! What is met at the path of a file.
 ghost use Rattle.std.specs.Prelude.{◌≡◌, IfOk};
-ghost use Rattle.devdry_folders.specs.Meetings.{IsMet, IsMetBy, IsMissing, IsReadSo};
+ghost use Rattle.devdry_folders.specs.Meetings.{IsMet, IsMetBy, IsMissing, IsReadSo, target_of};
 
 use crate::reasons::Reason;
 use crate::sights::Met;
-use devdry_files::{Disk, DiskFault, Look};
+use devdry_files::{Disk, DiskFault, Look, Step};
 use std::alloc::{AllocError, Global};
+use text_bytes::Bytes;
 
 /// The outcome of reading the file at a path.
 fn read_at<D: Disk>(alloc: Global, disk: &D, path: &str) -> Result<Met, AllocError>
@@ -20,11 +21,23 @@ fn read_at<D: Disk>(alloc: Global, disk: &D, path: &str) -> Result<Met, AllocErr
     }
 }
 
+/// Where the symlink that a step shows leads, as it is written, or `?` if that is not UTF-8.
+pub(crate) fn target_of(alloc: Global, step: Step) -> Result<Option<Bytes>, AllocError>
+    ensures { IfOk result (λ target. target ≡ target_of step) }
+{
+    match step {
+        Step::Link(target) => Ok(Some(Bytes::new(target.into_bytes()))),
+        Step::OddLink => Ok(Some(Bytes::copy_of(alloc, b"?")?)),
+        Step::Folder | Step::File(_) | Step::NoWay(_) => Ok(None),
+    }
+}
+
 /// What is met at a path if nothing is there, or a symlink to nothing.
 fn missing_at<D: Disk>(alloc: Global, disk: &D, path: &str) -> Result<Met, AllocError>
     ensures { IfOk result (IsMissing (D.may_answer disk.now) path.now) }
 {
-    match disk.target(alloc, path)? {
+    let step = disk.step(alloc, path)?;
+    match target_of(alloc, step)? {
         Some(target) => Ok(Met::Unread(Reason::LinkToNothing(target))),
         None => Ok(Met::Unread(Reason::Absent)),
     }
@@ -53,6 +66,6 @@ pub(crate) fn met_by<D: Disk>(
 pub(crate) fn met_at<D: Disk>(alloc: Global, disk: &D, path: &str) -> Result<Met, AllocError>
     ensures { IfOk result (IsMet (D.may_answer disk.now) path.now) }
 {
-    let look = disk.look(path)?;
+    let look = disk.look(alloc, path)?;
     met_by(alloc, disk, path, look)
 }

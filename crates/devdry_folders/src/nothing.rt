@@ -1,18 +1,16 @@
 //! What is reported if no file was read at all.
 //!
 //! A check of no files must not look like a successful one, so each place that was looked at is named.
-ghost use Rattle.std.specs.List.{list_all};
-ghost use Rattle.std.specs.Prelude.{◌≡◌, ◌++◌, ◌==◌, IfOk, OnOk, flat_map, option_map};
-ghost use Rattle.text_bytes.specs.Names.{slash};
+ghost use Rattle.std.specs.Prelude.{◌≡◌, ◌++◌, IfOk, OnOk, flat_map};
 ghost use Rattle.devdry_folders.specs.Nothing.{folder_line, has_unread, is_unread, line_elsewhere, line_on, files_word};
-ghost use Rattle.devdry_folders.specs.Nothing.{line_on_target, lines_on_place, link_line, nothing_lines, why_no_file};
+ghost use Rattle.devdry_folders.specs.Nothing.{line_on_place, nothing_lines, why_no_file};
 
 use crate::elsewhere::Elsewhere;
 use crate::reasons::push_escaped;
 use crate::sights::{Met, Sight, Spot, Visit};
 use itoa::Buffer;
 use std::alloc::{AllocError, Global};
-use text_bytes::{Bytes, FileKind};
+use text_bytes::FileKind;
 
 /// Adds a line on a place.
 fn push_line(alloc: Global, lines: &mut Vec<u8>, path: &[u8], text: &[u8]) -> Result<(), AllocError>
@@ -70,8 +68,7 @@ fn push_listed(
 
 /// Adds the line on a place that was looked at.
 fn push_folder(alloc: Global, lines: &mut Vec<u8>, visit: &Visit) -> Result<(), AllocError>
-    ensures { OnOk result (lines.new.items ≡ lines.old.items
-        ++ folder_line visit.now.kind visit.now.path visit.now.scan.spot visit.now.scan.sights.items) }
+    ensures { OnOk result (lines.new.items ≡ lines.old.items ++ line_on_place visit.now) }
 {
     let path = visit.path.as_slice();
     match visit.scan.spot {
@@ -79,66 +76,6 @@ fn push_folder(alloc: Global, lines: &mut Vec<u8>, visit: &Visit) -> Result<(), 
         Spot::Folder => push_listed(alloc, lines, visit.kind, path, &visit.scan.sights),
         Spot::File | Spot::Unread(_) => Ok(()),
     }
-}
-
-/// Adds the line on a link to an absolute path.
-fn push_target(
-    alloc: Global,
-    lines: &mut Vec<u8>,
-    path: &[u8],
-    target: &[u8],
-) -> Result<(), AllocError>
-    ensures { OnOk result (lines.new.items ≡ lines.old.items ++ line_on_target path.now target.now) }
-{
-    if target.first() != Some(&b'/') {
-        return Ok(());
-    }
-    let mut text = Vec::new(alloc);
-    push_escaped(alloc, &mut text, b": link out of the root: ", target)?;
-    push_line(alloc, lines, path, &text)
-}
-
-/// Whether a root is that of the running system: it is empty, or only slashes.
-fn is_own_root(root: &str) -> bool
-    ensures { result ≡ list_all (λ b. b == slash) root.now }
-{
-    root.bytes().all(|byte| byte == b'/')
-}
-
-/// Adds the line on a link at a path, if it is an absolute one in an image.
-fn push_link(
-    alloc: Global,
-    lines: &mut Vec<u8>,
-    root: &str,
-    path: &[u8],
-    link: Option<&Bytes>,
-) -> Result<(), AllocError>
-    ensures { OnOk result (lines.new.items ≡ lines.old.items
-        ++ link_line root.now path.now (option_map (λ t. t.now) link.entry)) }
-{
-    match link {
-        Some(target) if !is_own_root(root) => push_target(alloc, lines, path, target.as_slice()),
-        _ => Ok(()),
-    }
-}
-
-/// Adds the lines on a place that was looked at.
-fn push_place(
-    alloc: Global,
-    lines: &mut Vec<u8>,
-    root: &str,
-    visit: &Visit,
-) -> Result<(), AllocError>
-    ensures { OnOk result (lines.new.items ≡ lines.old.items ++ lines_on_place root.now visit.now) }
-{
-    push_folder(alloc, lines, visit)?;
-    push_link(
-        alloc,
-        lines,
-        root,
-        visit.path.as_slice(),
-        visit.link.as_ref(),
-    )
 }
 
 /// The word after a number of files.
@@ -162,35 +99,27 @@ fn push_elsewhere(alloc: Global, lines: &mut Vec<u8>, other: &Elsewhere) -> Resu
 }
 
 /// Adds the lines on all places that were looked at.
-fn push_places(
-    alloc: Global,
-    lines: &mut Vec<u8>,
-    root: &str,
-    visits: &[Visit],
-) -> Result<(), AllocError>
-    ensures { OnOk result (lines.new.items ≡ lines.old.items
-        ++ flat_map (lines_on_place root.now) visits.now) }
+fn push_places(alloc: Global, lines: &mut Vec<u8>, visits: &[Visit]) -> Result<(), AllocError>
+    ensures { OnOk result (lines.new.items ≡ lines.old.items ++ flat_map line_on_place visits.now) }
 {
     for visit in visits {
-        push_place(alloc, lines, root, visit)?;
+        push_folder(alloc, lines, visit)?;
     }
     Ok(())
 }
 
 /// The lines that say that no file was read: `devdry: no files`, then for each folder that was looked at `devdry:
-/// PATH: absent`, `empty` or `has no .rules files`, with `devdry: PATH: link out of the root: TARGET` after it if
-/// it is an absolute link and the root is not that of the running system, and `devdry: PATH has 12 files` (`1
-/// file`) for files that are elsewhere. What can't be read has no line here.
+/// PATH: absent`, `empty` or `has no .rules files`, and `devdry: PATH has 12 files` (`1 file`) for files that are
+/// elsewhere. What can't be read has no line here.
 pub(crate) fn nothing_lines(
     alloc: Global,
-    root: &str,
     visits: &[Visit],
     others: &[Elsewhere],
 ) -> Result<Vec<u8>, AllocError>
-    ensures { IfOk result (λ lines. lines.items ≡ nothing_lines root.now visits.now others.now) }
+    ensures { IfOk result (λ lines. lines.items ≡ nothing_lines visits.now others.now) }
 {
     let mut lines = Vec::from_slice(alloc, b"devdry: no files\n")?;
-    push_places(alloc, &mut lines, root, visits)?;
+    push_places(alloc, &mut lines, visits)?;
     for other in others {
         push_elsewhere(alloc, &mut lines, other)?;
     }

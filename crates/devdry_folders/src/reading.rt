@@ -1,5 +1,6 @@
 //! The outcome of a line whose reading goes on after what can't be read.
 ghost use Rattle.std.specs.Prelude.{◌≡◌, ◌≤◌, ◌==◌, IfOk, List, [], false, if◌then◌else◌, length, not};
+ghost use Rattle.devdry_files.specs.Inside.{MayInside};
 ghost use Rattle.devdry_folders.specs.Nothing.{AreElsewhere, nothing_lines};
 ghost use Rattle.devdry_folders.specs.Surveys.{AreVisitsFor, IsListed, IsReadSome, IsReported};
 ghost use Rattle.devdry_folders.specs.Unread.{least_status};
@@ -12,7 +13,7 @@ use crate::sight_status::status_lines;
 use crate::sights::Visit;
 use crate::unread::{has_files, unread_lines};
 use crate::visiting::visits;
-use devdry_files::{Disk, wanted};
+use devdry_files::{Disk, RootedDisk, wanted};
 use engine_ends::Line;
 use std::alloc::{AllocError, Global};
 use text_bytes::SourceFile;
@@ -76,14 +77,15 @@ fn reported_for_nothing<D: Disk>(
     some: bool,
 ) -> Result<Vec<u8>, AllocError>
     ensures { IfOk result (λ lines. (others : List Elsewhere)
-        × (some ≡ false → AreElsewhere (D.may_answer disk.now) line.now others)
-        × (lines.items ≡ (if some then [] else nothing_lines line.now.root.now visits.now others))) }
+        × (some ≡ false → AreElsewhere (MayInside (D.may_answer disk.now) line.now.root.now) line.now others)
+        × (lines.items ≡ (if some then [] else nothing_lines visits.now others))) }
 {
     if some {
         return Ok(Vec::new(alloc));
     }
-    let others = files_elsewhere(alloc, disk, line)?;
-    nothing_lines(alloc, line.root, visits, &others)
+    let inside = RootedDisk::new(disk, line.root);
+    let others = files_elsewhere(alloc, &inside, line)?;
+    nothing_lines(alloc, visits, &others)
 }
 
 /// What is reported for visits before the run, and the least status of the run.

@@ -60,8 +60,6 @@ pub(crate) struct Visit {
     pub is_named: bool,
     /// Its path.
     pub path: Bytes,
-    /// Where the symlink at the path of a folder leads, if there is one; `None` for what is named.
-    pub link: Option<Bytes>,
     /// The outcome of the visit.
     pub scan: Scan,
 }

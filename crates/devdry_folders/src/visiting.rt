@@ -1,18 +1,18 @@
 //! Visits what a line asks for, one file or folder after another, whatever the outcome.
 ghost use Rattle.std.specs.List.{ends_with};
-ghost use Rattle.std.specs.Prelude.{◌≡◌, IfOk, IsPermutation, IsSorted, false, map, nat_eq, option_map, string_bytes, true};
+ghost use Rattle.std.specs.Prelude.{◌≡◌, IfOk, IsPermutation, IsSorted, false, map, nat_eq, string_bytes, true};
 ghost use Rattle.std.specs.String.{string_cmp};
 ghost use Rattle.text_bytes.specs.Kinds.{suffix_of};
 ghost use Rattle.devdry_files.specs.Answers.Answer.{Listing};
 ghost use Rattle.devdry_files.specs.Places.{place_of};
 ghost use Rattle.devdry_folders.specs.Meetings.{IsMet};
-ghost use Rattle.devdry_folders.specs.Visits.{AreFolderVisits, AreNamedVisits, AreSightsAt, AreSightsIn, AreVisits, IsFolderVisit, IsListedSo, IsNamedSo};
+ghost use Rattle.devdry_folders.specs.Visits.{AreFolderVisits, AreNamedVisits, AreSightsAt, AreSightsIn, AreVisits, IsFolderVisit, IsListedSo, IsMissingFolder, IsNamedSo};
 ghost use Rattle.devdry_folders.specs.Visits.{IsNamedVisit, IsOneFile, IsScannedBy, IsSightIn, IsUnlisted, below, missing_folder, place_of_visit};
 
-use crate::meetings::{met_at, met_by};
+use crate::meetings::{met_at, met_by, target_of};
 use crate::reasons::Reason;
 use crate::sights::{Met, Scan, Sight, Spot, Visit};
-use devdry_files::{Disk, DiskFault, Entry, Folder, Look, Wanted};
+use devdry_files::{Disk, DiskFault, Entry, Folder, Look, RootedDisk, Wanted};
 use std::alloc::{AllocError, Global};
 use text_bytes::{Bytes, FileKind};
 
@@ -145,16 +145,22 @@ fn scan_listed<D: Disk>(
 }
 
 /// What it means that nothing is at a folder's path, by the symlink there, if there is one.
-fn missing_folder(alloc: Global, link: Option<&Bytes>) -> Result<Spot, AllocError>
-    ensures { IfOk result (λ it. it ≡ missing_folder (option_map (λ t. t.now) link.entry)) }
+fn missing_folder(link: Option<Bytes>) -> Spot
+    ensures { result ≡ missing_folder link }
 {
     match link {
-        Some(target) => {
-            let target = Bytes::copy_of(alloc, target.as_slice())?;
-            Ok(Spot::Unread(Reason::LinkToNothing(target)))
-        }
-        None => Ok(Spot::Absent),
+        Some(target) => Spot::Unread(Reason::LinkToNothing(target)),
+        None => Spot::Absent,
     }
+}
+
+/// The outcome for a folder that is wanted and not there.
+fn scan_missing<D: Disk>(alloc: Global, disk: &D, path: &str) -> Result<Scan, AllocError>
+    ensures { IfOk result (IsMissingFolder (D.may_answer disk.now) path.now) }
+{
+    let step = disk.step(alloc, path)?;
+    let link = target_of(alloc, step)?;
+    Ok(unlisted(alloc, missing_folder(link)))
 }
 
 /// The outcome for a folder that is wanted, by a look at it.
@@ -163,14 +169,12 @@ fn scan_by<D: Disk>(
     disk: &D,
     kind: FileKind,
     path: &str,
-    link: Option<&Bytes>,
     look: Look,
 ) -> Result<Scan, AllocError>
-    ensures { IfOk result (IsScannedBy (D.may_answer disk.now) kind path.now
-        (option_map (λ t. t.now) link.entry) look) }
+    ensures { IfOk result (IsScannedBy (D.may_answer disk.now) kind path.now look) }
 {
     match look {
-        Look::Absent => Ok(unlisted(alloc, missing_folder(alloc, link)?)),
+        Look::Absent => scan_missing(alloc, disk, path),
         Look::Folder => scan_listed(alloc, disk, kind, path),
         Look::File | Look::Other => Ok(unlisted(alloc, Spot::Unread(Reason::NotFolder))),
         Look::Forbidden => Ok(unlisted(alloc, Spot::Unread(Reason::Forbidden))),
@@ -184,15 +188,13 @@ fn visit_folder<D: Disk>(alloc: Global, disk: &D, folder: &Folder) -> Result<Vis
     ensures visit { IfOk result (IsFolderVisit (D.may_answer disk.now)) }
 {
     let path = folder.path.as_str();
-    let link = disk.target(alloc, path)?;
-    let look = disk.look(path)?;
-    let scan = scan_by(alloc, disk, folder.kind, path, link.as_ref(), look)?;
+    let look = disk.look(alloc, path)?;
+    let scan = scan_by(alloc, disk, folder.kind, path, look)?;
     Ok(Visit {
         kind: folder.kind,
         rank: folder.rank,
         is_named: false,
         path: Bytes::copy_of(alloc, path.as_bytes())?,
-        link,
         scan,
     })
 }
@@ -239,14 +241,13 @@ fn visit_named<D: Disk>(
     ensures path { IfOk result (λ v. v.path ≡ path.now) }
     ensures visit { IfOk result (IsNamedVisit (D.may_answer disk.now) kind) }
 {
-    let look = disk.look(path)?;
+    let look = disk.look(alloc, path)?;
     let scan = scan_named(alloc, disk, kind, path, look)?;
     Ok(Visit {
         kind,
         rank: 0,
         is_named: true,
         path: Bytes::copy_of(alloc, path.as_bytes())?,
-        link: None,
         scan,
     })
 }
@@ -284,7 +285,7 @@ fn folder_visits<D: Disk>(
     Ok(visits)
 }
 
-/// Visits all that is wanted: what is named in the order given, and then the folders.
+/// Visits all that is wanted: what is named in the order given, and then the folders, inside their root.
 ///
 /// A named file is read whatever its name; in a named folder, and in the folders, the files whose names end in the
 /// suffix of their kind are read, by name. What can't be read is kept with its reason, and the next is visited. An
@@ -297,6 +298,7 @@ pub(crate) fn visits<D: Disk>(
     ensures { IfOk result (λ visits. AreVisits (D.may_answer disk.now) wanted.now visits.items) }
 {
     let mut visits = named_visits(alloc, disk, wanted.kind, wanted.files)?;
-    visits.append(&mut folder_visits(alloc, disk, wanted.folders.as_slice())?)?;
+    let inside = RootedDisk::new(disk, wanted.root);
+    visits.append(&mut folder_visits(alloc, &inside, wanted.folders.as_slice())?)?;
     Ok(visits)
 }

@@ -1,0 +1,47 @@
+-- What can't be read, and which files count: as `files` reports it, and as a run reads them.
+use Rattle.std.specs.Prelude.{◌≡◌, ◌≤◌, ◌||◌, ℕ, Bool, true, false, List, [], ◌∷◌, Contains, Option, Some, None, MatchBool, ⊤, filter}
+use Rattle.text_bytes.specs.declared.source_file.FileKind.{FileKind}
+use Rattle.text_bytes.specs.declared.source_file.SourceFile.{SourceFile}
+use Rattle.engine_ends.specs.Kinds.{same_kind}
+use Rattle.devdry_folders.specs.Nothing.{has_unread}
+use Rattle.devdry_folders.specs.Unread.{files_of}
+use Rattle.devdry_folders.specs.declared.sights.Met.TheVariants as met
+use Rattle.devdry_folders.specs.declared.sights.Sight.{Sight}
+use Rattle.devdry_folders.specs.declared.sights.Spot.{Spot}
+use Rattle.devdry_folders.specs.declared.sights.Spot.TheVariants as spot
+use Rattle.devdry_folders.specs.declared.sights.Visit.{Visit}
+
+-- whether what is at a path can't be read
+abbrev pub is_unread_at : Spot → Bool
+is_unread_at (spot.Unread reason) = true
+is_unread_at _ = false
+
+-- whether a folder or a file that is visited can't be read, or a file in the folder
+abbrev pub lacks_some : Visit → Bool
+lacks_some v = is_unread_at v.scan.spot || has_unread v.scan.sights.items
+
+-- Visits of a kind are of folders, and their ranks do not fall from this one on.
+abbrev pub RanksRise : FileKind → ℕ → List Visit → Type 0
+RanksRise kind rank [] = ⊤
+RanksRise kind rank (v ∷ visits) =
+    MatchBool (same_kind kind v.kind) ((v.is_named ≡ false) × (rank ≤ v.rank) × RanksRise kind v.rank visits) (RanksRise kind rank visits)
+
+-- the files of a kind that were read
+abbrev pub files_of_kind : FileKind → List Visit → List SourceFile
+files_of_kind kind visits = filter (λ file. same_kind file.kind kind) (files_of visits)
+
+-- A file is what was met in one of these visits: it has the name there and the rank of the folder.
+pub record IsMetIn (visits : List Visit) (s : Sight) (file : SourceFile) : Type 0 where
+  pub visit : Visit
+  pub visited : Contains visits visit
+  pub seen : Contains visit.scan.sights.items s
+  pub name : file.name ≡ s.name
+  pub rank : file.rank ≡ visit.rank
+  pub kind : file.kind ≡ visit.kind
+  pub bytes : s.met ≡ met.File file.bytes
+
+-- both are the same file of these visits, or there is none
+abbrev pub AreOneFile : List Visit → Option Sight → Option SourceFile → Type 0
+AreOneFile visits (Some s) (Some file) = IsMetIn visits s file
+AreOneFile visits None None = ⊤
+AreOneFile visits _ _ = ⊥

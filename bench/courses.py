@@ -138,20 +138,20 @@ def end_faults(courses, rules, counts):
 
 
 def reported_as(item):
-    """How a course reports what a line of an answer says: it contains one of these texts."""
+    """How a course reports what a line of an answer says: it contains one of these texts, perhaps with a quote before the value."""
     word, _, rest = item.partition(" ")
     name, _, value = rest.partition("=")
     if word in ("name", "owner", "group", "mode", "priority"):
-        return [f"{word}={rest[:SHOWN]}"]
+        return [f"{word}={quote}{rest[:SHOWN]}" for quote in ("", '"')]
     if word in ("link", "tag"):
-        return [f"{word} {rest[:SHOWN]}"]
+        return [f"{word} {quote}{rest[:SHOWN]}" for quote in ("", '"')]
     if word == "run":
         return [f"run {name.split(' ')[0]} "]
     if word in ("watch", "nowatch", "persist"):
         return [f"{word} added"]
     if not value:
         return [f"{word} {name} added", f'{name}=""']
-    return [f"{word} {rest}"[:SHOWN]] + [f"{rest}"[:SHOWN]] * (word == "env")
+    return [text[:SHOWN] for quote in ("", '"') for text in [f"{word} {name}={quote}{value}"] + [f"{name}={quote}{value}"] * (word == "env")]
 
 
 def source_faults(plain, sources, courses, counts):

@@ -29,6 +29,12 @@ def safe(text, extra=""):
     return "".join(out)
 
 
+def named(item):
+    """The name of an item: its word, and what it is about."""
+    word, space, about = item.partition(" ")
+    return word + space + shown(about) if space else word
+
+
 class Device:
     """A device of the chain, as its block has it."""
 
@@ -219,8 +225,10 @@ class Event:
             done = True
         elif kind == "builtin":
             self.hwdb(rule, text)
-        new = [f"{shown(name)}={shown(value)}" for name, value in self.env.items() if before.get(name) != value]
-        return done, f"{shown(text)} " * (kind == "builtin") + ("sets " + ", ".join(new) if new else "sets nothing")
+        gone = ", ".join(shown(name) for name in before if name not in self.env)
+        new = ", ".join(f"{shown(name)}={shown(value)}" for name, value in self.env.items() if before.get(name) != value)
+        did = ", ".join(f"{word} {names}" for word, names in (("removes", gone), ("sets", new)) if names)
+        return done, f"{shown(text)} " * (kind == "builtin") + (did or "sets nothing")
 
     # Assignments.
 
@@ -300,13 +308,13 @@ class Event:
         if key and token.operator == ":=":
             self.final[key] = rule.place
         now, kept = self.items(), [it[:2] for it in self.runs]
-        did = [f"{shown(name)}={shown(value)} set" if value else f"{shown(name)} added" for name, value in now.items() if was.get(name) != value]
-        did += [f"{shown(name)} removed" for name in was if name not in now]
-        did += [f"run {kind} {shown(text)} added" for kind, text in kept if (kind, text) not in runs]
-        if runs and not set(runs) & set(kept):
+        did = [f"{named(name)} removed" for name in was if name not in now]
+        did += [f"{named(name)}={shown(value)} set" if value else f"{named(name)} added" for name, value in now.items() if was.get(name) != value]
+        if runs and not kept:
             did.append("all runs removed")
         else:
             did += [f"run {kind} {shown(text)} removed" for kind, text in runs if (kind, text) not in kept]
+        did += [f"run {kind} {shown(text)} added" for kind, text in kept if (kind, text) not in runs]
         return ", ".join(did) or f"{key_text(token)} changes nothing"
 
     def run(self, rule):

@@ -289,6 +289,58 @@ LOOKED_UP = [
     ),
 ]
 
+EMPTY = {"mnt/etc/udev/hwdb.d/a.hwdb": "usb:v1*\n ID_NEW=1\n ID_OLD=\n ID_OTHER=\n\nname:*\n ID_NEW=\n"}
+CHANGING = ['ENV{ID_OLD}="old", ENV{ID_OTHER}="other"', 'IMPORT{builtin}="hwdb usb:v1", TAG+="t"', 'IMPORT{builtin}="hwdb name:x", TAG+="u"',
+    'IMPORT{builtin}="hwdb name:x", TAG+="v"']
+REMOVED = [
+    why(
+        "an import that removes properties with --udev",
+        CHANGING,
+        [],
+        ["tag t", "tag u", "tag v"],
+        of(2, 'IMPORT{builtin}=="hwdb usb:v1": holds, hwdb usb:v1 removes ID_OLD, ID_OTHER, sets ID_NEW=1', "reached its end: tag t added"),
+        of(3, 'IMPORT{builtin}=="hwdb name:x": holds, hwdb name:x removes ID_NEW', "reached its end: tag u added"),
+        of(4, 'IMPORT{builtin}=="hwdb name:x": holds, hwdb name:x sets nothing', "reached its end: tag v added"),
+        files=EMPTY.items(),
+        root="mnt",
+        asked=["r.rules:2", "r.rules:3", "r.rules:4"],
+        udev=True,
+    ),
+    why(
+        "by the manual the same import sets empty properties",
+        CHANGING,
+        [],
+        ["tag t", "tag u", "tag v", "env ID_NEW=", "env ID_OLD=", "env ID_OTHER="],
+        of(2, 'IMPORT{builtin}=="hwdb usb:v1": holds, hwdb usb:v1 sets ID_OLD="", ID_OTHER="", ID_NEW=1', "reached its end: tag t added"),
+        of(3, 'IMPORT{builtin}=="hwdb name:x": holds, hwdb name:x sets ID_NEW=""', "reached its end: tag u added"),
+        of(4, 'IMPORT{builtin}=="hwdb name:x": holds, hwdb name:x sets nothing', "reached its end: tag v added"),
+        files=EMPTY.items(),
+        root="mnt",
+        asked=["r.rules:2", "r.rules:3", "r.rules:4"],
+    ),
+    why(
+        "an IMPORT{program} that removes a property",
+        ['IMPORT{program}="/bin/a", TAG+="t"', 'IMPORT{program}="/bin/b", TAG+="u"', 'IMPORT{program}="/bin/b", TAG+="v"'],
+        ["E: A=1", "Q: /bin/a", 'R: 0 A=""\rB=2', "Q: /bin/b", "R: 0 B=''"],
+        ["tag t", "tag u", "tag v"],
+        of(1, 'IMPORT{program}=="/bin/a": holds, /bin/a answers 0 A=""\\x0DB=2, removes A, sets B=2', "reached its end: tag t added"),
+        of(2, "IMPORT{program}==\"/bin/b\": holds, /bin/b answers 0 B='', removes B", "reached its end: tag u added"),
+        of(3, "IMPORT{program}==\"/bin/b\": holds, /bin/b answers 0 B='', sets nothing", "reached its end: tag v added"),
+        udev=True,
+    ),
+    why(
+        "texts of acts are between quotes if their ends could not be seen",
+        ['TEST=="$env{.T}"', 'PROGRAM="/bin/p"', 'IMPORT{parent}="X"', 'IMPORT{builtin}="hwdb x "'],
+        ["E: .T=t ", "Q: /bin/p", "R: 0  a", "P: /devices/h", "E: X=x "],
+        ["env X=x "],
+        of(1, 'TEST=="$env{.T}": fails, "t "', "stops there"),
+        of(2, 'PROGRAM=="/bin/p": holds, /bin/p answers 0 " a"', "reached its end"),
+        of(3, 'IMPORT{parent}=="X": holds, sets X="x "', "reached its end"),
+        of(4, 'IMPORT{builtin}=="hwdb x ": fails, "hwdb x " sets nothing', "stops there"),
+        path="/devices/h/p",
+    ),
+]
+
 ORDER = [
     why(
         "tests, then programs, then imports by their types",
@@ -320,4 +372,4 @@ ORDER = [
         ["note r.rules:1: no answer for program: p"], of(1, 'PROGRAM=="p": fails, no answer for p', "stops there")),
 ]
 
-ROWS = [*TESTS, *PROGRAMS, *IMPORTS, *AS_UDEV, *LOOKED_UP, *ORDER]
+ROWS = [*TESTS, *PROGRAMS, *IMPORTS, *AS_UDEV, *LOOKED_UP, *REMOVED, *ORDER]

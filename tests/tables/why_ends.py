@@ -29,9 +29,9 @@ DID = [
     ('SYMLINK-="one"', "link one removed"),
     ('SYMLINK+="two"', "SYMLINK changes nothing"),
     ('SYMLINK-="none"', "SYMLINK changes nothing"),
-    ('SYMLINK="three four"', "link three added, link four added, link two removed"),
+    ('SYMLINK="three four"', "link two removed, link three added, link four added"),
     ('SYMLINK+=""', "SYMLINK changes nothing"),
-    ('TAG="x"', "tag x added, tag t removed"),
+    ('TAG="x"', "tag t removed, tag x added"),
     ('TAG-="x"', "tag x removed"),
     ('TAG+=""', "TAG changes nothing"),
     ('ENV{A}="1"', "ENV{A} changes nothing"),
@@ -45,14 +45,14 @@ DID = [
     ('OWNER="", GROUP="b", MODE="0660"', "owner removed, GROUP changes nothing, mode=0660 set"),
     ('OWNER=""', "OWNER changes nothing"),
     ('OPTIONS="watch"', "watch added"),
-    ('OPTIONS="nowatch"', "nowatch added, watch removed"),
+    ('OPTIONS="nowatch"', "watch removed, nowatch added"),
     ('OPTIONS="link_priority=1"', "priority=1 set"),
     ('OPTIONS="link_priority=+01"', "OPTIONS changes nothing"),
     ('OPTIONS="db_persist", OPTIONS="db_persist"', "persist added, OPTIONS changes nothing"),
     ('OPTIONS="string_escape=none"', "OPTIONS changes nothing"),
     ('OPTIONS="log_level=debug", OPTIONS="static_node=x"', "OPTIONS changes nothing, OPTIONS changes nothing"),
     ('SECLABEL{a}="1"', "label a=1 set"),
-    ('SECLABEL{b}="2"', "label b=2 set, label a removed"),
+    ('SECLABEL{b}="2"', "label a removed, label b=2 set"),
     ('SECLABEL{a}+=""', "label a added"),
     ('SECLABEL{b}+="2"', "SECLABEL{b} changes nothing"),
     ('ATTR{x}=""', "attr x added"),
@@ -63,7 +63,7 @@ DID = [
     ('RUN+="/bin/a"', "run program /bin/a added"),
     ('RUN{program}+="/bin/a"', "RUN{program} changes nothing"),
     ('RUN{builtin}+="/bin/a"', "run builtin /bin/a added"),
-    ('RUN="/bin/b"', "run program /bin/b added, all runs removed"),
+    ('RUN="/bin/b"', "run program /bin/a removed, run builtin /bin/a removed, run program /bin/b added"),
     ('RUN=""', "all runs removed"),
     ('RUN=""', "RUN changes nothing"),
     ('RUN+="/bin/%k", RUN+="", RUN+="/bin/%k"', "run program /bin/%k added, RUN changes nothing, RUN changes nothing"),
@@ -111,7 +111,7 @@ EFFECTS = [
         ["label b=z", "env DEVNAME=/dev/d", "env MAJOR=1", "env MINOR=1"],
         of(1, "reached its end: label a=x added, label a=y added"),
         of(2, "reached its end: SECLABEL{a} changes nothing"),
-        of(3, "reached its end: label b=z added, label a=x removed, label a=y removed, label a=x removed"),
+        of(3, "reached its end: label a=x removed, label a=y removed, label a=x removed, label b=z added"),
         udev=True,
     ),
     why(
@@ -125,6 +125,24 @@ EFFECTS = [
         of(4, "reached its end: name=lan1 set"),
         udev=True,
     ),
+    why("names and texts between quotes, where their ends could not be seen", ['TAG+="t ", ENV{A}="a ", OWNER="\\"o\\""', 'TAG-="t "'], [],
+        ['owner "o"', "env A=a "], of(1, 'reached its end: owner=""o"" set, tag "t " added, env A="a " set'),
+        of(2, 'reached its end: tag "t " removed')),
+    why("commands that go and come", ['RUN+="/bin/a"', 'RUN="/bin/b"', 'RUN+="/bin/c"', 'RUN:=""'], [], [],
+        of(1, "reached its end: run program /bin/a added"), of(2, "reached its end: run program /bin/a removed, run program /bin/b added"),
+        of(3, "reached its end: run program /bin/c added"), of(4, "reached its end: all runs removed")),
+    why("commands that go and come with --udev", ['RUN+="/bin/a"', 'RUN="/bin/b"', 'RUN+="/bin/b", RUN{builtin}+="kmod"', 'RUN="/bin/%k"', 'RUN=""'], [],
+        ["note r.rules:5: no value: RUN"],
+        of(1, "reached its end: run program /bin/a added"), of(2, "reached its end: run program /bin/a removed, run program /bin/b added"),
+        of(3, "reached its end: run builtin kmod added, run program /bin/b added"),
+        of(4, "reached its end: run program /bin/b removed, run builtin kmod removed, run program /bin/b removed, run program /bin/%k added"),
+        of(5, "reached its end: all runs removed, RUN ignored, no value"), udev=True),
+    why("a network device without IFINDEX, with --udev", ['NAME="lan0", ENV{A}="1"'], [NET],
+        ["env A=1", "env SUBSYSTEM=net", "note r.rules:1: name ignored: lan0"],
+        of(1, "reached its end: env A=1 set, NAME ignored, no interface (IFINDEX)"), udev=True),
+    why("a device that is no network device, with --udev", ['NAME="lan0", ENV{A}="1"'], ["U: block"],
+        ["env A=1", "env SUBSYSTEM=block", "note r.rules:1: name ignored: lan0"],
+        of(1, "reached its end: env A=1 set, NAME ignored, no network device"), udev=True),
     why("a rule without an assignment", ['KERNEL=="d"', 'KERNEL=="x"'], [], [], of(1, 'KERNEL=="d": holds, d', "reached its end"),
         of(2, 'KERNEL=="x": fails, d', "stops there")),
 ]
@@ -220,4 +238,63 @@ NOT_READ = [
         of(1, "reached its end: tag t added"), messages="r.rules:1: V8 label or goto given twice: b\n"),
 ]
 
-ROWS = [*EFFECTS, *FINALS, *JUMPS, *NOT_READ]
+NUMBER = "does nothing without a device number"
+GONE = "does nothing when the device is removed"
+
+
+def noted(number, *keys):
+    """The notes of a rule on a device without a number."""
+    return [f"note r.rules:{number}: no device number: {key}" for key in keys]
+
+
+# What a rule has to have so that udev does not skip it is in docs/udev/EVENTS.md.
+SKIPPED = [
+    why(
+        "rules that udev skips at a device without a number",
+        ['SYMLINK+="l"', 'KERNEL=="d", OWNER="root", GROUP="disk", MODE="0660", SYMLINK+="l"', 'NAME="n"', 'OPTIONS="static_node=x"',
+         'KERNEL=="x", SYMLINK+="l"', 'TEST=="a", SYMLINK+="l", OPTIONS+="static_node=y"'],
+        ["A: a=1"],
+        [*noted(1, "SYMLINK"), *noted(2, "OWNER", "GROUP", "MODE", "SYMLINK"), "note r.rules:3: name ignored: n", *noted(6, "SYMLINK")],
+        of(1, f"skipped: SYMLINK {NUMBER}"),
+        of(2, 'KERNEL=="d": holds, d', f"skipped: OWNER {NUMBER}, GROUP {NUMBER}, MODE {NUMBER}, SYMLINK {NUMBER}"),
+        of(3, "skipped: NAME does nothing without an interface (IFINDEX)"),
+        of(4, "skipped: OPTIONS does nothing at an event"),
+        of(5, 'KERNEL=="x": fails, d', "stops there"),
+        of(6, 'TEST=="a": holds, a', f"skipped: OPTIONS does nothing at an event, SYMLINK {NUMBER}"),
+        udev=True,
+    ),
+    why(
+        "a search in a rule that udev skips selects nothing",
+        ['KERNELS=="h", SYMLINK+="l"', 'ENV{A}="[$id]"', 'KERNELS=="x", SYMLINK+="l"', 'KERNELS=="h", SYMLINK+="l", ENV{B}="[$id]"'],
+        ["P: /h"],
+        ["env A=[]", "env B=[h]", *noted(1, "SYMLINK"), *noted(4, "SYMLINK")],
+        of(1, 'KERNELS=="h": d fails, d, h holds', "h would meet all", f"skipped: SYMLINK {NUMBER}"),
+        of(2, "reached its end: env A=[] set"),
+        of(3, 'KERNELS=="x": d fails, d, h fails, h', "no device meets any", "stops there"),
+        of(4, 'KERNELS=="h": d fails, d, h holds', "h meets all", "reached its end: env B=[h] set, SYMLINK ignored, no device number"),
+        path="/h/d",
+        udev=True,
+    ),
+    Row("rules that udev skips when the device is removed", "events --udev -r none --why r.rules r.rules",
+        {"r.rules": 'SYMLINK+="l", MODE="$env{M}"\nNAME="n"\nSYMLINK+="l", ENV{A}="1"\n'}, "C: remove\nP: /d\nD: 1:1\nE: IFINDEX=2\n",
+        "event remove /d\nlink l\nenv A=1\nenv ACTION=remove\nenv DEVPATH=/d\nenv IFINDEX=2\nenv MAJOR=1\nenv MINOR=1\n"
+        f"why r.rules:1: skipped: MODE {GONE}, SYMLINK {GONE}\nwhy r.rules:2: skipped: NAME {GONE}\n"
+        "why r.rules:3: reached its end: env A=1 set, link l added\n\n"),
+    why(
+        "rules that assign nothing, with --udev",
+        ['LABEL="a"', 'KERNEL=="d", LABEL="b"', 'KERNELS=="d", LABEL="c"', 'GOTO="e"', 'LABEL="e"'],
+        [],
+        [],
+        of(1, "reached its end"),
+        of(2, 'KERNEL=="d": holds, d', "skipped: nothing is assigned"),
+        of(3, 'KERNELS=="d": d holds', "d would meet all", "skipped: nothing is assigned"),
+        of(4, "reached its end"),
+        of(5, "reached its end"),
+        udev=True,
+    ),
+    why("the same rules by the manual", ['LABEL="a"', 'KERNEL=="d", LABEL="b"', 'KERNELS=="d", LABEL="c"', 'SYMLINK+="l"'], [], ["link l"],
+        of(1, "reached its end"), of(2, 'KERNEL=="d": holds, d', "reached its end"),
+        of(3, 'KERNELS=="d": d holds', "d meets all", "reached its end"), of(4, "reached its end: link l added")),
+]
+
+ROWS = [*EFFECTS, *SKIPPED, *FINALS, *JUMPS, *NOT_READ]

@@ -13,6 +13,7 @@ use Rattle.eval_assignments.specs.Steps.{set_step}
 use Rattle.eval_assignments.proofs.Staying.{Stays, set_stays}
 use Rattle.eval_effects.specs.Effects.{ending}
 use Rattle.eval_effects.specs.Since.{Since, no_since, since_after}
+use Rattle.eval_rules.specs.Idle.{is_idle}
 use Rattle.eval_rules.specs.Jumps.{is_passed, sought_after}
 use Rattle.eval_rules.specs.Steps.{Went, apply}
 use Rattle.eval_rules.specs.Watched.{Seen, apply_watched, entered_watched, left_watched, run_watched}
@@ -81,7 +82,7 @@ module _ (known : Known) where
     entered_is s =
         ap (λ v. entered_watched reporting known r (s, v)) (sym (none within))
         ∙ course_told reporting (with_texts within) known w.since r
-        (λ part t texts. more within texts (plain_report part t.state ∷ [])) (λ t texts. more within texts (search_reports r.up t.state)) (λ act t texts. more within texts (act_report known r act t ∷ []))
+        (λ part t texts. more within texts (plain_report part t.state ∷ [])) (λ t texts. more within texts (search_reports (is_idle r t.state.event) r.up t.state)) (λ act t texts. more within texts (act_report known r act t ∷ []))
         (λ part t texts. more within texts (result_report part t.state ∷ [])) (λ t texts. more within texts _) (λ t texts. more within texts _) (λ t texts. more within texts (ending w.since r t ∷ [])) s []
 
     rule_is : (s : Scene) → apply_watched reporting known r (s, w) ≡ (((apply known r s).0, after w r s), (apply known r s).1)

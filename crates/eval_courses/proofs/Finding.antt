@@ -9,7 +9,7 @@ use Rattle.eval_matching.specs.Laws.{IsFirstToMeet, NoneMeets}
 use Rattle.eval_matching.specs.Subjects.{found_place, holds_at}
 use Rattle.eval_matching.proofs.Finding.{found_first, none_found}
 use Rattle.eval_courses.specs.Laws.{last_of}
-use Rattle.eval_courses.specs.Upward.{falling, found_report, name_at, partial_report, partly, search_reports, unmet, up_report}
+use Rattle.eval_courses.specs.Upward.{falling, found_report, meets_all, name_at, partial_report, partly, search_reports, unmet, up_report}
 use Rattle.eval_courses.proofs.Ending.{after_all}
 
 -- there is one first number that passes
@@ -36,16 +36,18 @@ unfolding found_place
 none_is_found parts state h = (none_found (λ n. list_all (holds_at state n) parts) (length (chain state.event))).1 h
 
 -- the last line of a search is its result
-last_reported : (part : UpMatch) (parts : List UpMatch) (state : State) → last_of (search_reports (part ∷ parts) state) ≡ Some (found_report (part ∷ parts) state (found_place (part ∷ parts) state))
+last_reported : (idle : Bool) (part : UpMatch) (parts : List UpMatch) (state : State) → last_of (search_reports idle (part ∷ parts) state) ≡ Some (found_report idle (part ∷ parts) state (found_place (part ∷ parts) state))
 unfolding search_reports
-last_reported part parts state = after_all (map (λ each. up_report each state) (part ∷ parts)) (found_report (part ∷ parts) state (found_place (part ∷ parts) state))
+last_reported idle part parts state = after_all (map (λ each. up_report each state) (part ∷ parts)) (found_report idle (part ∷ parts) state (found_place (part ∷ parts) state))
 
-pub named_reported : (part : UpMatch) (parts : List UpMatch) (state : State) (place : ℕ) → IsFirstToMeet (part ∷ parts) state place → last_of (search_reports (part ∷ parts) state) ≡ Some (name_at state place ++ codes " meets all")
-named_reported part parts state place h = last_reported part parts state ∙ ap (λ o. Some (found_report (part ∷ parts) state o)) (is_found (part ∷ parts) state place h)
+pub named_reported : (idle : Bool) (part : UpMatch) (parts : List UpMatch) (state : State) (place : ℕ) → IsFirstToMeet (part ∷ parts) state place
+    → last_of (search_reports idle (part ∷ parts) state) ≡ Some (name_at state place ++ meets_all idle)
+named_reported idle part parts state place h = last_reported idle part parts state ∙ ap (λ o. Some (found_report idle (part ∷ parts) state o)) (is_found (part ∷ parts) state place h)
 
-pub none_reported : (part : UpMatch) (parts : List UpMatch) (state : State) → NoneMeets (part ∷ parts) state → (rest : Text) × (last_of (search_reports (part ∷ parts) state) ≡ Some (codes "no device meets " ++ rest))
-none_reported part parts state h =
-    (unmet (map (partial_report (part ∷ parts) state) (partly (part ∷ parts) state)), last_reported part parts state ∙ ap (λ o. Some (found_report (part ∷ parts) state o)) (none_is_found (part ∷ parts) state h))
+pub none_reported : (idle : Bool) (part : UpMatch) (parts : List UpMatch) (state : State) → NoneMeets (part ∷ parts) state
+    → (rest : Text) × (last_of (search_reports idle (part ∷ parts) state) ≡ Some (codes "no device meets " ++ rest))
+none_reported idle part parts state h =
+    (unmet (map (partial_report (part ∷ parts) state) (partly (part ∷ parts) state)), last_reported idle part parts state ∙ ap (λ o. Some (found_report idle (part ∷ parts) state o)) (none_is_found (part ∷ parts) state h))
 
 falling_more : (n : ℕ) → 0 < n → falling n ≡ (n - 1) ∷ falling (n - 1)
 falling_more zero h = absurd (omega arith)

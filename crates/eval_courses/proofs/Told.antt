@@ -16,21 +16,22 @@ use Rattle.eval_rules.specs.Watched.{Seen, Telling, acted, assigned, assigned_wa
 use Rattle.eval_courses.specs.Acts.{act_report}
 use Rattle.eval_courses.specs.Courses.{course, end_of, key_reports}
 use Rattle.eval_courses.specs.Looks.{plain_report, result_report}
+use Rattle.eval_courses.specs.Skipped.{skipped_text}
 use Rattle.eval_courses.specs.Upward.{search_reports}
 use Rattle.eval_courses.proofs.Gathering.{keys_gather, seen}
 
 module _ {W : Type 0} (tell : Telling W) (held : List Text → W) (known : Known) (since : Since) (r : Rule)
     (meet : (part : PlainMatch) (s : Scene) (texts : List Text) → tell (held texts) (meeting r part) s ≡ held (texts ++ plain_report part s.state ∷ []))
-    (find : (s : Scene) (texts : List Text) → tell (held texts) (searching r) s ≡ held (texts ++ search_reports r.up s.state))
+    (find : (s : Scene) (texts : List Text) → tell (held texts) (searching r) s ≡ held (texts ++ search_reports (is_idle r s.state.event) r.up s.state))
     (act : (act : Act) (s : Scene) (texts : List Text) → tell (held texts) (acted r act (act_step known r act s)) s ≡ held (texts ++ act_report known r act s ∷ []))
     (compare : (part : Comparison) (s : Scene) (texts : List Text) → tell (held texts) (comparing r part) s ≡ held (texts ++ result_report part s.state ∷ []))
     (stop : (s : Scene) (texts : List Text) → tell (held texts) (stopped r) s ≡ held (texts ++ codes "stops there" ∷ []))
-    (skip : (s : Scene) (texts : List Text) → tell (held texts) (skipped r) s ≡ held (texts ++ codes "nothing in it counts for this device" ∷ []))
+    (skip : (s : Scene) (texts : List Text) → tell (held texts) (skipped r) s ≡ held (texts ++ skipped_text r s.state.event ∷ []))
     (assign : (s : Scene) (texts : List Text) → tell (held texts) (assigned r (set_all r s).0) s ≡ held (texts ++ ending since r s ∷ [])) where
   keys_are : (s : Scene) (texts : List Text) → keys_watched tell known r (s, held texts) ≡ seen tell held (before_sets known r s) (texts ++ key_reports known r s)
   unfolding key_reports
   keys_are s texts =
-      keys_gather tell held known r (λ part t. plain_report part t.state ∷ []) (λ t. search_reports r.up t.state) (λ part t. act_report known r part t ∷ []) (λ part t. result_report part t.state ∷ [])
+      keys_gather tell held known r (λ part t. plain_report part t.state ∷ []) (λ t. search_reports (is_idle r t.state.event) r.up t.state) (λ part t. act_report known r part t ∷ []) (λ part t. result_report part t.state ∷ [])
       meet find act compare s texts
 
   module _ (texts keys : List Text) where
@@ -38,7 +39,7 @@ module _ {W : Type 0} (tell : Telling W) (held : List Text → W) (known : Known
     skip_ends went = by went.1
       where
         by : (b : Bool) → tell (held (texts ++ keys)) (cond b (skipped r) (stopped r)) went.0 ≡ held (texts ++ (keys ++ end_of true since r (went.0, b) ∷ []))
-        by true = skip went.0 (texts ++ keys) ∙ ap held (append_assoc texts keys (codes "nothing in it counts for this device" ∷ []))
+        by true = skip went.0 (texts ++ keys) ∙ ap held (append_assoc texts keys (skipped_text r went.0.state.event ∷ []))
         by false = stop went.0 (texts ++ keys) ∙ ap held (append_assoc texts keys (codes "stops there" ∷ []))
 
     steps_end : (went : Went) → assigned_watched tell r (seen tell held went (texts ++ keys)) ≡ seen tell held (if_proceeding (set_all r) went) (texts ++ (keys ++ end_of false since r went ∷ []))

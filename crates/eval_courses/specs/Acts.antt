@@ -66,24 +66,38 @@ answer_report command (Some answer) = escape_text command ++ codes " answers " +
 unfoldable pub property_report : Pair → Text
 property_report property = shown property.0 ++ equals ∷ shown property.1
 
--- properties that were set
-abbrev pub set_report : List Text → Text
-set_report properties = if is_empty properties then codes "sets nothing" else codes "sets " ++ joined properties
-
 -- the properties that are there now and were not there with the same value before
 abbrev pub newly_set : List Pair → List Pair → List Pair
 newly_set before now = filter (λ property. not (is_present property before)) now
 
--- the properties that were set, by those before and those now
+-- the properties that were there before and are no longer
+abbrev pub gone_from : List Pair → List Pair → List Pair
+gone_from now before = filter (λ property. is_none (value_of now property.0)) before
+
+-- properties that were set
+abbrev pub set_report : List Text → Text
+set_report set = if is_empty set then codes "sets nothing" else codes "sets " ++ joined set
+
+-- properties that were set besides those that were removed
+abbrev pub also_set : List Text → Text
+also_set set = if is_empty set then [] else codes ", sets " ++ joined set
+
+-- properties that were removed and set
+abbrev pub change_report : List Text → List Text → Text
+change_report removed set = if is_empty removed then set_report set else codes "removes " ++ joined removed ++ also_set set
+
+-- the properties that were removed and set, by those before and those now
 abbrev pub taken_report : List Pair → List Pair → Text
-taken_report before now = set_report (map property_report (newly_set before now))
+taken_report before now =
+    change_report (map (λ property. shown property.0) (gone_from now before)) (map property_report (newly_set before now))
 
 -- what an IMPORT{parent} met, by the properties after it; udev renders its value
 abbrev pub parent_report : Profile → Text → State → List Pair → Text
 parent_report profile.Manual value s env = taken_report s.env env
 parent_report profile.Udev value s env = on_rendered (λ names. taken_report s.env env) (names_text value s)
 
--- the command of an IMPORT{program} and what the event's block answers to it, and then what was set of properties, by those before and those now
+-- the command of an IMPORT{program} and what the event's block answers to it, and then what was removed and set of
+-- properties, by those before and those now
 abbrev pub printed_report : Text → Option AnswerValue → List Pair → List Pair → Text
 printed_report command None before now = answer_report command None
 printed_report command (Some answer) before now = answer_report command (Some answer) ++ codes ", " ++ taken_report before now

@@ -14,6 +14,7 @@ use Rattle.eval_effects.specs.Effects.{ending}
 use Rattle.eval_effects.specs.Since.{Since}
 use Rattle.eval_courses.specs.Acts.{act_report}
 use Rattle.eval_courses.specs.Looks.{plain_report, result_report}
+use Rattle.eval_courses.specs.Skipped.{skipped_text}
 use Rattle.eval_courses.specs.Upward.{search_reports}
 
 -- what is reported after something that stops the rule, or lets it go on
@@ -51,14 +52,14 @@ acted known r s = if_proceeding (walk (act_step known r) r.acts) (searched r s)
 unfoldable pub key_reports : Known → Rule → Scene → List Text
 key_reports known r s =
     event_reports r r.plain s
-    ++ reports_if_proceeding (λ t. search_reports r.up t.state) (matched r s)
+    ++ reports_if_proceeding (λ t. search_reports (is_idle r t.state.event) r.up t.state) (matched r s)
     ++ reports_if_proceeding (act_reports known r r.acts) (searched r s)
     ++ reports_if_proceeding (result_reports r.results) (acted known r s)
 
 -- how a rule whose keys let it go on ended: nothing in it counts for the event, so that it is skipped, or its end was
 -- reached
 abbrev pub end_reached : Bool → Since → Rule → Scene → Text
-end_reached idle since r s = if idle then codes "nothing in it counts for this device" else ending since r s
+end_reached idle since r s = if idle then skipped_text r s.state.event else ending since r s
 
 -- how a rule ended: it was stopped, or all its keys let it go on
 abbrev pub end_of : Bool → Since → Rule → Went → Text

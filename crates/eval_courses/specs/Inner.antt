@@ -8,12 +8,14 @@ use Rattle.eval_state.specs.declared.scene.Scene.{Scene}
 use Rattle.eval_matching.specs.Holding.{Subject, one, constant, never, unread}
 use Rattle.eval_matching.specs.Borrowed.{borrowed_subject}
 use Rattle.eval_matching.specs.Subjects.{members_by, subsystem_by}
+use Rattle.eval_rules.specs.Idle.{is_idle}
 use Rattle.eval_rules.specs.Steps.{Went}
 use Rattle.eval_rules.specs.Watched.{Happening, acted, comparing, meeting, searching, skipped, stopped}
 use Rattle.eval_courses.specs.Acts.{taken_report}
 use Rattle.eval_courses.specs.Keys.{act_key}
 use Rattle.eval_courses.specs.Looks.{met, plain_report, result_report}
 use Rattle.eval_courses.specs.Questions.{act_asks, with_asked}
+use Rattle.eval_courses.specs.Skipped.{skipped_text}
 use Rattle.eval_courses.specs.Upward.{search_reports}
 use Rattle.eval_courses.specs.declared.acts.ReportBefore.{ReportBefore}
 use Rattle.eval_courses.specs.declared.acts.ReportBefore.TheVariants as before
@@ -43,10 +45,10 @@ subject_of borrowed_as.Unread = unread
 -- what is reported of a rule at a moment
 abbrev pub moment_reports : Happening → Scene → List Text
 moment_reports (meeting r part) s = plain_report part s.state ∷ []
-moment_reports (searching r) s = search_reports r.up s.state
+moment_reports (searching r) s = search_reports (is_idle r s.state.event) r.up s.state
 moment_reports (comparing r part) s = result_report part s.state ∷ []
 moment_reports (stopped r) s = codes "stops there" ∷ []
-moment_reports (skipped r) s = codes "nothing in it counts for this device" ∷ []
+moment_reports (skipped r) s = skipped_text r s.state.event ∷ []
 moment_reports happening s = []
 
 -- what was asked, once more happened: an act asks before it is done

@@ -2,6 +2,7 @@ pub mod Keys
 pub mod Looks
 pub mod Upward
 pub mod Acts
+pub mod Skipped
 pub mod Courses
 pub mod Questions
 pub mod Inner

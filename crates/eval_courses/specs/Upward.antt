@@ -65,13 +65,18 @@ partly parts state = filter (λ place. list_any (holds_at state place) parts) (f
 abbrev pub unmet : List Text → Text
 unmet devices = if is_empty devices then codes "any" else codes "all: " ++ joined devices
 
--- the outcome of the search: the device at a place, or none
-abbrev pub found_report : List UpMatch → State → Option ℕ → Text
-found_report parts state (Some place) = name_at state place ++ codes " meets all"
-found_report parts state None = codes "no device meets " ++ unmet (map (partial_report parts state) (partly parts state))
+-- what the device that is found does: if the rule is skipped, it is not selected
+abbrev pub meets_all : Bool → Text
+meets_all true = codes " would meet all"
+meets_all false = codes " meets all"
 
--- the search for one device: each of its matches, and its outcome
-unfoldable pub search_reports : List UpMatch → State → List Text
-search_reports [] state = []
-search_reports (part ∷ parts) state =
-    map (λ each. up_report each state) (part ∷ parts) ++ found_report (part ∷ parts) state (found_place (part ∷ parts) state) ∷ []
+-- the outcome of the search, by whether the rule is skipped: the device at a place, or none
+abbrev pub found_report : Bool → List UpMatch → State → Option ℕ → Text
+found_report idle parts state (Some place) = name_at state place ++ meets_all idle
+found_report idle parts state None = codes "no device meets " ++ unmet (map (partial_report parts state) (partly parts state))
+
+-- the search for one device, by whether the rule is skipped: each of its matches, and its outcome
+unfoldable pub search_reports : Bool → List UpMatch → State → List Text
+search_reports idle [] state = []
+search_reports idle (part ∷ parts) state =
+    map (λ each. up_report each state) (part ∷ parts) ++ found_report idle (part ∷ parts) state (found_place (part ∷ parts) state) ∷ []

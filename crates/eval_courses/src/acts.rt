@@ -19,7 +19,7 @@ ghost use Rattle.eval_rendering.specs.Bounds.{most_command_bytes};
 use crate::answers::{answer_to, answered_start, command_asked, unanswered};
 use crate::keys::push_act_key;
 use crate::plain::push_met;
-use crate::properties::{copied, newly_set, push_set};
+use crate::properties::{copied, newly_set, push_changed, removed};
 use builtin_devices::Knowledge;
 use eval_acts::{act_step, import_text, names_text, program_text, test_text};
 use eval_effects::push_shown;
@@ -36,7 +36,8 @@ use text_tables::CowPairs;
 pub(crate) enum ReportBefore {
     /// All of the report.
     Whole(Bytes),
-    /// The start of the report, and the properties before the act: after that start come those that the act sets.
+    /// The start of the report, and the properties before the act: after that start come those that the act removes
+    /// and sets.
     Taking(Bytes, CowPairs<'static>),
 }
 
@@ -292,7 +293,8 @@ fn push_after(
         ReportBefore::Whole(reported) => text.extend_from_slice(reported.as_slice()),
         ReportBefore::Taking(reported, properties) => {
             text.extend_from_slice(reported.as_slice())?;
-            push_set(text, &newly_set(alloc, properties, env)?)
+            let gone = removed(alloc, properties, env)?;
+            push_changed(text, &gone, &newly_set(alloc, properties, env)?)
         }
     }
 }

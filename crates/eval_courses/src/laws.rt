@@ -1,5 +1,5 @@
 //! What holds for courses, whatever the rule. Each function here is empty: its contract is the law.
-ghost use Rattle.std.specs.Prelude.{◌≡◌, ◌↔◌, ◌∷◌, ◌++◌, ℕ, List, Some, codes, true, false};
+ghost use Rattle.std.specs.Prelude.{◌≡◌, ◌↔◌, ◌∷◌, ◌++◌, Bool, ℕ, List, Some, codes, true, false};
 ghost use Rattle.text_tables.specs.Texts.{Text};
 ghost use Rattle.builtin_devices.specs.Knowledge.{Known};
 ghost use Rattle.rule_types.specs.declared.part.UpMatch.{UpMatch};
@@ -11,7 +11,8 @@ ghost use Rattle.eval_rules.specs.Idle.{is_idle};
 ghost use Rattle.eval_rules.specs.Steps.{apply, before_sets};
 ghost use Rattle.eval_effects.specs.Since as finals;
 ghost use Rattle.eval_courses.specs.Courses.{course};
-ghost use Rattle.eval_courses.specs.Upward.{name_at, search_reports};
+ghost use Rattle.eval_courses.specs.Skipped.{skipped_text};
+ghost use Rattle.eval_courses.specs.Upward.{meets_all, name_at, search_reports};
 ghost use Rattle.eval_courses.specs.Laws.{last_of};
 
 /// The last text of a course is `stops there` exactly if the rule's end was not reached, unless the rule is
@@ -21,20 +22,22 @@ pub fn course_ends_as_its_rule()
         → (last_of (course known since r s) ≡ Some (codes "stops there")) ↔ ((apply known r s).1 ≡ false) }
 {}
 
-/// The last text of the course of a rule that is skipped says so exactly if all its keys let it go on.
+/// The last text of the course of a rule that is skipped says what of it does nothing exactly if all its keys let it
+/// go on.
 pub fn course_says_what_is_skipped()
     ensures { (known : Known) (since : finals.Since) (r : rules.Rule) (s : Scene) → is_idle r s.state.event ≡ true
-        → (last_of (course known since r s) ≡ Some (codes "nothing in it counts for this device")) ↔ ((before_sets known r s).1 ≡ true) }
+        → (last_of (course known since r s) ≡ Some (skipped_text r s.state.event)) ↔ ((before_sets known r s).1 ≡ true) }
 {}
 
-/// What is reported for a search names the nearest device that meets all of the matches.
+/// What is reported for a search names the nearest device that meets all of the matches; in a rule that is skipped,
+/// where no device is selected, it would meet them.
 pub fn search_names_the_first_to_meet()
-    ensures { (part : UpMatch) (parts : List UpMatch) (state : State) (place : ℕ) → IsFirstToMeet (part ∷ parts) state place
-        → last_of (search_reports (part ∷ parts) state) ≡ Some (name_at state place ++ codes " meets all") }
+    ensures { (idle : Bool) (part : UpMatch) (parts : List UpMatch) (state : State) (place : ℕ) → IsFirstToMeet (part ∷ parts) state place
+        → last_of (search_reports idle (part ∷ parts) state) ≡ Some (name_at state place ++ meets_all idle) }
 {}
 
 /// What is reported for a search that finds none begins with `no device meets `.
 pub fn search_names_no_device_where_none_meets()
-    ensures { (part : UpMatch) (parts : List UpMatch) (state : State) → NoneMeets (part ∷ parts) state
-        → (rest : Text) × (last_of (search_reports (part ∷ parts) state) ≡ Some (codes "no device meets " ++ rest)) }
+    ensures { (idle : Bool) (part : UpMatch) (parts : List UpMatch) (state : State) → NoneMeets (part ∷ parts) state
+        → (rest : Text) × (last_of (search_reports idle (part ∷ parts) state) ≡ Some (codes "no device meets " ++ rest)) }
 {}

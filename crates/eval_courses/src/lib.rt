@@ -20,6 +20,7 @@ mod laws;
 mod moments;
 mod plain;
 mod properties;
+mod skipped;
 mod subjects;
 mod upward;
 

@@ -4,16 +4,17 @@ ghost use Rattle.eval_rules.specs.Moments.{happening};
 ghost use Rattle.eval_courses.specs.Inner.{moment_reports};
 
 use crate::plain::{plain_report, result_report};
+use crate::skipped::skipped_text;
 use crate::upward::report_search;
-use eval_rules::Moment;
+use eval_rules::{Moment, is_idle};
 use eval_state::Scene;
 use std::alloc::{AllocError, Global};
 use text_bytes::Bytes;
 
 /// Adds what is reported of a rule at a moment: of a match of the event or of the result whether it holds and what it
 /// looks at; of a match of one device what it meets at each device of the chain, and after all of these which device
-/// meets them all, or how many the devices meet that meet some; of a rule that a key stopped `stops there`, and of one
-/// that is skipped, since nothing in it counts for the event, `nothing in it counts for this device`.
+/// meets them all, or would if the rule were not skipped, or how many the devices meet that meet some; of a rule that a
+/// key stopped `stops there`, and of one that is skipped what of it does nothing for the event, and why.
 pub fn report_moment(
     alloc: Global,
     moment: Moment<'_>,
@@ -24,11 +25,14 @@ pub fn report_moment(
 {
     match moment {
         Moment::Meeting(_, part) => texts.push(plain_report(alloc, part, &scene.state)?)?,
-        Moment::Searching(rule) => report_search(alloc, rule.up(), &scene.state, texts)?,
+        Moment::Searching(rule) => {
+            let idle = is_idle(rule, scene.state.event.event());
+            report_search(alloc, idle, rule.up(), &scene.state, texts)?
+        }
         Moment::Comparing(_, part) => texts.push(result_report(alloc, part, &scene.state)?)?,
         Moment::Stopped(_) => texts.push(Bytes::copy_of(alloc, b"stops there")?)?,
-        Moment::Skipped(_) => {
-            texts.push(Bytes::copy_of(alloc, b"nothing in it counts for this device")?)?
+        Moment::Skipped(rule) => {
+            texts.push(skipped_text(alloc, rule, scene.state.event.event())?)?
         }
         Moment::Passed(_) | Moment::Entered(_) | Moment::Left(_, _) => {}
     }

@@ -1,7 +1,8 @@
-//! Which properties are there only after an act.
+//! Which properties are there only after an act, and which only before it.
 ghost use Rattle.std.specs.Prelude.{◌≡◌, ◌++◌, IfOk, OnOk, map};
 ghost use Rattle.eval_effects.specs.Items.{is_present};
-ghost use Rattle.eval_courses.specs.Acts.{newly_set, property_report, set_report};
+ghost use Rattle.eval_effects.specs.Shown.{shown};
+ghost use Rattle.eval_courses.specs.Acts.{also_set, change_report, gone_from, newly_set, property_report, set_report};
 
 use eval_effects::{push_joined, push_shown};
 use std::alloc::{AllocError, Global};
@@ -44,6 +45,15 @@ fn property_report(alloc: Global, name: &[u8], value: &[u8]) -> Result<Bytes, Al
     Ok(Bytes::new(text))
 }
 
+/// The name of a property as it is reported.
+fn name_report(alloc: Global, name: &[u8]) -> Result<Bytes, AllocError>
+    ensures { IfOk result (λ text. text ≡ shown name.now) }
+{
+    let mut text = Vec::new(alloc);
+    push_shown(alloc, &mut text, name)?;
+    Ok(Bytes::new(text))
+}
+
 /// The properties that are there now and were not there with the same value before.
 pub(crate) fn newly_set(
     alloc: Global,
@@ -61,13 +71,57 @@ pub(crate) fn newly_set(
     Ok(texts)
 }
 
-/// Appends to a text which properties were set.
-pub(crate) fn push_set(text: &mut Vec<u8>, properties: &[Bytes]) -> Result<(), AllocError>
-    ensures { OnOk result (text.new.items ≡ text.old.items ++ set_report properties.now) }
+/// The names of the properties that were there before and are no longer.
+pub(crate) fn removed(
+    alloc: Global,
+    before: &CowPairs<'_>,
+    now: &CowPairs<'_>,
+) -> Result<Vec<Bytes>, AllocError>
+    ensures { IfOk result (λ texts. texts.items ≡ map (λ property. shown property.0) (gone_from now.now before.now)) }
 {
-    if properties.is_empty() {
+    let mut texts = Vec::new(alloc);
+    for (name, _) in before.as_map().iter() {
+        if now.get(name.as_slice()).is_none() {
+            texts.push(name_report(alloc, name.as_slice())?)?;
+        }
+    }
+    Ok(texts)
+}
+
+/// Appends to a text which properties were set, if none was removed.
+fn push_set(text: &mut Vec<u8>, set: &[Bytes]) -> Result<(), AllocError>
+    ensures { OnOk result (text.new.items ≡ text.old.items ++ set_report set.now) }
+{
+    if set.is_empty() {
         return text.extend_from_slice(b"sets nothing");
     }
     text.extend_from_slice(b"sets ")?;
-    push_joined(text, properties)
+    push_joined(text, set)
+}
+
+/// Appends to a text which properties were set besides those that were removed.
+fn push_also_set(text: &mut Vec<u8>, set: &[Bytes]) -> Result<(), AllocError>
+    ensures { OnOk result (text.new.items ≡ text.old.items ++ also_set set.now) }
+{
+    if set.is_empty() {
+        return Ok(());
+    }
+    text.extend_from_slice(b", sets ")?;
+    push_joined(text, set)
+}
+
+/// Appends to a text which properties were removed and set.
+pub(crate) fn push_changed(
+    text: &mut Vec<u8>,
+    removed: &[Bytes],
+    set: &[Bytes],
+) -> Result<(), AllocError>
+    ensures { OnOk result (text.new.items ≡ text.old.items ++ change_report removed.now set.now) }
+{
+    if removed.is_empty() {
+        return push_set(text, set);
+    }
+    text.extend_from_slice(b"removes ")?;
+    push_joined(text, removed)?;
+    push_also_set(text, set)
 }

@@ -4,7 +4,7 @@ ghost use Rattle.std.specs.List.{list_any};
 ghost use Rattle.device_core.specs.Values.{chain};
 ghost use Rattle.eval_matching.specs.Subjects.{found_place, holds_at, up_subject};
 ghost use Rattle.eval_courses.specs.Inner.{subject_of};
-ghost use Rattle.eval_courses.specs.Upward.{device_report, found_report, hits, met_at, name_at, partial_report};
+ghost use Rattle.eval_courses.specs.Upward.{device_report, found_report, hits, meets_all, met_at, name_at, partial_report};
 ghost use Rattle.eval_courses.specs.Upward.{partly, places, search_reports, unmet, up_report};
 
 use crate::keys::push_up_key;
@@ -182,15 +182,31 @@ fn push_unmet(text: &mut Vec<u8>, devices: &[Bytes]) -> Result<(), AllocError>
     push_joined(text, devices)
 }
 
-/// The outcome of the search.
-fn found_report(alloc: Global, parts: &[UpMatch], state: &State<'_>) -> Result<Bytes, AllocError>
-    ensures { IfOk result (λ text. text ≡ found_report parts.now state.now (found_place parts.now state.now)) }
+/// What the device that is found does: if the rule is skipped, it is not selected.
+fn meets_all(idle: bool) -> &'static [u8]
+    ensures { result.now ≡ meets_all idle }
+{
+    if idle {
+        b" would meet all"
+    } else {
+        b" meets all"
+    }
+}
+
+/// The outcome of the search, by whether the rule is skipped.
+fn found_report(
+    alloc: Global,
+    idle: bool,
+    parts: &[UpMatch],
+    state: &State<'_>,
+) -> Result<Bytes, AllocError>
+    ensures { IfOk result (λ text. text ≡ found_report idle parts.now state.now (found_place parts.now state.now)) }
 {
     let mut text = Vec::new(alloc);
     match found_place(parts, state) {
         Some(place) => {
             push_name(alloc, &mut text, state, place)?;
-            text.extend_from_slice(b" meets all")?;
+            text.extend_from_slice(meets_all(idle))?;
         }
         None => {
             text.extend_from_slice(b"no device meets ")?;
@@ -215,20 +231,21 @@ fn report_each(
     Ok(())
 }
 
-/// Adds the texts of the search for one device: each of its matches, and its outcome.
+/// Adds the texts of the search for one device, by whether the rule is skipped: each of its matches, and its outcome.
 #[tactic(auto, unfolding(crate::specs::Upward::search_reports))]
 pub(crate) fn report_search(
     alloc: Global,
+    idle: bool,
     parts: &[UpMatch],
     state: &State<'_>,
     texts: &mut Vec<Bytes>,
 ) -> Result<(), AllocError>
-    ensures { OnOk result (texts.new.items ≡ texts.old.items ++ search_reports parts.now state.now) }
+    ensures { OnOk result (texts.new.items ≡ texts.old.items ++ search_reports idle parts.now state.now) }
 {
     if parts.is_empty() {
         return Ok(());
     }
     report_each(alloc, parts, state, texts)?;
-    texts.push(found_report(alloc, parts, state)?)?;
+    texts.push(found_report(alloc, idle, parts, state)?)?;
     Ok(())
 }

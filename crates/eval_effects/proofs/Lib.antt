@@ -5,3 +5,4 @@ pub mod Fields
 pub mod Following
 pub mod Noted
 pub mod Tags
+pub mod ReadBack

@@ -28,18 +28,18 @@ removed_same now =
     λ i item. same item i
 
 -- what is reported by tables is what is reported by the items
-changes_same : (was now : List Pair) → flat_map (set_item (table_of was)) now ++ flat_map (removed_item (table_of now)) was ≡ item_changes was now
+changes_same : (was now : List Pair) → flat_map (removed_item (table_of now)) was ++ flat_map (set_item (table_of was)) now ≡ item_changes was now
 changes_same was now =
-    ap (λ report. flat_map report now ++ flat_map (removed_item (table_of now)) was) (set_same was)
-    ∙ ap (λ report. flat_map (set_item was) now ++ flat_map report was) (removed_same now)
+    ap (λ report. flat_map report was ++ flat_map (set_item (table_of was)) now) (removed_same now)
+    ∙ ap (λ report. flat_map (removed_item now) was ++ flat_map report now) (set_same was)
 
 -- the same, one after another after what was reported before
 pub reported_same : (start mid end : List Text) (was now was_table now_table : List Pair) → was_table ≡ table_of was → now_table ≡ table_of now
-    → mid ≡ start ++ flat_map (set_item was_table) now → end ≡ mid ++ flat_map (removed_item now_table) was → end ≡ start ++ item_changes was now
+    → mid ≡ start ++ flat_map (removed_item now_table) was → end ≡ mid ++ flat_map (set_item was_table) now → end ≡ start ++ item_changes was now
 reported_same start mid end was now was_table now_table w n first second =
     second
-    ∙ ap (λ reported. reported ++ flat_map (removed_item now_table) was) first
-    ∙ append_assoc start (flat_map (set_item was_table) now) (flat_map (removed_item now_table) was)
-    ∙ ap (λ table. start ++ (flat_map (set_item table) now ++ flat_map (removed_item now_table) was)) w
-    ∙ ap (λ table. start ++ (flat_map (set_item (table_of was)) now ++ flat_map (removed_item table) was)) n
+    ∙ ap (λ reported. reported ++ flat_map (set_item was_table) now) first
+    ∙ append_assoc start (flat_map (removed_item now_table) was) (flat_map (set_item was_table) now)
+    ∙ ap (λ table. start ++ (flat_map (removed_item table) was ++ flat_map (set_item was_table) now)) n
+    ∙ ap (λ table. start ++ (flat_map (removed_item (table_of now)) was ++ flat_map (set_item table) now)) w
     ∙ ap (λ reported. start ++ reported) (changes_same was now)

@@ -1,8 +1,8 @@
 -- What changed between two scenes, as texts: items that are there only now or no longer, and RUNs.
-use Rattle.std.specs.Prelude.{ℕ, zero, suc, ◌||◌, ◌&&◌, if◌then◌else◌, Bool, List, [], ◌∷◌, ◌++◌, is_some, length, drop, map, codes, flat_map}
+use Rattle.std.specs.Prelude.{ℕ, ◌&&◌, if◌then◌else◌, Bool, List, [], ◌∷◌, ◌++◌, Option, Some, None, is_some, length, drop, map, codes, flat_map}
 use Rattle.std.specs.List.{list_any, prefix_len, zip}
 use Rattle.text_bytes.specs.Names.{equals, space}
-use Rattle.text_bytes.specs.Texts.{is_empty}
+use Rattle.text_bytes.specs.Texts.{is_empty, split_once}
 use Rattle.text_tables.specs.Texts.{Text, same_text}
 use Rattle.text_tables.specs.Pairs.{Pair, value_of}
 use Rattle.rule_types.specs.Names.{run_name}
@@ -29,9 +29,18 @@ abbrev pub value_part : Text → Text
 value_part [] = codes " added"
 value_part (byte ∷ value) = equals ∷ shown (byte ∷ value) ++ codes " set"
 
+-- the name of an item as it is shown: its word, and what it is about
+abbrev pub name_by : Text → Option (Text × Text) → Text
+name_by name None = name
+name_by name (Some parts) = parts.0 ++ space ∷ shown parts.1
+
+-- the same, by its parts before and after its first space
+abbrev pub name_text : Text → Text
+name_text name = name_by name (split_once space name)
+
 -- the text of an item that is set
 abbrev pub set_text : Pair → Text
-set_text item = shown item.0 ++ value_part item.1
+set_text item = name_text item.0 ++ value_part item.1
 
 -- an item that is there now is reported unless it was there like this before
 abbrev pub set_item : List Pair → Pair → List Text
@@ -39,15 +48,15 @@ set_item was item = if is_present item was then [] else set_text item ∷ []
 
 -- the text of an item whose name is no longer there
 abbrev pub removed_text : Text → Text
-removed_text name = shown name ++ codes " removed"
+removed_text name = name_text name ++ codes " removed"
 
 -- an item that was there before is reported if its name is no longer there
 abbrev pub removed_item : List Pair → Pair → List Text
 removed_item now item = if is_some (value_of now item.0) then [] else removed_text item.0 ∷ []
 
--- what changed in items, by those before and those now
+-- what changed in items, by those before and those now: first what is no longer there, then what is
 abbrev pub item_changes : List Pair → List Pair → List Text
-item_changes was now = flat_map (set_item was) now ++ flat_map (removed_item now) was
+item_changes was now = flat_map (removed_item now) was ++ flat_map (set_item was) now
 
 -- whether a RUN is one of these, by its type and its written text
 abbrev pub is_kept : List RunValue → RunValue → Bool
@@ -65,14 +74,18 @@ added_run was run = if is_kept was run then [] else (run_text run ++ codes " add
 abbrev pub removed_run : List RunValue → RunValue → List Text
 removed_run now run = if is_kept now run then [] else (run_text run ++ codes " removed") ∷ []
 
--- the RUNs that are no longer there, one by one, unless none of them stayed
-abbrev pub removed_runs : List RunValue → List RunValue → List Text
-removed_runs was now =
-    if is_empty was || list_any (is_kept now) was then flat_map (removed_run now) was else codes "all runs removed" ∷ []
+-- that none of what there was is left, if there was something
+abbrev pub all_removed : {X : Type 0} → List X → List Text
+all_removed [] = []
+all_removed (x ∷ was) = codes "all runs removed" ∷ []
 
--- what changed in RUNs, by those before and those now
+-- the RUNs that are no longer there, one by one, unless none is there now
+abbrev pub removed_runs : List RunValue → List RunValue → List Text
+removed_runs was now = if is_empty now then all_removed was else flat_map (removed_run now) was
+
+-- what changed in RUNs, by those before and those now: first those that are no longer there
 abbrev pub run_changes : List RunValue → List RunValue → List Text
-run_changes was now = flat_map (added_run was) now ++ removed_runs was now
+run_changes was now = removed_runs was now ++ flat_map (added_run was) now
 
 -- whether two RUNs that udev made are the same: of the same type, as written and as rendered
 abbrev pub same_made : MadeRun → MadeRun → Bool
@@ -86,15 +99,14 @@ stayed was now = prefix_len (λ pair. same_made pair.0 pair.1) (zip was now)
 abbrev pub made_run : Text → MadeRun → Text
 made_run became made = run_text made.run ++ became
 
--- the RUNs that are no longer there, one by one, unless none stayed
-abbrev pub removed_made : ℕ → List MadeRun → List Text
-removed_made n [] = []
-removed_made zero (made ∷ was) = codes "all runs removed" ∷ []
-removed_made (suc n) (made ∷ was) = map (made_run (codes " removed")) (drop n was)
+-- the RUNs that are no longer there, one by one, unless none is there now
+abbrev pub removed_made : List MadeRun → List MadeRun → List Text
+removed_made was now = if is_empty now then all_removed was else map (made_run (codes " removed")) (drop (stayed was now) was)
 
--- what changed in RUNs that udev made, by those before and those now: one may be there several times
+-- what changed in RUNs that udev made, by those before and those now, first those that are no longer there: one may
+-- be there several times
 abbrev pub made_changes : List MadeRun → List MadeRun → List Text
-made_changes was now = map (made_run (codes " added")) (drop (stayed was now) now) ++ removed_made (stayed was now) was
+made_changes was now = removed_made was now ++ map (made_run (codes " added")) (drop (stayed was now) now)
 
 -- all that changed
 abbrev pub changes : Snapshot → Scene → List Text

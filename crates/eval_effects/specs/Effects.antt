@@ -13,6 +13,7 @@ use Rattle.eval_state.specs.declared.note_kind.NoteKind.TheVariants.{ModeIgnored
 use Rattle.eval_state.specs.declared.notes.Note.{Note}
 use Rattle.eval_state.specs.declared.scene.Scene.{Scene}
 use Rattle.eval_assignments.specs.Finality.{final_key}
+use Rattle.eval_assignments.specs.Names.{is_net}
 use Rattle.eval_assignments.specs.Steps.{set_step}
 use Rattle.eval_effects.specs.Changes.{Snapshot, changes, snapshot}
 use Rattle.eval_effects.specs.Named.{change_key, final_name, rule_place}
@@ -33,27 +34,32 @@ abbrev pub changed_text : Change → List Text → Text
 changed_text c [] = change_key c ++ codes " changes nothing"
 changed_text c (text ∷ more) = joined (text ∷ more)
 
--- what a note of an assignment is reported as
-abbrev pub said_of : Change → NoteKind → Text → List Text
-said_of c TextTooLong word = (change_key c ++ codes " left out, too long") ∷ []
-said_of c NameIgnored word = codes "NAME ignored, no network device" ∷ []
-said_of c NoDeviceNumber word = (change_key c ++ codes " ignored, no device number") ∷ []
-said_of c NoValue word = (change_key c ++ codes " ignored, no value") ∷ []
-said_of c LinkIgnored word = (shown word ++ codes " ignored, no link") ∷ []
-said_of c ModeIgnored word = (change_key c ++ codes " ignored, no mode") ∷ []
-said_of c TagIgnored word = (change_key c ++ codes " ignored, no tag") ∷ []
-said_of c AttributeNotFound word = (change_key c ++ codes " ignored, no such attribute") ∷ []
-said_of c kind word = []
+-- why a device has no name to assign: it is no network device, or for udev it is one without the number of an
+-- interface
+abbrev pub no_name : Option Text → Text
+no_name subsystem = if is_net subsystem then codes "no interface (IFINDEX)" else codes "no network device"
+
+-- what a note of an assignment over a scene is reported as
+abbrev pub said_of : Change → Scene → NoteKind → Text → List Text
+said_of c s TextTooLong word = (change_key c ++ codes " left out, too long") ∷ []
+said_of c s NameIgnored word = (codes "NAME ignored, " ++ no_name s.state.event.device.subsystem) ∷ []
+said_of c s NoDeviceNumber word = (change_key c ++ codes " ignored, no device number") ∷ []
+said_of c s NoValue word = (change_key c ++ codes " ignored, no value") ∷ []
+said_of c s LinkIgnored word = (shown word ++ codes " ignored, no link") ∷ []
+said_of c s ModeIgnored word = (change_key c ++ codes " ignored, no mode") ∷ []
+said_of c s TagIgnored word = (change_key c ++ codes " ignored, no tag") ∷ []
+said_of c s AttributeNotFound word = (change_key c ++ codes " ignored, no such attribute") ∷ []
+said_of c s kind word = []
 
 -- what the note of an assignment is reported as, if it left one
-abbrev pub said_left : Change → Option Note → List Text
-said_left c None = []
-said_left c (Some note) = said_of c note.kind note.word
+abbrev pub said_left : Change → Scene → Option Note → List Text
+said_left c s None = []
+said_left c s (Some note) = said_of c s note.kind note.word
 
 -- an assignment that was made or left a note, by what was there before it and the scene after it: what changed, and
 -- what was left out, by the first note after those that there were
 abbrev pub made_text : Change → Snapshot → Scene → Text
-made_text c was s = changed_text c (changes was s ++ said_left c (slice_get s.notes was.notes))
+made_text c was s = changed_text c (changes was s ++ said_left c s (slice_get s.notes was.notes))
 
 -- an assignment, by its key if that was final, what was there before it, and the scene after it; a key that no
 -- earlier rule made final has been final since the rule itself

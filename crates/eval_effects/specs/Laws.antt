@@ -1,5 +1,8 @@
--- Laws: since which rule a key is final, and what the note that an assignment leaves says about it.
-use Rattle.std.specs.Prelude.{◌≡◌, Bool, true, false, List, length, slice_get, fold, Option, Some, None, option_map}
+-- Laws: since which rule a key is final, what the note that an assignment leaves says about it, and which text is shown.
+use Rattle.std.specs.Prelude.{◌≡◌, ◌-◌, Bool, true, false, if◌then◌else◌, List, length, take, drop, slice_get, fold, Option, Some, None, option_map}
+use Rattle.text_bytes.specs.Escapes.{unescaped}
+use Rattle.text_bytes.specs.Names.{double_quote}
+use Rattle.text_bytes.specs.Texts.{begins_with}
 use Rattle.text_bytes.specs.declared.profile.Profile.{Profile}
 use Rattle.text_bytes.specs.declared.profile.Profile.TheVariants.{Manual, Udev}
 use Rattle.text_tables.specs.Texts.{Text}
@@ -64,3 +67,7 @@ ReportsIgnored =
     (r : Rule) (o : AssignOperator) (about : Target) (template : Template) (s : Scene) (t : Text) → is_settled (final_target about) s.finals ≡ false → is_skipped s.state.event.profile about s ≡ false
     → rendered_of s.state.event.profile r o about template s ≡ rendered.Text t → is_ignored s.state.event.profile about s ≡ true
     → note_of r o about template s ≡ Some NameIgnored
+
+-- the text that is shown so, if it is not cut: what begins with a quote is between two
+abbrev pub read_back : Text → Text
+read_back text = if begins_with double_quote text then unescaped (take (length text - 2) (drop 1 text)) else unescaped text

@@ -1,14 +1,14 @@
-//! Items that are there only now, and names that are no longer there.
+//! Names that are no longer there, and items that are there only now.
 ghost use Rattle.std.specs.Prelude.{◌≡◌, ◌++◌, IfOk, OnOk, flat_map, is_some, option_map};
 ghost use Rattle.text_tables.specs.Pairs.{value_of};
 ghost use Rattle.eval_effects.specs.Items.{is_present, is_value};
 ghost use Rattle.eval_effects.specs.Inner.{table_of};
-ghost use Rattle.eval_effects.specs.Changes.{item_changes, removed_item, removed_text, set_item, set_text, value_part};
+ghost use Rattle.eval_effects.specs.Changes.{item_changes, name_text, removed_item, removed_text, set_item, set_text, value_part};
 
 use crate::items::Item;
 use crate::shown::push_shown;
 use std::alloc::{AllocError, Global};
-use text_bytes::Bytes;
+use text_bytes::{Bytes, split_once};
 use text_tables::Pairs;
 
 /// A table of items, in which a name has the value that it has among them: of two items with the same name the
@@ -59,12 +59,24 @@ fn push_value(alloc: Global, text: &mut Vec<u8>, value: &[u8]) -> Result<(), All
     text.extend_from_slice(b" set")
 }
 
+/// Appends the name of an item: its word, and what it is about.
+fn push_name(alloc: Global, text: &mut Vec<u8>, name: &[u8]) -> Result<(), AllocError>
+    ensures { OnOk result (text.new.items ≡ text.old.items ++ name_text name.now) }
+{
+    let Some((word, about)) = split_once(b' ', name) else {
+        return text.extend_from_slice(name);
+    };
+    text.extend_from_slice(word)?;
+    text.push(b' ')?;
+    push_shown(alloc, text, about)
+}
+
 /// The text of an item that is set.
 fn set_text(alloc: Global, item: &Item) -> Result<Bytes, AllocError>
     ensures { IfOk result (λ text. text ≡ set_text item.now) }
 {
     let mut text = Vec::new(alloc);
-    push_shown(alloc, &mut text, item.name())?;
+    push_name(alloc, &mut text, item.name())?;
     push_value(alloc, &mut text, item.value())?;
     Ok(Bytes::new(text))
 }
@@ -74,7 +86,7 @@ fn removed_text(alloc: Global, name: &[u8]) -> Result<Bytes, AllocError>
     ensures { IfOk result (λ text. text ≡ removed_text name.now) }
 {
     let mut text = Vec::new(alloc);
-    push_shown(alloc, &mut text, name)?;
+    push_name(alloc, &mut text, name)?;
     text.extend_from_slice(b" removed")?;
     Ok(Bytes::new(text))
 }
@@ -139,7 +151,7 @@ fn push_all_removed(
     Ok(())
 }
 
-/// Adds the texts of what changed in items.
+/// Adds the texts of what changed in items, first those of what is no longer there.
 pub(crate) fn push_item_changes(
     alloc: Global,
     reported: &mut Vec<Bytes>,
@@ -148,9 +160,9 @@ pub(crate) fn push_item_changes(
 ) -> Result<(), AllocError>
     ensures { OnOk result (reported.new.items ≡ reported.old.items ++ item_changes was.now now.now) }
 {
-    let was_table = table_of(alloc, was)?;
-    push_all_set(alloc, reported, &was_table, now)?;
     let now_table = table_of(alloc, now)?;
     push_all_removed(alloc, reported, was, &now_table)?;
+    let was_table = table_of(alloc, was)?;
+    push_all_set(alloc, reported, &was_table, now)?;
     Ok(())
 }

@@ -4,7 +4,7 @@ ghost use Rattle.eval_state.specs.Scenes.{blank};
 ghost use Rattle.eval_assignments.specs.Steps.{set_step};
 ghost use Rattle.eval_effects.specs.Changes.{changes};
 ghost use Rattle.eval_effects.specs.Named.{change_key};
-ghost use Rattle.eval_effects.specs.Effects.{changed_text, effect, effects, ending, ending_of, final_text, made_text, said_left, said_of, settled_key};
+ghost use Rattle.eval_effects.specs.Effects.{changed_text, effect, effects, ending, ending_of, final_text, made_text, no_name, said_left, said_of, settled_key};
 ghost use Rattle.eval_effects.specs.Shown.{shown};
 
 use crate::changes::push_item_changes;
@@ -91,6 +91,26 @@ fn link_report(alloc: Global, link: &[u8]) -> Result<Bytes, AllocError>
     Ok(Bytes::new(text))
 }
 
+/// Why a device has no name to assign, by its subsystem: it is no network device, or one without the number of an
+/// interface.
+fn no_name(subsystem: Option<&[u8]>) -> &'static [u8]
+    ensures { result.now ≡ no_name (option_map (λ t. t.now) subsystem.entry) }
+{
+    match subsystem {
+        Some(subsystem) if subsystem == b"net".as_slice() => b"no interface (IFINDEX)",
+        _ => b"no network device",
+    }
+}
+
+/// The text of a NAME that was ignored.
+fn name_report(alloc: Global, scene: &Scene<'_>) -> Result<Bytes, AllocError>
+    ensures { IfOk result (λ text. text ≡ codes "NAME ignored, " ++ no_name scene.now.state.event.device.subsystem) }
+{
+    let mut text = Vec::from_slice(alloc, b"NAME ignored, ")?;
+    text.extend_from_slice(no_name(scene.state.event.device().subsystem()))?;
+    Ok(Bytes::new(text))
+}
+
 /// Adds a text of the key of an assignment and what is said about it.
 fn push_with_key(
     alloc: Global,
@@ -104,20 +124,21 @@ fn push_with_key(
     Ok(())
 }
 
-/// Adds the text of a note of an assignment.
+/// Adds the text of a note of an assignment over a scene.
 fn push_said(
     alloc: Global,
     reported: &mut Vec<Bytes>,
     change: &Change,
+    scene: &Scene<'_>,
     kind: NoteKind,
     word: &[u8],
 ) -> Result<(), AllocError>
-    ensures { OnOk result (reported.new.items ≡ reported.old.items ++ said_of change.now kind word.now) }
+    ensures { OnOk result (reported.new.items ≡ reported.old.items ++ said_of change.now scene.now kind word.now) }
 {
     match kind {
         NoteKind::TextTooLong => push_with_key(alloc, reported, change, b" left out, too long"),
         NoteKind::NameIgnored => {
-            reported.push(Bytes::copy_of(alloc, b"NAME ignored, no network device")?)?;
+            reported.push(name_report(alloc, scene)?)?;
             Ok(())
         }
         NoteKind::NoDeviceNumber => {
@@ -142,12 +163,20 @@ fn push_left(
     alloc: Global,
     reported: &mut Vec<Bytes>,
     change: &Change,
+    scene: &Scene<'_>,
     note: Option<&Note>,
 ) -> Result<(), AllocError>
-    ensures { OnOk result (reported.new.items ≡ reported.old.items ++ said_left change.now (option_map (λ n. n.now) note.entry)) }
+    ensures { OnOk result (reported.new.items ≡ reported.old.items ++ said_left change.now scene.now (option_map (λ n. n.now) note.entry)) }
 {
     match note {
-        Some(note) => push_said(alloc, reported, change, note.kind, note.word.as_slice()),
+        Some(note) => push_said(
+            alloc,
+            reported,
+            change,
+            scene,
+            note.kind,
+            note.word.as_slice(),
+        ),
         None => Ok(()),
     }
 }
@@ -162,7 +191,8 @@ fn made_text(
     ensures { IfOk result (λ text. text ≡ made_text change.now was.now scene.now) }
 {
     let mut reported = changes(alloc, was, scene)?;
-    push_left(alloc, &mut reported, change, note_after(was.notes(), scene))?;
+    let left = note_after(was.notes(), scene);
+    push_left(alloc, &mut reported, change, scene, left)?;
     changed_text(alloc, change, &reported)
 }
 

@@ -18,7 +18,7 @@ mod snapshot;
 
 pub use effects::end_and_report;
 pub use items::{Item, item_name, items_of, label_item};
-pub use laws::{final_since_the_first_rule, notes_say_what_is_left_out};
+pub use laws::{final_since_the_first_rule, notes_say_what_is_left_out, shown_texts_are_read_back};
 pub use named::{push_key, push_rule};
 pub use shown::{push_joined, push_shortened, push_shown};
 pub use since::Since;

@@ -1,8 +1,7 @@
-//! RUNs that are there only now, and those that are no longer there.
+//! RUNs that are no longer there, and those that are there only now.
 //!
 //! Most assignments leave what was there, so the RUNs that both lists begin with are passed over without a search.
-ghost use Rattle.std.specs.Prelude.{◌≡◌, ◌≤◌, ◌++◌, IfOk, OnOk, drop, flat_map, length};
-ghost use Rattle.std.specs.List.{list_any};
+ghost use Rattle.std.specs.Prelude.{◌≡◌, ◌≤◌, ◌++◌, ◌∷◌, [], IfOk, OnOk, codes, drop, flat_map, length};
 ghost use Rattle.eval_effects.specs.Inner.{same_front};
 ghost use Rattle.eval_effects.specs.Changes.{added_run, is_kept, removed_run, removed_runs, run_changes, run_text};
 
@@ -35,13 +34,6 @@ fn after_front<'r, 'a>(front: &[Run<'_>], runs: &'r [Run<'a>]) -> &'r [Run<'a>]
     ensures { result.now ≡ drop (same_front front.now runs.now) runs.now }
 {
     runs.split_at(same_front(front, runs)).1
-}
-
-/// Whether one of these RUNs is one of those.
-fn any_kept(was: &[Run<'_>], now: &[Run<'_>]) -> bool
-    ensures { result ≡ list_any (is_kept now.now) was.now }
-{
-    was.iter().any(|run| is_kept(now, run))
 }
 
 /// The text of a RUN, by its type and its written text, and what became of it.
@@ -117,7 +109,15 @@ fn push_each_removed(
     Ok(())
 }
 
-/// Adds the texts of the RUNs that are no longer there: one by one, unless none of them stayed.
+/// Adds that none of the RUNs is left.
+pub(crate) fn push_none_left(alloc: Global, reported: &mut Vec<Bytes>) -> Result<(), AllocError>
+    ensures { OnOk result (reported.new.items ≡ reported.old.items ++ codes "all runs removed" ∷ []) }
+{
+    reported.push(Bytes::copy_of(alloc, b"all runs removed")?)?;
+    Ok(())
+}
+
+/// Adds the texts of the RUNs that are no longer there: one by one, unless none is there now.
 #[tactic(auto, using(crate::proofs::Fronts::removed_after))]
 fn push_all_removed(
     alloc: Global,
@@ -127,14 +127,16 @@ fn push_all_removed(
 ) -> Result<(), AllocError>
     ensures { OnOk result (reported.new.items ≡ reported.old.items ++ removed_runs was.now now.now) }
 {
-    if was.is_empty() || any_kept(was, now) {
+    if !now.is_empty() {
         return push_each_removed(alloc, reported, after_front(now, was), now);
     }
-    reported.push(Bytes::copy_of(alloc, b"all runs removed")?)?;
-    Ok(())
+    if was.is_empty() {
+        return Ok(());
+    }
+    push_none_left(alloc, reported)
 }
 
-/// Adds the texts of what changed in RUNs.
+/// Adds the texts of what changed in RUNs, first those that are no longer there.
 pub(crate) fn push_run_changes(
     alloc: Global,
     reported: &mut Vec<Bytes>,
@@ -143,6 +145,6 @@ pub(crate) fn push_run_changes(
 ) -> Result<(), AllocError>
     ensures { OnOk result (reported.new.items ≡ reported.old.items ++ run_changes was.now now.now) }
 {
-    push_all_added(alloc, reported, was, after_front(was, now))?;
-    push_all_removed(alloc, reported, was, now)
+    push_all_removed(alloc, reported, was, now)?;
+    push_all_added(alloc, reported, was, after_front(was, now))
 }

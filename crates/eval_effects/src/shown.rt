@@ -1,47 +1,86 @@
 //! Texts as the lines of `--why` show them, and several of them in one line.
-ghost use Rattle.std.specs.Prelude.{◌≡◌, ◌++◌, ◌≤◌, length, OnOk};
-ghost use Rattle.eval_effects.specs.Shown.{after_commas, cut, joined, shortened, shown};
+ghost use Rattle.std.specs.Prelude.{◌≡◌, ◌++◌, ◌≤◌, length, take, OnOk};
+ghost use Rattle.text_bytes.specs.Escapes.{escape_text};
+ghost use Rattle.eval_effects.specs.Shown.{after_commas, is_quoted, joined, marked, shortened, shown, size_note};
 
 use itoa::Buffer;
 use std::alloc::{AllocError, Global};
-use text_bytes::{Bytes, escape};
+use text_bytes::{Bytes, begins_with, ends_in, escape};
 
 /// The most bytes of a text that are shown.
 const MAX_SHOWN: usize = 200;
 
-/// Appends the start of a long text, with the number of bytes of the whole.
-#[tactic(auto, unfolding(crate::specs::Shown::cut))]
-fn push_cut(alloc: Global, text: &mut Vec<u8>, about: &[u8]) -> Result<(), AllocError>
+/// The start of a long text that is shown.
+fn start_of(about: &[u8]) -> &[u8]
     requires { MAX_SHOWN ≤ length about.now }
-    ensures { OnOk result (text.new.items ≡ text.old.items ++ cut about.now) }
+    ensures { result.now ≡ take MAX_SHOWN about.now }
 {
-    let (prefix, _) = about.split_at(MAX_SHOWN);
-    text.extend_from_slice(&escape(alloc, prefix)?)?;
+    about.split_at(MAX_SHOWN).0
+}
+
+/// Appends how many bytes a text has of which the start was shown.
+#[tactic(auto, unfolding(crate::specs::Shown::size_note))]
+fn push_size(text: &mut Vec<u8>, about: &[u8]) -> Result<(), AllocError>
+    ensures { OnOk result (text.new.items ≡ text.old.items ++ size_note (length about.now)) }
+{
     text.extend_from_slice(b".. (")?;
     text.extend_from_slice(Buffer::new().format(about.len()).as_bytes())?;
     text.extend_from_slice(b" bytes)")
 }
 
-/// Appends a text as it is between quotes: escaped, and if it has over 200 bytes the first 200, and then `.. (N
-/// bytes)`.
+/// Appends an escaped text.
+fn push_escaped(alloc: Global, text: &mut Vec<u8>, about: &[u8]) -> Result<(), AllocError>
+    ensures { OnOk result (text.new.items ≡ text.old.items ++ escape_text about.now) }
+{
+    text.extend_from_slice(&escape(alloc, about)?)
+}
+
+/// Appends a text of a rule as it is between the quotes of its key: escaped, and if it has over 200 bytes the first
+/// 200, and then `.. (N bytes)`.
 pub fn push_shortened(alloc: Global, text: &mut Vec<u8>, about: &[u8]) -> Result<(), AllocError>
     ensures { OnOk result (text.new.items ≡ text.old.items ++ shortened about.now) }
 {
     if about.len() > MAX_SHOWN {
-        push_cut(alloc, text, about)
+        push_escaped(alloc, text, start_of(about))?;
+        push_size(text, about)
     } else {
-        text.extend_from_slice(&escape(alloc, about)?)
+        push_escaped(alloc, text, about)
     }
 }
 
-/// Appends a text as it is shown: as `push_shortened` does, but an empty one as two quotes.
+/// Whether a text is shown between quotes: if it is empty, begins or ends with a space, or begins with a quote.
+fn is_quoted(text: &[u8]) -> bool
+    ensures { result ≡ is_quoted text.now }
+{
+    text.is_empty() || begins_with(b' ', text) || ends_in(b' ', text) || begins_with(b'"', text)
+}
+
+/// Appends a text that is shown whole: escaped, and between quotes if it has to be.
+#[tactic(auto, unfolding(crate::specs::Shown::marked))]
+fn push_marked(alloc: Global, text: &mut Vec<u8>, about: &[u8]) -> Result<(), AllocError>
+    ensures { OnOk result (text.new.items ≡ text.old.items ++ marked about.now) }
+{
+    if !is_quoted(about) {
+        return push_escaped(alloc, text, about);
+    }
+    text.push(b'"')?;
+    push_escaped(alloc, text, about)?;
+    text.push(b'"')?;
+    Ok(())
+}
+
+/// Appends a text as it is shown: escaped, and if it has over 200 bytes the first 200, and then `.. (N bytes)`. What
+/// is empty, begins or ends with a space, or begins with a quote is between quotes; so of a text that is shown with a
+/// quote at its start, that one and the last byte are left out to read it back.
+#[tactic(auto, unfolding(crate::specs::Shown::shown))]
 pub fn push_shown(alloc: Global, text: &mut Vec<u8>, about: &[u8]) -> Result<(), AllocError>
     ensures { OnOk result (text.new.items ≡ text.old.items ++ shown about.now) }
 {
-    if about.is_empty() {
-        text.extend_from_slice(b"\"\"")
+    if about.len() > MAX_SHOWN {
+        push_marked(alloc, text, start_of(about))?;
+        push_size(text, about)
     } else {
-        push_shortened(alloc, text, about)
+        push_marked(alloc, text, about)
     }
 }
 

@@ -226,4 +226,29 @@ W13 = [
     linted("no W13 after a jump that is dropped", ('GOTO="none"', "V7 no later label: none"), 'TAG+="t"'),
 ]
 
-ROWS = [*W1, *W2, *W3, *W4, *W5, *W6, *W7, *W8, *W9, *W10, *W11, *W12, *W13]
+
+def by_udev(name, *lines):
+    """A run as udev reads rules."""
+    return linted(name, *lines, words="verify --udev --lint")
+
+
+# With `--udev` lints say what udev itself does with a rule, as docs/udev has it: `?*` is no pattern after some keys, blanks before a mode
+# are passed over, and `/dev/` before a link is left out.
+W14 = [
+    by_udev("W14", *reported(14, *((f'{match}, ENV{{A}}="1"', match.partition("=")[0].rstrip("!").partition("{")[0]) for match in ['TAG=="?*"',
+        'TAG!="?*"', 'SYMLINK=="?*"', 'SYMLINK!="?*"', 'TAGS=="?*"', 'TAG==i"?*"', 'TAG==e"\\x3f*"', 'TEST=="?*"', 'TEST!="?*"',
+        'TEST{0444}=="?*"', 'IMPORT{parent}=="?*"', 'IMPORT{parent}!="?*"', 'IMPORT{parent}="?*"']))),
+    by_udev("W14 among other lints", ('TAG=="?*", KERNEL=="*", MODE="x$kernel", RUN+="rm a"', lint(3, "rm a"), lint(12, "KERNEL"), lint(14, "TAG"))),
+    by_udev("no W14", *(f'{match}, ENV{{A}}="1"' for match in ['TAG=="*"', 'TAG=="?"', 'TAG=="??*"', 'TAG=="?*|a"', 'SYMLINK=="a?*"', 'TAGS=="*"',
+        'TEST=="a/?*"', 'KERNEL=="?*"', 'KERNELS=="?*"', 'ENV{B}=="?*"', 'ATTR{b}=="?*"', 'IMPORT{parent}=="*"', 'IMPORT{parent}=="A?*"'])),
+    linted("no W14 by the manual", 'TAG=="?*", ENV{A}="1"', 'SYMLINK=="?*", ENV{A}="1"', 'TAGS=="?*", ENV{A}="1"', 'TEST=="?*", ENV{A}="1"',
+        'IMPORT{parent}=="?*", ENV{A}="1"'),
+    linted("W14 left out", 'TAG=="?*", ENV{A}="1"', words="verify --udev --lint --ignore W14"),
+]
+UDEV = [
+    by_udev("no W9 as udev", *(f'SYMLINK+="{links}"' for links in ["/dev/a", "a /dev/b", "/dev/$kernel"])),
+    by_udev("no W1 of a mode after blanks as udev", 'MODE=" 0640"', 'MODE="  7777"', 'MODE=e"\\t640"'),
+    by_udev("other lints as udev", *reported(12, ('KERNEL=="*", TAG+="t"', "KERNEL"))),
+]
+
+ROWS = [*W14, *UDEV, *W1, *W2, *W3, *W4, *W5, *W6, *W7, *W8, *W9, *W10, *W11, *W12, *W13]

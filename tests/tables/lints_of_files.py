@@ -70,7 +70,7 @@ WHOLE = [
 ]
 
 # Codes that are left out of the file with many.
-CODES = ["W1", "W4", "W12", "W6,W7,W13", "W1,W2,W3,W4,W5,W6,W7,W8,W9,W10,W11,W12", ",".join(f"W{number}" for number in range(1, 14)), "V1,S2,H1"]
+CODES = ["W1", "W4", "W12", "W6,W7,W13", "W1,W2,W3,W4,W5,W6,W7,W8,W9,W10,W11,W12", ",".join(f"W{number}" for number in range(1, 15)), "V1,S2,H1"]
 
 IGNORED = [
     *(linted(f"without {codes}", *without(FILE, *codes.split(",")), words=f"verify --lint --ignore {codes}") for codes in CODES),
@@ -83,7 +83,7 @@ IGNORED = [
         words="verify --ignore comments"),
     linted("a comment that ignores nothing", ("# devdry: ignore W2", "I1 nothing to ignore: W2"), TWO, words="verify --lint --ignore comments"),
     linted("a comment that ignores nothing, without --lint", ("# devdry: ignore W2", "I1 nothing to ignore: W2"), TWO[0], words="verify --ignore comments"),
-    linted("an unknown code", ("# devdry: ignore W14", "I2 unknown code: W14"), TWO, words="verify --lint --ignore comments"),
+    linted("an unknown code", ("# devdry: ignore W15", "I2 unknown code: W15"), TWO, words="verify --lint --ignore comments"),
 ]
 
 # For each lint files that cause it, with its places.

@@ -5,7 +5,7 @@
 /// Mode is not an octal number.
 pub(crate) const W1: &str = r#"W1 mode is no octal number
 
-Write the mode in octal digits, such as 0660. udev ignores any other mode when the rule is run. A value with `$` or `%` is not checked, since its text is not known before that.
+Write the mode in octal digits, such as 0660. udev ignores any other mode when the rule is run. A value with `$` or `%` is not checked, since its text is not known before that. With `--udev` blanks before the digits are passed over, as udev does.
 
     $ cat w1.rules
     KERNEL=="sda", MODE="0888"
@@ -147,7 +147,7 @@ Only network devices can be renamed: give other devices a SYMLINK. The NAME of a
 /// Link begins with /dev/.
 pub(crate) const W9: &str = r#"W9 link begins with /dev/
 
-Remove `/dev/`: a link is made there without it.
+Remove `/dev/`: a link is made there without it. With `--udev` this is not reported, as udev itself leaves `/dev/` out.
 
     $ cat w9.rules
     KERNEL=="sda", SYMLINK+="/dev/disk"
@@ -231,5 +231,24 @@ Remove this rule, or give the rule above it a match. That rule has none, so it j
     KERNEL=="sd*", TAG+="disk"
     LABEL="disks_end"
     $ devdry verify --lint w13-fixed.rules
+    1 files checked, 1 good, 0 bad
+"#;
+
+/// No pattern for udev.
+pub(crate) const W14: &str = r#"W14 no pattern for udev
+
+Write `*` for any tag, link or property, and the name of a file after TEST. With `--udev` the value `?*` means "not empty", as it does for udev itself. For TAG, TAGS and SYMLINK that asks that no tag or link is empty: `==` always holds, even without any, and `!=` never does. For TEST and IMPORT{parent} it reverses the operator: with `==` the rule goes on if there is no such file or property. The word is the key.
+
+    $ cat w14.rules
+    TAG=="?*", ENV{TAGGED}="1"
+    TEST=="?*", ENV{TESTED}="1"
+    $ devdry verify --udev --lint w14.rules
+    w14.rules:1: W14 no pattern for udev: TAG
+    w14.rules:2: W14 no pattern for udev: TEST
+    1 files checked, 0 good, 1 bad
+    $ cat w14-fixed.rules
+    TAG=="*", ENV{TAGGED}="1"
+    TEST=="uevent", ENV{TESTED}="1"
+    $ devdry verify --udev --lint w14-fixed.rules
     1 files checked, 1 good, 0 bad
 "#;

@@ -77,6 +77,7 @@ fn section_on_lint(lint: Lint) -> &'static str
         Lint::NotAPattern => lints::W11,
         Lint::AlwaysHolds => lints::W12,
         Lint::NeverReached => lints::W13,
+        Lint::NoPatternForUdev => lints::W14,
     }
 }
 

@@ -41,12 +41,12 @@ module _ (by : Profile) (f : SourceFile) (bytes : List ℕ) (joined : Joined) (b
       ∙ ap (findings_unless by bytes) (sym o)
       ∙ ap (λ (x : List ℕ). findings_unless by x (abandoned by x)) b
 
-  lints_once : lints_of (kept_lines bytes) (in_file.rules_from 0 (landed (map (reading_of by) joined.lines))) ≡ placed_lints by f
+  lints_once : lints_of by (kept_lines bytes) (in_file.rules_from 0 (landed (map (reading_of by) joined.lines))) ≡ placed_lints by f
   unfolding placed_lints
   lints_once =
-      ap (λ (x : Joined). lints_of (kept_lines bytes) (in_file.rules_from 0 (landed (map (reading_of by) x.lines)))) lines_joined
-      ∙ ap (λ (x : Option ℕ). lints_of (kept_lines bytes) (in_file.rules_unless by bytes x)) (sym o)
-      ∙ ap (λ (x : List ℕ). lints_of (kept_lines x) (in_file.file_rules by x)) b
+      ap (λ (x : Joined). lints_of by (kept_lines bytes) (in_file.rules_from 0 (landed (map (reading_of by) x.lines)))) lines_joined
+      ∙ ap (λ (x : Option ℕ). lints_of by (kept_lines bytes) (in_file.rules_unless by bytes x)) (sym o)
+      ∙ ap (λ (x : List ℕ). lints_of by (kept_lines x) (in_file.file_rules by x)) b
 
   pub tokens_once : tokens_in (file_rules by f) ≡ token_count (landed (map (reading_of by) joined.lines))
   tokens_once =
@@ -88,7 +88,7 @@ abandoned_once Udev accounts f bytes number b o =
 
 no_lints : (by : Profile) (f : SourceFile) (bytes : List ℕ) (number : ℕ) → bytes ≡ f.bytes → abandoned by bytes ≡ Some number → placed_lints by f ≡ []
 unfolding placed_lints
-no_lints by f bytes number b o = ap (λ (x : Option ℕ). lints_of (kept_lines f.bytes) (in_file.rules_unless by f.bytes x)) (ap (abandoned by) (sym b) ∙ o)
+no_lints by f bytes number b o = ap (λ (x : Option ℕ). lints_of by (kept_lines f.bytes) (in_file.rules_unless by f.bytes x)) (ap (abandoned by) (sym b) ∙ o)
 
 none_counted : (b : Bool) (lints : List (PlacedFinding Lint)) → lints ≡ [] → cond b lints [] ≡ []
 none_counted true lints e = e

@@ -29,7 +29,7 @@ read_findings profile accounts kept lines open_at = by_line (λ p. p.begins) (pl
 
 -- the lints, if they are asked for or comments count
 abbrev pub read_lints : Asked → List KeptLine → List (Reading × Landing) → List (PlacedFinding Lint)
-read_lints asked kept lines = if asked.lint || has_comments asked.ignored then lints_of_lines kept lines else []
+read_lints asked kept lines = if asked.lint || has_comments asked.ignored then lints_of_lines asked.profile kept lines else []
 
 -- all that is found in lines, of which one may be open at the end
 abbrev pub read_found : Asked → FileText → List KeptLine → List (Reading × Landing) → Option ℕ → List DiagnosticValue

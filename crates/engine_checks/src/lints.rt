@@ -25,7 +25,7 @@ pub(crate) fn lints_counted(
     ensures { IfOk result (λ lints. lints.items ≡ read_lints asked.now kept.now lines.now) }
 {
     if asked.lint || has_comments(&asked.ignored) {
-        lints_of_lines(alloc, kept, lines)
+        lints_of_lines(alloc, asked.profile, kept, lines)
     } else {
         Ok(Vec::new(alloc))
     }

@@ -6,7 +6,7 @@ use Rattle.text_bytes.specs.Texts.{split_once}
 use Rattle.file_messages.specs.declared.message.MessageKind.{MessageKind}
 use Rattle.file_messages.specs.declared.message.MessageKind.TheVariants.{PropertyWithoutMatch, MatchWithoutProperty, UnindentedLine, NoEquals, EmptyKey, PatternNotSupported, BadSyntax, UnknownKey, OperatorNotAllowed, WrongAttribute, BadValue, BadSubstitution, NoLaterLabel, GivenTwice, LineTooLong, BadPrefix, SetNotSupported, OpenAtEnd, ReservedProperty, NameWithoutEffect, UnknownBuiltin, MatchesExclude, SaidTwice, RuleWithoutEffect, ResultBeforeProgram, EmptyValue, BadAttributeSubstitution, AttributeElsewhere, OldSubsystemName, AssignExpected, UnknownAccount, FileAbandoned, CommaExpected, BlankExpected, ReadAsAssign, LabelUnused, LeadingComma, BlankBeforeComma}
 use Rattle.rule_lints.specs.declared.lint.Lint.{Lint}
-use Rattle.rule_lints.specs.declared.lint.Lint.TheVariants.{ModeNotOctal, SignOfShell, RelativeProgram, LetterCase, NoSuchDevice, ImportedBelow, MeantToCompare, NameOutsideNet, LinkWithDev, QuotedName, NotAPattern, AlwaysHolds, NeverReached}
+use Rattle.rule_lints.specs.declared.lint.Lint.TheVariants.{ModeNotOctal, SignOfShell, RelativeProgram, LetterCase, NoSuchDevice, ImportedBelow, MeantToCompare, NameOutsideNet, LinkWithDev, QuotedName, NotAPattern, AlwaysHolds, NeverReached, NoPatternForUdev}
 use Rattle.engine_reports.specs.Checks.{is_style}
 use Rattle.engine_formats.specs.Advice.{advice_of}
 use Rattle.engine_formats.specs.Remarks.{code_of, heading_parts, remark_heading, severity_of, text_of}
@@ -70,6 +70,7 @@ in_two_parts (about.Lint QuotedName) = (refl, refl)
 in_two_parts (about.Lint NotAPattern) = (refl, refl)
 in_two_parts (about.Lint AlwaysHolds) = (refl, refl)
 in_two_parts (about.Lint NeverReached) = (refl, refl)
+in_two_parts (about.Lint NoPatternForUdev) = (refl, refl)
 in_two_parts IdleIgnore = (refl, refl)
 in_two_parts UnknownCode = (refl, refl)
 
@@ -129,6 +130,7 @@ lint_warns QuotedName = refl
 lint_warns NotAPattern = refl
 lint_warns AlwaysHolds = refl
 lint_warns NeverReached = refl
+lint_warns NoPatternForUdev = refl
 
 -- the words on each remark stay on their line
 in_one_line : (remark : Remark) → Lacks newline (code_of remark) × Lacks newline (text_of remark) × Lacks newline (advice_of remark)
@@ -184,6 +186,7 @@ in_one_line (about.Lint QuotedName) = (refl, refl, refl)
 in_one_line (about.Lint NotAPattern) = (refl, refl, refl)
 in_one_line (about.Lint AlwaysHolds) = (refl, refl, refl)
 in_one_line (about.Lint NeverReached) = (refl, refl, refl)
+in_one_line (about.Lint NoPatternForUdev) = (refl, refl, refl)
 in_one_line IdleIgnore = (refl, refl, refl)
 in_one_line UnknownCode = (refl, refl, refl)
 
@@ -254,5 +257,6 @@ code_has_no_colon (about.Lint QuotedName) = refl
 code_has_no_colon (about.Lint NotAPattern) = refl
 code_has_no_colon (about.Lint AlwaysHolds) = refl
 code_has_no_colon (about.Lint NeverReached) = refl
+code_has_no_colon (about.Lint NoPatternForUdev) = refl
 code_has_no_colon IdleIgnore = refl
 code_has_no_colon UnknownCode = refl

@@ -11,7 +11,7 @@ use Rattle.file_messages.specs.declared.message.MessageKind.TheVariants.{AssignE
 use Rattle.file_messages.specs.declared.message.MessageKind.TheVariants.{BlankExpected, ReadAsAssign, LabelUnused, LeadingComma, BlankBeforeComma}
 use Rattle.rule_lints.specs.declared.lint.Lint.{Lint}
 use Rattle.rule_lints.specs.declared.lint.Lint.TheVariants.{ModeNotOctal, SignOfShell, RelativeProgram, LetterCase, NoSuchDevice, ImportedBelow, MeantToCompare}
-use Rattle.rule_lints.specs.declared.lint.Lint.TheVariants.{NameOutsideNet, LinkWithDev, QuotedName, NotAPattern, AlwaysHolds, NeverReached}
+use Rattle.rule_lints.specs.declared.lint.Lint.TheVariants.{NameOutsideNet, LinkWithDev, QuotedName, NotAPattern, AlwaysHolds, NeverReached, NoPatternForUdev}
 use Rattle.engine_formats.specs.declared.remark.Remark.{Remark}
 use Rattle.engine_formats.specs.declared.remark.Remark.TheVariants as about
 use Rattle.engine_formats.specs.declared.remark.Remark.TheVariants.{Message, IdleIgnore, UnknownCode}
@@ -72,6 +72,7 @@ advice_on_lint QuotedName = codes "Write the name in braces without quotes."
 advice_on_lint NotAPattern = codes "A pattern has *, ?, [..] and |, and is compared with the whole value."
 advice_on_lint AlwaysHolds = codes "Remove the match, or write ?* for any value but the empty one."
 advice_on_lint NeverReached = codes "Remove this rule, or give the rule above it a match."
+advice_on_lint NoPatternForUdev = codes "Write * for any tag, link or property, and the name of a file after TEST."
 
 -- the sentence on a remark
 abbrev pub advice_of : Remark → List ℕ

@@ -13,7 +13,7 @@ use Rattle.std.specs.Cmp.Lexicographic.{pointwise}
 use Rattle.engine_formats.specs.Remarks.{code_of}
 use Rattle.rule_lints.specs.declared.lint.Lint.{Lint}
 use Rattle.rule_lints.specs.declared.lint.Lint.TheVariants.{ModeNotOctal, SignOfShell, RelativeProgram, LetterCase, NoSuchDevice, ImportedBelow, MeantToCompare}
-use Rattle.rule_lints.specs.declared.lint.Lint.TheVariants.{NameOutsideNet, LinkWithDev, QuotedName, NotAPattern, AlwaysHolds, NeverReached}
+use Rattle.rule_lints.specs.declared.lint.Lint.TheVariants.{NameOutsideNet, LinkWithDev, QuotedName, NotAPattern, AlwaysHolds, NeverReached, NoPatternForUdev}
 use Rattle.engine_formats.specs.declared.remark.Remark.{Remark}
 use Rattle.engine_formats.specs.declared.remark.Remark.TheVariants as about
 use Rattle.engine_formats.specs.declared.remark.Remark.TheVariants.{Message, IdleIgnore, UnknownCode}
@@ -30,7 +30,7 @@ kinds = BadSyntax ∷ UnknownKey ∷ OperatorNotAllowed ∷ WrongAttribute ∷ B
 -- each lint
 abbrev pub lints : List Lint
 lints = ModeNotOctal ∷ SignOfShell ∷ RelativeProgram ∷ LetterCase ∷ NoSuchDevice ∷ ImportedBelow ∷ MeantToCompare
-    ∷ NameOutsideNet ∷ LinkWithDev ∷ QuotedName ∷ NotAPattern ∷ AlwaysHolds ∷ NeverReached ∷ []
+    ∷ NameOutsideNet ∷ LinkWithDev ∷ QuotedName ∷ NotAPattern ∷ AlwaysHolds ∷ NeverReached ∷ NoPatternForUdev ∷ []
 
 -- each remark
 abbrev pub remarks : List Remark

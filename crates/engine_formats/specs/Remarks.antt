@@ -5,7 +5,7 @@ use Rattle.text_bytes.specs.Names.{space}
 use Rattle.text_bytes.specs.Texts.{begins_with, split_once}
 use Rattle.rule_lints.specs.declared.lint.Lint.{Lint}
 use Rattle.rule_lints.specs.declared.lint.Lint.TheVariants.{ModeNotOctal, SignOfShell, RelativeProgram, LetterCase, NoSuchDevice, ImportedBelow, MeantToCompare}
-use Rattle.rule_lints.specs.declared.lint.Lint.TheVariants.{NameOutsideNet, LinkWithDev, QuotedName, NotAPattern, AlwaysHolds, NeverReached}
+use Rattle.rule_lints.specs.declared.lint.Lint.TheVariants.{NameOutsideNet, LinkWithDev, QuotedName, NotAPattern, AlwaysHolds, NeverReached, NoPatternForUdev}
 use Rattle.engine_reports.specs.Messages.{heading_of}
 use Rattle.engine_formats.specs.declared.remark.Remark.{Remark}
 use Rattle.engine_formats.specs.declared.remark.Remark.TheVariants as about
@@ -28,6 +28,7 @@ lint_heading QuotedName = codes "W10 name in quotes"
 lint_heading NotAPattern = codes "W11 regular expression in a pattern"
 lint_heading AlwaysHolds = codes "W12 match that always holds"
 lint_heading NeverReached = codes "W13 rule never reached"
+lint_heading NoPatternForUdev = codes "W14 no pattern for udev"
 
 -- the code of a remark, and what it says
 abbrev pub remark_heading : Remark → List ℕ

@@ -126,6 +126,9 @@ const ALWAYS_HOLDS: &[u8] = b"Remove the match, or write ?* for any value but th
 
 const NEVER_REACHED: &[u8] = b"Remove this rule, or give the rule above it a match.";
 
+const NO_PATTERN_FOR_UDEV: &[u8] =
+    b"Write * for any tag, link or property, and the name of a file after TEST.";
+
 const IDLE_IGNORE: &[u8] = b"Remove the code from the comment, which silences nothing.";
 
 const UNKNOWN_CODE: &[u8] =
@@ -208,5 +211,6 @@ fn advice_on_lint(lint: Lint) -> &'static [u8]
         Lint::NotAPattern => NOT_A_PATTERN,
         Lint::AlwaysHolds => ALWAYS_HOLDS,
         Lint::NeverReached => NEVER_REACHED,
+        Lint::NoPatternForUdev => NO_PATTERN_FOR_UDEV,
     }
 }

@@ -8,7 +8,7 @@ use file_messages::MessageKind;
 use rule_lints::Lint;
 
 /// Each remark.
-const REMARKS: [Remark; 53] = [
+const REMARKS: [Remark; 54] = [
     Remark::Message(MessageKind::BadSyntax),
     Remark::Message(MessageKind::UnknownKey),
     Remark::Message(MessageKind::OperatorNotAllowed),
@@ -60,6 +60,7 @@ const REMARKS: [Remark; 53] = [
     Remark::Lint(Lint::NotAPattern),
     Remark::Lint(Lint::AlwaysHolds),
     Remark::Lint(Lint::NeverReached),
+    Remark::Lint(Lint::NoPatternForUdev),
     Remark::IdleIgnore,
     Remark::UnknownCode,
 ];

@@ -12,7 +12,7 @@ use text_bytes::{begins_with, split_once};
 pub enum Remark {
     /// A message about a file.
     Message(MessageKind),
-    /// W1 to W13: a rule is most likely not the one that was meant.
+    /// W1 to W14: a rule is most likely not the one that was meant.
     Lint(Lint),
     /// I1: a comment ignores messages with a code, and there are none.
     IdleIgnore,
@@ -102,6 +102,7 @@ fn lint_heading(lint: Lint) -> &'static [u8]
         Lint::NotAPattern => b"W11 regular expression in a pattern",
         Lint::AlwaysHolds => b"W12 match that always holds",
         Lint::NeverReached => b"W13 rule never reached",
+        Lint::NoPatternForUdev => b"W14 no pattern for udev",
     }
 }
 

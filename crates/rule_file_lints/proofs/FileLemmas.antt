@@ -205,17 +205,17 @@ places_left_out : (kept : List KeptLine) (number start : ℕ) (spots : List (Spo
 places_left_out kept number start [] = refl
 places_left_out kept number start (s ∷ spots) = ap (λ (xs : List (Lint × Text)). (s.kind, s.word) ∷ xs) (places_left_out kept number start spots)
 
-lints_of_rules_below : (kept : List KeptLine) (all above rules : List FileRule) → map without_place (lints_below kept all above rules) ≡ lints_without_places all above rules
-lints_of_rules_below kept all above [] = refl
-lints_of_rules_below kept all above (r ∷ rules) =
-    map-append without_place (map (placed kept r.number r.start) (spots_of all above r)) (lints_below kept all (r ∷ above) rules)
-    ∙ ap (λ (xs : List (Lint × Text)). xs ++ map without_place (lints_below kept all (r ∷ above) rules)) (places_left_out kept r.number r.start (spots_of all above r))
-    ∙ ap (λ (xs : List (Lint × Text)). map (λ s. (s.kind, s.word)) (spots_of all above r) ++ xs) (lints_of_rules_below kept all (r ∷ above) rules)
+lints_of_rules_below : (by : Profile) (kept : List KeptLine) (all above rules : List FileRule) → map without_place (lints_below by kept all above rules) ≡ lints_without_places by all above rules
+lints_of_rules_below by kept all above [] = refl
+lints_of_rules_below by kept all above (r ∷ rules) =
+    map-append without_place (map (placed kept r.number r.start) (spots_of by all above r)) (lints_below by kept all (r ∷ above) rules)
+    ∙ ap (λ (xs : List (Lint × Text)). xs ++ map without_place (lints_below by kept all (r ∷ above) rules)) (places_left_out kept r.number r.start (spots_of by all above r))
+    ∙ ap (λ (xs : List (Lint × Text)). map (λ s. (s.kind, s.word)) (spots_of by all above r) ++ xs) (lints_of_rules_below by kept all (r ∷ above) rules)
 
-pub lints_of_rules : (by : Profile) (file : SourceFile) → map without_place (placed_lints by file) ≡ lints_without_places (file_rules by file.bytes) [] (file_rules by file.bytes)
+pub lints_of_rules : (by : Profile) (file : SourceFile) → map without_place (placed_lints by file) ≡ lints_without_places by (file_rules by file.bytes) [] (file_rules by file.bytes)
 unfolding placed_lints
-lints_of_rules by file = lints_of_rules_below (kept_lines file.bytes) (file_rules by file.bytes) [] (file_rules by file.bytes)
+lints_of_rules by file = lints_of_rules_below by (kept_lines file.bytes) (file_rules by file.bytes) [] (file_rules by file.bytes)
 
 pub none_abandoned : (by : Profile) (file : SourceFile) (number : ℕ) → abandoned by file.bytes ≡ Some number → placed_lints by file ≡ []
 unfolding placed_lints
-none_abandoned by file number e = ap (λ (o : Option ℕ). lints_of (kept_lines file.bytes) (rules_unless by file.bytes o)) e
+none_abandoned by file number e = ap (λ (o : Option ℕ). lints_of by (kept_lines file.bytes) (rules_unless by file.bytes o)) e

@@ -4,6 +4,7 @@ use Rattle.std.specs.List.{flat_map, list_any}
 use Rattle.std.proofs.Math.Seq.{drop-cons}
 use Rattle.std.proofs.lemmas.List.{reverse-append, take_more}
 use Rattle.std.proofs.lemmas.List.Folds.{list_any-append}
+use Rattle.text_bytes.specs.declared.profile.Profile.{Profile}
 use Rattle.text_tables.specs.Texts.{Text, is_among, same_text, with_text, with_texts}
 use Rattle.text_tables.proofs.Found.{among_added}
 use Rattle.rule_file_lints.specs.Compared.{compared_texts, meant_spots, meant_to_compare, assigned_value, text_of, Valued}
@@ -83,25 +84,25 @@ meant_same compared all same (w ∷ tokens) =
     ap (λ x. cond (list_any (λ y. is_match y.part) tokens) x [] ++ meant_to_compare compared tokens) (spot_same compared all same w (assigned_value w.part))
     ∙ ap (λ x. cond (list_any (λ y. is_match y.part) tokens) (meant_spots all w (assigned_value w.part)) [] ++ x) (meant_same compared all same tokens)
 
-pub spots_same : (imported compared given all_imported all_compared before : List Text) (jump above : Option Text) (r : FileRule)
+pub spots_same : (profile : Profile) (imported compared given all_imported all_compared before : List Text) (jump above : Option Text) (r : FileRule)
     → SameTexts imported all_imported → SameTexts compared all_compared → SameTexts given before → jump ≡ above
-    → spots_by imported compared given jump r ≡ spots_by all_imported all_compared before above r
-spots_same imported compared given all_imported all_compared before jump above r i c g j =
-    ap (λ x. lints_of_rule r.draft.parts ++ (x ++ (meant_to_compare compared r.draft.parts ++ never_reached jump r))) (tokens_same imported all_imported given before i g r.draft.parts)
-    ∙ ap (λ x. lints_of_rule r.draft.parts ++ (flat_map (imported_below all_imported before) r.draft.parts ++ (x ++ never_reached jump r))) (meant_same compared all_compared c r.draft.parts)
-    ∙ ap (λ x. lints_of_rule r.draft.parts ++ (flat_map (imported_below all_imported before) r.draft.parts ++ (meant_to_compare all_compared r.draft.parts ++ never_reached x r))) j
+    → spots_by profile imported compared given jump r ≡ spots_by profile all_imported all_compared before above r
+spots_same profile imported compared given all_imported all_compared before jump above r i c g j =
+    ap (λ x. lints_of_rule profile r.draft.parts ++ (x ++ (meant_to_compare compared r.draft.parts ++ never_reached jump r))) (tokens_same imported all_imported given before i g r.draft.parts)
+    ∙ ap (λ x. lints_of_rule profile r.draft.parts ++ (flat_map (imported_below all_imported before) r.draft.parts ++ (x ++ never_reached jump r))) (meant_same compared all_compared c r.draft.parts)
+    ∙ ap (λ x. lints_of_rule profile r.draft.parts ++ (flat_map (imported_below all_imported before) r.draft.parts ++ (meant_to_compare all_compared r.draft.parts ++ never_reached x r))) j
 
 -- going down: what the rules above leave is known, and the lints so far and those of the rules below are all
-pub record Descends (kept : List KeptLine) (above : RulesAbove) (spots : List (PlacedFinding Lint)) (rules : List FileRule) (i : ℕ) : Type 0 where
+pub record Descends (profile : Profile) (kept : List KeptLine) (above : RulesAbove) (spots : List (PlacedFinding Lint)) (rules : List FileRule) (i : ℕ) : Type 0 where
   pub given : SameTexts above.given (given_names (reverse (take i rules)))
   pub jump : above.jump ≡ jumps_above (reverse (take i rules))
-  pub so_far : spots ++ lints_below kept rules (reverse (take i rules)) (drop i rules) ≡ lints_of kept rules
+  pub so_far : spots ++ lints_below profile kept rules (reverse (take i rules)) (drop i rules) ≡ lints_of profile kept rules
 
-pub down_start : (kept : List KeptLine) (above : RulesAbove) (spots : List (PlacedFinding Lint)) (rules : List FileRule) → above ≡ nothing_above → spots ≡ [] → Descends kept above spots rules 0
-down_start kept above spots rules e f = record {
+pub down_start : (profile : Profile) (kept : List KeptLine) (above : RulesAbove) (spots : List (PlacedFinding Lint)) (rules : List FileRule) → above ≡ nothing_above → spots ≡ [] → Descends profile kept above spots rules 0
+down_start profile kept above spots rules e f = record {
   given = λ name. ap (λ (a : RulesAbove). is_among a.given name) e;
   jump = ap (λ (a : RulesAbove). a.jump) e;
-  so_far = ap (λ x. x ++ lints_of kept rules) f;
+  so_far = ap (λ x. x ++ lints_of profile kept rules) f;
 }
 
 -- a rule comes before those after it
@@ -117,15 +118,15 @@ given_more given above r same name =
     ∙ reversed_or (is_among (given_names above) name) (is_among (given_by r.draft.parts) name)
     ∙ sym (list_any-append (same_text name) (given_by r.draft.parts) (given_names above))
 
-pub down_past : (kept : List KeptLine) (above next : RulesAbove) (spots more : List (PlacedFinding Lint)) (found : List (Spot Lint)) (names : FileNames) (rules : List FileRule) (i : ℕ) (r : FileRule) → Descends kept above spots rules i
+pub down_past : (profile : Profile) (kept : List KeptLine) (above next : RulesAbove) (spots more : List (PlacedFinding Lint)) (found : List (Spot Lint)) (names : FileNames) (rules : List FileRule) (i : ℕ) (r : FileRule) → Descends profile kept above spots rules i
     → i < length rules → r ≡ get_or rules i r → names.imported ≡ with_texts [] (imported_names rules) → names.compared ≡ with_texts [] (compared_texts rules)
-    → found ≡ spots_by names.imported names.compared above.given above.jump r → more ≡ spots ++ map (placed kept r.number r.start) found → next ≡ with_rule above r
-    → Descends kept next more rules (i + 1)
-down_past kept above next spots more found names rules i r before h e imported compared f m n =
+    → found ≡ spots_by profile names.imported names.compared above.given above.jump r → more ≡ spots ++ map (placed kept r.number r.start) found → next ≡ with_rule above r
+    → Descends profile kept next more rules (i + 1)
+down_past profile kept above next spots more found names rules i r before h e imported compared f m n =
     let past : List FileRule = reverse (take i rules) in
     let reversed : reverse (take (i + 1) rules) ≡ r ∷ past = ap reverse (take_more rules i r h ∙ ap (λ x. take i rules ++ x ∷ []) (sym e)) ∙ reverse-append (take i rules) (r ∷ []) in
-    let own : spots_by names.imported names.compared above.given above.jump r ≡ spots_of rules past r =
-    spots_same names.imported names.compared above.given (imported_names rules) (compared_texts rules) (given_names past) above.jump (jumps_above past) r
+    let own : spots_by profile names.imported names.compared above.given above.jump r ≡ spots_of profile rules past r =
+    spots_same profile names.imported names.compared above.given (imported_names rules) (compared_texts rules) (given_names past) above.jump (jumps_above past) r
     (λ name. ap (λ x. is_among x name) imported ∙ all_added (imported_names rules) name)
     (λ name. ap (λ x. is_among x name) compared ∙ all_added (compared_texts rules) name)
     before.given before.jump in
@@ -133,11 +134,11 @@ down_past kept above next spots more found names rules i r before h e imported c
       given = λ name. ap (λ (a : RulesAbove). is_among a.given name) n ∙ given_more above.given past r before.given name ∙ ap (λ rs. is_among (given_names rs) name) (sym reversed);
       jump = ap (λ (a : RulesAbove). a.jump) n ∙ ap jumps_above (sym reversed);
       so_far =
-          ap (λ x. x ++ lints_below kept rules (reverse (take (i + 1) rules)) (drop (i + 1) rules)) (m ∙ ap (λ (x : List (Spot Lint)). spots ++ map (placed kept r.number r.start) x) f)
-          ∙ ap (λ rs. (spots ++ map (placed kept r.number r.start) (spots_by names.imported names.compared above.given above.jump r)) ++ lints_below kept rules rs (drop (i + 1) rules)) reversed
-          ∙ append_assoc spots (map (placed kept r.number r.start) (spots_by names.imported names.compared above.given above.jump r)) (lints_below kept rules (r ∷ past) (drop (i + 1) rules))
-          ∙ ap (λ x. spots ++ (map (placed kept r.number r.start) x ++ lints_below kept rules (r ∷ past) (drop (i + 1) rules))) own
-          ∙ ap (λ rs. spots ++ lints_below kept rules past rs) (sym (rule_item rules i r h e))
+          ap (λ x. x ++ lints_below profile kept rules (reverse (take (i + 1) rules)) (drop (i + 1) rules)) (m ∙ ap (λ (x : List (Spot Lint)). spots ++ map (placed kept r.number r.start) x) f)
+          ∙ ap (λ rs. (spots ++ map (placed kept r.number r.start) (spots_by profile names.imported names.compared above.given above.jump r)) ++ lints_below profile kept rules rs (drop (i + 1) rules)) reversed
+          ∙ append_assoc spots (map (placed kept r.number r.start) (spots_by profile names.imported names.compared above.given above.jump r)) (lints_below profile kept rules (r ∷ past) (drop (i + 1) rules))
+          ∙ ap (λ x. spots ++ (map (placed kept r.number r.start) x ++ lints_below profile kept rules (r ∷ past) (drop (i + 1) rules))) own
+          ∙ ap (λ rs. spots ++ lints_below profile kept rules past rs) (sym (rule_item rules i r h e))
           ∙ before.so_far;
     }
 
@@ -146,7 +147,7 @@ none_left : (rules : List FileRule) → length rules ≡ 0 → rules ≡ []
 none_left [] e = refl
 none_left (r ∷ rules) e = absurd (omega arith)
 
-pub down_end : (kept : List KeptLine) (above : RulesAbove) (spots : List (PlacedFinding Lint)) (rules : List FileRule) (i : ℕ) → Descends kept above spots rules i → length rules ≤ i → spots ≡ lints_of kept rules
-down_end kept above spots rules i before h =
+pub down_end : (profile : Profile) (kept : List KeptLine) (above : RulesAbove) (spots : List (PlacedFinding Lint)) (rules : List FileRule) (i : ℕ) → Descends profile kept above spots rules i → length rules ≤ i → spots ≡ lints_of profile kept rules
+down_end profile kept above spots rules i before h =
     let none : drop i rules ≡ [] = none_left (drop i rules) (length-drop i rules ∙ omega arith) in
-    sym (append-nil spots) ∙ ap (λ rs. spots ++ lints_below kept rules (reverse (take i rules)) rs) (sym none) ∙ before.so_far
+    sym (append-nil spots) ∙ ap (λ rs. spots ++ lints_below profile kept rules (reverse (take i rules)) rs) (sym none) ∙ before.so_far

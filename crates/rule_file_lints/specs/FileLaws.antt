@@ -1,6 +1,7 @@
 -- What is true of the lints of a file.
 use Rattle.std.specs.Prelude.{◌≡◌, true, false, List, [], ◌∷◌, ◌++◌, map, reverse}
 use Rattle.std.specs.List.{list_any}
+use Rattle.text_bytes.specs.declared.profile.Profile.{Profile}
 use Rattle.text_tables.specs.Texts.{Text}
 use Rattle.rule_lints.specs.declared.lint.Lint.{Lint}
 use Rattle.rule_file_lints.specs.Compared.{meant_to_compare}
@@ -55,6 +56,6 @@ abbrev pub without_place : PlacedFinding Lint → Lint × Text
 without_place p = (p.kind, p.word)
 
 -- the lints of rules among all of a file, given those above them, from the nearest on, without their places
-abbrev pub lints_without_places : List FileRule → List FileRule → List FileRule → List (Lint × Text)
-lints_without_places all above [] = []
-lints_without_places all above (r ∷ below) = map (λ s. (s.kind, s.word)) (spots_of all above r) ++ lints_without_places all (r ∷ above) below
+abbrev pub lints_without_places : Profile → List FileRule → List FileRule → List FileRule → List (Lint × Text)
+lints_without_places profile all above [] = []
+lints_without_places profile all above (r ∷ below) = map (λ s. (s.kind, s.word)) (spots_of profile all above r) ++ lints_without_places profile all (r ∷ above) below

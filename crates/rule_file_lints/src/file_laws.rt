@@ -35,7 +35,7 @@ pub fn rules_that_are_reached_are_not_reported()
 #[tactic(auto, using(crate::proofs::FileLemmas::lints_of_rules))]
 pub fn lints_are_those_of_the_rules()
     ensures { (by : profiles.Profile) (file : files.SourceFile) → map without_place (placed_lints by file)
-        ≡ lints_without_places (file_rules by file.bytes) [] (file_rules by file.bytes) }
+        ≡ lints_without_places by (file_rules by file.bytes) [] (file_rules by file.bytes) }
 {}
 
 /// No lint is reported for a file that is given up.

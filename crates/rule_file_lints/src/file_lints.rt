@@ -17,6 +17,7 @@ use rule_lints::{Lint, lints_of_rule};
 use rule_places::{KeptLines, PlacedFinding, place_spots};
 use std::alloc::{AllocError, Global};
 use std::marker::Model;
+use text_bytes::Profile;
 use text_tables::{OwnedTexts, Texts};
 
 /// What the rules of a file import and compare.
@@ -53,35 +54,38 @@ impl<'a> Model for RulesAbove<'a> {
 }
 
 /// The lints of the lines of a file that were read, in the order of its rules, each with the physical line and the
-/// columns that it is about. There are none for a line that is not a rule. The kept lines are those of the same file.
+/// columns that it is about, for rules that are read by a profile. There are none for a line that is not a rule. The
+/// kept lines are those of the same file.
 ///
 /// The lints that are found in a rule by itself come first, then W6 and W7, each in written order, and W13 last. A
 /// place in several physical lines is reported as far as it is in the first of them. The number of a line or a
 /// column is at most 2^32 - 1.
 pub fn lints_of_lines(
     alloc: Global,
+    profile: Profile,
     kept: &KeptLines,
     lines: &[LandedReading<'_>],
 ) -> Result<Vec<PlacedFinding<Lint>>, AllocError>
-    ensures { IfOk result (λ found. found.items ≡ lints_of_lines kept.now lines.now) }
+    ensures { IfOk result (λ found. found.items ≡ lints_of_lines profile kept.now lines.now) }
 {
     let rules = file_rules(alloc, lines)?;
-    lints_of_rules(alloc, kept, &rules)
+    lints_of_rules(alloc, profile, kept, &rules)
 }
 
 /// The lints of the rules of a file with these kept lines, in their order.
 fn lints_of_rules(
     alloc: Global,
+    profile: Profile,
     kept: &KeptLines,
     rules: &[FileRule<'_, '_>],
 ) -> Result<Vec<PlacedFinding<Lint>>, AllocError>
-    ensures { IfOk result (λ found. found.items ≡ lints_of kept.now rules.now) }
+    ensures { IfOk result (λ found. found.items ≡ lints_of profile kept.now rules.now) }
 {
     let names = FileNames::of(alloc, rules)?;
     let mut above = RulesAbove::new(alloc);
     let mut found = Vec::new(alloc);
     for rule in rules {
-        let spots = rule_spots(alloc, &names, &above, rule)?;
+        let spots = rule_spots(alloc, profile, &names, &above, rule)?;
         place_spots(&mut found, kept, rule.number, rule.start, spots)?;
         above.take(rule)?;
     }
@@ -91,15 +95,16 @@ fn lints_of_rules(
 /// The lints of a rule.
 fn rule_spots(
     alloc: Global,
+    profile: Profile,
     names: &FileNames<'_>,
     above: &RulesAbove<'_>,
     rule: &FileRule<'_, '_>,
 ) -> Result<Vec<Spot<Lint>>, AllocError>
-    ensures { IfOk result (λ spots. spots.items ≡ spots_by names.now.imported names.now.compared above.now.given above.now.jump rule.now) }
+    ensures { IfOk result (λ spots. spots.items ≡ spots_by profile names.now.imported names.now.compared above.now.given above.now.jump rule.now) }
 {
     let draft = rule.draft;
     let tokens = &draft.parts;
-    let mut spots = lints_of_rule(alloc, tokens)?;
+    let mut spots = lints_of_rule(alloc, profile, tokens)?;
     add_imported_below(alloc, &mut spots, &names.imported, &above.given, tokens)?;
     add_meant(alloc, &mut spots, &names.compared, tokens)?;
     add_never_reached(alloc, &mut spots, above.jump, rule)?;

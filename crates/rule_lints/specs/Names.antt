@@ -3,6 +3,8 @@ use Rattle.std.specs.Prelude.{ℕ, Bool, true, false, not, ◌&&◌, nat_eq, if�
 use Rattle.std.specs.List.{list_any, slice_split, starts_with}
 use Rattle.std.specs.Option.{option_and_then}
 use Rattle.text_bytes.specs.Names.{double_quote, is_blank}
+use Rattle.text_bytes.specs.declared.profile.Profile.{Profile}
+use Rattle.text_bytes.specs.declared.profile.Profile.TheVariants.{Manual, Udev}
 use Rattle.text_core.specs.Choices.{choice_fits}
 use Rattle.rule_tokens.specs.Grammar.{Placed}
 use Rattle.rule_types.specs.declared.part.Change.{Change}
@@ -53,9 +55,14 @@ links_in _ = None
 abbrev pub links_with_dev : List ℕ → Option (List ℕ)
 links_with_dev links = if list_any (λ link. starts_with nat_eq link (codes "/dev/")) (slice_split is_blank links) then Some links else None
 
+-- links that do not become what is written, if one of them begins with `/dev/`: udev itself leaves that out
+abbrev pub links_by : Profile → List ℕ → Option (List ℕ)
+links_by Manual links = links_with_dev links
+links_by Udev links = None
+
 -- the value with which W9 is reported
-abbrev pub dev_link : Part → Option (List ℕ)
-dev_link p = option_and_then links_with_dev (option_and_then links_in (change_of p))
+abbrev pub dev_link : Profile → Part → Option (List ℕ)
+dev_link profile p = option_and_then (links_by profile) (option_and_then links_in (change_of p))
 
 -- a text, if it has a `"`
 abbrev pub with_quote : List ℕ → Option (List ℕ)

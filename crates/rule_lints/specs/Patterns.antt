@@ -1,16 +1,25 @@
--- W11 and W12: patterns that are written as regular expressions, and matches that always hold.
+-- W11, W12 and W14: patterns that are written as regular expressions, matches that always hold, and what is no pattern
+-- for udev.
 use Rattle.std.specs.Prelude.{ℕ, Bool, true, false, not, ◌&&◌, ◌||◌, ◌==◌, nat_eq, if◌then◌else◌, List, [], ◌∷◌, Option, Some, None, codes}
 use Rattle.std.specs.List.{list_all, list_any, slice_split, starts_with}
 use Rattle.std.specs.Option.{option_and_then}
 use Rattle.text_bytes.specs.Names.{backslash, caret, close_brace, comma, dollar, open_brace}
 use Rattle.text_bytes.specs.Texts.{begins_with, ends_in, is_empty}
+use Rattle.text_bytes.specs.declared.profile.Profile.{Profile}
+use Rattle.text_bytes.specs.declared.profile.Profile.TheVariants.{Manual, Udev}
+use Rattle.text_tables.specs.Texts.{same_text}
 use Rattle.text_core.specs.Choices.{is_bar}
 use Rattle.text_core.specs.declared.item.Item.{Item}
+use Rattle.rule_types.specs.declared.part.ActKind.{ActKind}
+use Rattle.rule_types.specs.declared.part.ActKind.TheVariants as act_kind
 use Rattle.rule_types.specs.declared.part.Comparison.{Comparison}
+use Rattle.rule_types.specs.declared.part.Import.TheVariants as import
 use Rattle.rule_types.specs.declared.part.Part.{Part}
 use Rattle.rule_types.specs.declared.part.Part.TheVariants as part
 use Rattle.rule_types.specs.declared.roles.PlainKey.{PlainKey}
 use Rattle.rule_types.specs.declared.roles.PlainKey.TheVariants as plain
+use Rattle.rule_types.specs.declared.roles.UpKey.{UpKey}
+use Rattle.rule_types.specs.declared.roles.UpKey.TheVariants as up
 use Rattle.rule_lints.specs.LetterCase.{is_many}
 use Rattle.rule_lints.specs.Parts.{comparison_of, is_equal}
 use Rattle.rule_lints.specs.Texts.{before_first, has_byte, rest_after_first, rest_after_last}
@@ -103,3 +112,42 @@ some_met_by_all (Some wanted) = is_met_by_all wanted
 -- whether W12 is reported for a part
 abbrev pub always_holds : Part → Bool
 always_holds p = looks_at_all p && some_met_by_all (comparison_of p)
+
+-- whether a value is `?*`
+abbrev pub is_something : List ℕ → Bool
+is_something value = same_text value (codes "?*")
+
+-- whether a match of the event looks at several texts, or at none: udev then takes `?*` to ask that none of them is
+-- empty, which always holds
+abbrev pub is_of_members : PlainKey → Bool
+is_of_members plain.Symlink = true
+is_of_members plain.Tag = true
+is_of_members _ = false
+
+-- the same for a match of one device
+abbrev pub is_of_tags : UpKey → Bool
+is_of_tags up.Tags = true
+is_of_tags _ = false
+
+-- the value of what acts that a pattern, or a file, may be meant by: udev takes `?*` to reverse the operator
+abbrev pub value_of_act : ActKind → Option (List ℕ)
+value_of_act (act_kind.Test mask t) = Some t.written
+value_of_act (act_kind.Import (import.Parent names value)) = Some value
+value_of_act _ = None
+
+-- whether there is a value, and it is `?*`
+abbrev pub is_some_something : Option (List ℕ) → Bool
+is_some_something None = false
+is_some_something (Some value) = is_something value
+
+-- whether a part has the value `?*` where udev does not take it as a pattern
+abbrev pub has_no_pattern : Part → Bool
+has_no_pattern (part.Plain m) = is_of_members m.key && is_something m.wanted.written
+has_no_pattern (part.Up m) = is_of_tags m.key && is_something m.wanted.written
+has_no_pattern (part.Act a) = is_some_something (value_of_act a.kind)
+has_no_pattern _ = false
+
+-- whether W14 is reported for a part: by the manual `?*` is a pattern everywhere
+abbrev pub is_no_pattern : Profile → Part → Bool
+is_no_pattern Manual p = false
+is_no_pattern Udev p = has_no_pattern p

@@ -1,5 +1,5 @@
 //! Laws of the lints of one rule, each the contract of a function with an empty body.
-ghost use Rattle.std.specs.Prelude.{◌≡◌, ◌↔◌, ℕ, List, None, Some, true, false, codes};
+ghost use Rattle.std.specs.Prelude.{◌≡◌, ◌↔◌, ℕ, List, Option, None, Some, true, false, codes};
 ghost use Rattle.std.specs.List.{list_any};
 ghost use Rattle.text_core.specs.Fits.{fits};
 ghost use Rattle.text_core.specs.declared.item.Item.{Item};
@@ -10,8 +10,18 @@ ghost use Rattle.rule_lints.specs.Laws.{is_reported_as_expression, is_reported_t
 ghost use Rattle.rule_lints.specs.LetterCase.{is_capital, is_small_alias, items_in_place};
 ghost use Rattle.rule_types.specs.Topics.{is_mode};
 ghost use Rattle.rule_lints.specs.Modes.{no_mode};
-ghost use Rattle.rule_lints.specs.Names.{links_with_dev};
-ghost use Rattle.rule_lints.specs.Patterns.{has_braces, has_open_parenthesis, is_expression, take_all};
+ghost use Rattle.rule_lints.specs.Names.{links_by};
+ghost use Rattle.rule_lints.specs.Patterns.{has_braces, has_open_parenthesis, is_expression, is_no_pattern, take_all};
+ghost use Rattle.rule_templates.specs.Template.{Parts as Template};
+ghost use Rattle.rule_types.specs.declared.part.ActKind.TheVariants as act_kind;
+ghost use Rattle.rule_types.specs.declared.part.Comparison.{Comparison};
+ghost use Rattle.rule_types.specs.declared.part.Part.{Part};
+ghost use Rattle.rule_types.specs.declared.part.Part.TheVariants as part;
+ghost use Rattle.rule_types.specs.declared.roles.MatchOperator.{MatchOperator};
+ghost use Rattle.rule_types.specs.declared.roles.PlainKey.TheVariants as plain;
+ghost use Rattle.rule_types.specs.declared.roles.UpKey.TheVariants as up;
+ghost use Rattle.text_bytes.specs.declared.profile.Profile.TheVariants.{Manual, Udev};
+ghost use Rattle.text_tables.specs.Texts.{same_text};
 ghost use Rattle.rule_lints.specs.declared.letter_case.Writing.TheVariants.{Alias, Lower, Prefixed};
 ghost use Rattle.rule_core.specs.Written.{WrittenPart};
 
@@ -71,13 +81,18 @@ pub fn what_always_holds_fits_each_text()
     ensures { (items : List Item) → (take_all items ≡ true) ↔ ((text : List ℕ) → fits items text ≡ true) }
 {}
 
-/// Values of MODE, of which some are reported.
+/// Values of MODE, of which some are reported; udev passes over blanks before the digits.
+#[tactic(auto, unfolding(rule_types::specs::Topics::mode_of))]
 pub fn some_modes()
-    ensures zeros { no_mode (codes "0007777") ≡ None }
-    ensures nine { no_mode (codes "0669") ≡ Some (codes "0669") }
-    ensures great { no_mode (codes "10000") ≡ Some (codes "10000") }
-    ensures empty { no_mode (codes "") ≡ Some (codes "") }
-    ensures substituted { no_mode (codes "$env{MODE}") ≡ None }
+    ensures zeros { no_mode Manual (codes "0007777") ≡ None }
+    ensures nine { no_mode Manual (codes "0669") ≡ Some (codes "0669") }
+    ensures great { no_mode Manual (codes "10000") ≡ Some (codes "10000") }
+    ensures empty { no_mode Manual (codes "") ≡ Some (codes "") }
+    ensures substituted { no_mode Manual (codes "$env{MODE}") ≡ None }
+    ensures indented { no_mode Manual (codes " 0640") ≡ Some (codes " 0640") }
+    ensures udev_indented { no_mode Udev (codes " 0640") ≡ None }
+    ensures udev_blank_after { no_mode Udev (codes "0640 ") ≡ Some (codes "0640 ") }
+    ensures udev_great { no_mode Udev (codes "10000") ≡ Some (codes "10000") }
 {}
 
 /// Commands, of which some are reported.
@@ -131,10 +146,22 @@ pub fn some_stars()
     ensures none { is_reported_to_hold (codes "") ≡ false }
 {}
 
-/// Links, of which some are reported.
+/// Links, of which some are reported, but none for udev, which leaves `/dev/` out.
 pub fn some_links()
-    ensures second { links_with_dev (codes "a /dev/b") ≡ Some (codes "a /dev/b") }
-    ensures within { links_with_dev (codes "a/dev/b dev/c") ≡ None }
+    ensures second { links_by Manual (codes "a /dev/b") ≡ Some (codes "a /dev/b") }
+    ensures within { links_by Manual (codes "a/dev/b dev/c") ≡ None }
+    ensures udev { links_by Udev (codes "a /dev/b") ≡ None }
+{}
+
+/// A match of TAG, SYMLINK or TAGS is reported as no pattern exactly if its value is `?*`, and only for udev.
+pub fn something_of_members_is_no_pattern()
+    ensures tag { (wanted : Comparison) → is_no_pattern Udev (part.Plain (record { key = plain.Tag; wanted = wanted })) ≡ same_text wanted.written (codes "?*") }
+    ensures symlink { (wanted : Comparison) → is_no_pattern Udev (part.Plain (record { key = plain.Symlink; wanted = wanted })) ≡ same_text wanted.written (codes "?*") }
+    ensures tags { (wanted : Comparison) → is_no_pattern Udev (part.Up (record { key = up.Tags; wanted = wanted })) ≡ same_text wanted.written (codes "?*") }
+    ensures test { (operator : MatchOperator) (mask : Option (List ℕ)) (path : Template)
+        → is_no_pattern Udev (part.Act (record { operator = operator; kind = act_kind.Test mask path })) ≡ same_text path.written (codes "?*") }
+    ensures kernel { (wanted : Comparison) → is_no_pattern Udev (part.Plain (record { key = plain.Kernel; wanted = wanted })) ≡ false }
+    ensures manual { (p : Part) → is_no_pattern Manual p ≡ false }
 {}
 
 /// Patterns, of which some are reported.

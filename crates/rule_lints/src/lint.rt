@@ -31,4 +31,6 @@ pub enum Lint {
     AlwaysHolds,
     /// W13: no rule leads to this one.
     NeverReached,
+    /// W14: for udev `?*` is no pattern after this key.
+    NoPatternForUdev,
 }

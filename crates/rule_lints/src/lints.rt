@@ -1,6 +1,7 @@
 //! What is reported for a rule by itself.
 ghost use Rattle.std.specs.Prelude.{◌≡◌, ◌∷◌, ◌++◌, [], IfOk, OnOk, option_map};
-ghost use Rattle.rule_lints.specs.declared.lint.Lint.TheVariants.{AlwaysHolds, NoSuchDevice};
+ghost use Rattle.std.specs.Bool.{then_some};
+ghost use Rattle.rule_lints.specs.declared.lint.Lint.TheVariants.{NoSuchDevice};
 ghost use Rattle.rule_lints.specs.Devices.{stranger};
 ghost use Rattle.rule_lints.specs.RuleLints.{names_reported, reported, reported_if_there, lints_of_rule, spot_of, word_of};
 
@@ -10,59 +11,63 @@ use crate::letter_case::wrong_case;
 use crate::lint::Lint;
 use crate::modes::wrong_mode;
 use crate::names::{dev_link, is_outside_net, name_given, quoted_name};
-use crate::patterns::{always_holds, expression};
+use crate::patterns::{always_holds, expression, is_no_pattern};
 use rule_core::{Spot, WrittenPart, spot_at_key, value_spot};
 use rule_tokens::Token;
 use std::alloc::{AllocError, Global};
-use text_bytes::Bytes;
+use text_bytes::{Bytes, Profile};
 
 /// What is reported for a rule's tokens: the lints of a rule by itself in the order of their codes, and those of
 /// one code in written order.
 #[tactic(auto, unfolding(crate::specs::RuleLints::lints_of_rule))]
 pub fn lints_of_rule(
     alloc: Global,
+    profile: Profile,
     tokens: &[WrittenPart<'_>],
 ) -> Result<Vec<Spot<Lint>>, AllocError>
-    ensures { IfOk result (λ spots. spots.items ≡ lints_of_rule tokens.now) }
+    ensures { IfOk result (λ spots. spots.items ≡ lints_of_rule profile tokens.now) }
 {
     let mut spots = Vec::new(alloc);
-    add(alloc, &mut spots, Lint::ModeNotOctal, tokens)?;
-    add(alloc, &mut spots, Lint::SignOfShell, tokens)?;
-    add(alloc, &mut spots, Lint::RelativeProgram, tokens)?;
-    add(alloc, &mut spots, Lint::LetterCase, tokens)?;
-    add_stranger(alloc, &mut spots, tokens)?;
-    add_names(alloc, &mut spots, tokens)?;
-    add(alloc, &mut spots, Lint::LinkWithDev, tokens)?;
-    add(alloc, &mut spots, Lint::QuotedName, tokens)?;
-    add(alloc, &mut spots, Lint::NotAPattern, tokens)?;
-    add(alloc, &mut spots, Lint::AlwaysHolds, tokens)?;
+    add(alloc, profile, &mut spots, Lint::ModeNotOctal, tokens)?;
+    add(alloc, profile, &mut spots, Lint::SignOfShell, tokens)?;
+    add(alloc, profile, &mut spots, Lint::RelativeProgram, tokens)?;
+    add(alloc, profile, &mut spots, Lint::LetterCase, tokens)?;
+    add_stranger(alloc, profile, &mut spots, tokens)?;
+    add_names(alloc, profile, &mut spots, tokens)?;
+    add(alloc, profile, &mut spots, Lint::LinkWithDev, tokens)?;
+    add(alloc, profile, &mut spots, Lint::QuotedName, tokens)?;
+    add(alloc, profile, &mut spots, Lint::NotAPattern, tokens)?;
+    add(alloc, profile, &mut spots, Lint::AlwaysHolds, tokens)?;
+    add(alloc, profile, &mut spots, Lint::NoPatternForUdev, tokens)?;
     Ok(spots)
 }
 
 /// Adds the W5 of a rule's tokens, if any.
 fn add_stranger(
     alloc: Global,
+    profile: Profile,
     spots: &mut Vec<Spot<Lint>>,
     tokens: &[WrittenPart<'_>],
 ) -> Result<(), AllocError>
-    ensures { OnOk result (spots.new.items ≡ spots.old.items ++ reported_if_there NoSuchDevice (stranger tokens.now)) }
+    ensures { OnOk result (spots.new.items ≡ spots.old.items ++ reported_if_there profile NoSuchDevice (stranger tokens.now)) }
 {
     match stranger(tokens) {
         None => Ok(()),
-        Some(written) => add_one(alloc, spots, Lint::NoSuchDevice, written),
+        Some(written) => add_one(alloc, profile, spots, Lint::NoSuchDevice, written),
     }
 }
 
 /// Adds each W8 of a rule's tokens.
 fn add_names(
     alloc: Global,
+    profile: Profile,
     spots: &mut Vec<Spot<Lint>>,
     tokens: &[WrittenPart<'_>],
 ) -> Result<(), AllocError>
-    ensures { OnOk result (spots.new.items ≡ spots.old.items ++ names_reported tokens.now) }
+    ensures { OnOk result (spots.new.items ≡ spots.old.items ++ names_reported profile tokens.now) }
 {
     if is_outside_net(tokens) {
-        add(alloc, spots, Lint::NameOutsideNet, tokens)
+        add(alloc, profile, spots, Lint::NameOutsideNet, tokens)
     } else {
         Ok(())
     }
@@ -71,14 +76,15 @@ fn add_names(
 /// Adds what a lint of single tokens finds in these.
 fn add(
     alloc: Global,
+    profile: Profile,
     spots: &mut Vec<Spot<Lint>>,
     lint: Lint,
     tokens: &[WrittenPart<'_>],
 ) -> Result<(), AllocError>
-    ensures { OnOk result (spots.new.items ≡ spots.old.items ++ reported lint tokens.now) }
+    ensures { OnOk result (spots.new.items ≡ spots.old.items ++ reported profile lint tokens.now) }
 {
     for written in tokens {
-        add_one(alloc, spots, lint, written)?;
+        add_one(alloc, profile, spots, lint, written)?;
     }
     Ok(())
 }
@@ -86,13 +92,14 @@ fn add(
 /// Adds what a lint of single tokens finds in this one.
 fn add_one(
     alloc: Global,
+    profile: Profile,
     spots: &mut Vec<Spot<Lint>>,
     lint: Lint,
     written: &WrittenPart<'_>,
 ) -> Result<(), AllocError>
-    ensures { OnOk result (spots.new.items ≡ spots.old.items ++ reported lint (written.now ∷ [])) }
+    ensures { OnOk result (spots.new.items ≡ spots.old.items ++ reported profile lint (written.now ∷ [])) }
 {
-    if let Some(word) = word_of(lint, written) {
+    if let Some(word) = word_of(profile, lint, written) {
         spots.push(spot_of(alloc, lint, word, &written.token)?)?;
     }
     Ok(())
@@ -109,37 +116,38 @@ fn spot_of(
 {
     let word = Bytes::copy_of(alloc, word)?;
     match lint {
-        Lint::NoSuchDevice | Lint::QuotedName | Lint::AlwaysHolds => {
-            Ok(spot_at_key(lint, word, token))
-        }
+        Lint::NoSuchDevice | Lint::QuotedName | Lint::AlwaysHolds | Lint::NoPatternForUdev => Ok(
+            spot_at_key(lint, word, token),
+        ),
         _ => Ok(value_spot(lint, word, token)),
     }
 }
 
 /// The text with which a lint of single tokens is reported for this one, if it is reported.
-fn word_of<'w>(lint: Lint, written: &'w WrittenPart<'_>) -> Option<&'w [u8]>
-    ensures { option_map (λ word. word.now) result ≡ word_of lint written.now }
+fn word_of<'w>(profile: Profile, lint: Lint, written: &'w WrittenPart<'_>) -> Option<&'w [u8]>
+    ensures { option_map (λ word. word.now) result ≡ word_of profile lint written.now }
 {
     match lint {
-        Lint::ModeNotOctal => wrong_mode(&written.part),
+        Lint::ModeNotOctal => wrong_mode(profile, &written.part),
         Lint::SignOfShell => shell_command(&written.part),
         Lint::RelativeProgram => relative_program(&written.part),
         Lint::LetterCase => wrong_case(&written.part),
         Lint::NoSuchDevice => asked_name(&written.part),
         Lint::NameOutsideNet => name_given(&written.part),
-        Lint::LinkWithDev => dev_link(&written.part),
+        Lint::LinkWithDev => dev_link(profile, &written.part),
         Lint::QuotedName => quoted_name(&written.token),
         Lint::NotAPattern => expression(&written.part),
-        Lint::AlwaysHolds => holding_key(written),
+        Lint::AlwaysHolds => key_if(always_holds(&written.part), written),
+        Lint::NoPatternForUdev => key_if(is_no_pattern(profile, &written.part), written),
         _ => None,
     }
 }
 
-/// The key of a token, if it is a match that always holds.
-fn holding_key<'w>(written: &'w WrittenPart<'_>) -> Option<&'w [u8]>
-    ensures { option_map (λ word. word.now) result ≡ word_of AlwaysHolds written.now }
+/// The key of a token, if it is reported.
+fn key_if<'w>(reported: bool, written: &'w WrittenPart<'_>) -> Option<&'w [u8]>
+    ensures { option_map (λ key. key.now) result ≡ then_some reported written.now.token.parts.head.key }
 {
-    if always_holds(&written.part) {
+    if reported {
         Some(written.token.key())
     } else {
         None

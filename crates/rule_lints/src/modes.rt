@@ -3,19 +3,19 @@ ghost use Rattle.std.specs.Prelude.{◌≡◌, ◌||◌, option_map};
 ghost use Rattle.text_bytes.specs.Names.{space, tab};
 ghost use Rattle.text_bytes.specs.Texts.{begins_with};
 ghost use Rattle.rule_types.specs.Topics.{is_mode};
-ghost use Rattle.rule_lints.specs.Modes.{mode_in, wrong_mode};
+ghost use Rattle.rule_lints.specs.Modes.{is_mode_by, mode_in, wrong_mode};
 
 use crate::parts::change_of;
 use rule_templates::has_sign;
 use rule_types::{Change, Part, Target, mode_of};
-use text_bytes::begins_with;
+use text_bytes::{Profile, begins_with};
 
-/// The value with which W1 is reported: one that a part gives to MODE, and that is not a mode.
-pub(crate) fn wrong_mode(part: &Part) -> Option<&[u8]>
-    ensures { option_map (λ text. text.now) result ≡ wrong_mode part.now }
+/// The value with which W1 is reported: one that a part gives to MODE, and that is not taken as a mode.
+pub(crate) fn wrong_mode(profile: Profile, part: &Part) -> Option<&[u8]>
+    ensures { option_map (λ text. text.now) result ≡ wrong_mode profile part.now }
 {
     let text = mode_in(change_of(part)?)?;
-    if has_sign(text) || is_mode(text) {
+    if has_sign(text) || is_mode_by(profile, text) {
         None
     } else {
         Some(text)
@@ -29,6 +29,16 @@ fn mode_in(change: &Change) -> Option<&[u8]>
     match change {
         Change::Text(Target::Mode, template) => Some(template.written()),
         _ => None,
+    }
+}
+
+/// Whether a text is taken as a mode: udev passes over blanks before the digits.
+fn is_mode_by(profile: Profile, text: &[u8]) -> bool
+    ensures { result ≡ is_mode_by profile text.now }
+{
+    match profile {
+        Profile::Manual => is_mode(text),
+        Profile::Udev => mode_of(text).is_some(),
     }
 }
 

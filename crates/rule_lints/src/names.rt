@@ -2,14 +2,14 @@
 ghost use Rattle.std.specs.Prelude.{◌≡◌, codes, nat_eq, option_map};
 ghost use Rattle.std.specs.List.{list_any, slice_split, starts_with};
 ghost use Rattle.text_bytes.specs.Names.{is_blank};
-ghost use Rattle.rule_lints.specs.Names.{dev_link, excludes_net, is_outside_net, is_subsystem, links_in, meets, name_given, name_in, quoted_name};
+ghost use Rattle.rule_lints.specs.Names.{dev_link, excludes_net, is_outside_net, is_subsystem, links_by, links_in, meets, name_given, name_in, quoted_name};
 
 use crate::parts::change_of;
 use crate::texts::has_byte;
 use rule_core::WrittenPart;
 use rule_tokens::Token;
 use rule_types::{Change, Comparison, MatchOperator, Part, PlainKey, Target};
-use text_bytes::is_blank;
+use text_bytes::{Profile, is_blank};
 
 /// Whether a rule holds for no network device.
 pub(crate) fn is_outside_net(tokens: &[WrittenPart<'_>]) -> bool
@@ -64,11 +64,20 @@ fn name_in(change: &Change) -> Option<&[u8]>
 }
 
 /// The value with which W9 is reported: links, one of which begins with `/dev/`.
-pub(crate) fn dev_link(part: &Part) -> Option<&[u8]>
-    ensures { option_map (λ text. text.now) result ≡ dev_link part.now }
+pub(crate) fn dev_link(profile: Profile, part: &Part) -> Option<&[u8]>
+    ensures { option_map (λ text. text.now) result ≡ dev_link profile part.now }
 {
-    let links = links_in(change_of(part)?)?;
-    if has_dev(links) { Some(links) } else { None }
+    links_by(profile, links_in(change_of(part)?)?)
+}
+
+/// Links that do not become what is written, if one of them begins with `/dev/`: udev itself leaves that out.
+fn links_by(profile: Profile, links: &[u8]) -> Option<&[u8]>
+    ensures { option_map (λ text. text.now) result ≡ links_by profile links.now }
+{
+    match profile {
+        Profile::Manual if has_dev(links) => Some(links),
+        _ => None,
+    }
 }
 
 /// The text that a change gives to SYMLINK.

@@ -1,17 +1,19 @@
-//! W11 and W12: patterns that are written as regular expressions, and matches that always hold.
+//! W11, W12 and W14: patterns that are written as regular expressions, matches that always hold, and what is no pattern
+//! for udev.
 ghost use Rattle.std.specs.Prelude.{◌≡◌, option_map};
 ghost use Rattle.std.specs.List.{list_all, list_any, slice_split};
 ghost use Rattle.text_core.specs.Choices.{is_bar};
 ghost use Rattle.rule_lints.specs.LetterCase.{is_many};
 ghost use Rattle.rule_lints.specs.Patterns.{always_holds, begins_with_class, expression, expression_in, has_braces, has_class, has_close_parenthesis};
 ghost use Rattle.rule_lints.specs.Patterns.{has_open_parenthesis, is_always_there, is_expression, is_met_by_all, looks_at_all};
-ghost use Rattle.rule_lints.specs.Patterns.{some_met_by_all, take_all};
+ghost use Rattle.rule_lints.specs.Patterns.{has_no_pattern, is_no_pattern, is_of_members, is_of_tags, is_some_something, is_something};
+ghost use Rattle.rule_lints.specs.Patterns.{some_met_by_all, take_all, value_of_act};
 
 use crate::letter_case::is_many;
 use crate::parts::{comparison_of, is_equal};
 use crate::texts::{before_first, has_byte, rest_after_first, rest_after_last};
-use rule_types::{Comparison, Part, PlainKey};
-use text_bytes::{begins_with, ends_in};
+use rule_types::{ActKind, Comparison, Import, Part, PlainKey, UpKey};
+use text_bytes::{Profile, begins_with, ends_in};
 use text_core::{Item, Pattern};
 
 /// The value with which W11 is reported.
@@ -185,4 +187,72 @@ fn all_many(items: &[Item]) -> bool
     ensures { result ≡ list_all is_many items.now }
 {
     items.iter().all(|item| is_many(item))
+}
+
+/// Whether W14 is reported for a part: it has the value `?*` where udev does not take that as a pattern. By the manual
+/// it is one everywhere.
+pub(crate) fn is_no_pattern(profile: Profile, part: &Part) -> bool
+    ensures { result ≡ is_no_pattern profile part.now }
+{
+    match profile {
+        Profile::Manual => false,
+        Profile::Udev => has_no_pattern(part),
+    }
+}
+
+/// Whether a part has the value `?*` where udev does not take it as a pattern: after a key of several texts or none it
+/// always holds, and after TEST and IMPORT{parent} it reverses the operator.
+fn has_no_pattern(part: &Part) -> bool
+    ensures { result ≡ has_no_pattern part.now }
+{
+    match part {
+        Part::Plain(asked) => {
+            is_of_members(&asked.key) && is_something(asked.wanted.written.as_slice())
+        }
+        Part::Up(asked) => is_of_tags(&asked.key) && is_something(asked.wanted.written.as_slice()),
+        Part::Act(act) => is_some_something(value_of_act(&act.kind)),
+        _ => false,
+    }
+}
+
+/// Whether a match of the event looks at several texts, or at none.
+fn is_of_members(key: &PlainKey) -> bool
+    ensures { result ≡ is_of_members key.now }
+{
+    matches!(key, PlainKey::Symlink | PlainKey::Tag)
+}
+
+/// The same for a match of one device.
+fn is_of_tags(key: &UpKey) -> bool
+    ensures { result ≡ is_of_tags key.now }
+{
+    matches!(key, UpKey::Tags)
+}
+
+/// The value of what acts that a pattern, or a file, may be meant by.
+fn value_of_act(act_kind: &ActKind) -> Option<&[u8]>
+    ensures { option_map (λ value. value.now) result ≡ value_of_act act_kind.now }
+{
+    match act_kind {
+        ActKind::Test(_, template) => Some(template.written()),
+        ActKind::Import(Import::Parent(_, value)) => Some(value.as_slice()),
+        _ => None,
+    }
+}
+
+/// Whether there is a value, and it is `?*`.
+fn is_some_something(value: Option<&[u8]>) -> bool
+    ensures { result ≡ is_some_something (option_map (λ v. v.now) value.entry) }
+{
+    match value {
+        Some(value) => is_something(value),
+        None => false,
+    }
+}
+
+/// Whether a value is `?*`.
+fn is_something(value: &[u8]) -> bool
+    ensures { result ≡ is_something value.now }
+{
+    value == b"?*".as_slice()
 }

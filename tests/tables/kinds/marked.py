@@ -67,6 +67,7 @@ TEXTS = {
     "W11": "regular expression in a pattern",
     "W12": "match that always holds",
     "W13": "rule never reached",
+    "W14": "no pattern for udev",
     "I1": "nothing to ignore",
     "I2": "unknown code",
 }

@@ -39,3 +39,6 @@ returns-in-AlwaysHolds-clause-advice c = rw c.in-AlwaysHolds.is refl
 
 pub returns-in-NeverReached-clause-advice : goal.returns-in-NeverReached-clause-advice
 returns-in-NeverReached-clause-advice c = rw c.in-NeverReached.is refl
+
+pub returns-in-NoPatternForUdev-clause-advice : goal.returns-in-NoPatternForUdev-clause-advice
+returns-in-NoPatternForUdev-clause-advice c = rw c.in-NoPatternForUdev.is refl

@@ -1,2 +1,2 @@
 pub mod Running
-pub mod Comparing
+pub mod Compared

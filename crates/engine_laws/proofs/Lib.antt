@@ -7,3 +7,10 @@ pub mod Noting
 pub mod Reading
 pub mod Quiet
 pub mod Saying
+pub mod LastLines
+pub mod Statuses
+pub mod Appearing
+pub mod ItemLines
+pub mod Told
+pub mod Nearest
+pub mod Sides

@@ -49,6 +49,11 @@ module _ (state : State) where
       ∙ sym (flat_map-append run_line (alone kept) (commands state runs))
       ∙ ap (flat_map run_line) (sym (flat_map-cons alone kept runs))
 
+  -- the commands of a RUN among others
+  pub commands_around : (before later : List RunValue) (run : RunValue) → sourced_commands state (before ++ run ∷ later) ≡ sourced_commands state before ++ (with_rule run ++ sourced_commands state later)
+  commands_around before later run =
+      flat_map-append with_rule before (run ∷ later) ∙ ap (λ rest. sourced_commands state before ++ rest) (flat_map-cons with_rule run later)
+
 -- commands that were made at their rules, without these
 made_lines : (made : List MadeRun) → flat_map line_of (map sourced_made made) ≡ flat_map run_line (map made_command made)
 made_lines [] = refl

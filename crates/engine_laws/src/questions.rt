@@ -1,9 +1,9 @@
 //! What holds of questions, whatever the rules. Each function here is empty: its contract is the law.
-ghost use Rattle.std.specs.Prelude.{◌≡◌, ◌↔◌, ◌≤◌, ◌&&◌, ◌++◌, ◌^◌, true, false, not, List, [], None, Ok, filter, is_none, length, map};
+ghost use Rattle.std.specs.Prelude.{◌≡◌, ◌↔◌, ◌≤◌, ◌&&◌, ◌++◌, ◌^◌, true, not, List, [], None, Ok, filter, is_none, length, map};
 ghost use Rattle.std.specs.List.{list_all, list_any};
 ghost use Rattle.text_bytes.specs.Texts.{word_of};
 ghost use Rattle.text_bytes.specs.declared.profile.Profile.TheVariants.{Manual, Udev};
-ghost use Rattle.text_tables.specs.Texts.{AreOnce, Text};
+ghost use Rattle.text_tables.specs.Texts.{AreOnce, Text, is_among};
 ghost use Rattle.text_tables.specs.Pairs.{value_of};
 ghost use Rattle.builtin_devices.specs.Knowledge.{Known};
 ghost use Rattle.rule_templates.specs.Template as templates;
@@ -35,6 +35,13 @@ pub fn no_answered_command_is_asked()
 #[tactic(auto, using(crate::proofs::Once::asked_once))]
 pub fn each_command_is_asked_once()
     ensures { (read : List rules.Rule) (known : Known) (event : EventValue) → AreOnce (questions read known event) }
+{}
+
+/// A command is asked if and only if the rules ask it and a line of a block can have it.
+#[tactic(auto, using(crate::proofs::Once::asked_if))]
+pub fn each_command_that_rules_ask_is_asked()
+    ensures { (read : List rules.Rule) (known : Known) (event : EventValue) (command : Text) → is_among (questions read known event) command
+        ≡ (is_among (rules_ask known None read (start event)) command && can_be_asked command) }
 {}
 
 /// Rules without PROGRAM and IMPORT ask nothing.

@@ -16,7 +16,7 @@ use Rattle.rule_tokens.specs.Values.{letter_means, is_number}
 use Rattle.rule_types.specs.Builtins.{builtin_of}
 use Rattle.rule_types.specs.Names.{key_of, import_type_of, run_type_of}
 use Rattle.rule_types.specs.Operators as rule_types_operators
-use Rattle.rule_types.specs.Roles.{compared, assigned, role_of}
+use Rattle.rule_types.specs.Roles as rule_types_roles
 use Rattle.rule_types.specs.Rules.{rule_tokens}
 use Rattle.rule_types.specs.Topics.{mode_of, topic_of}
 use Rattle.rule_jumps.specs.Jumps.{landings}
@@ -72,7 +72,7 @@ use Rattle.eval_rules.specs.Steps.{walk, plain_step, result_step, steps, apply}
 use Rattle.eval_effects.specs.Changes.{run_text}
 use Rattle.eval_effects.specs.Effects.{effect, ending}
 use Rattle.eval_effects.specs.Items.{node_items, items}
-use Rattle.eval_effects.specs.Shown.{cut}
+use Rattle.eval_effects.specs.Shown.{marked, shown, size_note}
 use Rattle.eval_sources.specs.Reported.{stages_from}
 use Rattle.eval_sources.specs.Sources.{source_of, Reports}
 use Rattle.eval_courses.specs.Acts.{property_report, act_report}
@@ -80,8 +80,29 @@ use Rattle.eval_courses.specs.Courses.{walk_reports, key_reports, course}
 use Rattle.eval_courses.specs.Keys.{wanted_text}
 use Rattle.eval_courses.specs.Looks.{plain_report, result_report}
 use Rattle.eval_courses.specs.Questions.{rule_asks, rules_ask}
+use Rattle.eval_courses.specs.Skipped.{skipped_text}
 use Rattle.eval_courses.specs.Upward.{device_report, up_report, partial_report, search_reports}
 use Rattle.engine_reports.specs.Messages.{message_line}
+use Rattle.rule_places.specs.Files.{placed_findings}
+use Rattle.rule_lints.specs.RuleLints.{lints_of_rule}
+use Rattle.rule_file_lints.specs.FileLints.{placed_lints}
+use Rattle.rule_pairs.specs.Accounts.{given_in}
+use Rattle.rule_pairs.specs.Forms.{form_of}
+use Rattle.rule_pairs.specs.Matters.{matter_of}
+use Rattle.rule_pairs.specs.Pairs.{pair_findings}
+use Rattle.rule_pairs.specs.Relations.{beginning, part_ways, parts_from_all, is_same, is_against}
+use Rattle.rule_pairs.specs.Said.{said_of}
+use Rattle.rule_pairs.specs.Words.{words_of}
+use Rattle.rule_remarks.specs.Findings.{findings_as}
+use Rattle.rule_remarks.specs.Remarks.{rule_remarks, token_remarks}
+use Rattle.rule_remarks.specs.Rules.{file_remarks}
+use Rattle.rule_remarks.specs.Values.{value_fault}
+use Rattle.engine_reports.specs.Checks as engine_reports_checks
+use Rattle.engine_formats.specs.Codes.{remark_of}
+use Rattle.engine_formats.specs.Lines.{gcc_line, plain_line, spot_of}
+use Rattle.engine_formats.specs.Remarks.{heading_parts}
+use Rattle.engine_checks.specs.Ignores.{ignores_in}
+use Rattle.engine_checks.specs.Reported.{file_reported}
 use Rattle.engine_courses.specs.Asked.{unread, unknown_line, unknown}
 use Rattle.engine_courses.specs.Nearest.{least}
 use Rattle.engine_courses.specs.WhyLines.{why_line, unread_text, reported_from, why_lines}
@@ -90,7 +111,7 @@ use Rattle.engine_answers.specs.Answers.{lines_with}
 use Rattle.engine_answers.specs.Items.{node_lines, item_lines}
 use Rattle.engine_answers.specs.Lines.{text_line, pair_line, run_line, note_line, event_line}
 use Rattle.example_laws.specs.Answered.{answered_by}
-use Rattle.example_laws.specs.Reported.{sourced, explained, asked}
+use Rattle.example_laws.specs.Reported.{sourced, sourced_as_udev, explained, explained_as_udev, asked, asked_in_vain}
 
 -- the words by which the text of a rules file is read
 unfoldable reading_rules : ⊤
@@ -98,7 +119,7 @@ unfolding braced size_in marked signed signed_size integer_of natural_of word_of
     asked_with udev_asked first_at udev_first rule_templates_reading.pieces_of udev_pieces is_faulty left_of
     prefix_quote items_after items_within items_left quoted_at letters_at key_at closed_at attribute_at operator_at
     head_at quote_at escape_first piece_at rule_tokens_reading.pieces_of token_at scan escape_at letter_means is_number
-    builtin_of key_of import_type_of run_type_of rule_types_operators.is_read_as_assign compared assigned role_of
+    builtin_of key_of import_type_of run_type_of rule_types_operators.is_read_as_assign rule_types_roles.compared rule_types_roles.assigned rule_types_roles.role_of
     rule_tokens mode_of topic_of landings rule_parts_options.number_of priority_of level_of option_of comparison
     import_by part_by value_part part_of rule_parts_parts.is_read_as_assign refusal_of read_choice read_template
     read_option read_name draft_of has_effect as_read set_of_as
@@ -132,9 +153,9 @@ evaluating = tt
 
 -- those by which what happened is told
 unfoldable reporting : ⊤
-unfolding run_text effect ending node_items items cut stages_from source_of Reports property_report
+unfolding run_text effect ending node_items items marked shown size_note stages_from source_of Reports property_report
     act_report walk_reports key_reports course wanted_text plain_report result_report device_report up_report
-    partial_report search_reports message_line unread unknown_line unknown least why_line unread_text reported_from
+    partial_report search_reports skipped_text message_line unread unknown_line unknown least why_line unread_text reported_from
     why_lines question_answer rule_asks rules_ask
 reporting = tt
 
@@ -143,7 +164,14 @@ unfoldable writing : ⊤
 unfolding lines_with node_lines item_lines text_line pair_line run_line note_line event_line
 writing = tt
 
+-- those by which files are checked
+unfoldable checking : ⊤
+unfolding placed_findings lints_of_rule placed_lints given_in form_of matter_of pair_findings beginning part_ways parts_from_all
+    is_same is_against said_of words_of findings_as rule_remarks token_remarks file_remarks value_fault
+    engine_reports_checks.summary_line remark_of gcc_line plain_line spot_of heading_parts ignores_in file_reported
+checking = tt
+
 -- all of these
 unfoldable pub computed : ⊤
-unfolding digits answered_by sourced explained asked reading_rules reading_blocks reading_databases reading_texts evaluating reporting writing
+unfolding digits answered_by sourced sourced_as_udev explained explained_as_udev asked asked_in_vain checking reading_rules reading_blocks reading_databases reading_texts evaluating reporting writing
 computed = tt

@@ -1,7 +1,8 @@
 -- What `events` answers with `--sources`, `--why` and `--questions`.
-use Rattle.std.specs.Prelude.{[], ◌∷◌, ◌++◌, codes}
+use Rattle.std.specs.Prelude.{[], ◌∷◌, ◌++◌, codes, Option}
 use Rattle.text_bytes.specs.Names.{newline}
-use Rattle.text_bytes.specs.declared.profile.Profile.TheVariants.{Manual}
+use Rattle.text_bytes.specs.declared.profile.Profile.{Profile}
+use Rattle.text_bytes.specs.declared.profile.Profile.TheVariants.{Manual, Udev}
 use Rattle.text_tables.specs.Texts.{Text}
 use Rattle.rule_core.specs.Rules.{ReadRules}
 use Rattle.device_core.specs.Faults.{block_gives}
@@ -9,6 +10,7 @@ use Rattle.device_core.specs.Values.{EventValue}
 use Rattle.builtin_devices.specs.Knowledge.{Known}
 use Rattle.eval_rules.specs.Outcomes.{outcome}
 use Rattle.engine_answers.specs.Answers.{answer_lines, sourced_lines}
+use Rattle.engine_courses.specs.Asked.{unknown}
 use Rattle.engine_courses.specs.WhyLines.{why_lines}
 use Rattle.engine_answers.specs.Questions.{question_answer}
 use Rattle.example_laws.specs.Answered.{answer_to, only_entries, read_by}
@@ -28,18 +30,30 @@ explained_answer read known event =
 abbrev pub asked_answer : ReadRules → Known → EventValue → Text
 asked_answer read known event = question_answer read.rules known event
 
--- what is answered to a block in such a way, by the text of a rules file, by the manual and without a database
-abbrev pub answered_so : (ReadRules → Known → EventValue → Text) → Text → Text → Text
-answered_so way rules block = answer_to (way (read_by Manual rules) (only_entries [])) Manual (block_gives block)
+-- what is answered to a block in such a way, by a profile and the text of a rules file, without a database
+abbrev pub answered_so : (ReadRules → Known → EventValue → Text) → Profile → Text → Text → Text
+answered_so way by rules block = answer_to (way (read_by by rules) (only_entries [])) by (block_gives block)
 
 -- what `events --sources` answers
 unfoldable pub sourced : Text → Text → Text
-sourced rules block = answered_so sourced_answer rules block
+sourced rules block = answered_so sourced_answer Manual rules block
+
+-- what it answers as udev does
+unfoldable pub sourced_as_udev : Text → Text → Text
+sourced_as_udev rules block = answered_so sourced_answer Udev rules block
 
 -- what `events --why r.rules` answers
 unfoldable pub explained : Text → Text → Text
-explained rules block = answered_so explained_answer rules block
+explained rules block = answered_so explained_answer Manual rules block
+
+-- what `events --udev --why r.rules` answers
+unfoldable pub explained_as_udev : Text → Text → Text
+explained_as_udev rules block = answered_so explained_answer Udev rules block
 
 -- what `events --questions` answers
 unfoldable pub asked : Text → Text → Text
-asked rules block = answered_so asked_answer rules block
+asked rules block = answered_so asked_answer Manual rules block
+
+-- what is said about a text of `--why`, by the text of a rules file, if it asks for nothing there
+unfoldable pub asked_in_vain : Text → Text → Option Text
+asked_in_vain why rules = let read = read_by Manual rules in unknown (why ∷ []) read.messages read.rules

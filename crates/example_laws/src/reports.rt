@@ -1,7 +1,7 @@
 //! Examples of `--sources`, `--why` and `--questions`.
-ghost use Rattle.std.specs.Prelude.{◌≡◌, ◌∷◌, [], codes};
+ghost use Rattle.std.specs.Prelude.{◌≡◌, ◌∷◌, [], None, Some, codes};
 ghost use Rattle.example_laws.specs.Answered.{answered, text};
-ghost use Rattle.example_laws.specs.Reported.{asked, explained, sourced};
+ghost use Rattle.example_laws.specs.Reported.{asked, asked_in_vain, explained, explained_as_udev, sourced, sourced_as_udev};
 
 /// With `--sources` each line has the rule that it comes from, or none if it was there from the start.
 pub fn each_line_comes_from_the_rule_that_last_changed_it()
@@ -31,6 +31,18 @@ pub fn each_line_comes_from_the_rule_that_last_changed_it()
         ∷ codes "-: env ACTION=add" ∷ codes "-: env DEVPATH=/d" ∷ codes "r.rules:4: env E=f" ∷ codes "r.rules:5: attr a=b"
         ∷ codes "r.rules:6: sysctl c=d" ∷ codes "r.rules:7: run program r" ∷ codes "note r.rules:8: import not run: db"
         ∷ codes "" ∷ []) }
+    ensures commands { sourced
+        (text (codes "RUN+=\"a\"" ∷ codes "RUN+=\"b\", RUN{builtin}+=\"kmod c\"" ∷ codes "RUN+=\"a\"" ∷ []))
+        (codes "C: add\nP: /d")
+        ≡ text (
+        codes "event add /d" ∷ codes "-: env ACTION=add" ∷ codes "-: env DEVPATH=/d" ∷ codes "r.rules:1: run program a"
+        ∷ codes "r.rules:2: run program b" ∷ codes "r.rules:2: run builtin kmod c" ∷ codes "" ∷ []) }
+    ensures made { sourced_as_udev
+        (text (codes "RUN+=\"a\"" ∷ codes "RUN+=\"b\", RUN{builtin}+=\"kmod c\"" ∷ codes "RUN+=\"a\"" ∷ []))
+        (codes "C: add\nP: /d")
+        ≡ text (
+        codes "event add /d" ∷ codes "-: env ACTION=add" ∷ codes "-: env DEVPATH=/d" ∷ codes "r.rules:1: run program a"
+        ∷ codes "r.rules:2: run builtin kmod c" ∷ codes "r.rules:2: run program b" ∷ codes "r.rules:3: run program a" ∷ codes "" ∷ []) }
 {}
 
 /// With `--why` each rule says what its keys met up to the one that fails, and then where it stops or what it changed; a rule that is
@@ -47,7 +59,7 @@ pub fn each_rule_says_what_its_keys_met_and_how_it_ended()
         ∷ codes "why r.rules:1: KERNEL==\"e\": fails, d" ∷ codes "why r.rules:1: stops there"
         ∷ codes "why r.rules:2: KERNEL==\"d\": holds, d" ∷ codes "why r.rules:2: reached its end: env A=1 set"
         ∷ codes "why r.rules:3: passed over by GOTO of r.rules:2"
-        ∷ codes "why r.rules:4: reached its end: owner=o set, tag u added, tag t removed"
+        ∷ codes "why r.rules:4: reached its end: owner=o set, tag t removed, tag u added"
         ∷ codes "why r.rules:6: reached its end: OWNER is final since r.rules:4, ENV{A} changes nothing" ∷ codes "" ∷ []) }
     ensures chain { explained
         (text (codes "ATTRS{v}==\"0421\", ATTRS{n}==\"00\", ENV{A}=\"1\"" ∷ codes "ATTRS{v}==\"0421\", ENV{B}=\"1\"" ∷ []))
@@ -68,6 +80,79 @@ pub fn each_rule_says_what_its_keys_met_and_how_it_ended()
         ∷ codes "why r.rules:1: IMPORT{parent}==\"A*\": holds, sets A=1" ∷ codes "why r.rules:1: RESULT==\"b\": holds, b"
         ∷ codes "why r.rules:1: reached its end" ∷ codes "why r.rules:2: TEST!=\"a\": fails, a"
         ∷ codes "why r.rules:2: stops there" ∷ codes "" ∷ []) }
+{}
+
+/// What is no longer there is told before what is added, and a blank at the end of a text is between quotes.
+pub fn what_goes_is_told_first_and_the_ends_of_texts_are_seen()
+    ensures replaced { explained
+        (text (
+        codes "RUN+=\"a\", SYMLINK+=\"l\", TAG+=\"t\"" ∷ codes "RUN=\"b\", SYMLINK=\"m\", TAG=\"u\"" ∷ codes "RUN=\"\"" ∷ []))
+        (codes "C: add\nP: /d")
+        ≡ text (
+        codes "event add /d" ∷ codes "link m" ∷ codes "tag u" ∷ codes "env ACTION=add" ∷ codes "env DEVPATH=/d"
+        ∷ codes "why r.rules:1: reached its end: tag t added, link l added, run program a added"
+        ∷ codes "why r.rules:2: reached its end: tag t removed, tag u added, link l removed, link m added, run program a removed, run program b added"
+        ∷ codes "why r.rules:3: reached its end: all runs removed" ∷ codes "" ∷ []) }
+    ensures blanks { explained
+        (text (
+        codes "ENV{A}==\"x\"" ∷ codes "ATTR{m}==\"x \"" ∷ codes "ENV{B}==\"q\"" ∷ codes "TAG==\"t\"" ∷ codes "ENV{C}=\"z \", TAG+=\"u \"" ∷ []))
+        (codes "C: add\nP: /d\nA: m=x  \nE: A= x\nE: B=\"q\"\nG: t ")
+        ≡ text (
+        codes "event add /d" ∷ codes "tag t " ∷ codes "tag u " ∷ codes "env A= x" ∷ codes "env ACTION=add" ∷ codes "env B=\"q\""
+        ∷ codes "env C=z " ∷ codes "env DEVPATH=/d" ∷ codes "why r.rules:1: ENV{A}==\"x\": fails, \" x\"" ∷ codes "why r.rules:1: stops there"
+        ∷ codes "why r.rules:2: ATTR{m}==\"x \": fails, \"x  \"" ∷ codes "why r.rules:2: stops there"
+        ∷ codes "why r.rules:3: ENV{B}==\"q\": fails, \"\"q\"\"" ∷ codes "why r.rules:3: stops there"
+        ∷ codes "why r.rules:4: TAG==\"t\": fails, \"t \"" ∷ codes "why r.rules:4: stops there"
+        ∷ codes "why r.rules:5: reached its end: tag \"u \" added, env C=\"z \" set" ∷ codes "" ∷ []) }
+{}
+
+/// With `--udev --why` a rule that is skipped says which of its keys do nothing and why, an import what it removes, and NAME of a network
+/// device that it is no interface.
+pub fn what_udev_leaves_out_says_why()
+    ensures number { explained_as_udev
+        (text (
+        codes "SUBSYSTEMS==\"u\", SYMLINK+=\"l\", OWNER=\"o\"" ∷ codes "NAME=\"n\"" ∷ codes "OPTIONS=\"static_node=x\"" ∷ codes "LABEL=\"x\""
+        ∷ codes "KERNEL==\"d\", LABEL=\"y\"" ∷ []))
+        (codes "C: add\nP: /h/d\nP: /h\nU: u")
+        ≡ text (
+        codes "event add /h/d" ∷ codes "env ACTION=add" ∷ codes "env DEVPATH=/h/d" ∷ codes "note r.rules:1: no device number: OWNER"
+        ∷ codes "note r.rules:1: no device number: SYMLINK" ∷ codes "note r.rules:2: name ignored: n"
+        ∷ codes "why r.rules:1: SUBSYSTEMS==\"u\": d fails, \"\", h holds" ∷ codes "why r.rules:1: h would meet all"
+        ∷ codes "why r.rules:1: skipped: OWNER does nothing without a device number, SYMLINK does nothing without a device number"
+        ∷ codes "why r.rules:2: skipped: NAME does nothing without an interface (IFINDEX)"
+        ∷ codes "why r.rules:3: skipped: OPTIONS does nothing at an event" ∷ codes "why r.rules:4: reached its end"
+        ∷ codes "why r.rules:5: KERNEL==\"d\": holds, d" ∷ codes "why r.rules:5: skipped: nothing is assigned" ∷ codes "" ∷ []) }
+    ensures removed { explained_as_udev (codes "SYMLINK+=\"l\", MODE=\"0660\"") (codes "C: remove\nP: /d\nD: 8:1")
+        ≡ text (
+        codes "event remove /d" ∷ codes "env ACTION=remove" ∷ codes "env DEVPATH=/d" ∷ codes "env MAJOR=8" ∷ codes "env MINOR=1"
+        ∷ codes "why r.rules:1: skipped: MODE does nothing when the device is removed, SYMLINK does nothing when the device is removed"
+        ∷ codes "" ∷ []) }
+    ensures interface { explained_as_udev (codes "NAME=\"n\", ENV{A}=\"1\"") (codes "C: add\nP: /d\nU: net")
+        ≡ text (
+        codes "event add /d" ∷ codes "env A=1" ∷ codes "env ACTION=add" ∷ codes "env DEVPATH=/d" ∷ codes "env SUBSYSTEM=net"
+        ∷ codes "note r.rules:1: name ignored: n"
+        ∷ codes "why r.rules:1: reached its end: env A=1 set, NAME ignored, no interface (IFINDEX)" ∷ codes "" ∷ []) }
+    ensures imported { explained_as_udev
+        (text (codes "IMPORT{program}=\"/p\", ENV{C}=\"1\"" ∷ codes "IMPORT{program}=\"/q\", ENV{C}=\"2\"" ∷ []))
+        (codes "C: add\nP: /d\nE: A=1\nQ: /p\nR: 0 A=\"\"\rB=2\nQ: /q\nR: 0 B=\"\"")
+        ≡ text (
+        codes "event add /d" ∷ codes "env ACTION=add" ∷ codes "env C=2" ∷ codes "env DEVPATH=/d"
+        ∷ codes "why r.rules:1: IMPORT{program}==\"/p\": holds, /p answers 0 A=\"\"\\x0DB=2, removes A, sets B=2"
+        ∷ codes "why r.rules:1: reached its end: env C=1 set"
+        ∷ codes "why r.rules:2: IMPORT{program}==\"/q\": holds, /q answers 0 B=\"\", removes B"
+        ∷ codes "why r.rules:2: reached its end: env C=2 set" ∷ codes "" ∷ []) }
+{}
+
+/// If `--why` asks for a line without a rule, the nearest rule of the file is named, and of two as near the one above.
+pub fn the_nearest_rule_is_named()
+    ensures above { asked_in_vain (codes "r.rules:3") (codes "\nTAG+=\"a\"\n\n\nTAG+=\"b\"\n\n\n\nTAG+=\"c\"")
+        ≡ Some (codes "devdry: --why r.rules:3: no such rule, the nearest is r.rules:2\n") }
+    ensures below { asked_in_vain (codes "r.rules:8") (codes "\nTAG+=\"a\"\n\n\nTAG+=\"b\"\n\n\n\nTAG+=\"c\"")
+        ≡ Some (codes "devdry: --why r.rules:8: no such rule, the nearest is r.rules:9\n") }
+    ensures as_near { asked_in_vain (codes "r.rules:7") (codes "\nTAG+=\"a\"\n\n\nTAG+=\"b\"\n\n\n\nTAG+=\"c\"")
+        ≡ Some (codes "devdry: --why r.rules:7: no such rule, the nearest is r.rules:5\n") }
+    ensures file { asked_in_vain (codes "s.rules:5") (codes "\nTAG+=\"a\"") ≡ Some (codes "devdry: --why s.rules:5: no such rules file\n") }
+    ensures known { asked_in_vain (codes "r.rules:2") (codes "\nTAG+=\"a\"") ≡ None }
 {}
 
 /// With `--questions` an answer is the commands that are looked up and that the block does not answer, each once.

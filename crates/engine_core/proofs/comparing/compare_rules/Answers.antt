@@ -1,5 +1,5 @@
 use Rattle.std.proofs.Common.{◌∙◌}
-use Rattle.engine_core.proofs.Comparing.{finds_both}
+use Rattle.engine_core.proofs.Compared.{finds_both}
 use Rattle.engine_core.proofs.comparing.compare_rules.Goals as goal
 
 pub returns-in-Ok : goal.returns-in-Ok

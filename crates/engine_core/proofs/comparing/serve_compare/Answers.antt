@@ -1,5 +1,5 @@
 use Rattle.engine_reports.specs.Openings.{opening}
-use Rattle.engine_core.proofs.Comparing.{compares_serve}
+use Rattle.engine_core.proofs.Compared.{compares_serve}
 use Rattle.engine_core.proofs.comparing.serve_compare.Goals as goal
 
 pub returns : goal.returns

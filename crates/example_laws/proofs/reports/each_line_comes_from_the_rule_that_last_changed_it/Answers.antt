@@ -4,4 +4,4 @@ use Rattle.example_laws.proofs.reports.each_line_comes_from_the_rule_that_last_c
 
 pub returns : goal.returns
 unfolding computed
-returns c = record { changed = refl; device = refl; lists = refl }
+returns c = record { changed = refl; device = refl; lists = refl; commands = refl; made = refl }

@@ -1,0 +1,12 @@
+use Rattle.std.proofs.Common.{◌++◌, length}
+use Rattle.engine_core.specs.Comparing.{differences_by}
+use Rattle.engine_sessions.specs.Answers.{answers_of}
+use Rattle.engine_sessions.specs.Sessions.{answers_as}
+use Rattle.engine_sessions.specs.Turns.{joined}
+use Rattle.engine_laws.proofs.Sides.{output_is}
+use Rattle.engine_laws.proofs.comparing.the_old_answer_is_compared_with_the_new_one.Goals as goal
+
+pub returns : goal.returns
+returns c profile old new input =
+    let answers = answers_of (answers_as profile (differences_by old new)) input in
+    output_is (old.messages ++ new.messages) (joined answers.texts) (length answers.texts) answers.fault

@@ -1,0 +1,42 @@
+-- What `verify` says about the text of a rules file, whatever else its line asks for.
+use Rattle.std.specs.Prelude.{◌≡◌, ℕ, true, false, List, [], ◌∷◌, None, codes}
+use Rattle.text_bytes.specs.declared.profile.Profile.{Profile}
+use Rattle.text_bytes.specs.declared.profile.Profile.TheVariants.{Manual}
+use Rattle.text_bytes.specs.declared.source_file.FileKind.TheVariants.{Rules}
+use Rattle.text_bytes.specs.declared.source_file.SourceFile.{SourceFile}
+use Rattle.text_tables.specs.Texts.{Text}
+use Rattle.engine_ends.specs.Delivery.{RunOutcome}
+use Rattle.engine_ends.specs.Kinds.{names_files_of}
+use Rattle.engine_ends.specs.declared.line.Format.{Format}
+use Rattle.engine_ends.specs.declared.line.Line.{Line}
+use Rattle.engine_checks.specs.Files.{asked_by}
+use Rattle.engine_checks.specs.Outcomes.{checks_outcome}
+use Rattle.engine_checks.specs.Reported.{Asked}
+use Rattle.example_laws.specs.Answered.{file_with}
+
+-- what a line asks for with `--lint`, by a profile, with these codes ignored
+abbrev pub linting : Profile → List Text → Asked
+linting profile ignored = record { profile = profile; accounts = record { users = None; groups = None }; style = true; lint = true; ignored = ignored }
+
+-- what it asks for without
+abbrev pub not_linting : Asked
+not_linting = record (linting Manual []) { lint = false }
+
+-- A line names a file of rules, asks for that, writes messages in a format, and counts files.
+pub record IsVerify (asked : Asked) (format : Format) (line : Line) : Type 0 where
+  pub named : names_files_of line Rules ≡ true
+  pub asks : asked_by line ≡ asked
+  pub writes : line.format ≡ format
+  pub counts : line.summary ≡ true
+
+-- the file of rules with a text
+abbrev pub rules_file : Text → SourceFile
+rules_file rules = file_with Rules (codes "r.rules") rules
+
+-- such a line has this outcome over a rules file with a text
+abbrev pub Checks : Asked → Format → Text → RunOutcome → Type 0
+Checks asked format rules said = (line : Line) → IsVerify asked format line → checks_outcome line (rules_file rules ∷ []) ≡ said
+
+-- the outcome with this output, these messages and this status
+abbrev pub said : Text → Text → ℕ → RunOutcome
+said output messages status = record { output = output; messages = messages; status = status }

@@ -1,0 +1,78 @@
+//! Examples of `verify`.
+ghost use Rattle.std.specs.Prelude.{◌∷◌, [], codes};
+ghost use Rattle.text_bytes.specs.declared.profile.Profile.TheVariants.{Manual, Udev};
+ghost use Rattle.engine_ends.specs.declared.line.Format.TheVariants.{Gcc, Plain};
+ghost use Rattle.example_laws.specs.Answered.{text};
+ghost use Rattle.example_laws.specs.Checked.{Checks, linting, not_linting, said};
+
+/// W8 is reported for a NAME in a rule that no network device meets, and not in one that some may meet.
+pub fn a_name_is_reported_in_a_rule_that_no_network_device_meets()
+    ensures { Checks (linting Manual []) Gcc
+        (text (
+        codes "SUBSYSTEM==\"block\", NAME=\"a\"" ∷ codes "SUBSYSTEM==\"net\", NAME=\"b\"" ∷ codes "SUBSYSTEM!=\"net\", NAME=\"c\""
+        ∷ codes "SUBSYSTEM!=\"block\", NAME=\"d\"" ∷ codes "NAME=\"e\"" ∷ codes "SUBSYSTEM==\"net|block\", NAME=\"f\"" ∷ []))
+        (said (codes "1 files checked, 0 good, 1 bad\n")
+        (codes "r.rules:1:27: warning: name outside net: a [W8]\nr.rules:3:25: warning: name outside net: c [W8]\n") 1) }
+{}
+
+/// W7 is reported for an assignment before a match of its rule if a rule compares the same with the same value, and not
+/// after the matches, nor with another value, another name or another key.
+pub fn an_assignment_is_reported_for_which_a_comparison_was_meant()
+    ensures { Checks (linting Manual []) Gcc
+        (text (
+        codes "ENV{A}==\"1\", TAG+=\"t\"" ∷ codes "ENV{A}=\"1\", KERNEL==\"k\"" ∷ codes "KERNEL==\"k\", ENV{A}=\"1\""
+        ∷ codes "ENV{A}=\"2\", KERNEL==\"k\"" ∷ codes "ENV{B}=\"1\", KERNEL==\"k\"" ∷ codes "ATTR{A}=\"1\", KERNEL==\"k\"" ∷ []))
+        (said (codes "1 files checked, 0 good, 1 bad\n")
+        (codes "r.rules:2:1: warning: value assigned that others compare: A [W7]\n") 1) }
+{}
+
+/// W10 is reported for a name with a quote, and not for a value with one.
+pub fn a_name_in_quotes_is_reported()
+    ensures { Checks (linting Manual []) Gcc
+        (text (codes "ENV{\"A\"}=\"1\"" ∷ codes "ENV{A}=\"\\\"1\\\"\"" ∷ codes "KERNEL==\"k\", ENV{a\"b}=\"1\"" ∷ []))
+        (said (codes "1 files checked, 0 good, 1 bad\n")
+        (codes "r.rules:1:1: warning: name in quotes: \"A\" [W10]\nr.rules:3:14: warning: name in quotes: a\"b [W10]\n") 1) }
+{}
+
+/// V8 is reported at the value of the second label or jump, and for udev, to which the last label counts, at that of the
+/// label that does not count.
+pub fn what_is_given_twice_is_reported_at_the_one_that_does_not_count()
+    ensures manual { Checks not_linting Gcc
+        (text (codes "GOTO=\"a\", GOTO=\"c\"" ∷ codes "LABEL=\"a\", LABEL=\"b\"" ∷ []))
+        (said (codes "1 files checked, 0 good, 1 bad\n")
+        (codes "r.rules:1:17: error: label or goto given twice: c [V8]\nr.rules:2:19: error: label or goto given twice: b [V8]\n") 1) }
+    ensures udev { Checks (linting Udev []) Gcc
+        (text (codes "GOTO=\"b\", GOTO=\"c\"" ∷ codes "LABEL=\"a\", LABEL=\"b\"" ∷ []))
+        (said (codes "1 files checked, 0 good, 1 bad\n")
+        (codes "r.rules:1:17: error: label or goto given twice: c [V8]\nr.rules:2:8: error: label or goto given twice: a [V8]\n") 1) }
+{}
+
+/// What is reported makes a file bad and the status 1, in each format; lints that are not asked for and codes that are
+/// ignored do not.
+pub fn the_status_is_that_of_what_is_reported()
+    ensures linted { Checks (linting Manual []) Plain
+        (codes "SUBSYSTEM==\"block\", NAME=\"a\"")
+        (said (codes "1 files checked, 0 good, 1 bad\n") (codes "r.rules:1: W8 name outside net: a\n") 1) }
+    ensures unasked { Checks not_linting Plain
+        (codes "SUBSYSTEM==\"block\", NAME=\"a\"")
+        (said (codes "1 files checked, 1 good, 0 bad\n") [] 0) }
+    ensures ignored { Checks (linting Manual (codes "W8" ∷ [])) Gcc
+        (codes "SUBSYSTEM==\"block\", NAME=\"a\"")
+        (said (codes "1 files checked, 1 good, 0 bad\n") [] 0) }
+    ensures message { Checks (linting Manual (codes "W8" ∷ [])) Plain
+        (codes "NONE=\"1\"")
+        (said (codes "1 files checked, 0 good, 1 bad\n") (codes "r.rules:1: V2 unknown key: NONE\n") 1) }
+{}
+
+/// Messages and lints are reported together in the order of their lines, lints after the messages about their rule.
+pub fn lints_are_reported_among_messages_by_line()
+    ensures { Checks (linting Manual []) Plain
+        (text (
+        codes "SUBSYSTEM==\"block\", NAME=\"a\"" ∷ codes "NONE=\"1\"" ∷ codes "SUBSYSTEM==\"block\",NAME=\"c\""
+        ∷ codes "NONE=\"2\"" ∷ []))
+        (said (codes "1 files checked, 0 good, 1 bad\n")
+        (text (
+        codes "r.rules:1: W8 name outside net: a" ∷ codes "r.rules:2: V2 unknown key: NONE"
+        ∷ codes "r.rules:3: S2 blank after a comma expected: NAME" ∷ codes "r.rules:3: W8 name outside net: c"
+        ∷ codes "r.rules:4: V2 unknown key: NONE" ∷ [])) 1) }
+{}

@@ -23,9 +23,19 @@ def escape(text):
     return "".join(f"\\x{ord(c):02X}" if ord(c) < 0x20 or c in "\x7F\\" else c for c in text)
 
 
+def marked(text):
+    """A text that is shown whole: between quotes if that has to be."""
+    return f'"{escape(text)}"' if not text or text[0] in ' "' or text[-1] == " " else escape(text)
+
+
 def shown(text):
     """A text as lines that say why show it."""
-    return '""' if not text else escape(text) if len(text) <= SHOWN else f"{escape(text[:SHOWN])}.. ({len(text)} bytes)"
+    return marked(text) if len(text) <= SHOWN else f"{marked(text[:SHOWN])}.. ({len(text)} bytes)"
+
+
+def shortened(text):
+    """A value as a key has it between its quotes."""
+    return escape(text) if len(text) <= SHOWN else f"{escape(text[:SHOWN])}.. ({len(text)} bytes)"
 
 
 def unescaped(text):
@@ -105,4 +115,4 @@ def key_text(token):
 
 def match_text(token):
     """A match or an act, as it was written."""
-    return f'{key_text(token)}{token.operator}{"i" * token.blind}"{shown(token.value) if token.value else ""}"'
+    return f'{key_text(token)}{token.operator}{"i" * token.blind}"{shortened(token.value)}"'

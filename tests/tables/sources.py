@@ -128,6 +128,8 @@ CHANGES = [
     comes("a tag that is removed and added again", ['TAG-="t"', 'TAG+="t"'], ["G: t"], "r.rules:2: tag t"),
     comes("an owner, a group and a mode that are set several times", ['OWNER="a", GROUP="g", MODE="1"', 'OWNER="b", MODE="2"', 'OWNER="a"'], [],
           "r.rules:3: owner a", "r.rules:1: group g", "r.rules:2: mode 2"),
+    comes("what one rule changes and changes back stays with the earlier rule", ['ENV{A}="1", SYMLINK+="l", OWNER="o"',
+        'ENV{A}="2", ENV{A}="1", SYMLINK="m", SYMLINK="l", OWNER="p", OWNER="o"'], [], "r.rules:1: owner o", "r.rules:1: link l", "r.rules:1: env A=1"),
     comes("an assignment after := is no change", ['OWNER:="a"', 'OWNER="b"', 'OWNER="a"'], [], "r.rules:1: owner a"),
     comes("a priority as a number", ['OPTIONS="link_priority=5"', 'OPTIONS="link_priority=+05"'], [], "r.rules:1: priority 5"),
     comes("a priority that is changed and changed back", ['OPTIONS="link_priority=5"', 'OPTIONS="link_priority=6"', 'OPTIONS="link_priority=5"'],

@@ -72,7 +72,7 @@ use Rattle.eval_rules.specs.Steps.{walk, plain_step, result_step, steps, apply}
 use Rattle.eval_effects.specs.Changes.{run_text}
 use Rattle.eval_effects.specs.Effects.{effect, ending}
 use Rattle.eval_effects.specs.Items.{node_items, items}
-use Rattle.eval_effects.specs.Shown.{marked, shown, size_note}
+use Rattle.eval_effects.specs.Shown.{marked as whole_or_cut, shown, size_note}
 use Rattle.eval_sources.specs.Reported.{stages_from}
 use Rattle.eval_sources.specs.Sources.{source_of, Reports}
 use Rattle.eval_courses.specs.Acts.{property_report, act_report}
@@ -153,7 +153,7 @@ evaluating = tt
 
 -- those by which what happened is told
 unfoldable reporting : ⊤
-unfolding run_text effect ending node_items items marked shown size_note stages_from source_of Reports property_report
+unfolding run_text effect ending node_items items whole_or_cut shown size_note stages_from source_of Reports property_report
     act_report walk_reports key_reports course wanted_text plain_report result_report device_report up_report
     partial_report search_reports skipped_text message_line unread unknown_line unknown least why_line unread_text reported_from
     why_lines question_answer rule_asks rules_ask

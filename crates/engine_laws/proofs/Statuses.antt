@@ -1,5 +1,5 @@
 -- The status of checks, by what is reported.
-use Rattle.std.proofs.Common.{◌≡◌, ℕ, ◌+◌, ◌==◌, Bool, true, false, cond, List, [], ◌∷◌, map, flat_map, count_by, arith, refl, ap, ◌∙◌}
+use Rattle.std.proofs.Common.{◌≡◌, ℕ, ◌+◌, ◌==◌, ◌||◌, Bool, true, false, cond, List, [], ◌∷◌, map, flat_map, count_by, arith, refl, ap, ◌∙◌}
 use Rattle.std.specs.List.{list_any}
 use Rattle.std.proofs.lemmas.List.Sums.{sum_by-cons}
 use Rattle.text_bytes.specs.declared.source_file.SourceFile.{SourceFile}
@@ -19,9 +19,9 @@ either_number b one other = cond b one other
 -- none is counted if and only if none passes
 none_counted : {X : Type 0} (p : X → Bool) (xs : List X) → either_number (count_by p xs == 0) 0 1 ≡ either_number (list_any p xs) 1 0
 none_counted p [] = refl
-none_counted {X} p (x ∷ xs) = ap (λ (n : ℕ). either_number (n == 0) 0 1) (sum_by-cons (λ y. either_number (p y) 1 0) x xs) ∙ by (p x) (none_counted p xs)
+none_counted {X} p (x ∷ xs) = ap (λ (n : ℕ). either_number (n == 0) 0 1) (sum_by-cons (λ y. cond {A = ℕ} (p y) 1 0) x xs) ∙ by (p x) (none_counted p xs)
   where
-    by : (b : Bool) → either_number (count_by p xs == 0) 0 1 ≡ either_number (list_any p xs) 1 0 → either_number ((either_number b 1 0 + count_by p xs) == 0) 0 1 ≡ either_number (cond b true (list_any p xs)) 1 0
+    by : (b : Bool) → either_number (count_by p xs == 0) 0 1 ≡ either_number (list_any p xs) 1 0 → either_number ((cond {A = ℕ} b 1 0 + count_by p xs) == 0) 0 1 ≡ either_number (b || list_any p xs) 1 0
     by true h = let some : ((1 + count_by p xs) == 0) ≡ false = grind arith in ap (λ b. either_number b 0 1) some
     by false h = let none : 0 + count_by p xs ≡ count_by p xs = omega arith in ap (λ (n : ℕ). either_number (n == 0) 0 1) none ∙ h
 

@@ -38,6 +38,8 @@ PASSWD = "root:x:0:0:root:/root:/bin/sh\ndaemon:x:1:1:daemon:/:/bin/sh\n"
 GROUPS = {"root": 0, "daemon": 1, "tty": 5, "disk": 6, "lp": 7, "kmem": 15, "dialout": 20, "cdrom": 24, "tape": 26, "audio": 29,
           "video": 44, "input": 101, "sgx": 102, "clock": 103, "kvm": 104, "render": 105}
 GROUP = "".join(f"{name}:x:{number}:\n" for name, number in GROUPS.items())
+# What is on the kernel's command line if a block does not say so.
+CMDLINE = "quiet test.given=5"
 BUSES = {"usb", "pci", "scsi", "hid", "platform"}
 # Classes whose devices are below the device that they describe; its attributes in a block are theirs.
 TRANSPORTS = {"ata_port", "fc_transport", "sas_device", "sas_port", "iscsi_session", "iscsi_connection"}
@@ -84,7 +86,7 @@ def make_root(source, folder, database):
         (root / "etc" / name).write_text(text)
     (root / "dev/null").touch()
     (root / "proc/device-tree").symlink_to("/sys/firmware/devicetree/base")
-    (root / "proc/cmdline").write_text("quiet test.given=5\n")
+    (root / "proc/cmdline").write_text(CMDLINE + "\n")
     (root / "proc/sys/test/value").write_text("7 \n")
     make_database(root, {"10.hwdb": os.fsencode(database)})
     helper = Path(folder) / "helper.c"
@@ -140,6 +142,17 @@ def identity_of(device):
     return f'+{device.get("U", [""])[0]}:{kernel_name(device["P"][0])}'
 
 
+def make_elsewhere(sys, name, value):
+    """Makes a device that an attribute's name names, `[SUBSYSTEM/KERNEL]ATTRIBUTE`, with that attribute."""
+    subsystem, kernel, attribute = re.fullmatch(r"\[(.*?)/(.*?)\]/?(.*)", name).groups()
+    folder = sys / "devices/virtual" / subsystem / kernel
+    folder.mkdir(parents=True, exist_ok=True)
+    (folder / "uevent").touch()
+    link_subsystem(sys, folder, subsystem)
+    (folder / attribute).parent.mkdir(parents=True, exist_ok=True)
+    (folder / attribute).write_bytes(os.fsencode(value) + b"\n")
+
+
 def make_device(root, device, is_event):
     """Makes the folder of a device below sys, and for a parent with tags its entry in udev's database."""
     folder = Path(f'{root}/sys{device["P"][0]}')
@@ -150,6 +163,9 @@ def make_device(root, device, is_event):
     make_links(root / "sys", folder, device)
     for text in device.get("A", []):
         name, value = text.split("=", 1)
+        if name.startswith("["):
+            make_elsewhere(root / "sys", name, value)
+            continue
         if (folder / name).is_symlink():
             continue
         (folder / name).parent.mkdir(parents=True, exist_ok=True)
@@ -265,7 +281,17 @@ def make_sysfs(root, block):
         make_device(root, device, device is devices[0])
     for path, value in re.findall("^K: (/.*?)=(.*)$", block, re.M):
         make_file(root / "sys", path, value)
+    given = re.search("^K: cmdline=(.*)$", block, re.M)
+    (root / "proc/cmdline").write_bytes(os.fsencode(given[1] if given else CMDLINE) + b"\n")
     return action, devices
+
+
+def unlike(root, block):
+    """The constants of a block that are not those of this machine and of a root, about which udevadm therefore can't be asked."""
+    given = dict(re.findall("^K: (arch|virt|cvm)=(.*)$", block, re.M))
+    rules = "".join(f'CONST{{{name}}}=="{value}", ENV{{{name}}}="1"\n' for name, value in given.items())
+    found = ask(root, {"r.rules": os.fsencode(rules)}, "C: add\nP: /devices/x\nU: misc\n") if given else []
+    return [name for name in given if f"env {name}=1" not in found]
 
 
 def ask(root, rules, block):

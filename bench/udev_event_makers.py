@@ -5,7 +5,7 @@ Not made, because devdry answers otherwise on purpose (docs/differences.md), or 
 - `driver`, `subsystem`, `uevent` and paths as attributes, a file where TEST looks for a folder, and SYSCTL that is there;
 - the properties TAGS, CURRENT_TAGS and DEVLINKS, and a parent's properties that are not in its lines `E:`;
 - a link `.`, vertical tabs, form feeds, code points that are not characters, and newlines, which part what udevadm prints;
-- `--device` of hwdb, parts of a result that are not numbers, several links in `$links`, CONST, and `db_persist`.
+- `--device` of hwdb without a modalias, paths of TEST that leave a folder that is not there, parts of a result that are not numbers, several links in `$links`, CONST, and `db_persist`.
 """
 from udev_makers import odd
 
@@ -16,7 +16,7 @@ ANSWERS = [("ata_id one", 0, "one"), ("ata_id xy", 0, "xy"), ("ata_id a b  c", 0
            ("ata_id exit 3 two", 3, "two"), ("ata_id", 0, ""), printing("A=1", "B=two words"), printing("ID_X=", 'B=""', "C='4 5'", "#D=1")]
 PROGRAMS = ["ata_id one", "ata_id one", "ata_id $env{NONE}one", "ata_id x%cy", "ata_id a b  c", "ata_id a=3bb=09c", "ata_id exit 3 two", "ata_id"]
 IMPORTED = [ANSWERS[6][0], ANSWERS[7][0], "ata_id exit 3 two", "ata_id $env{NONE}one", "path_id", "usb", "hwdb usb:v1"]
-BUILTINS = ["hwdb usb:v1", "hwdb -p usb: v1", "hwdb --subsystem=usb", "hwdb", "hwdb usb:v2", "hwdb --none -f ID_X usb:v1",
+BUILTINS = ["hwdb usb:v1", "hwdb -p usb: v1", "hwdb --device=+none usb:v1", "hwdb -d x usb:v2", "hwdb --subsystem=usb", "hwdb", "hwdb usb:v2", "hwdb --none -f ID_X usb:v1",
             "path_id", "path", "usb_id", "input_id", "net_id", "btrfs"]
 WORDS = ["a", "b", "ab", "1", "x y", " ", "a/b", "/dev/c", "../d", "/etc/e", "./f", "a//b/", ";", "'q'", "\xe9", "t\\x41", "a|b", "..", "%%", "$$", "e:f", "*[", "#?"]
 SUBSTITUTIONS = """%k $kernel $kernel{x} %n $number $id %b $driver %d $name %D $devnode %N $devpath %p $major %M $minor %m %c $result{1} %c{2+}
@@ -24,6 +24,8 @@ SUBSTITUTIONS = """%k $kernel $kernel{x} %n $number $id %b $driver %d $name %D $
     $attr{[usb/usb1]serial} $attr{[usb/usb1]none} $attr{[usb/none]x} $sysfs{spaces} $attr{control} $tempnode $none 100%""".split()
 PATTERNS = ["", "?*", "*", "a*", "*a*", "sd*|vd*", "[!a]*", "a|b", "|a", "*[0-9]", "\\a*", "[[:alpha:]]*", "x", "1", "7", "add|change"]
 STARRED = ["q/*/x", "q/*/y", "*/x", "q/*", "q/a/x", "q/*/none", "[usb/usb1]q/*/x", "[usb/none]q/*/x", "[misc/star]*/x", "[usb/usb1]*/a/b/y", "f" * 1000]
+PATHS = ["q/", "./model", "q//a", "q/a/../b", "q/b/../a/x", "../../serial", "../..", "q/*/", "./*/x", "q/a/..", "model/", "./q/a/x/.", "..//sda",
+         "../thing", "[usb/usb1]../vendor", "[usb/usb1]./serial", "[usb/usb1].."]
 FILES = ["serial", "size", "model", "blank", "spaces", "none", "idVendor", "[usb/usb1]serial", "[usb/usb1]none", "[usb/none]serial",
          "[block/sda]size", "[usb/usb1]idVendor", "[misc/star]model", "[pci/pci0]vendor"]
 RENDERED = ["$kernel", "%", "si%none", "[usb/$kernel]x", "x%n", "n" * 508 + "%k"]
@@ -50,7 +52,7 @@ VALUES = {
     "SYMLINK": ([None], MATCH, ["a", "a/b", "?*", "", "*"]),
     "NAME": ([None], MATCH, ["", "a", "?*", "*"]),
     "RESULT": ([None], MATCH, ["one", "a*", "", "?*", "xy"]),
-    "TEST": ([None], MATCH, [*FILES, *STARRED, "q", "", "?*", "$env{NONE}", "si%none", "[usb/usb1]"]),
+    "TEST": ([None], MATCH, [*FILES, *STARRED, *PATHS, "q", "", "?*", "$env{NONE}", "si%none", "[usb/usb1]"]),
     "PROGRAM": ([None], MATCH, PROGRAMS),
 }
 MATCHES = "ACTION KERNEL SUBSYSTEM DEVPATH KERNELS SUBSYSTEMS SUBSYSTEMS DRIVERS ATTRS TAGS ATTR ATTR ENV ENV TAG SYMLINK NAME".split()

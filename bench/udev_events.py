@@ -8,6 +8,8 @@ below FOLDER/usr/lib/udev are read together, over the same blocks with the actio
 makers of bench/udev_event_makers.py make COUNT files by SEED, each of which depends on the seed and its number alone; a file
 that is answered otherwise is printed with its differences.
 
+A case with a constant, CONST, is asked for where the machine and the chroot have it.
+
 An answer may differ because a builtin or a program was not run: these are counted separately, by the note that the program
 leaves. `--failing` makes each builtin except for hwdb fail for both, by replacing it with btrfs, which fails silently.
 
@@ -31,15 +33,15 @@ from pathlib import Path
 
 TOP = Path(__file__).resolve().parent.parent
 sys.path.insert(0, str(TOP / "tests"))
-from tables import udev_acts, udev_left_out, udev_links, udev_matches, udev_names, udev_properties  # noqa: E402
+from tables import udev_acts, udev_given, udev_left_out, udev_links, udev_matches, udev_names, udev_properties  # noqa: E402
 from tables.kinds.answered import escaped  # noqa: E402
 from tables.kinds.udev_blocks import BLOCKS, DATABASE, answer_lines  # noqa: E402
 from devices import REAL  # noqa: E402
-from udev_asking import GROUPS, PASSWD, Asking, ask, make_database  # noqa: E402
+from udev_asking import GROUPS, PASSWD, Asking, ask, make_database, unlike  # noqa: E402
 from udev_event_makers import made_events  # noqa: E402
 
 PROGRAM = os.path.abspath(os.environ.get("PROGRAM", TOP / "build/devdry"))
-TABLES = [udev_links, udev_names, udev_properties, udev_matches, udev_acts, udev_left_out]
+TABLES = [udev_links, udev_names, udev_properties, udev_matches, udev_acts, udev_given, udev_left_out]
 ALL_BLOCKS = BLOCKS + ["\n".join(lines) + "\n" for lines in REAL.values()]
 BUILTIN = re.compile(rb'(IMPORT\{builtin\}\s*[!=]?=\s*")(?!hwdb[ "])[^"]*"')
 NOT_RUN = re.compile(rb"note .*: (?:builtin|import) not run: |note .*: no answer for program: ")
@@ -69,6 +71,9 @@ def compare_cases(root):
     cases = [case for table in TABLES for case in table.CASES]
     wrong = 0
     for name, rules, block, lines, *_ in cases:
+        if constants := unlike(root, block):
+            print(f"{name}: not asked, as this machine has another constant: {', '.join(constants)}")
+            continue
         wanted, reported = comparable(answer_lines(block, lines)), reported_by_udevadm(root, {"r.rules": os.fsencode(rules)}, block)
         if reported != wanted:
             wrong += 1

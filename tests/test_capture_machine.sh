@@ -66,6 +66,9 @@ same "words for which rules ask" "K: cmdline=nomodeset multipath=off net.ifnames
 same "- and _ in names are the same" "K: cmdline=net.naming-scheme=v250" "$(said 'net.naming-scheme=v250')"
 same "names that only begin alike, or go on before" "K: cmdline=" "$(said 'nomodesetx=1 xnompath nodmraid.key=1')"
 same "patterns are words" "K: cmdline=multipath=*" "$(said '* multipath=*')"
+same "the words answer IMPORT{cmdline}" "env nomodeset=1" \
+    "$(echo 'IMPORT{cmdline}="nomodeset"' > "$work/r.rules"; said 'nomodeset x' | { printf 'C: add\nP: /d\n'; cat; } \
+        | "$program" events --udev -r "$work/none" "$work/r.rules" | grep nomodeset)"
 rm "$work/machine/cmdline"
 
 # Each device has the constants, behind everything else; --sysfs and --from are about other machines, and --walk prints keys.
@@ -87,9 +90,9 @@ A: [devicetree/base]compatible=maker,board" "$("$capture" --sysfs "$sys" "$card_
 same "they are of the event device" "P: $card/net/eth0" "$("$capture" --sysfs "$sys" "$card_of" | grep '^P: \|^A: \[' | grep -B 1 '^A: \[dmi' | head -n 1)"
 same "they are no keys" "" "$("$capture" --walk --sysfs "$sys" "$card_of" | grep 'dmi')"
 # shellcheck disable=SC2016
-echo 'ENV{A}="$attr{[dmi/id]modalias}", ENV{B}="$attr{[devicetree/base]compatible}"' > "$work/r.rules"
-same "rules find them" "env A=dmi:bvnX:svnMaker:pnBook:
-env B=maker,board" "$("$capture" --sysfs "$sys" "$card_of" | "$program" events --udev -r "$work/none" "$work/r.rules" | grep '^env [AB]=\|note')"
+echo 'ATTR{[dmi/id]modalias}=="dmi:*:svnMaker:*", TEST=="[dmi/id]modalias", ENV{A}="$attr{[devicetree/base]compatible}"' > "$work/r.rules"
+same "rules find them" "env A=maker,board" \
+    "$("$capture" --sysfs "$sys" "$card_of" | "$program" events --udev -r "$work/none" "$work/r.rules" | grep '^env A=\|note')"
 for shell in dash 'bash --posix' 'busybox sh'; do
     if has "${shell%% *}"; then
         # shellcheck disable=SC2086

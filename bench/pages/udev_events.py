@@ -92,6 +92,19 @@ class Event(Known):
         found = [f for f in folders if (before + b'/' + f + b'/' + behind).strip(b'/') in self.dev.names()]
         return (before + b'/' + found[0] + b'/' + behind).lstrip(b'/') if found else None
 
+    def leads(self, at, parts, may_star):
+        """whether the kernel finds something where the components of a path lead from a folder"""
+        found = {dev.path + b'/' + name if name else dev.path for dev in self.chain for name in dev.names()}
+        found |= {path[:at] for path in list(found) for at in range(len(path)) if path[at:at + 1] == b'/'}
+        for place, part in enumerate(parts):
+            if not any(path.startswith(at + b'/') for path in found):
+                return False
+            if part == b'*' and may_star and parts[place + 1:]:
+                folders = {path[len(at) + 1:].split(b'/')[0] for path in found if path.startswith(at + b'/')}
+                return any(self.leads(at + b'/' + folder, parts[place + 1:], False) for folder in folders if folder[:1] != b'.')
+            at = at.rpartition(b'/')[0] if part == b'..' else at if part in (b'', b'.') else at + b'/' + part
+        return at in found
+
     def act(self, token):
         """whether what acts was done"""
         kind, value = token['kind'], token['value']
@@ -99,11 +112,8 @@ class Event(Known):
             text = self.render(value, 1023)
             if len(b'/sys' + self.dev.path + b'/' + text) > 1023:
                 raise TooLong
-            other = self.named_device(text)
-            if other:
-                return other[1] in other[0].names()
-            name = self.starred(text)
-            return name is not None and name in self.dev.names()
+            dev, name = self.named_device(text) or (self.dev, text)
+            return self.leads(dev.path, name.split(b'/'), True)
         if kind == 'PROGRAM':
             self.result = None
             command = self.render(value, 16383)

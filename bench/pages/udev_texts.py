@@ -82,13 +82,23 @@ def sysctl_name(text):
     return b'/'.join(p for p in text.split(b'/') if p not in (b'', b'.'))
 
 
+def parts_of(number):
+    """the two numbers of a device number, read with a base; None if it is none"""
+    try:
+        major, minor = (int(part, 8 if part.startswith(b'0') else 10) for part in number.split(b':'))
+    except ValueError:
+        return None
+    return (major, minor) if 0 < major < 2 ** 12 and minor < 2 ** 20 else None
+
+
 class Device:
     def __init__(self, given):
         give = lambda letter: os.fsencode(given[letter][0]) if letter in given else None
         self.path, self.subsystem, self.driver, self.node = give('P'), give('U'), give('V'), give('N')
-        self.number = give('D').split(b':') if 'D' in given else None
+        self.parts = parts_of(give('D')) if 'D' in given else None
+        self.number = give('D').split(b':') if self.parts else None
         pairs = lambda letter: [tuple(os.fsencode(t).split(b'=', 1)) for t in given.get(letter, [])]
-        self.attrs, self.env = dict(pairs('A')), dict(pairs('E'))
+        self.attrs, self.env = {name: text.rstrip(b'\r\n') for name, text in pairs('A')}, dict(pairs('E'))
         self.tags = [os.fsencode(t) for t in given.get('G', [])]
         self.kernel = self.path.rsplit(b'/', 1)[1].replace(b'!', b'/')
 
@@ -167,8 +177,9 @@ class Known(Reader):
         if name == b'result':
             return self.part(content)
         digits = re.search(rb'[0-9]*$', dev.kernel).group()
+        major, minor = dev.parts or (0, 0)
         return {b'kernel': dev.kernel, b'number': b'' if digits == dev.kernel else digits, b'devpath': dev.path, b'id': up.kernel if up else b'',
-                b'driver': (up.driver if up else None) or b'', b'major': dev.number[0] if dev.number else b'0', b'minor': dev.number[1] if dev.number else b'0',
+                b'driver': (up.driver if up else None) or b'', b'major': b'%d' % major, b'minor': b'%d' % minor,
                 b'parent': (self.chain[1].node if self.chain[1:] else None) or b'', b'links': b' '.join(self.links), b'root': b'/dev', b'sys': b'/sys',
                 b'name': self.name if self.name is not None else dev.node or dev.kernel,
                 b'devnode': b'/dev/' + dev.node if dev.node else b''}[b'devnode' if name == b'tempnode' else name]

@@ -22,6 +22,12 @@ def words_of_hwdb(name, block, reported, *commands):
     return name, rules, block, [f'env A{place}=1' for place, (_, is_found) in enumerate(commands) if is_found] + reported
 
 
+def paths_of_test(name, block, *paths):
+    """A case of a file with a rule for each path of TEST: if something is there, it sets the property of its number."""
+    rules = ''.join(f'TEST=="{path}", ENV{{A{place}}}="1"\n' for place, (path, _) in enumerate(paths))
+    return name, rules, block, [f'env A{place}=1' for place, (_, is_there) in enumerate(paths) if is_there]
+
+
 # A device of USB with a vendor and a product.
 NUMBERS = ('A: idVendor=0012', 'A: idProduct=00ff')
 LOOKS_UP = 'IMPORT{builtin}="hwdb --subsystem=usb", ENV{A}="1"\n'
@@ -459,6 +465,23 @@ CASES = [
      'TEST=="", ENV{M}="1"\n',
      STAR,
      ['env M=1']),
+    paths_of_test('TEST of paths with components that lead nowhere', STAR,
+                  ('q/', True), ('q//a', True), ('./q', True), ('q/.', True), ('q/./a//', True), ('.', True), ('./', True), ('.//model', True),
+                  ('q/none/', False), ('./none', False)),
+    paths_of_test('TEST of paths that lead up', STAR,
+                  ('q/a/../b', True), ('q/a/../b/y', True), ('q/b/../a/x', True), ('q/a/..', True), ('..', True), ('../star/model', True),
+                  ('q/a/../c', False), ('q/b/../a/y', False), ('../model', False)),
+    paths_of_test('TEST of paths with */ and with components that lead nowhere', STAR,
+                  ('q/*/', True), ('*/', True), ('./*/x', True), ('q/*/../b', True), ('q/./*/y', True), ('q//*//y', True), ('q/*', False), ('q/*/none/', False)),
+    paths_of_test('TEST of a file where only a folder may be', STAR,
+                  ('model/', False), ('model/.', False), ('q/a/x/', False), ('q/a/x/.', False)),
+    paths_of_test("TEST of paths out of the device's folder", DISK,
+                  ('../../serial', True), ('../../../vendor', True), ('..', True), ('../', True), ('../sda', True), ('../sda/size', True),
+                  ('../sda/../sda/size', True), ('../../../usb1/serial', True), ('../../block/sda/', True), ('../../../../pci0/vendor', True),
+                  ('../../none', False), ('../none', False), ('../../serial/', False)),
+    paths_of_test('TEST of paths in the folder of another device', DISK,
+                  ('[usb/usb1]../vendor', True), ('[usb/usb1]/../vendor', True), ('[usb/usb1]./serial', True), ('[usb/usb1]block//', True),
+                  ('[usb/usb1]block/sda/size', True), ('[usb/usb1].', True), ('[usb/usb1]..', True), ('[usb/usb1]serial/', False)),
     ('an attribute is assigned with */',
      ('ATTR{q/*/y}="2"\n' +
       'ATTR{q/*}="4"\n' +

@@ -1,5 +1,5 @@
 """`events --udev` where devdry does not do what udevadm 257 does: udevadm's answer, and devdry's. docs/differences.md says why."""
-from tables.kinds.udev_blocks import DISK, STAR, THING
+from tables.kinds.udev_blocks import DISK, STAR, THING, numbered
 from tables.kinds.udev_events import answered_otherwise
 
 CASES = [
@@ -80,6 +80,24 @@ CASES = [
      DISK,
      ['env A=1', 'env C=1', 'env D=7'],
      []),
+    ('a folder that .. leaves is not looked for',
+     ('TEST=="none/../q", ENV{A}="1"\n' +
+      'TEST=="q/a/x/..", ENV{B}="1"\n' +
+      'TEST=="q/a/x/../x", ENV{C}="1"\n'),
+     STAR,
+     [],
+     ['env A=1', 'env B=1', 'env C=1']),
+    ('*/ in a path stands for a folder of one device',
+     ('TEST=="../*/size", ENV{A}="1"\n' +
+      'TEST=="../../*/sda", ENV{B}="1"\n'),
+     DISK,
+     ['env A=1', 'env B=1'],
+     []),
+    ('a number with a leading zero is read in base 8',
+     'ENV{N}="$major:$minor|$env{MAJOR}:$env{MINOR}"\n',
+     numbered('010:07'),
+     ['env N=8:7|010:07'],
+     ['env N=010:07|010:07']),
     ("the parent's own properties",
      ('IMPORT{parent}="DEVPATH"\n' +
       'IMPORT{parent}="SUBSYS*"\n'),

@@ -1,5 +1,5 @@
 """`events --udev`: matches, as udevadm 257 answers it."""
-from tables.kinds.udev_blocks import BANG, BOTH, CLASS, DISK, PART, STAR, SUBSYSTEM, answering
+from tables.kinds.udev_blocks import BANG, BOTH, CLASS, DISK, PART, RETURNS, STAR, SUBSYSTEM, answering
 from tables.kinds.udev_events import answered_as_udev
 
 CASES = [
@@ -258,6 +258,19 @@ CASES = [
      DISK,
      ['env A=Disk', 'env C=Disk', 'env D=1', 'env G=|', 'env H=2048', 'env I=7', 'env J=7',
       'attr model=new 2048', 'attr none=1', 'attr size=', 'attr [usb/usb1]serial=9']),
+    ('carriage returns at the end of an attribute are no part of it',
+     ('ATTR{c}=="y ", ENV{A}="1"\n' +
+      'ATTR{c}==e"y \\r", ENV{B}="1"\n' +
+      'ATTR{d}=="y| ", ENV{C}="1"\n' +
+      'ATTR{d}==e"y\\r", ENV{D}="1"\n' +
+      'ATTR{e}==e"y\\r ", ENV{E}="1"\n' +
+      'ATTR{f}=="", ENV{F}="1"\n' +
+      'ATTR{f}!="?*", ENV{G}="1"\n' +
+      'ATTRS{c}=="y ", ENV{H}="$attr{c}|$attr{d}|$attr{e}|$attr{f}|"\n' +
+      'ATTR{[misc/returns]c}=="y ", ENV{I}="$attr{[misc/returns]c}|"\n' +
+      'ENV{J}="$attr{long}"\n'),
+     RETURNS,
+     ['env A=1', 'env C=1', 'env E=1', 'env F=1', 'env G=1', 'env H=y|y|y||', 'env I=y|', 'env J=' + 'x' * 511]),
     ('an attribute of blanks and ?*',
      ('ATTR{blank}=="?*", ENV{J}="1"\n' +
       'ATTR{blank}!="", ENV{I}="1"\n'),

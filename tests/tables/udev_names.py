@@ -1,6 +1,18 @@
 """`events --udev`: names, modes, owners, tags, labels and options, as udevadm 257 answers it."""
-from tables.kinds.udev_blocks import BANG, BOTH, DIGITS, DISK, NET, PART, PHY, THING
+from tables.kinds.udev_blocks import BANG, BOTH, DIGITS, DISK, NET, PART, PHY, THING, numbered
 from tables.kinds.udev_events import answered_as_udev
+
+# What is left without a number.
+NO_NODE = ['tag t', 'env N=0:0', 'env M=||/dev/numbered|', 'note r.rules:1: no device number: OWNER', 'note r.rules:1: no device number: GROUP',
+           'note r.rules:1: no device number: MODE', 'note r.rules:1: no device number: SYMLINK']
+
+
+def node_of(name, number, lines):
+    """A case of what rules assign to the node of a device with a number."""
+    rules = ('SYMLINK+="a", TAG+="t", OWNER="daemon", GROUP="daemon", MODE="0600"\n' +
+             'ENV{N}="$major:$minor", ENV{M}="$env{MAJOR}|$env{MINOR}|$env{DEVNAME}|"\n')
+    return name, rules, numbered(number), lines
+
 
 CASES = [
     ('NAME of an interface',
@@ -287,6 +299,13 @@ CASES = [
      'OPTIONS="link_priority=010", SYMLINK+="a"\n',
      DISK,
      ['priority 8', 'link a']),
+    node_of('the greatest number', '4095:1048575',
+            ['owner daemon', 'group daemon', 'mode 0600', 'link a', 'tag t', 'env N=4095:1048575', 'env M=4095|1048575|/dev/numbered|']),
+    node_of('a major of 0 is no number', '0:5', NO_NODE),
+    node_of('a number of 0:0', '0:0', NO_NODE),
+    node_of('a major of several zeros', '00:5', NO_NODE),
+    node_of('a major of 4096 is no number', '4096:1', NO_NODE),
+    node_of('a minor of 20 bits at most', '1:1048576', NO_NODE),
 ]
 
 ROWS = answered_as_udev(CASES)

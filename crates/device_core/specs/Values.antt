@@ -1,8 +1,12 @@
 -- An event, regardless of where its texts are in memory.
-use Rattle.std.specs.Prelude.{ℕ, List, [], ◌∷◌, Option, Some, None}
+use Rattle.std.specs.Prelude.{ℕ, ◌^◌, Bool, true, false, not, ◌==◌, ◌&&◌, if◌then◌else◌, List, [], ◌∷◌, Option, Some, None, is_some}
+use Rattle.std.specs.List.{list_all}
+use Rattle.text_bytes.specs.Names.{digit_zero}
+use Rattle.text_bytes.specs.Numbers.{decimal_below}
 use Rattle.text_tables.specs.Texts.{Text}
 use Rattle.text_tables.specs.Pairs.{Pair}
 use Rattle.text_bytes.specs.declared.profile.Profile.{Profile}
+use Rattle.text_bytes.specs.declared.profile.Profile.TheVariants.{Manual, Udev}
 
 -- a device number, with its two parts as written
 pub record NumberValue : Type 0 where
@@ -54,9 +58,26 @@ pub record EventValue : Type 0 where
 abbrev pub chain : EventValue → List DeviceValue
 chain event = event.device ∷ event.parents
 
+-- whether udev takes a number for that of a device: it is one that the kernel gives, with a major from 1 to 4095, and a
+-- minor of 20 bits
+abbrev pub is_given : NumberValue → Bool
+is_given number =
+    is_some (decimal_below (2 ^ 12) number.major) && not (list_all (λ digit. digit == digit_zero) number.major)
+    && is_some (decimal_below (2 ^ 20) number.minor)
+
+-- whether a number is that of a device by a profile: by the manual each is
+abbrev pub is_number_by : Profile → NumberValue → Bool
+is_number_by Manual number = true
+is_number_by Udev number = is_given number
+
+-- the number that a device has by a profile, if its block gives it one
+abbrev pub number_by : Profile → Option NumberValue → Option NumberValue
+number_by profile None = None
+number_by profile (Some number) = if is_number_by profile number then Some number else None
+
 -- an event over which rules are evaluated by a profile
 abbrev pub by_profile : Profile → EventValue → EventValue
-by_profile profile event = record event { profile = profile }
+by_profile profile event = record event { profile = profile; device = record event.device { number = number_by profile event.device.number } }
 
 -- the most devices that an event may have
 abbrev pub most_devices : ℕ

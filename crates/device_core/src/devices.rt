@@ -1,9 +1,12 @@
 //! What is known about a device.
-ghost use Rattle.std.specs.Prelude.{◌≡◌, option_copied, option_map};
-ghost use Rattle.device_core.specs.Values.{described};
+ghost use Rattle.std.specs.Prelude.{◌≡◌, ◌==◌, None, option_copied, option_map, true, false};
+ghost use Rattle.std.specs.List.{list_all};
+ghost use Rattle.text_bytes.specs.Names.{digit_zero};
+ghost use Rattle.device_core.specs.Values.{described, is_given, is_number_by, number_by};
 
 use std::alloc::Global;
 use std::marker::Model;
+use text_bytes::{Profile, decimal_below};
 use text_tables::{Pairs, Texts};
 
 /// A device number, with its two parts as written: 1 to 10 digits each, below 2^32.
@@ -35,6 +38,32 @@ impl<'a> DeviceNumber<'a> {
     {
         self.minor
     }
+
+    /// Whether udev takes it for the number of a device.
+    fn is_given(&self) -> bool
+        ensures { result ≡ is_given self.now }
+    {
+        decimal_below(1 << 12, self.major).is_some()
+            && !is_zero(self.major)
+            && decimal_below(1 << 20, self.minor).is_some()
+    }
+
+    /// Whether it is the number of a device by a profile.
+    fn is_number_by(&self, profile: Profile) -> bool
+        ensures { result ≡ is_number_by profile self.now }
+    {
+        match profile {
+            Profile::Manual => true,
+            Profile::Udev => self.is_given(),
+        }
+    }
+}
+
+/// Whether digits write 0.
+fn is_zero(digits: &[u8]) -> bool
+    ensures { result ≡ list_all (λ digit. digit == digit_zero) digits.now }
+{
+    digits.iter().all(|digit| *digit == b'0')
 }
 
 /// A device, as the lines from its `P:` up to the next describe it.
@@ -126,6 +155,26 @@ impl<'a> Device<'a> {
         ensures { option_copied result ≡ self.now.number }
     {
         self.number.as_ref()
+    }
+
+    /// Whether the number that its block gives it is its number by a profile.
+    fn is_numbered_by(&self, profile: Profile) -> bool
+        ensures kept { result ≡ true → number_by profile self.now.number ≡ self.now.number }
+        ensures none { result ≡ false → number_by profile self.now.number ≡ None }
+    {
+        match &self.number {
+            Some(number) => number.is_number_by(profile),
+            None => false,
+        }
+    }
+
+    /// Leaves the number out if it is none by a profile.
+    pub(crate) fn number_by(&mut self, profile: Profile)
+        ensures { self.new ≡ record self.old { number = number_by profile self.old.number } }
+    {
+        if !self.is_numbered_by(profile) {
+            self.number = None;
+        }
     }
 
     /// `A:`, its attributes.

@@ -103,10 +103,12 @@ impl<'a> Event<'a> {
         self.profile
     }
 
-    /// The same event, over which rules are evaluated by a profile.
+    /// The same event, over which rules are evaluated by a profile. For udev (systemd 257) a number whose major is 0 or
+    /// has more than 12 bits, or whose minor has more than 20, is none: the kernel gives no device such a number.
     pub fn with_profile(mut self, profile: Profile) -> Event<'a>
         ensures { result ≡ by_profile profile self.entry }
     {
+        self.device.number_by(profile);
         self.profile = profile;
         self
     }

@@ -56,7 +56,7 @@ program_noted known r act template s is =
     ∙ ap (λ (d : ActKind). filter is_no_answer s.notes ++ map (note_about r NoAnswer) (act_asks d s.state)) (sym is)
 
 by_print : (r : Rule) (command : Text) (answer : Option AnswerValue) (s : Scene)
-    → filter is_no_answer (from_answer_or_noted r command answer s).0.notes ≡ filter is_no_answer s.notes ++ map (note_about r NoAnswer) (cond (is_some answer) [] (command ∷ []))
+    → filter is_no_answer (from_answer_or_noted r NoAnswer command answer s).0.notes ≡ filter is_no_answer s.notes ++ map (note_about r NoAnswer) (cond (is_some answer) [] (command ∷ []))
 by_print r command None s = filter-append is_no_answer s.notes (note_about r NoAnswer command ∷ [])
 by_print r command (Some answer) s = by (answer.status == 0)
   where

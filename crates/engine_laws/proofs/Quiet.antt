@@ -1,5 +1,5 @@
 -- What leaves no note that a command has no answer, by the manual.
-use Rattle.std.proofs.Common.{◌≡◌, ◌||◌, ℕ, Bool, true, false, cond, List, [], ◌∷◌, ◌++◌, Option, Some, None, is_some, codes, nat_le, append-nil, refl, ap, sym, subst, ◌∙◌}
+use Rattle.std.proofs.Common.{◌≡◌, ◌==◌, ◌||◌, ℕ, Bool, true, false, cond, List, [], ◌∷◌, ◌++◌, Option, Some, None, is_some, codes, nat_le, append-nil, refl, ap, sym, subst, ◌∙◌}
 use Rattle.std.specs.List.{filter, fold}
 use Rattle.std.proofs.lemmas.List.Elements.{filter-append}
 use Rattle.text_bytes.specs.Names.{slash}
@@ -10,7 +10,7 @@ use Rattle.text_tables.specs.Texts.{Text}
 use Rattle.text_tables.specs.Pairs.{Pair, value_of}
 use Rattle.builtin_devices.specs.Knowledge.{Known}
 use Rattle.builtin_devices.specs.Outcomes.{OutcomeValue}
-use Rattle.device_core.specs.Values.{DeviceValue, EventValue}
+use Rattle.device_core.specs.Values.{AnswerValue, DeviceValue, EventValue}
 use Rattle.rule_types.specs.Builtins.{builtin_name}
 use Rattle.rule_types.specs.declared.builtins.Builtin.TheVariants.{InputId, NetId, PathId, UsbId}
 use Rattle.rule_types.specs.Names.{import_name}
@@ -39,6 +39,7 @@ use Rattle.rule_types.specs.Rules.{Rule}
 use Rattle.eval_rendering.specs.declared.rendered.Rendered.{Rendered}
 use Rattle.eval_rendering.specs.declared.rendered.Rendered.TheVariants as rendered
 use Rattle.eval_state.specs.Chains.{device_at}
+use Rattle.eval_state.specs.Places.{is_there, place_of}
 use Rattle.eval_state.specs.Named.{NamedValue, named, named_place}
 use Rattle.eval_state.specs.Notes.{note_about, word_of_key}
 use Rattle.eval_state.specs.Properties.{properties_set}
@@ -47,17 +48,20 @@ use Rattle.eval_state.specs.Scenes.{noted, with_env}
 use Rattle.eval_state.specs.declared.finals.FinalKey.{FinalKey}
 use Rattle.eval_state.specs.declared.finals.FinalKey.TheVariants as final
 use Rattle.eval_state.specs.declared.note_kind.NoteKind.{NoteKind}
-use Rattle.eval_state.specs.declared.note_kind.NoteKind.TheVariants.{AttributeNotRead, BadHwdbArguments, BuiltinNeeds, BuiltinNotRun, ImportNotRun, NameIgnored, SysctlNotRead, TestNotMade, TextTooLong}
+use Rattle.eval_state.specs.declared.note_kind.NoteKind.TheVariants.{AttributeNotRead, BadHwdbArguments, BuiltinNeeds, BuiltinNotRun, ConstantNotGiven, ImportNotRun, NameIgnored, SysctlNotRead, TestNotMade, TextTooLong}
 use Rattle.eval_state.specs.declared.scene.Scene.{Scene}
 use Rattle.eval_acts.specs.Acts.{imported, on_text}
 use Rattle.eval_acts.specs.Inner.{left}
 use Rattle.eval_acts.specs.BuiltinRuns.{looked_up, most_set, need_noted, need_word, outcome_set, outcome_taken, path_id_run, properties_size, usb_id_run, with_maker}
-use Rattle.eval_acts.specs.Imports.{builtin_run, from_parent, run_builtin}
+use Rattle.eval_acts.specs.Imports.{builtin_run, from_answer_or_noted, from_parent, run_builtin}
+use Rattle.eval_acts.specs.Printed.{printed_properties}
+use Rattle.eval_commands.specs.Builtins.{builtin_question}
 use Rattle.eval_acts.specs.Questions.{tested, tested_at, tested_by, tested_by_udev}
 use Rattle.eval_acts.specs.Reaching.{match_reached}
 use Rattle.eval_commands.specs.declared.builtin.Builtin.{Builtin}
 use Rattle.eval_commands.specs.declared.builtin.Builtin.TheVariants as builtin
 use Rattle.eval_matching.specs.Attributes.{is_not_read}
+use Rattle.eval_matching.specs.Subjects.{is_not_given}
 use Rattle.eval_assignments.specs.Assigning.{assigned, with_option}
 use Rattle.eval_assignments.specs.Escapes.{escape_of}
 use Rattle.eval_assignments.specs.Finality.{final_key, final_target, finally, is_settled}
@@ -90,7 +94,7 @@ text_quiet r d act h (rendered.Text t) s = h t s
 text_quiet r d act h rendered.TooLong s = note_quiet r TextTooLong (word_of_key (key_of_act_kind d) (attribute_of_act_kind d)) s refl
 
 at_quiet : (place : Option ℕ) (r : Rule) (name path : Text) (s : Scene) → Quiet s (tested_at place r name path s).0
-at_quiet None r name path s = note_quiet r TestNotMade path s refl
+at_quiet None r name path s = either s (is_there s.state.event (place_of s.state.event.device path)) (s, true) (noted r TestNotMade path s, false) refl (note_quiet r TestNotMade path s refl)
 at_quiet (Some place) r name path s = refl
 
 named_quiet : (n : Option NamedValue) (r : Rule) (path : Text) (s : Scene) → Quiet s (tested_by_udev n r path s).0
@@ -125,6 +129,10 @@ path_quiet : (known : Known) (ran : Option Bool) (r : Rule) (s : Scene) → Quie
 path_quiet known None r s = taken_quiet r (builtin_name PathId) (known.path_id s.state.event) s
 path_quiet known (Some done) r s = refl
 
+answer_quiet : (r : Rule) (name : Text) (a : Option AnswerValue) (s : Scene) → Quiet s (from_answer_or_noted r BuiltinNotRun name a s).0
+answer_quiet r name None s = note_quiet r BuiltinNotRun name s refl
+answer_quiet r name (Some a) s = either s (a.status == 0) (with_env (properties_set s.state.env (printed_properties a.text)) s, true) (s, false) refl refl
+
 builtin_quiet : (known : Known) (r : Rule) (t : Text) (b : Builtin) (s : Scene) → Quiet s (builtin_run known r t b s).0
 builtin_quiet known r t (builtin.Hwdb h) s = refl
 builtin_quiet known r t builtin.InputId s = taken_quiet r (builtin_name InputId) (known.input_id s.state.event) s
@@ -133,6 +141,8 @@ builtin_quiet known r t builtin.NetId s =
     outcome_quiet r (builtin_name NetId) names (with_maker (looked_up known (known.net_lookup s.state.event s.state.env)) names.properties) s
 builtin_quiet known r t builtin.PathId s = path_quiet known s.ran.path_id r s
 builtin_quiet known r t builtin.UsbId s = usb_quiet known s.ran.usb_id r s
+builtin_quiet known r t builtin.SetsNothing s = refl
+builtin_quiet known r t (builtin.Answered name) s = answer_quiet r name (value_of s.state.event.programs (builtin_question t)) s
 builtin_quiet known r t (builtin.Other name) s = note_quiet r BuiltinNotRun name s refl
 builtin_quiet known r t builtin.BadArguments s = note_quiet r BadHwdbArguments t s refl
 
@@ -160,6 +170,11 @@ reached_quiet r (plain.Attr name) s = by (is_not_read name s.state.event)
   where
     by : (b : Bool) → Quiet s (cond b (noted r AttributeNotRead name s) s)
     by true = note_quiet r AttributeNotRead name s refl
+    by false = refl
+reached_quiet r (plain.Const name) s = by (is_not_given name s.state.event)
+  where
+    by : (b : Bool) → Quiet s (cond b (noted r ConstantNotGiven name s) s)
+    by true = note_quiet r ConstantNotGiven name s refl
     by false = refl
 reached_quiet r k s = refl
 

@@ -30,7 +30,10 @@ use Rattle.eval_rules.specs.Jumps.{is_passed, sought_after}
 use Rattle.eval_rules.specs.Steps.{Went, apply, if_proceeding, plain_step, search, walk}
 use Rattle.eval_rules.proofs.Staying.{act_stays, event_stays, reached_stays}
 use Rattle.eval_courses.specs.Courses.{reports_if_proceeding, searched, walk_reports}
-use Rattle.eval_courses.specs.Questions.{act_asks, acts_ask, can_be_asked, import_asks, questions, rule_asks, rules_ask, unanswered, with_asked}
+use Rattle.eval_commands.specs.Builtins.{builtin, builtin_question}
+use Rattle.eval_commands.specs.declared.builtin.Builtin.{Builtin}
+use Rattle.eval_commands.specs.declared.builtin.Builtin.TheVariants as asked
+use Rattle.eval_courses.specs.Questions.{act_asks, acts_ask, builtin_asks, can_be_asked, meant_asks, import_asks, questions, rule_asks, rules_ask, unanswered, with_asked}
 
 -- ---- what the event says of itself stays up to the acts of a rule
 
@@ -80,10 +83,25 @@ module _ (event : EventValue) where
       by (Some answer) e = refl
       by None e = ap (λ (v : Option AnswerValue). is_none v && true) e
 
+  meant_fine : (command : Text) (b : Builtin) → list_all is_fine (meant_asks event command b) ≡ true
+  meant_fine command (asked.Answered name) = text_fine (rendered.Text (builtin_question command))
+  meant_fine command (asked.Hwdb hwdb) = refl
+  meant_fine command asked.InputId = refl
+  meant_fine command asked.NetId = refl
+  meant_fine command asked.PathId = refl
+  meant_fine command asked.UsbId = refl
+  meant_fine command asked.SetsNothing = refl
+  meant_fine command (asked.Other name) = refl
+  meant_fine command asked.BadArguments = refl
+
+  builtin_fine : (text : Rendered) → list_all is_fine (builtin_asks event text) ≡ true
+  builtin_fine rendered.TooLong = refl
+  builtin_fine (rendered.Text command) = meant_fine command (builtin Udev command)
+
   import_fine : (p : Profile) (i : Import) (s : State) → s.event ≡ event → list_all is_fine (import_asks p i s) ≡ true
   import_fine Manual i s e = refl
   import_fine Udev (import.Program template) s e = ap (λ v. list_all is_fine (unanswered v (import_text most_command_bytes template s))) e ∙ text_fine (import_text most_command_bytes template s)
-  import_fine Udev (import.Builtin template) s e = refl
+  import_fine Udev (import.Builtin template) s e = ap (λ v. list_all is_fine (builtin_asks v (import_text most_command_bytes template s))) e ∙ builtin_fine (import_text most_command_bytes template s)
   import_fine Udev (import.Parent names value) s e = refl
   import_fine Udev (import.File template) s e = refl
   import_fine Udev (import.Cmdline name) s e = refl

@@ -10,7 +10,7 @@ use Rattle.device_core.specs.Faults.{block_gives, given_below, given_by, given_w
 use Rattle.device_core.specs.Lines.{Row, row_of}
 use Rattle.device_core.specs.RunBlocks.{is_too_long, line_of_excess}
 use Rattle.device_core.specs.Runs.{runs}
-use Rattle.device_core.specs.Values.{DeviceValue, EventValue, by_profile}
+use Rattle.device_core.specs.Values.{DeviceValue, EventValue, NumberValue, by_profile, number_by}
 use Rattle.device_core.specs.declared.faults.BlockFault.{BlockFault}
 use Rattle.device_core.specs.declared.faults.BlockFaultKind.{BlockFaultKind}
 use Rattle.device_core.specs.declared.faults.BlockFaultKind.TheVariants.{TooLong}
@@ -46,14 +46,20 @@ pub manual_block : (block : Text) (e : EventValue) → block_gives block ≡ Ok 
 unfolding block_gives
 manual_block block e h = manual_if (is_too_long block) (lines block) (record { line = line_of_excess block; kind = TooLong }) e h
 
-same_profile : (p : Profile) (e : EventValue) → e.profile ≡ p → by_profile p e ≡ e
-same_profile p e h = ap (λ q. by_profile q e) (sym h)
+same_number : (number : Option NumberValue) → number_by Manual number ≡ number
+same_number None = refl
+same_number (Some number) = refl
+
+same_event : (e : EventValue) → e.profile ≡ Manual → by_profile Manual e ≡ e
+same_event e h =
+    ap (λ number. record e { profile = Manual; device = record e.device { number = number } }) (same_number e.device.number)
+    ∙ ap (λ (p : Profile). record e { profile = p }) (sym h)
 
 same_block : (answer : EventValue → Text) (given : Result EventValue BlockFault) (following same : Answers) → ((e : EventValue) → given ≡ Ok e → e.profile ≡ Manual) → following ≡ same
     → with_block (answers_as Manual answer) given following ≡ with_block answer given same
 same_block answer (Ok e) following same manual h =
     ap (with_block (answers_as Manual answer) (Ok e)) h
-    ∙ ap (λ (text : Text). record { texts = text ∷ same.texts; fault = same.fault }) (ap answer (same_profile Manual e (manual e refl)))
+    ∙ ap (λ (text : Text). record { texts = text ∷ same.texts; fault = same.fault }) (ap answer (same_event e (manual e refl)))
 same_block answer (Err fault) following same manual h = refl
 
 same_answers : (answer : EventValue → Text) (blocks : List Text) → answers_to (answers_as Manual answer) blocks ≡ answers_to answer blocks

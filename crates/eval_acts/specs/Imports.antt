@@ -1,5 +1,6 @@
 -- IMPORT, by where it takes properties from. Each returns the scene after it, and whether it was done.
-use Rattle.std.specs.Prelude.{Bool, true, false, not, ◌==◌, if◌then◌else◌, List, length, filter, Option, Some, None}
+use Rattle.std.specs.Prelude.{Bool, true, false, not, ◌==◌, if◌then◌else◌, List, length, filter, Option, Some, None, codes}
+use Rattle.text_bytes.specs.Texts.{is_empty}
 use Rattle.text_bytes.specs.declared.profile.Profile.{Profile}
 use Rattle.text_bytes.specs.declared.profile.Profile.TheVariants.{Manual, Udev}
 use Rattle.text_tables.specs.Texts.{Text}
@@ -7,18 +8,21 @@ use Rattle.text_tables.specs.Pairs.{Pair, value_of, with_values}
 use Rattle.text_core.specs.Choices.{choice_fits}
 use Rattle.text_core.specs.declared.item.Item.{Item}
 use Rattle.builtin_devices.specs.Knowledge.{Known}
-use Rattle.device_core.specs.Values.{AnswerValue, DeviceValue}
+use Rattle.device_core.specs.Values.{AnswerValue, DeviceValue, EventValue}
 use Rattle.rule_types.specs.Names.{import_name}
 use Rattle.rule_types.specs.declared.types.ImportType.{ImportType}
+use Rattle.rule_types.specs.declared.types.ImportType.TheVariants.{Cmdline}
 use Rattle.rule_types.specs.Rules.{Rule}
-use Rattle.eval_commands.specs.Builtins.{builtin}
+use Rattle.eval_commands.specs.Builtins.{builtin, builtin_question}
+use Rattle.eval_commands.specs.Cmdline.{cmdline_value}
 use Rattle.eval_acts.specs.BuiltinRuns.{input_id_run, net_id_run, path_id_run, usb_id_run}
 use Rattle.eval_acts.specs.LookUps.{found}
 use Rattle.eval_acts.specs.Printed.{printed_properties}
 use Rattle.eval_commands.specs.declared.builtin.Builtin.{Builtin}
 use Rattle.eval_commands.specs.declared.builtin.Builtin.TheVariants as asked
-use Rattle.eval_state.specs.Properties.{properties_set}
+use Rattle.eval_state.specs.Properties.{properties_set, property_set}
 use Rattle.eval_state.specs.Scenes.{noted, with_env}
+use Rattle.eval_state.specs.declared.note_kind.NoteKind.{NoteKind}
 use Rattle.eval_state.specs.declared.note_kind.NoteKind.TheVariants.{BadHwdbArguments, BuiltinNotRun, ImportNotRun, NoAnswer}
 use Rattle.eval_state.specs.declared.scene.Scene.{Scene}
 
@@ -31,14 +35,27 @@ with_found Udev env properties = properties_set env properties
 abbrev pub taken : List Pair → Scene → Scene × Bool
 taken properties s = (with_env (with_found s.state.event.profile s.state.env properties) s, not (length properties == 0))
 
--- the builtin of a command: `hwdb` takes what it finds, four builtins of udev look at the devices, and others are not
--- run
+-- a program that answered: if its status is 0, the properties of what it printed are set; the result of PROGRAM stays
+abbrev pub from_answer : AnswerValue → Scene → Scene × Bool
+from_answer answer s =
+    if answer.status == 0 then (with_env (properties_set s.state.env (printed_properties answer.text)) s, true)
+    else (s, false)
+
+-- the properties of an answer, or a note that there is none
+abbrev pub from_answer_or_noted : Rule → NoteKind → (word : Text) → Option AnswerValue → Scene → Scene × Bool
+from_answer_or_noted r kind word None s = (noted r kind word s, false)
+from_answer_or_noted r kind word (Some answer) s = from_answer answer s
+
+-- the builtin of a command: `hwdb` takes what it finds, and four builtins of udev look at the devices. Of the others, by
+-- udev, those that set nothing are done and the event's block answers the rest; by the manual none is run.
 abbrev pub builtin_run : Known → Rule → Text → Builtin → Scene → Scene × Bool
 builtin_run known r command (asked.Hwdb hwdb) s = taken (found known hwdb s.state) s
 builtin_run known r command asked.InputId s = input_id_run known r s
 builtin_run known r command asked.NetId s = net_id_run known r s
 builtin_run known r command asked.PathId s = path_id_run known s.ran.path_id r s
 builtin_run known r command asked.UsbId s = usb_id_run known s.ran.usb_id r s
+builtin_run known r command asked.SetsNothing s = (s, true)
+builtin_run known r command (asked.Answered name) s = from_answer_or_noted r BuiltinNotRun name (value_of s.state.event.programs (builtin_question command)) s
 builtin_run known r command (asked.Other name) s = (noted r BuiltinNotRun name s, false)
 builtin_run known r command asked.BadArguments s = (noted r BadHwdbArguments command s, false)
 
@@ -55,21 +72,28 @@ abbrev pub from_parent : List (List Item) → Option DeviceValue → Scene → S
 from_parent names None s = (s, false)
 from_parent names (Some parent) s = (with_env (with_values s.state.env (names_fitting names parent.env)) s, true)
 
--- a program that answered: if its status is 0, the properties of what it printed are set; the result of PROGRAM stays
-abbrev pub from_answer : AnswerValue → Scene → Scene × Bool
-from_answer answer s =
-    if answer.status == 0 then (with_env (properties_set s.state.env (printed_properties answer.text)) s, true)
-    else (s, false)
-
--- the properties of an answer to a command, or a note that there is none
-abbrev pub from_answer_or_noted : Rule → Text → Option AnswerValue → Scene → Scene × Bool
-from_answer_or_noted r command None s = (noted r NoAnswer command s, false)
-from_answer_or_noted r command (Some answer) s = from_answer answer s
-
 -- IMPORT{program} of a command of udev's, which the event's block answers
 abbrev pub from_program : Rule → Text → Scene → Scene × Bool
-from_program r command s = from_answer_or_noted r command (value_of s.state.event.programs command) s
+from_program r command s = from_answer_or_noted r NoAnswer command (value_of s.state.event.programs command) s
 
 -- an IMPORT of a type that is never run
 abbrev pub not_run : Rule → ImportType → Scene → Scene × Bool
 not_run r type s = (noted r ImportNotRun (import_name type) s, false)
+
+-- the kernel's command line in which a name is looked up, if the event gives it; udev looks up no empty name
+abbrev pub line_for : Text → EventValue → Option Text
+line_for name event = if is_empty name then None else value_of event.constants (codes "cmdline")
+
+-- a name is set to what the kernel's command line gives it; it was done if that gives anything
+abbrev pub name_given : Text → Option Text → Scene → Scene × Bool
+name_given name None s = (s, false)
+name_given name (Some value) s = (with_env (property_set name value s.state.env) s, true)
+
+-- IMPORT{cmdline} of a name of udev's, by the kernel's command line
+abbrev pub from_line : Rule → Text → Option Text → Scene → Scene × Bool
+from_line r name None s = not_run r Cmdline s
+from_line r name (Some line) s = name_given name (cmdline_value name line) s
+
+-- IMPORT{cmdline} of a name of udev's, by the kernel's command line that the event gives
+abbrev pub from_cmdline : Rule → Text → Scene → Scene × Bool
+from_cmdline r name s = from_line r name (line_for name s.state.event) s

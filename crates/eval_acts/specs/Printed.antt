@@ -1,16 +1,13 @@
 -- The properties that an IMPORT{program} of udev's takes from what a program printed, one for each line.
-use Rattle.std.specs.Prelude.{ℕ, ◌-◌, Bool, ◌==◌, ◌||◌, if◌then◌else◌, List, [], ◌∷◌, length, take, filter_map, Option, Some, None, option_map}
+use Rattle.std.specs.Prelude.{ℕ, ◌-◌, ◌||◌, if◌then◌else◌, List, [], ◌∷◌, length, take, filter_map, Option, Some, None, option_map}
 use Rattle.std.specs.List.{slice_split, suffix_len}
 use Rattle.std.specs.Option.{option_and_then}
-use Rattle.text_bytes.specs.Names.{carriage_return, equals, hash, is_blank, newline}
+use Rattle.text_bytes.specs.Names.{equals, hash, is_blank}
 use Rattle.text_bytes.specs.Texts.{begins_with, ends_in, is_empty, split_once, unindented}
 use Rattle.text_tables.specs.Texts.{Text}
 use Rattle.text_tables.specs.Pairs.{Pair}
 use Rattle.eval_commands.specs.Words.{is_quote}
-
--- a byte that ends a line
-abbrev pub ends_line : ℕ → Bool
-ends_line b = b == newline || b == carriage_return
+use Rattle.eval_rendering.specs.Pieces.{ends_line}
 
 -- a text without the blanks at its end
 abbrev pub unspaced : Text → Text

@@ -6,12 +6,12 @@ use Rattle.text_bytes.specs.declared.profile.Profile.{Profile}
 use Rattle.text_bytes.specs.declared.profile.Profile.TheVariants.{Manual, Udev}
 use Rattle.text_tables.specs.Texts.{Text}
 use Rattle.text_tables.specs.Pairs.{value_of}
-use Rattle.device_core.specs.Values.{AnswerValue, DeviceValue}
+use Rattle.device_core.specs.Values.{AnswerValue, DeviceValue, EventValue}
 use Rattle.rule_types.specs.Rules.{Rule}
 use Rattle.text_links.specs.Safe.{attribute_marks, safe}
 use Rattle.eval_state.specs.Chains.{device_at}
-use Rattle.eval_state.specs.Files.{has_file}
 use Rattle.eval_state.specs.Named.{NamedValue, named, named_place}
+use Rattle.eval_state.specs.Places.{is_there, place_of}
 use Rattle.eval_state.specs.Scenes.{noted}
 use Rattle.eval_state.specs.declared.note_kind.NoteKind.TheVariants.{TestNotMade, NoAnswer}
 use Rattle.eval_state.specs.declared.scene.Scene.{Scene}
@@ -20,20 +20,25 @@ use Rattle.eval_state.specs.declared.scene.Scene.{Scene}
 abbrev pub with_result : Text → Scene → Scene
 with_result result s = record s { state = record s.state { result = result } }
 
--- whether there is a device, and udev finds a file or a folder of it by a name
-abbrev pub is_found : Text → Option DeviceValue → Bool
-is_found name None = false
-is_found name (Some device) = has_file device name
+-- whether there is a device, and something is where a name leads in its folder
+abbrev pub is_found : EventValue → Text → Option DeviceValue → Bool
+is_found event name None = false
+is_found event name (Some device) = is_there event (place_of device name)
 
--- TEST of a file of the device at a place of the chain; it is not made if the device that is asked for is not in the
--- chain
+-- TEST of a path that names a device that is not in the chain: it is not made, unless the event device has it under
+-- this whole path
+abbrev pub tested_elsewhere : Rule → Text → Scene → Scene × Bool
+tested_elsewhere r path s =
+    if is_there s.state.event (place_of s.state.event.device path) then (s, true) else (noted r TestNotMade path s, false)
+
+-- TEST of a file of the device at a place of the chain, if the device that is asked for is there
 abbrev pub tested_at : Option ℕ → Rule → Text → Text → Scene → Scene × Bool
-tested_at None r name path s = (noted r TestNotMade path s, false)
-tested_at (Some place) r name path s = (s, is_found name (device_at s.state.event place))
+tested_at None r name path s = tested_elsewhere r path s
+tested_at (Some place) r name path s = (s, is_found s.state.event name (device_at s.state.event place))
 
 -- TEST as udev makes it: of a file or a folder of the event device, or of the device that the path names
 abbrev pub tested_by_udev : Option NamedValue → Rule → Text → Scene → Scene × Bool
-tested_by_udev None r path s = (s, has_file s.state.event.device path)
+tested_by_udev None r path s = (s, is_there s.state.event (place_of s.state.event.device path))
 tested_by_udev (Some n) r path s = tested_at (named_place n s.state.event) r n.attribute path s
 
 -- TEST of a relative path without a mask: by the manual it asks for an attribute of the event device

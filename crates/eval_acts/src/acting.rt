@@ -9,7 +9,9 @@ ghost use Rattle.eval_acts.specs.Imports.{from_program, not_run, run_builtin};
 ghost use Rattle.eval_acts.specs.Questions.{answered_by_block, tested, with_result};
 
 use crate::act_texts::{import_text, names_text, plain_command, program_text, test_text};
-use crate::imports::{import_named, import_parent, import_printed, not_run, run_builtin};
+use crate::imports::{
+    import_cmdline, import_named, import_parent, import_printed, not_run, run_builtin,
+};
 use crate::questions::{ask, clear_result, look_for};
 use builtin_devices::Knowledge;
 use eval_matching::agrees;
@@ -171,6 +173,7 @@ fn import_udev<K: Knowledge>(
         Import::Parent(_, text) => parent_named(alloc, text.as_slice(), scene),
         Import::Program(template) => program_answered(alloc, rule, template, scene),
         Import::File(template) => file_named(alloc, rule, template, scene),
+        Import::Cmdline(name) => Ok(Some(import_cmdline(alloc, rule, name.as_slice(), scene)?)),
         other => Ok(Some(not_run(alloc, rule, other.import_type(), scene)?)),
     }
 }

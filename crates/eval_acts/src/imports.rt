@@ -1,23 +1,26 @@
 //! Properties that IMPORT takes from elsewhere.
-ghost use Rattle.std.specs.Prelude.{◌≡◌, IfOk, OnErr, OnOk};
-ghost use Rattle.text_tables.specs.Pairs.{with_values};
+ghost use Rattle.std.specs.Prelude.{◌≡◌, IfOk, OnErr, OnOk, option_map};
+ghost use Rattle.text_tables.specs.Pairs.{value_of, with_values};
 ghost use Rattle.hwdb_lookup.specs.Query.{shown};
 ghost use Rattle.eval_state.specs.Chains.{device_at};
 ghost use Rattle.eval_state.specs.Properties.{properties_set};
+ghost use Rattle.eval_state.specs.declared.note_kind.NoteKind.TheVariants.{BuiltinNotRun};
+ghost use Rattle.eval_commands.specs.Builtins.{builtin_question};
 ghost use Rattle.text_core.specs.Choices.{choice_fits};
 ghost use Rattle.eval_acts.specs.Acts.{from_parent_by};
-ghost use Rattle.eval_acts.specs.Imports.{from_answer, from_parent, from_program, names_fitting, not_run, run_builtin, taken, with_found};
+ghost use Rattle.eval_acts.specs.Imports.{from_answer, from_answer_or_noted, from_cmdline, from_parent, from_program, line_for, name_given};
+ghost use Rattle.eval_acts.specs.Imports.{names_fitting, not_run, run_builtin, taken, with_found};
 
 use crate::builtin_runs::{run_input_id, run_net_id, run_path_id, run_usb_id};
 use crate::lookups::{look_up, look_up_request};
 use crate::printed::set_printed;
 use builtin_devices::Knowledge;
-use device_core::ProgramAnswer;
-use eval_commands::{Builtin, other_name, request_of};
+use device_core::{Event, ProgramAnswer};
+use eval_commands::{Builtin, builtin_question, cmdline_value, other_name, request_of};
 use eval_state::{NoteKind, Scene, set_property};
 use rule_types::{ImportType, Rule};
 use std::alloc::{AllocError, Global};
-use text_bytes::Profile;
+use text_bytes::{Bytes, Profile};
 use text_core::{Choice, Pattern, Reading};
 use text_tables::{CowPairs, Pairs};
 
@@ -74,6 +77,61 @@ fn take(alloc: Global, found: &[(&[u8], &[u8])], scene: &mut Scene<'_>) -> Resul
     Ok(!found.is_empty())
 }
 
+/// Takes the properties of what was answered, if its status is 0.
+fn take_printed(
+    alloc: Global,
+    answer: &ProgramAnswer<'_>,
+    scene: &mut Scene<'_>,
+) -> Result<bool, AllocError>
+    ensures scene { IfOk result (λ done. (scene.new, done) ≡ from_answer answer.now scene.old) }
+    ensures refused { OnErr result (scene.new.state.event ≡ scene.old.state.event) }
+{
+    if answer.status() != 0 {
+        return Ok(false);
+    }
+    set_printed(alloc, answer.text(), &mut scene.state.env)?;
+    Ok(true)
+}
+
+/// Takes the properties of what the event's block answers to a question, or leaves a note.
+fn take_answer(
+    alloc: Global,
+    rule: &Rule,
+    question: &[u8],
+    kind: NoteKind,
+    word: &[u8],
+    scene: &mut Scene<'_>,
+) -> Result<bool, AllocError>
+    ensures scene { IfOk result (λ done. (scene.new, done)
+        ≡ from_answer_or_noted rule.now kind word.now (value_of scene.old.state.event.programs question.now) scene.old) }
+    ensures refused { OnErr result (scene.new.state.event ≡ scene.old.state.event) }
+{
+    match scene.state.event.event().programs().get(question) {
+        Some(answer) => take_printed(alloc, answer, scene),
+        None => {
+            scene.note(alloc, rule, kind, word)?;
+            Ok(false)
+        }
+    }
+}
+
+/// Takes what the event's block answers to the command of a builtin that is not computed.
+fn import_answered(
+    alloc: Global,
+    rule: &Rule,
+    command: &[u8],
+    name: &[u8],
+    scene: &mut Scene<'_>,
+) -> Result<bool, AllocError>
+    ensures scene { IfOk result (λ done. (scene.new, done)
+        ≡ from_answer_or_noted rule.now BuiltinNotRun name.now (value_of scene.old.state.event.programs (builtin_question command.now)) scene.old) }
+    ensures refused { OnErr result (scene.new.state.event ≡ scene.old.state.event) }
+{
+    let question = builtin_question(alloc, command)?;
+    let kind = NoteKind::BuiltinNotRun;
+    take_answer(alloc, rule, question.as_slice(), kind, name, scene)
+}
+
 /// Runs the builtin of a command, if it is one that is run.
 pub(crate) fn run_builtin<K: Knowledge>(
     alloc: Global,
@@ -103,6 +161,8 @@ pub(crate) fn run_builtin<K: Knowledge>(
         Builtin::NetId => run_net_id(alloc, rule, knowledge, scene),
         Builtin::PathId => run_path_id(alloc, rule, knowledge, scene),
         Builtin::UsbId => run_usb_id(alloc, rule, knowledge, scene),
+        Builtin::SetsNothing => Ok(true),
+        Builtin::Answered(name) => import_answered(alloc, rule, command, name.as_slice(), scene),
         Builtin::Other(name) => {
             scene.note(alloc, rule, NoteKind::BuiltinNotRun, name.as_slice())?;
             Ok(false)
@@ -181,22 +241,6 @@ pub(crate) fn import_named(
     import_fitting(alloc, &names, scene)
 }
 
-/// Takes the properties of what a program printed, if its status is 0.
-fn take_printed(
-    alloc: Global,
-    answer: &ProgramAnswer<'_>,
-    scene: &mut Scene<'_>,
-) -> Result<bool, AllocError>
-    ensures scene { IfOk result (λ done. (scene.new, done) ≡ from_answer answer.now scene.old) }
-    ensures refused { OnErr result (scene.new.state.event ≡ scene.old.state.event) }
-{
-    if answer.status() != 0 {
-        return Ok(false);
-    }
-    set_printed(alloc, answer.text(), &mut scene.state.env)?;
-    Ok(true)
-}
-
 /// Takes the properties of what the event's block answers to a command.
 pub(crate) fn import_printed(
     alloc: Global,
@@ -207,13 +251,7 @@ pub(crate) fn import_printed(
     ensures scene { IfOk result (λ done. (scene.new, done) ≡ from_program rule.now command.now scene.old) }
     ensures refused { OnErr result (scene.new.state.event ≡ scene.old.state.event) }
 {
-    match scene.state.event.event().programs().get(command) {
-        Some(answer) => take_printed(alloc, answer, scene),
-        None => {
-            scene.note(alloc, rule, NoteKind::NoAnswer, command)?;
-            Ok(false)
-        }
-    }
+    take_answer(alloc, rule, command, NoteKind::NoAnswer, command, scene)
 }
 
 /// Notes that an IMPORT of a type is never run.
@@ -228,4 +266,50 @@ pub(crate) fn not_run(
 {
     scene.note(alloc, rule, NoteKind::ImportNotRun, import_type.name())?;
     Ok(false)
+}
+
+/// The kernel's command line in which a name is looked up, if the event's block gives it; no empty name is.
+pub fn line_for<'a>(name: &[u8], event: &Event<'a>) -> Option<&'a [u8]>
+    ensures { option_map (λ line. line.now) result ≡ line_for name.now event.now }
+{
+    if name.is_empty() {
+        None
+    } else {
+        event.constants().get(b"cmdline")
+    }
+}
+
+/// Sets a name to what the kernel's command line gives it, and returns whether that gives anything.
+fn set_given(
+    alloc: Global,
+    name: &[u8],
+    given: Option<Bytes>,
+    scene: &mut Scene<'_>,
+) -> Result<bool, AllocError>
+    ensures scene { IfOk result (λ done. (scene.new, done) ≡ name_given name.now given scene.old) }
+    ensures refused { OnErr result (scene.new.state.event ≡ scene.old.state.event) }
+{
+    match given {
+        Some(value) => {
+            set_property(alloc, name, value.as_slice(), &mut scene.state.env)?;
+            Ok(true)
+        }
+        None => Ok(false),
+    }
+}
+
+/// IMPORT{cmdline} for udev, by the kernel's command line that the event's block gives.
+pub(crate) fn import_cmdline(
+    alloc: Global,
+    rule: &Rule,
+    name: &[u8],
+    scene: &mut Scene<'_>,
+) -> Result<bool, AllocError>
+    ensures scene { IfOk result (λ done. (scene.new, done) ≡ from_cmdline rule.now name.now scene.old) }
+    ensures refused { OnErr result (scene.new.state.event ≡ scene.old.state.event) }
+{
+    match line_for(name, scene.state.event.event()) {
+        Some(line) => set_given(alloc, name, cmdline_value(alloc, name, line)?, scene),
+        None => not_run(alloc, rule, ImportType::Cmdline, scene),
+    }
 }

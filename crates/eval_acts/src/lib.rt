@@ -16,5 +16,6 @@ mod usb_modalias;
 
 pub use act_texts::{import_text, names_text, program_text, test_text};
 pub use acting::act_step;
+pub use imports::line_for;
 pub use lookups::look_up;
 pub use reaching::match_reached;

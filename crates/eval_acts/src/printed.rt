@@ -3,20 +3,15 @@ ghost use Rattle.std.specs.Prelude.{◌≡◌, ◌≤◌, ◌∷◌, [], filter_
 ghost use Rattle.std.specs.List.{slice_split, suffix_len};
 ghost use Rattle.text_bytes.specs.Names.{is_blank};
 ghost use Rattle.eval_state.specs.Properties.{properties_set};
-ghost use Rattle.eval_acts.specs.Printed.{bare, before_end, ends_line, line_property, property_of, printed_properties, unquoted};
+ghost use Rattle.eval_rendering.specs.Pieces.{ends_line};
+ghost use Rattle.eval_acts.specs.Printed.{bare, before_end, line_property, property_of, printed_properties, unquoted};
 
 use eval_commands::is_quote;
+use eval_rendering::ends_line;
 use eval_state::set_property;
 use std::alloc::{AllocError, Global};
 use text_bytes::{begins_with, ends_in, is_blank, split_once, unindented};
 use text_tables::CowPairs;
-
-/// Whether a byte ends a line.
-fn ends_line(byte: u8) -> bool
-    ensures { result ≡ ends_line byte }
-{
-    byte == b'\n' || byte == b'\r'
-}
 
 /// How many spaces and tabs a text ends in.
 fn trailing_blanks(text: &[u8]) -> usize

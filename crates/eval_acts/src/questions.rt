@@ -1,26 +1,65 @@
 //! TEST and PROGRAM: what the event answers.
 ghost use Rattle.std.specs.Prelude.{◌≡◌, [], IfOk, OnErr, option_copied};
-ghost use Rattle.eval_acts.specs.Questions.{answered, answered_by_block, is_found, result_of, tested, tested_at, tested_by, tested_by_udev, with_result};
+ghost use Rattle.eval_acts.specs.Questions.{answered, answered_by_block, is_found, result_of, tested, tested_at};
+ghost use Rattle.eval_acts.specs.Questions.{tested_by, tested_by_udev, tested_elsewhere, with_result};
 ghost use Rattle.eval_state.specs.Named.{named};
+ghost use Rattle.eval_state.specs.Places.{is_there, place_of};
 
-use device_core::{Device, ProgramAnswer};
+use device_core::{Device, Event, ProgramAnswer};
 use eval_rendering::attribute_safe;
-use eval_state::{Named, NoteKind, Scene, has_file};
+use eval_state::{Named, NoteKind, Place, Scene};
 use rule_types::Rule;
 use std::alloc::{AllocError, Global};
 use text_bytes::{Bytes, Profile, begins_with};
 
-/// Whether there is a device, and udev finds a file or a folder of it by a name.
-fn is_found(alloc: Global, device: Option<&Device<'_>>, name: &[u8]) -> Result<bool, AllocError>
-    ensures { IfOk result (λ found. found ≡ is_found name.now (option_copied device.entry)) }
+/// Whether something is where a name leads in the folder of a device.
+fn leads_somewhere<'a>(
+    alloc: Global,
+    event: &Event<'_>,
+    device: &Device<'a>,
+    name: &'a [u8],
+) -> Result<bool, AllocError>
+    ensures { IfOk result (λ found. found ≡ is_there event.now (place_of device.now name.now)) }
+{
+    let place = Place::of(alloc, device, name)?;
+    place.is_there(alloc, event)
+}
+
+/// Whether there is a device, and something is where a name leads in its folder.
+fn is_found<'a>(
+    alloc: Global,
+    event: &Event<'_>,
+    device: Option<&Device<'a>>,
+    name: &'a [u8],
+) -> Result<bool, AllocError>
+    ensures { IfOk result (λ found. found ≡ is_found event.now name.now (option_copied device.entry)) }
 {
     match device {
-        Some(device) => has_file(alloc, device, name),
+        Some(device) => leads_somewhere(alloc, event, device, name),
         None => Ok(false),
     }
 }
 
-/// TEST of a file of the device at a place of the chain, which is not made if the device is not in the chain.
+/// TEST of a path that names a device that is not in the chain, which is not made unless the event device has it under
+/// this whole path.
+fn look_elsewhere(
+    alloc: Global,
+    rule: &Rule,
+    path: &[u8],
+    scene: &mut Scene<'_>,
+) -> Result<bool, AllocError>
+    ensures scene { IfOk result (λ done. (scene.new, done) ≡ tested_elsewhere rule.now path.now scene.old) }
+    ensures refused { OnErr result (scene.new.state.event ≡ scene.old.state.event) }
+{
+    let event = scene.state.event.event();
+    if leads_somewhere(alloc, event, event.device(), path)? {
+        return Ok(true);
+    }
+    scene.note(alloc, rule, NoteKind::TestNotMade, path)?;
+    Ok(false)
+}
+
+/// TEST of a file of the device at a place of the chain, if the device is there.
 fn look_at(
     alloc: Global,
     rule: &Rule,
@@ -33,11 +72,11 @@ fn look_at(
     ensures refused { OnErr result (scene.new.state.event ≡ scene.old.state.event) }
 {
     match place {
-        Some(place) => is_found(alloc, scene.state.event.device_at(place), name),
-        None => {
-            scene.note(alloc, rule, NoteKind::TestNotMade, path)?;
-            Ok(false)
+        Some(place) => {
+            let chain = &scene.state.event;
+            is_found(alloc, chain.event(), chain.device_at(place), name)
         }
+        None => look_elsewhere(alloc, rule, path, scene),
     }
 }
 
@@ -56,7 +95,10 @@ fn look_as_udev(
             let place = scene.state.event.named_place(&named);
             look_at(alloc, rule, place, named.attribute, path, scene)
         }
-        None => has_file(alloc, scene.state.event.event().device(), path),
+        None => {
+            let event = scene.state.event.event();
+            leads_somewhere(alloc, event, event.device(), path)
+        }
     }
 }
 

@@ -1,8 +1,8 @@
 //! What a match leaves by being reached.
 ghost use Rattle.std.specs.Prelude.{◌≡◌, OnOk, OnErr};
-ghost use Rattle.eval_acts.specs.Reaching.{attribute_reached, match_reached};
+ghost use Rattle.eval_acts.specs.Reaching.{attribute_reached, constant_reached, match_reached};
 
-use eval_matching::is_not_read;
+use eval_matching::{is_not_given, is_not_read};
 use eval_state::{NoteKind, Scene};
 use rule_types::{PlainKey, PlainMatch, Rule};
 use std::alloc::{AllocError, Global};
@@ -24,10 +24,28 @@ fn attribute_reached(
     }
 }
 
+/// Leaves what a match of a constant leaves when it is reached: a note if the constant is not given.
+fn constant_reached(
+    alloc: Global,
+    rule: &Rule,
+    name: &[u8],
+    scene: &mut Scene<'_>,
+) -> Result<(), AllocError>
+    ensures scene { OnOk result (scene.new ≡ constant_reached rule.now name.now scene.old) }
+    ensures refused { OnErr result (scene.new ≡ scene.old) }
+{
+    if is_not_given(name, &scene.state.event) {
+        scene.note(alloc, rule, NoteKind::ConstantNotGiven, name)
+    } else {
+        Ok(())
+    }
+}
+
 /// Leaves what a match of the event leaves when it is reached, whether it holds or not: for SYSCTL, which a dry run
 /// does not read, the note `sysctl not read` with the parameter's name; for an attribute that udev would read and a
-/// dry run does not, the note `attribute not read` with its name, for udev only; for any other, nothing. If memory
-/// runs out, the scene stays as it is.
+/// dry run does not, the note `attribute not read` with its name, and for a constant that udev knows and the block does
+/// not give, the note `constant not given`, both for udev only; for any other, nothing. If memory runs out, the scene
+/// stays as it is.
 #[inline(always)]
 pub fn match_reached(
     alloc: Global,
@@ -43,6 +61,7 @@ pub fn match_reached(
             scene.note(alloc, rule, NoteKind::SysctlNotRead, name.as_slice())
         }
         PlainKey::Attr(name) => attribute_reached(alloc, rule, name.as_slice(), scene),
+        PlainKey::Const(name) => constant_reached(alloc, rule, name.as_slice(), scene),
         _ => Ok(()),
     }
 }

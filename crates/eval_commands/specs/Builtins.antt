@@ -1,5 +1,5 @@
 -- What a builtin's command asks for.
-use Rattle.std.specs.Prelude.{if◌then◌else◌, List, [], ◌∷◌, drop, Option, Some, None, codes}
+use Rattle.std.specs.Prelude.{if◌then◌else◌, List, [], ◌∷◌, ◌++◌, drop, Option, Some, None, codes}
 use Rattle.text_bytes.specs.declared.profile.Profile.{Profile}
 use Rattle.text_bytes.specs.declared.profile.Profile.TheVariants.{Manual, Udev}
 use Rattle.text_tables.specs.Texts.{Text, same_text}
@@ -28,18 +28,25 @@ abbrev pub builtin_of : Option (List Text) → Builtin
 builtin_of None = asked.BadArguments
 builtin_of (Some words) = builtin_of_words words
 
--- what a command asks for, by the builtin of udev that it means; the first word of `hwdb` is its name. A command that
--- means none is kept as it is.
+-- what a command asks for, by the builtin of udev that it means; the first word of `hwdb` is its name. What is not
+-- computed is answered by a block; a command that means no builtin is kept as it is.
 abbrev pub builtin_meant : Option known.Builtin → Text → Builtin
-builtin_meant None text = asked.Other text
+builtin_meant None text = asked.Answered text
 builtin_meant (Some known_as.Hwdb) text = hwdb_asked (udev_hwdb_of (drop 1 (udev_words text)))
 builtin_meant (Some known_as.InputId) text = asked.InputId
 builtin_meant (Some known_as.NetId) text = asked.NetId
 builtin_meant (Some known_as.PathId) text = asked.PathId
 builtin_meant (Some known_as.UsbId) text = asked.UsbId
-builtin_meant (Some other) text = asked.Other (udev.builtin_name other)
+builtin_meant (Some known_as.Keyboard) text = asked.SetsNothing
+builtin_meant (Some known_as.Kmod) text = asked.SetsNothing
+builtin_meant (Some known_as.Uaccess) text = asked.SetsNothing
+builtin_meant (Some other) text = asked.Answered (udev.builtin_name other)
 
 -- what a command asks for, by its text: for the manual the first word is the builtin's name, and for udev its beginning
 abbrev pub builtin : Profile → Text → Builtin
 builtin Manual text = builtin_of (command_words text)
 builtin Udev text = builtin_meant (udev.builtin_of text) text
+
+-- the question by which a block answers the command of a builtin
+abbrev pub builtin_question : Text → Text
+builtin_question command = codes "builtin " ++ command

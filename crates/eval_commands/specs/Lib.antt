@@ -3,3 +3,4 @@ pub mod Words
 pub mod Hwdb
 pub mod UdevHwdb
 pub mod Unquoted
+pub mod Cmdline

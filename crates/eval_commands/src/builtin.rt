@@ -1,7 +1,7 @@
 //! What a builtin's command asks for.
 ghost use Rattle.std.specs.Prelude.{◌≡◌, IfOk, drop};
 ghost use Rattle.rule_types.specs.Builtins as udev;
-ghost use Rattle.eval_commands.specs.Builtins.{builtin, builtin_meant, builtin_of, builtin_of_words, hwdb_asked};
+ghost use Rattle.eval_commands.specs.Builtins.{builtin, builtin_meant, builtin_of, builtin_of_words, builtin_question, hwdb_asked};
 ghost use Rattle.eval_commands.specs.Hwdb.{hwdb_of};
 ghost use Rattle.eval_commands.specs.UdevHwdb.{udev_hwdb_of};
 ghost use Rattle.eval_commands.specs.Words.{command_words, udev_words};
@@ -26,8 +26,12 @@ pub enum Builtin {
     PathId,
     /// For udev only: `usb_id`.
     UsbId,
-    /// Another builtin, which is not run: the first word of the command, empty if it has none; for udev the whole
-    /// name of the builtin, or the command if it means none.
+    /// For udev only: `keyboard`, `kmod` or `uaccess`, which set nothing.
+    SetsNothing,
+    /// For udev only: another builtin, which is not run but answered by a block: its whole name, or the command if it
+    /// means none.
+    Answered(Bytes),
+    /// By the manual: another builtin, which is not run: the first word of the command, empty if it has none.
     Other(Bytes),
     /// A quote stays open, whatever the builtin; or the words after `hwdb` are not its arguments.
     BadArguments,
@@ -87,9 +91,23 @@ fn read_as_udev(alloc: Global, command: &[u8]) -> Result<Builtin, AllocError>
         Some(rule_types::Builtin::NetId) => Ok(Builtin::NetId),
         Some(rule_types::Builtin::PathId) => Ok(Builtin::PathId),
         Some(rule_types::Builtin::UsbId) => Ok(Builtin::UsbId),
-        Some(other) => Ok(Builtin::Other(Bytes::copy_of(alloc, other.name())?)),
-        None => Ok(Builtin::Other(Bytes::copy_of(alloc, command)?)),
+        Some(
+            rule_types::Builtin::Keyboard
+            | rule_types::Builtin::Kmod
+            | rule_types::Builtin::Uaccess,
+        ) => Ok(Builtin::SetsNothing),
+        Some(other) => Ok(Builtin::Answered(Bytes::copy_of(alloc, other.name())?)),
+        None => Ok(Builtin::Answered(Bytes::copy_of(alloc, command)?)),
     }
+}
+
+/// The question by which a block answers the command of a builtin that is not computed: `builtin COMMAND`.
+pub fn builtin_question(alloc: Global, command: &[u8]) -> Result<Bytes, AllocError>
+    ensures { IfOk result (λ question. question ≡ builtin_question command.now) }
+{
+    let mut question = Vec::from_slice(alloc, b"builtin ")?;
+    question.extend_from_slice(command)?;
+    Ok(Bytes::new(question))
 }
 
 impl Builtin {
@@ -99,12 +117,12 @@ impl Builtin {
     /// The first word is the builtin's name. `hwdb` takes `--subsystem=NAME`, `--lookup-prefix=TEXT` and
     /// `--filter=PATTERN`, of each the last, and at most one modalias; a word that begins with `-` and is not such
     /// an option, a second modalias and a last filter that is not a pattern are bad arguments. For udev (systemd
-    /// 257) the first word is the beginning of a name, that of the first builtin with this beginning, and another
-    /// builtin has its whole name. The command of `hwdb` is then split at spaces, tabs, newlines and carriage
-    /// returns, and a quote that stays open ends with it. Its options are read as getopt_long(3) does: `--NAME VALUE`,
-    /// the beginning of a name, and the letters `-s`, `-p` and `-f` are options too; unknown options and words after
-    /// the modalias are skipped. Bad arguments are then `--device` without a modalias, and a last filter that is not
-    /// a pattern.
+    /// 257) the first word is the beginning of a name, that of the first builtin with this beginning; `keyboard`,
+    /// `kmod` and `uaccess` set nothing, and another builtin that is not computed has its whole name. The command
+    /// of `hwdb` is then split at spaces, tabs, newlines and carriage returns, and a quote that stays open ends with
+    /// it. Its options are read as getopt_long(3) does: `--NAME VALUE`, the beginning of a name, and the letters
+    /// `-s`, `-p` and `-f` are options too; unknown options and words after the modalias are skipped. Bad arguments
+    /// are then `--device` without a modalias, and a last filter that is not a pattern.
     pub fn read(alloc: Global, profile: Profile, command: &[u8]) -> Result<Builtin, AllocError>
         ensures { IfOk result (λ b. b ≡ builtin profile command.now) }
     {

@@ -1,7 +1,9 @@
-//! What the command of an IMPORT{builtin} asks for: its words, the builtin that it names, and the options of `hwdb`.
+//! What the command of an IMPORT{builtin} asks for: its words, the builtin that it names, and the options of `hwdb`; and
+//! what the kernel's command line gives an IMPORT{cmdline}.
 #![tactic(auto)]
 
 mod builtin;
+mod cmdline;
 mod hwdb;
 mod laws;
 mod request;
@@ -9,7 +11,8 @@ mod udev_hwdb;
 mod unquoted;
 mod words;
 
-pub use builtin::Builtin;
+pub use builtin::{Builtin, builtin_question};
+pub use cmdline::cmdline_value;
 pub use hwdb::Hwdb;
 pub use laws::a_modalias_is_looked_up_whatever_device_is_named;
 pub use request::{Request, other_name, request_of};

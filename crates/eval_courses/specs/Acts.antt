@@ -1,5 +1,5 @@
 -- What TEST, PROGRAM and IMPORT met, by the scene before them and the scene after.
-use Rattle.std.specs.Prelude.{ℕ, Bool, false, not, ◌||◌, if◌then◌else◌, List, [], ◌∷◌, ◌++◌, map, filter, Option, Some, None, is_none, is_some, codes, decimal}
+use Rattle.std.specs.Prelude.{ℕ, Bool, false, not, ◌&&◌, ◌||◌, if◌then◌else◌, List, [], ◌∷◌, ◌++◌, map, filter, Option, Some, None, is_none, is_some, codes, decimal}
 use Rattle.text_bytes.specs.Names.{equals, slash, space}
 use Rattle.text_bytes.specs.Texts.{begins_with, is_empty}
 use Rattle.text_bytes.specs.Escapes.{escape_text}
@@ -19,11 +19,13 @@ use Rattle.rule_types.specs.Rules.{Rule}
 use Rattle.eval_rendering.specs.Bounds.{most_command_bytes, most_path_bytes}
 use Rattle.eval_rendering.specs.declared.rendered.Rendered.{Rendered}
 use Rattle.eval_rendering.specs.declared.rendered.Rendered.TheVariants as rendered
+use Rattle.eval_state.specs.Places.{is_there, place_of}
 use Rattle.eval_state.specs.Named.{NamedValue, named, named_place}
 use Rattle.eval_state.specs.declared.scene.Scene.{Scene}
 use Rattle.eval_state.specs.declared.state.State.{State}
 use Rattle.eval_acts.specs.ActTexts.{import_text, names_text, program_text, test_text}
 use Rattle.eval_acts.specs.Acts.{act_step}
+use Rattle.eval_acts.specs.Imports.{line_for}
 use Rattle.eval_effects.specs.Items.{is_present}
 use Rattle.eval_effects.specs.Shown.{joined, shown}
 use Rattle.eval_courses.specs.Keys.{act_key}
@@ -39,10 +41,11 @@ abbrev pub is_elsewhere : EventValue → Option NamedValue → Bool
 is_elsewhere event None = false
 is_elsewhere event (Some n) = is_none (named_place n event)
 
--- whether a TEST asks for a file of a device that is not in the chain; the manual knows no such paths
+-- whether a TEST asks for a file of a device that is not in the chain, and the event device does not have it under this
+-- whole path; the manual knows no such paths
 abbrev pub asks_elsewhere : Profile → Text → EventValue → Bool
 asks_elsewhere profile.Manual path event = false
-asks_elsewhere profile.Udev path event = is_elsewhere event (named path)
+asks_elsewhere profile.Udev path event = is_elsewhere event (named path) && not (is_there event (place_of event.device path))
 
 -- whether a TEST is not made, by whether it has a mask: with one it is not, nor with an absolute path or for a device
 -- that is not in the chain
@@ -113,6 +116,16 @@ abbrev pub unrun_report : Profile → ℕ → Template → State → Text
 unrun_report profile.Manual most template s = codes "not run"
 unrun_report profile.Udev most template s = on_rendered (λ text. codes "not run") (import_text most template s)
 
+-- what an IMPORT{cmdline} met, by the kernel's command line, if the event gives it, and the properties after it
+abbrev pub line_report : (line : Option Text) → State → List Pair → Text
+line_report None s env = codes "not run"
+line_report (Some line) s env = taken_report s.env env
+
+-- what an IMPORT{cmdline} met, by the properties after it; by the manual it is not run
+abbrev pub cmdline_report : Profile → (name : Text) → State → List Pair → Text
+cmdline_report profile.Manual name s env = codes "not run"
+cmdline_report profile.Udev name s env = line_report (line_for name s.event) s env
+
 -- what an IMPORT met, by the properties after it
 abbrev pub import_report : Import → State → List Pair → Text
 import_report (import.Builtin template) s env =
@@ -120,7 +133,7 @@ import_report (import.Builtin template) s env =
 import_report (import.Parent names value) s env = parent_report s.event.profile value s env
 import_report (import.Program template) s env = program_import_report s.event.profile template s env
 import_report (import.File template) s env = unrun_report s.event.profile most_path_bytes template s
-import_report (import.Cmdline name) s env = codes "not run"
+import_report (import.Cmdline name) s env = cmdline_report s.event.profile name s env
 import_report (import.Db name) s env = codes "not run"
 
 -- what an act met, by the properties after it

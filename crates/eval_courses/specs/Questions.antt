@@ -22,6 +22,9 @@ use Rattle.eval_rendering.specs.Bounds.{most_command_bytes}
 use Rattle.eval_rendering.specs.declared.rendered.Rendered.{Rendered}
 use Rattle.eval_rendering.specs.declared.rendered.Rendered.TheVariants as rendered
 use Rattle.eval_acts.specs.ActTexts.{import_text, program_text}
+use Rattle.eval_commands.specs.Builtins.{builtin, builtin_question}
+use Rattle.eval_commands.specs.declared.builtin.Builtin.{Builtin}
+use Rattle.eval_commands.specs.declared.builtin.Builtin.TheVariants as asked
 use Rattle.eval_acts.specs.Acts.{act_step}
 use Rattle.eval_rules.specs.Jumps.{is_passed, sought_after}
 use Rattle.eval_rules.specs.Steps.{apply}
@@ -40,8 +43,20 @@ abbrev pub unanswered : EventValue → Rendered → List Text
 unanswered event (rendered.Text command) = if is_some (value_of event.programs command) then [] else command ∷ []
 unanswered event rendered.TooLong = []
 
--- what an IMPORT asks: under udev IMPORT{program} looks its command up
+-- the question of a builtin's command, by what it means: a builtin that is not computed is asked for
+abbrev pub meant_asks : EventValue → (command : Text) → Builtin → List Text
+meant_asks event command (asked.Answered name) = unanswered event (rendered.Text (builtin_question command))
+meant_asks event command other = []
+
+-- the question of a builtin's command as udev has it; a text that is too long is not a command
+abbrev pub builtin_asks : EventValue → Rendered → List Text
+builtin_asks event (rendered.Text command) = meant_asks event command (builtin Udev command)
+builtin_asks event rendered.TooLong = []
+
+-- what an IMPORT asks: under udev IMPORT{program} looks its command up, and IMPORT{builtin} that of a builtin which is not
+-- computed
 abbrev pub import_asks : Profile → Import → State → List Text
+import_asks Udev (import.Builtin template) s = builtin_asks s.event (import_text most_command_bytes template s)
 import_asks Udev (import.Program template) s = unanswered s.event (import_text most_command_bytes template s)
 import_asks profile from s = []
 

@@ -7,9 +7,11 @@ ghost use Rattle.text_tables.specs.Pairs.{Pair, value_of};
 ghost use Rattle.rule_types.specs.declared.part.Import.TheVariants as import;
 ghost use Rattle.eval_acts.specs.ActTexts.{import_text, names_text, program_text, test_text};
 ghost use Rattle.eval_acts.specs.Acts.{act_step};
+ghost use Rattle.eval_state.specs.Named.{named};
 ghost use Rattle.text_bytes.specs.Names.{space};
 ghost use Rattle.eval_effects.specs.Shown.{shown};
-ghost use Rattle.eval_courses.specs.Acts.{act_kind_report, act_report, answer_report, asks_elsewhere, import_report, on_rendered, parent_report};
+ghost use Rattle.eval_courses.specs.Acts.{act_kind_report, act_report, answer_report, asks_elsewhere, cmdline_report};
+ghost use Rattle.eval_courses.specs.Acts.{import_report, is_elsewhere, on_rendered, parent_report};
 ghost use Rattle.eval_courses.specs.Acts.{path_report, printed_report, program_import_report, taken_report, unrun_report};
 ghost use Rattle.eval_courses.specs.Inner.{done_report, report_after};
 ghost use Rattle.eval_courses.specs.Keys.{act_key};
@@ -21,10 +23,10 @@ use crate::keys::push_act_key;
 use crate::plain::push_met;
 use crate::properties::{copied, newly_set, push_changed, removed};
 use builtin_devices::Knowledge;
-use eval_acts::{act_step, import_text, names_text, program_text, test_text};
+use eval_acts::{act_step, import_text, line_for, names_text, program_text, test_text};
 use eval_effects::push_shown;
 use eval_rendering::{MAX_COMMAND_BYTES, MAX_PATH_BYTES, Rendered};
-use eval_state::{Chain, Named, Scene, State};
+use eval_state::{Chain, Named, Place, Scene, State};
 use rule_templates::Template;
 use rule_types::{Act, ActKind, Import, Rule};
 use std::alloc::{AllocError, Global};
@@ -41,13 +43,28 @@ pub(crate) enum ReportBefore {
     Taking(Bytes, CowPairs<'static>),
 }
 
-/// Whether a TEST asks for a file of a device that is not in the chain.
-fn asks_elsewhere(path: &[u8], chain: &Chain<'_>) -> bool
-    ensures { result ≡ asks_elsewhere chain.now.profile path.now chain.now }
+/// Whether a path names a device that is not in the chain.
+fn is_elsewhere(path: &[u8], chain: &Chain<'_>) -> bool
+    ensures { result ≡ is_elsewhere chain.now (named path.now) }
 {
-    match (chain.event().profile(), Named::read(path)) {
-        (Profile::Udev, Some(named)) => chain.named_place(&named).is_none(),
-        _ => false,
+    match Named::read(path) {
+        Some(named) => chain.named_place(&named).is_none(),
+        None => false,
+    }
+}
+
+/// Whether a TEST asks for a file of a device that is not in the chain, and the event device does not have it under this
+/// whole path.
+fn asks_elsewhere(alloc: Global, path: &[u8], chain: &Chain<'_>) -> Result<bool, AllocError>
+    ensures { IfOk result (λ elsewhere. elsewhere ≡ asks_elsewhere chain.now.profile path.now chain.now) }
+{
+    match chain.event().profile() {
+        Profile::Udev if is_elsewhere(path, chain) => {
+            let event = chain.event();
+            let place = Place::of(alloc, event.device(), path)?;
+            Ok(!place.is_there(alloc, event)?)
+        }
+        _ => Ok(false),
     }
 }
 
@@ -61,7 +78,7 @@ fn path_report(
     ensures { IfOk result (λ text. text ≡ path_report has_mask chain.now path.now) }
 {
     let mut text = Vec::new(alloc);
-    if has_mask || begins_with(b'/', path) || asks_elsewhere(path, chain) {
+    if has_mask || begins_with(b'/', path) || asks_elsewhere(alloc, path, chain)? {
         text.extend_from_slice(b"not made: ")?;
     }
     push_shown(alloc, &mut text, path)?;
@@ -233,6 +250,21 @@ fn unrun_report(
     }
 }
 
+/// What is known of the report on an IMPORT{cmdline} before it is done.
+fn cmdline_report_before(
+    alloc: Global,
+    name: &[u8],
+    state: &State<'_>,
+) -> Result<ReportBefore, AllocError>
+    ensures { IfOk result (λ o. (env : List Pair) → report_after o env ≡ cmdline_report state.now.event.profile name.now state.now env) }
+{
+    let event = state.event.event();
+    match (event.profile(), line_for(name, event)) {
+        (Profile::Udev, Some(_)) => taking(alloc, state),
+        _ => Ok(ReportBefore::Whole(Bytes::copy_of(alloc, b"not run")?)),
+    }
+}
+
 /// What is known of the report on an IMPORT before it is done.
 fn import_report_before(
     alloc: Global,
@@ -251,9 +283,8 @@ fn import_report_before(
             template,
             state,
         )?)),
-        Import::Cmdline(_) | Import::Db(_) => {
-            Ok(ReportBefore::Whole(Bytes::copy_of(alloc, b"not run")?))
-        }
+        Import::Cmdline(name) => cmdline_report_before(alloc, name.as_slice(), state),
+        Import::Db(_) => Ok(ReportBefore::Whole(Bytes::copy_of(alloc, b"not run")?)),
     }
 }
 

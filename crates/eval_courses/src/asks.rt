@@ -5,11 +5,12 @@ ghost use Rattle.rule_types.specs.declared.part.ActKind.TheVariants as act_kind;
 ghost use Rattle.eval_rendering.specs.Bounds.{most_command_bytes};
 ghost use Rattle.eval_rendering.specs.declared.rendered.Rendered.TheVariants as rendered;
 ghost use Rattle.eval_acts.specs.ActTexts.{import_text};
-ghost use Rattle.eval_courses.specs.Questions.{act_asks, import_asks, unanswered, with_asked};
+ghost use Rattle.eval_courses.specs.Questions.{act_asks, builtin_asks, import_asks, unanswered, with_asked};
 
 use crate::commands::can_be_asked;
 use device_core::Event;
 use eval_acts::{import_text, program_text};
+use eval_commands::{Builtin, builtin_question};
 use eval_rendering::{MAX_COMMAND_BYTES, Rendered};
 use eval_state::State;
 use rule_templates::Template;
@@ -85,6 +86,41 @@ fn ask_imported_program(
     ask_rendered(alloc, &text, state.event.event(), asked)
 }
 
+/// Adds what the command of a builtin asks under udev: its question, if the builtin is not computed.
+fn ask_builtin(
+    alloc: Global,
+    command: &[u8],
+    event: &Event<'_>,
+    asked: &mut OwnedTexts,
+) -> Result<(), AllocError>
+    ensures { OnOk result (asked.new ≡ with_asked asked.old (builtin_asks event.now (rendered.Text command.now))) }
+{
+    match Builtin::read(alloc, Profile::Udev, command)? {
+        Builtin::Answered(_) => {
+            let question = builtin_question(alloc, command)?;
+            ask_command(alloc, question.as_slice(), event, asked)
+        }
+        _ => Ok(()),
+    }
+}
+
+/// Adds what an IMPORT{builtin} asks under udev.
+fn ask_imported_builtin(
+    alloc: Global,
+    template: &Template,
+    state: &State<'_>,
+    asked: &mut OwnedTexts,
+) -> Result<(), AllocError>
+    ensures { OnOk result (asked.new ≡ with_asked asked.old (builtin_asks state.now.event (import_text most_command_bytes template.now state.now))) }
+{
+    match import_text(alloc, MAX_COMMAND_BYTES, template, state)? {
+        Rendered::Text(command) => {
+            ask_builtin(alloc, command.as_slice(), state.event.event(), asked)
+        }
+        Rendered::TooLong => Ok(()),
+    }
+}
+
 /// Adds what an IMPORT asks.
 fn ask_import(
     alloc: Global,
@@ -95,6 +131,9 @@ fn ask_import(
     ensures { OnOk result (asked.new ≡ with_asked asked.old (import_asks state.now.event.profile from.now state.now)) }
 {
     match (state.event.event().profile(), from) {
+        (Profile::Udev, Import::Builtin(template)) => {
+            ask_imported_builtin(alloc, template, state, asked)
+        }
         (Profile::Udev, Import::Program(template)) => {
             ask_imported_program(alloc, template, state, asked)
         }

@@ -40,19 +40,22 @@ use Rattle.rule_types.specs.Builtins.{builtin_name}
 use Rattle.rule_types.specs.declared.builtins.Builtin.TheVariants.{InputId, NetId, PathId, UsbId}
 use Rattle.builtin_devices.specs.Outcomes.{OutcomeValue}
 use Rattle.eval_acts.specs.BuiltinRuns.{is_address_name, looked_up, most_set, need_noted, need_word, net_id_run, outcome_set, outcome_taken, path_id_run, properties_size, property_size, usb_id_run, with_maker}
-use Rattle.eval_commands.specs.Builtins.{builtin, builtin_of, hwdb_asked}
+use Rattle.eval_commands.specs.Builtins.{builtin, builtin_of, builtin_question, hwdb_asked}
+use Rattle.eval_commands.specs.Cmdline.{cmdline_value}
 use Rattle.eval_commands.specs.Hwdb.{hwdb_of}
 use Rattle.eval_commands.specs.Words.{command_words}
 use Rattle.eval_commands.specs.declared.hwdb.Hwdb.{Hwdb}
 use Rattle.eval_acts.specs.LookUps.{found}
 use Rattle.eval_commands.specs.declared.builtin.Builtin.{Builtin}
 use Rattle.eval_commands.specs.declared.builtin.Builtin.TheVariants as asked_for
+use Rattle.eval_state.specs.Places.{is_there, place_of}
 use Rattle.eval_state.specs.Named.{NamedValue, named, named_place}
 use Rattle.eval_state.specs.Properties.{properties_set, property_set}
 use Rattle.eval_acts.specs.ActTexts.{import_text, names_text, program_text, test_text}
 use Rattle.eval_acts.specs.Acts.{act_step, from_parent_by, imported, on_text, performed}
 use Rattle.eval_acts.specs.Inner.{left}
-use Rattle.eval_acts.specs.Imports.{builtin_run, from_answer_or_noted, from_parent, from_program, names_fitting, not_run, run_builtin, with_found}
+use Rattle.eval_acts.specs.Imports.{builtin_run, from_answer_or_noted, from_cmdline, from_line, from_parent, from_program, line_for, name_given, names_fitting}
+use Rattle.eval_acts.specs.Imports.{not_run, run_builtin, with_found}
 use Rattle.eval_acts.specs.Printed.{printed_properties}
 use Rattle.eval_acts.specs.Questions.{answered_by_block, answered_or_noted, result_of, tested, tested_at, tested_by, tested_by_udev, with_result}
 use Rattle.eval_laws.specs.Allowances.{act_kind_allowance, builtin_allowance, entries_weight}
@@ -61,6 +64,7 @@ use Rattle.eval_laws.proofs.Tables.{with_value_light, with_values_light, without
 use Rattle.eval_laws.proofs.Sums.{filter_light, fold_light}
 use Rattle.eval_laws.proofs.Found.{found_light, query_light}
 use Rattle.eval_laws.proofs.PrintedWeights.{answered_weight, answers_light, printed_light}
+use Rattle.eval_laws.proofs.CmdlineWeights.{cmdline_light, line_light, line_weight, set_weight}
 use Rattle.eval_laws.proofs.Scenes.{more, noted_within}
 
 -- the properties of a device, if there is one
@@ -161,7 +165,11 @@ module _ (event : EventValue) where
     on_text_within d act rendered.TooLong each = notes TextTooLong (word_of_key (key_of_act_kind d) (attribute_of_act_kind d))
 
     at_within : (place : Option ℕ) (name path : Text) → Within event (n + most) (tested_at place r name path s).0
-    at_within None name path = notes TestNotMade path
+    at_within None name path = by (is_there s.state.event (place_of s.state.event.device path))
+      where
+        by : (b : Bool) → Within event (n + most) (if◌then◌else◌ {A = Scene × Bool} b (s, true) (noted r TestNotMade path s, false)).0
+        by true = stays
+        by false = notes TestNotMade path
     at_within (Some place) name path = stays
 
     udev_within : (is : Option NamedValue) (path : Text) → Within event (n + most) (tested_by_udev is r path s).0
@@ -244,36 +252,55 @@ module _ (event : EventValue) where
         more event (n + (entries_weight known.entries + (most_set + (length r.file + 56)))) (n + most) _ (omega (arith, light))
         (outcome_within event n (entries_weight known.entries) r (builtin_name NetId) names (with_maker found names.properties) s (omega (arith, a, b)) h)
 
-    meant_within : (known : Known) (command : Text) (wanted : Builtin) → entries_weight known.entries + (most_set + (length r.file + 56)) ≤ most → Within event (n + most) (builtin_run known r command wanted s).0
-    meant_within known command (asked_for.Hwdb hwdb) light = hwdb_within known command (Some hwdb) (omega (arith, light))
-    meant_within known command asked_for.InputId light = taken_within (builtin_name InputId) (known.input_id s.state.event) (omega (arith, light))
-    meant_within known command asked_for.NetId light = net_within known light
-    meant_within known command asked_for.PathId light = path_within known s.ran.path_id (omega (arith, light))
-    meant_within known command asked_for.UsbId light = usb_within known s.ran.usb_id (omega (arith, light))
-    meant_within known command (asked_for.Other name) light = notes BuiltinNotRun name
-    meant_within known command asked_for.BadArguments light = notes BadHwdbArguments command
-
-    builtin_within : (profile : Profile) (known : Known) (command : Text) → entries_weight known.entries + (builtin_allowance profile + (length r.file + 56)) ≤ most
-        → Within event (n + most) (builtin_run known r command (builtin profile command) s).0
-    builtin_within Manual known command light = manual_within known command (command_words command) (omega (arith, light))
-    builtin_within Udev known command light = meant_within known command (builtin Udev command) light
-
-    not_run_within : (type : ImportType) → Within event (n + most) (not_run r type s).0
-    not_run_within type = notes ImportNotRun (import_name type)
-
-    printed_within : (command : Text) (answer : Option AnswerValue) → answered_weight answer ≤ most → Within event (n + most) (from_answer_or_noted r command answer s).0
-    printed_within command None light = notes NoAnswer command
-    printed_within command (Some answer) light = by (answer.status == 0)
+    printed_within : (kind : NoteKind) (word : Text) (answer : Option AnswerValue) → answered_weight answer ≤ most → Within event (n + most) (from_answer_or_noted r kind word answer s).0
+    printed_within kind word None light = notes kind word
+    printed_within kind word (Some answer) light = by (answer.status == 0)
       where
         by : (b : Bool) → Within event (n + most) (if◌then◌else◌ {A = Scene × Bool} b (with_env (properties_set s.state.env (printed_properties answer.text)) s, true) (s, false)).0
         by true = let a = printed_light answer.text in more_env Udev (printed_properties answer.text) (omega (arith, a, light))
         by false = stays
 
+    answer_within : (kind : NoteKind) (word question : Text) → event_weight event ≤ most → Within event (n + most) (from_answer_or_noted r kind word (value_of s.state.event.programs question) s).0
+    answer_within kind word question short =
+        let a = answers_light event question in
+        let b = ap (λ e. answered_weight (value_of e.programs question)) h.same in
+        printed_within kind word (value_of s.state.event.programs question) (omega (arith, a, b, short))
+
+    meant_within : (known : Known) (command : Text) (wanted : Builtin) → entries_weight known.entries + (most_set + (length r.file + 56)) ≤ most → event_weight event ≤ most → Within event (n + most) (builtin_run known r command wanted s).0
+    meant_within known command (asked_for.Hwdb hwdb) light short = hwdb_within known command (Some hwdb) (omega (arith, light))
+    meant_within known command asked_for.InputId light short = taken_within (builtin_name InputId) (known.input_id s.state.event) (omega (arith, light))
+    meant_within known command asked_for.NetId light short = net_within known light
+    meant_within known command asked_for.PathId light short = path_within known s.ran.path_id (omega (arith, light))
+    meant_within known command asked_for.UsbId light short = usb_within known s.ran.usb_id (omega (arith, light))
+    meant_within known command asked_for.SetsNothing light short = stays
+    meant_within known command (asked_for.Answered name) light short = answer_within BuiltinNotRun name (builtin_question command) short
+    meant_within known command (asked_for.Other name) light short = notes BuiltinNotRun name
+    meant_within known command asked_for.BadArguments light short = notes BadHwdbArguments command
+
+    builtin_within : (profile : Profile) (known : Known) (command : Text) → entries_weight known.entries + (builtin_allowance profile + (length r.file + 56)) ≤ most → event_weight event ≤ most
+        → Within event (n + most) (builtin_run known r command (builtin profile command) s).0
+    builtin_within Manual known command light short = manual_within known command (command_words command) (omega (arith, light))
+    builtin_within Udev known command light short = meant_within known command (builtin Udev command) light short
+
+    not_run_within : (type : ImportType) → Within event (n + most) (not_run r type s).0
+    not_run_within type = notes ImportNotRun (import_name type)
+
     program_within : (command : Text) → event_weight event ≤ most → Within event (n + most) (from_program r command s).0
-    program_within command short =
-        let a = answers_light event command in
-        let b = ap (λ e. answered_weight (value_of e.programs command)) h.same in
-        printed_within command (value_of s.state.event.programs command) (omega (arith, a, b, short))
+    program_within command short = answer_within NoAnswer command command short
+
+    given_within : (name : Text) (value : Option Text) → set_weight name value ≤ most → Within event (n + most) (name_given name value s).0
+    given_within name None light = stays
+    given_within name (Some value) light = more_env Udev ((name, value) ∷ []) (let a = sum_by-cons pair_weight (name, value) [] in omega (arith, a, light))
+
+    line_within : (name : Text) (line : Option Text) → line_weight line ≤ most → Within event (n + most) (from_line r name line s).0
+    line_within name None light = not_run_within import_of.Cmdline
+    line_within name (Some line) light = given_within name (cmdline_value name line) (let a = cmdline_light name line in omega (arith, a, light))
+
+    cmdline_within : (name : Text) → event_weight event ≤ most → Within event (n + most) (from_cmdline r name s).0
+    cmdline_within name short =
+        let a = line_light event name in
+        let b = ap (λ e. line_weight (line_for name e)) h.same in
+        line_within name (line_for name s.state.event) (omega (arith, a, b, short))
 
     second_within : (names : List (List Item)) → event_weight event ≤ most → Within event (n + most) (from_parent names (device_at s.state.event 1) s).0
     second_within names short =
@@ -282,15 +309,15 @@ module _ (event : EventValue) where
         parent_within names (device_at s.state.event 1) (omega (arith, a, b, short))
 
     built_within : (d : ActKind) (known : Known) (given : Rendered) → entries_weight known.entries + (builtin_allowance event.profile + (length r.file + 56)) ≤ most
-        → Within event (n + most) (left r d (on_text (run_builtin known r) given s))
-    built_within d known given light =
+        → event_weight event ≤ most → Within event (n + most) (left r d (on_text (run_builtin known r) given s))
+    built_within d known given light short =
         on_text_within d (run_builtin known r) given
-        (λ command. builtin_within s.state.event.profile known command (let same = ap (λ e. builtin_allowance e.profile) h.same in omega (arith, same, light)))
+        (λ command. builtin_within s.state.event.profile known command (let same = ap (λ e. builtin_allowance e.profile) h.same in omega (arith, same, light)) short)
 
     import_within : (profile : Profile) (d : ActKind) (known : Known) (from : Import) → entries_weight known.entries + (builtin_allowance event.profile + (length r.file + 56)) ≤ most → event_weight event ≤ most
         → Within event (n + most) (left r d (imported profile known r from s))
-    import_within Manual d known (import.Builtin template) light short = built_within d known _ light
-    import_within Udev d known (import.Builtin template) light short = built_within d known _ light
+    import_within Manual d known (import.Builtin template) light short = built_within d known _ light short
+    import_within Udev d known (import.Builtin template) light short = built_within d known _ light short
     import_within Manual d known (import.Parent names text) light short = second_within names short
     import_within Udev d known (import.Parent names text) light short =
         on_text_within d from_parent_by (names_text text s.state) (λ found. second_within (fnmatch_items Exact found 0 ∷ []) short)
@@ -301,7 +328,7 @@ module _ (event : EventValue) where
     import_within Udev d known (import.File template) light short =
         on_text_within d (λ path. not_run r import_of.File) (import_text most_path_bytes template s.state) (λ path. not_run_within import_of.File)
     import_within Manual d known (import.Cmdline name) light short = not_run_within import_of.Cmdline
-    import_within Udev d known (import.Cmdline name) light short = not_run_within import_of.Cmdline
+    import_within Udev d known (import.Cmdline name) light short = cmdline_within name short
     import_within Manual d known (import.Db name) light short = not_run_within import_of.Db
     import_within Udev d known (import.Db name) light short = not_run_within import_of.Db
 

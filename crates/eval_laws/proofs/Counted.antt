@@ -22,10 +22,11 @@ use Rattle.eval_state.specs.Runs.{RunValue}
 use Rattle.eval_state.specs.Scenes.{noted, start}
 use Rattle.eval_state.specs.declared.notes.Note.{Note}
 use Rattle.eval_state.specs.declared.note_kind.NoteKind.{NoteKind}
-use Rattle.eval_state.specs.declared.note_kind.NoteKind.TheVariants.{AttributeNotRead, SysctlNotRead}
+use Rattle.eval_state.specs.declared.note_kind.NoteKind.TheVariants.{AttributeNotRead, ConstantNotGiven, SysctlNotRead}
 use Rattle.eval_state.specs.declared.scene.Scene.{Scene}
 use Rattle.eval_acts.specs.Acts.{act_step}
 use Rattle.eval_matching.specs.Attributes.{is_not_read}
+use Rattle.eval_matching.specs.Subjects.{is_not_given}
 use Rattle.eval_acts.specs.Reaching.{match_reached}
 use Rattle.eval_assignments.specs.Steps.{set_step}
 use Rattle.eval_rules.specs.Jumps.{is_passed, run, sought_after}
@@ -88,7 +89,11 @@ module _ (w : Note → ℕ) (v : RunValue → ℕ) (c : Rule → ℕ) (light : (
         by true = noted_more w v c light r s AttributeNotRead name
         by false = omega arith
     reached_counts (plain.Env name) s = omega arith
-    reached_counts (plain.Const name) s = omega arith
+    reached_counts (plain.Const name) s = by (is_not_given name s.state.event)
+      where
+        by : (b : Bool) → counted (if b then noted r ConstantNotGiven name s else s) ≤ counted s + c r
+        by true = noted_more w v c light r s ConstantNotGiven name
+        by false = omega arith
 
     plain_counts : (m : PlainMatch) (s : Scene) → counted (plain_step r m s).0 ≤ counted s + c r
     unfolding plain_step

@@ -25,6 +25,7 @@ use Rattle.eval_state.specs.Chains.{device_at}
 use Rattle.eval_rendering.specs.Bounds.{most_command_bytes, most_path_bytes}
 use Rattle.eval_rendering.specs.declared.rendered.Rendered.{Rendered}
 use Rattle.eval_rendering.specs.declared.rendered.Rendered.TheVariants as rendered
+use Rattle.eval_state.specs.Places.{is_there, place_of}
 use Rattle.eval_state.specs.Named.{NamedValue, named, named_place}
 use Rattle.eval_state.specs.Notes.{note_about, word_of_key}
 use Rattle.eval_state.specs.Runs.{RunValue}
@@ -38,13 +39,14 @@ use Rattle.rule_types.specs.Builtins.{builtin_name}
 use Rattle.rule_types.specs.declared.builtins.Builtin.TheVariants.{InputId, NetId, PathId, UsbId}
 use Rattle.builtin_devices.specs.Outcomes.{OutcomeValue}
 use Rattle.eval_acts.specs.BuiltinRuns.{looked_up, most_set, need_noted, need_word, outcome_set, outcome_taken, path_id_run, properties_size, usb_id_run, with_maker}
-use Rattle.eval_commands.specs.Builtins.{builtin}
+use Rattle.eval_commands.specs.Builtins.{builtin, builtin_question}
+use Rattle.eval_commands.specs.Cmdline.{cmdline_value}
 use Rattle.eval_commands.specs.declared.builtin.Builtin.{Builtin}
 use Rattle.eval_commands.specs.declared.builtin.Builtin.TheVariants as asked_for
 use Rattle.eval_acts.specs.ActTexts.{import_text, names_text, program_text, test_text}
 use Rattle.eval_acts.specs.Acts.{act_step, from_parent_by, imported, on_text, performed}
 use Rattle.eval_acts.specs.Inner.{left}
-use Rattle.eval_acts.specs.Imports.{builtin_run, from_answer_or_noted, from_parent, from_program, not_run, run_builtin}
+use Rattle.eval_acts.specs.Imports.{builtin_run, from_answer_or_noted, from_line, from_parent, from_program, line_for, name_given, not_run, run_builtin}
 use Rattle.eval_acts.specs.Printed.{printed_properties}
 use Rattle.eval_acts.specs.Questions.{answered_by_block, answered_or_noted, result_of, tested, tested_at, tested_by, tested_by_udev, with_result}
 use Rattle.eval_laws.proofs.Measured.{measured, noted_more}
@@ -87,7 +89,11 @@ module _ (w : Note → ℕ) (v : RunValue → ℕ) (c : Rule → ℕ) (light : (
     on_text_counts d act rendered.TooLong each = notes TextTooLong (word_of_key (key_of_act_kind d) (attribute_of_act_kind d))
 
     test_at_counts : (place : Option ℕ) (name path : Text) → counted (tested_at place r name path s).0 ≤ counted s + c r
-    test_at_counts None name path = notes TestNotMade path
+    test_at_counts None name path = by (is_there s.state.event (place_of s.state.event.device path))
+      where
+        by : (b : Bool) → counted (if◌then◌else◌ {A = Scene × Bool} b (s, true) (noted r TestNotMade path s, false)).0 ≤ counted s + c r
+        by true = omega arith
+        by false = notes TestNotMade path
     test_at_counts (Some place) name path = omega arith
 
     test_udev_counts : (is : Option NamedValue) (path : Text) → counted (tested_by_udev is r path s).0 ≤ counted s + c r
@@ -113,6 +119,14 @@ module _ (w : Note → ℕ) (v : RunValue → ℕ) (c : Rule → ℕ) (light : (
         by true = omega arith
         by false = omega arith
 
+    printed_counts : (kind : NoteKind) (word : Text) (answer : Option AnswerValue) → counted (from_answer_or_noted r kind word answer s).0 ≤ counted s + c r
+    printed_counts kind word None = notes kind word
+    printed_counts kind word (Some answer) = by (answer.status == 0)
+      where
+        by : (b : Bool) → counted (if◌then◌else◌ {A = Scene × Bool} b (with_env (properties_set s.state.env (printed_properties answer.text)) s, true) (s, false)).0 ≤ counted s + c r
+        by true = omega arith
+        by false = omega arith
+
     builtin_counts : (known : Known) (command : Text) (wanted : Builtin) → counted (builtin_run known r command wanted s).0 ≤ counted s + c r
     builtin_counts known command (asked_for.Hwdb hwdb) = omega arith
     builtin_counts known command asked_for.InputId = taken_counts r (builtin_name InputId) (known.input_id s.state.event) s
@@ -121,6 +135,8 @@ module _ (w : Note → ℕ) (v : RunValue → ℕ) (c : Rule → ℕ) (light : (
         outcome_counts r (builtin_name NetId) names (with_maker (looked_up known (known.net_lookup s.state.event s.state.env)) names.properties) s
     builtin_counts known command asked_for.PathId = path_counts known r s.ran.path_id s
     builtin_counts known command asked_for.UsbId = usb_counts known r s.ran.usb_id s
+    builtin_counts known command asked_for.SetsNothing = omega arith
+    builtin_counts known command (asked_for.Answered name) = printed_counts BuiltinNotRun name (value_of s.state.event.programs (builtin_question command))
     builtin_counts known command (asked_for.Other name) = notes BuiltinNotRun name
     builtin_counts known command asked_for.BadArguments = notes BadHwdbArguments command
 
@@ -131,13 +147,13 @@ module _ (w : Note → ℕ) (v : RunValue → ℕ) (c : Rule → ℕ) (light : (
     not_run_counts : (type : ImportType) → counted (not_run r type s).0 ≤ counted s + c r
     not_run_counts type = notes ImportNotRun (import_name type)
 
-    printed_counts : (command : Text) (answer : Option AnswerValue) → counted (from_answer_or_noted r command answer s).0 ≤ counted s + c r
-    printed_counts command None = notes NoAnswer command
-    printed_counts command (Some answer) = by (answer.status == 0)
-      where
-        by : (b : Bool) → counted (if◌then◌else◌ {A = Scene × Bool} b (with_env (properties_set s.state.env (printed_properties answer.text)) s, true) (s, false)).0 ≤ counted s + c r
-        by true = omega arith
-        by false = omega arith
+    given_counts : (name : Text) (value : Option Text) → counted (name_given name value s).0 ≤ counted s + c r
+    given_counts name None = omega arith
+    given_counts name (Some value) = omega arith
+
+    line_counts : (name : Text) (line : Option Text) → counted (from_line r name line s).0 ≤ counted s + c r
+    line_counts name None = not_run_counts import_of.Cmdline
+    line_counts name (Some line) = given_counts name (cmdline_value name line)
 
     built_counts : (d : ActKind) (known : Known) (given : Rendered) → counted (left r d (on_text (run_builtin known r) given s)) ≤ counted s + c r
     built_counts d known given = on_text_counts d (run_builtin known r) given (λ command. builtin_counts known command (builtin s.state.event.profile command))
@@ -150,11 +166,11 @@ module _ (w : Note → ℕ) (v : RunValue → ℕ) (c : Rule → ℕ) (light : (
         on_text_counts d from_parent_by (names_text text s.state) (λ found. parent_counts (fnmatch_items Exact found 0 ∷ []) (device_at s.state.event 1))
     import_counts Manual d known (import.Program template) = not_run_counts import_of.Program
     import_counts Udev d known (import.Program template) =
-        on_text_counts d (from_program r) (import_text most_command_bytes template s.state) (λ command. printed_counts command (value_of s.state.event.programs command))
+        on_text_counts d (from_program r) (import_text most_command_bytes template s.state) (λ command. printed_counts NoAnswer command (value_of s.state.event.programs command))
     import_counts Manual d known (import.File template) = not_run_counts import_of.File
     import_counts Udev d known (import.File template) = on_text_counts d (λ path. not_run r import_of.File) (import_text most_path_bytes template s.state) (λ text. not_run_counts import_of.File)
     import_counts Manual d known (import.Cmdline name) = not_run_counts import_of.Cmdline
-    import_counts Udev d known (import.Cmdline name) = not_run_counts import_of.Cmdline
+    import_counts Udev d known (import.Cmdline name) = line_counts name (line_for name s.state.event)
     import_counts Manual d known (import.Db name) = not_run_counts import_of.Db
     import_counts Udev d known (import.Db name) = not_run_counts import_of.Db
 

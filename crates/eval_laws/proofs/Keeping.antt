@@ -25,16 +25,20 @@ use Rattle.rule_types.specs.declared.part.UpMatch.{UpMatch}
 use Rattle.rule_types.specs.declared.types.ImportType.TheVariants.{File}
 use Rattle.rule_types.specs.Rules.{Rule}
 use Rattle.eval_state.specs.Chains.{device_at}
+use Rattle.eval_state.specs.Places.{is_there, place_of}
 use Rattle.eval_state.specs.Named.{NamedValue, named, named_place}
 use Rattle.eval_state.specs.Properties.{properties_set}
 use Rattle.eval_state.specs.Scenes.{noted, with_env}
-use Rattle.eval_state.specs.declared.note_kind.NoteKind.TheVariants.{AttributeNotRead, TestNotMade, TextTooLong}
+use Rattle.eval_state.specs.declared.note_kind.NoteKind.{NoteKind}
+use Rattle.eval_state.specs.declared.note_kind.NoteKind.TheVariants.{AttributeNotRead, BuiltinNotRun, ConstantNotGiven, NoAnswer, TestNotMade, TextTooLong}
 use Rattle.eval_rendering.specs.Bounds.{most_command_bytes, most_path_bytes}
 use Rattle.eval_rendering.specs.declared.rendered.Rendered.{Rendered}
 use Rattle.eval_rendering.specs.declared.rendered.Rendered.TheVariants as rendered
 use Rattle.rule_types.specs.Builtins.{builtin_name}
 use Rattle.rule_types.specs.declared.builtins.Builtin.TheVariants.{InputId, NetId, PathId, UsbId}
 use Rattle.builtin_devices.specs.Outcomes.{OutcomeValue}
+use Rattle.eval_commands.specs.Builtins.{builtin_question}
+use Rattle.eval_commands.specs.Cmdline.{cmdline_value}
 use Rattle.eval_commands.specs.declared.builtin.Builtin.{Builtin}
 use Rattle.eval_commands.specs.declared.builtin.Builtin.TheVariants as builtin
 use Rattle.eval_state.specs.Finals.{is_final}
@@ -42,10 +46,11 @@ use Rattle.eval_state.specs.declared.finals.FinalKey.{FinalKey}
 use Rattle.eval_state.specs.declared.finals.FinalKey.TheVariants as key
 use Rattle.eval_state.specs.declared.scene.Scene.{Scene}
 use Rattle.eval_matching.specs.Attributes.{is_not_read}
+use Rattle.eval_matching.specs.Subjects.{is_not_given}
 use Rattle.eval_acts.specs.ActTexts.{import_text, names_text, program_text}
 use Rattle.eval_acts.specs.Acts.{act_step, from_parent_by, imported, on_text, performed, too_long_noted}
 use Rattle.eval_acts.specs.BuiltinRuns.{looked_up, most_set, need_noted, outcome_set, outcome_taken, path_id_run, properties_size, usb_id_run, with_maker}
-use Rattle.eval_acts.specs.Imports.{builtin_run, from_answer_or_noted, from_parent, from_program, not_run, run_builtin}
+use Rattle.eval_acts.specs.Imports.{builtin_run, from_answer_or_noted, from_line, from_parent, from_program, line_for, name_given, not_run, run_builtin}
 use Rattle.eval_acts.specs.Printed.{printed_properties}
 use Rattle.eval_acts.specs.Questions.{answered_by_block, answered_or_noted, result_of, tested, tested_at, tested_by, tested_by_udev, with_result}
 use Rattle.eval_acts.specs.Reaching.{match_reached}
@@ -92,7 +97,7 @@ on_text_same act h (rendered.Text t) s = h t s
 on_text_same act h rendered.TooLong s = refl
 
 test_at_same : (place : Option ℕ) (r : Rule) (name t : Text) (s : Scene) → Same s (tested_at place r name t s).0
-test_at_same None r name t s = refl
+test_at_same None r name t s = chosen s s (noted r TestNotMade t s) true false (is_there s.state.event (place_of s.state.event.device t)) refl refl
 test_at_same (Some place) r name t s = refl
 
 test_udev_same : (is : Option NamedValue) (r : Rule) (t : Text) (s : Scene) → Same s (tested_by_udev is r t s).0
@@ -139,6 +144,10 @@ path_same : (known : Known) (ran : Option Bool) (r : Rule) (s : Scene) → Same 
 path_same known None r s = through s _ _ (taken_same r (builtin_name PathId) (known.path_id s.state.event) s) refl
 path_same known (Some done) r s = refl
 
+printed_same : (r : Rule) (kind : NoteKind) (t : Text) (a : Option AnswerValue) (s : Scene) → Same s (from_answer_or_noted r kind t a s).0
+printed_same r kind t None s = refl
+printed_same r kind t (Some a) s = chosen s (with_env (properties_set s.state.env (printed_properties a.text)) s) s true false _ refl refl
+
 builtin_same : (known : Known) (r : Rule) (t : Text) (b : Builtin) (s : Scene) → Same s (builtin_run known r t b s).0
 builtin_same known r t (builtin.Hwdb h) s = refl
 builtin_same known r t builtin.InputId s = taken_same r (builtin_name InputId) (known.input_id s.state.event) s
@@ -147,6 +156,8 @@ builtin_same known r t builtin.NetId s =
     outcome_same r (builtin_name NetId) names (with_maker (looked_up known (known.net_lookup s.state.event s.state.env)) names.properties) s
 builtin_same known r t builtin.PathId s = path_same known s.ran.path_id r s
 builtin_same known r t builtin.UsbId s = usb_same known s.ran.usb_id r s
+builtin_same known r t builtin.SetsNothing s = refl
+builtin_same known r t (builtin.Answered name) s = printed_same r BuiltinNotRun name (value_of s.state.event.programs (builtin_question t)) s
 builtin_same known r t (builtin.Other name) s = refl
 builtin_same known r t builtin.BadArguments s = refl
 
@@ -154,9 +165,13 @@ parent_same : (names : List (List Item)) (d : Option DeviceValue) (s : Scene) �
 parent_same names None s = refl
 parent_same names (Some d) s = refl
 
-printed_same : (r : Rule) (t : Text) (a : Option AnswerValue) (s : Scene) → Same s (from_answer_or_noted r t a s).0
-printed_same r t None s = refl
-printed_same r t (Some a) s = chosen s (with_env (properties_set s.state.env (printed_properties a.text)) s) s true false _ refl refl
+given_same : (name : Text) (value : Option Text) (s : Scene) → Same s (name_given name value s).0
+given_same name None s = refl
+given_same name (Some value) s = refl
+
+line_same : (r : Rule) (name : Text) (line : Option Text) (s : Scene) → Same s (from_line r name line s).0
+line_same r name None s = refl
+line_same r name (Some line) s = given_same name (cmdline_value name line) s
 
 built_same : (known : Known) (r : Rule) (text : Rendered) (s : Scene) → Same s (on_text (run_builtin known r) text s).0
 built_same known r text s = on_text_same (run_builtin known r) (λ c u. builtin_same known r c _ u) text s
@@ -169,11 +184,11 @@ imported_same Udev known r (import.Parent names text) s =
     on_text_same from_parent_by (λ found u. parent_same (fnmatch_items Exact found 0 ∷ []) (device_at u.state.event 1) u) (names_text text s.state) s
 imported_same Manual known r (import.Program t) s = refl
 imported_same Udev known r (import.Program t) s =
-    on_text_same (from_program r) (λ c u. printed_same r c (value_of u.state.event.programs c) u) (import_text most_command_bytes t s.state) s
+    on_text_same (from_program r) (λ c u. printed_same r NoAnswer c (value_of u.state.event.programs c) u) (import_text most_command_bytes t s.state) s
 imported_same Manual known r (import.File t) s = refl
 imported_same Udev known r (import.File t) s = on_text_same (λ path. not_run r File) (λ text u. refl) (import_text most_path_bytes t s.state) s
 imported_same Manual known r (import.Cmdline name) s = refl
-imported_same Udev known r (import.Cmdline name) s = refl
+imported_same Udev known r (import.Cmdline name) s = line_same r name (line_for name s.state.event) s
 imported_same Manual known r (import.Db name) s = refl
 imported_same Udev known r (import.Db name) s = refl
 
@@ -200,6 +215,11 @@ reached_same r (plain.Sysctl name) s = refl
 reached_same r (plain.Attr name) s = by (is_not_read name s.state.event)
   where
     by : (b : Bool) → Same s (cond b (noted r AttributeNotRead name s) s)
+    by true = refl
+    by false = refl
+reached_same r (plain.Const name) s = by (is_not_given name s.state.event)
+  where
+    by : (b : Bool) → Same s (cond b (noted r ConstantNotGiven name s) s)
     by true = refl
     by false = refl
 reached_same r k s = refl

@@ -59,6 +59,7 @@ pub mod Tagged
 pub mod Bracketed
 pub mod Attributes
 pub mod PrintedWeights
+pub mod CmdlineWeights
 pub mod PrintedReading
 pub mod PrintedGiven
 pub mod PrintedActs

@@ -24,6 +24,7 @@ use Rattle.eval_acts.specs.ActTexts.{import_text}
 use Rattle.eval_acts.specs.Acts as acts
 use Rattle.eval_acts.specs.Acts.{act_step, imported, proceeds, on_text}
 use Rattle.eval_acts.specs.Inner.{left}
+use Rattle.eval_state.specs.declared.note_kind.NoteKind.TheVariants.{NoAnswer}
 use Rattle.eval_acts.specs.Imports.{from_answer_or_noted, from_program}
 use Rattle.eval_acts.specs.Printed.{printed_properties}
 use Rattle.eval_laws.specs.PrintedLines.{IsPrinted, program_import}
@@ -60,7 +61,7 @@ module _ (r : Rule) (operator : MatchOperator) (template : Template) (s : Scene)
   unfolding came
   came_answered text h =
       ap (λ given. after (on_text (from_program r) given s)) h.rendered
-      ∙ ap (λ answer. after (acts.tried (from_answer_or_noted r h.command answer s))) h.answered
+      ∙ ap (λ answer. after (acts.tried (from_answer_or_noted r NoAnswer h.command answer s))) h.answered
 
   pub answered : (known : Known) (text : Text) → s.state.event.profile ≡ Udev → IsPrinted template s text
       → act_step known r (program_import operator template) s ≡ (taken text, agrees operator true)
@@ -83,7 +84,7 @@ module _ (r : Rule) (template : Template) (s : Scene) where
   by_status command answer e there false other = inr (record { stops = refl; same = refl })
 
   by_answer : (command : Text) → import_text most_command_bytes template s.state ≡ outcome.Text command → (answer : Option AnswerValue) → value_of s.state.event.programs command ≡ answer
-      → ((text : Text) × IsPrinted template s text) ⊎ Fails (went_by r Equal template s (from_answer_or_noted r command answer s))
+      → ((text : Text) × IsPrinted template s text) ⊎ Fails (went_by r Equal template s (from_answer_or_noted r NoAnswer command answer s))
   unfolding went_by
   by_answer command e None there = inr (record { stops = refl; same = refl })
   by_answer command e (Some answer) there = by_status command answer e there (answer.status == 0) refl

@@ -11,7 +11,8 @@ use Rattle.text_bytes.specs.Names.{equals, hash, is_blank}
 use Rattle.text_bytes.specs.Texts.{begins_with, is_empty, split_once, unindented}
 use Rattle.text_tables.specs.Texts.{Text}
 use Rattle.text_tables.specs.Pairs.{Pair}
-use Rattle.eval_acts.specs.Printed.{bare, before_end, ends_line, line_property, printed_properties, property_cut, property_of, unquoted, unspaced}
+use Rattle.eval_acts.specs.Printed.{bare, before_end, line_property, printed_properties, property_cut, property_of, unquoted, unspaced}
+use Rattle.eval_rendering.specs.Pieces.{ends_line}
 use Rattle.eval_commands.specs.Words.{is_quote}
 use Rattle.eval_laws.specs.PrintedLines.{IsGiven, IsPadded, IsWritten}
 use Rattle.eval_laws.proofs.Options.{word_cut}

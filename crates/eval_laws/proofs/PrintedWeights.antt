@@ -9,7 +9,8 @@ use Rattle.text_tables.specs.Texts.{Text, same_text}
 use Rattle.text_tables.specs.Pairs.{Pair, value_of}
 use Rattle.text_core.proofs.Cutting.{position-lt}
 use Rattle.device_core.specs.Values.{AnswerValue, EventValue}
-use Rattle.eval_acts.specs.Printed.{bare, before_end, ends_line, line_property, printed_properties, property_cut, property_of, unquoted, unspaced}
+use Rattle.eval_acts.specs.Printed.{bare, before_end, line_property, printed_properties, property_cut, property_of, unquoted, unspaced}
+use Rattle.eval_rendering.specs.Pieces.{ends_line}
 use Rattle.eval_commands.specs.Words.{is_quote}
 use Rattle.eval_laws.specs.DeviceWeights.{answer_weight, event_weight, pair_weight, pairs_weight, text_weight}
 use Rattle.eval_laws.proofs.Sums.{split_light}

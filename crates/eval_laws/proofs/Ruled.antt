@@ -15,11 +15,12 @@ use Rattle.rule_types.specs.declared.part.UpMatch.{UpMatch}
 use Rattle.rule_types.specs.Rules.{Rule}
 use Rattle.device_core.specs.Values.{EventValue}
 use Rattle.eval_laws.specs.DeviceWeights.{event_weight}
-use Rattle.eval_state.specs.declared.note_kind.NoteKind.TheVariants.{AttributeNotRead, SysctlNotRead}
+use Rattle.eval_state.specs.declared.note_kind.NoteKind.TheVariants.{AttributeNotRead, ConstantNotGiven, SysctlNotRead}
 use Rattle.eval_state.specs.declared.scene.Scene.{Scene}
 use Rattle.eval_acts.specs.Acts.{act_step}
 use Rattle.eval_acts.specs.Reaching.{match_reached}
 use Rattle.eval_matching.specs.Attributes.{is_not_read}
+use Rattle.eval_matching.specs.Subjects.{is_not_given}
 use Rattle.eval_state.specs.Scenes.{noted}
 use Rattle.eval_assignments.specs.Steps.{set_step}
 use Rattle.eval_rules.specs.Jumps.{is_passed, run, sought_after}
@@ -70,7 +71,11 @@ module _ (event : EventValue) where
         by true = noted_within event n r AttributeNotRead name s h
         by false = more event n (n + (length r.file + 56)) s (omega arith) h
     reached_within (plain.Env name) n s h = more event n (n + (length r.file + 56)) s (omega arith) h
-    reached_within (plain.Const name) n s h = more event n (n + (length r.file + 56)) s (omega arith) h
+    reached_within (plain.Const name) n s h = by (is_not_given name s.state.event)
+      where
+        by : (b : Bool) → Within event (n + (length r.file + 56)) (if b then noted r ConstantNotGiven name s else s)
+        by true = noted_within event n r ConstantNotGiven name s h
+        by false = more event n (n + (length r.file + 56)) s (omega arith) h
 
     plain_within : (m : PlainMatch) (n : ℕ) (s : Scene) → Within event n s → Within event (n + part_allowance r (attribute_of_plain m.key)) (plain_step r m s).0
     unfolding plain_step

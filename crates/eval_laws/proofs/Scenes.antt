@@ -10,7 +10,7 @@ use Rattle.eval_laws.specs.DeviceWeights.{text_weight}
 use Rattle.eval_state.specs.Notes.{note_about, text_of}
 use Rattle.eval_state.specs.Scenes.{noted}
 use Rattle.eval_state.specs.declared.note_kind.NoteKind.{NoteKind}
-use Rattle.eval_state.specs.declared.note_kind.NoteKind.TheVariants.{ImportNotRun, BuiltinNotRun, BadHwdbArguments, NoAnswer, TestNotMade, SysctlNotRead, TextTooLong, NameIgnored, NoDeviceNumber, NoValue, LinkIgnored, ModeIgnored, TagIgnored, AttributeNotRead, AttributeNotFound, BuiltinNeeds}
+use Rattle.eval_state.specs.declared.note_kind.NoteKind.TheVariants.{ImportNotRun, BuiltinNotRun, BadHwdbArguments, NoAnswer, TestNotMade, SysctlNotRead, TextTooLong, NameIgnored, NoDeviceNumber, NoValue, LinkIgnored, ModeIgnored, TagIgnored, AttributeNotRead, AttributeNotFound, BuiltinNeeds, ConstantNotGiven}
 use Rattle.eval_state.specs.declared.scene.Scene.{Scene}
 use Rattle.eval_laws.specs.Weights.{note_weight}
 use Rattle.eval_laws.specs.Inner.{Within, scene_weight}
@@ -36,6 +36,7 @@ kind_light TagIgnored = omega arith
 kind_light AttributeNotRead = omega arith
 kind_light AttributeNotFound = omega arith
 kind_light BuiltinNeeds = omega arith
+kind_light ConstantNotGiven = omega arith
 
 word_light : (text : Text) → length (take 32 text) ≤ 32
 word_light text = let a = length-take 32 text in let b = min-le_left 32 (length text) in omega (arith, a, b)

@@ -14,8 +14,9 @@ use Rattle.eval_state.specs.declared.scene.Scene.{Scene}
 use Rattle.eval_acts.specs.Acts.{act_step}
 use Rattle.eval_acts.specs.Reaching.{match_reached}
 use Rattle.eval_matching.specs.Attributes.{is_not_read}
+use Rattle.eval_matching.specs.Subjects.{is_not_given}
 use Rattle.eval_state.specs.Scenes.{noted}
-use Rattle.eval_state.specs.declared.note_kind.NoteKind.TheVariants.{AttributeNotRead}
+use Rattle.eval_state.specs.declared.note_kind.NoteKind.TheVariants.{AttributeNotRead, ConstantNotGiven}
 use Rattle.eval_rules.specs.Idle.{is_idle}
 use Rattle.eval_rules.specs.Steps.{Went, apply, if_proceeding, only_noted, plain_step, result_step, search, set_all, steps, walk}
 use Rattle.eval_rules.specs.Jumps.{run, sought_after}
@@ -34,6 +35,11 @@ reached_same r (plain.Sysctl name) notes s = refl
 reached_same r (plain.Attr name) notes s = by (is_not_read name s.state.event)
   where
     by : (b : Bool) → noting notes (cond b (noted r AttributeNotRead name s) s) ≡ noting notes s
+    by true = refl
+    by false = refl
+reached_same r (plain.Const name) notes s = by (is_not_given name s.state.event)
+  where
+    by : (b : Bool) → noting notes (cond b (noted r ConstantNotGiven name s) s) ≡ noting notes s
     by true = refl
     by false = refl
 reached_same r k notes s = refl

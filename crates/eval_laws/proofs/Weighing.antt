@@ -1,12 +1,12 @@
 -- What an answer weighs at most.
-use Rattle.std.proofs.Common.{◌≡◌, ℕ, ◌+◌, ◌≤◌, List, length, None, Ok, refl, arith}
+use Rattle.std.proofs.Common.{◌≡◌, ℕ, ◌+◌, ◌≤◌, Bool, true, false, cond, List, length, Option, Some, None, Ok, arith}
 use Rattle.text_bytes.specs.declared.profile.Profile.{Profile}
 use Rattle.text_tables.specs.Texts.{Text}
 use Rattle.builtin_devices.specs.Knowledge.{Known}
 use Rattle.rule_types.specs.Rules.{Rule}
 use Rattle.device_core.specs.Faults.{block_gives}
-use Rattle.device_core.specs.Values.{EventValue, by_profile}
-use Rattle.eval_laws.specs.DeviceWeights.{event_weight}
+use Rattle.device_core.specs.Values.{DeviceValue, EventValue, NumberValue, by_profile, is_number_by, number_by}
+use Rattle.eval_laws.specs.DeviceWeights.{device_weight, event_weight, number_weight}
 use Rattle.eval_laws.proofs.DeviceWeights.{event_within}
 use Rattle.eval_state.specs.Scenes.{start}
 use Rattle.eval_rules.specs.Jumps.{run}
@@ -23,10 +23,23 @@ answer_within len rules known event short =
     let b = outcome_light (run known None rules (start event)) in
     omega (arith, a, b, short)
 
--- whose word rules are evaluated by has no weight
-pub weight_by : (profile : Profile) (event : EventValue) → event_weight (by_profile profile event) ≡ event_weight event
+-- a number by a profile weighs no more
+number_by_light : (profile : Profile) (number : Option NumberValue) → number_weight (number_by profile number) ≤ number_weight number
+number_by_light profile None = omega arith
+number_by_light profile (Some number) = by (is_number_by profile number)
+  where
+    by : (b : Bool) → number_weight (cond b (Some number) None) ≤ number_weight (Some number)
+    by true = omega arith
+    by false = omega arith
+
+device_by_light : (profile : Profile) (device : DeviceValue) → device_weight (record device { number = number_by profile device.number }) ≤ device_weight device
+unfolding device_weight
+device_by_light profile device = let a = number_by_light profile device.number in omega (arith, a)
+
+-- an event by a profile weighs no more
+pub weight_by : (profile : Profile) (event : EventValue) → event_weight (by_profile profile event) ≤ event_weight event
 unfolding event_weight
-weight_by profile event = refl
+weight_by profile event = let a = device_by_light profile event.device in omega (arith, a)
 
 pub block_answer : (profile : Profile) (rules : List Rule) (known : Known) (block : Text) (event : EventValue) → block_gives block ≡ Ok event
     → outcome_weight (outcome rules known (by_profile profile event)) ≤ most_weight profile (length block) known.entries rules

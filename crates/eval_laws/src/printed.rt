@@ -14,7 +14,8 @@ ghost use Rattle.eval_state.specs.Properties.{properties_set};
 ghost use Rattle.eval_state.specs.Scenes.{with_env};
 ghost use Rattle.eval_state.specs.declared.scene.Scene.{Scene};
 ghost use Rattle.eval_acts.specs.Acts.{act_step};
-ghost use Rattle.eval_acts.specs.Printed.{ends_line, line_property, printed_properties};
+ghost use Rattle.eval_acts.specs.Printed.{line_property, printed_properties};
+ghost use Rattle.eval_rendering.specs.Pieces.{ends_line};
 ghost use Rattle.eval_laws.specs.PrintedLines.{IsGiven, IsPrinted, program_import};
 
 /// A text is read line by line, and its properties come in the order of its lines, whichever byte ends them.

@@ -12,7 +12,7 @@ ghost use Rattle.eval_state.specs.Chains.{device_at, kernel_of};
 ghost use Rattle.eval_state.specs.Named.{NamedValue, named, named_place};
 ghost use Rattle.eval_state.specs.Texts.{or_empty};
 ghost use Rattle.eval_rendering.specs.Bounds.{bounded};
-ghost use Rattle.eval_rendering.specs.Pieces.{attribute, named_attribute, piece_text};
+ghost use Rattle.eval_rendering.specs.Pieces.{as_read, attribute, named_attribute, piece_text};
 ghost use Rattle.eval_rendering.specs.Words.{from_word, spaced, word_at};
 ghost use Rattle.text_links.specs.Kernels.{longest_end};
 ghost use Rattle.text_links.specs.Safe.{attribute_marks, link_marks, safe};
@@ -41,7 +41,7 @@ pub fn long_attributes_are_too_long()
         → render template state mode ≡ as_rendered mode (bounded (flat_map (text_in mode state) template.pieces)) }
     ensures udev { (template : templates.Parts) (state : states.State) (mode : Mode) (before following : List Piece) (name : Text)
         → state.event.profile ≡ Udev → template.pieces ≡ before ++ piece.Attr name ∷ following → named_attribute name state.event ≡ None
-        → 511 < length (or_empty (attribute name state)) → render template state mode ≡ rendered.TooLong }
+        → 511 < length (as_read (or_empty (attribute name state))) → render template state mode ≡ rendered.TooLong }
 {}
 
 /// Each substitution is replaced with its own text: of the event device, of the selected one, of the next device above, of the
@@ -79,5 +79,5 @@ pub fn each_substitution_has_its_own_text()
 pub fn named_attributes_are_cut()
     ensures { (state : states.State) (name : Text) (is : NamedValue) (place : ℕ) (device : DeviceValue) → state.event.profile ≡ Udev → named name ≡ Some is
         → is_empty is.attribute ≡ false → named_place is state.event ≡ Some place → device_at state.event place ≡ Some device
-        → piece_text state (piece.Attr name) ≡ safe attribute_marks (trimmed (take 511 (or_empty (value_of device.attrs is.attribute)))) }
+        → piece_text state (piece.Attr name) ≡ safe attribute_marks (trimmed (take 511 (as_read (or_empty (value_of device.attrs is.attribute))))) }
 {}

@@ -1,5 +1,5 @@
 -- What is found by a name that is rendered.
-use Rattle.std.proofs.Common.{◌≡◌, ◌≤◌, ◌<◌, Bool, true, false, not, ◌&&◌, nat_lt, List, length, Some, None, cond, refl, ap, ◌∙◌, arith}
+use Rattle.std.proofs.Common.{◌≡◌, ◌≤◌, ◌<◌, Bool, true, false, not, ◌&&◌, nat_lt, List, length, Some, None, option_map, cond, refl, ap, ◌∙◌, arith}
 use Rattle.std.proofs.lemmas.Bool.Decides.{nat_tests}
 use Rattle.std.specs.Option.{option_and_then}
 use Rattle.text_bytes.specs.Names.{open_bracket}
@@ -10,6 +10,7 @@ use Rattle.rule_templates.specs.Substituted.{has_sign}
 use Rattle.eval_state.specs.declared.state.State.{State}
 use Rattle.eval_rendering.specs.Bounds.{short}
 use Rattle.eval_rendering.specs.Names.{name_text}
+use Rattle.eval_rendering.specs.Pieces.{as_read}
 use Rattle.eval_matching.specs.Attributes.{udev_value}
 
 long_enough : (name : Text) → 511 < length name → nat_lt 511 (length name) ≡ true
@@ -18,24 +19,26 @@ long_enough name h = grind (arith, nat_tests)
 short_enough : (name : Text) → length name ≤ 511 → nat_lt 511 (length name) ≡ false
 short_enough name h = grind (arith, nat_tests)
 
-pub plain_name : (name : Text) (state : State) (attrs : List Pair) → has_sign name ≡ false → udev_value name state attrs ≡ value_of attrs name
+pub plain_name : (name : Text) (state : State) (attrs : List Pair) → has_sign name ≡ false → udev_value name state attrs ≡ option_map as_read (value_of attrs name)
 unfolding udev_value
-plain_name name state attrs none = by (begins_with open_bracket name)
+plain_name name state attrs none = ap (option_map as_read) (by (begins_with open_bracket name))
   where
     by : (b : Bool) → cond (not b && has_sign name) (option_and_then (value_of attrs) (short (name_text name state))) (value_of attrs name) ≡ value_of attrs name
     by true = refl
     by false = ap (λ b. cond b (option_and_then (value_of attrs) (short (name_text name state))) (value_of attrs name)) none
 
-by_rendering : (name : Text) (state : State) (attrs : List Pair) → begins_with open_bracket name ≡ false → has_sign name ≡ true → udev_value name state attrs ≡ option_and_then (value_of attrs) (short (name_text name state))
+by_rendering : (name : Text) (state : State) (attrs : List Pair) → begins_with open_bracket name ≡ false → has_sign name ≡ true
+    → udev_value name state attrs ≡ option_map as_read (option_and_then (value_of attrs) (short (name_text name state)))
 unfolding udev_value
 by_rendering name state attrs plain some =
-    ap (λ b. cond (not b && has_sign name) (option_and_then (value_of attrs) (short (name_text name state))) (value_of attrs name)) plain
-    ∙ ap (λ b. cond b (option_and_then (value_of attrs) (short (name_text name state))) (value_of attrs name)) some
+    ap (λ b. option_map as_read (cond (not b && has_sign name) (option_and_then (value_of attrs) (short (name_text name state))) (value_of attrs name))) plain
+    ∙ ap (λ b. option_map as_read (cond b (option_and_then (value_of attrs) (short (name_text name state))) (value_of attrs name))) some
 
-pub short_name : (name : Text) (state : State) (attrs : List Pair) → begins_with open_bracket name ≡ false → has_sign name ≡ true → length (name_text name state) ≤ 511 → udev_value name state attrs ≡ value_of attrs (name_text name state)
+pub short_name : (name : Text) (state : State) (attrs : List Pair) → begins_with open_bracket name ≡ false → has_sign name ≡ true → length (name_text name state) ≤ 511
+    → udev_value name state attrs ≡ option_map as_read (value_of attrs (name_text name state))
 short_name name state attrs plain some fits =
-    by_rendering name state attrs plain some ∙ ap (λ b. option_and_then (value_of attrs) (cond b None (Some (name_text name state)))) (short_enough (name_text name state) fits)
+    by_rendering name state attrs plain some ∙ ap (λ b. option_map as_read (option_and_then (value_of attrs) (cond b None (Some (name_text name state))))) (short_enough (name_text name state) fits)
 
 pub long_name : (name : Text) (state : State) (attrs : List Pair) → begins_with open_bracket name ≡ false → has_sign name ≡ true → 511 < length (name_text name state) → udev_value name state attrs ≡ None
 long_name name state attrs plain some long =
-    by_rendering name state attrs plain some ∙ ap (λ b. option_and_then (value_of attrs) (cond b None (Some (name_text name state)))) (long_enough (name_text name state) long)
+    by_rendering name state attrs plain some ∙ ap (λ b. option_map as_read (option_and_then (value_of attrs) (cond b None (Some (name_text name state))))) (long_enough (name_text name state) long)

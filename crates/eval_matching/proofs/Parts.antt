@@ -9,8 +9,7 @@ use Rattle.text_bytes.specs.Names.{bar}
 use Rattle.text_bytes.specs.Texts.{is_empty}
 use Rattle.text_tables.specs.Texts.{Text}
 use Rattle.text_core.specs.Choices.{is_bar}
-use Rattle.rule_templates.specs.Integers.{is_separator}
-use Rattle.eval_matching.specs.Udev.{first_part, last_is, passes, without_end}
+use Rattle.eval_matching.specs.Udev.{first_part, last_is, passes}
 
 no_byte : {A : Type 0} → false ≡ true → A
 no_byte h = absurd (true≢false (sym h))
@@ -76,41 +75,43 @@ first_alone bars part all none = ap (λ t. first_part (bars ++ t)) (sym (append_
 
 -- ---- ends
 
-not_last : (text : Text) → last_is is_separator text ≡ false → 0 < length text → is_separator (get_or text (length text - 1) 0) ≡ false
-not_last text h some =
-    ap (passes is_separator) (sym (slice_get-get_or text (length text - 1) 0 (omega (arith, some)))) ∙ h
+not_last : (p : ℕ → Bool) (text : Text) → last_is p text ≡ false → 0 < length text → p (get_or text (length text - 1) 0) ≡ false
+not_last p text h some =
+    ap (passes p) (sym (slice_get-get_or text (length text - 1) 0 (omega (arith, some)))) ∙ h
 
-pub cut_off : (text end : Text) → list_all is_separator end ≡ true → last_is is_separator text ≡ false → without_end (text ++ end) ≡ text
-cut_off text end all last = ap (λ n. take n (text ++ end)) kept ∙ take-append_seam text end
+-- a text without the bytes at its end that pass
+pub cut_off : (p : ℕ → Bool) (text end : Text) → list_all p end ≡ true → last_is p text ≡ false
+    → take (length (text ++ end) - suffix_len p (text ++ end)) (text ++ end) ≡ text
+cut_off p text end all last = ap (λ n. take n (text ++ end)) kept ∙ take-append_seam text end
   where
     size : length (text ++ end) ≡ length text + length end
     size = length-append text end
 
-    cut : (k : ℕ) → length text ≤ k → k < length (text ++ end) → is_separator (get_or (text ++ end) k 0) ≡ true
+    cut : (k : ℕ) → length text ≤ k → k < length (text ++ end) → p (get_or (text ++ end) k 0) ≡ true
     cut k low high =
-        ap is_separator (get_or-append_right text end (length text) k 0 refl low) ∙ each (k - length text) (omega (arith, size, low, high))
+        ap p (get_or-append_right text end (length text) k 0 refl low) ∙ each (k - length text) (omega (arith, size, low, high))
       where
-        at : (xs : Text) (i : ℕ) → list_all is_separator xs ≡ true → i < length xs → is_separator (get_or xs i 0) ≡ true
+        at : (xs : Text) (i : ℕ) → list_all p xs ≡ true → i < length xs → p (get_or xs i 0) ≡ true
         at [] i h few = absurd (omega (arith, few))
-        at (b ∷ xs) zero h few = first (is_separator b) h
+        at (b ∷ xs) zero h few = first (p b) h
           where
-            first : (c : Bool) → (c && list_all is_separator xs) ≡ true → c ≡ true
+            first : (c : Bool) → (c && list_all p xs) ≡ true → c ≡ true
             first true h = refl
             first false h = no_byte h
-        at (b ∷ xs) (suc i) h few = at xs i (rest (is_separator b) h) (omega (arith, few))
+        at (b ∷ xs) (suc i) h few = at xs i (rest (p b) h) (omega (arith, few))
           where
-            rest : (c : Bool) → (c && list_all is_separator xs) ≡ true → list_all is_separator xs ≡ true
+            rest : (c : Bool) → (c && list_all p xs) ≡ true → list_all p xs ≡ true
             rest true h = h
             rest false h = no_byte h
 
-        each : (i : ℕ) → i < length end → is_separator (get_or end i 0) ≡ true
+        each : (i : ℕ) → i < length end → p (get_or end i 0) ≡ true
         each i few = at end i all few
 
-    stops : 0 < length text → is_separator (get_or (text ++ end) (length text - 1) 0) ≡ false
-    stops some = ap is_separator (get_or_append_left text end 0 (length text - 1) (omega (arith, some))) ∙ not_last text last some
+    stops : 0 < length text → p (get_or (text ++ end) (length text - 1) 0) ≡ false
+    stops some = ap p (get_or_append_left text end 0 (length text - 1) (omega (arith, some))) ∙ not_last p text last some
 
-    count : suffix_len is_separator (text ++ end) ≡ length (text ++ end) - length text
-    count = suffix_len_is is_separator (text ++ end) (length text) 0 (omega (arith, size)) cut stops
+    count : suffix_len p (text ++ end) ≡ length (text ++ end) - length text
+    count = suffix_len_is p (text ++ end) (length text) 0 (omega (arith, size)) cut stops
 
-    kept : length (text ++ end) - suffix_len is_separator (text ++ end) ≡ length text
+    kept : length (text ++ end) - suffix_len p (text ++ end) ≡ length text
     kept = omega (arith, size, count)

@@ -15,6 +15,7 @@ use Rattle.eval_state.specs.Texts.{or_empty}
 use Rattle.eval_state.specs.declared.state.State.{State}
 use Rattle.eval_rendering.specs.Bounds.{short}
 use Rattle.eval_rendering.specs.Names.{name_text}
+use Rattle.eval_rendering.specs.Pieces.{as_read}
 use Rattle.eval_matching.specs.Holding.{Subject, attribute, udev_attribute, udev_unread}
 use Rattle.eval_matching.specs.Udev.{capped}
 
@@ -26,9 +27,13 @@ attribute_of event name place = option_and_then (λ device. value_of device.attr
 abbrev pub is_rendered : Text → Bool
 is_rendered name = not (begins_with open_bracket name) && has_sign name
 
--- what udev finds by a name: for a name that it renders, by the result, if that is not too long
+-- what stands under a name as udev looks it up: for a name that it renders, under the result, if that is not too long
+abbrev pub udev_found : Text → State → List Pair → Option Text
+udev_found name state attrs = if is_rendered name then option_and_then (value_of attrs) (short (name_text name state)) else value_of attrs name
+
+-- what udev reads under a name
 unfoldable pub udev_value : Text → State → List Pair → Option Text
-udev_value name state attrs = if is_rendered name then option_and_then (value_of attrs) (short (name_text name state)) else value_of attrs name
+udev_value name state attrs = option_map as_read (udev_found name state attrs)
 
 -- an attribute among those of a device, by the name that a match has
 abbrev pub value_by : Profile → Text → State → List Pair → Option Text
@@ -44,9 +49,14 @@ abbrev pub is_elsewhere : EventValue → Option NamedValue → Bool
 is_elsewhere event None = false
 is_elsewhere event (Some n) = not (is_empty n.attribute) && is_none (named_place n event)
 
--- whether udev would read an attribute of this name and a dry run does not: one of a device that the block does not have
+-- what the event device has under a name as it is written: by it a block gives an attribute of a device that it does not have
+abbrev pub written_value : EventValue → Text → Option Text
+written_value event name = value_of event.device.attrs name
+
+-- whether udev would read an attribute of this name and a dry run does not: one of a device that the block does not have,
+-- and that the event device does not have under this name
 abbrev pub is_unknown : Text → EventValue → Bool
-is_unknown name event = begins_with open_bracket name && is_elsewhere event (named name)
+is_unknown name event = begins_with open_bracket name && (is_elsewhere event (named name) && is_none (written_value event name))
 
 -- whether an attribute that a match asks for is not read; the manual knows no such names
 abbrev pub is_not_read_by : Profile → Text → EventValue → Bool
@@ -57,18 +67,20 @@ is_not_read_by profile.Udev name event = is_unknown name event
 unfoldable pub is_not_read : Text → EventValue → Bool
 is_not_read name event = is_not_read_by event.profile name event
 
--- an attribute of the device that is at a place, if there is a place: empty if the device has none, and cut
-abbrev pub found_value : EventValue → Text → Option ℕ → Option Text
-found_value event name found = option_map (λ place. capped (or_empty (attribute_of event name place))) found
+-- an attribute of the device that is at a place: empty if the device has none; without a place, what is given instead.
+-- It is cut.
+abbrev pub found_value : EventValue → Text → (given : Option Text) → Option ℕ → Option Text
+found_value event name given None = option_map (λ value. capped (as_read value)) given
+found_value event name given (Some place) = Some (capped (as_read (or_empty (attribute_of event name place))))
 
--- an attribute of a named device; none if its name is empty
-abbrev pub named_value : EventValue → Option NamedValue → Option Text
-named_value event None = None
-named_value event (Some n) = if is_empty n.attribute then None else found_value event n.attribute (named_place n event)
+-- an attribute of a named device, by what is given of one that is not in the chain; none if its name is empty
+abbrev pub named_value : EventValue → (given : Option Text) → Option NamedValue → Option Text
+named_value event given None = None
+named_value event given (Some n) = if is_empty n.attribute then None else found_value event n.attribute given (named_place n event)
 
 -- the attribute of a name as udev has it: of the device that the name names, or else the device's own
 abbrev pub sought : Text → EventValue → Option Text → Option Text
-sought name event own = if begins_with open_bracket name then named_value event (named name) else own
+sought name event own = if begins_with open_bracket name then named_value event (written_value event name) (named name) else own
 
 -- what udev compares of an attribute
 unfoldable pub udev_subject : Text → EventValue → Option Text → Subject

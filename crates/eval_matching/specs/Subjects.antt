@@ -1,12 +1,12 @@
 -- What each match looks at.
-use Rattle.std.specs.Prelude.{ℕ, zero, suc, Bool, ◌||◌, if◌then◌else◌, List, [], length, Option, Some, option_map, unwrap_or, position, codes}
+use Rattle.std.specs.Prelude.{ℕ, zero, suc, Bool, false, ◌&&◌, ◌||◌, is_none, if◌then◌else◌, List, [], length, Option, Some, option_map, unwrap_or, position, codes}
 use Rattle.std.specs.List.{list_all, range_with_len}
 use Rattle.std.specs.Option.{option_and_then}
 use Rattle.text_bytes.specs.declared.profile.Profile.{Profile}
 use Rattle.text_bytes.specs.declared.profile.Profile.TheVariants as profile
 use Rattle.text_tables.specs.Texts.{Text, same_text}
 use Rattle.text_tables.specs.Pairs.{value_of}
-use Rattle.device_core.specs.Values.{chain}
+use Rattle.device_core.specs.Values.{EventValue, chain}
 use Rattle.rule_types.specs.declared.roles.PlainKey.{PlainKey}
 use Rattle.rule_types.specs.declared.roles.PlainKey.TheVariants as plain
 use Rattle.rule_types.specs.declared.roles.UpKey.{UpKey}
@@ -21,6 +21,15 @@ use Rattle.eval_matching.specs.Holding.{Subject, one, constant, members, never, 
 -- whether a constant is one that CONST knows
 abbrev pub is_known : Text → Bool
 is_known name = same_text name (codes "arch") || same_text name (codes "virt") || same_text name (codes "cvm")
+
+-- whether a constant that CONST asks for is not given; by the manual none has to be
+abbrev pub is_not_given_by : Profile → Text → EventValue → Bool
+is_not_given_by profile.Manual name event = false
+is_not_given_by profile.Udev name event = is_known name && is_none (value_of event.constants name)
+
+-- whether a constant is one that udev knows of its machine, and the event does not give it
+unfoldable pub is_not_given : Text → EventValue → Bool
+is_not_given name event = is_not_given_by event.profile name event
 
 -- what CONST looks at
 abbrev pub named_constant : Text → State → Subject

@@ -7,7 +7,7 @@ ghost use Rattle.rule_types.specs.declared.roles.UpKey.TheVariants as up;
 ghost use Rattle.eval_state.specs.Named.{named, named_place};
 ghost use Rattle.eval_state.specs.Texts.{or_empty};
 ghost use Rattle.eval_matching.specs.Attributes.{attribute_by, attribute_of, found_value, is_elsewhere, is_not_read, is_rendered, is_unknown};
-ghost use Rattle.eval_matching.specs.Attributes.{named_value, own_attribute, sought, udev_subject, udev_value, value_by};
+ghost use Rattle.eval_matching.specs.Attributes.{named_value, own_attribute, sought, udev_found, udev_subject, udev_value, value_by, written_value};
 ghost use Rattle.eval_matching.specs.Holding.{holds};
 ghost use Rattle.eval_matching.specs.Borrowed.{borrowed_subject};
 ghost use Rattle.eval_matching.specs.Subjects.{plain_subject, up_subject};
@@ -15,10 +15,11 @@ ghost use Rattle.eval_matching.specs.Udev.{capped};
 ghost use Rattle.eval_state.specs.Chains.{device_at};
 ghost use Rattle.eval_rendering.specs.Bounds.{short};
 ghost use Rattle.eval_rendering.specs.Names.{name_text};
+ghost use Rattle.eval_rendering.specs.Pieces.{as_read};
 
 use crate::holding::attribute_holds;
 use crate::udev;
-use eval_rendering::rendered_name;
+use eval_rendering::{as_read, rendered_name};
 use eval_state::{Chain, Named, State};
 use rule_templates::has_sign;
 use rule_types::Comparison;
@@ -60,16 +61,25 @@ fn is_rendered(name: &[u8]) -> bool
     !begins_with(b'[', name) && has_sign(name)
 }
 
+/// What the event device has under a name as it is written.
+fn written_value<'a>(chain: &Chain<'a>, name: &[u8]) -> Option<&'a [u8]>
+    ensures { option_map (λ value. value.now) result ≡ written_value chain.now name.now }
+{
+    chain.device().attrs().get(name)
+}
+
 /// Whether udev would read an attribute of this name that a dry run does not read.
 fn is_unknown(name: &[u8], chain: &Chain<'_>) -> bool
     ensures { result ≡ is_unknown name.now chain.now }
 {
-    begins_with(b'[', name) && is_elsewhere(chain, Named::read(name))
+    begins_with(b'[', name)
+        && is_elsewhere(chain, Named::read(name))
+        && written_value(chain, name).is_none()
 }
 
 /// Whether a match of ATTR or ATTRS asks for an attribute that udev of systemd 257 would read, and that is not read
-/// here: one of a device that is not in the chain, named `[SUBSYSTEM/KERNEL]ATTRIBUTE`. Never by the manual, which
-/// knows no such names.
+/// here: one of a device that is not in the chain, named `[SUBSYSTEM/KERNEL]ATTRIBUTE`, unless the event device has it
+/// under this whole name. Never by the manual, which knows no such names.
 #[tactic(auto, unfolding(crate::specs::Attributes::is_not_read))]
 pub fn is_not_read(name: &[u8], chain: &Chain<'_>) -> bool
     ensures { result ≡ is_not_read name.now chain.now }
@@ -80,35 +90,51 @@ pub fn is_not_read(name: &[u8], chain: &Chain<'_>) -> bool
     }
 }
 
+/// An attribute of a named device as udev compares it: as it is read, and cut.
+fn capped(value: &[u8]) -> &[u8]
+    ensures { result.now ≡ capped (as_read value.now) }
+{
+    udev::capped(as_read(value))
+}
+
 /// An attribute of the device at a place, empty if the device has none, and cut.
 fn value_at<'a>(chain: &Chain<'a>, name: &[u8], place: usize) -> &'a [u8]
-    ensures { result.now ≡ capped (or_empty (attribute_of chain.now name.now place)) }
+    ensures { result.now ≡ capped (as_read (or_empty (attribute_of chain.now name.now place))) }
 {
     match attribute_of(chain, name, place) {
-        Some(value) => udev::capped(value),
+        Some(value) => capped(value),
         None => b"",
     }
 }
 
-/// An attribute of the device that is at a place, if there is a place.
-fn found_value<'a>(chain: &Chain<'a>, name: &[u8], found: Option<usize>) -> Option<&'a [u8]>
-    ensures { option_map (λ value. value.now) result ≡ found_value chain.now name.now found }
+/// An attribute of the device that is at a place; without a place, what is given instead.
+fn found_value<'a>(
+    chain: &Chain<'a>,
+    name: &[u8],
+    given: Option<&'a [u8]>,
+    found: Option<usize>,
+) -> Option<&'a [u8]>
+    ensures { option_map (λ value. value.now) result ≡ found_value chain.now name.now (option_map (λ t. t.now) given.entry) found }
 {
     match found {
         Some(place) => Some(value_at(chain, name, place)),
-        None => None,
+        None => given.map(capped),
     }
 }
 
-/// An attribute of a named device.
-fn named_value<'a>(chain: &Chain<'a>, named: Option<Named<'_>>) -> Option<&'a [u8]>
-    ensures { option_map (λ value. value.now) result ≡ named_value chain.now named.entry }
+/// An attribute of a named device, by what is given of one that is not in the chain.
+fn named_value<'a>(
+    chain: &Chain<'a>,
+    given: Option<&'a [u8]>,
+    named: Option<Named<'_>>,
+) -> Option<&'a [u8]>
+    ensures { option_map (λ value. value.now) result ≡ named_value chain.now (option_map (λ t. t.now) given.entry) named.entry }
 {
     let named = named?;
     if named.attribute.is_empty() {
         return None;
     }
-    found_value(chain, named.attribute, chain.named_place(&named))
+    found_value(chain, named.attribute, given, chain.named_place(&named))
 }
 
 /// The value of a name once that is rendered, with the device at a place selected, or with none selected.
@@ -128,7 +154,23 @@ fn value_of_rendered<'a>(
     }
 }
 
-/// What udev finds by a name.
+/// What stands under a name as udev looks it up.
+fn udev_found<'a>(
+    state: &State<'_>,
+    selected: Option<usize>,
+    name: &[u8],
+    attrs: &Pairs<'a>,
+) -> Option<&'a [u8]>
+    ensures { option_map (λ value. value.now) result ≡ udev_found name.now (record state.now { selected = selected }) attrs.now }
+{
+    if is_rendered(name) {
+        value_of_rendered(state, selected, name, attrs)
+    } else {
+        attrs.get(name)
+    }
+}
+
+/// What udev reads under a name.
 #[tactic(auto, unfolding(crate::specs::Attributes::udev_value))]
 fn udev_value<'a>(
     state: &State<'_>,
@@ -138,10 +180,9 @@ fn udev_value<'a>(
 ) -> Option<&'a [u8]>
     ensures { option_map (λ value. value.now) result ≡ udev_value name.now (record state.now { selected = selected }) attrs.now }
 {
-    if is_rendered(name) {
-        value_of_rendered(state, selected, name, attrs)
-    } else {
-        attrs.get(name)
+    match udev_found(state, selected, name, attrs) {
+        Some(value) => Some(as_read(value)),
+        None => None,
     }
 }
 
@@ -184,7 +225,8 @@ fn sought<'a>(
         ≡ sought name.now state.now.event (own_attribute name.now (record state.now { selected = selected }) place) }
 {
     if begins_with(b'[', name) {
-        named_value(&state.event, Named::read(name))
+        let given = written_value(&state.event, name);
+        named_value(&state.event, given, Named::read(name))
     } else {
         own_attribute(state, selected, place, name)
     }
@@ -227,7 +269,8 @@ fn attribute_by<'a>(
 /// What a match of ATTR looks at: by the manual the attribute of the event device that has this name. As udev of
 /// systemd 257 has it, a name with a `$` or a `%` is rendered first, and no attribute has a name that is then longer than
 /// 511 bytes; but `[SUBSYSTEM/KERNEL]ATTRIBUTE` is an attribute of a device of the chain, its first 511 bytes, and
-/// empty if that device does not have it.
+/// empty if that device does not have it; of a device that is not in the chain it is what the event device has under
+/// this whole name. The newlines and carriage returns at its end are no part of it.
 pub fn event_attribute<'a>(state: &State<'a>, name: &[u8]) -> Attribute<'a>
     ensures { borrowed_subject result ≡ plain_subject (plain.Attr name.now) state.now }
 {

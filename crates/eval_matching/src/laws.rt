@@ -1,7 +1,7 @@
 //! Laws of what udev compares, each the contract of a function with an empty body.
-ghost use Rattle.std.specs.Prelude.{◌≡◌, ◌≤◌, ◌<◌, ◌&&◌, ◌++◌, ◌∷◌, ℕ, List, [], length, Option, Some, None, not, true, false};
+ghost use Rattle.std.specs.Prelude.{◌≡◌, ◌≤◌, ◌<◌, ◌==◌, ◌||◌, ◌++◌, option_map, ◌∷◌, ℕ, List, [], length, Option, Some, None, not, true, false};
 ghost use Rattle.std.specs.List.{list_all, list_any};
-ghost use Rattle.text_bytes.specs.Names.{bar, open_bracket};
+ghost use Rattle.text_bytes.specs.Names.{bar, carriage_return, newline, open_bracket};
 ghost use Rattle.text_bytes.specs.Texts.{begins_with, is_empty};
 ghost use Rattle.text_bytes.specs.declared.profile.Profile.TheVariants as profile;
 ghost use Rattle.text_core.specs.Choices.{is_bar};
@@ -18,6 +18,7 @@ ghost use Rattle.eval_state.specs.Named.{NamedValue, named, named_place};
 ghost use Rattle.eval_state.specs.Texts.{or_empty};
 ghost use Rattle.eval_state.specs.declared.state.State.{State};
 ghost use Rattle.eval_rendering.specs.Names.{name_text};
+ghost use Rattle.eval_rendering.specs.Pieces.{as_read};
 ghost use Rattle.eval_matching.specs.Attributes.{udev_subject, udev_value};
 ghost use Rattle.eval_matching.specs.Holding.{holds, udev_attribute, udev_unread};
 ghost use Rattle.eval_matching.specs.Subjects.{plain_subject, up_subject};
@@ -30,14 +31,19 @@ pub fn an_absent_attribute_fails_both()
 {}
 
 /// A name that names a device of the chain, and an attribute, looks at that attribute of that device, and the device's
-/// own attribute does not matter; it is empty if the device has none. Of a device that is not in the chain it is
-/// not read.
+/// own attribute does not matter; it is empty if the device has none. Of a device that is not in the chain it is what
+/// the event device has under the whole name, and not read if that has none.
 pub fn a_named_device_is_looked_at()
     ensures there { (text : Text) (event : EventValue) (own : Option Text) (n : NamedValue) (place : ℕ) (device : DeviceValue)
         → named (open_bracket ∷ text) ≡ Some n → is_empty n.attribute ≡ false → named_place n event ≡ Some place → device_at event place ≡ Some device
-        → udev_subject (open_bracket ∷ text) event own ≡ udev_attribute (Some (capped (or_empty (value_of device.attrs n.attribute)))) }
+        → udev_subject (open_bracket ∷ text) event own ≡ udev_attribute (Some (capped (as_read (or_empty (value_of device.attrs n.attribute))))) }
+    ensures given { (text : Text) (event : EventValue) (own : Option Text) (n : NamedValue) (value : Text)
+        → named (open_bracket ∷ text) ≡ Some n → is_empty n.attribute ≡ false → named_place n event ≡ None
+        → value_of event.device.attrs (open_bracket ∷ text) ≡ Some value
+        → udev_subject (open_bracket ∷ text) event own ≡ udev_attribute (Some (capped (as_read value))) }
     ensures elsewhere { (text : Text) (event : EventValue) (own : Option Text) (n : NamedValue) → named (open_bracket ∷ text) ≡ Some n
-        → is_empty n.attribute ≡ false → named_place n event ≡ None → udev_subject (open_bracket ∷ text) event own ≡ udev_unread }
+        → is_empty n.attribute ≡ false → named_place n event ≡ None → value_of event.device.attrs (open_bracket ∷ text) ≡ None
+        → udev_subject (open_bracket ∷ text) event own ≡ udev_unread }
     ensures nameless { (text : Text) (event : EventValue) (own : Option Text) (n : NamedValue) → named (open_bracket ∷ text) ≡ Some n
         → is_empty n.attribute ≡ true → udev_subject (open_bracket ∷ text) event own ≡ udev_attribute None }
     ensures unnamed { (text : Text) (event : EventValue) (own : Option Text) → named (open_bracket ∷ text) ≡ None
@@ -51,11 +57,13 @@ pub fn a_plain_name_looks_at_the_device()
 {}
 
 /// A name without a byte that begins a substitution stands for itself. Any other that does not begin with `[` stands
-/// for what it is rendered to, if that has at most 511 bytes; no attribute has a longer name.
+/// for what it is rendered to, if that has at most 511 bytes; no attribute has a longer name. An attribute is that of the
+/// block without the ends of lines at its end.
 pub fn a_name_with_a_sign_is_rendered()
-    ensures plain { (name : Text) (state : State) (attrs : List Pair) → has_sign name ≡ false → udev_value name state attrs ≡ value_of attrs name }
+    ensures plain { (name : Text) (state : State) (attrs : List Pair) → has_sign name ≡ false
+        → udev_value name state attrs ≡ option_map as_read (value_of attrs name) }
     ensures rendered { (name : Text) (state : State) (attrs : List Pair) → begins_with open_bracket name ≡ false → has_sign name ≡ true
-        → length (name_text name state) ≤ 511 → udev_value name state attrs ≡ value_of attrs (name_text name state) }
+        → length (name_text name state) ≤ 511 → udev_value name state attrs ≡ option_map as_read (value_of attrs (name_text name state)) }
     ensures long { (name : Text) (state : State) (attrs : List Pair) → begins_with open_bracket name ≡ false → has_sign name ≡ true
         → 511 < length (name_text name state) → udev_value name state attrs ≡ None }
 {}
@@ -75,7 +83,10 @@ pub fn the_first_part_is_between_bars()
         → first_part (bars ++ (part ++ bar ∷ rest)) ≡ part }
 {}
 
-/// What is cut off at the end of an attribute is all of the spaces, tabs and ends of lines there, and no other byte.
+/// What is cut off at the end of an attribute as it is compared is all of the spaces, tabs and ends of lines there, and no
+/// other byte; as it is read, all of the newlines and carriage returns, and no other byte.
 pub fn all_that_may_be_cut_off_is()
-    ensures { (text end : Text) → list_all is_separator end ≡ true → last_is is_separator text ≡ false → without_end (text ++ end) ≡ text }
+    ensures compared { (text end : Text) → list_all is_separator end ≡ true → last_is is_separator text ≡ false → without_end (text ++ end) ≡ text }
+    ensures read { (text end : Text) → list_all (λ b. b == newline || b == carriage_return) end ≡ true
+        → last_is (λ b. b == newline || b == carriage_return) text ≡ false → as_read (text ++ end) ≡ text }
 {}

@@ -21,5 +21,5 @@ pub use laws::{
     a_named_device_is_looked_at, a_plain_name_looks_at_the_device, all_that_may_be_cut_off_is,
     an_absent_attribute_fails_both, the_first_part_is_between_bars,
 };
-pub use plain::{is_known_constant, plain_holds, result_holds};
+pub use plain::{is_known_constant, is_not_given, plain_holds, result_holds};
 pub use upward::{driver_at, found_place, holds_at, subsystem_at};

@@ -2,12 +2,12 @@
 ghost use Rattle.std.specs.Prelude.{◌≡◌, map};
 ghost use Rattle.eval_state.specs.Texts.{or_empty};
 ghost use Rattle.eval_matching.specs.Holding.{holds, one};
-ghost use Rattle.eval_matching.specs.Subjects.{is_known, members_by, named_constant, plain_subject, subsystem_by};
+ghost use Rattle.eval_matching.specs.Subjects.{is_known, is_not_given, members_by, named_constant, plain_subject, subsystem_by};
 
 use crate::attributes::{borrowed_holds, event_attribute};
 use crate::holding::{constant_holds, members_hold, text_holds, unread_holds};
 use crate::udev;
-use eval_state::State;
+use eval_state::{Chain, State};
 use rule_types::{Comparison, PlainKey, PlainMatch};
 use text_bytes::Profile;
 
@@ -26,6 +26,20 @@ pub fn is_known_constant(name: &[u8]) -> bool
     ensures { result ≡ is_known name.now }
 {
     name == b"arch".as_slice() || name == b"virt".as_slice() || name == b"cvm".as_slice()
+}
+
+/// Whether CONST asks for a constant that udev of systemd 257 knows of its machine, and that the event's block does not
+/// give. Never by the manual, which lets a block leave it out.
+#[tactic(auto, unfolding(crate::specs::Subjects::is_not_given))]
+pub fn is_not_given(name: &[u8], chain: &Chain<'_>) -> bool
+    ensures { result ≡ is_not_given name.now chain.now }
+{
+    match chain.event().profile() {
+        Profile::Manual => false,
+        Profile::Udev => {
+            is_known_constant(name) && chain.event().constants().get(name).is_none()
+        }
+    }
 }
 
 /// Whether a comparison holds for the constant of a name.

@@ -1,7 +1,8 @@
 -- What each substitution is replaced with.
-use Rattle.std.specs.Prelude.{ℕ, ◌-◌, Bool, false, nat_lt, if◌then◌else◌, List, [], length, take, Option, Some, None, option_map, unwrap_or, codes}
-use Rattle.std.specs.List.{list_any}
+use Rattle.std.specs.Prelude.{ℕ, ◌-◌, Bool, false, ◌==◌, ◌||◌, nat_lt, if◌then◌else◌, List, [], length, take, Option, Some, None, option_map, unwrap_or, codes}
+use Rattle.std.specs.List.{list_any, suffix_len}
 use Rattle.std.specs.Option.{option_and_then}
+use Rattle.text_bytes.specs.Names.{carriage_return, newline}
 use Rattle.text_bytes.specs.Numbers.{is_digit}
 use Rattle.text_bytes.specs.Texts.{is_empty, trimmed}
 use Rattle.text_bytes.specs.declared.profile.Profile.{Profile}
@@ -38,20 +39,35 @@ attribute name state = or_else (value_of state.event.device.attrs name) (option_
 abbrev pub attribute_of : Text → DeviceValue → Text
 attribute_of name device = or_empty (value_of device.attrs name)
 
--- the attribute of a device of the chain that is named with its device, if the device is there; without a name of an
--- attribute there is none
-abbrev pub attribute_named : EventValue → NamedValue → Option Text
-attribute_named event n = if is_empty n.attribute then None else option_map (attribute_of n.attribute) (option_and_then (device_at event) (named_place n event))
+-- the attribute of a device of the chain that is named with its device; if that device is not there, what is given
+-- instead; without a name of an attribute there is none
+abbrev pub attribute_named : EventValue → (given : Option Text) → NamedValue → Option Text
+attribute_named event given n =
+    if is_empty n.attribute then None
+    else or_else (option_map (attribute_of n.attribute) (option_and_then (device_at event) (named_place n event))) given
 
--- the same by the whole name, if it has the form `[SUBSYSTEM/KERNEL]ATTRIBUTE`
+-- the same by the whole name, if it has the form `[SUBSYSTEM/KERNEL]ATTRIBUTE`; what is given is what the event device
+-- has under this whole name
 abbrev pub named_attribute : Text → EventValue → Option Text
-named_attribute name event = option_and_then (attribute_named event) (named name)
+named_attribute name event = option_and_then (attribute_named event (value_of event.device.attrs name)) (named name)
+
+-- whether a byte ends a line: a newline or a carriage return
+abbrev pub ends_line : ℕ → Bool
+ends_line b = b == newline || b == carriage_return
+
+-- an attribute as udev reads it: without the ends of lines at its end
+abbrev pub as_read : Text → Text
+as_read value = take (length value - suffix_len ends_line value) value
+
+-- the same of an attribute that names its device, of which udev puts in so much
+abbrev pub cut_off : Text → Text
+cut_off value = take most_value_bytes (as_read value)
 
 -- the attribute that is put into a text, as the device has it; udev also looks for a device that is named, and cuts
 -- its attribute off
 abbrev pub attribute_as : Profile → Text → State → Text
 attribute_as Manual name state = or_empty (attribute name state)
-attribute_as Udev name state = unwrap_or (option_map (take most_value_bytes) (named_attribute name state.event)) (or_empty (attribute name state))
+attribute_as Udev name state = unwrap_or (option_map cut_off (named_attribute name state.event)) (as_read (or_empty (attribute name state)))
 
 -- the number that the kernel's name ends in; for udev a name of digits alone has none
 abbrev pub number_as : Profile → Text → Text

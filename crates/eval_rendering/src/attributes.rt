@@ -1,11 +1,13 @@
 //! The attributes that are put into texts.
-ghost use Rattle.std.specs.Prelude.{◌≡◌, option_copied, option_map, take};
-ghost use Rattle.std.specs.List.{list_any};
+ghost use Rattle.std.specs.Prelude.{◌≡◌, ◌≤◌, length, option_copied, option_map};
+ghost use Rattle.std.specs.List.{list_any, suffix_len};
 ghost use Rattle.std.specs.Option.{option_and_then};
 ghost use Rattle.text_tables.specs.Pairs.{value_of};
+ghost use Rattle.eval_state.specs.Chains.{device_at};
+ghost use Rattle.eval_state.specs.Named.{named_place};
 ghost use Rattle.eval_state.specs.Texts.{or_empty};
-ghost use Rattle.eval_rendering.specs.Bounds.{most_value_bytes};
-ghost use Rattle.eval_rendering.specs.Pieces.{attribute, attribute_as, attribute_named, attribute_of, has_long, is_long, named_attribute, selected_device};
+ghost use Rattle.eval_rendering.specs.Pieces.{as_read, attribute, attribute_as, attribute_named, attribute_of, cut_off, ends_line, has_long, is_long};
+ghost use Rattle.eval_rendering.specs.Pieces.{named_attribute, selected_device};
 
 use crate::bounds::MAX_VALUE_BYTES;
 use device_core::Device;
@@ -51,15 +53,30 @@ fn attribute_of<'a>(device: &'a Device<'a>, name: &[u8]) -> &'a [u8]
 }
 
 /// The attribute of a device of the chain that is named with its device, if the device is there.
-fn attribute_named<'a>(state: &State<'a>, named: &Named<'_>) -> Option<&'a [u8]>
-    ensures { option_map (λ value. value.now) result ≡ attribute_named state.now.event named.now }
+fn attribute_there<'a>(state: &State<'a>, named: &Named<'_>) -> Option<&'a [u8]>
+    ensures { option_map (λ value. value.now) result
+        ≡ option_map (attribute_of named.now.attribute) (option_and_then (device_at state.now.event) (named_place named.now state.now.event)) }
+{
+    let place = state.event.named_place(named)?;
+    let device = state.event.device_at(place)?;
+    Some(attribute_of(device, named.attribute))
+}
+
+/// The attribute of a device that is named with its device; if the device is not in the chain, what is given instead.
+fn attribute_named<'a>(
+    state: &State<'a>,
+    given: Option<&'a [u8]>,
+    named: &Named<'_>,
+) -> Option<&'a [u8]>
+    ensures { option_map (λ value. value.now) result ≡ attribute_named state.now.event (option_map (λ t. t.now) given.entry) named.now }
 {
     if named.attribute.is_empty() {
         return None;
     }
-    let place = state.event.named_place(named)?;
-    let device = state.event.device_at(place)?;
-    Some(attribute_of(device, named.attribute))
+    match attribute_there(state, named) {
+        Some(value) => Some(value),
+        None => given,
+    }
 }
 
 /// The same by the whole name, if it has the form `[SUBSYSTEM/KERNEL]ATTRIBUTE`.
@@ -67,25 +84,52 @@ fn named_attribute<'a>(state: &State<'a>, name: &[u8]) -> Option<&'a [u8]>
     ensures { option_map (λ value. value.now) result ≡ named_attribute name.now state.now.event }
 {
     let named = Named::read(name)?;
-    attribute_named(state, &named)
+    let given = state.event.device().attrs().get(name);
+    attribute_named(state, given, &named)
 }
 
-/// As much of an attribute as udev puts in.
+/// Whether a byte ends a line: a newline or a carriage return.
+pub fn ends_line(byte: u8) -> bool
+    ensures { result ≡ ends_line byte }
+{
+    byte == b'\n' || byte == b'\r'
+}
+
+/// How many ends of lines a text ends in.
+fn line_ends(text: &[u8]) -> usize
+    ensures value { result ≡ suffix_len ends_line text.now }
+    ensures within { result ≤ length text.now }
+{
+    text.iter()
+        .rev()
+        .take_while(|byte| ends_line(**byte))
+        .count()
+}
+
+/// An attribute as udev (systemd 257) reads it: without the newlines and carriage returns at its end.
+pub fn as_read(value: &[u8]) -> &[u8]
+    ensures { result.now ≡ as_read value.now }
+{
+    value.split_at(value.len() - line_ends(value)).0
+}
+
+/// As much of an attribute that names its device as udev puts in.
 #[tactic(auto, using(std::proofs::lemmas::List::take_min))]
 fn cut_off(value: &[u8]) -> &[u8]
-    ensures { result.now ≡ take most_value_bytes value.now }
+    ensures { result.now ≡ cut_off value.now }
 {
-    value.split_at(MAX_VALUE_BYTES.min(value.len())).0
+    let read = as_read(value);
+    read.split_at(MAX_VALUE_BYTES.min(read.len())).0
 }
 
-/// The attribute that udev puts in, as the device has it: that of a device of the chain if the name also names one,
-/// cut off after its first 511 bytes, or else that of the event device or the selected one.
+/// The attribute that udev puts in, as the device has it: that of a device that the name also names, cut off after its
+/// first 511 bytes, or else that of the event device or the selected one. The ends of lines at its end are dropped.
 fn udev_attribute<'a>(state: &State<'a>, name: &[u8]) -> &'a [u8]
     ensures { result.now ≡ attribute_as Profile.Udev name.now state.now }
 {
     match named_attribute(state, name) {
         Some(value) => cut_off(value),
-        None => attribute(state, name).unwrap_or(b""),
+        None => as_read(attribute(state, name).unwrap_or(b"")),
     }
 }
 

@@ -13,6 +13,7 @@ mod short_name;
 mod spaced_words;
 mod words;
 
+pub use attributes::{as_read, ends_line};
 pub use bounds::{MAX_BYTES, MAX_COMMAND_BYTES, MAX_PATH_BYTES, MAX_VALUE_BYTES};
 pub use laws::a_name_is_rendered_as_a_text;
 pub use names::rendered_name;

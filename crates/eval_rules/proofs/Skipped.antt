@@ -30,12 +30,14 @@ use Rattle.eval_rendering.specs.Rendering.{render}
 use Rattle.eval_rendering.specs.declared.rendered.Rendered.{Rendered}
 use Rattle.eval_rendering.specs.declared.rendered.Rendered.TheVariants as rendered
 use Rattle.eval_matching.specs.Attributes.{is_not_read}
+use Rattle.eval_matching.specs.Subjects.{is_not_given}
+use Rattle.eval_state.specs.Places.{is_there, place_of}
 use Rattle.eval_state.specs.Named.{NamedValue, named, named_place}
 use Rattle.eval_state.specs.Notes.{word_of_key}
 use Rattle.eval_state.specs.Scenes.{noted, noted_key}
 use Rattle.eval_state.specs.declared.finals.FinalKey.{FinalKey}
 use Rattle.eval_state.specs.declared.finals.FinalKey.TheVariants.{Name}
-use Rattle.eval_state.specs.declared.note_kind.NoteKind.TheVariants.{AttributeNotRead, NameIgnored, NoDeviceNumber, TestNotMade, TextTooLong}
+use Rattle.eval_state.specs.declared.note_kind.NoteKind.TheVariants.{AttributeNotRead, ConstantNotGiven, NameIgnored, NoDeviceNumber, TestNotMade, TextTooLong}
 use Rattle.eval_state.specs.declared.scene.Scene.{Scene}
 use Rattle.eval_acts.specs.Acts.{act_step, on_text, performed}
 use Rattle.eval_acts.specs.Inner.{left}
@@ -92,6 +94,11 @@ reached_still r (plain.Attr name) s = by (is_not_read name s.state.event)
     by : (b : Bool) → Still s (cond b (noted r AttributeNotRead name s) s)
     by true = refl
     by false = refl
+reached_still r (plain.Const name) s = by (is_not_given name s.state.event)
+  where
+    by : (b : Bool) → Still s (cond b (noted r ConstantNotGiven name s) s)
+    by true = refl
+    by false = refl
 reached_still r k s = refl
 
 plain_still : (r : Rule) (part : PlainMatch) (s : Scene) → Still s (plain_step r part s).0
@@ -109,7 +116,7 @@ search_still (part ∷ parts) s = refl
 -- ---- acts that do not count
 
 at_still : (place : Option ℕ) (r : Rule) (name path : Text) (s : Scene) → Still s (tested_at place r name path s).0
-at_still None r name path s = refl
+at_still None r name path s = either s (is_there s.state.event (place_of s.state.event.device path)) (s, true) (noted r TestNotMade path s, false) refl refl
 at_still (Some place) r name path s = refl
 
 named_still : (n : Option NamedValue) (r : Rule) (path : Text) (s : Scene) → Still s (tested_by_udev n r path s).0

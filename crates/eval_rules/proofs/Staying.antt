@@ -29,18 +29,23 @@ use Rattle.eval_rendering.specs.declared.rendered.Rendered.TheVariants as render
 use Rattle.builtin_devices.specs.Outcomes.{OutcomeValue}
 use Rattle.rule_types.specs.Builtins.{builtin_name}
 use Rattle.rule_types.specs.declared.builtins.Builtin.TheVariants.{InputId, NetId, PathId, UsbId}
+use Rattle.eval_commands.specs.Builtins.{builtin_question}
+use Rattle.eval_commands.specs.Cmdline.{cmdline_value}
 use Rattle.eval_commands.specs.declared.builtin.Builtin.{Builtin}
 use Rattle.eval_commands.specs.declared.builtin.Builtin.TheVariants as builtin
 use Rattle.eval_matching.specs.Attributes.{is_not_read}
+use Rattle.eval_matching.specs.Subjects.{is_not_given}
 use Rattle.eval_state.specs.Chains.{device_at}
+use Rattle.eval_state.specs.Places.{is_there, place_of}
 use Rattle.eval_state.specs.Named.{NamedValue, named, named_place}
 use Rattle.eval_state.specs.Properties.{properties_set}
 use Rattle.eval_state.specs.Scenes.{noted, with_env}
-use Rattle.eval_state.specs.declared.note_kind.NoteKind.TheVariants.{AttributeNotRead, TestNotMade, TextTooLong}
+use Rattle.eval_state.specs.declared.note_kind.NoteKind.{NoteKind}
+use Rattle.eval_state.specs.declared.note_kind.NoteKind.TheVariants.{AttributeNotRead, BuiltinNotRun, ConstantNotGiven, NoAnswer, TestNotMade, TextTooLong}
 use Rattle.eval_state.specs.declared.scene.Scene.{Scene}
 use Rattle.eval_acts.specs.Acts.{act_step, from_parent_by, imported, on_text, performed, too_long_noted}
 use Rattle.eval_acts.specs.BuiltinRuns.{looked_up, most_set, need_noted, outcome_set, outcome_taken, path_id_run, properties_size, usb_id_run, with_maker}
-use Rattle.eval_acts.specs.Imports.{builtin_run, from_answer_or_noted, from_parent, from_program, not_run, run_builtin}
+use Rattle.eval_acts.specs.Imports.{builtin_run, from_answer_or_noted, from_line, from_parent, from_program, line_for, name_given, not_run, run_builtin}
 use Rattle.eval_acts.specs.Printed.{printed_properties}
 use Rattle.eval_acts.specs.Questions.{answered_by_block, answered_or_noted, result_of, tested, tested_at, tested_by, tested_by_udev, with_result}
 use Rattle.eval_acts.specs.Reaching.{match_reached}
@@ -60,7 +65,7 @@ text_stays act h (rendered.Text t) s = h t s
 text_stays act h rendered.TooLong s = refl
 
 at_stays : (place : Option ℕ) (r : Rule) (name path : Text) (s : Scene) → Stays s (tested_at place r name path s).0
-at_stays None r name path s = refl
+at_stays None r name path s = either s (is_there s.state.event (place_of s.state.event.device path)) (s, true) (noted r TestNotMade path s, false) refl refl
 at_stays (Some place) r name path s = refl
 
 named_stays : (n : Option NamedValue) (r : Rule) (path : Text) (s : Scene) → Stays s (tested_by_udev n r path s).0
@@ -98,6 +103,10 @@ path_stays : (known : Known) (ran : Option Bool) (r : Rule) (s : Scene) → Stay
 path_stays known None r s = taken_stays r (builtin_name PathId) (known.path_id s.state.event) s
 path_stays known (Some done) r s = refl
 
+printed_stays : (r : Rule) (kind : NoteKind) (t : Text) (a : Option AnswerValue) (s : Scene) → Stays s (from_answer_or_noted r kind t a s).0
+printed_stays r kind t None s = refl
+printed_stays r kind t (Some a) s = either s (a.status == 0) (with_env (properties_set s.state.env (printed_properties a.text)) s, true) (s, false) refl refl
+
 builtin_stays : (known : Known) (r : Rule) (t : Text) (b : Builtin) (s : Scene) → Stays s (builtin_run known r t b s).0
 builtin_stays known r t (builtin.Hwdb h) s = refl
 builtin_stays known r t builtin.InputId s = taken_stays r (builtin_name InputId) (known.input_id s.state.event) s
@@ -106,6 +115,8 @@ builtin_stays known r t builtin.NetId s =
     outcome_stays r (builtin_name NetId) names (with_maker (looked_up known (known.net_lookup s.state.event s.state.env)) names.properties) s
 builtin_stays known r t builtin.PathId s = path_stays known s.ran.path_id r s
 builtin_stays known r t builtin.UsbId s = usb_stays known s.ran.usb_id r s
+builtin_stays known r t builtin.SetsNothing s = refl
+builtin_stays known r t (builtin.Answered name) s = printed_stays r BuiltinNotRun name (value_of s.state.event.programs (builtin_question t)) s
 builtin_stays known r t (builtin.Other name) s = refl
 builtin_stays known r t builtin.BadArguments s = refl
 
@@ -113,12 +124,16 @@ parent_stays : (names : _) (d : Option DeviceValue) (s : Scene) → Stays s (fro
 parent_stays names None s = refl
 parent_stays names (Some d) s = refl
 
-printed_stays : (r : Rule) (t : Text) (a : Option AnswerValue) (s : Scene) → Stays s (from_answer_or_noted r t a s).0
-printed_stays r t None s = refl
-printed_stays r t (Some a) s = either s (a.status == 0) (with_env (properties_set s.state.env (printed_properties a.text)) s, true) (s, false) refl refl
-
 built_stays : (known : Known) (r : Rule) (text : Rendered) (s : Scene) → Stays s (on_text (run_builtin known r) text s).0
 built_stays known r text s = text_stays (run_builtin known r) (λ c u. builtin_stays known r c _ u) text s
+
+given_stays : (name : Text) (value : Option Text) (s : Scene) → Stays s (name_given name value s).0
+given_stays name None s = refl
+given_stays name (Some value) s = refl
+
+line_stays : (r : Rule) (name : Text) (line : Option Text) (s : Scene) → Stays s (from_line r name line s).0
+line_stays r name None s = refl
+line_stays r name (Some line) s = given_stays name (cmdline_value name line) s
 
 imported_stays : (p : Profile) (known : Known) (r : Rule) (i : Import) (s : Scene) → Stays s (imported p known r i s).0
 imported_stays Manual known r (import.Builtin t) s = built_stays known r _ s
@@ -126,11 +141,11 @@ imported_stays Udev known r (import.Builtin t) s = built_stays known r _ s
 imported_stays Manual known r (import.Parent names text) s = parent_stays names _ s
 imported_stays Udev known r (import.Parent names text) s = text_stays from_parent_by (λ t u. parent_stays (fnmatch_items Exact t 0 ∷ []) (device_at u.state.event 1) u) _ s
 imported_stays Manual known r (import.Program t) s = refl
-imported_stays Udev known r (import.Program t) s = text_stays (from_program r) (λ c u. printed_stays r c (value_of u.state.event.programs c) u) _ s
+imported_stays Udev known r (import.Program t) s = text_stays (from_program r) (λ c u. printed_stays r NoAnswer c (value_of u.state.event.programs c) u) _ s
 imported_stays Manual known r (import.File t) s = refl
 imported_stays Udev known r (import.File t) s = text_stays (λ path. not_run r File) (λ t u. refl) _ s
 imported_stays Manual known r (import.Cmdline name) s = refl
-imported_stays Udev known r (import.Cmdline name) s = refl
+imported_stays Udev known r (import.Cmdline name) s = line_stays r name (line_for name s.state.event) s
 imported_stays Manual known r (import.Db name) s = refl
 imported_stays Udev known r (import.Db name) s = refl
 
@@ -156,6 +171,11 @@ reached_stays r (plain.Sysctl name) s = refl
 reached_stays r (plain.Attr name) s = by (is_not_read name s.state.event)
   where
     by : (b : Bool) → Stays s (cond b (noted r AttributeNotRead name s) s)
+    by true = refl
+    by false = refl
+reached_stays r (plain.Const name) s = by (is_not_given name s.state.event)
+  where
+    by : (b : Bool) → Stays s (cond b (noted r ConstantNotGiven name s) s)
     by true = refl
     by false = refl
 reached_stays r k s = refl

@@ -11,8 +11,9 @@ use Rattle.rule_types.specs.declared.part.PlainMatch.{PlainMatch}
 use Rattle.rule_types.specs.declared.part.UpMatch.{UpMatch}
 use Rattle.rule_types.specs.Rules.{Rule}
 use Rattle.eval_matching.specs.Attributes.{is_not_read}
+use Rattle.eval_matching.specs.Subjects.{is_not_given}
 use Rattle.eval_state.specs.Scenes.{noted}
-use Rattle.eval_state.specs.declared.note_kind.NoteKind.TheVariants.{AttributeNotRead}
+use Rattle.eval_state.specs.declared.note_kind.NoteKind.TheVariants.{AttributeNotRead, ConstantNotGiven}
 use Rattle.eval_state.specs.declared.scene.Scene.{Scene}
 use Rattle.eval_acts.specs.Acts.{act_step}
 use Rattle.eval_acts.specs.Reaching.{match_reached}
@@ -36,6 +37,11 @@ reached_quiet r (plain.Sysctl name) s = refl
 reached_quiet r (plain.Attr name) s = by (is_not_read name s.state.event)
   where
     by : (b : Bool) → quiet (cond b (noted r AttributeNotRead name s) s) ≡ quiet s
+    by true = refl
+    by false = refl
+reached_quiet r (plain.Const name) s = by (is_not_given name s.state.event)
+  where
+    by : (b : Bool) → quiet (cond b (noted r ConstantNotGiven name s) s) ≡ quiet s
     by true = refl
     by false = refl
 reached_quiet r k s = refl

@@ -24,7 +24,7 @@ after_is prefix text rest = by (same_text (take (length prefix) text) prefix) re
     by false h e = absurd (none-some rest e)
 
 -- two texts together have the first in front
-after_two : (prefix rest : Text) → following prefix (prefix ++ rest) ≡ Some rest
+pub after_two : (prefix rest : Text) → following prefix (prefix ++ rest) ≡ Some rest
 after_two prefix rest =
     ap (λ b. cond b (Some (drop (length prefix) (prefix ++ rest))) None) ((bytes_decides _ _).1 (take-append_seam prefix rest))
     ∙ ap (λ t. Some t) (drop-append_seam prefix rest)

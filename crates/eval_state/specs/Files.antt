@@ -1,7 +1,7 @@
 -- The files and folders of a device in sysfs, as far as the names of its attributes show them. A name is a path below
 -- the device's own folder.
 use Rattle.std.specs.Prelude.{ℕ, ◌+◌, ◌-◌, Bool, false, not, ◌==◌, ◌||◌, ◌&&◌, nat_eq, if◌then◌else◌, List, [], ◌∷◌}
-use Rattle.std.specs.Prelude.{◌++◌, length, take, drop, slice_index, Option, Some, None, option_map, position}
+use Rattle.std.specs.Prelude.{◌++◌, length, take, drop, slice_index, Option, Some, None, is_some, option_map, position}
 use Rattle.std.specs.List.{list_any, prefix_len, range_with_len, starts_with}
 use Rattle.std.specs.Option.{option_and_then, option_or}
 use Rattle.text_bytes.specs.Names.{dot, slash, star}
@@ -77,3 +77,22 @@ has_found device (Some name) = has_name device name
 -- whether udev finds a file or a folder of a device by a name
 abbrev pub has_file : DeviceValue → Text → Bool
 has_file device name = has_found device (starred device name)
+
+-- whether a path is that of something in the folder before it and this rest, which ends in a slash
+abbrev pub is_in_any : Text → Option Text → Bool
+is_in_any rest None = false
+is_in_any rest (Some path) = is_folder (first_component path) && is_some (following rest (after_component path))
+
+-- whether a path is that of something in a folder, whose own path ends in a slash; a `*` at a place of that stands for any
+-- folder
+abbrev pub is_in : Option ℕ → Text → Text → Bool
+is_in None folder path = is_some (following folder path)
+is_in (Some place) folder path = is_in_any (drop (place + 1) folder) (following (take place folder) path)
+
+-- whether something is in a folder of a device, whose path ends in a slash
+abbrev pub has_in : DeviceValue → Text → Bool
+has_in device folder = list_any (is_in (star_place folder) folder) (names device.attrs)
+
+-- whether udev finds a folder of a device by a name: something is in it; the empty name is the device's own folder
+abbrev pub has_folder : DeviceValue → Text → Bool
+has_folder device name = is_empty name || has_in device (name ++ slash ∷ [])

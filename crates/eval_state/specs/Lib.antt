@@ -10,4 +10,6 @@ pub mod Ran
 pub mod Scenes
 pub mod Sameness
 pub mod Files
+pub mod Places
+pub mod Laws
 pub mod Properties

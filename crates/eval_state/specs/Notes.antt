@@ -9,7 +9,7 @@ use Rattle.rule_types.specs.Rules.{Rule}
 use Rattle.eval_state.specs.declared.note_kind.NoteKind.{NoteKind}
 use Rattle.eval_state.specs.declared.note_kind.NoteKind.TheVariants.{ImportNotRun, BuiltinNotRun, BadHwdbArguments, NoAnswer, TestNotMade, SysctlNotRead}
 use Rattle.eval_state.specs.declared.note_kind.NoteKind.TheVariants.{TextTooLong, NameIgnored, NoDeviceNumber, NoValue, LinkIgnored, ModeIgnored}
-use Rattle.eval_state.specs.declared.note_kind.NoteKind.TheVariants.{TagIgnored, AttributeNotRead, AttributeNotFound, BuiltinNeeds}
+use Rattle.eval_state.specs.declared.note_kind.NoteKind.TheVariants.{TagIgnored, AttributeNotRead, AttributeNotFound, BuiltinNeeds, ConstantNotGiven}
 use Rattle.eval_state.specs.declared.notes.Note.{Note}
 
 -- the text of each kind of note
@@ -30,6 +30,7 @@ text_of TagIgnored = codes "tag ignored"
 text_of AttributeNotRead = codes "attribute not read"
 text_of AttributeNotFound = codes "attribute not found"
 text_of BuiltinNeeds = codes "builtin needs"
+text_of ConstantNotGiven = codes "constant not given"
 
 -- the note that something in a rule was not done: the rule's file and line, and the first 32 bytes of a text
 abbrev pub note_about : Rule → NoteKind → Text → Note

@@ -4,7 +4,7 @@ ghost use Rattle.std.specs.List.{list_any, prefix_len};
 ghost use Rattle.text_bytes.specs.Names.{slash};
 ghost use Rattle.text_tables.specs.Pairs.{names};
 ghost use Rattle.eval_state.specs.Files.{after_component, first_component, first_folder, folder_before, folder_between};
-ghost use Rattle.eval_state.specs.Files.{has_file, has_name, is_folder, is_star, lies_at, star_place, starred};
+ghost use Rattle.eval_state.specs.Files.{has_file, has_folder, has_in, has_name, is_folder, is_in, is_in_any, is_star, lies_at, star_place, starred};
 
 use device_core::Device;
 use std::alloc::{AllocError, Global};
@@ -52,7 +52,7 @@ fn is_folder(component: &[u8]) -> bool
 }
 
 /// Whether a path is this one, or that of something in a folder of this path.
-fn lies_at(path: &[u8], other: &[u8]) -> bool
+pub(crate) fn lies_at(path: &[u8], other: &[u8]) -> bool
     ensures { result ≡ lies_at path.now other.now }
 {
     match following(path, other) {
@@ -134,11 +134,77 @@ fn has_name(device: &Device<'_>, name: &[u8]) -> bool
 /// Whether udev (systemd 257) finds a file or a folder of a device by a name, as far as the names of the device's
 /// attributes show: a name is there if an attribute has it or is in a folder with that name, and the empty one is
 /// the device's own folder. A first component `*` stands for a folder, as in [`starred`].
-pub fn has_file(alloc: Global, device: &Device<'_>, name: &[u8]) -> Result<bool, AllocError>
+pub(crate) fn has_file(alloc: Global, device: &Device<'_>, name: &[u8]) -> Result<bool, AllocError>
     ensures { IfOk result (λ found. found ≡ has_file device.now name.now) }
 {
     match starred(alloc, device, name)? {
         Some(name) => Ok(has_name(device, name.as_slice())),
         None => Ok(false),
     }
+}
+
+/// Whether a path is that of something in the folder before it and this rest, which ends in a slash.
+fn is_in_any(rest: &[u8], path: Option<&[u8]>) -> bool
+    ensures { result ≡ is_in_any rest.now (option_map (λ t. t.now) path.entry) }
+{
+    match path {
+        Some(path) => {
+            let (folder, others) = cut_component(path);
+            is_folder(folder) && following(rest, others).is_some()
+        }
+        None => false,
+    }
+}
+
+/// Whether a path is that of something in a folder, in whose own path a `*` at a place stands for any folder.
+fn is_in(star: Option<usize>, folder: &[u8], path: &[u8]) -> bool
+    requires { IfSome star (λ place. place < length folder.now) }
+    ensures { result ≡ is_in star folder.now path.now }
+{
+    match star {
+        Some(place) => {
+            let (prefix, _) = folder.split_at(place);
+            let (_, rest) = folder.split_at(place + 1);
+            is_in_any(rest, following(prefix, path))
+        }
+        None => following(folder, path).is_some(),
+    }
+}
+
+/// Whether one of these names is that of something in a folder.
+fn any_is_in(star: Option<usize>, folder: &[u8], pairs: &Pairs<'_>) -> bool
+    requires { IfSome star (λ place. place < length folder.now) }
+    ensures { result ≡ list_any (is_in star folder.now) (names pairs.now) }
+{
+    for (name, _) in pairs.as_map().iter() {
+        if is_in(star, folder, name) {
+            return true;
+        }
+    }
+    false
+}
+
+/// Whether something is in a folder of a device, whose path ends in a slash.
+fn has_in(device: &Device<'_>, folder: &[u8]) -> bool
+    ensures { result ≡ has_in device.now folder.now }
+{
+    any_is_in(star_place(folder), folder, device.attrs())
+}
+
+/// Whether udev (systemd 257) finds a folder of a device by a name, as far as the names of the device's attributes show:
+/// one of them is in it. A first component `*` stands for a folder, also at the end. The empty name is the device's own
+/// folder.
+pub(crate) fn has_folder(
+    alloc: Global,
+    device: &Device<'_>,
+    name: &[u8],
+) -> Result<bool, AllocError>
+    ensures { IfOk result (λ found. found ≡ has_folder device.now name.now) }
+{
+    if name.is_empty() {
+        return Ok(true);
+    }
+    let mut folder = Vec::from_slice(alloc, name)?;
+    folder.push(b'/')?;
+    Ok(has_in(device, &folder))
 }

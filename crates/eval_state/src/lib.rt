@@ -10,6 +10,7 @@ mod made_runs;
 mod named;
 mod note_kind;
 mod notes;
+mod place;
 mod properties;
 mod ran;
 mod runs;
@@ -18,14 +19,18 @@ mod start;
 mod state;
 
 pub use chain::Chain;
-pub use files::{has_file, starred};
+pub use files::starred;
 pub use finals::{FinalKey, Finals};
 pub use labels::{Label, Labels};
-pub use laws::starred_names_are_there;
+pub use laws::{
+    a_path_leads_where_its_components_do, some_paths, starred_names_are_there,
+    what_the_device_has_is_there,
+};
 pub use made_runs::{MadeRun, MadeRuns};
 pub use named::Named;
 pub use note_kind::NoteKind;
 pub use notes::{Note, Notes};
+pub use place::Place;
 pub use properties::set_property;
 pub use ran::Ran;
 pub use runs::{Run, Runs};

@@ -44,6 +44,8 @@ pub enum NoteKind {
     /// For udev alone: a builtin asked for what the kernel reports about each such device, and the block does not
     /// have it; the word is the builtin's name, a colon, a space and what it asked for.
     BuiltinNeeds,
+    /// For udev alone: a match of a constant that the block does not give; the word is the constant's name.
+    ConstantNotGiven,
 }
 
 impl NoteKind {
@@ -68,6 +70,7 @@ impl NoteKind {
             NoteKind::AttributeNotRead => b"attribute not read",
             NoteKind::AttributeNotFound => b"attribute not found",
             NoteKind::BuiltinNeeds => b"builtin needs",
+            NoteKind::ConstantNotGiven => b"constant not given",
         }
     }
 }

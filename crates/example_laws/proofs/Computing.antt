@@ -55,7 +55,8 @@ use Rattle.eval_rendering.specs.Names.{name_text}
 use Rattle.eval_rendering.specs.Rendering.{render}
 use Rattle.eval_matching.specs.Attributes.{udev_value, is_not_read, udev_subject}
 use Rattle.eval_matching.specs.Holding.{holds}
-use Rattle.eval_matching.specs.Subjects.{holds_at, found_place}
+use Rattle.eval_matching.specs.Subjects.{holds_at, found_place, is_not_given}
+use Rattle.eval_commands.specs.Cmdline.{cmdline_value}
 use Rattle.eval_commands.specs.Hwdb.{hwdb_of}
 use Rattle.eval_commands.specs.UdevHwdb.{udev_hwdb_of}
 use Rattle.eval_commands.specs.Words.{command_words, udev_words}
@@ -148,7 +149,8 @@ reading_texts = tt
 unfoldable evaluating : ⊤
 unfolding star_place named named_place start_env name_text render udev_value is_not_read udev_subject holds holds_at
     found_place hwdb_of udev_hwdb_of command_words udev_words act_step found line_property printed_properties
-    usb_modalias escape_of set_step is_idle_by run outcome_of walk plain_step result_step steps apply
+    usb_modalias escape_of set_step is_idle_by run outcome_of walk plain_step result_step steps apply is_not_given
+    cmdline_value
 evaluating = tt
 
 -- those by which what happened is told

@@ -54,6 +54,46 @@ pub fn an_attribute_may_name_its_device_for_udev()
         ∷ codes "note r.rules:2: attribute not read: [u/g]a" ∷ codes "note r.rules:3: attribute not read: [t/h]a" ∷ codes "" ∷ []) }
 {}
 
+/// For udev the event device may have, under the whole name, an attribute of a device that the block does not have.
+pub fn an_attribute_of_a_device_elsewhere_may_be_given_for_udev()
+    ensures { answered_as_udev
+        (text (
+        codes "ATTR{[u/g]a}==\"1\", ENV{A}=\"$attr{[u/g]a}\"" ∷ codes "ATTR{[u/g]a}!=\"1\", ENV{B}=\"1\""
+        ∷ codes "ATTRS{[u/g]a}==\"1\", ENV{C}=\"1\"" ∷ codes "TEST==\"[u/g]a\", TEST!=\"[u/g]b\", ENV{D}=\"1\"" ∷ []))
+        (codes "C: add\nP: /d\nA: [u/g]a=1")
+        ≡ text (
+        codes "event add /d" ∷ codes "env A=1" ∷ codes "env ACTION=add" ∷ codes "env C=1" ∷ codes "env D=1" ∷ codes "env DEVPATH=/d"
+        ∷ codes "note r.rules:4: test not made: [u/g]b" ∷ codes "" ∷ []) }
+{}
+
+/// For udev a block gives what is known of the machine: a constant that it does not give is noted, and IMPORT{cmdline} finds its words.
+pub fn a_block_gives_what_udev_knows_of_the_machine()
+    ensures given { answered_as_udev
+        (text (
+        codes "CONST{arch}==\"x\", ENV{A}=\"1\"" ∷ codes "CONST{virt}!=\"k\", ENV{B}=\"1\""
+        ∷ codes "IMPORT{cmdline}=\"n_o\", ENV{C}=\"1\"" ∷ codes "IMPORT{cmdline}=\"m\"" ∷ codes "IMPORT{cmdline}!=\"n\", ENV{D}=\"1\"" ∷ []))
+        (codes "C: add\nP: /d\nK: arch=x\nK: cmdline=q n-o m=1 m=\"a b\" m")
+        ≡ text (
+        codes "event add /d" ∷ codes "env A=1" ∷ codes "env ACTION=add" ∷ codes "env B=1" ∷ codes "env C=1" ∷ codes "env D=1"
+        ∷ codes "env DEVPATH=/d" ∷ codes "env m=a b" ∷ codes "env n_o=1" ∷ codes "note r.rules:2: constant not given: virt" ∷ codes "" ∷ []) }
+    ensures missing { answered_as_udev (codes "IMPORT{cmdline}!=\"n\", ENV{A}=\"1\"") (codes "C: add\nP: /d")
+        ≡ codes "event add /d\nenv A=1\nenv ACTION=add\nenv DEVPATH=/d\nnote r.rules:1: import not run: cmdline\n\n" }
+    ensures manual { answered (codes "CONST{virt}!=\"k\", IMPORT{cmdline}!=\"n\", ENV{A}=\"1\"") (codes "C: add\nP: /d\nK: cmdline=n")
+        ≡ codes "event add /d\nenv A=1\nenv ACTION=add\nenv DEVPATH=/d\nnote r.rules:1: import not run: cmdline\n\n" }
+{}
+
+/// For udev a block answers the builtins that are not computed; those that set nothing are done.
+pub fn a_block_answers_builtins_for_udev()
+    ensures { answered_as_udev
+        (text (
+        codes "IMPORT{builtin}=\"blkid -o\", ENV{X}=\"1\"" ∷ codes "IMPORT{program}=\"net_driver\", ENV{Y}=\"1\""
+        ∷ codes "IMPORT{builtin}=\"kmod load m\", ENV{Z}=\"1\"" ∷ []))
+        (codes "C: add\nP: /d\nQ: builtin blkid -o\nR: 0 A=1\rB=2")
+        ≡ text (
+        codes "event add /d" ∷ codes "env A=1" ∷ codes "env ACTION=add" ∷ codes "env B=2" ∷ codes "env DEVPATH=/d" ∷ codes "env X=1"
+        ∷ codes "env Z=1" ∷ codes "note r.rules:2: builtin not run: net_driver" ∷ codes "" ∷ []) }
+{}
+
 /// Udev skips a rule in which nothing counts for the event, and then selects no device.
 pub fn a_rule_in_which_nothing_counts_is_skipped_by_udev()
     ensures manual { answered

@@ -73,6 +73,17 @@ A: spaces=  a  b  ''' + '''
 A: tab=a\v
 '''
 
+# Attributes that end in carriage returns.
+RETURNS = '''C: add
+P: /devices/returns
+U: misc
+A: c=y \r
+A: d=y\r\r
+A: e=y\r\x20
+A: f=\r
+A: long=''' + 'x' * 511 + '''\r
+'''
+
 NET = '''C: add
 P: /devices/pci0/net/eth0
 U: net
@@ -119,6 +130,13 @@ D: 1:1
 
 CLASS = 'C: add\nP: /devices/foo\nU: class\n'
 SUBSYSTEM = 'C: add\nP: /devices/foo\nU: subsystem\n'
+
+
+
+def numbered(number):
+    """A device with a node and a number."""
+    return f'C: add\nP: /devices/pci0/numbered\nU: misc\nN: numbered\nD: {number}\nP: /devices/pci0\nU: pci\n'
+
 
 # A USB device that has no modalias of its own.
 CAMERA = '''C: add
@@ -182,6 +200,11 @@ def removed(block):
     return block.replace('C: add', 'C: remove', 1)
 
 
+def is_given(major, minor):
+    """Whether udev takes a number for that of a device."""
+    return 0 < major < 2 ** 12 and minor < 2 ** 20
+
+
 def begun(block):
     """The lines of an answer that come from the block alone: the event's, and its properties."""
     properties, device = {}, 0
@@ -196,7 +219,7 @@ def begun(block):
             properties['SUBSYSTEM'] = text
         elif device == 1 and letter == 'N':
             properties['DEVNAME'] = '/dev/' + text
-        elif device == 1 and letter == 'D':
+        elif device == 1 and letter == 'D' and is_given(*map(int, text.split(':'))):
             properties['MAJOR'], properties['MINOR'] = text.split(':')
         elif device == 1 and letter == 'E':
             name, value = text.split('=', 1)

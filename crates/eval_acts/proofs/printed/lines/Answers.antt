@@ -1,7 +1,7 @@
 use Rattle.std.proofs.Common.{rules}
 use Rattle.std.proofs.lemmas.Iterator.Consumers.{map_from_collect}
 use Rattle.std.proofs.lemmas.Iterator.Splits.{YieldsList-from_slice_split}
-use Rattle.eval_acts.specs.Printed.{ends_line}
+use Rattle.eval_rendering.specs.Pieces.{ends_line}
 use Rattle.eval_acts.proofs.printed.lines.Goals as goal
 
 pub returns : goal.returns

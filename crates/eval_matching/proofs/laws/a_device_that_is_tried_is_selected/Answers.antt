@@ -1,9 +1,9 @@
-use Rattle.std.proofs.Common.{Option, cond, ◌&&◌, ap, ◌∙◌}
+use Rattle.std.proofs.Common.{Option, cond, ◌&&◌, is_none, ap, ◌∙◌}
 use Rattle.std.specs.Option.{option_and_then}
 use Rattle.device_core.specs.Values.{DeviceValue}
 use Rattle.eval_state.specs.Chains.{device_at}
 use Rattle.eval_state.specs.Named.{named}
-use Rattle.eval_matching.specs.Attributes.{attribute_by, is_elsewhere, named_value, udev_subject, udev_value, value_by}
+use Rattle.eval_matching.specs.Attributes.{attribute_by, is_elsewhere, named_value, udev_subject, udev_value, value_by, written_value}
 use Rattle.eval_matching.specs.Holding.{udev_attribute, udev_unread}
 use Rattle.eval_matching.specs.Subjects.{tried}
 use Rattle.eval_matching.proofs.laws.a_device_that_is_tried_is_selected.Goals as goal
@@ -14,5 +14,5 @@ returns c = λ name state place device udev plain at.
     let event = state.event in
     let own = option_and_then (λ device. udev_value name (tried state place) device.attrs) (device_at event place) in
     ap (λ by. attribute_by by name event (option_and_then (λ device. value_by by name (tried state place) device.attrs) (device_at event place))) udev
-    ∙ ap (λ b. cond (b && is_elsewhere event (named name)) udev_unread (udev_attribute (cond b (named_value event (named name)) own))) plain
+    ∙ ap (λ b. cond (b && (is_elsewhere event (named name) && is_none (written_value event name))) udev_unread (udev_attribute (cond b (named_value event (written_value event name) (named name)) own))) plain
     ∙ ap (λ (o : Option DeviceValue). udev_attribute (option_and_then (λ device. udev_value name (tried state place) device.attrs) o)) at

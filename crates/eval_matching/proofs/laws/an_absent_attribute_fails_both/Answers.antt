@@ -1,8 +1,8 @@
-use Rattle.std.proofs.Common.{◌≡◌, false, Option, None, cond, ◌&&◌, refl, ap, ◌∙◌}
+use Rattle.std.proofs.Common.{◌≡◌, false, Option, None, cond, ◌&&◌, is_none, refl, ap, ◌∙◌}
 use Rattle.text_tables.specs.Texts.{Text}
 use Rattle.rule_types.specs.declared.part.Comparison.{Comparison}
 use Rattle.eval_state.specs.Named.{named}
-use Rattle.eval_matching.specs.Attributes.{attribute_by, is_elsewhere, named_value, udev_subject, udev_value, value_by}
+use Rattle.eval_matching.specs.Attributes.{attribute_by, is_elsewhere, named_value, udev_subject, udev_value, value_by, written_value}
 use Rattle.eval_matching.specs.Holding.{holds, udev_attribute, udev_unread}
 use Rattle.eval_matching.proofs.laws.an_absent_attribute_fails_both.Goals as goal
 
@@ -16,6 +16,6 @@ returns c = λ name state wanted udev plain none.
     let event = state.event in
     let own = udev_value name state event.device.attrs in
     ap (λ by. holds (attribute_by by name event (value_by by name state event.device.attrs)) wanted) udev
-    ∙ ap (λ b. holds (cond (b && is_elsewhere event (named name)) udev_unread (udev_attribute (cond b (named_value event (named name)) own))) wanted) plain
+    ∙ ap (λ b. holds (cond (b && (is_elsewhere event (named name) && is_none (written_value event name))) udev_unread (udev_attribute (cond b (named_value event (written_value event name) (named name)) own))) wanted) plain
     ∙ ap (λ (o : Option Text). holds (udev_attribute o) wanted) none
     ∙ fails wanted

@@ -76,6 +76,7 @@ E: MAJOR=254
 E: MINOR=1
 E: SUBSYSTEM=block
 E: USEC_INITIALIZED=8
+E: ID_LOOP_BACKING_INODE=7
 E: DM_NAME=vg-home
 E: DM_UUID=LVM-abc
 E: DM_SUSPENDED=0
@@ -138,7 +139,7 @@ same "a disk in which udev has found nothing" "Q: builtin blkid
 R: 0" "$(answers /devices/virtual/block/loop0)"
 same "a disk of which udev has stored nothing" "" "$(answers /devices/virtual/block/loop1)"
 same "a volume of LVM" "Q: builtin blkid
-R: 0 ID_FS_TYPE=ext4
+R: 0 ID_LOOP_BACKING_INODE=7 CR ID_FS_TYPE=ext4
 Q: /sbin/dmsetup info -j 254 -m 1 -c --nameprefixes --noheadings --rows -o name,uuid,suspended
 R: 0 DM_NAME=vg-home CR DM_UUID=LVM-abc CR DM_SUSPENDED=0
 Q: /sbin/dmsetup info -j 254 -m 1 -c --nameprefixes --noheadings --rows -o suspended

@@ -201,7 +201,7 @@ BEGIN {
     ata = scsi = drive
     gsub(/%/, "ATA", ata)
     gsub(/%/, "(SCSI|TARGET|WWN_VENDOR)", scsi)
-    content = "^ID_(FS|PART)_"
+    content = "^ID_(FS|PART|LOOP_BACKING)_"
     question("^net/", "builtin net_driver", "^ID_NET_DRIVER$", "^ID_NET_DRIVER$")
     question("^block/[^/]*/sr", "builtin blkid --hint=session_offset=$env{ID_CDROM_MEDIA_SESSION_LAST_OFFSET}", content, "")
     question("^block/[^/]*/sr", "builtin blkid --noraid", content, "")

@@ -23,7 +23,7 @@ for folder in dev run tmp; do mount -t tmpfs tmpfs "$root/$folder"; done
 
 # the nodes that the kernel would make
 for kind in block char; do
-    for device in /sys/dev/$kind/*; do
+    for device in "/sys/dev/$kind"/*; do
         node=$root/dev/$(sed -n 's/^DEVNAME=//p' "$device/uevent")
         numbers=${device##*/}
         mkdir -p "${node%/*}"

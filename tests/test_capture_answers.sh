@@ -145,7 +145,9 @@ R: 0 DM_NAME=vg-home CR DM_UUID=LVM-abc CR DM_SUSPENDED=0
 Q: /sbin/dmsetup info -j 254 -m 1 -c --nameprefixes --noheadings --rows -o suspended
 R: 0 DM_SUSPENDED=0
 Q: /sbin/dmsetup splitname --nameprefixes --noheadings --rows vg-home
-R: 0 DM_VG_NAME=vg CR DM_LV_NAME=home" "$(answers /devices/virtual/block/dm-1)"
+R: 0 DM_VG_NAME=vg CR DM_LV_NAME=home" "$(answers /devices/virtual/block/dm-1 | sed '/^Q: \/usr/,+1d')"
+same "by its new path" "Q: /usr/sbin/dmsetup splitname --nameprefixes --noheadings --rows vg-home
+R: 0 DM_VG_NAME=vg CR DM_LV_NAME=home" "$(answers /devices/virtual/block/dm-1 | grep -A 1 '/usr/.*splitname')"
 same "a network interface" "Q: builtin net_driver
 R: 0 ID_NET_DRIVER=e1000e" "$(answers /devices/pci0/net/eth0)"
 same "a camera" "Q: v4l_id /dev/video0

@@ -196,7 +196,7 @@ BEGIN {
     # attributes that make a block too long, and for which rules don't ask
     unasked = "^A: (queues|statistics|msi_irqs)/"
     # What rules ask programs and builtins for: those of systemd 252 and 257, and of the packages dmsetup, lvm2, mdadm and
-    # libinput.
+    # libinput of Debian 12 and 13.
     drive = "^ID_(BUS|MODEL|MODEL_ENC|REVISION|SERIAL|SERIAL_SHORT|TYPE|VENDOR|VENDOR_ENC|WWN|WWN_WITH_EXTENSION|%_.*|%)$"
     ata = scsi = drive
     gsub(/%/, "ATA", ata)
@@ -209,11 +209,8 @@ BEGIN {
     question("^block/", "builtin btrfs ready $devnode", "^ID_BTRFS_READY$", "^ID_BTRFS_READY$")
     question("^block/disk/s[dr]", "ata_id --export $devnode", ata, "^ID_ATA$")
     question("^block/disk/(s[dr]|cciss)", "scsi_id --export --whitelisted -d $devnode", scsi, "^ID_SCSI$")
-    question("^block/disk/(s[dr]|cciss)", "scsi_id --export --allowlisted -d $devnode", scsi, "^ID_SCSI$")
     question("^scsi_generic/", "scsi_id --sg-version=3 --export --whitelisted -d $devnode", scsi, "^ID_SCSI$")
-    question("^scsi_generic/", "scsi_id --sg-version=3 --export --allowlisted -d $devnode", scsi, "^ID_SCSI$")
     question("^scsi_tape/[^/]*/n?st", "scsi_id --whitelisted --export --device=$env{.BSG_DEV}", scsi, "^ID_SCSI$")
-    question("^scsi_tape/[^/]*/n?st", "scsi_id --allowlisted --export --device=$env{.BSG_DEV}", scsi, "^ID_SCSI$")
     question("^block/disk/", "cdrom_id --lock-media $devnode", "^ID_CDROM", "^ID_CDROM$")
     question("^block/disk/dm-", "/sbin/dmsetup info -j %M -m %m -c --nameprefixes --noheadings --rows -o name,uuid,suspended", \
         "^DM_(NAME|UUID|SUSPENDED)$", "^DM_NAME$")
@@ -306,12 +303,13 @@ function as_key(line, s,    letter, text) {
 
 # A question of rules to a program or a builtin, about the devices whose SUBSYSTEM/DEVTYPE/KERNEL the text `of` matches. It is
 # answered by the stored properties that `names` matches, if a property that `mark` matches is stored; with an empty `mark`
-# if anything is.
+# if anything is. What has moved from /sbin to /usr/sbin, or has a new name of an option, is asked for by either.
 function question(of, command, names, mark) {
     asked_of[++questions] = of
     commands[questions] = command
     answered_by[questions] = names
     marks[questions] = mark
+    if (sub(/^\/sbin\//, "/usr&", command) || sub(/--whitelisted/, "--allowlisted", command)) question(of, command, names, mark)
 }
 
 # Whether the device has a stored property that the pattern matches.

@@ -7,9 +7,9 @@ use Rattle.text_tables.specs.Texts.{Text, same_text}
 use Rattle.text_tables.specs.Pairs.{value_of, with_value}
 use Rattle.text_tables.proofs.Found.{value_set}
 use Rattle.text_tables.proofs.Partway.{left_at}
-use Rattle.engine_compare.specs.Surplus.{times, surplus_after, surplus}
-use Rattle.engine_compare.specs.Tallies.{left_of, Tallies}
-use Rattle.engine_compare.proofs.Counting.{is_same, one_if, times-push}
+use Rattle.text_tallies.specs.Surplus.{times, surplus_after, surplus}
+use Rattle.text_tallies.specs.Tallies.{left_of, Tallies}
+use Rattle.text_tallies.proofs.Counting.{is_same, one_if, times-push}
 
 -- what is left of a text once another has its number set
 left_set : (tally : List (Text × ℕ)) (line : Text) (value : ℕ) (text : Text) → left_of (with_value tally line value) text ≡ cond (same_text text line) value (left_of tally text)

@@ -1,5 +1,5 @@
 use Rattle.std.proofs.Common.{arith, refl}
-use Rattle.text_tallies.proofs.Tallying.{fits_more, tally_item, tally_start}
+use Rattle.text_tallies.proofs.Tallying.{counts_more, tally_item, tally_start}
 use Rattle.text_tallies.proofs.tallies.tally_of.Goals as goal
 
 pub loop-line-init : goal.loop-line-init
@@ -11,5 +11,4 @@ loop-line-preserved c =
 
 pub count_one-requires : goal.count_one-requires
 count_one-requires c =
-    let few = fits_more (λ t. t.now) c.loop-line.tally c.args.lines.now c.loop-line.line-index _ _ c.loop-line.invariant c.loop-line-test.true refl in
-    omega (arith, few, c.loop-line-test.true)
+    counts_more (λ t. t.now) c.loop-line.tally c.args.lines.now c.loop-line.line-index _ c.loop-line.invariant c.loop-line-test.true (omega arith)

@@ -2,10 +2,11 @@
 //!
 //! Each line of the other list is counted once, and each line here takes one of them away; so the time
 //! grows with the bytes of both lists, whatever the lines are.
-ghost use Rattle.std.specs.Prelude.{◌≡◌, ◌-◌, if◌then◌else◌, nat_lt, map, IfOk, OnOk};
+ghost use Rattle.std.specs.Prelude.{◌≡◌, ◌+◌, ◌-◌, ◌^◌, ◌<◌, if◌then◌else◌, nat_lt, map, IfOk, OnOk, OnErr};
+ghost use Rattle.text_tables.specs.Pairs.{with_value};
 ghost use Rattle.text_tables.specs.Texts.{Text, same_text};
-ghost use Rattle.engine_compare.specs.Surplus.{surplus};
-ghost use Rattle.engine_compare.specs.Tallies.{left_of, Tallies};
+ghost use Rattle.text_tallies.specs.Surplus.{surplus};
+ghost use Rattle.text_tallies.specs.Tallies.{left_of, Tallies};
 
 use std::alloc::{AllocError, Global};
 use text_tables::Table;
@@ -34,10 +35,21 @@ fn tally_of<'a>(alloc: Global, lines: &[&'a [u8]]) -> Result<Table<'a, usize>, A
 {
     let mut tally = Table::new(alloc);
     for line in lines {
-        let before = left_of(&tally, line);
-        tally.add(line, before + 1)?;
+        count_one(&mut tally, line)?;
     }
     Ok(tally)
+}
+
+/// Counts a text once more, and returns how many of it there are now. If memory runs out, the counts stay as they are.
+pub fn count_one<'a>(tally: &mut Table<'a, usize>, text: &'a [u8]) -> Result<usize, AllocError>
+    requires { left_of tally.old text.now + 1 < 2 ^ 64 }
+    ensures count { IfOk result (λ count. count ≡ left_of tally.old text.now + 1) }
+    ensures counts { OnOk result (tally.new ≡ with_value tally.old text.now (left_of tally.old text.now + 1)) }
+    ensures refused { OnErr result (tally.new ≡ tally.old) }
+{
+    let count = left_of(tally, text) + 1;
+    tally.add(text, count)?;
+    Ok(count)
 }
 
 /// How many of a line are left.

@@ -3,7 +3,7 @@ use Rattle.std.specs.Prelude.{◌≡◌, ℕ, List}
 use Rattle.std.specs.Option.{unwrap_or}
 use Rattle.text_tables.specs.Texts.{Text}
 use Rattle.text_tables.specs.Pairs.{value_of}
-use Rattle.engine_compare.specs.Surplus.{times}
+use Rattle.text_tallies.specs.Surplus.{times}
 
 -- how many of a line are left: none if nothing is recorded
 abbrev pub left_of : List (Text × ℕ) → Text → ℕ

@@ -1,7 +1,7 @@
 use Rattle.std.proofs.Common.{map, ap, ◌∙◌}
-use Rattle.engine_compare.proofs.Tallying.{advance_start, advance_item, advance_out, passed_line, reported_line}
-use Rattle.engine_compare.proofs.tallies.surplus.Goals.{then-not-branch+in_ok-push, else-not-branch}
-use Rattle.engine_compare.proofs.tallies.surplus.Goals as goal
+use Rattle.text_tallies.proofs.Tallying.{advance_start, advance_item, advance_out, passed_line, reported_line}
+use Rattle.text_tallies.proofs.tallies.surplus.Goals.{then-not-branch+in_ok-push, else-not-branch}
+use Rattle.text_tallies.proofs.tallies.surplus.Goals as goal
 
 pub loop-line-init : goal.loop-line-init
 loop-line-init c = advance_start c.in_ok-tally.tally _ (map (λ t. t.now) c.args.lines.now) (map (λ t. t.now) c.args.others.now) (ap (map (λ t. t.now)) c.new-more.ensures.items) c.in_ok-tally.ensures

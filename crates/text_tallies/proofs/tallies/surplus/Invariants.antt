@@ -1,7 +1,7 @@
 use Rattle.std.proofs.Common.{map, take, drop}
-use Rattle.engine_compare.specs.Surplus.{surplus}
-use Rattle.engine_compare.proofs.Tallying.{Proceeds}
-use Rattle.engine_compare.proofs.tallies.surplus.Given as goal
+use Rattle.text_tallies.specs.Surplus.{surplus}
+use Rattle.text_tallies.proofs.Tallying.{Proceeds}
+use Rattle.text_tallies.proofs.tallies.surplus.Given as goal
 
 abbrev pub invariant-loop-line : goal.invariant-loop-line
 invariant-loop-line l =

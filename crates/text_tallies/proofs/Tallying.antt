@@ -1,5 +1,5 @@
 -- What is left of each line while lines are counted and removed.
-use Rattle.std.proofs.Common.{◌≡◌, ℕ, ◌+◌, ◌-◌, ◌<◌, ◌≤◌, ◌⊎◌, inl, inr, Bool, true, false, cond, nat_lt, List, [], ◌∷◌, ◌++◌, Option, Some, unwrap_or, refl, ap, sym, ◌∙◌, arith, append_assoc, append-nil, subst, map, take, drop, get_or, length, min, length-take, drop_of_length-le}
+use Rattle.std.proofs.Common.{◌≡◌, ℕ, ◌+◌, ◌-◌, ◌^◌, ◌<◌, ◌≤◌, ◌⊎◌, inl, inr, Bool, true, false, cond, nat_lt, List, [], ◌∷◌, ◌++◌, Option, Some, unwrap_or, refl, ap, sym, ◌∙◌, arith, append_assoc, append-nil, subst, map, take, drop, get_or, length, min, length-take, drop_of_length-le}
 use Rattle.std.proofs.lemmas.List.{map-append, length-map, take_more}
 use Rattle.std.proofs.lemmas.List.Sums.{count_by-le-length}
 use Rattle.std.proofs.lemmas.Bool.{cases_lt, lt-ltb, le-ltb}
@@ -7,9 +7,9 @@ use Rattle.text_tables.specs.Texts.{Text, same_text}
 use Rattle.text_tables.specs.Pairs.{value_of, with_value}
 use Rattle.text_tables.proofs.Found.{value_set}
 use Rattle.text_tables.proofs.Partway.{left_at}
-use Rattle.engine_compare.specs.Surplus.{times, surplus_after, surplus}
-use Rattle.engine_compare.specs.Tallies.{left_of, Tallies}
-use Rattle.engine_compare.proofs.Counting.{is_same, one_if, times-push}
+use Rattle.text_tallies.specs.Surplus.{times, surplus_after, surplus}
+use Rattle.text_tallies.specs.Tallies.{left_of, Tallies}
+use Rattle.text_tallies.proofs.Counting.{is_same, one_if, times-push}
 
 -- what is left of a text once another has its number set
 left_set : (tally : List (Text × ℕ)) (line : Text) (value : ℕ) (text : Text) → left_of (with_value tally line value) text ≡ cond (same_text text line) value (left_of tally text)
@@ -111,11 +111,13 @@ pub tally_item : {A : Type 0} (f : A → Text) (tally next : List (Text × ℕ))
 tally_item f tally next lines at item before t h b e =
     subst (Tallies next) (sym (past_more f lines at item h)) (tally_more tally next (map f (take at lines)) (f (get_or lines at item)) before t b e)
 
-pub fits_more : {A : Type 0} (f : A → Text) (tally : List (Text × ℕ)) (lines : List A) (at before : ℕ) (line : Text) → Tallies tally (map f (take at lines)) → at < length lines → before ≡ left_of tally line → before ≤ at
-fits_more f tally lines at before line t h b = by (count_by-le-length (same_text line) (map f (take at lines))) (length-map (take at lines) f) (length-take at lines)
+-- a text of which there are fewer than lines can be counted once more
+pub counts_more : {A : Type 0} (f : A → Text) (tally : List (Text × ℕ)) (lines : List A) (at : ℕ) (line : Text) → Tallies tally (map f (take at lines)) → at < length lines → length lines < 2 ^ 64
+    → left_of tally line + 1 < 2 ^ 64
+counts_more f tally lines at line t h room = by (count_by-le-length (same_text line) (map f (take at lines))) (length-map (take at lines) f) (length-take at lines)
   where
-    by : times line (map f (take at lines)) ≤ length (map f (take at lines)) → length (map f (take at lines)) ≡ length (take at lines) → length (take at lines) ≡ min at (length lines) → before ≤ at
-    by k l m = omega (arith, b, t line, k, l, m)
+    by : times line (map f (take at lines)) ≤ length (map f (take at lines)) → length (map f (take at lines)) ≡ length (take at lines) → length (take at lines) ≡ min at (length lines) → left_of tally line + 1 < 2 ^ 64
+    by k l m = omega (arith, t line, k, l, m)
 
 pub advance_item : {A : Type 0} (f : A → Text) (tally next : List (Text × ℕ)) (reported more whole others : List Text) (lines : List A) (at : ℕ) (item : A) (there : Bool)
     → Proceeds tally reported (map f (take at lines)) (map f (drop at lines)) whole others → at < length lines

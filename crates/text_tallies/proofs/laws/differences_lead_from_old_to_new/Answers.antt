@@ -1,5 +1,5 @@
-use Rattle.engine_compare.proofs.Counting.{fewer, led}
-use Rattle.engine_compare.proofs.laws.differences_lead_from_old_to_new.Goals as goal
+use Rattle.text_tallies.proofs.Counting.{fewer, led}
+use Rattle.text_tallies.proofs.laws.differences_lead_from_old_to_new.Goals as goal
 
 pub returns-clause-taken : goal.returns-clause-taken
 returns-clause-taken c = fewer

@@ -11,15 +11,16 @@ use Rattle.text_tables.specs.Texts.{Text}
 use Rattle.link_files.specs.Settings.{ReadingValue, unread, with_file}
 use Rattle.link_files.specs.declared.settings.Setting.{Setting}
 
--- a file with what it and its drop-ins set, by its path; and the paths of the drop-ins
+-- A file by its path, with the paths of its drop-ins; whether each line of all these could be read; and what they set.
 pub record LinkFileValue : Type 0 where
   pub path : Text
   pub drop_ins : Text
+  pub is_sound : Bool
   pub settings : List Setting
 
 -- the folders, by rank
-abbrev pub folder_of : (rank : ℕ) → Text
-folder_of rank =
+abbrev pub link_folder : (rank : ℕ) → Text
+link_folder rank =
     if rank == 0 then codes "/etc/systemd/network"
     else if rank == 1 then codes "/run/systemd/network"
     else if rank == 2 then codes "/usr/local/lib/systemd/network"
@@ -27,7 +28,7 @@ folder_of rank =
 
 -- where a file is
 abbrev pub path_of : SourceFile → Text
-path_of file = folder_of file.rank ++ slash ∷ [] ++ file.name
+path_of file = link_folder file.rank ++ slash ∷ [] ++ file.name
 
 -- a digit below 16, in small letters
 abbrev pub small_digit : ℕ → ℕ
@@ -56,16 +57,19 @@ reading_of r files = fold (λ held file. with_file held file.bytes) r files
 abbrev pub is_masked : SourceFile → Bool
 is_masked file = is_empty file.bytes || begins_with dot file.name
 
--- a file and its drop-ins, if all of their lines could be read
-abbrev pub with_drop_ins : SourceFile → List SourceFile → Option LinkFileValue
+-- what was set counts if each line could be read; otherwise nothing is set
+abbrev pub settings_of : ReadingValue → List Setting
+settings_of r = if r.is_sound then r.settings else []
+
+-- a file and its drop-ins
+abbrev pub with_drop_ins : SourceFile → List SourceFile → LinkFileValue
 with_drop_ins file drop_ins =
     let r = reading_of unread (file ∷ drop_ins) in
-    if r.is_sound then Some (record { path = path_of file; drop_ins = join_with_byte colon (map listed_path drop_ins); settings = r.settings })
-    else None
+    record { path = path_of file; drop_ins = join_with_byte colon (map listed_path drop_ins); is_sound = r.is_sound; settings = settings_of r }
 
 -- a file with its drop-ins among some files
 unfoldable pub link_file : (drop_ins : List SourceFile) → SourceFile → Option LinkFileValue
-link_file drop_ins file = if is_masked file then None else with_drop_ins file (filter (is_drop_in file) drop_ins)
+link_file drop_ins file = if is_masked file then None else Some (with_drop_ins file (filter (is_drop_in file) drop_ins))
 
 -- The files that count: of each name the one in the first folder, by name, unless it is masked; with the drop-ins of all
 -- folders, of which also those of one name are only one, by name.

@@ -2,7 +2,7 @@
 ghost use Rattle.std.specs.Prelude.{◌≡◌, ◌++◌, ◌<◌, IfOk, OnOk, filter, filter_map, flat_map, map};
 ghost use Rattle.std.specs.List.{join_with_byte};
 ghost use Rattle.text_bytes.specs.Names.{colon};
-ghost use Rattle.link_files.specs.Files.{folder_of, is_drop_in, is_masked, link_file, link_files, listed_byte, listed_path, path_of, reading_of, small_digit};
+ghost use Rattle.link_files.specs.Files.{is_drop_in, is_masked, link_file, link_files, link_folder, listed_byte, listed_path, path_of, reading_of, small_digit};
 ghost use Rattle.link_files.specs.Files.{with_drop_ins};
 
 use crate::settings::{Reading, Setting, take_file};
@@ -11,10 +11,11 @@ use std::marker::Model;
 use text_bytes::{Bytes, SourceFile, begins_with, following, order_files};
 
 /// A `.link` file with what it and its drop-ins set.
-#[derive(Drop)]
+#[derive(Debug, Drop)]
 pub struct LinkFile {
     path: Bytes,
     drop_ins: Bytes,
+    is_sound: bool,
     settings: Vec<Setting>,
 }
 
@@ -23,7 +24,7 @@ impl Model for LinkFile {
 
     ghost Value = { LinkFileValue };
 
-    ghost view = { λ f. record { path = f.path; drop_ins = f.drop_ins; settings = f.settings.items } };
+    ghost view = { λ f. record { path = f.path; drop_ins = f.drop_ins; is_sound = f.is_sound; settings = f.settings.items } };
 }
 
 impl LinkFile {
@@ -41,6 +42,14 @@ impl LinkFile {
         self.drop_ins.as_slice()
     }
 
+    /// Whether each line of it and its drop-ins could be read. Otherwise they set nothing: a line is not UTF-8, or begins
+    /// with `[` and is not the name of a section.
+    pub fn is_sound(&self) -> bool
+        ensures { result ≡ self.now.is_sound }
+    {
+        self.is_sound
+    }
+
     /// Returns what it and its drop-ins set, in order.
     pub fn settings(&self) -> &[Setting]
         ensures { result.now ≡ self.now.settings }
@@ -49,15 +58,15 @@ impl LinkFile {
     }
 }
 
-/// The folder of a rank.
-fn folder_of(rank: u8) -> &'static [u8]
-    ensures { result.now ≡ folder_of rank }
+/// The folder of `.link` files at a rank, as systemd.link(5) names it; all ranks from 3 on are of one folder.
+pub fn link_folder(rank: u8) -> &'static str
+    ensures { result.now ≡ link_folder rank }
 {
     match rank {
-        0 => b"/etc/systemd/network",
-        1 => b"/run/systemd/network",
-        2 => b"/usr/local/lib/systemd/network",
-        _ => b"/usr/lib/systemd/network",
+        0 => "/etc/systemd/network",
+        1 => "/run/systemd/network",
+        2 => "/usr/local/lib/systemd/network",
+        _ => "/usr/lib/systemd/network",
     }
 }
 
@@ -65,7 +74,7 @@ fn folder_of(rank: u8) -> &'static [u8]
 fn path_of(alloc: Global, file: &SourceFile) -> Result<Vec<u8>, AllocError>
     ensures { IfOk result (λ path. path.items ≡ path_of file.now) }
 {
-    let mut path = Vec::from_slice(alloc, folder_of(file.rank))?;
+    let mut path = Vec::from_slice(alloc, link_folder(file.rank).as_bytes())?;
     path.push(b'/')?;
     path.extend_from_slice(file.name.as_slice())?;
     Ok(path)
@@ -177,25 +186,23 @@ fn is_masked(file: &SourceFile) -> bool
     file.bytes.as_slice().is_empty() || begins_with(b'.', file.name.as_slice())
 }
 
-/// A file and its drop-ins, if all of their lines could be read.
+/// A file and its drop-ins.
 fn with_drop_ins(
     alloc: Global,
     file: &SourceFile,
     drop_ins: &[&SourceFile],
-) -> Result<Option<LinkFile>, AllocError>
+) -> Result<LinkFile, AllocError>
     ensures { IfOk result (λ link. link ≡ with_drop_ins file.now (map (λ f. f.now) drop_ins.now)) }
 {
     let mut reading = Reading::new(alloc);
     take_file(alloc, &mut reading, file.bytes.as_slice())?;
     take_files(alloc, &mut reading, drop_ins)?;
-    let Some(settings) = reading.into_settings() else {
-        return Ok(None);
-    };
-    Ok(Some(LinkFile {
+    Ok(LinkFile {
         path: Bytes::new(path_of(alloc, file)?),
         drop_ins: listed(alloc, drop_ins)?,
-        settings,
-    }))
+        is_sound: reading.is_sound(),
+        settings: reading.into_settings(),
+    })
 }
 
 /// A file with its drop-ins among some files.
@@ -211,7 +218,7 @@ fn link_file(
         return Ok(None);
     }
     let own = drop_ins_of(alloc, file, drop_ins)?;
-    with_drop_ins(alloc, file, &own)
+    Ok(Some(with_drop_ins(alloc, file, &own)?))
 }
 
 /// Those of these files that count, each with its drop-ins.
@@ -236,8 +243,8 @@ fn with_all_drop_ins(
 ///
 /// A drop-in is named by its folder and itself, `NAME.link.d/NAME.conf`. The rank says in which folder a file is:
 /// `/etc/systemd/network`, `/run/systemd/network`, `/usr/local/lib/systemd/network`, `/usr/lib/systemd/network`. A
-/// file does not count if one of its lines, or of its drop-ins, is not UTF-8, or begins with `[` and is not the name of a
-/// section.
+/// file sets nothing if one of its lines, or of its drop-ins, is not UTF-8, or begins with `[` and is not the name of a
+/// section. The kinds of the files are not looked at.
 ///
 /// Fails if memory runs out.
 #[tactic(auto, unfolding(crate::specs::Files::link_files))]

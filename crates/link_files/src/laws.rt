@@ -50,9 +50,9 @@ pub fn values_are_split()
 #[tactic(auto, unfolding(crate::specs::Files::link_files, crate::specs::Files::link_file, crate::specs::Files::is_drop_in, crate::specs::Files::listed_path, crate::specs::Settings::with_file, crate::specs::Settings::with_line, crate::specs::Settings::section_of, crate::specs::Lines::joined_from, crate::specs::Lines::is_comment, crate::specs::Lines::stripped, text_bytes::specs::Texts::split_once))]
 pub fn files_are_put_together()
     ensures first { (kind : FileKind) → link_files (at kind 3 (codes "a.link") (codes "#") ∷ at kind 1 (codes "a.link") (codes "#") ∷ []) (at kind 2 (codes "a.link.d/b.conf") [] ∷ [])
-        ≡ record { path = codes "/run/systemd/network/a.link"; drop_ins = codes "/usr/local/lib/systemd/network/a.link.d/b.conf"; settings = [] } ∷ [] }
+        ≡ record { path = codes "/run/systemd/network/a.link"; drop_ins = codes "/usr/local/lib/systemd/network/a.link.d/b.conf"; is_sound = true; settings = [] } ∷ [] }
     ensures other { (kind : FileKind) → link_files (at kind 0 (codes "a.link") (codes "#") ∷ []) (at kind 0 (codes "a.link.d/.b.conf") [] ∷ at kind 0 (codes "a-.link.d/b.conf") [] ∷ [])
-        ≡ record { path = codes "/etc/systemd/network/a.link"; drop_ins = []; settings = [] } ∷ [] }
+        ≡ record { path = codes "/etc/systemd/network/a.link"; drop_ins = []; is_sound = true; settings = [] } ∷ [] }
     ensures masked { (kind : FileKind) → link_files (at kind 3 (codes "a.link") (codes "#") ∷ at kind 0 (codes "a.link") [] ∷ []) [] ≡ [] }
 {}
 

@@ -9,7 +9,7 @@ mod names;
 mod settings;
 mod words;
 
-pub use files::{LinkFile, read_links};
+pub use files::{LinkFile, link_folder, read_links};
 pub use laws::{
     files_are_put_together, lines_are_put_together, lines_set_keys, names_are_short,
     names_of_interfaces, values_are_split,

@@ -1,5 +1,5 @@
 //! What `.link` files set.
-ghost use Rattle.std.specs.Prelude.{◌≡◌, ◌∷◌, List, None, OnOk, Some, fold, if◌then◌else◌, option_map};
+ghost use Rattle.std.specs.Prelude.{◌≡◌, ◌∷◌, [], List, OnOk, fold, if◌then◌else◌, option_map};
 ghost use Rattle.std.specs.List.{list_all};
 ghost use Rattle.std.specs.Str.{is_utf8};
 ghost use Rattle.text_tables.specs.Texts.{Text};
@@ -12,7 +12,7 @@ use std::marker::Model;
 use text_bytes::{Bytes, begins_with, ends_in, first_line, split_once};
 
 /// A setting: a value of a key in a section.
-#[derive(Drop)]
+#[derive(Debug, Drop)]
 pub struct Setting {
     /// The section; empty before the first.
     pub section: Bytes,
@@ -212,15 +212,25 @@ pub(crate) fn take_file(
 }
 
 impl Reading {
-    /// What was set, if each line could be read.
-    pub(crate) fn into_settings(self) -> Option<Vec<Setting>>
-        ensures { option_map (λ s. s.items) result ≡ (if self.is_sound then Some self.settings else None) }
+    /// Whether each line could be read.
+    pub(crate) fn is_sound(&self) -> bool
+        ensures { result ≡ self.now.is_sound }
+    {
+        self.is_sound
+    }
+
+    /// What was set; nothing if a line could not be read.
+    pub(crate) fn into_settings(self) -> Vec<Setting>
+        ensures { result.items ≡ (if self.is_sound then self.settings else []) }
     {
         let Reading {
             is_sound,
-            settings,
+            mut settings,
             ..
         } = self;
-        if is_sound { Some(settings) } else { None }
+        if !is_sound {
+            settings.clear();
+        }
+        settings
     }
 }

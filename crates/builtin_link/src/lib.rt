@@ -3,6 +3,7 @@
 
 mod addresses;
 mod checks;
+mod fields;
 mod globs;
 mod hardware;
 mod laws;

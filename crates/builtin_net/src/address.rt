@@ -57,10 +57,9 @@ fn all_digits(alloc: Global, width: usize, fields: &[&[u8]]) -> Result<Vec<u8>, 
     Ok(digits)
 }
 
-/// The digits of so many fields with a mark in between, each in lower case and in `width` digits; `None` if the text is
-/// anything else. A field has one to `width` hexadecimal digits. Fails if memory runs out.
+/// The digits of so many fields with a mark in between.
 #[tactic(auto, unfolding(crate::specs::Address::marked_digits))]
-pub fn marked_digits(
+fn marked_digits(
     alloc: Global,
     mark: u8,
     count: usize,

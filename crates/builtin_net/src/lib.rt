@@ -24,7 +24,5 @@ mod usb;
 mod virtual_functions;
 mod words;
 
-pub use address::marked_digits;
 pub use builtin::net_id;
 pub use laws::{forbidden_interfaces_fail, names_are_short, stacked_interfaces_have_no_names};
-pub use ports::some_text;

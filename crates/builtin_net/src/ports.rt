@@ -50,7 +50,7 @@ fn port_number(prefix: Prefix, event: &Event<'_>, env: &CowPairs<'_>, by_id: boo
 }
 
 /// A text that is not empty.
-pub fn some_text(text: Option<&[u8]>) -> Option<&[u8]>
+pub(crate) fn some_text(text: Option<&[u8]>) -> Option<&[u8]>
     ensures { option_map (λ t. t.now) result ≡ some_text (option_map (λ t. t.now) text.entry) }
 {
     match text {

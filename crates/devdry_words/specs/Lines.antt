@@ -90,3 +90,4 @@ pub record Reads (verb : Verb) (root : Text) (rows : List Row) (line : Line) : T
   pub profile : line.profile ≡ profile_of rows
   pub users : IsUnreadFile (first_of (codes "users") rows) line.users
   pub groups : IsUnreadFile (first_of (codes "groups") rows) line.groups
+  pub links : line.links.items ≡ []

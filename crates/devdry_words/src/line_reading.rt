@@ -121,5 +121,6 @@ pub(crate) fn line_with<'a>(
         profile: profile_of(matches),
         users: account_file(alloc, matches, "users"),
         groups: account_file(alloc, matches, "groups"),
+        links: Vec::new(alloc),
     })
 }

@@ -56,7 +56,7 @@ Options:
   -r, --root <DIR>       Folder to put before each folder that is read
   -s, --strict           Exit with status 1 if there is a message
       --all              Go on where a file can't be read, and fail where there is none
-      --format <FORMAT>  How messages are written: plain, gcc, github, gitlab, json or human
+      --format <FORMAT>  How messages are written: plain, gcc, github, gitlab, json, sarif or human
       --ignore <CODES>   Leave out the messages of these codes, as V6,S2; comments: as the files say
   -h, --help             Print help
   -V, --version          Print version
@@ -90,7 +90,7 @@ Arguments:
 Options:
   -r, --root <DIR>       Folder to put before each folder that is read
       --all              Go on where a file can't be read, and fail where there is none
-      --format <FORMAT>  How messages are written: plain, gcc, github, gitlab, json or human
+      --format <FORMAT>  How messages are written: plain, gcc, github, gitlab, json, sarif or human
       --ignore <CODES>   Leave out the messages of these codes, as V6,S2; comments: as the files say
       --no-summary       Do not count the good and the bad files
       --no-style         Give no messages about style
@@ -230,7 +230,7 @@ For more information, try '--help'.
 
 NO_SUCH_FORMAT = """\
 error: invalid value 'xml' for '--format <FORMAT>'
-  [possible values: plain, gcc, github, gitlab, json, human]
+  [possible values: plain, gcc, github, gitlab, json, sarif, human]
 
 For more information, try '--help'.
 """

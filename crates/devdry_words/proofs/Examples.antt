@@ -10,7 +10,7 @@ use Rattle.clap.specs.declared.error.kind.ErrorKind.TheVariants as kind
 use Rattle.clap.proofs.OnLiterals.{clap_on_literals}
 use Rattle.devdry_words.specs.Commands.{devdry}
 use Rattle.engine_ends.specs.declared.line.Format.{Format}
-use Rattle.engine_ends.specs.declared.line.Format.TheVariants.{Plain, Gcc, Github, Gitlab, Json, Human, HumanInColor}
+use Rattle.engine_ends.specs.declared.line.Format.TheVariants.{Plain, Gcc, Github, Gitlab, Json, Sarif, Human, HumanInColor}
 use Rattle.devdry_words.specs.declared.refusals.Refusal.{Refusal}
 use Rattle.devdry_words.specs.declared.refusals.Refusal.TheVariants.{TwoDatabases, TwoAnswers, EmptyRoot, EmptySide, NoUdev, UnknownFormat, UnknownPart}
 use Rattle.devdry_words.specs.Lines.{format_name, format_named, format_of, profile_of}
@@ -249,6 +249,7 @@ each_format_is_found Gcc = refl
 each_format_is_found Github = refl
 each_format_is_found Gitlab = refl
 each_format_is_found Json = refl
+each_format_is_found Sarif = refl
 each_format_is_found Human = refl
 each_format_is_found HumanInColor = refl
 

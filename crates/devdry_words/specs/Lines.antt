@@ -1,11 +1,13 @@
 -- The line that the matches of a subcommand mean.
-use Rattle.std.specs.Prelude.{◌≡◌, ◌∷◌, IfSome, if◌then◌else◌, List, [], Option, Some, find, flat_map, map, not, unwrap_or, codes}
+use Rattle.std.specs.Prelude.{◌≡◌, ◌∷◌, IfSome, if◌then◌else◌, List, [], Option, Some, find, flat_map, map, not, unwrap_or, codes, false}
 use Rattle.std.specs.Option.{option_map, option_map_or}
 use Rattle.std.specs.Str.{bytes_eq}
 use Rattle.clap.specs.Words.{Row, Text, first_of}
 use Rattle.engine_ends.specs.declared.line.AccountFile.{AccountFile}
+use Rattle.engine_ends.specs.declared.line.Color.{Color}
+use Rattle.engine_ends.specs.declared.line.Color.TheVariants.{Auto, Always, Never}
 use Rattle.engine_ends.specs.declared.line.Format.{Format}
-use Rattle.engine_ends.specs.declared.line.Format.TheVariants.{Plain, Gcc, Github, Gitlab, Json, Human, HumanInColor}
+use Rattle.engine_ends.specs.declared.line.Format.TheVariants.{Plain, Gcc, Github, Gitlab, Json, Sarif, Human, HumanInColor}
 use Rattle.engine_ends.specs.declared.line.Line.{Line}
 use Rattle.engine_ends.specs.declared.line.Verb.{Verb}
 use Rattle.engine_ends.specs.declared.line.Verb.TheVariants.{Update, Query, Verify, Events}
@@ -27,16 +29,35 @@ format_name Gcc = codes "gcc"
 format_name Github = codes "github"
 format_name Gitlab = codes "gitlab"
 format_name Json = codes "json"
+format_name Sarif = codes "sarif"
 format_name Human = codes "human"
 format_name HumanInColor = codes "human"
 
 -- the format with a name, if there is one
 abbrev pub format_named : Text → Option Format
-format_named name = find (λ f. bytes_eq name (format_name f)) (Plain ∷ Gcc ∷ Github ∷ Gitlab ∷ Json ∷ Human ∷ [])
+format_named name = find (λ f. bytes_eq name (format_name f)) (Plain ∷ Gcc ∷ Github ∷ Gitlab ∷ Json ∷ Sarif ∷ Human ∷ [])
 
 -- the format that is asked for, plain if none is; none if the name is unknown
 abbrev pub format_of : List Row → Option Format
 format_of rows = option_map_or format_named (first_of (codes "format") rows) (Some Plain)
+
+-- the name of when there are colors
+abbrev pub color_name : Color → Text
+color_name Auto = codes "auto"
+color_name Always = codes "always"
+color_name Never = codes "never"
+
+-- when there are colors, by its name, if there is one
+abbrev pub color_named : Text → Option Color
+color_named name = find (λ c. bytes_eq name (color_name c)) (Auto ∷ Always ∷ Never ∷ [])
+
+-- when colors are asked for, by the terminal if none are; none if the name is unknown
+abbrev pub color_of : List Row → Option Color
+color_of rows = option_map_or color_named (first_of (codes "color") rows) (Some Auto)
+
+-- the name of the standard input as a file, `-` if it is given none
+abbrev pub input_name_of : List Row → Text
+input_name_of rows = unwrap_or (first_of (codes "stdin-name") rows) (codes "-")
 
 -- the profile by which rules are read and evaluated: udev's if `--udev` is given, otherwise the manual's
 abbrev pub profile_of : List Row → Profile
@@ -44,13 +65,15 @@ profile_of rows = if is_set (codes "udev") rows then Udev else Manual
 
 -- the file of users or groups at the path, if there is one; none of its bytes has been read yet
 abbrev pub IsUnreadFile : Option Text → Option AccountFile → Type 0
-IsUnreadFile path file = (option_map (λ f. f.path.now) file ≡ path) × IfSome file (λ f. f.bytes ≡ [])
+IsUnreadFile path file = (option_map (λ f. f.path.now) file ≡ path) × IfSome file (λ f. (f.of_root ≡ false) × (f.bytes ≡ []))
 
 -- the line is that of the verb, below the root, and its other fields are the values of the matches
 pub record Reads (verb : Verb) (root : Text) (rows : List Row) (line : Line) : Type 0 where
   pub verb_is : line.verb ≡ verb
   pub root_is : line.root.now ≡ root
   pub files : map (λ f. f.now) line.files.items ≡ texts_of (codes "FILE") rows
+  pub added : map (λ f. f.now) line.added.items ≡ texts_of (codes "with") rows
+  pub input_name : line.input_name.now ≡ input_name_of rows
   pub index : option_map (λ i. i.now) line.index ≡ first_of (codes "index") rows
   pub strict : line.strict ≡ is_set (codes "strict") rows
   pub sources : line.sources ≡ is_set (codes "sources") rows
@@ -61,8 +84,10 @@ pub record Reads (verb : Verb) (root : Text) (rows : List Row) (line : Line) : T
   pub style : line.style ≡ not (is_set (codes "no-style") rows)
   pub lint : line.lint ≡ is_set (codes "lint") rows
   pub format : line.format ≡ unwrap_or (format_of rows) Plain
+  pub color : line.color ≡ unwrap_or (color_of rows) Auto
   pub all : line.all ≡ is_set (codes "all") rows
   pub ignored : map (λ c. c.now) line.ignored.items ≡ flat_map cut_at_commas (texts_of (codes "ignore") rows)
   pub profile : line.profile ≡ profile_of rows
   pub users : IsUnreadFile (first_of (codes "users") rows) line.users
   pub groups : IsUnreadFile (first_of (codes "groups") rows) line.groups
+  pub links : line.links.items ≡ []

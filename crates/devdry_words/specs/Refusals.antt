@@ -61,7 +61,7 @@ invalid_value value following = codes "error: invalid value '" ++ value ++ follo
 
 -- what is said after the name of an unknown format
 abbrev pub no_such_format : Text
-no_such_format = codes "' for '--format <FORMAT>'\n  [possible values: plain, gcc, github, gitlab, json, human]\n\nFor more information, try '--help'.\n"
+no_such_format = codes "' for '--format <FORMAT>'\n  [possible values: plain, gcc, github, gitlab, json, sarif, human]\n\nFor more information, try '--help'.\n"
 
 -- texts, with a comma and a space between two
 unfoldable pub listed : List Text → Text

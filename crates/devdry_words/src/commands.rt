@@ -194,7 +194,7 @@ fn format_option<'a>(alloc: Global) -> Arg<'a>
     Arg::new(alloc, "format")
         .long("format")
         .value_name("FORMAT")
-        .help("How messages are written: plain, gcc, github, gitlab, json or human")
+        .help("How messages are written: plain, gcc, github, gitlab, json, sarif or human")
 }
 
 /// `--ignore CODES`, which may be given any number of times.

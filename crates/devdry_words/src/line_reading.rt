@@ -1,11 +1,11 @@
 //! The line that the matches of a parse mean.
 ghost use Rattle.std.specs.Prelude.{◌≡◌, IfOk};
 ghost use Rattle.clap.specs.Words.{first_of, found_of, rows_of};
-ghost use Rattle.devdry_words.specs.Lines.{IsUnreadFile, Reads, format_named, format_of, profile_of};
+ghost use Rattle.devdry_words.specs.Lines.{IsUnreadFile, Reads, color_named, color_of, format_named, format_of, input_name_of, profile_of};
 
 use crate::values::{is_given, parts, text, texts, value};
 use clap::ArgMatches;
-use engine_ends::{AccountFile, Format, Line, Verb};
+use engine_ends::{AccountFile, Color, Format, Line, Verb};
 use std::alloc::{AllocError, Global};
 use text_bytes::{Bytes, Profile};
 
@@ -19,6 +19,7 @@ fn format_named(name: &str) -> Option<Format>
         "github" => Some(Format::Github),
         "gitlab" => Some(Format::Gitlab),
         "json" => Some(Format::Json),
+        "sarif" => Some(Format::Sarif),
         "human" => Some(Format::Human),
         _ => None,
     }
@@ -31,6 +32,38 @@ pub(crate) fn format_of(matches: &ArgMatches<'_>) -> Option<Format>
     match value(matches, "format") {
         Some(name) => format_named(name),
         None => Some(Format::Plain),
+    }
+}
+
+/// When messages for people are in colors, by its name, if there is one.
+fn color_named(name: &str) -> Option<Color>
+    ensures { result ≡ color_named name.now }
+{
+    match name {
+        "auto" => Some(Color::Auto),
+        "always" => Some(Color::Always),
+        "never" => Some(Color::Never),
+        _ => None,
+    }
+}
+
+/// When matches ask for colors, by the terminal if they do not ask; `None` if the name is unknown.
+pub(crate) fn color_of(matches: &ArgMatches<'_>) -> Option<Color>
+    ensures { result ≡ color_of (rows_of (found_of matches.now)) }
+{
+    match value(matches, "color") {
+        Some(name) => color_named(name),
+        None => Some(Color::Auto),
+    }
+}
+
+/// The name of the standard input as a file, `-` if matches give it none.
+fn input_name_of<'a>(matches: &ArgMatches<'a>) -> &'a str
+    ensures { result.now ≡ input_name_of (rows_of (found_of matches.now)) }
+{
+    match value(matches, "stdin-name") {
+        Some(name) => name,
+        None => "-",
     }
 }
 
@@ -52,6 +85,7 @@ fn account_file<'a>(alloc: Global, matches: &ArgMatches<'a>, id: &str) -> Option
     let path = value(matches, id)?;
     Some(AccountFile {
         path,
+        of_root: false,
         bytes: Bytes::new(Vec::new(alloc)),
     })
 }
@@ -69,6 +103,8 @@ pub(crate) fn line_with<'a>(
         verb,
         root,
         files: texts(alloc, matches, "FILE")?,
+        added: texts(alloc, matches, "with")?,
+        input_name: input_name_of(matches),
         index: value(matches, "index"),
         strict: is_given(matches, "strict"),
         sources: is_given(matches, "sources"),
@@ -79,10 +115,12 @@ pub(crate) fn line_with<'a>(
         style: !is_given(matches, "no-style"),
         lint: is_given(matches, "lint"),
         format: format_of(matches).unwrap_or(Format::Plain),
+        color: color_of(matches).unwrap_or(Color::Auto),
         all: is_given(matches, "all"),
         ignored: parts(alloc, matches, "ignore")?,
         profile: profile_of(matches),
         users: account_file(alloc, matches, "users"),
         groups: account_file(alloc, matches, "groups"),
+        links: Vec::new(alloc),
     })
 }

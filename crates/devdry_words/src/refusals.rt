@@ -49,7 +49,7 @@ For more information, try '--help'.
 ";
 
 const NO_SUCH_FORMAT: &str = "' for '--format <FORMAT>'
-  [possible values: plain, gcc, github, gitlab, json, human]
+  [possible values: plain, gcc, github, gitlab, json, sarif, human]
 
 For more information, try '--help'.
 ";

@@ -1,7 +1,7 @@
 -- The formats that diagnostics can be written in.
 use Rattle.std.specs.Prelude.{ℕ, true, false, List, flat_map}
 use Rattle.engine_ends.specs.declared.line.Format.{Format}
-use Rattle.engine_ends.specs.declared.line.Format.TheVariants.{Plain, Gcc, Github, Gitlab, Json, Human, HumanInColor}
+use Rattle.engine_ends.specs.declared.line.Format.TheVariants.{Plain, Gcc, Github, Gitlab, Json, Sarif, Human, HumanInColor}
 use Rattle.engine_formats.specs.Diagnostics.{DiagnosticValue}
 use Rattle.engine_formats.specs.Github.{github_line}
 use Rattle.engine_formats.specs.Human.{human_lines}
@@ -15,5 +15,6 @@ formatted Gcc diagnostics = flat_map gcc_line diagnostics
 formatted Github diagnostics = flat_map github_line diagnostics
 formatted Gitlab diagnostics = gitlab_report diagnostics
 formatted Json diagnostics = flat_map json_line diagnostics
+formatted Sarif diagnostics = flat_map json_line diagnostics
 formatted Human diagnostics = flat_map (human_lines false) diagnostics
 formatted HumanInColor diagnostics = flat_map (human_lines true) diagnostics

@@ -26,7 +26,7 @@ pub fn formatted(
         Format::Gcc => gcc_lines(alloc, diagnostics),
         Format::Github => github_lines(alloc, diagnostics),
         Format::Gitlab => gitlab_report(alloc, diagnostics),
-        Format::Json => json_lines(alloc, diagnostics),
+        Format::Json | Format::Sarif => json_lines(alloc, diagnostics),
         Format::Human => human_lines(alloc, false, diagnostics),
         Format::HumanInColor => human_lines(alloc, true, diagnostics),
     }

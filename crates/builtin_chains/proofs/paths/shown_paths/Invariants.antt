@@ -5,5 +5,5 @@ use Rattle.builtin_chains.proofs.paths.shown_paths.Given as goal
 
 abbrev pub invariant-loop-place : goal.invariant-loop-place
 invariant-loop-place l =
-    map (λ t. t.now) l.paths.items ++ filter_map (shown_before l.path) (reverse (range_with_len 0 l.place-counter))
+    map (λ t. t.now) l.paths.items ++ filter_map (shown_before l.path) (reverse (range_with_len 0 l.place))
     ≡ filter_map (shown_before l.path) (reverse (range_with_len 0 (length l.path + 1)))

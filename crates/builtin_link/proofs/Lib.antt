@@ -1,3 +1,4 @@
 pub mod Seen
 pub mod AllFields
 pub mod NewNames
+pub mod Needs

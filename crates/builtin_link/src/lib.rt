@@ -6,6 +6,7 @@ mod checks;
 mod fields;
 mod globs;
 mod hardware;
+mod keys;
 mod laws;
 mod link;
 mod numbers;

@@ -5,7 +5,8 @@ ghost use Rattle.builtin_devices.specs.Outcomes.{needs_of};
 ghost use Rattle.builtin_link.specs.Link.{by_files, by_flags, by_present, file_for, file_needs, given_keys, is_loopback, name_needs, name_with, needs_with, net_setup_link};
 ghost use Rattle.builtin_link.specs.Link.{looking_actions, properties_by, set_by};
 
-use crate::checks::{add_lacked, checks_of, is_for};
+use crate::checks::{add_lacked, is_for};
+use crate::keys::checks_of;
 use crate::policies::{name_of, present_name};
 use crate::numbers::number_of;
 use builtin_devices::{BuiltinOutcome, add_property, attribute};
@@ -105,6 +106,7 @@ fn add_missing_name(
 }
 
 /// What a file sets, if there is one. Adds what would have to be known with it.
+#[tactic(auto, using(crate::proofs::Needs::in_two))]
 fn set_by(
     alloc: Global,
     event: &Event<'_>,

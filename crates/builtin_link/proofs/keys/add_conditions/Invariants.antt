@@ -1,6 +1,6 @@
 use Rattle.std.proofs.Common.{◌≡◌, ◌++◌, drop, map}
 use Rattle.builtin_link.specs.Checks.{condition_check}
-use Rattle.builtin_link.proofs.checks.add_conditions.Given as goal
+use Rattle.builtin_link.proofs.keys.add_conditions.Given as goal
 
 abbrev pub invariant-loop-condition : goal.invariant-loop-condition
 invariant-loop-condition l =

@@ -61,10 +61,14 @@ abbrev pub name_needs : (name : Option Text) → List Text
 name_needs None = codes "INTERFACE" ∷ []
 name_needs (Some name) = []
 
+-- what would have to be known with a file and the name by it
+abbrev pub needed_with : LinkFileValue → (name : Option Text) → List Text
+needed_with file name = given_keys file.settings property_keys ++ name_needs name
+
 -- what would have to be known with the file for an interface
 abbrev pub needs_with : EventValue → (env : List Pair) → Option LinkFileValue → List Text
 needs_with event env None = []
-needs_with event env (Some file) = given_keys file.settings property_keys ++ name_needs (name_of event env file.settings)
+needs_with event env (Some file) = needed_with file (name_of event env file.settings)
 
 -- the outcome if files are looked at
 unfoldable pub by_files : EventValue → (env : List Pair) → List LinkFileValue → OutcomeValue

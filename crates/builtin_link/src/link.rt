@@ -2,7 +2,7 @@
 ghost use Rattle.std.specs.Prelude.{◌≡◌, ◌∷◌, [], IfOk, OnOk, Some, map, option_copied, option_map};
 ghost use Rattle.text_tables.specs.Texts.{is_among, with_texts};
 ghost use Rattle.builtin_devices.specs.Outcomes.{needs_of};
-ghost use Rattle.builtin_link.specs.Link.{by_files, by_flags, by_present, file_for, file_needs, given_keys, is_loopback, name_needs, name_with, needs_with, net_setup_link};
+ghost use Rattle.builtin_link.specs.Link.{by_files, by_flags, by_present, file_for, file_needs, given_keys, is_loopback, name_needs, name_with, needed_with, needs_with, net_setup_link};
 ghost use Rattle.builtin_link.specs.Link.{looking_actions, properties_by, set_by};
 
 use crate::checks::{add_lacked, is_for};
@@ -105,8 +105,21 @@ fn add_missing_name(
     }
 }
 
-/// What a file sets, if there is one. Adds what would have to be known with it.
+/// Adds what would have to be known with a file and the name by it.
 #[tactic(auto, using(crate::proofs::Needs::in_two))]
+fn add_needed(
+    alloc: Global,
+    file: &LinkFile,
+    name: Option<&[u8]>,
+    needs: &mut OwnedTexts,
+) -> Result<(), AllocError>
+    ensures { OnOk result (needs.new ≡ with_texts needs.old (needed_with file.now (option_map (λ t. t.now) name.entry))) }
+{
+    add_keys(alloc, file.settings(), &PROPERTY_KEYS, needs)?;
+    add_missing_name(alloc, name, needs)
+}
+
+/// What a file sets, if there is one. Adds what would have to be known with it.
 fn set_by(
     alloc: Global,
     event: &Event<'_>,
@@ -121,9 +134,8 @@ fn set_by(
     let Some(file) = file else {
         return Ok(Vec::new(alloc));
     };
-    add_keys(alloc, file.settings(), &PROPERTY_KEYS, needs)?;
     let name = name_of(alloc, event, env, file.settings())?;
-    add_missing_name(alloc, name, needs)?;
+    add_needed(alloc, file, name, needs)?;
     properties_if(alloc, file, name)
 }
 

@@ -76,7 +76,7 @@ _devdry() {
         -r:* | --root:*) _devdry_files '' ;;
         --index:* | --users:* | --groups:*) _devdry_any_files ;;
         --why:*) _devdry_files .rules ;;
-        --format:*) _devdry_words plain gcc github gitlab json human ;;
+        --format:*) _devdry_words plain gcc github gitlab json sarif human ;;
         --ignore:*) _devdry_code_list ;;
         *:-*) _devdry_words "$options" ;;
         *) _devdry_arguments ;;

@@ -363,8 +363,8 @@ ROWS = [
         status=None, each_byte=True),
     *(Row(
         f"faulty rules as {form}", ["verify", f"--format={form}", "--ignore", "S2", "f.rules"],
-        {"f.rules": 'FOO="x"\nKERNEL=="a",TAG+="t" NAME="b"\n'}, output=None, line=None, status=1) for form in ("gcc", "github", "gitlab", "json", "human")),
-    Row("a faulty database file as JSON", ["update", "--format", "json", "--ignore", "H5", "s.hwdb"], {"s.hwdb": "m1\n\nm2\n =x\n"}, output=EMPTY_INDEX, line=None),
+        {"f.rules": 'FOO="x"\nKERNEL=="a",TAG+="t" NAME="b"\n'}, output=None, line=None, status=1) for form in ("gcc", "github", "gitlab", "json", "sarif", "human")),
+    Row("a faulty database file as JSON", ["update", "--format", "json", "--ignore", "H5", "s.hwdb"], {"s.hwdb": "m1\n\nm2\n =x\n"}, output=None, line=None),
     Row(
         "as udev does, with sources and what rules met", ["events", "--udev", "--sources", "--why", "w.rules", "-r", ".", "w.rules"], REPORTED_FILES, REPORTED,
         None),

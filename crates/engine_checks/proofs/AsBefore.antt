@@ -29,7 +29,7 @@ use Rattle.engine_formats.specs.Made.{AreMadeFrom, IsMadeFrom}
 use Rattle.engine_checks.specs.Codes.{has_comments}
 use Rattle.engine_checks.specs.Files.{accounts_by, asked_by, file_text, findings_of, found_with, ignored_by, ignores_counted, rule_diagnostic, rules_found, rules_reported}
 use Rattle.engine_checks.specs.Laws.{messages_in}
-use Rattle.engine_checks.specs.Outcomes.{checks_outcome, checks_said, rules_checks}
+use Rattle.engine_checks.specs.Outcomes.{checks_outcome, checks_said, in_format, rules_checks}
 use Rattle.engine_checks.specs.Reported.{Asked, FileText, merged, file_reported, is_reported}
 use Rattle.engine_checks.proofs.ByLines.{alone}
 
@@ -122,7 +122,8 @@ same_names (m ∷ ms) (d ∷ ds) made = ap₂ (λ n ns. n ∷ ns) made.0.name (s
 module _ (plainly : (ms : List Message) (ds : List DiagnosticValue) → AreMadeFrom ms ds → formatted Plain ds ≡ message_lines ms) where
   same_said : (line : Line) (files : List SourceFile) (ms : List Message) (ds : List DiagnosticValue) → line.format ≡ Plain → AreMadeFrom ms ds → checks_said line files ds ≡ said_of line.summary files ms
   same_said line files ms ds format made =
-      ap₂ (files_said line.summary files) (same_names ms ds made) (ap (λ f. formatted f ds) format ∙ plainly ms ds made)
+      ap (λ f. in_format f (files_said line.summary files (map (λ d. d.name) ds) (formatted line.format ds))) format
+      ∙ ap₂ (files_said line.summary files) (same_names ms ds made) (ap (λ f. formatted f ds) format ∙ plainly ms ds made)
 
   same_rules : (line : Line) (files : List SourceFile) → line.profile ≡ Manual → line.format ≡ Plain → line.lint ≡ false → ignored_by line ≡ [] → rules_checks line files ≡ rules_outcome line files
   unfolding rules_checks rules_outcome set_of_as

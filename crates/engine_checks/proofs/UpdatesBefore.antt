@@ -32,7 +32,7 @@ use Rattle.engine_formats.specs.Formats.{formatted}
 use Rattle.engine_formats.specs.Made.{AreMadeFrom}
 use Rattle.engine_formats.specs.Placing.{placed}
 use Rattle.engine_checks.specs.Files.{asked_by, database_diagnostic, database_found, database_reported, file_text, ignored_by, ignores_counted}
-use Rattle.engine_checks.specs.Outcomes.{database_checks, entries_said, reported_update_outcome}
+use Rattle.engine_checks.specs.Outcomes.{database_checks, entries_said, in_format, reported_update_outcome}
 use Rattle.engine_checks.specs.Reported.{Asked, FileText, file_reported, is_reported}
 use Rattle.engine_checks.proofs.AsBefore.{all_asked, both_made}
 
@@ -152,7 +152,7 @@ module _ (plainly : (ms : List Message) (ds : List DiagnosticValue) → AreMadeF
   same_said line files ds format made =
       let text : formatted line.format ds ≡ message_lines (messages_of files) = ap (λ f. formatted f ds) format ∙ plainly (messages_of files) ds made in
       let said : Text → ℕ → RunOutcome = λ (t : Text) (n : ℕ). record { output = image (entries_of files); messages = t; status = update_status line.strict n } in
-      ap (λ t. said t (length ds)) text ∙ ap (said (message_lines (messages_of files))) (as_many (messages_of files) ds made)
+      ap (λ f. in_format f (said (formatted line.format ds) (length ds))) format ∙ ap (λ t. said t (length ds)) text ∙ ap (said (message_lines (messages_of files))) (as_many (messages_of files) ds made)
 
   same_database : (line : Line) (files : List SourceFile) → line.format ≡ Plain → ignored_by line ≡ [] → All (λ f. length (lines f.bytes) < 2 ^ 32) files
       → database_checks line files ≡ database_outcome (update_outcome line) files

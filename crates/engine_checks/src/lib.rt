@@ -17,6 +17,7 @@ mod database_reported;
 mod file_text;
 mod found;
 mod ignores;
+mod in_format;
 mod laws;
 mod line_codes;
 mod lines_found;

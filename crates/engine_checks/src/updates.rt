@@ -7,6 +7,7 @@ ghost use Rattle.engine_checks.specs.Outcomes.{database_checks, reported_update_
 
 use crate::asked::asked_by;
 use crate::database_reported::database_reported;
+use crate::in_format::in_format;
 use crate::reads::read_files;
 use engine_ends::Line;
 use engine_formats::formatted;
@@ -88,9 +89,10 @@ fn updated(
     ensures said { IfOk result (λ r. said r ≡ updated_by line.now reported.text.items reported.count entries.now.entries) }
     ensures status { IfOk result (λ r. r.status < 3) }
 {
-    Ok(Report {
+    let report = Report {
         output: write_index(alloc, entries)?,
         messages: reported.text,
         status: update_status(line.strict, reported.count),
-    })
+    };
+    Ok(in_format(alloc, line.format, report))
 }

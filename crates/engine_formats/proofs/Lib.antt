@@ -4,8 +4,10 @@ mod Headings
 mod Issues
 mod SameLines
 mod Read
-mod Fingerprints
+mod Counts
+mod Logs
 mod Places
 mod Placement
 mod Counted
+mod Masking
 mod Carets

@@ -11,7 +11,7 @@ use Rattle.builtin_devices.specs.Devices.{attribute, device_by, is_text, type_of
 use Rattle.builtin_devices.specs.Files.{described_devices, file_at}
 use Rattle.builtin_devices.specs.Numbers.{bytes_of}
 use Rattle.builtin_devices.specs.Outcomes.{needs_of}
-use Rattle.builtin_chains.specs.Paths.{kind_at, shown_paths, through_usb}
+use Rattle.builtin_chains.specs.Paths.{is_usb, kind_at, shown_paths}
 use Rattle.builtin_chains.specs.declared.asking.Asker.{Asker}
 use Rattle.builtin_chains.specs.declared.asking.Asker.TheVariants as asker
 use Rattle.builtin_chains.specs.declared.kinds.Kind.{Kind}
@@ -59,10 +59,15 @@ abbrev pub missing_everywhere : EventValue → Asker → List Text
 missing_everywhere event who =
     missing_above event who event.device.path ++ flat_map (λ device. missing_above event who device.path) (described_devices event)
 
--- What usb_id asks for: the devices up to the USB device that the event device belongs to; none if it is one itself.
+-- of the devices with these paths, those that usb_id asks for, up to the first USB device and with that one
+abbrev pub missing_to_usb : EventValue → (paths : List Text) → List Text
+missing_to_usb event [] = []
+missing_to_usb event (path ∷ paths) = missing event asker.UsbId path ++ (if is_usb (kind_at path) then [] else missing_to_usb event paths)
+
+-- what usb_id asks for: the devices up to the USB device that the event device belongs to; none if it is one itself
 abbrev pub usb_words : EventValue → List Text
 usb_words event =
-    if is_text (codes "usb_device") (type_of event.device) then [] else all_missing event asker.UsbId (through_usb (shown_paths event.device.path))
+    if is_text (codes "usb_device") (type_of event.device) then [] else missing_to_usb event (shown_paths event.device.path)
 
 -- what input_id asks for: the input device above, unless the event device reports its kinds of events itself
 abbrev pub input_words : EventValue → List Text

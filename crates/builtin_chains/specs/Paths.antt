@@ -1,5 +1,5 @@
 -- The devices that a path shows: of the folders that it leads through, those whose names say what they are.
-use Rattle.std.specs.Prelude.{ℕ, ◌+◌, ◌==◌, ◌&&◌, ◌||◌, Bool, false, true, is_some, List, [], length, take, reverse, slice_index, filter_map, position}
+use Rattle.std.specs.Prelude.{ℕ, ◌+◌, ◌==◌, ◌&&◌, ◌||◌, Bool, false, true, is_some, List, length, take, reverse, slice_index, filter_map}
 use Rattle.std.specs.Prelude.{Option, Some, None, if◌then◌else◌}
 use Rattle.std.specs.List.{range_with_len}
 use Rattle.text_bytes.specs.Names.{slash}
@@ -29,12 +29,3 @@ shown_paths path = filter_map (shown_before path) (reverse (range_with_len 0 (le
 abbrev pub is_usb : Option Kind → Bool
 is_usb (Some UsbDevice) = true
 is_usb _ = false
-
--- how many come up to a place and at it; none without a place
-abbrev pub count_through : (place : Option ℕ) → ℕ
-count_through None = 0
-count_through (Some place) = place + 1
-
--- the paths up to the first of a USB device, with that one; none without one
-abbrev pub through_usb : List Text → List Text
-through_usb paths = take (count_through (position (λ path. is_usb (kind_at path)) paths)) paths

@@ -1,11 +1,12 @@
 //! What the name of a folder in the path of a device says that it is.
-ghost use Rattle.std.specs.Prelude.{◌≡◌, ◌==◌};
+ghost use Rattle.std.specs.Prelude.{◌≡◌};
 ghost use Rattle.std.specs.Char.{is_ascii_hexdigit};
 ghost use Rattle.std.specs.List.{list_all};
-ghost use Rattle.text_bytes.specs.Numbers.{is_decimal};
-ghost use Rattle.builtin_chains.specs.Kinds.{are_digits, are_numbers, are_so_many, count_of_parts, is_at_port, is_function, is_in_slot};
-ghost use Rattle.builtin_chains.specs.Kinds.{is_interface, is_numbered, is_nvme, is_on_bus, is_target, is_usb_device, kind_of};
+ghost use Rattle.text_bytes.specs.Numbers.{is_decimal, is_digit};
+ghost use Rattle.builtin_chains.specs.Kinds.{are_digits, are_ports, are_two, is_at_port, is_function, is_in_slot};
+ghost use Rattle.builtin_chains.specs.Kinds.{is_interface, is_numbered, is_nvme, is_on_bus, is_place, is_target, is_usb_device, kind_of};
 
+use builtin_devices::address_of;
 use text_bytes::{following, is_digit, split_once};
 
 /// The kind of a device, by its name.
@@ -31,11 +32,18 @@ pub enum Kind {
     Input,
 }
 
+/// Whether a text has only decimal digits.
+fn has_digits(text: &[u8]) -> bool
+    ensures { result ≡ list_all is_digit text.now }
+{
+    text.iter().all(|byte| is_digit(*byte))
+}
+
 /// Whether a text is one digit or more, and nothing else.
 fn is_decimal(text: &[u8]) -> bool
     ensures { result ≡ is_decimal text.now }
 {
-    !text.is_empty() && text.iter().all(|byte| is_digit(*byte))
+    !text.is_empty() && has_digits(text)
 }
 
 /// Whether a text is a number after a start.
@@ -48,26 +56,22 @@ fn is_numbered(start: &[u8], text: &[u8]) -> bool
     }
 }
 
-/// Whether a text is numbers with a byte between each two.
-fn are_numbers(between: u8, text: &[u8]) -> bool
-    ensures { result ≡ are_numbers between text.now }
+/// Whether a text is two numbers with a byte between them.
+fn are_two(between: u8, text: &[u8]) -> bool
+    ensures { result ≡ are_two between text.now }
 {
-    text.split(|byte| *byte == between)
-        .all(|part| is_decimal(part))
+    match split_once(between, text) {
+        Some((first, second)) => is_decimal(first) && is_decimal(second),
+        None => false,
+    }
 }
 
-/// How many parts a text has between such bytes.
-fn count_of_parts(between: u8, text: &[u8]) -> usize
-    ensures { result ≡ count_of_parts between text.now }
+/// Whether a text is ports: numbers with a dot between each two.
+fn are_ports(text: &[u8]) -> bool
+    ensures { result ≡ are_ports text.now }
 {
-    text.split(|byte| *byte == between).count()
-}
-
-/// Whether a text is so many numbers with a byte between each two.
-fn are_so_many(between: u8, count: usize, text: &[u8]) -> bool
-    ensures { result ≡ are_so_many between count text.now }
-{
-    count_of_parts(between, text) == count && are_numbers(between, text)
+    text.split(|byte| *byte == b'.')
+        .all(|port| is_decimal(port))
 }
 
 /// Whether a name is that of a USB device at a port.
@@ -76,7 +80,7 @@ fn is_at_port(name: &[u8]) -> bool
     ensures { result ≡ is_at_port name.now }
 {
     match split_once(b'-', name) {
-        Some((bus, ports)) => is_decimal(bus) && are_numbers(b'.', ports),
+        Some((bus, ports)) => is_decimal(bus) && are_ports(ports),
         None => false,
     }
 }
@@ -87,7 +91,7 @@ fn is_interface(name: &[u8]) -> bool
     ensures { result ≡ is_interface name.now }
 {
     match split_once(b':', name) {
-        Some((device, numbers)) => is_at_port(device) && are_so_many(b'.', 2, numbers),
+        Some((device, numbers)) => is_at_port(device) && are_two(b'.', numbers),
         None => false,
     }
 }
@@ -146,12 +150,23 @@ fn is_usb_device(name: &[u8]) -> bool
     is_numbered(b"usb", name) || is_at_port(name)
 }
 
+/// Whether a text is `HOST:BUS:TARGET`.
+#[tactic(auto, unfolding(crate::specs::Kinds::is_place))]
+fn is_place(text: &[u8]) -> bool
+    ensures { result ≡ is_place text.now }
+{
+    match split_once(b':', text) {
+        Some((host, rest)) => is_decimal(host) && are_two(b':', rest),
+        None => false,
+    }
+}
+
 /// Whether a name is that of a target of SCSI.
 fn is_target(name: &[u8]) -> bool
     ensures { result ≡ is_target name.now }
 {
     match following(b"target", name) {
-        Some(place) => are_so_many(b':', 3, place),
+        Some(place) => is_place(place),
         None => false,
     }
 }
@@ -176,7 +191,7 @@ pub(crate) fn kind_of(name: &[u8]) -> Option<Kind>
         Some(Kind::UsbInterface)
     } else if is_numbered(b"host", name) || is_target(name) {
         Some(Kind::ScsiParent)
-    } else if are_so_many(b':', 4, name) {
+    } else if address_of(name).is_some() {
         Some(Kind::ScsiDevice)
     } else if is_nvme(name) {
         Some(Kind::Nvme)

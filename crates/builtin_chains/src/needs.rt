@@ -1,11 +1,12 @@
 //! What the block would have to report for a builtin that goes up from the event device.
-ghost use Rattle.std.specs.Prelude.{◌≡◌, IfOk, OnOk, flat_map, map, option_map};
+ghost use Rattle.std.specs.Prelude.{◌≡◌, [], IfOk, OnOk, flat_map, map, option_map};
 ghost use Rattle.text_tables.specs.Texts.{with_texts};
-ghost use Rattle.builtin_chains.specs.Needs.{all_missing, input_needs, is_given, is_known_scheme, missing, missing_above, missing_everywhere};
+ghost use Rattle.builtin_chains.specs.Needs.{all_missing, input_needs, is_given, is_known_scheme, missing, missing_above, missing_everywhere, missing_to_usb};
+ghost use Rattle.builtin_chains.specs.Paths.{shown_paths};
 ghost use Rattle.builtin_chains.specs.Needs.{net_needs, other_scheme, path_needs, scheme_words, usb_needs};
 
 use crate::asking::{Asker, asks_for};
-use crate::paths::{kind_at, shown_paths, through_usb};
+use crate::paths::{is_usb, kind_at, shown_paths};
 use crate::virtual_functions::need_physical;
 use builtin_devices::{Devices, attribute, is_text, type_of};
 use device_core::{Device, Event};
@@ -55,6 +56,24 @@ fn need_devices(
     Ok(())
 }
 
+/// Adds the names of those that `usb_id` asks for, up to the first USB device and with that one.
+fn need_to_usb(
+    alloc: Global,
+    devices: &Devices<'_>,
+    paths: &[&[u8]],
+    needs: &mut OwnedTexts,
+) -> Result<(), AllocError>
+    ensures { OnOk result (needs.new ≡ with_texts needs.old (missing_to_usb devices.now (map (λ t. t.now) paths.now))) }
+{
+    for path in paths {
+        need_device(alloc, devices, Asker::UsbId, path, needs)?;
+        if is_usb(kind_at(path)) {
+            return Ok(());
+        }
+    }
+    Ok(())
+}
+
 /// Adds the names of those of the devices that a path shows.
 fn need_above(
     alloc: Global,
@@ -100,6 +119,17 @@ fn missing_everywhere(
     Ok(needs)
 }
 
+/// The names of those that `usb_id` asks for, of the devices that the event's own path shows.
+fn missing_to_usb(alloc: Global, event: &Event<'_>) -> Result<OwnedTexts, AllocError>
+    ensures { IfOk result (λ needs. needs ≡ with_texts [] (missing_to_usb event.now (shown_paths event.now.device.path))) }
+{
+    let devices = Devices::new(alloc, event)?;
+    let paths = shown_paths(alloc, event.device().path())?;
+    let mut needs = OwnedTexts::new(alloc);
+    need_to_usb(alloc, &devices, &paths, &mut needs)?;
+    Ok(needs)
+}
+
 /// Whether names by a naming scheme are those of v257.
 fn is_known_scheme(scheme: &[u8]) -> bool
     ensures { result ≡ is_known_scheme scheme.now }
@@ -134,20 +164,10 @@ fn need_scheme(
 pub fn usb_needs(alloc: Global, event: &Event<'_>) -> Result<OwnedTexts, AllocError>
     ensures { IfOk result (λ needs. needs ≡ usb_needs event.now) }
 {
-    let mut needs = OwnedTexts::new(alloc);
-    let device = event.device();
-    if !is_text(b"usb_device", type_of(device)) {
-        let devices = Devices::new(alloc, event)?;
-        let paths = shown_paths(alloc, device.path())?;
-        need_devices(
-            alloc,
-            &devices,
-            Asker::UsbId,
-            through_usb(&paths),
-            &mut needs,
-        )?;
+    if is_text(b"usb_device", type_of(event.device())) {
+        return Ok(OwnedTexts::new(alloc));
     }
-    Ok(needs)
+    missing_to_usb(alloc, event)
 }
 
 /// What a block would have to report for `path_id` about the devices above: the names of those that the event's path
@@ -165,12 +185,13 @@ pub fn path_needs(alloc: Global, event: &Event<'_>) -> Result<OwnedTexts, AllocE
 pub fn input_needs(alloc: Global, event: &Event<'_>) -> Result<OwnedTexts, AllocError>
     ensures { IfOk result (λ needs. needs ≡ input_needs event.now) }
 {
-    let mut needs = OwnedTexts::new(alloc);
     let device = event.device();
-    if attribute(device, b"capabilities/ev").is_none() {
-        let devices = Devices::new(alloc, event)?;
-        need_above(alloc, &devices, Asker::InputId, device.path(), &mut needs)?;
+    let mut needs = OwnedTexts::new(alloc);
+    if attribute(device, b"capabilities/ev").is_some() {
+        return Ok(needs);
     }
+    let devices = Devices::new(alloc, event)?;
+    need_above(alloc, &devices, Asker::InputId, device.path(), &mut needs)?;
     Ok(needs)
 }
 

@@ -1,6 +1,6 @@
 //! The devices that a path shows.
-ghost use Rattle.std.specs.Prelude.{◌≡◌, ◌≤◌, IfOk, length, map, option_map, position};
-ghost use Rattle.builtin_chains.specs.Paths.{count_through, ends_at, is_usb, kind_at, shown_before, shown_paths, through_usb};
+ghost use Rattle.std.specs.Prelude.{◌≡◌, ◌≤◌, IfOk, length, map, option_map};
+ghost use Rattle.builtin_chains.specs.Paths.{ends_at, is_usb, kind_at, shown_before, shown_paths};
 
 use crate::kinds::{Kind, kind_of};
 use std::alloc::{AllocError, Global};
@@ -51,26 +51,8 @@ pub(crate) fn shown_paths(alloc: Global, path: &[u8]) -> Result<Vec<&[u8]>, Allo
 }
 
 /// Whether this is the kind of a USB device.
-fn is_usb(kind: Option<Kind>) -> bool
+pub(crate) fn is_usb(kind: Option<Kind>) -> bool
     ensures { result ≡ is_usb kind }
 {
     matches!(kind, Some(Kind::UsbDevice))
-}
-
-/// How many of some paths there are up to the first of a USB device, with that one.
-fn count_through_usb(paths: &[&[u8]]) -> usize
-    ensures value { result ≡ count_through (position (λ path. is_usb (kind_at path)) (map (λ t. t.now) paths.now)) }
-    ensures within { result ≤ length paths.now }
-{
-    match paths.iter().position(|path| is_usb(kind_at(path))) {
-        Some(place) => place + 1,
-        None => 0,
-    }
-}
-
-/// The paths up to the first of a USB device, with that one.
-pub(crate) fn through_usb<'p, 'd>(paths: &'p [&'d [u8]]) -> &'p [&'d [u8]]
-    ensures { map (λ t. t.now) result.now ≡ through_usb (map (λ t. t.now) paths.now) }
-{
-    paths.split_at(count_through_usb(paths)).0
 }

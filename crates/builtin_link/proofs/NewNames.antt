@@ -32,9 +32,9 @@ pub either_fine : (present first second : Option Text) → IsFine present first 
 either_fine present None second f g = g
 either_fine present (Some text) second f g = f
 
-pub choice_fine : (present yes no : Option Text) (chosen : Bool) → IsFine present yes → IsFine present no → IsFine present (if chosen then yes else no)
-choice_fine present yes no true f g = f
-choice_fine present yes no false f g = g
+pub choice_fine : (present chosen other : Option Text) (choice : Bool) → IsFine present chosen → IsFine present other → IsFine present (if choice then chosen else other)
+choice_fine present chosen other true f g = f
+choice_fine present chosen other false f g = g
 
 pub checked_fine : (present name : Option Text) → IsFine present (option_and_then valid_name name)
 checked_fine present None = none_fine present

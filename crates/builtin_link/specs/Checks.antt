@@ -43,22 +43,29 @@ abbrev pub check_of : (holds : Bool) → Check
 check_of holds = if holds then Holds else Fails
 
 -- whether the name, the path .. fits the words that are given for it; a word with `!` may fit even what is not there
-abbrev pub text_check : List Text → Option Text → Check
+unfoldable pub text_check : List Text → Option Text → Check
 text_check words text = if is_empty words then Absent else check_of (passes_if words text)
 
 -- the same for what each interface has: without it, it is not known
-abbrev pub known_check : Need → List Text → Option Text → Check
+unfoldable pub known_check : Need → List Text → Option Text → Check
 known_check need words None = if is_empty words then Absent else Lacks need
 known_check need words (Some text) = text_check words (Some text)
 
 -- whether an address is one of these words: not known if a word is no address of six or twenty bytes
-abbrev pub address_check : Need → List Text → Option Text → Check
-address_check need words None = if is_empty words then Absent else Lacks need
-address_check need words (Some text) =
-    if is_empty words then Absent
-    else if has_address words text then Holds
+abbrev pub one_of_check : List Text → Text → Check
+one_of_check words text =
+    if has_address words text then Holds
     else if are_addresses words then Fails
     else Lacks MacAddress
+
+-- the same for an address that the block may lack
+abbrev pub lacking_check : Need → List Text → Option Text → Check
+lacking_check need words None = Lacks need
+lacking_check need words (Some text) = one_of_check words text
+
+-- whether an address is one of the words that are given for it
+unfoldable pub address_check : Need → List Text → Option Text → Check
+address_check need words text = if is_empty words then Absent else lacking_check need words text
 
 -- the address of the hardware, if the block says that the one of the interface is it
 unfoldable pub permanent_address : EventValue → Option Text
@@ -68,7 +75,7 @@ permanent_address event =
     else None
 
 -- whether the words are true of the properties
-abbrev pub property_check : List Pair → List Text → Check
+unfoldable pub property_check : List Pair → List Text → Check
 property_check env words = if is_empty words then Absent else check_of (are_true_of env words)
 
 -- a condition on the machine, of which a block says nothing, by its key; an empty value asks nothing

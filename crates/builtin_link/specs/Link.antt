@@ -56,11 +56,15 @@ abbrev pub name_with : EventValue → (env : List Pair) → Option LinkFileValue
 name_with event env None = None
 name_with event env (Some file) = name_of event env file.settings
 
+-- what would have to be known if there is no name
+abbrev pub name_needs : (name : Option Text) → List Text
+name_needs None = codes "INTERFACE" ∷ []
+name_needs (Some name) = []
+
 -- what would have to be known with the file for an interface
 abbrev pub needs_with : EventValue → (env : List Pair) → Option LinkFileValue → List Text
 needs_with event env None = []
-needs_with event env (Some file) =
-    given_keys file.settings property_keys ++ (if is_some (name_of event env file.settings) then [] else codes "INTERFACE" ∷ [])
+needs_with event env (Some file) = given_keys file.settings property_keys ++ name_needs (name_of event env file.settings)
 
 -- the outcome if files are looked at
 unfoldable pub by_files : EventValue → (env : List Pair) → List LinkFileValue → OutcomeValue

@@ -69,13 +69,13 @@ given_name settings = fold with_name None settings
 unfoldable pub policies_of : List Setting → List Text
 policies_of settings = words_of Plain (last_of link_section (codes "NamePolicy") settings)
 
--- the value of a word `net.ifnames=VALUE` of the kernel's command line
-abbrev pub switch_of : (word : Text) → Option Text
-switch_of word = following (codes "net.ifnames=") word
+-- the value of a word `net.ifnames=VALUE` of the kernel's command line, or of those before it
+abbrev pub with_switch : Option Text → (word : Text) → Option Text
+with_switch held word = option_or (following (codes "net.ifnames=") word) held
 
 -- the value that counts: the last one
 abbrev pub last_switch : List Text → Option Text
-last_switch words = fold (λ held word. option_or (switch_of word) held) None words
+last_switch words = fold with_switch None words
 
 -- the words that mean no
 abbrev pub no_words : List Text

@@ -1,14 +1,13 @@
 //! Whether a `.link` file is for an interface, and what a block would have to report to tell.
-ghost use Rattle.std.specs.Prelude.{◌≡◌, ◌++◌, IfOk, OnOk, Some, codes, filter_map, map, option_map};
+ghost use Rattle.std.specs.Prelude.{◌≡◌, ◌++◌, IfOk, OnOk, codes, filter_map, map, option_map};
 ghost use Rattle.std.specs.List.{list_all, list_any};
 ghost use Rattle.text_tables.specs.Texts.{with_texts};
-ghost use Rattle.builtin_link.specs.Checks.{address_check, check_of, checks_of, condition_check, is_for, is_given, is_met, is_unknown, kind_checks, known_check};
+ghost use Rattle.builtin_link.specs.Checks.{address_check, check_of, checks_of, condition_check, is_for, is_given, is_met, is_unknown, kind_checks, known_check, lacking_check};
 ghost use Rattle.builtin_devices.specs.Devices.{attribute};
 ghost use Rattle.link_files.specs.Lists.{list_of};
 ghost use Rattle.link_files.specs.declared.words.WordKind.TheVariants.{Plain};
-ghost use Rattle.builtin_link.specs.declared.checks.Need.{Need};
 ghost use Rattle.builtin_link.specs.declared.checks.Need.TheVariants.{Address, PermanentAddress};
-ghost use Rattle.builtin_link.specs.Checks.{lacked_word, lacked_words, may_be_for, name_checks, permanent_address, property_check, text_check, word_of};
+ghost use Rattle.builtin_link.specs.Checks.{lacked_word, lacked_words, may_be_for, name_checks, one_of_check, permanent_address, property_check, text_check, word_of};
 
 use crate::addresses::{are_addresses, has_address};
 use crate::globs::{are_true_of, passes_if};
@@ -150,6 +149,7 @@ impl Check {
 }
 
 /// Whether a text fits the words that are given for it.
+#[tactic(auto, unfolding(crate::specs::Checks::text_check))]
 fn text_check(alloc: Global, words: &[Bytes], text: Option<&[u8]>) -> Result<Check, AllocError>
     ensures { IfOk result (λ check. check ≡ text_check words.now (option_map (λ t. t.now) text.entry)) }
 {
@@ -160,6 +160,7 @@ fn text_check(alloc: Global, words: &[Bytes], text: Option<&[u8]>) -> Result<Che
 }
 
 /// The same for what each interface has.
+#[tactic(auto, unfolding(crate::specs::Checks::known_check))]
 fn known_check(
     alloc: Global,
     need: Need,
@@ -175,13 +176,10 @@ fn known_check(
     }
 }
 
-/// Whether an address that is there is one of these words.
-fn given_address_check(alloc: Global, words: &[Bytes], text: &[u8]) -> Result<Check, AllocError>
-    ensures { (need : Need) → IfOk result (λ check. check ≡ address_check need words.now (Some text.now)) }
+/// Whether an address is one of these words.
+fn one_of_check(alloc: Global, words: &[Bytes], text: &[u8]) -> Result<Check, AllocError>
+    ensures { IfOk result (λ check. check ≡ one_of_check words.now text.now) }
 {
-    if words.is_empty() {
-        return Ok(Check::Absent);
-    }
     if has_address(alloc, words, text)? {
         return Ok(Check::Holds);
     }
@@ -191,7 +189,23 @@ fn given_address_check(alloc: Global, words: &[Bytes], text: &[u8]) -> Result<Ch
     Ok(Check::Lacks(Need::MacAddress))
 }
 
-/// Whether an address is one of these words.
+/// The same for an address that the block may lack.
+fn lacking_check(
+    alloc: Global,
+    need: Need,
+    words: &[Bytes],
+    text: Option<&[u8]>,
+) -> Result<Check, AllocError>
+    ensures { IfOk result (λ check. check ≡ lacking_check need words.now (option_map (λ t. t.now) text.entry)) }
+{
+    match text {
+        Some(text) => one_of_check(alloc, words, text),
+        None => Ok(Check::Lacks(need)),
+    }
+}
+
+/// Whether an address is one of the words that are given for it.
+#[tactic(auto, unfolding(crate::specs::Checks::address_check))]
 fn address_check(
     alloc: Global,
     need: Need,
@@ -200,11 +214,10 @@ fn address_check(
 ) -> Result<Check, AllocError>
     ensures { IfOk result (λ check. check ≡ address_check need words.now (option_map (λ t. t.now) text.entry)) }
 {
-    match text {
-        Some(text) => given_address_check(alloc, words, text),
-        None if words.is_empty() => Ok(Check::Absent),
-        None => Ok(Check::Lacks(need)),
+    if words.is_empty() {
+        return Ok(Check::Absent);
     }
+    lacking_check(alloc, need, words, text)
 }
 
 /// The address of the hardware, if the block says that the one of the interface is it.
@@ -220,6 +233,7 @@ fn permanent_address<'a>(event: &Event<'a>) -> Option<&'a [u8]>
 }
 
 /// Whether the words are true of the properties.
+#[tactic(auto, unfolding(crate::specs::Checks::property_check))]
 fn property_check(alloc: Global, env: &CowPairs<'_>, words: &[Bytes]) -> Result<Check, AllocError>
     ensures { IfOk result (λ check. check ≡ property_check env.now words.now) }
 {

@@ -1,8 +1,8 @@
 //! The builtin.
-ghost use Rattle.std.specs.Prelude.{◌≡◌, ◌∷◌, [], IfOk, OnOk, map, option_copied, option_map};
+ghost use Rattle.std.specs.Prelude.{◌≡◌, ◌∷◌, [], IfOk, OnOk, Some, map, option_copied, option_map};
 ghost use Rattle.text_tables.specs.Texts.{is_among, with_texts};
 ghost use Rattle.builtin_devices.specs.Outcomes.{needs_of};
-ghost use Rattle.builtin_link.specs.Link.{by_files, by_flags, by_present, file_for, file_needs, given_keys, is_loopback, name_with, needs_with, net_setup_link};
+ghost use Rattle.builtin_link.specs.Link.{by_files, by_flags, by_present, file_for, file_needs, given_keys, is_loopback, name_needs, name_with, needs_with, net_setup_link};
 ghost use Rattle.builtin_link.specs.Link.{looking_actions, properties_by, set_by};
 
 use crate::checks::{add_lacked, checks_of, is_for};
@@ -76,6 +76,34 @@ fn properties_by(
     Ok(properties)
 }
 
+/// What a file sets, if there is a name.
+fn properties_if(
+    alloc: Global,
+    file: &LinkFile,
+    name: Option<&[u8]>,
+) -> Result<Vec<(Bytes, Bytes)>, AllocError>
+    ensures { IfOk result (λ properties. properties.items ≡ set_by (Some file.now) (option_map (λ t. t.now) name.entry)) }
+{
+    match name {
+        Some(name) => properties_by(alloc, file, name),
+        None => Ok(Vec::new(alloc)),
+    }
+}
+
+/// Adds what would have to be known if there is no name.
+fn add_missing_name(
+    alloc: Global,
+    name: Option<&[u8]>,
+    needs: &mut OwnedTexts,
+) -> Result<(), AllocError>
+    ensures { OnOk result (needs.new ≡ with_texts needs.old (name_needs (option_map (λ t. t.now) name.entry))) }
+{
+    match name {
+        Some(_) => Ok(()),
+        None => needs.add(alloc, b"INTERFACE"),
+    }
+}
+
 /// What a file sets, if there is one. Adds what would have to be known with it.
 fn set_by(
     alloc: Global,
@@ -92,13 +120,9 @@ fn set_by(
         return Ok(Vec::new(alloc));
     };
     add_keys(alloc, file.settings(), &PROPERTY_KEYS, needs)?;
-    match name_of(alloc, event, env, file.settings())? {
-        Some(name) => properties_by(alloc, file, name),
-        None => {
-            needs.add(alloc, b"INTERFACE")?;
-            Ok(Vec::new(alloc))
-        }
-    }
+    let name = name_of(alloc, event, env, file.settings())?;
+    add_missing_name(alloc, name, needs)?;
+    properties_if(alloc, file, name)
 }
 
 /// The outcome if files are looked at.

@@ -6,7 +6,7 @@ ghost use Rattle.text_tables.specs.Texts.{same_text};
 ghost use Rattle.link_files.specs.Words.{words_of};
 ghost use Rattle.link_files.specs.declared.words.WordKind.TheVariants.{Glob};
 ghost use Rattle.builtin_link.specs.Policies.{given_name, is_no, keeps_name, last_switch, name_by, name_by_policies, name_left, name_of, name_source, new_name};
-ghost use Rattle.builtin_link.specs.Policies.{policies_count, policies_of, present_name, property_of, with_name};
+ghost use Rattle.builtin_link.specs.Policies.{policies_count, policies_of, present_name, property_of, with_name, with_switch};
 
 use crate::numbers::own_number;
 use builtin_devices::{file_at, is_number};
@@ -131,15 +131,23 @@ fn policies_of(alloc: Global, settings: &[Setting]) -> Result<Vec<Bytes>, AllocE
     )
 }
 
+/// The value of a word `net.ifnames=VALUE`, or of those before it.
+fn with_switch<'w>(held: Option<&'w [u8]>, word: &'w [u8]) -> Option<&'w [u8]>
+    ensures { option_map (λ t. t.now) result ≡ with_switch (option_map (λ t. t.now) held.entry) word.now }
+{
+    match following(b"net.ifnames=", word) {
+        Some(value) => Some(value),
+        None => held,
+    }
+}
+
 /// The value of the last word `net.ifnames=VALUE`.
 fn last_switch(words: &[Bytes]) -> Option<&[u8]>
     ensures { option_map (λ t. t.now) result ≡ last_switch words.now }
 {
     let mut held = None;
     for word in words {
-        if let Some(value) = following(b"net.ifnames=", word.as_slice()) {
-            held = Some(value);
-        }
+        held = with_switch(held, word.as_slice());
     }
     held
 }

@@ -1,11 +1,12 @@
 //! The line that the matches of a parse mean.
 ghost use Rattle.std.specs.Prelude.{◌≡◌, IfOk};
 ghost use Rattle.clap.specs.Words.{first_of, found_of, rows_of};
-ghost use Rattle.devdry_words.specs.Lines.{IsUnreadFile, Reads, format_named, format_of, profile_of};
+ghost use Rattle.devdry_words.specs.Lines.{IsUnreadFile, Reads, account_path, asks_every, color_named, color_of, format_named, format_of, input_name_of, is_set_or_every, profile_of};
 
-use crate::values::{is_given, parts, text, texts, value};
+use crate::ignored::ignored_codes;
+use crate::values::{is_given, text, texts, value};
 use clap::ArgMatches;
-use engine_ends::{AccountFile, Format, Line, Verb};
+use engine_ends::{AccountFile, Color, Format, Line, Verb};
 use std::alloc::{AllocError, Global};
 use text_bytes::{Bytes, Profile};
 
@@ -19,6 +20,7 @@ fn format_named(name: &str) -> Option<Format>
         "github" => Some(Format::Github),
         "gitlab" => Some(Format::Gitlab),
         "json" => Some(Format::Json),
+        "sarif" => Some(Format::Sarif),
         "human" => Some(Format::Human),
         _ => None,
     }
@@ -34,26 +36,95 @@ pub(crate) fn format_of(matches: &ArgMatches<'_>) -> Option<Format>
     }
 }
 
-/// The profile by which matches ask to read and evaluate rules.
-fn profile_of(matches: &ArgMatches<'_>) -> Profile
-    ensures { result ≡ profile_of (rows_of (found_of matches.now)) }
+/// When messages for people are in colors, by its name, if there is one.
+fn color_named(name: &str) -> Option<Color>
+    ensures { result ≡ color_named name.now }
 {
-    if is_given(matches, "udev") {
+    match name {
+        "auto" => Some(Color::Auto),
+        "always" => Some(Color::Always),
+        "never" => Some(Color::Never),
+        _ => None,
+    }
+}
+
+/// When matches ask for colors, by the terminal if they do not ask; `None` if the name is unknown.
+pub(crate) fn color_of(matches: &ArgMatches<'_>) -> Option<Color>
+    ensures { result ≡ color_of (rows_of (found_of matches.now)) }
+{
+    match value(matches, "color") {
+        Some(name) => color_named(name),
+        None => Some(Color::Auto),
+    }
+}
+
+/// The name of the standard input as a file, `-` if matches give it none.
+fn input_name_of<'a>(matches: &ArgMatches<'a>) -> &'a str
+    ensures { result.now ≡ input_name_of (rows_of (found_of matches.now)) }
+{
+    match value(matches, "stdin-name") {
+        Some(name) => name,
+        None => "-",
+    }
+}
+
+/// Whether every check is asked for: `verify` is strict.
+fn asks_every(verb: Verb, matches: &ArgMatches<'_>) -> bool
+    ensures { result ≡ asks_every verb (rows_of (found_of matches.now)) }
+{
+    match verb {
+        Verb::Verify => is_given(matches, "strict"),
+        Verb::Update | Verb::Query | Verb::Events => false,
+    }
+}
+
+/// Whether a flag is given, or every check is asked for, which is more.
+fn is_given_or_every(verb: Verb, matches: &ArgMatches<'_>, id: &str) -> bool
+    ensures { result ≡ is_set_or_every verb id.now (rows_of (found_of matches.now)) }
+{
+    is_given(matches, id) || asks_every(verb, matches)
+}
+
+/// The profile by which matches ask to read and evaluate rules.
+fn profile_of(verb: Verb, matches: &ArgMatches<'_>) -> Profile
+    ensures { result ≡ profile_of verb (rows_of (found_of matches.now)) }
+{
+    if is_given_or_every(verb, matches, "udev") {
         Profile::Udev
     } else {
         Profile::Manual
     }
 }
 
-/// The file of users or groups that an option names, if it was given. None of its bytes has been read yet.
-fn account_file<'a>(alloc: Global, matches: &ArgMatches<'a>, id: &str) -> Option<AccountFile<'a>>
-    ensures { IsUnreadFile (first_of id.now (rows_of (found_of matches.now))) result }
+/// A file of users or groups, of which no byte has been read yet.
+fn unread_file<'a>(alloc: Global, path: &'a str, of_root: bool) -> AccountFile<'a>
+    ensures place { (result.path.now, result.of_root) ≡ (path.entry.now, of_root) }
+    ensures unread { result.bytes ≡ [] }
 {
-    let path = value(matches, id)?;
-    Some(AccountFile {
+    AccountFile {
         path,
+        of_root,
         bytes: Bytes::new(Vec::new(alloc)),
-    })
+    }
+}
+
+/// The file of users or groups that an option names, if it was given; if it was not and every check is asked for,
+/// that of the root, at its own path. None of its bytes has been read yet.
+fn account_file<'a>(
+    alloc: Global,
+    verb: Verb,
+    matches: &ArgMatches<'a>,
+    id: &str,
+    own: &'a str,
+) -> Option<AccountFile<'a>>
+    ensures { IsUnreadFile (account_path (asks_every verb (rows_of (found_of matches.now)))
+        (first_of id.now (rows_of (found_of matches.now))) own.entry.now) result }
+{
+    match value(matches, id) {
+        Some(path) => Some(unread_file(alloc, path, false)),
+        None if asks_every(verb, matches) => Some(unread_file(alloc, own, true)),
+        None => None,
+    }
 }
 
 /// The line of a verb below a root, with these matches.
@@ -69,6 +140,8 @@ pub(crate) fn line_with<'a>(
         verb,
         root,
         files: texts(alloc, matches, "FILE")?,
+        added: texts(alloc, matches, "with")?,
+        input_name: input_name_of(matches),
         index: value(matches, "index"),
         strict: is_given(matches, "strict"),
         sources: is_given(matches, "sources"),
@@ -77,12 +150,14 @@ pub(crate) fn line_with<'a>(
         modalias: text(matches, "MODALIAS"),
         summary: !is_given(matches, "no-summary"),
         style: !is_given(matches, "no-style"),
-        lint: is_given(matches, "lint"),
+        lint: is_given_or_every(verb, matches, "lint"),
         format: format_of(matches).unwrap_or(Format::Plain),
-        all: is_given(matches, "all"),
-        ignored: parts(alloc, matches, "ignore")?,
-        profile: profile_of(matches),
-        users: account_file(alloc, matches, "users"),
-        groups: account_file(alloc, matches, "groups"),
+        color: color_of(matches).unwrap_or(Color::Auto),
+        all: is_given_or_every(verb, matches, "all"),
+        ignored: ignored_codes(alloc, matches)?,
+        profile: profile_of(verb, matches),
+        users: account_file(alloc, verb, matches, "users", "/etc/passwd"),
+        groups: account_file(alloc, verb, matches, "groups", "/etc/group"),
+        links: Vec::new(alloc),
     })
 }

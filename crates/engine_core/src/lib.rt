@@ -19,7 +19,7 @@ pub use asked::AskedTables;
 pub use comparing::serve_compare;
 pub use engine_answers::Tables;
 pub use engine_ends::{
-    DeviceFault, Format, Line, LineFault, MemorySink, MemorySource, Request, Sink, SinkOver,
+    Color, DeviceFault, Format, Line, LineFault, MemorySink, MemorySource, Request, Sink, SinkOver,
     Source, SourceOver, Verb, deliver, hand_on, hand_on_each, report_failure, report_in_pieces,
     report_out_of_memory, write_all,
 };

@@ -22,7 +22,7 @@ pub use device::{DeviceFault, Sink, Source};
 pub use escaping::{escaped_count, is_plain, push_escaped};
 pub use folders::folder_path;
 pub use kinds::same_kind;
-pub use line::{AccountFile, Format, Line, LineFault, Request, Verb};
+pub use line::{AccountFile, Color, Format, Line, LineFault, Request, Verb};
 pub use memory_sink::MemorySink;
 pub use memory_source::MemorySource;
 pub use places::{push_place, push_word};

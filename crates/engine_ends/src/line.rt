@@ -4,6 +4,7 @@
 //! needs another. Which files a line is about is defined here too, so that the crate that reads files and the one
 //! that answers from them can't differ.
 
+use link_files::LinkFile;
 use std::error::Error;
 use std::fmt;
 use text_bytes::{Bytes, Profile};
@@ -34,10 +35,23 @@ pub enum Format {
     Gitlab,
     /// One JSON object a line.
     Json,
+    /// A log of static analysis, as SARIF 2.1.0 has it.
+    Sarif,
     /// For people: the line with its place marked, and how to mend it.
     Human,
     /// The same in colors, for a terminal. No word names it.
     HumanInColor,
+}
+
+/// When messages for people are in colors.
+#[derive(Clone, Copy, Debug, PartialEq, Eq)]
+pub enum Color {
+    /// If they go to a terminal, and the environment does not refuse colors.
+    Auto,
+    /// Always.
+    Always,
+    /// Never.
+    Never,
 }
 
 /// A file that lists users or groups, in the form of /etc/passwd or of /etc/group.
@@ -45,6 +59,9 @@ pub enum Format {
 pub struct AccountFile<'a> {
     /// Its path, as it is named.
     pub path: &'a str,
+    /// Whether it is that of the root: its path is that inside the root, and nothing is known of its names if it is
+    /// not there.
+    pub of_root: bool,
     /// Its bytes; empty before it is read.
     pub bytes: Bytes,
 }
@@ -56,8 +73,13 @@ pub struct Line<'a> {
     pub verb: Verb,
     /// What comes before each folder; empty if nothing was given.
     pub root: &'a str,
-    /// The files that are named, in the order given.
+    /// The files that are named, in the order given; `-` among them is the standard input.
     pub files: Vec<&'a str>,
+    /// The files that stand among those of the folders as if they were in the first of these, by their names, in the
+    /// order given.
+    pub added: Vec<&'a str>,
+    /// The name of the standard input as a file, `-` if none was given.
+    pub input_name: &'a str,
     /// The index that is named, if any: it replaces the database's folders. `update` and `verify` name none.
     pub index: Option<&'a str>,
     /// Whether a message makes `update` fail.
@@ -76,9 +98,11 @@ pub struct Line<'a> {
     pub style: bool,
     /// Whether `verify` also reports rules that are most likely not what was meant.
     pub lint: bool,
-    /// How `verify` and `update` write messages; plain for the other subcommands.
+    /// How `verify` and `update` write messages, and `events` and `compare` their answers; plain for the others.
     pub format: Format,
-    /// Whether `verify` and `update` go on after what can't be read.
+    /// When messages for people are in colors.
+    pub color: Color,
+    /// Whether the run goes on after what can't be read, and fails if there is no file.
     pub all: bool,
     /// The codes of the messages that `verify` and `update` leave out, in the order given; `comments` among them
     /// says that comments in the files count, too.
@@ -90,6 +114,9 @@ pub struct Line<'a> {
     pub users: Option<AccountFile<'a>>,
     /// The groups, likewise.
     pub groups: Option<AccountFile<'a>>,
+    /// The `.link` files by which `events` and `compare` name interfaces if they evaluate rules as udev does, in order;
+    /// none before they are read.
+    pub links: Vec<LinkFile>,
 }
 
 /// What the words of a command line ask for.

@@ -2,7 +2,7 @@
 //!
 //! Only the functions of the first part own the devices and what they took: a function that owns none of them, and
 //! only says what a run should give, is quick to check.
-use engine_core::{Format, Line, MemorySink, MemorySource, Verb, serve};
+use engine_core::{Color, Format, Line, MemorySink, MemorySource, Verb, serve};
 use std::alloc::{AllocError, Global};
 use std::test::Fail;
 use text_bytes::{Bytes, FileKind, Profile, SourceFile};
@@ -76,6 +76,8 @@ pub(crate) fn line<'a>(alloc: Global, verb: Verb, modalias: &'a str) -> Line<'a>
         verb,
         root: "",
         files: Vec::new(alloc),
+        added: Vec::new(alloc),
+        input_name: "-",
         strict: false,
         sources: false,
         why: Vec::new(alloc),
@@ -86,11 +88,13 @@ pub(crate) fn line<'a>(alloc: Global, verb: Verb, modalias: &'a str) -> Line<'a>
         style: true,
         lint: false,
         format: Format::Plain,
+        color: Color::Auto,
         all: false,
         ignored: Vec::new(alloc),
         profile: Profile::Manual,
         users: None,
         groups: None,
+        links: Vec::new(alloc),
     }
 }
 

@@ -1,4 +1,0 @@
-pub mod Seen
-pub mod AllFields
-pub mod NewNames
-pub mod Needs

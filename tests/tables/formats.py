@@ -311,7 +311,7 @@ ROWS = [
         output=Read(gitlab_report, [])),
     *(Row(f"a report and the lines about what can't be read go apart, {form}", f"verify --all --format={form} r.rules no", {"r.rules": MISTAKES},
           output=SAID[form], messages="devdry: cannot read no: not found\n", status=3) for form in REPORTS),
-    *(Row(f"lines of the same text are counted, and keep their fingerprints below a line more, {form}", f"verify --format={form} r.rules",
+    *(Row(f"lines of the same text are counted, and keep their fingerprints below {'a' if head else 'no'} line more, {form}", f"verify --format={form} r.rules",
           {"r.rules": f'{head}FOO="1"\nFOO="1", BAR="2"\nFOO="1"\n'}, status=1,
           output=Read(lambda text, of=reader: [it[-1] for it in of(text)],
                       ['1:V2:r.rules:FOO="1"', '1:V2:r.rules:FOO="1", BAR="2"', '2:V2:r.rules:FOO="1"']))

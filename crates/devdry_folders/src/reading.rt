@@ -65,11 +65,7 @@ fn survey_for<D: Disk>(alloc: Global, disk: &D, line: &Line<'_>) -> Result<Surve
 }
 
 /// A survey of all that a line asks for but an index.
-fn files_survey_for<D: Disk>(
-    alloc: Global,
-    disk: &D,
-    line: &Line<'_>,
-) -> Result<Survey, AllocError>
+fn files_survey_for<D: Disk>(alloc: Global, disk: &D, line: &Line<'_>) -> Result<Survey, AllocError>
     ensures { IfOk result (IsFilesSurveyFor (D.may_answer disk.now) line.now) }
 {
     Ok(Survey {

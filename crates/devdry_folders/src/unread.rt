@@ -102,7 +102,5 @@ pub(crate) fn is_one_of(kinds: &[FileKind], kind: FileKind) -> bool
 pub(crate) fn has_files(kinds: &[FileKind], visits: &[Visit]) -> bool
     ensures { result ≡ has_files kinds.now visits.now }
 {
-    visits
-        .iter()
-        .any(|visit| is_one_of(kinds, visit.kind) && has_file(&visit.scan.sights))
+    visits.iter().any(|visit| is_one_of(kinds, visit.kind) && has_file(&visit.scan.sights))
 }

@@ -38,6 +38,7 @@ const DATABASE_FILES: &str = "Database files to read in place of the folders";
 const RULES_FILES: &str = "Rules files to read in place of the folders";
 
 const MESSAGES_FAIL: &str = "Exit with status 1 if there is a message";
+
 const EVERY_CHECK: &str = "Make every check: --lint, --udev, --all, users and groups of the root";
 
 const LINT_RULES: &str = "Also tell of rules that are most likely not the ones that were meant";

@@ -41,7 +41,8 @@ const EMPTY_SIDE: &str =
 For more information, try '--help'.
 ";
 
-const NO_UDEV: &str = "error: the arguments '--users <FILE>' and '--groups <FILE>' need '--udev' or '--strict'
+const NO_UDEV: &str =
+    "error: the arguments '--users <FILE>' and '--groups <FILE>' need '--udev' or '--strict'
 
 Usage: devdry verify --udev --users <FILE> --groups <FILE> [FILE]...
 

@@ -17,7 +17,9 @@ pub(crate) fn in_format(alloc: Global, format: Format, report: Report) -> Report
         return report;
     }
     let Report {
-        messages, status, ..
+        messages,
+        status,
+        ..
     } = report;
     Report {
         output: messages,

@@ -56,11 +56,13 @@ region_object d = object_of (
 
 -- where a diagnostic is
 abbrev pub place_object : DiagnosticValue → Json
-place_object d = object_of (
-    (codes "physicalLocation", object_of (
-    (codes "artifactLocation", object_of ((codes "uri", text_value (uri_of d.path)) ∷ []))
-    ∷ (codes "region", region_object d)
-    ∷ []))
+place_object d = object_of ((
+  codes "physicalLocation",
+  object_of (
+      (codes "artifactLocation", object_of ((codes "uri", text_value (uri_of d.path)) ∷ []))
+      ∷ (codes "region", region_object d)
+      ∷ []),
+)
     ∷ [])
 
 -- a diagnostic with its fingerprint as a result

@@ -83,10 +83,7 @@ fn fingerprint(alloc: Global, count: usize, mark: &str) -> Result<String, AllocE
 }
 
 /// The marks of diagnostics: the code, the path and the text of the line.
-fn marks_of(
-    alloc: Global,
-    diagnostics: &[Diagnostic<'_>],
-) -> Result<Vec<String>, AllocError>
+fn marks_of(alloc: Global, diagnostics: &[Diagnostic<'_>]) -> Result<Vec<String>, AllocError>
     ensures { IfOk result (λ marks. map string_bytes marks.items ≡ map mark_of (map shown diagnostics.now)) }
 {
     let mut marks = Vec::with_capacity(alloc, diagnostics.len())?;

@@ -16,10 +16,10 @@ const BYTE_ORDER_MARK: &[u8] = b"\xEF\xBB\xBF";
 /// U+00A0 in UTF-8.
 const NO_BREAK_SPACE: &[u8] = b"\xC2\xA0";
 
-const SAVE_WITHOUT_MARK: &[u8] = b"The file begins with a byte order mark, which an editor does not show: save it as UTF-8 without one.";
+const SAVE_WITHOUT_MARK: &[u8] =
+    b"The file begins with a byte order mark, which an editor does not show: save it as UTF-8 without one.";
 
-const WRITE_A_SPACE: &[u8] =
-    b"Here is a no-break space, which looks like a space: write a space.";
+const WRITE_A_SPACE: &[u8] = b"Here is a no-break space, which looks like a space: write a space.";
 
 const SAVE_WITH_LF: &[u8] = b"The line ends in CR LF, as on Windows: save the file with LF alone.";
 

@@ -4,8 +4,8 @@ ghost use Rattle.engine_formats.specs.Diagnostics.{shown};
 ghost use Rattle.engine_formats.specs.Human.{advice_line, human_lines, safe_lines, title_line};
 
 use crate::diagnostic::Diagnostic;
-use crate::hints::advice_for;
 use crate::gcc::{push_code, push_spot};
+use crate::hints::advice_for;
 use crate::marks::push_source;
 use crate::masked::masked;
 use crate::paint::Paint;

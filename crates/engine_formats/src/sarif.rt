@@ -86,11 +86,7 @@ fn write_run(
 }
 
 /// Writes the program and what its diagnostics can be about.
-fn write_tool(
-    alloc: Global,
-    writer: &mut Writer,
-    remarks: &[Remark],
-) -> Result<(), AllocError>
+fn write_tool(alloc: Global, writer: &mut Writer, remarks: &[Remark]) -> Result<(), AllocError>
     ensures tokens { OnOk result (writer.new.tokens ≡ writer.old.tokens ++ json_tokens (tool_object remarks.now)) }
     ensures before { OnOk result (writer.new.before ≡ writer.old.before) }
 {
@@ -106,11 +102,7 @@ fn write_tool(
 }
 
 /// Writes an array of rules.
-fn write_rules(
-    alloc: Global,
-    writer: &mut Writer,
-    remarks: &[Remark],
-) -> Result<(), AllocError>
+fn write_rules(alloc: Global, writer: &mut Writer, remarks: &[Remark]) -> Result<(), AllocError>
     ensures tokens { OnOk result (writer.new.tokens ≡ writer.old.tokens ++ json_tokens (array_of (map rule_object remarks.now))) }
     ensures before { OnOk result (writer.new.before ≡ writer.old.before) }
 {
@@ -121,11 +113,7 @@ fn write_rules(
 }
 
 /// Writes rules, one after another.
-fn write_each_rule(
-    alloc: Global,
-    writer: &mut Writer,
-    remarks: &[Remark],
-) -> Result<(), AllocError>
+fn write_each_rule(alloc: Global, writer: &mut Writer, remarks: &[Remark]) -> Result<(), AllocError>
     ensures tokens { OnOk result (writer.new.tokens ≡ writer.old.tokens ++ flat_map rule_tokens remarks.now) }
     ensures before { OnOk result (writer.new.before ≡ writer.old.before) }
 {

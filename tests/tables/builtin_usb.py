@@ -44,7 +44,7 @@ CASES = [
     ('an interface has no interface above', event(face(), stick(), hub()),
      ['failed']),
     ('an interface without a device', event(LONE, face(), device(HUB, 'usb', 'E: DEVTYPE=usb_other')),
-     ['failed']),
+     ['failed', 'note builtin needs: usb_id: 1-2']),
     ('no class in the block', event(LONE, device(FACE, 'usb', 'A: bInterfaceNumber=00', 'E: DEVTYPE=usb_interface'), stick(), hub()),
      ['failed', 'note builtin needs: usb_id: bInterfaceClass']),
     ('a class that is not a number', kind('0g'),

@@ -7,7 +7,7 @@
   "Run devdry over the file of this buffer."
   (interactive)
   (compile (format (if (string-suffix-p ".hwdb" buffer-file-name)
-                       "devdry update --strict --format=gcc %s > /dev/null"
+                       "devdry update --strict --ignore comments --format=gcc %s > /dev/null"
                      "devdry verify --no-summary --format=gcc %s")
                    (shell-quote-argument buffer-file-name))))
 (provide 'devdry)

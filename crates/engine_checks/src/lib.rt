@@ -13,6 +13,7 @@ mod codes;
 mod comment_laws;
 mod comment_remarks;
 mod counted;
+mod database_lints;
 mod database_reported;
 mod file_text;
 mod found;

@@ -1,4 +1,4 @@
-//! What `update` says with other formats, and with messages that are ignored.
+//! What `update` says with other formats, with lints, and with messages that are ignored.
 ghost use Rattle.std.specs.Prelude.{◌≡◌, ◌<◌, flat_map, length, IfOk, IfErr};
 ghost use Rattle.engine_formats.specs.Formats.{formatted};
 ghost use Rattle.engine_reports.specs.Reports.{IsSaid, said};
@@ -25,8 +25,9 @@ struct ReportedText {
     count: usize,
 }
 
-/// What `update` says about the files passed in, with the line's format and without the messages that it ignores:
-/// what is reported, which makes a strict run fail, and the entries as an index.
+/// What `update` says about the files passed in, with the line's format, with lints if the line asks for them, and
+/// without the messages and lints that it ignores: what is reported, which makes a strict run fail, and the entries as
+/// an index.
 ///
 /// A text of the line that is not a code silences nothing. `TooManyEntries` comes exactly if the files hold more
 /// than a database may, `Memory` if memory runs out.

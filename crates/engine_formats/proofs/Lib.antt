@@ -1,5 +1,6 @@
 mod OneLine
 mod Commands
+mod DatabaseHeadings
 mod Headings
 mod Issues
 mod SameLines

@@ -1,5 +1,6 @@
 pub mod Remarks
 pub mod Codes
+pub mod DatabaseLints
 pub mod Diagnostics
 pub mod Lines
 pub mod Github

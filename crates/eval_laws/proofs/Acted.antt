@@ -37,7 +37,7 @@ use Rattle.eval_state.specs.declared.note_kind.NoteKind.TheVariants.{BadHwdbArgu
 use Rattle.eval_state.specs.declared.scene.Scene.{Scene}
 use Rattle.hwdb_lookup.specs.Query.{query}
 use Rattle.rule_types.specs.Builtins.{builtin_name}
-use Rattle.rule_types.specs.declared.builtins.Builtin.TheVariants.{InputId, NetId, PathId, UsbId}
+use Rattle.rule_types.specs.declared.builtins.Builtin.TheVariants.{InputId, NetId, NetSetupLink, PathId, UsbId}
 use Rattle.builtin_devices.specs.Outcomes.{OutcomeValue}
 use Rattle.eval_acts.specs.BuiltinRuns.{is_address_name, looked_up, most_set, need_noted, need_word, net_id_run, outcome_set, outcome_taken, path_id_run, properties_size, property_size, usb_id_run, with_maker}
 use Rattle.eval_commands.specs.Builtins.{builtin, builtin_of, builtin_question, hwdb_asked}
@@ -50,7 +50,7 @@ use Rattle.eval_commands.specs.declared.builtin.Builtin.{Builtin}
 use Rattle.eval_commands.specs.declared.builtin.Builtin.TheVariants as asked_for
 use Rattle.eval_state.specs.Places.{is_there, place_of}
 use Rattle.eval_state.specs.Named.{NamedValue, named, named_place}
-use Rattle.eval_state.specs.Properties.{properties_set, property_set}
+use Rattle.eval_state.specs.Properties.{given_properties, properties_set, property_set}
 use Rattle.eval_acts.specs.ActTexts.{import_text, names_text, program_text, test_text}
 use Rattle.eval_acts.specs.Acts.{act_step, from_parent_by, imported, on_text, performed}
 use Rattle.eval_acts.specs.Inner.{left}
@@ -66,6 +66,7 @@ use Rattle.eval_laws.proofs.Found.{found_light, query_light}
 use Rattle.eval_laws.proofs.PrintedWeights.{answered_weight, answers_light, printed_light}
 use Rattle.eval_laws.proofs.CmdlineWeights.{cmdline_light, line_light, line_weight, set_weight}
 use Rattle.eval_laws.proofs.Scenes.{more, noted_within}
+use Rattle.eval_laws.proofs.Starts.{properties_light}
 
 -- the properties of a device, if there is one
 abbrev env_of : Option DeviceValue → List Pair
@@ -209,8 +210,10 @@ module _ (event : EventValue) where
     parent_within : (names : List (List Item)) (parent : Option DeviceValue) → pairs_weight (env_of parent) ≤ most → Within event (n + most) (from_parent names parent s).0
     parent_within names None light = stays
     parent_within names (Some parent) light =
-        let a = filter_light pair_weight (λ property. choice_fits names property.0) parent.env in
-        more_env Manual (names_fitting names parent.env) (omega (arith, a, light))
+        let given : List Pair = given_properties s.state.event.profile parent.env in
+        let a = filter_light pair_weight (λ property. choice_fits names property.0) given in
+        let b = properties_light s.state.event.profile parent.env in
+        more_env Manual (names_fitting names given) (omega (arith, a, b, light))
 
     hwdb_within : (known : Known) (command : Text) (hwdb : Option Hwdb) → entries_weight known.entries ≤ most → Within event (n + most) (builtin_run known r command (hwdb_asked hwdb) s).0
     hwdb_within known command None light = notes BadHwdbArguments command
@@ -270,9 +273,11 @@ module _ (event : EventValue) where
     meant_within known command (asked_for.Hwdb hwdb) light short = hwdb_within known command (Some hwdb) (omega (arith, light))
     meant_within known command asked_for.InputId light short = taken_within (builtin_name InputId) (known.input_id s.state.event) (omega (arith, light))
     meant_within known command asked_for.NetId light short = net_within known light
+    meant_within known command asked_for.NetSetupLink light short = taken_within (builtin_name NetSetupLink) (known.net_setup_link s.state.event s.state.env) (omega (arith, light))
     meant_within known command asked_for.PathId light short = path_within known s.ran.path_id (omega (arith, light))
     meant_within known command asked_for.UsbId light short = usb_within known s.ran.usb_id (omega (arith, light))
     meant_within known command asked_for.SetsNothing light short = stays
+    meant_within known command asked_for.Fails light short = stays
     meant_within known command (asked_for.Answered name) light short = answer_within BuiltinNotRun name (builtin_question command) short
     meant_within known command (asked_for.Other name) light short = notes BuiltinNotRun name
     meant_within known command asked_for.BadArguments light short = notes BadHwdbArguments command

@@ -206,7 +206,7 @@ def plain_value(line, column):
 def wrong_place(folder, it):
     """What is wrong with the place of a message, or nothing."""
     path, number, column, end, code, severity, text = it
-    if severity != ("warning" if code[0] in "SIW" else "error"):
+    if severity != ("warning" if code[0] in "SIWD" else "error"):
         return f"{it}: its severity"
     lines = (folder / path).read_bytes().split(b"\n")
     line = lines[number - 1]

@@ -156,7 +156,7 @@ pub given_item : {S D : Type 0} (f : S → Text) (g : D → DiagnosticValue) (ta
     → given ≡ fingerprinted (map g (take at ds))
     → more ≡ given ++ record { diagnostic = g (get_or ds at d); fingerprint = decimal (left_of tally text + 1) ++ colon ∷ text } ∷ []
     → more ≡ fingerprinted (map g (take (at + 1) ds))
-given_item f g tally marks ds given more at item d text t e h is so_far pushed =
+given_item {D = D} f g tally marks ds given more at item d text t e h is so_far pushed =
     let last : D = get_or ds at d in
     let mark : text ≡ mark_of (g last) = is ∙ mark_at f g marks ds at item d e h in
     let count : left_of tally text + 1 ≡ suc (times text (map mark_of (map g (take at ds)))) = omega (arith, counted_so_far f g tally marks ds at text t e) in

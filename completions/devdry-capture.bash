@@ -6,7 +6,7 @@ _devdry_capture() {
         --action:*) offered=(-W 'add remove change move online offline bind unbind') ;;
         --sysfs:*) offered=(-d) ;;
         --from:* | *:[!-]* | *:) offered=(-f) ;;
-        *) offered=(-W '--all --from --action --kernel --walk --sysfs -h --help -V --version') ;;
+        *) offered=(-W '--all --from --action --kernel --answers --walk --sysfs -h --help -V --version') ;;
     esac
     if [ "${offered[0]}" != -W ]; then compopt -o filenames 2> /dev/null; fi
     mapfile -t COMPREPLY < <(compgen "${offered[@]}" -- "$word")

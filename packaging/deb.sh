@@ -24,12 +24,23 @@ MAKEFLAGS="" make --silent -C "$top" install PROGRAM="$program" DESTDIR="$root" 
     ZSHDIR=/usr/share/zsh/vendor-completions
 strip --remove-section=.comment --remove-section=.note "$root/usr/bin/devdry"
 gzip -9n "$root"/usr/share/man/man1/*
-mkdir -p "$doc/docs"
+mkdir -p "$doc/docs/udev"
 gzip -9nc "$top/CHANGELOG.md" > "$doc/CHANGELOG.md.gz"
 # (below docs/, as README.md links to them; the pages for those who change devdry are left out)
-cp "$top/README.md" "$doc"
-for page in behaviour writing-rules messages differences format measures proved; do cp "$top/docs/$page.md" "$doc/docs"; done
+sed 's/(CHANGELOG\.md)/(CHANGELOG.md.gz)/' "$top/README.md" > "$doc/README.md"
+for page in behaviour writing-rules messages differences format measures proved DECISIONS; do cp "$top/docs/$page.md" "$doc/docs"; done
+cp "$top"/docs/udev/*.md "$doc/docs/udev"
 cp -r --no-preserve=mode "$top/examples" "$doc"
+cat >> "$doc/README.md" << 'END'
+
+## This package
+
+What a page calls "of the sources", and what it names below `bench/`, `crates/`, `tests/`, `tools/` and `man/`, are files of the sources, from which this package is made.
+END
+# links to what is not here become words
+while IFS=: read -r page linked; do
+    [ -e "$(dirname "$page")/$linked" ] || sed -i "s|\[\([^]]*\)\]($linked)|\1 of the sources|g" "$page"
+done < <(cd "$doc" && find "$PWD" -name '*.md' -exec grep -oHE '\]\([A-Za-z./_-]+\)' {} + | sed 's/:\](/:/; s/)$//' | sort -u)
 gzip -9nc > "$doc/changelog.gz" << END
 devdry ($version) unstable; urgency=low
 

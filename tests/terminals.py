@@ -1,5 +1,6 @@
 #!/usr/bin/env python3
-"""Runs the program at terminals: what is written in colors, and what is said before it waits for event blocks.
+"""Runs the program at terminals: what is written in colors, and what is said before it waits for event blocks; and how far
+devdry-capture says that it is.
 
 usage: tests/terminals.py PROGRAM
 
@@ -18,6 +19,7 @@ from pathlib import Path
 from read_formats import first_sentence, reported
 
 SECONDS = 10
+CAPTURE = Path(__file__).resolve().parent.parent / "tools/devdry-capture"
 
 RED, YELLOW, END = "\x1b[1;31m", "\x1b[1;33m", "\x1b[0m"
 RULES = 'FOO="1"\nKERNEL=="sr*",TAG+="optical"\n'
@@ -144,6 +146,21 @@ def check_silence(program, folder, words, at_terminal):
     differs(f"{words}: no line about waiting, with {'a terminal' if at_terminal else '/dev/null'} as input", b"", came.stderr)
 
 
+def check_progress(folder):
+    """devdry-capture --all counts devices on a terminal, each count in the place of the one before, and takes the last away."""
+    for device in ("devices/one", "devices/one/two"):
+        (folder / "sys" / device).mkdir(parents=True)
+        (folder / "sys" / device / "uevent").touch()
+    block = "C: add\nP: /devices/one\n\n"
+    blocks = "C: add\nP: /devices/one/two\nP: /devices/one\n\n" + block
+    counts = "".join(f"\r{count:40}\r" for count in ("1 of 2 devices", "2 of 2 devices", ""))
+    for places, wanted in ((["stderr"], counts), ([], "")):
+        wrote = at_terminals(CAPTURE, folder, "--all --sysfs sys", places)
+        differs(f"devdry-capture --all, with {places or 'no terminal'}", (blocks, wanted), wrote)
+    wrote = at_terminals(CAPTURE, folder, "--sysfs sys sys/devices/one", ["stderr"])
+    differs("devdry-capture of one device counts nothing", (block, ""), wrote)
+
+
 def main(program):
     with tempfile.TemporaryDirectory() as name:
         folder = Path(name)
@@ -156,6 +173,7 @@ def main(program):
         rules.mkdir(parents=True)
         (rules / "good.rules").write_text('ACTION=="add", TAG+="t"\n')
         check_colors(program, folder)
+        check_progress(folder)
         check_waiting(program, folder, "events -r old good.rules", "event add /devices/x\n")
         check_waiting(program, folder, "compare old new", "event add /devices/x\n")
         for words in ("events -r old good.rules", "compare old new"):

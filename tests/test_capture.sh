@@ -30,6 +30,7 @@ V: sd
 A: driver=sd
 A: model=Disk 7  
 A: subsystem=scsi
+A: vpd_pg80=
 E: DEVTYPE=scsi_device
 E: DRIVER=sd
 E: MODALIAS=scsi:t-0x00
@@ -193,6 +194,85 @@ same "a property that udev has changed" "E: INTERFACE=lan0" "$(own "$sys/class/n
 same "--kernel: a property that udev has changed" "E: INTERFACE=eth0" "$(own --kernel "$sys/class/net/eth0" | grep INTERFACE)"
 same "--kernel: all properties of the parents" "E: ID_VENDOR_FROM_DATABASE=Intel Corporation" \
     "$(own --kernel --all 2> /dev/null | awk -v RS='' -v path="P: $card/net/eth0" 'index($0, path "\n")' | tail -n 1)"
+
+# Files with a NUL byte: udev takes what is before the first one.
+nul=/devices/platform/nul
+device $nul platform -
+mkdir -p "$sys$nul/q"
+printf 'ab\000cd\n' > "$sys$nul/cut"
+printf 'ab\000' > "$sys$nul/ended"
+printf 'ab\n\000\000' > "$sys$nul/filled"
+printf '\000\000' > "$sys$nul/q/empty"
+printf 'ab\000\001\002\n\n' > "$sys$nul/binary_behind"
+printf '\001ab\000cd' > "$sys$nul/binary"
+printf 'a\nb\000cd' > "$sys$nul/two_lines"
+printf 'ab\000cd' > "$sys$nul/hidden" && chmod 600 "$sys$nul/hidden"
+printf 'ab\000cd' > "$sys$nul/password"
+printf 'ab\000cd' > "$sys$nul/a:2"
+of_nul="A: a:2=ab
+A: binary_behind=ab
+A: cut=ab
+A: ended=ab
+A: filled=ab
+A: q/empty=
+A: subsystem=platform"
+same "attributes with NUL bytes" "$of_nul" "$("$capture" --sysfs "$sys" "$sys$nul" | grep '^A' | LC_ALL=C sort)"
+same "attributes with NUL bytes, with all devices" "$of_nul" \
+    "$("$capture" --sysfs "$sys" --all 2> /dev/null | awk -v RS='' -v path="P: $nul" 'index($0, path "\n")' | grep '^A' | LC_ALL=C sort)"
+for shell in dash 'bash --posix' 'busybox sh'; do
+    if has "${shell%% *}"; then
+        # shellcheck disable=SC2086
+        same "attributes with NUL bytes by $shell" "$of_nul" "$($shell "$capture" --sysfs "$sys" "$sys$nul" | grep '^A' | LC_ALL=C sort)"
+    fi
+done
+same "attributes with NUL bytes, as keys" 'ATTR{a:2}=="ab"
+ATTR{cut}=="ab"
+ATTR{ended}=="ab"
+ATTR{filled}=="ab"
+ATTR{q/empty}==""' "$("$capture" --walk --sysfs "$sys" "$sys$nul" | grep '^ATTR' | LC_ALL=C sort)"
+rm -r "$sys$nul"
+
+# Devices by their names: those of classes, then those of buses.
+mkdir -p "$sys/class/block" "$sys/class/tty" "$sys/class/one" "$sys/class/two" "$bus/pci/devices" "$bus/usb/devices" "$bus/other/devices"
+ln -s "../../devices${disk#/devices}/block/sda" "$sys/class/block/sda"
+ln -s "$sys$card" "$bus/pci/devices/${card##*/}"
+ln -s "$sys$keyboard" "$bus/usb/devices/1-1"
+ln -s "$sys$keyboard" "$bus/other/devices/1-1"
+ln -s "$sys$card" "$sys/class/one/twice" && ln -s "$sys$keyboard" "$sys/class/two/twice"
+ln -s "$sys$keyboard" "$bus/usb/devices/sda"
+captured() { (cd "$work" && "$capture" --sysfs "$sys" "$@" 2>&1); }
+same "an interface, by its name" "$of_card" "$(captured eth0)"
+same "a disk, by its name" "P: $disk/block/sda" "$(captured sda | grep -m 1 ^P:)"
+same "a PCI function, by its name" "P: $card" "$(captured "${card##*/}" | grep -m 1 ^P:)"
+same "a device that two buses have, by its name" "P: $keyboard" "$(captured 1-1 | grep -m 1 ^P:)"
+same "several devices with one name" "devdry-capture: twice: several devices: $sys$card $sys$keyboard" "$(captured twice)"
+same "no device with the name" "devdry-capture: eth7: no device of this name" "$(captured eth7)"
+same "a name with a sign of patterns" "devdry-capture: eth*: no device of this name" "$(captured 'eth*')"
+same "the folder of a device, by its relative path" "P: $card" "$(cd "$sys$card/.." && "$capture" --sysfs "$sys" "${card##*/}/" | grep -m 1 ^P:)"
+same "keys by a name" 'KERNEL=="eth0"' "$(captured --walk eth0 | grep ^KERNEL=)"
+same "a device of a record, by its name" "P: $disk/block/sda" "$("$capture" --from "$work/db" sda | grep -m 1 ^P:)"
+same "no device of a record with the name" "devdry-capture: sdz: no device of the record" "$("$capture" --from "$work/db" sdz 2>&1)"
+{ cat "$work/db"; printf '\nP: /devices/other/eth0\n'; } > "$work/db2"
+same "several devices of a record with one name" "devdry-capture: eth0: several devices: $card/net/eth0 /devices/other/eth0" \
+    "$("$capture" --from "$work/db2" eth0 2>&1)"
+
+# A card with so many queues that its block would be too long goes without them.
+for ((number = 0; number < 700; number++)); do
+    mkdir -p "$sys$card/net/eth0/queues/tx-$number"
+    printf '%0100d\n' 0 > "$sys$card/net/eth0/queues/tx-$number/xps_cpus"
+done
+mkdir "$sys$card/net/eth0/statistics" "$sys$card/msi_irqs"
+echo 7 > "$sys$card/net/eth0/statistics/rx_bytes"
+echo msi > "$sys$card/msi_irqs/33"
+same "a card with many queues" "$of_card" "$("$capture" --sysfs "$sys" eth0 2> /dev/null)"
+same "with many queues it says so" "devdry-capture: $card/net/eth0: its block has no queues/*, statistics/* and msi_irqs/*, as it would have over 65,536 bytes" \
+    "$("$capture" --sysfs "$sys" eth0 2>&1 > /dev/null)"
+same "with many queues the status stays" 0 "$("$capture" --sysfs "$sys" eth0 > /dev/null 2>&1; echo $?)"
+same "the keys of a card with many queues" 700 "$("$capture" --walk --sysfs "$sys" eth0 | grep -c 'ATTR{queues/')"
+for ((number = 3; number < 700; number++)); do rm -r "$sys$card/net/eth0/queues/tx-$number"; done
+same "with few queues nothing is left out" "3 1 1" \
+    "$("$capture" --sysfs "$sys" eth0 2>&1 | awk '/A: queues/ { q++ } /A: stat/ { s++ } /A: msi/ { m++ } END { print q, s, m }')"
+rm -r "$sys$card/net/eth0/queues" "$sys$card/net/eth0/statistics" "$sys$card/msi_irqs"
 
 # too much for a block
 mkdir -p "$sys/devices/deep" && : > "$sys/devices/deep/uevent"

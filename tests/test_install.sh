@@ -50,9 +50,22 @@ deb=$(echo "$work"/debs/*.deb)
 goes_well "both packages are equal" cmp "$deb" "$work/again/${deb##*/}"
 mapfile -t examples < <(cd "$top" && find examples -type f)
 docs=$(printf '/usr/share/doc/devdry/%s\n' README.md CHANGELOG.md.gz changelog.gz copyright \
-    docs/{behaviour,writing-rules,messages,differences,format,measures,proved}.md "${examples[@]}")
+    docs/{behaviour,writing-rules,messages,differences,format,measures,proved,DECISIONS}.md docs/udev/{BUILTINS,EVENTS,LINKS,READING}.md \
+    "${examples[@]}")
 same "the files of the package" "$({ wanted /usr /usr/share/zsh/vendor-completions .gz; echo "$docs"; } | sorted)" \
     "$(dpkg-deb --fsys-tarfile "$deb" | tar -t | sed 's/^\.//' | grep -v '/$' | sorted)"
+
+# What pages of the package link to or name below docs/ and examples/, each from the folder of its page; names have the
+# package's folder before them.
+dpkg-deb -x "$deb" "$work/unpacked"
+lacking=$(cd "$work/unpacked/usr/share/doc/devdry" && find . -name '*.md' | while IFS= read -r page; do
+    # shellcheck disable=SC2016
+    { grep -oE '\]\([^):]+\)' "$page" | sed "s|^](|${page%/*}/|; s|)\$||; s|#.*||"; grep -oE '`(docs|examples)/[A-Za-z/_.-]+`' "$page" | tr -d '`'; } \
+        | while IFS= read -r file; do [ -e "$file" ] || echo "$page: $file"; done
+done)
+same "the package has what its pages point to" "" "$lacking"
+same "what it has not is of the sources" "start with CONTRIBUTING.md of the sources; docs/architecture.md of the sources is" \
+    "$(grep -oE 'start with .* is the map' "$work/unpacked/usr/share/doc/devdry/README.md" | sed 's/ the map$//')"
 
 as_root=()
 if [ "$(id -u)" != 0 ]; then as_root=(fakeroot); fi

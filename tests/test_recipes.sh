@@ -16,6 +16,9 @@ project() {
     cp "$top/examples/$3" "$work/$1/hwdb/60-mine.hwdb"
 }
 project good disk.rules trackball.hwdb
+# (what a comment leaves out is no message in any recipe)
+printf '# devdry: ignore S2\nKERNEL=="none",TAG+="t"\n' >> "$work/good/rules/60-mine.rules"
+printf '\n# devdry: ignore H2\nnone:*\n' >> "$work/good/hwdb/60-mine.hwdb"
 project bad mistakes.rules mistakes.hwdb
 
 # refused CASE TEXT COMMAND..: the command fails, and prints the text

@@ -3,13 +3,17 @@
 # these variables, each empty if nothing is said:
 #   action    the action of the events
 #   all       print each device that has a record, not only those of the `w:` lines
+#   answers   print answers to what rules ask for, of what udev has stored
 #   kernel    of the device itself print only what the kernel reports
 #   recorded  the records are those of a file
 #   walk      print keys, not blocks
 # The status is 1 if a device is not printed, 4 if there is none.
 
-# Says what is left out, and sets the status accordingly.
-function complain(text) { printf "devdry-capture: %s\n", text | "cat 1>&2"; failed = 1 }
+# Says what is left out of a block.
+function say(text) { printf "devdry-capture: %s\n", text | "cat 1>&2" }
+
+# Says which device is left out, and sets the status accordingly.
+function complain(text) { say(text); failed = 1 }
 
 # Cuts NAME=VALUE into `name` and `value`.
 function cut(text,    at) {
@@ -91,6 +95,20 @@ function attribute(text) {
     if (value !~ /[\001-\010\012-\037\177]/) add("A", name, name "=" value, 0)
 }
 
+# A file with a NUL byte, by its path, and the text before that: it is an attribute of the device in whose folder the file
+# is, if it is one line. Devices are known when all records are read. No keys are made of files that are no text otherwise.
+function beginning(text) {
+    cut(text)
+    path = name
+    while (sub(/\/[^\/]*$/, "", path) && path != "" && !(path in seen));
+    name = substr(name, length(path) + 2)
+    if (path == "" || name ~ /=/) return
+    sub(/[\001\r]+$/, "", value)
+    if (value !~ /[\001-\010\012-\037\177]/) {
+        if (!walk || (path, "A", name) in lines) add("A", name, name "=" value, 0)
+    } else lines[path, "A", name] = kernels[path, "A", name] = ""
+}
+
 # A link in such a record: for some links the last name counts.
 function link(text) {
     cut(text)
@@ -131,6 +149,26 @@ function remove_secrets(path,    i, key, part) {
     }
 }
 
+# The first record of a device.
+function new_record(    name) {
+    seen[path] = 1
+    if (all) order[++orders] = path
+    name = path
+    sub(/.*\//, "", name)
+    by_name[name] = by_name[name] (name in having ? " " : "") path
+    having[name]++
+}
+
+# The path of the device that is asked for, by its path, by its node, or by its name, which may be that of several: then
+# there is no path, and it says so.
+function path_of(asked) {
+    if (asked in nodes) return nodes[asked]
+    if (!(asked in having)) return asked
+    if (having[asked] == 1) return by_name[asked]
+    complain(asked ": several devices: " by_name[asked])
+    return ""
+}
+
 # Whether a text is a path as blocks have it.
 function is_path(text) { return text ~ /^\/./ && text !~ /\/\// && text !~ /\/$/ }
 
@@ -155,19 +193,54 @@ BEGIN {
     looked_at["usb"] = "^(bDeviceProtocol|bInterface(Class|Number|SubClass)|bcdDevice|id(Product|Vendor)" \
         "|manufacturer|product|serial|speed)$"
     looked_at["vmbus"] = "^device_id$"
+    # attributes that make a block too long, and for which rules don't ask
+    unasked = "^A: (queues|statistics|msi_irqs)/"
+    # What rules ask programs and builtins for: those of systemd 252 and 257, and of the packages dmsetup, lvm2, mdadm and
+    # libinput of Debian 12 and 13.
+    drive = "^ID_(BUS|MODEL|MODEL_ENC|REVISION|SERIAL|SERIAL_SHORT|TYPE|VENDOR|VENDOR_ENC|WWN|WWN_WITH_EXTENSION|%_.*|%)$"
+    ata = scsi = drive
+    gsub(/%/, "ATA", ata)
+    gsub(/%/, "(SCSI|TARGET|WWN_VENDOR)", scsi)
+    content = "^ID_(FS|PART|LOOP_BACKING)_"
+    question("^net/", "builtin net_driver", "^ID_NET_DRIVER$", "^ID_NET_DRIVER$")
+    question("^block/[^/]*/sr", "builtin blkid --hint=session_offset=$env{ID_CDROM_MEDIA_SESSION_LAST_OFFSET}", content, "")
+    question("^block/[^/]*/sr", "builtin blkid --noraid", content, "")
+    question("^block/[^/]*/([^s]|s[^r])", "builtin blkid", content, "")
+    question("^block/", "builtin btrfs ready $devnode", "^ID_BTRFS_READY$", "^ID_BTRFS_READY$")
+    question("^block/disk/s[dr]", "ata_id --export $devnode", ata, "^ID_ATA$")
+    question("^block/disk/(s[dr]|cciss)", "scsi_id --export --whitelisted -d $devnode", scsi, "^ID_SCSI$")
+    question("^scsi_generic/", "scsi_id --sg-version=3 --export --whitelisted -d $devnode", scsi, "^ID_SCSI$")
+    question("^scsi_tape/[^/]*/n?st", "scsi_id --whitelisted --export --device=$env{.BSG_DEV}", scsi, "^ID_SCSI$")
+    question("^block/disk/", "cdrom_id --lock-media $devnode", "^ID_CDROM", "^ID_CDROM$")
+    question("^block/disk/dm-", "/sbin/dmsetup info -j %M -m %m -c --nameprefixes --noheadings --rows -o name,uuid,suspended", \
+        "^DM_(NAME|UUID|SUSPENDED)$", "^DM_NAME$")
+    question("^block/disk/dm-", "/sbin/dmsetup info -j %M -m %m -c --nameprefixes --noheadings --rows -o suspended", \
+        "^DM_SUSPENDED$", "^DM_SUSPENDED$")
+    question("^block/disk/dm-", "/sbin/dmsetup splitname --nameprefixes --noheadings --rows $env{DM_NAME}", \
+        "^DM_(VG_NAME|LV_NAME|LV_LAYER)$", "^DM_VG_NAME$")
+    question("^block/disk/dm-", "/sbin/dmsetup udevflags $env{DM_COOKIE}", "^DM_(UDEV_|SUBSYSTEM_UDEV_|ACTIVATION$)", "^DM_UDEV_")
+    question("^block/", "/sbin/lvm pvscan --cache --listvg --checkcomplete --vgonline --autoactivation event --udevoutput" \
+        " --journal=output $env{DEVNAME}", "^LVM_VG_NAME_", "^LVM_VG_NAME_")
+    question("^block/disk/md", "/sbin/mdadm --detail --no-devices --export $devnode", "^MD_", "^MD_LEVEL$")
+    question("^video4linux/", "v4l_id $devnode", "^ID_V4L_", "^ID_V4L_VERSION$")
+    question("^hidraw/", "fido_id", "^ID_(FIDO|SECURITY)_TOKEN$", "^ID_FIDO_TOKEN$")
+    question("^dmi/", "dmi_memory_id", "^MEMORY_", "^MEMORY_")
+    question("^mtd/", "mtd_probe $devnode", "^MTD_FTL$", "^MTD_FTL$")
+    question("^input/", "libinput-device-group %S%p", "^LIBINPUT_DEVICE_GROUP$", "^LIBINPUT_DEVICE_GROUP$")
+    question("^input/", "libinput-fuzz-extract %S%p", "^LIBINPUT_FUZZ_", "^LIBINPUT_FUZZ_")
     added = "^(ID|SYSTEMD|UDISKS|UPOWER|LIBINPUT|DM|MD|LVM|SCSI|ACCEL|EVDEV|IEEE1394|KEYBOARD|MOUSE|POINTINGSTICK|SOUND|XKB)_"
 }
 
 { letter = substr($0, 1, 2); text = substr($0, 4) }
 letter == "c:" { constants = constants "K: " text "\n"; next }
 letter == "m:" { elsewhere = elsewhere "A: " text "\n"; next }
-letter == "x:" { guarded[text]; next }
+letter == "x:" { sub(/\/\.\//, "/", text); guarded[text]; next }
+letter == "z:" { sub(/\/\.\//, "/", text); begun[++beginnings] = text; next }
 letter == "w:" { if (text == "") failed = 1; else order[++orders] = text; next }
 letter == "P:" {
     path = text
     if (!is_path(path)) { complain(path ": no path of a device"); path = ""; next }
-    if (!(path in seen) && all) order[++orders] = path
-    seen[path] = 1
+    if (!(path in seen)) new_record()
     set("P", path)
     if (recorded) host()
     next
@@ -178,6 +251,7 @@ letter == "N:" { sub(/=.*/, "", text); set("N", text) }
 letter == "S:" { add("S", text, text, 1) }
 letter == "E:" { property(text, is_added(substr(text, 1, index(text, "=") - 1))) }
 letter == "e:" { property(text, 0) }
+letter == "d:" { drivers[path] = text }
 letter == "a:" { add("A", substr(text, 1, index(text, "=") - 1), text, 0) }
 letter == "k:" { add("K", substr(text, 1, index(text, "=") - 1), text, 0) }
 letter == "H:" && text ~ /^(descriptors|config)=/ {
@@ -227,10 +301,100 @@ function as_key(line, s,    letter, text) {
     return letter == "A" && name !~ passing ? compared("ATTR" s, name, value) : ""
 }
 
+# A question of rules to a program or a builtin, about the devices whose SUBSYSTEM/DEVTYPE/KERNEL the text `of` matches. It is
+# answered by the stored properties that `names` matches, if a property that `mark` matches is stored; with an empty `mark`
+# if anything is. What has moved from /sbin to /usr/sbin, or has a new name of an option, is asked for by either.
+function question(of, command, names, mark) {
+    asked_of[++questions] = of
+    commands[questions] = command
+    answered_by[questions] = names
+    marks[questions] = mark
+    if (sub(/^\/sbin\//, "/usr&", command) || sub(/--whitelisted/, "--allowlisted", command)) question(of, command, names, mark)
+}
+
+# Whether the device has a stored property that the pattern matches.
+function has_stored(path, pattern,    i, part) {
+    for (i = 1; i <= count[path]; i++) {
+        split(keys[path, i], part, SUBSEP)
+        if (part[2] == "E" && part[3] ~ pattern) return 1
+    }
+    return 0
+}
+
+# The node below /dev/bsg of the nearest device that is addressed as scsi devices are.
+function scsi_node(path,    kernel_name) {
+    while (path != "") {
+        kernel_name = path
+        sub(/.*\//, "", kernel_name)
+        if (lines[path, "U", "U"] == "U: scsi" && kernel_name ~ /^[0-9].*:.*[0-9]$/) return "/dev/bsg/" kernel_name
+        sub(/\/[^\/]*$/, "", path)
+    }
+    return ""
+}
+
+# What a substitution in a command stands for.
+function substituted(path, text,    numbers) {
+    if (text == "$env{.BSG_DEV}") return scsi_node(path)
+    if (text == "$devnode") return (path, "N", "N") in lines ? "/dev/" substr(lines[path, "N", "N"], 4) : ""
+    if (text == "%S") return "/sys"
+    if (text == "%p") return path
+    split(substr(lines[path, "D", "D"], 4), numbers, ":")
+    if (text == "%M") return numbers[1]
+    if (text == "%m") return numbers[2]
+    text = substr(text, 6, length(text) - 6)
+    return substr(lines[path, "E", text], length(text) + 5)
+}
+
+# A command for a device, or nothing if the device has no text for one of its substitutions.
+function rendered(path, command,    out, at, n, text) {
+    while (match(command, /[$]devnode|[$]env[{][^}]*[}]|%[MmSp]/)) {
+        at = RSTART
+        n = RLENGTH
+        text = substituted(path, substr(command, at, n))
+        if (text == "") return ""
+        out = out substr(command, 1, at - 1) text
+        command = substr(command, at + n)
+    }
+    return out command
+}
+
+# The stored properties that the pattern matches, as a program prints them, with a carriage return between two lines. A value
+# that begins with a quote, or has a blank at an end, is put between quotes.
+function printed_by(path, pattern,    i, part, out) {
+    for (i = 1; i <= count[path]; i++) {
+        split(keys[path, i], part, SUBSEP)
+        if (part[2] != "E" || part[3] !~ pattern) continue
+        cut(substr(lines[keys[path, i]], 4))
+        if (value == "" || value ~ /[\r]/) continue
+        if (value ~ /^["' \t]|[ \t]$/) value = "\"" value "\""
+        out = out "\r" name "=" value
+    }
+    return substr(out, 2)
+}
+
+# The lines of a block that answer a command.
+function answer(command, status, text) { return "Q: " command "\nR: " status (text == "" ? "" : " " text) "\n" }
+
+# The lines of a block that answer what rules ask about the device.
+function answered(path,    i, of, kernel_name, command, out) {
+    kernel_name = path
+    sub(/.*\//, "", kernel_name)
+    of = substr(lines[path, "U", "U"], 4) "/" substr(lines[path, "E", "DEVTYPE"], 12) "/" kernel_name
+    for (i = 1; i <= questions; i++) {
+        if (of !~ asked_of[i] || !(marks[i] == "" ? path in initialized : has_stored(path, marks[i]))) continue
+        command = rendered(path, commands[i])
+        if (command != "") out = out answer(command, 0, printed_by(path, answered_by[i]))
+    }
+    if (path in drivers && !has_stored(path, "^ID_NET_DRIVER$"))
+        out = out answer("builtin net_driver", drivers[path] == "", drivers[path] == "" ? "" : "ID_NET_DRIVER=" drivers[path])
+    return out
+}
+
 # The lines of a device, each with its newline. With `first` it is the event device.
 function device(path, first,    of, i, line, letter) {
     for (i = 1; i <= count[path]; i++) {
         line = first && kernel ? kernels[keys[path, i]] : lines[keys[path, i]]
+        if (shorter && line ~ unasked) continue
         letter = substr(line, 1, 1)
         of[letter] = of[letter] (walk ? as_key(line, first ? "" : "S") : line == "" ? "" : line "\n")
     }
@@ -238,8 +402,8 @@ function device(path, first,    of, i, line, letter) {
     return of["P"] of["U"] of["V"] of["N"] of["D"] of["A"] of["E"] of["G"] of["S"] of["K"]
 }
 
-# Prints a device with its parents, those that have a record, as a block or as keys.
-function block(path,    out, parent, devices) {
+# A device with its parents, those that have a record, as a block or as keys; `devices` says how many they are.
+function written(path,    out, parent) {
     out = (walk ? "" : "C: " action "\n") device(path, 1)
     devices = 1
     parent = path
@@ -247,17 +411,29 @@ function block(path,    out, parent, devices) {
         out = out (walk ? "\n" : "") device(parent, 0)
         devices++
     }
-    out = out constants
+    return out constants (answers ? answered(path) : "")
+}
+
+# Prints a device. A block that would be too long goes without what rules don't ask for.
+function block(path,    out) {
+    out = written(path)
+    if (length(out) > 65536 && devices <= 64 && !walk) {
+        shorter = 1
+        out = written(path)
+        shorter = 0
+        if (length(out) <= 65536) say(path ": its block has no queues/*, statistics/* and msi_irqs/*, as it would have over 65,536 bytes")
+    }
     if (devices > 64 && !walk) complain(path ": it has over 63 parents, and is left out")
     else if (length(out) > 65536 && !walk) complain(path ": its block has over 65,536 bytes, and is left out")
     else printf "%s\n", out
 }
 
 END {
+    for (i = 1; i <= beginnings; i++) beginning(begun[i])
     for (path in seen) remove_secrets(path)
     for (i = 1; i <= orders; i++) {
-        path = order[i] in nodes ? nodes[order[i]] : order[i]
-        if (path in printed) continue
+        path = path_of(order[i])
+        if (path in printed || path == "") continue
         printed[path] = 1
         if (path in seen) block(path)
         else complain(path ": no device of the record")

@@ -1,6 +1,7 @@
 """`events --udev`: what input_id makes of a block, as `udevadm test-builtin` of 257 answers it."""
 from tables.kinds.builtin_rows import answered_by
-from tables.kinds.builtin_blocks import MOUSE, NVME_DISK, PCI_CARD, TOUCHPAD, USB_DISK, capabilities, device, event, pad
+from tables.kinds.builtin_blocks import (FACE, HID, MOUSE, NVME_DISK, PCI_CARD, TOUCHPAD, USB_DISK, capabilities, device, event, pad, without,
+                                          without_subsystem)
 
 EV_KEYS, EV_REL, EV_ABS = 1 << 1, 1 << 2, 1 << 3
 
@@ -304,6 +305,13 @@ CASES = [
     ('a mouse with all axes on I2C', can(keys=[LEFT], axes=[X, Y], rel=[X, Y], bus='0018'),
      ['done', 'ID_INPUT=1', 'ID_INPUT_POINTINGSTICK=1', 'ID_INPUT_MOUSE=1']),
     ('a mouse with absolute axes on I2C', can(keys=[LEFT], axes=[X, Y], bus='0018'),
+     ['done', 'ID_INPUT=1', 'ID_INPUT_MOUSE=1']),
+    # devices that the path shows and the block does not have
+    ('no input device in the block', without(MOUSE, f'{HID}/input/input7'),
+     ['done', 'note builtin needs: input_id: input7']),
+    ('an input device without a subsystem', without_subsystem(MOUSE, f'{HID}/input/input7'),
+     ['done', 'note builtin needs: input_id: input7']),
+    ('input_id looks at no other device', without(without(MOUSE, f'{HID}'), FACE),
      ['done', 'ID_INPUT=1', 'ID_INPUT_MOUSE=1']),
 ]
 

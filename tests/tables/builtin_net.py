@@ -1,6 +1,7 @@
 """`events --udev`: what net_id makes of a block, as `udevadm test-builtin` of 257 answers it."""
 from tables.kinds.builtin_rows import answered_by
-from tables.kinds.builtin_blocks import (BRIDGE, CARD, MULTIPLE, PCI_CARD, ROOT, SLOTS, USB_DISK, card, device, event, interface, outside, slots)
+from tables.kinds.builtin_blocks import (BRIDGE, CARD, MULTIPLE, PCI_CARD, ROOT, SLOTS, USB_DISK, card, device, event, interface, outside, slots, without,
+                                          without_subsystem)
 
 
 def at(*lines, net=(), config=None, bridge=(), beside=SLOTS, path=CARD, **attributes):
@@ -428,6 +429,28 @@ CASES = [
      ['done', 'ID_NET_NAMING_SCHEME=v257', 'ID_NET_NAME_MAC=enx54e1ad9c4d18', 'hwdb OUI:54E1AD9C4D18', 'ID_NET_NAME_PATH=enp3s0']),
     ('a configuration of 15 bytes', at(config='8680d315060410000300000210' + '0080'),
      ['done', 'ID_NET_NAMING_SCHEME=v257', 'ID_NET_NAME_MAC=enx54e1ad9c4d18', 'hwdb OUI:54E1AD9C4D18', 'ID_NET_NAME_PATH=enp3s0f0']),
+    # devices that the path shows and the block does not have
+    ('no function of PCI above a card in the block', without(PCI_CARD, CARD),
+     ['done', 'ID_NET_NAMING_SCHEME=v257', 'ID_NET_NAME_MAC=enx54e1ad9c4d18', 'hwdb OUI:54E1AD9C4D18', 'ID_NET_NAME_PATH=enp0s28', 'note builtin needs: net_id: 0000:03:00.0', 'note builtin needs: net_id: config']),
+    ('a function of PCI without a subsystem', without_subsystem(PCI_CARD, CARD),
+     ['done', 'ID_NET_NAMING_SCHEME=v257', 'ID_NET_NAME_MAC=enx54e1ad9c4d18', 'hwdb OUI:54E1AD9C4D18', 'note builtin needs: net_id: 0000:03:00.0']),
+    ('no interface of a USB adapter in the block', without(usb(), USB),
+     ['done', 'ID_NET_NAMING_SCHEME=v257', 'ID_NET_NAME_MAC=enx54e1ad9c4d18', 'hwdb OUI:54E1AD9C4D18', 'note builtin needs: net_id: 2-1.4:1.0']),
+    ('net_id does not look at the USB device of an interface', without(usb(), f'{CARD}/usb2/2-1.4'),
+     ['done', 'ID_NET_NAMING_SCHEME=v257', 'ID_NET_NAME_MAC=enx54e1ad9c4d18', 'hwdb OUI:54E1AD9C4D18', 'ID_NET_NAME_PATH=enp3s0u1u4']),
+    ('a bridge without a subsystem', without_subsystem(PCI_CARD, CARD.rsplit('/', 1)[0]),
+     ['done', 'ID_NET_NAMING_SCHEME=v257', 'ID_NET_NAME_MAC=enx54e1ad9c4d18', 'hwdb OUI:54E1AD9C4D18', 'ID_NET_NAME_PATH=enp3s0', 'ID_NET_NAME_SLOT=ens3', 'note builtin needs: net_id: 0000:00:1c.0']),
+    ('a virtual function by its configuration', event(interface(VIRTUAL), card(path=VIRTUAL, config='FFFFFFFF000010000100000200000000')),
+     ['done', 'ID_NET_NAMING_SCHEME=v257', 'ID_NET_NAME_MAC=enx54e1ad9c4d18', 'hwdb OUI:54E1AD9C4D18', 'ID_NET_NAME_PATH=enp3s16f2', 'note builtin needs: net_id: physfn']),
+    ('maker and model of ones in three bytes alone', event(interface(VIRTUAL), card(path=VIRTUAL, config='ffffff00000010000100000200000000')),
+     ['done', 'ID_NET_NAMING_SCHEME=v257', 'ID_NET_NAME_MAC=enx54e1ad9c4d18', 'hwdb OUI:54E1AD9C4D18', 'ID_NET_NAME_PATH=enp3s16f2']),
+    # naming schemes
+    ('the naming scheme of 257', PCI_CARD + 'K: scheme=v257\n',
+     ['done', 'ID_NET_NAMING_SCHEME=v257', 'ID_NET_NAME_MAC=enx54e1ad9c4d18', 'hwdb OUI:54E1AD9C4D18', 'ID_NET_NAME_PATH=enp3s0', 'ID_NET_NAME_SLOT=ens3']),
+    ('the latest naming scheme', PCI_CARD + 'K: scheme=latest\n',
+     ['done', 'ID_NET_NAMING_SCHEME=v257', 'ID_NET_NAME_MAC=enx54e1ad9c4d18', 'hwdb OUI:54E1AD9C4D18', 'ID_NET_NAME_PATH=enp3s0', 'ID_NET_NAME_SLOT=ens3']),
+    ('another naming scheme', PCI_CARD + 'K: scheme=rhel-10.0\n',
+     ['done', 'ID_NET_NAMING_SCHEME=v257', 'ID_NET_NAME_MAC=enx54e1ad9c4d18', 'hwdb OUI:54E1AD9C4D18', 'ID_NET_NAME_PATH=enp3s0', 'ID_NET_NAME_SLOT=ens3', 'note builtin needs: net_id: scheme rhel-10.0']),
 ]
 
 ROWS = answered_by("net_id", CASES)

@@ -1,7 +1,7 @@
 """`events --udev`: what path_id makes of a block, as `udevadm test-builtin` of 257 answers it."""
 from tables.kinds.builtin_rows import answered_by
 from tables.kinds.builtin_blocks import (ABOVE_NVME, CARD, DOMAIN, FACE, HUB, MOUSE, NVME_CARD, NVME_DISK, OWN_HOST, PCI_CARD, PORT, ROOT, SERIAL_ADAPTER, TOUCHPAD, USB_DISK, card, device, disk,
-                            event, face, hub, interface, outside, stick, unit)
+                            event, face, hub, interface, outside, stick, unit, without, without_subsystem)
 
 SATA = f'{ROOT}/0000:00:17.0'
 ABOVE_SATA = device(SATA, 'pci', 'V: ahci') + DOMAIN
@@ -349,6 +349,37 @@ CASES = [
     ('a port of ATA below NVMe', event(disk('/devices/x/nvme0/ata1'), unit('/devices/x/nvme0/ata1'), device('/devices/x/nvme0/ata1', None, 'A: ata_port/ata1/port_no=1'),
                                        device('/devices/x/nvme0', 'nvme')).replace('E: DEVTYPE=disk', 'A: nsid=4\nE: DEVTYPE=disk'),
      ['done', 'ID_PATH=nvme-4-ata-1.0', 'ID_PATH_TAG=nvme-4-ata-1_0', 'ID_PATH_ATA_COMPAT=nvme-4-ata-1']),
+    # devices that the path shows and the block does not have
+    ('no function of PCI in the block', without(NVME_DISK, NVME_CARD),
+     ['done', 'ID_PATH=pci-0000:00:1d.0-nvme-1', 'ID_PATH_TAG=pci-0000_00_1d_0-nvme-1', 'note builtin needs: path_id: 0000:04:00.0']),
+    ('a function of PCI without a subsystem', without_subsystem(NVME_DISK, NVME_CARD),
+     ['done', 'ID_PATH=pci-0000:00:1d.0-nvme-1', 'ID_PATH_TAG=pci-0000_00_1d_0-nvme-1', 'note builtin needs: path_id: 0000:04:00.0']),
+    ('no NVMe controller in the block', without(NVME_DISK, f'{NVME_CARD}/nvme/nvme0'),
+     ['failed', 'note builtin needs: path_id: nvme0']),
+    ('no function of PCI above a card', without(PCI_CARD, CARD),
+     ['done', 'ID_PATH=pci-0000:00:1c.0', 'ID_PATH_TAG=pci-0000_00_1c_0', 'note builtin needs: path_id: 0000:03:00.0']),
+    ('no root hub in the block', without(USB_DISK, HUB).replace('A: bcdDevice', 'A: bDeviceProtocol=00\nA: speed=12\nA: bcdDevice'),
+     ['done', 'ID_PATH_WITH_USB_REVISION=pci-0000:00:14.0-usbv1-0:2:1.0-scsi-0:0:0:0', 'ID_PATH=pci-0000:00:14.0-usb-0:2:1.0-scsi-0:0:0:0', 'ID_PATH_TAG=pci-0000_00_14_0-usb-0_2_1_0-scsi-0_0_0_0', 'note builtin needs: path_id: usb1']),
+    ('no SCSI device in the block', without(USB_DISK, f'{FACE}/host6/target6:0:0/6:0:0:0'),
+     ['done', 'ID_PATH_WITH_USB_REVISION=pci-0000:00:14.0-usbv2-0:2:1.0', 'ID_PATH=pci-0000:00:14.0-usb-0:2:1.0', 'ID_PATH_TAG=pci-0000_00_14_0-usb-0_2_1_0', 'note builtin needs: path_id: 6:0:0:0']),
+    ('no target in the block', without(USB_DISK, f'{FACE}/host6/target6:0:0'),
+     ['done', 'ID_PATH_WITH_USB_REVISION=pci-0000:00:14.0-usbv2-0:2:1.0-scsi-0:0:0:0', 'ID_PATH=pci-0000:00:14.0-usb-0:2:1.0-scsi-0:0:0:0', 'ID_PATH_TAG=pci-0000_00_14_0-usb-0_2_1_0-scsi-0_0_0_0', 'note builtin needs: path_id: target6:0:0']),
+    ('no host in the block', without(USB_DISK, f'{FACE}/host6'),
+     ['failed', 'note builtin needs: path_id: host6']),
+    ('a host without a subsystem', without_subsystem(USB_DISK, f'{FACE}/host6'),
+     ['failed', 'note builtin needs: path_id: host6']),
+    ('no interface in the block', without(SERIAL_ADAPTER, FACE),
+     ['done', 'ID_PATH_WITH_USB_REVISION=pci-0000:00:14.0-usbv2-0:2', 'ID_PATH=pci-0000:00:14.0-usb-0:2', 'ID_PATH_TAG=pci-0000_00_14_0-usb-0_2', 'note builtin needs: path_id: 1-2:1.0']),
+    ('no port of a mouse in the block', without(TOUCHPAD, '/devices/platform/i8042/serio1'),
+     ['done', 'ID_PATH=platform-i8042', 'ID_PATH_TAG=platform-i8042', 'note builtin needs: path_id: serio1']),
+    ('no device of virtio in the block', event(device(f'{VIRTIO}/block/vda', 'block'), device(f'{ROOT}/0000:00:03.0', 'pci'), DOMAIN),
+     ['failed', 'note builtin needs: path_id: virtio1']),
+    ('path_id does not look at input devices', without(TOUCHPAD, '/devices/platform/i8042/serio1/input/input12'),
+     ['done', 'ID_PATH=platform-i8042-serio-1', 'ID_PATH_TAG=platform-i8042-serio-1']),
+    ('no NVMe subsystem in the block', without(several_ways(), MULTI),
+     ['failed', 'note builtin needs: path_id: nvme-subsys0']),
+    ('the way to an NVMe disk with several paths lacks a function of PCI', several_ways().replace(f'K: {NVME_CARD}/subsystem=pci\n', ''),
+     ['done', 'ID_PATH=pci-0000:00:1d.0-nvme-1', 'ID_PATH_TAG=pci-0000_00_1d_0-nvme-1', 'note builtin needs: path_id: 0000:04:00.0']),
 ]
 
 ROWS = answered_by("path_id", CASES)

@@ -1,7 +1,7 @@
 """`events --udev`: what usb_id makes of a block, as `udevadm test-builtin` of 257 answers it."""
 from tables.kinds.builtin_rows import answered_by
 from tables.kinds.builtin_blocks import (FACE, HUB, MOUSE, NVME_DISK, OWN_HOST, PORT, SERIAL_ADAPTER, STICK_TEXTS, TOUCHPAD, USB_DISK, descriptors, device, disk, event, face, hub,
-                            stick, unit)
+                            stick, unit, without, without_subsystem)
 
 LONE = device(f'{FACE}/thing', 'misc')
 
@@ -149,8 +149,9 @@ CASES = [
     ('bytes that are not UTF-8', texts('A: manufacturer=a\udcffb', 'A: product=\udcc3', 'A: serial=\udc80'),
      reported(['MODEL=_', 'MODEL_ENC=\\xc3', 'MODEL_ID=5583', 'SERIAL=a_b__', 'VENDOR=a_b', 'VENDOR_ENC=a\\xffb', 'VENDOR_ID=0781', 'REVISION=0100'], 'ID_USB_INTERFACES=:080650:')),
     ('code points that are not characters', texts('A: manufacturer=￾', 'A: product=﷐x', 'A: serial=1'),
-     reported(['MODEL=___x', 'MODEL_ENC=\\xef\\xb7\\x90x', 'MODEL_ID=5583', 'SERIAL=_______x_1', 'SERIAL_SHORT=1', 'VENDOR=___', 'VENDOR_ENC=\\xef\\xbf\\xbe', 'VENDOR_ID=0781', 'REVISION=0100'], 'ID_USB_INTERFACES=:080650:'),
-     reported(['MODEL=\ufdd0x', 'MODEL_ENC=\ufdd0x', 'MODEL_ID=5583', 'SERIAL=\ufffe_\ufdd0x_1', 'SERIAL_SHORT=1', 'VENDOR=\ufffe', 'VENDOR_ENC=\ufffe', 'VENDOR_ID=0781', 'REVISION=0100'], 'ID_USB_INTERFACES=:080650:')),
+     reported(['MODEL=___x', 'MODEL_ENC=\\xef\\xb7\\x90x', 'MODEL_ID=5583', 'SERIAL=_______x_1', 'SERIAL_SHORT=1', 'VENDOR=___', 'VENDOR_ENC=\\xef\\xbf\\xbe', 'VENDOR_ID=0781', 'REVISION=0100'], 'ID_USB_INTERFACES=:080650:')),
+    ('an empty memory, whose bytes are all ones', texts('A: manufacturer=\uffff\uffff', 'A: product=\U0001fffe/'),
+     reported(['MODEL=_____', 'MODEL_ENC=\\xf0\\x9f\\xbf\\xbe\\x2f', 'MODEL_ID=5583', 'SERIAL=_______' + '_____', 'VENDOR=______', 'VENDOR_ENC=\\xef\\xbf\\xbf\\xef\\xbf\\xbf', 'VENDOR_ID=0781', 'REVISION=0100'], 'ID_USB_INTERFACES=:080650:')),
     ('a serial number with a comma', texts('A: manufacturer=M', 'A: product=P', 'A: serial=12,3'),
      reported(['MODEL=P', 'MODEL_ENC=P', 'MODEL_ID=5583', 'SERIAL=M_P', 'VENDOR=M', 'VENDOR_ENC=M', 'VENDOR_ID=0781', 'REVISION=0100'], 'ID_USB_INTERFACES=:080650:')),
     ('a serial number with a tab', texts('A: manufacturer=M', 'A: product=P', 'A: serial=12\t3'),
@@ -218,6 +219,26 @@ CASES = [
      reported(['MODEL=Ultra_Fit', 'MODEL_ENC=Ultra\\x20Fit', 'MODEL_ID=5583', 'SERIAL=SanDisk_Ultra_Fit_4C530001234567890123', 'SERIAL_SHORT=4C530001234567890123', 'VENDOR=SanDisk', 'VENDOR_ENC=SanDisk', 'VENDOR_ID=0781', 'REVISION=0100'], 'ID_USB_INTERFACES=:090401:ffffff:')),
     ('a configuration descriptor of other bytes, and a longer interface descriptor', texts(*STICK_TEXTS, descriptor=descriptors() + '0902ffffffffffffff' + '0b04010000ffffff000000'),
      reported(['MODEL=Ultra_Fit', 'MODEL_ENC=Ultra\\x20Fit', 'MODEL_ID=5583', 'SERIAL=SanDisk_Ultra_Fit_4C530001234567890123', 'SERIAL_SHORT=4C530001234567890123', 'VENDOR=SanDisk', 'VENDOR_ENC=SanDisk', 'VENDOR_ID=0781', 'REVISION=0100'], 'ID_USB_INTERFACES=:ffffff:')),
+    # devices that the path shows and the block does not have
+    ('no SCSI device in the block', without(USB_DISK, f'{FACE}/host6/target6:0:0/6:0:0:0'),
+     reported(['MODEL=Ultra_Fit', 'MODEL_ENC=Ultra\\x20Fit', 'MODEL_ID=5583', 'SERIAL=SanDisk_Ultra_Fit_4C530001234567890123', 'SERIAL_SHORT=4C530001234567890123', 'VENDOR=SanDisk', 'VENDOR_ENC=SanDisk', 'VENDOR_ID=0781', 'REVISION=0100', 'TYPE=scsi'], 'ID_USB_INTERFACES=:080650:', 'ID_USB_INTERFACE_NUM=00', 'ID_USB_DRIVER=usb-storage', 'note builtin needs: usb_id: 6:0:0:0')),
+    ('a SCSI device without a subsystem', without_subsystem(USB_DISK, f'{FACE}/host6/target6:0:0/6:0:0:0'),
+     reported(['MODEL=Ultra_Fit', 'MODEL_ENC=Ultra\\x20Fit', 'MODEL_ID=5583', 'SERIAL=SanDisk_Ultra_Fit_4C530001234567890123', 'SERIAL_SHORT=4C530001234567890123', 'VENDOR=SanDisk', 'VENDOR_ENC=SanDisk', 'VENDOR_ID=0781', 'REVISION=0100', 'TYPE=scsi'], 'ID_USB_INTERFACES=:080650:', 'ID_USB_INTERFACE_NUM=00', 'ID_USB_DRIVER=usb-storage', 'note builtin needs: usb_id: 6:0:0:0')),
+    ('no interface in the block', without(USB_DISK, FACE),
+     ['failed', 'note builtin needs: usb_id: 1-2:1.0']),
+    ('an interface without a subsystem', without_subsystem(USB_DISK, FACE),
+     ['failed', 'note builtin needs: usb_id: 1-2:1.0']),
+    ('no USB device in the block', without(MOUSE, PORT),
+     reported(['MODEL=0002', 'MODEL_ENC=0002', 'MODEL_ID=0002', 'SERIAL=1d6b_0002', 'VENDOR=1d6b', 'VENDOR_ENC=1d6b', 'VENDOR_ID=1d6b', 'REVISION=', 'TYPE=hid'], 'ID_USB_INTERFACE_NUM=00', 'ID_USB_DRIVER=usbhid', 'note builtin needs: usb_id: 1-2', 'note builtin needs: usb_id: descriptors', 'note builtin needs: usb_id: bcdDevice')),
+    ('no interface and no USB device in the block', without(without(MOUSE, PORT), FACE),
+     ['failed', 'note builtin needs: usb_id: 1-2:1.0', 'note builtin needs: usb_id: 1-2']),
+    ('usb_id does not look at a root hub above the device, at a host or at a target',
+     without(without(without(USB_DISK, HUB), f'{FACE}/host6'), f'{FACE}/host6/target6:0:0'),
+     reported(['MODEL=Ultra_Fit', 'MODEL_ENC=Ultra\\x20Fit\\x20\\x20\\x20\\x20\\x20\\x20\\x20', 'MODEL_ID=5583', 'SERIAL=SanDisk_Ultra_Fit_4C530001234567890123-0:0', 'SERIAL_SHORT=4C530001234567890123', 'VENDOR=SanDisk', 'VENDOR_ENC=SanDisk\\x20', 'VENDOR_ID=0781', 'REVISION=1.00', 'TYPE=disk', 'INSTANCE=0:0'], 'ID_USB_INTERFACES=:080650:', 'ID_USB_INTERFACE_NUM=00', 'ID_USB_DRIVER=usb-storage')),
+    ('a USB device alone in the block', event(stick()),
+     reported(['MODEL=Ultra_Fit', 'MODEL_ENC=Ultra\\x20Fit', 'MODEL_ID=5583', 'SERIAL=SanDisk_Ultra_Fit_4C530001234567890123', 'SERIAL_SHORT=4C530001234567890123', 'VENDOR=SanDisk', 'VENDOR_ENC=SanDisk', 'VENDOR_ID=0781', 'REVISION=0100'], 'ID_USB_INTERFACES=:080650:')),
+    ('an interface without a driver may have none', USB_DISK.replace('V: usb-storage\n', ''),
+     reported(['MODEL=Ultra_Fit', 'MODEL_ENC=Ultra\\x20Fit\\x20\\x20\\x20\\x20\\x20\\x20\\x20', 'MODEL_ID=5583', 'SERIAL=SanDisk_Ultra_Fit_4C530001234567890123-0:0', 'SERIAL_SHORT=4C530001234567890123', 'VENDOR=SanDisk', 'VENDOR_ENC=SanDisk\\x20', 'VENDOR_ID=0781', 'REVISION=1.00', 'TYPE=disk', 'INSTANCE=0:0'], 'ID_USB_INTERFACES=:080650:', 'ID_USB_INTERFACE_NUM=00')),
 ]
 
 ROWS = answered_by("usb_id", CASES)

@@ -1,5 +1,5 @@
 """`events --udev`: properties, and how long a text may be, as udevadm 257 answers it."""
-from tables.kinds.udev_blocks import DISK, NET
+from tables.kinds.udev_blocks import DISK, NET, THING, plugged
 from tables.kinds.udev_events import answered_as_udev
 
 CASES = [
@@ -28,6 +28,18 @@ CASES = [
       'ENV{E}=""\n'),
      DISK,
      []),
+    ('an empty property of the device is none',
+     'ENV{EMPTY}+="x"\nENV{ALSO}=="?*", ENV{A}="1"\nENV{ALSO}!="?*", ENV{B}="1"\n',
+     THING.replace('E: ID_SOME=1\n', 'E: ID_SOME=1\nE: EMPTY=\nE: ALSO=\n'),
+     ['env EMPTY=x', 'env B=1']),
+    ('an empty property of the parent is none',
+     'ENV{EMPTY}="x"\nIMPORT{parent}="EMPTY", ENV{A}="1"\n',
+     THING.replace('E: ID_BUS=usb\n', 'E: ID_BUS=usb\nE: EMPTY=\n'),
+     ['env EMPTY=x', 'env A=1']),
+    ('an empty modalias is none',
+     'IMPORT{builtin}="hwdb --subsystem=usb", ENV{A}="1"\n',
+     plugged('E: MODALIAS='),
+     ['env ID_HUB=1', 'env A=1']),
     ('ENV := is read as =',
      ('ENV{A}:="1"\n' +
       'ENV{A}="2"\n'),

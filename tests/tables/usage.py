@@ -5,7 +5,7 @@ MORE = "\nFor more information, try '--help'.\n"
 
 # of each command its arguments, its flags, and its options with the value that each takes
 COMMANDS = {
-    "update": ("[FILE]...", ["--strict", "--all"], {"--root": "<DIR>", "--format": "<FORMAT>", "--ignore": "<CODES>"}),
+    "update": ("[FILE]...", ["--strict", "--all", "--lint"], {"--root": "<DIR>", "--format": "<FORMAT>", "--ignore": "<CODES>"}),
     "query": ("<MODALIAS> [FILE]...", ["--all", "--sources"], {"--root": "<DIR>", "--index": "<FILE>"}),
     "verify": ("[FILE]...", ["--strict", "--all", "--no-summary", "--no-style", "--lint", "--udev"],
                {"--root": "<DIR>", "--format": "<FORMAT>", "--ignore": "<CODES>", "--users": "<FILE>", "--groups": "<FILE>"}),

@@ -58,6 +58,7 @@ Options:
       --all              Go on where a file can't be read, and fail where there is none
       --format <FORMAT>  How messages are written: plain, gcc, github, gitlab, json, sarif or human
       --ignore <CODES>   Leave out the messages of these codes, as V6,S; comments: as the files say
+      --lint             Also tell of lines that are most likely not the ones that were meant
   -h, --help             Print help
   -V, --version          Print version
 """
@@ -241,7 +242,7 @@ For more information, try '--help'.
 
 NO_SUCH_CODE = """\
 error: invalid value 'V27' for '<CODE>'
-  [possible values: V1, V2, V3, V4, V5, V6, V7, V8, V9, V10, V11, V12, V13, V14, V15, V16, V17, V18, V19, V20, V21, V22, V23, V24, V25, V26, S1, S2, S3, S4, S5, S6, H1, H2, H3, H4, H5, H6, W1, W2, W3, W4, W5, W6, W7, W8, W9, W10, W11, W12, W13, W14, I1, I2]
+  [possible values: V1, V2, V3, V4, V5, V6, V7, V8, V9, V10, V11, V12, V13, V14, V15, V16, V17, V18, V19, V20, V21, V22, V23, V24, V25, V26, S1, S2, S3, S4, S5, S6, H1, H2, H3, H4, H5, H6, W1, W2, W3, W4, W5, W6, W7, W8, W9, W10, W11, W12, W13, W14, D1, D2, D3, D4, D5, D6, D7, D8, D9, D10, D11, D12, D13, I1, I2]
 
 For more information, try '--help'.
 """
@@ -277,7 +278,7 @@ NOT_UNDERSTOOD = [
     ("verify --none", "error: unexpected argument '--none' found\n"),
     ("events --strict", "error: unexpected argument '--strict' found\n"),
     ("verify --sources", "error: unexpected argument '--sources' found\n"),
-    ("update --lint", "error: unexpected argument '--lint' found\n"),
+    ("query --lint m", "error: unexpected argument '--lint' found\n"),
     ("verify --why a.rules", "error: unexpected argument '--why' found\n"),
     ("query m --why a.rules", "error: unexpected argument '--why' found\n"),
     ("verify --questions a.rules", "error: unexpected argument '--questions' found\n"),

@@ -1,12 +1,42 @@
 -- What evaluating rules asks beyond the event, by the entries of a hardware database.
-use Rattle.std.specs.Prelude.{List}
+use Rattle.std.specs.Prelude.{Bool, List}
+use Rattle.text_tables.specs.Pairs.{Pair}
 use Rattle.hwdb_lookup.specs.declared.entry.Entry.{Entry}
+use Rattle.device_core.specs.Values.{EventValue}
+use Rattle.builtin_chains.specs.Needs.{input_needs, net_needs, path_needs, usb_needs}
 use Rattle.builtin_devices.specs.Knowledge.{Known}
+use Rattle.builtin_devices.specs.Outcomes.{OutcomeValue, needing_first}
 use Rattle.builtin_input.specs.Input.{input_id}
 use Rattle.builtin_net.specs.NetId.{lookup, net_id}
 use Rattle.builtin_path.specs.Path.{path_id}
 use Rattle.builtin_usb.specs.UsbId.{usb_id}
 
--- the entries, and the outcomes of the builtins of udev
+-- The outcomes of the builtins of udev. What the block would have to report about the devices that paths show comes before
+-- what a builtin itself looks for: without these devices it may look in vain, or at others.
+
+-- usb_id
+abbrev pub usb_outcome : EventValue → (is_bus_set : Bool) → OutcomeValue
+usb_outcome event is_bus_set = needing_first (usb_needs event) (usb_id event is_bus_set)
+
+-- path_id
+abbrev pub path_outcome : EventValue → OutcomeValue
+path_outcome event = needing_first (path_needs event) (path_id event)
+
+-- input_id
+abbrev pub input_outcome : EventValue → OutcomeValue
+input_outcome event = needing_first (input_needs event) (input_id event)
+
+-- net_id
+abbrev pub net_outcome : EventValue → (env : List Pair) → OutcomeValue
+net_outcome event env = needing_first (net_needs event) (net_id event env)
+
+-- the entries, and these outcomes
 abbrev pub known_by : List Entry → Known
-known_by entries = record { entries = entries; usb_id = usb_id; path_id = path_id; input_id = input_id; net_id = net_id; net_lookup = lookup }
+known_by entries = record {
+  entries = entries;
+  usb_id = usb_outcome;
+  path_id = path_outcome;
+  input_id = input_outcome;
+  net_id = net_outcome;
+  net_lookup = lookup;
+}

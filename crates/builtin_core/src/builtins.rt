@@ -2,6 +2,7 @@
 ghost use Rattle.std.specs.Prelude.{◌≡◌};
 ghost use Rattle.builtin_core.specs.Builtins.{known_by};
 
+use builtin_chains::{input_needs, net_needs, path_needs, usb_needs};
 use builtin_devices::{BuiltinOutcome, Knowledge, NetNames};
 use builtin_input::input_id;
 use builtin_net::net_id;
@@ -50,15 +51,21 @@ impl<L: Lookup> Knowledge for Builtins<L> {
         event: &Event<'_>,
         is_bus_set: bool,
     ) -> Result<BuiltinOutcome, AllocError> {
-        usb_id(alloc, event, is_bus_set)
+        let outcome = usb_id(alloc, event, is_bus_set)?;
+        let needs = usb_needs(alloc, event)?;
+        outcome.needing_first(alloc, needs)
     }
 
     fn path_id(&self, alloc: Global, event: &Event<'_>) -> Result<BuiltinOutcome, AllocError> {
-        path_id(alloc, event)
+        let outcome = path_id(alloc, event)?;
+        let needs = path_needs(alloc, event)?;
+        outcome.needing_first(alloc, needs)
     }
 
     fn input_id(&self, alloc: Global, event: &Event<'_>) -> Result<BuiltinOutcome, AllocError> {
-        input_id(alloc, event)
+        let outcome = input_id(alloc, event)?;
+        let needs = input_needs(alloc, event)?;
+        outcome.needing_first(alloc, needs)
     }
 
     fn net_id(
@@ -67,6 +74,9 @@ impl<L: Lookup> Knowledge for Builtins<L> {
         event: &Event<'_>,
         env: &CowPairs<'_>,
     ) -> Result<NetNames, AllocError> {
-        net_id(alloc, event, env)
+        let NetNames { outcome, lookup } = net_id(alloc, event, env)?;
+        let needs = net_needs(alloc, event)?;
+        let outcome = outcome.needing_first(alloc, needs)?;
+        Ok(NetNames { outcome, lookup })
     }
 }

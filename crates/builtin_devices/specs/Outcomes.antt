@@ -27,3 +27,7 @@ needs_of words = with_texts [] words
 -- the word for an attribute, if a device lacks it
 abbrev pub lacking : DeviceValue → (name word : Text) → List Text
 lacking device name word = if is_some (attribute device name) then [] else word ∷ []
+
+-- an outcome with other words before its own for what is needed, each once
+abbrev pub needing_first : List Text → OutcomeValue → OutcomeValue
+needing_first needs outcome = record outcome { needs = with_texts needs outcome.needs }

@@ -2,6 +2,7 @@
 ghost use Rattle.std.specs.Prelude.{◌≡◌, ◌<◌, ℕ, IfOk, length, map, option_copied, option_map};
 ghost use Rattle.std.specs.List.{find};
 ghost use Rattle.builtin_devices.specs.Devices.{above, attribute, device_before, device_by, has_type, is_at, is_of, is_text, parents_of, type_of};
+ghost use Rattle.builtin_devices.specs.Files.{described_devices};
 ghost use Rattle.builtin_devices.specs.Upward.{device_at};
 
 use crate::folders::described_devices;
@@ -53,6 +54,13 @@ impl<'a> Devices<'a> {
         ensures { result.now ≡ self.now }
     {
         self.event
+    }
+
+    /// The devices outside of the chain that the block describes by their paths, in its order.
+    pub fn described(&self) -> &[Device<'a>]
+        ensures { result.now ≡ described_devices self.now }
+    {
+        &self.described
     }
 
     /// The device with a path: of the chain, or else one that the block describes by its path.

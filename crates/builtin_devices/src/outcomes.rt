@@ -1,7 +1,7 @@
 //! The outcome of a builtin.
-ghost use Rattle.std.specs.Prelude.{◌≡◌, ◌++◌, ◌∷◌, [], OnOk};
+ghost use Rattle.std.specs.Prelude.{◌≡◌, ◌++◌, ◌∷◌, [], IfOk, OnOk};
 ghost use Rattle.text_tables.specs.Texts.{with_texts};
-ghost use Rattle.builtin_devices.specs.Outcomes.{failing, lacking, succeeding};
+ghost use Rattle.builtin_devices.specs.Outcomes.{failing, lacking, needing_first, succeeding};
 
 use device_core::Device;
 use std::alloc::{AllocError, Global};
@@ -47,6 +47,21 @@ impl BuiltinOutcome {
             properties: Vec::new(alloc),
             needs,
         }
+    }
+
+    /// The same outcome, where other names come before its own for what the block would have to report.
+    pub fn needing_first(
+        mut self,
+        alloc: Global,
+        mut needs: OwnedTexts,
+    ) -> Result<BuiltinOutcome, AllocError>
+        ensures { IfOk result (λ outcome. outcome ≡ needing_first needs self) }
+    {
+        for need in self.needs.as_slice() {
+            needs.add(alloc, need)?;
+        }
+        self.needs = needs;
+        Ok(self)
     }
 
     /// Whether the builtin succeeds.

@@ -6,8 +6,8 @@ use Rattle.text_bytes.specs.Names.{comma, delete, minus, space, underscore}
 use Rattle.text_bytes.specs.Texts.{is_empty}
 use Rattle.text_tables.specs.Texts.{Text}
 use Rattle.text_tables.specs.Pairs.{Pair}
+use Rattle.text_links.specs.Characters.{value_safe}
 use Rattle.text_links.specs.Encoded.{encoded}
-use Rattle.text_links.specs.Safe.{safe, value_marks}
 use Rattle.text_links.specs.Underscores.{underscored}
 use Rattle.device_core.specs.Values.{DeviceValue}
 use Rattle.builtin_devices.specs.Devices.{attribute}
@@ -36,7 +36,7 @@ most_serial_bytes = 511
 -- a text as it is reported: of at most so many bytes at its start, the words with `_` between them, made safe as a
 -- value
 unfoldable pub shown : (most : ℕ) → Text → Text
-shown most text = safe value_marks (underscored (take most text))
+shown most text = value_safe (underscored (take most text))
 
 -- the first of two texts if anything of it is reported, else the second
 abbrev pub from_first : Option Text → Text → Text

@@ -1,5 +1,5 @@
 -- The files of users and groups that a line names, as they come from the answers that a disk may give.
-use Rattle.std.specs.Prelude.{◌≡◌, ◌++◌, ◌⊎◌, ⊥, ℕ, true, List, MatchBool, Option, None, Some, if◌then◌else◌}
+use Rattle.std.specs.Prelude.{◌≡◌, ◌++◌, ◌⊎◌, ℕ, true, List, MatchBool, Option, None, Some, if◌then◌else◌}
 use Rattle.engine_ends.specs.declared.line.AccountFile.{AccountFile}
 use Rattle.engine_ends.specs.declared.line.Line.{Line}
 use Rattle.devdry_files.specs.Answers.{Answer}

@@ -54,7 +54,7 @@ fn read_named<'a, D: Disk>(
     disk: &D,
     mut file: AccountFile<'a>,
 ) -> Result<Option<AccountFile<'a>>, ReadFault>
-    requires { file.entry.of_root ≡ false }
+    requires { file.of_root ≡ false }
     ensures file { IfOk result (λ read. (root : List ℕ) → IsFileRead (D.may_answer disk.now) root file.entry read) }
     ensures fault { IfErr result (HasPath (λ path. (path ≡ file.entry.path.now) × IsUnread (D.may_answer disk.now) path)) }
 {
@@ -79,7 +79,7 @@ fn read_of_root<'a, D: Disk>(
     root: &str,
     mut file: AccountFile<'a>,
 ) -> Result<Option<AccountFile<'a>>, ReadFault>
-    requires { file.entry.of_root ≡ true }
+    requires { file.of_root ≡ true }
     ensures file { IfOk result (IsFileRead (D.may_answer disk.now) root.now file.entry) }
     ensures fault { IfErr result (HasPath (λ path. (path ≡ root.now ++ file.entry.path.now)
         × IsUnread (MayInside (D.may_answer disk.now) root.now) path)) }

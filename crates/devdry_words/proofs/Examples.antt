@@ -87,9 +87,13 @@ verify_is_asked : option_map {U = Option Format × (Bool × (Bool × List Text))
 unfolding clap_on_literals devdry
 verify_is_asked = refl
 
-lint_of_update : fault_of devdry (codes "update" ∷ codes "--lint" ∷ []) ≡ kind.UnknownArgument ∷ []
+lint_of_update : takes devdry (codes "update" ∷ codes "--lint" ∷ codes "a.hwdb" ∷ []) ≡ true
 unfolding clap_on_literals devdry
 lint_of_update = refl
+
+lint_of_query : fault_of devdry (codes "query" ∷ codes "--lint" ∷ codes "usb:v1" ∷ []) ≡ kind.UnknownArgument ∷ []
+unfolding clap_on_literals devdry
+lint_of_query = refl
 
 udev_is_asked : option_map {U = Profile × List Text} (λ p. (profile_of Verify p.1, texts_of (codes "FILE") p.1)) (subcommand_of devdry (codes "verify" ∷ codes "--udev" ∷ codes "a.rules" ∷ []))
     ≡ Some (Udev, codes "a.rules" ∷ [])
@@ -283,6 +287,6 @@ each_format_is_found Sarif = refl
 each_format_is_found Human = refl
 each_format_is_found HumanInColor = refl
 
-pub each_code_is_listed : codes "V1, V2, V3, V4, V5, V6, V7, V8, V9, V10, V11, V12, V13, V14, V15, V16, V17, V18, V19, V20, V21, V22, V23, V24, V25, V26, S1, S2, S3, S4, S5, S6, H1, H2, H3, H4, H5, H6, W1, W2, W3, W4, W5, W6, W7, W8, W9, W10, W11, W12, W13, W14, I1, I2" ≡ known_codes
+pub each_code_is_listed : codes "V1, V2, V3, V4, V5, V6, V7, V8, V9, V10, V11, V12, V13, V14, V15, V16, V17, V18, V19, V20, V21, V22, V23, V24, V25, V26, S1, S2, S3, S4, S5, S6, H1, H2, H3, H4, H5, H6, W1, W2, W3, W4, W5, W6, W7, W8, W9, W10, W11, W12, W13, W14, D1, D2, D3, D4, D5, D6, D7, D8, D9, D10, D11, D12, D13, I1, I2" ≡ known_codes
 unfolding known_codes listed heading_parts split_once
 each_code_is_listed = refl

@@ -36,11 +36,11 @@ files_rule = record (new_rule (codes "FILE")) { action = Some Append }
 abbrev pub with_rules : Text → List Rule → Shape
 with_rules name rules = record (new_shape name) { rules = rules }
 
--- `update [-r DIR] [-s] [--all] [--format FORMAT] [--ignore CODES].. [FILE]..`
+-- `update [-r DIR] [-s] [--all] [--format FORMAT] [--ignore CODES].. [--lint] [FILE]..`
 abbrev pub update_shape : Shape
 update_shape = with_rules (codes "update")
     (root_rule ∷ strict_rule ∷ flag_rule (codes "all") ∷ option_rule (codes "format") ∷ repeated_rule (codes "ignore")
-    ∷ files_rule ∷ [])
+    ∷ flag_rule (codes "lint") ∷ files_rule ∷ [])
 
 -- `query [-r DIR] [--all] [--sources] [--index FILE] MODALIAS [FILE]..`
 abbrev pub query_shape : Shape

@@ -39,6 +39,11 @@ const RULES_FILES: &str = "Rules files to read in place of the folders";
 
 const MESSAGES_FAIL: &str = "Exit with status 1 if there is a message";
 const EVERY_CHECK: &str = "Make every check: --lint, --udev, --all, users and groups of the root";
+
+const LINT_RULES: &str = "Also tell of rules that are most likely not the ones that were meant";
+
+const LINT_RECORDS: &str = "Also tell of lines that are most likely not the ones that were meant";
+
 const READ_AS_UDEV: &str = "Read rules as udev itself reads them";
 
 const EVALUATE_AS_UDEV: &str = "Read and evaluate rules as udev itself does";
@@ -129,15 +134,11 @@ fn no_style_flag<'a>(alloc: Global) -> Arg<'a>
     flag(alloc, "no-style", "Give no messages about style")
 }
 
-/// `--lint`: rules that are most likely not the ones that were meant are reported, too.
-fn lint_flag<'a>(alloc: Global) -> Arg<'a>
+/// `--lint`: what is most likely not what was meant is reported, too; with the help that its subcommand has for it.
+fn lint_flag<'a>(alloc: Global, help: &'a str) -> Arg<'a>
     ensures { (rule_of result ≡ flag_rule (codes "lint")) × (result.global ≡ false) }
 {
-    flag(
-        alloc,
-        "lint",
-        "Also tell of rules that are most likely not the ones that were meant",
-    )
+    flag(alloc, "lint", help)
 }
 
 /// `--udev`, with the help that its subcommand has for it.
@@ -268,6 +269,7 @@ fn update_command<'a>(alloc: Global) -> Result<Command<'a>, AllocError>
         .arg(all_flag(alloc))?
         .arg(format_option(alloc))?
         .arg(ignore_option(alloc))?
+        .arg(lint_flag(alloc, LINT_RECORDS))?
         .arg(files_argument(alloc, DATABASE_FILES))
 }
 
@@ -299,7 +301,7 @@ fn verify_command<'a>(alloc: Global) -> Result<Command<'a>, AllocError>
         .arg(ignore_option(alloc))?
         .arg(no_summary_flag(alloc))?
         .arg(no_style_flag(alloc))?
-        .arg(lint_flag(alloc))?
+        .arg(lint_flag(alloc, LINT_RULES))?
         .arg(udev_flag(alloc, READ_AS_UDEV))?
         .arg(users_option(alloc))?
         .arg(groups_option(alloc))?

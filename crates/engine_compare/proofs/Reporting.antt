@@ -5,9 +5,9 @@ use Rattle.text_bytes.specs.Names.{newline, minus, plus}
 use Rattle.text_tables.specs.Texts.{Text}
 use Rattle.device_core.specs.Values.{EventValue}
 use Rattle.engine_answers.specs.Lines.{event_line}
-use Rattle.engine_compare.specs.Surplus.{times, surplus}
+use Rattle.text_tallies.specs.Surplus.{times, surplus}
 use Rattle.engine_compare.specs.Differences.{compared_lines, differences, marked_lines, reported_for}
-use Rattle.engine_compare.proofs.Counting.{nothing_differs}
+use Rattle.text_tallies.proofs.Counting.{nothing_differs}
 
 -- four texts in a row, the first apart
 pub apart : (a b c d : Text) → ((a ++ b) ++ c) ++ d ≡ a ++ ((b ++ c) ++ d)

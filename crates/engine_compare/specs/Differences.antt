@@ -6,7 +6,7 @@ use Rattle.text_bytes.specs.Lines.{lines}
 use Rattle.text_tables.specs.Texts.{Text}
 use Rattle.device_core.specs.Values.{EventValue}
 use Rattle.engine_answers.specs.Lines.{event_line}
-use Rattle.engine_compare.specs.Surplus.{surplus}
+use Rattle.text_tallies.specs.Surplus.{surplus}
 
 -- whether a line of an answer is compared: it has a byte, and is not a note
 abbrev pub is_compared : Text → Bool

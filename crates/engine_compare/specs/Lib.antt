@@ -1,3 +1,1 @@
-pub mod Surplus
-pub mod Tallies
 pub mod Differences

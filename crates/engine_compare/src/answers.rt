@@ -3,11 +3,11 @@ ghost use Rattle.std.specs.Prelude.{◌≡◌, ◌++◌, ◌∷◌, [], filter, 
 ghost use Rattle.text_bytes.specs.Lines.{lines};
 ghost use Rattle.engine_compare.specs.Differences.{after_first, compared_lines, differences, is_compared, marked_line, marked_lines, reported_for};
 
-use crate::tallies::surplus;
 use device_core::Event;
 use engine_answers::push_event;
 use std::alloc::{AllocError, Global};
 use text_bytes::{Bytes, first_line};
+use text_tallies::surplus;
 
 /// What appears and disappears between an old and a new answer to an event: the event's line, the old lines that
 /// the new answer has less often, each after `-`, the new ones that the old answer has less often, each after `+`,

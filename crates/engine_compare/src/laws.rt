@@ -1,38 +1,10 @@
 //! Laws of the lines that appear and disappear. Each is the contract of a function with an empty body.
-ghost use Rattle.std.specs.Prelude.{◌≡◌, ◌↔◌, ◌+◌, ◌-◌, ◌≤◌, true, false, List, [], ◌∷◌, ◌++◌, codes};
-ghost use Rattle.text_tables.specs.Texts.{Text, is_among};
+ghost use Rattle.std.specs.Prelude.{◌≡◌, ◌↔◌, ◌++◌, [], codes};
+ghost use Rattle.text_tables.specs.Texts.{Text};
+ghost use Rattle.text_tallies.specs.Surplus.{times};
 ghost use Rattle.device_core.specs.Values.{EventValue};
 ghost use Rattle.engine_answers.specs.Lines.{event_line};
 ghost use Rattle.engine_compare.specs.Differences.{compared_lines, differences};
-ghost use Rattle.engine_compare.specs.Surplus.{surplus, times, unless_fewer};
-
-/// A line is reported as many times as its list has it more often than the other list.
-pub fn lines_are_reported_as_often_as_they_are_more()
-    ensures { (texts others : List Text) (text : Text) → times text (surplus texts others) ≡ times text texts - times text others }
-{}
-
-/// If the lines that disappear are removed from the old ones and those that appear are added, the new ones are
-/// left, each as often as it is there.
-pub fn differences_lead_from_old_to_new()
-    ensures taken { (old new : List Text) (text : Text) → times text (surplus old new) ≤ times text old }
-    ensures put { (old new : List Text) (text : Text) → (times text old - times text (surplus old new)) + times text (surplus new old) ≡ times text new }
-{}
-
-/// No line both disappears and appears.
-pub fn no_line_disappears_and_appears()
-    ensures { (old new : List Text) (text : Text) → is_among (surplus old new) text ≡ true → is_among (surplus new old) text ≡ false }
-{}
-
-/// No line disappears or appears if and only if both lists have each line equally often, in whatever order.
-pub fn nothing_differs_where_lines_are_the_same()
-    ensures { (old new : List Text) → ((surplus old new ≡ []) × (surplus new old ≡ [])) ↔ ((text : Text) → times text old ≡ times text new) }
-{}
-
-/// Lines are reported in the order of their list, and of equal ones the last: a line at the end of a list
-/// is reported after the others, unless those before it have it less often than the other list.
-pub fn the_last_of_equal_lines_are_reported()
-    ensures { (texts others : List Text) (text : Text) → surplus (texts ++ text ∷ []) others ≡ surplus texts others ++ unless_fewer texts text others }
-{}
 
 /// Nothing is reported for two equal answers.
 pub fn the_same_answer_differs_in_nothing()

@@ -1,12 +1,13 @@
 -- Diagnostics as JSON.
 use Rattle.std.specs.Prelude.{ℕ, List, [], ◌∷◌, ◌++◌, codes, decimal, map}
 use Rattle.std.specs.Str.Lossy.{utf8_lossy}
-use Rattle.text_bytes.specs.Names.{colon, newline}
+use Rattle.text_bytes.specs.Names.{newline}
 use Rattle.engine_ends.specs.Places.{word_part}
 use Rattle.json.specs.Json.{Json, array, number, object, string, Items, item, no_items, Members, member, no_members}
 use Rattle.json.specs.Print.{print}
 use Rattle.json.specs.Tree.{json_tokens}
 use Rattle.engine_formats.specs.Diagnostics.{DiagnosticValue}
+use Rattle.engine_formats.specs.Fingerprints.{FingerprintedValue, fingerprinted}
 use Rattle.engine_formats.specs.Remarks.{code_of, remark_heading, severity_of, severity_word, text_of}
 use Rattle.engine_formats.specs.declared.remark.Severity.{Severity}
 use Rattle.engine_formats.specs.declared.remark.Severity.TheVariants.{Error, Warning}
@@ -57,25 +58,23 @@ abbrev pub gitlab_severity : Severity → List ℕ
 gitlab_severity Error = codes "major"
 gitlab_severity Warning = codes "minor"
 
--- what distinguishes a diagnostic from the others about its file: `LINE:COLUMN:V6:PATH`
-abbrev pub fingerprint : DiagnosticValue → List ℕ
-fingerprint d = decimal d.line ++ colon ∷ decimal d.column ++ colon ∷ code_of d.remark ++ colon ∷ d.path
-
 -- the file and the line of a diagnostic
 abbrev pub gitlab_location : DiagnosticValue → Json
 gitlab_location d =
     object_of ((codes "path", text_value d.path) ∷ (codes "lines", object_of ((codes "begin", number_value d.line) ∷ [])) ∷ [])
 
--- a diagnostic as an issue of code quality
-abbrev pub gitlab_issue : DiagnosticValue → Json
-gitlab_issue d = object_of (
+-- a diagnostic with its fingerprint as an issue of code quality
+abbrev pub gitlab_issue : FingerprintedValue → Json
+gitlab_issue f =
+    let d = f.diagnostic in
+    object_of (
     (codes "description", text_value (remark_heading d.remark ++ word_part d.word))
     ∷ (codes "check_name", text_value (code_of d.remark))
-    ∷ (codes "fingerprint", text_value (fingerprint d))
+    ∷ (codes "fingerprint", string f.fingerprint)
     ∷ (codes "severity", string (gitlab_severity (severity_of d.remark)))
     ∷ (codes "location", gitlab_location d)
     ∷ [])
 
 -- diagnostics as a report of code quality: an array of issues, on one line
 unfoldable pub gitlab_report : List DiagnosticValue → List ℕ
-gitlab_report ds = print (json_tokens (array_of (map gitlab_issue ds))) ++ newline ∷ []
+gitlab_report ds = print (json_tokens (array_of (map gitlab_issue (fingerprinted ds)))) ++ newline ∷ []

@@ -20,7 +20,7 @@ use Rattle.eval_acts.specs.LookUps.{found}
 use Rattle.eval_acts.specs.Printed.{printed_properties}
 use Rattle.eval_commands.specs.declared.builtin.Builtin.{Builtin}
 use Rattle.eval_commands.specs.declared.builtin.Builtin.TheVariants as asked
-use Rattle.eval_state.specs.Properties.{properties_set, property_set}
+use Rattle.eval_state.specs.Properties.{given_properties, properties_set, property_set}
 use Rattle.eval_state.specs.Scenes.{noted, with_env}
 use Rattle.eval_state.specs.declared.note_kind.NoteKind.{NoteKind}
 use Rattle.eval_state.specs.declared.note_kind.NoteKind.TheVariants.{BadHwdbArguments, BuiltinNotRun, ImportNotRun, NoAnswer}
@@ -70,7 +70,7 @@ names_fitting names properties = filter (λ property. choice_fits names property
 -- IMPORT{parent} takes the properties of the second device whose names fit; it was done if there is such a device
 abbrev pub from_parent : List (List Item) → Option DeviceValue → Scene → Scene × Bool
 from_parent names None s = (s, false)
-from_parent names (Some parent) s = (with_env (with_values s.state.env (names_fitting names parent.env)) s, true)
+from_parent names (Some parent) s = (with_env (with_values s.state.env (names_fitting names (given_properties s.state.event.profile parent.env))) s, true)
 
 -- IMPORT{program} of a command of udev's, which the event's block answers
 abbrev pub from_program : Rule → Text → Scene → Scene × Bool

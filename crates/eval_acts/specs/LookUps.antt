@@ -14,6 +14,7 @@ use Rattle.hwdb_lookup.specs.Query.{query}
 use Rattle.builtin_devices.specs.Knowledge.{Known}
 use Rattle.device_core.specs.Values.{DeviceValue}
 use Rattle.builtin_devices.specs.Devices.{is_text, type_of}
+use Rattle.eval_state.specs.Texts.{filled}
 use Rattle.eval_state.specs.declared.state.State.{State}
 use Rattle.eval_acts.specs.UsbModalias.{made_up}
 use Rattle.eval_commands.specs.declared.hwdb.Hwdb.{Hwdb}
@@ -24,11 +25,11 @@ pub record Candidate : Type 0 where
   pub devtype : Option Text
   pub modalias : Option Text
 
--- A device, by its properties DEVTYPE and MODALIAS. For udev the type is what the kernel calls it, and a device
--- without a modalias may have one that is made up.
+-- A device, by its properties DEVTYPE and MODALIAS. For udev the type is what the kernel calls it, an empty property is
+-- none, and a device without a modalias may have one that is made up.
 abbrev pub candidate_with : Profile → DeviceValue → (devtype modalias : Option Text) → Candidate
 candidate_with Manual device devtype modalias = record { subsystem = device.subsystem; devtype = devtype; modalias = modalias }
-candidate_with Udev device devtype modalias = record { subsystem = device.subsystem; devtype = type_of device; modalias = option_or modalias (made_up device) }
+candidate_with Udev device devtype modalias = record { subsystem = device.subsystem; devtype = type_of device; modalias = option_or (filled modalias) (made_up device) }
 
 -- a device by these properties
 abbrev pub candidate : Profile → DeviceValue → List Pair → Candidate

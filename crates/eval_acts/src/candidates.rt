@@ -2,6 +2,7 @@
 ghost use Rattle.std.specs.Prelude.{◌≡◌, ◌≤◌, None, length, map, option_map, IfOk};
 ghost use Rattle.std.specs.Option.{option_or};
 ghost use Rattle.text_bytes.specs.declared.profile.Profile.TheVariants.{Udev};
+ghost use Rattle.eval_state.specs.Texts.{filled};
 ghost use Rattle.eval_acts.specs.Inner.{candidates_as, wanted_in};
 ghost use Rattle.eval_acts.specs.LookUps.{candidate_with, count_before_usb, is_last, is_usb_device, is_wanted, modaliases_in, udev_modaliases_of};
 ghost use Rattle.eval_acts.specs.UsbModalias.{made_up};
@@ -31,17 +32,17 @@ impl<'a> Model for Candidate<'a> {
     ghost view = { λ c. record { subsystem = option_map (λ t. t.now) c.subsystem; devtype = option_map (λ t. t.now) c.devtype; modalias = c.modalias } };
 }
 
-/// The modalias of a device, or the one that udev makes up for it if it has none.
+/// The modalias of a device, or the one that udev makes up for it if it has none; an empty one is none.
 fn own_or_made_up(
     alloc: Global,
     device: &Device<'_>,
     modalias: Option<&[u8]>,
 ) -> Result<Option<Bytes>, AllocError>
-    ensures { IfOk result (λ text. text ≡ option_or (option_map (λ t. t.now) modalias.entry) (made_up device.now)) }
+    ensures { IfOk result (λ text. text ≡ option_or (filled (option_map (λ t. t.now) modalias.entry)) (made_up device.now)) }
 {
     match modalias {
-        Some(modalias) => Ok(Some(Bytes::copy_of(alloc, modalias)?)),
-        None => made_up(alloc, device),
+        Some(modalias) if !modalias.is_empty() => Ok(Some(Bytes::copy_of(alloc, modalias)?)),
+        _ => made_up(alloc, device),
     }
 }
 

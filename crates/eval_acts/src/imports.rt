@@ -3,7 +3,8 @@ ghost use Rattle.std.specs.Prelude.{◌≡◌, IfOk, OnErr, OnOk, option_map};
 ghost use Rattle.text_tables.specs.Pairs.{value_of, with_values};
 ghost use Rattle.hwdb_lookup.specs.Query.{shown};
 ghost use Rattle.eval_state.specs.Chains.{device_at};
-ghost use Rattle.eval_state.specs.Properties.{properties_set};
+ghost use Rattle.text_bytes.specs.declared.profile.Profile.TheVariants.{Udev};
+ghost use Rattle.eval_state.specs.Properties.{given_properties, properties_set};
 ghost use Rattle.eval_state.specs.declared.note_kind.NoteKind.TheVariants.{BuiltinNotRun};
 ghost use Rattle.eval_commands.specs.Builtins.{builtin_question};
 ghost use Rattle.text_core.specs.Choices.{choice_fits};
@@ -198,6 +199,39 @@ fn set_fitting(
     Ok(())
 }
 
+/// Sets those that are not empty.
+fn set_filled_fitting(
+    alloc: Global,
+    env: &mut CowPairs<'_>,
+    names: &[Pattern],
+    properties: &Pairs<'_>,
+) -> Result<(), AllocError>
+    ensures { OnOk result (env.new ≡ with_values env.old (names_fitting names.now (given_properties Udev properties.now))) }
+{
+    for (name, value) in properties.as_map().iter() {
+        if !value.is_empty() && any_fits(names, name) {
+            env.set(alloc, name, value)?;
+        }
+    }
+    Ok(())
+}
+
+/// Sets those that a device has by a profile.
+fn set_given_fitting(
+    alloc: Global,
+    profile: Profile,
+    env: &mut CowPairs<'_>,
+    names: &[Pattern],
+    properties: &Pairs<'_>,
+) -> Result<(), AllocError>
+    ensures { OnOk result (env.new ≡ with_values env.old (names_fitting names.now (given_properties profile properties.now))) }
+{
+    match profile {
+        Profile::Manual => set_fitting(alloc, env, names, properties),
+        Profile::Udev => set_filled_fitting(alloc, env, names, properties),
+    }
+}
+
 /// Takes the properties of the second device of the chain whose names fit one of these patterns, if there is one.
 fn import_fitting(
     alloc: Global,
@@ -209,7 +243,8 @@ fn import_fitting(
 {
     match scene.state.event.device_at(1) {
         Some(parent) => {
-            set_fitting(alloc, &mut scene.state.env, names, parent.env())?;
+            let profile = scene.state.event.event().profile();
+            set_given_fitting(alloc, profile, &mut scene.state.env, names, parent.env())?;
             Ok(true)
         }
         None => Ok(false),

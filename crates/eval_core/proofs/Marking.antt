@@ -11,7 +11,7 @@ use Rattle.eval_core.specs.Sketches.{sketch}
 use Rattle.device_core.specs.Values.{DeviceValue, EventValue, chain}
 use Rattle.eval_state.specs.Texts.{or_empty}
 use Rattle.text_bytes.specs.Texts.{trimmed}
-use Rattle.eval_core.specs.Marks.{attribute_mark, driver, is_lacking, mark, marks, none_set, subsystem, with_attribute, with_device, with_mark}
+use Rattle.eval_core.specs.Marks.{attribute_mark, driver, is_lacking, mark, mark_count, marks, none_set, subsystem, with_attribute, with_device, with_mark}
 
 -- a mark is set
 abbrev pub Has : List Bool → ℕ → Type 0
@@ -19,13 +19,13 @@ Has found place = slice_get found place ≡ Some true
 
 -- all marks are there, set or not
 abbrev pub IsWhole : List Bool → Type 0
-IsWhole found = length found ≡ 2048
+IsWhole found = length found ≡ mark_count
 
 -- ---- one mark
 
-below : (thing value : ℕ) → mark thing value < 2048
+below : (thing value : ℕ) → mark thing value < mark_count
 unfolding mark
-below thing value = mod_below ((thing % 2048) * 31 + value % 2048) 2048 (omega arith)
+below thing value = mod_below ((thing % mark_count) * 31 + value % mark_count) mark_count (omega arith)
 
 kept : (found : List Bool) (place other : ℕ) → Has found place → Has (with_mark found other) place
 kept [] place other h = h
@@ -34,7 +34,7 @@ kept (b ∷ found) zero (suc other) h = h
 kept (b ∷ found) (suc place) zero h = h
 kept (b ∷ found) (suc place) (suc other) h = kept found place other h
 
-added : (found : List Bool) (place : ℕ) → IsWhole found → place < 2048 → Has (with_mark found place) place
+added : (found : List Bool) (place : ℕ) → IsWhole found → place < mark_count → Has (with_mark found place) place
 added found place whole within =
     let here : place < length found = subst (λ n. place < n) (sym whole) within in
     slice_get-get_or (with_mark found place) place false (subst (λ n. place < n) (sym (length-set found place true)) here)
@@ -116,7 +116,7 @@ in_chain (x ∷ ds) found m (suc place) d whole e has = in_chain ds (with_device
 
 -- what a device of the chain has is marked
 pub marked : (event : EventValue) (m place : ℕ) (d : DeviceValue) → slice_get (chain event) place ≡ Some d → ((f : List Bool) → IsWhole f → Has (with_device f d) m) → Has (marks event) m
-marked event m place d e has = in_chain (chain event) none_set m place d (length-replicate 2048 false) e has
+marked event m place d e has = in_chain (chain event) none_set m place d (length-replicate mark_count false) e has
 
 -- if one mark is set and another is not, they are of other values
 pub other_value : (found : List Bool) (thing value wanted : ℕ) → Has found (mark thing value) → is_lacking (slice_get found (mark thing wanted)) ≡ true → not (value == wanted) ≡ true

@@ -38,7 +38,7 @@ use Rattle.eval_state.specs.declared.scene.Scene.{Scene}
 use Rattle.eval_acts.specs.Acts.{act_step}
 use Rattle.eval_acts.specs.Reaching.{match_reached}
 use Rattle.eval_rules.specs.Steps.{if_proceeding, plain_step, result_step, search, set_all, steps, walk}
-use Rattle.eval_core.specs.Checks.{after_five, attribute_seen, check_by, check_in, check_of, choice_check, differs, equal_check, head_slot, is_other, is_ruled_out, seen, slot_of}
+use Rattle.eval_core.specs.Checks.{after_others, attribute_seen, check_by, check_in, check_of, choice_check, differs, equal_check, first_attribute_slot, head_slot, is_other, is_ruled_out, seen, slot_of}
 use Rattle.eval_core.specs.declared.checks.Check.{Check}
 
 -- ---- what does not fit
@@ -98,9 +98,9 @@ attribute_missed wanted found (Some v) e other =
 -- ---- what is seen of an event
 
 -- what is at the slot of an attribute
-attribute_at : (names : List Text) (name : Text) (event : EventValue) (place : ℕ) → position (same_text name) names ≡ Some place → slice_get (seen names event) (place + 5) ≡ Some (attribute_seen event.device name)
+attribute_at : (names : List Text) (name : Text) (event : EventValue) (place : ℕ) → position (same_text name) names ≡ Some place → slice_get (seen names event) (place + first_attribute_slot) ≡ Some (attribute_seen event.device name)
 attribute_at names name event place found =
-    let five : place + 5 ≡ suc (suc (suc (suc (suc place)))) = omega arith in
+    let five : place + first_attribute_slot ≡ suc (suc (suc (suc (suc place)))) = omega arith in
     let at = position-Some (same_text name) names place [] found in
     let is : name ≡ get_or names place [] = (bytes_decides name (get_or names place [])).0 at.1 in
     ap (λ n. slice_get (seen names event) n) five
@@ -127,7 +127,7 @@ module _ (names : List Text) (r : Rule) (s : Scene) (manual : s.state.event.prof
   text_ruled slot text wanted at (Some found) e h = text_missed wanted found text e (ap (λ o. differs o found) (sym at) ∙ h)
 
   attribute_ruled : (name : Text) (wanted : Comparison) (p : Option ℕ) → position (same_text name) names ≡ p → (o : Option ℕ) → exact_sketch wanted.choice ≡ o
-      → is_ruled_out (seen names s.state.event) (check_by (after_five p) o) ≡ true → holds (attribute (value_of s.state.event.device.attrs name)) wanted ≡ agrees wanted.operator false
+      → is_ruled_out (seen names s.state.event) (check_by (after_others p) o) ≡ true → holds (attribute (value_of s.state.event.device.attrs name)) wanted ≡ agrees wanted.operator false
   attribute_ruled name wanted None at o e h = nothing_known h
   attribute_ruled name wanted (Some place) at None e h = nothing_known h
   attribute_ruled name wanted (Some place) at (Some found) e h =

@@ -17,28 +17,51 @@ use Rattle.eval_state.specs.Texts.{or_empty}
 use Rattle.text_bytes.specs.Texts.{trimmed}
 use Rattle.eval_core.specs.declared.checks.Check.{Check}
 
--- the position of an attribute in what is seen, by its place among the names: after five others
-abbrev pub after_five : Option ℕ → Option ℕ
-after_five None = None
-after_five (Some place) = Some (place + 5)
+-- the positions in what is seen of an event: the action, the kernel's name, the subsystem, the driver, the first byte of
+-- the kernel's name, and the first attribute
+abbrev pub action_slot : ℕ
+action_slot = 0
+
+abbrev pub kernel_slot : ℕ
+kernel_slot = 1
+
+abbrev pub subsystem_slot : ℕ
+subsystem_slot = 2
+
+abbrev pub driver_slot : ℕ
+driver_slot = 3
+
+abbrev pub kernel_head_slot : ℕ
+kernel_head_slot = 4
+
+abbrev pub first_attribute_slot : ℕ
+first_attribute_slot = 5
+
+-- at most how many attributes are looked up for each event
+abbrev pub most_names : ℕ
+most_names = 60
+
+-- the position of an attribute in what is seen, by its place among the names
+abbrev pub after_others : Option ℕ → Option ℕ
+after_others None = None
+after_others (Some place) = Some (place + first_attribute_slot)
 
 -- the position of an attribute in what is seen
 abbrev pub attribute_slot : List Text → Text → Option ℕ
-attribute_slot names name = after_five (position (same_text name) names)
+attribute_slot names name = after_others (position (same_text name) names)
 
--- the position of what a key looks at in what is seen: the action, the kernel's name, the subsystem, the driver, and
--- after the first byte of the kernel's name the attributes
+-- the position of what a key looks at in what is seen
 abbrev pub slot_of : List Text → PlainKey → Option ℕ
-slot_of names plain.Action = Some 0
-slot_of names plain.Kernel = Some 1
-slot_of names plain.Subsystem = Some 2
-slot_of names plain.Driver = Some 3
+slot_of names plain.Action = Some action_slot
+slot_of names plain.Kernel = Some kernel_slot
+slot_of names plain.Subsystem = Some subsystem_slot
+slot_of names plain.Driver = Some driver_slot
 slot_of names (plain.Attr name) = attribute_slot names name
 slot_of names key = None
 
 -- the position of the first byte of what a key looks at in what is seen
 abbrev pub head_slot : PlainKey → Option ℕ
-head_slot plain.Kernel = Some 4
+head_slot plain.Kernel = Some kernel_head_slot
 head_slot key = None
 
 -- a check, if both its parts are known

@@ -13,13 +13,17 @@ subsystem = 1
 abbrev pub driver : ℕ
 driver = 2
 
+-- how many marks there are
+abbrev pub mark_count : ℕ
+mark_count = 2048
+
 -- the mark of a thing with a value, each given as a number
 unfoldable pub mark : ℕ → ℕ → ℕ
-mark thing value = ((thing % 2048) * 31 + value % 2048) % 2048
+mark thing value = ((thing % mark_count) * 31 + value % mark_count) % mark_count
 
 -- no mark is set
 abbrev pub none_set : List Bool
-none_set = replicate 2048 false
+none_set = replicate mark_count false
 
 -- marks with one more
 abbrev pub with_mark : List Bool → ℕ → List Bool

@@ -6,7 +6,7 @@
 //! first byte is nearly always known.
 ghost use Rattle.std.specs.Prelude.{◌≡◌, ◌<◌, ◌≤◌, length, position, IfOk, IfSome};
 ghost use Rattle.text_tables.specs.Texts.{same_text};
-ghost use Rattle.eval_core.specs.Checks.{attribute_slot, check_by, check_of, check_with, choice_check, head_slot, slot_of};
+ghost use Rattle.eval_core.specs.Checks.{attribute_slot, check_by, check_of, check_with, choice_check, head_slot, most_names, slot_of};
 
 use crate::heads::exact_head;
 use crate::sketches::exact_sketch;
@@ -17,6 +17,18 @@ use text_core::Choice;
 
 /// At most how many attributes are looked up for each event.
 const MAX_NAMES: usize = 60;
+
+/// The positions in what is seen of an event.
+const ACTION_SLOT: usize = 0;
+const KERNEL_SLOT: usize = 1;
+const SUBSYSTEM_SLOT: usize = 2;
+const DRIVER_SLOT: usize = 3;
+
+/// The position of the first byte of the kernel's name.
+const KERNEL_HEAD_SLOT: usize = 4;
+
+/// The position of the first of the attributes that are looked up, which come last.
+const FIRST_ATTRIBUTE_SLOT: usize = 5;
 
 /// What has to be seen of an event for a choice to fit.
 #[derive(Clone, Copy, Debug)]
@@ -35,11 +47,11 @@ fn place_of(names: &[Bytes], name: &[u8]) -> Option<usize>
     names.iter().position(|known| name == known.as_slice())
 }
 
-/// The position of an attribute in what is seen of an event: after five others.
+/// The position of an attribute in what is seen of an event.
 fn attribute_slot(names: &[Bytes], name: &[u8]) -> Option<usize>
     ensures { result ≡ attribute_slot names.now name.now }
 {
-    Some(place_of(names, name)? + 5)
+    Some(place_of(names, name)? + FIRST_ATTRIBUTE_SLOT)
 }
 
 /// The position of what a key looks at in what is seen of an event, if it is there.
@@ -47,10 +59,10 @@ fn slot_of(names: &[Bytes], key: &PlainKey) -> Option<usize>
     ensures { result ≡ slot_of names.now key.now }
 {
     match key {
-        PlainKey::Action => Some(0),
-        PlainKey::Kernel => Some(1),
-        PlainKey::Subsystem => Some(2),
-        PlainKey::Driver => Some(3),
+        PlainKey::Action => Some(ACTION_SLOT),
+        PlainKey::Kernel => Some(KERNEL_SLOT),
+        PlainKey::Subsystem => Some(SUBSYSTEM_SLOT),
+        PlainKey::Driver => Some(DRIVER_SLOT),
         PlainKey::Attr(name) => attribute_slot(names, name.as_slice()),
         _ => None,
     }
@@ -71,7 +83,7 @@ fn head_slot(key: &PlainKey) -> Option<usize>
     ensures { result ≡ head_slot key.now }
 {
     match key {
-        PlainKey::Kernel => Some(4),
+        PlainKey::Kernel => Some(KERNEL_HEAD_SLOT),
         _ => None,
     }
 }
@@ -113,7 +125,7 @@ fn first_attribute(rule: &Rule) -> Option<&[u8]> {
 
 /// The names of the attributes that rules look at first, as many as are looked up for each event.
 pub(crate) fn first_attributes(alloc: Global, rules: &[Rule]) -> Result<Vec<Bytes>, AllocError>
-    ensures { IfOk result (λ names. length names.items ≤ 60) }
+    ensures { IfOk result (λ names. length names.items ≤ most_names) }
 {
     let mut names = Vec::new(alloc);
     for name in rules.iter().filter_map(first_attribute) {

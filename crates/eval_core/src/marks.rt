@@ -4,7 +4,7 @@
 //! a mark, a number, and two of them may have the same one. So a mark that is there says nothing; but if it is not
 //! there, no device of the chain has what it stands for.
 ghost use Rattle.std.specs.Prelude.{◌≡◌, ◌<◌, fold, slice_get};
-ghost use Rattle.eval_core.specs.Marks.{driver, is_lacking, mark, marks, none_set, subsystem, with_attribute, with_device, with_mark};
+ghost use Rattle.eval_core.specs.Marks.{driver, is_lacking, mark, mark_count, marks, none_set, subsystem, with_attribute, with_device, with_mark};
 
 use crate::sketches::sketch;
 use device_core::{Device, Event};
@@ -13,7 +13,7 @@ use text_bytes::trimmed;
 use text_tables::Pairs;
 
 /// How many marks there are.
-const ALL: u64 = 2048;
+const MARK_COUNT: usize = 2048;
 
 /// The number for subsystems; an attribute has the sketch of its name.
 pub(crate) const SUBSYSTEM: u64 = 1;
@@ -25,15 +25,16 @@ pub(crate) const DRIVER: u64 = 2;
 #[tactic(auto, unfolding(crate::specs::Marks::mark))]
 pub(crate) fn mark(thing: u64, value: u64) -> usize
     ensures value { result ≡ mark thing value }
-    ensures within { result < 2048 }
+    ensures within { result < mark_count }
 {
-    ((thing % ALL * 31 + value % ALL) % ALL) as usize
+    let all = MARK_COUNT as u64;
+    ((thing % all * 31 + value % all) % all) as usize
 }
 
 /// Marks, each of which is set or not.
 #[derive(Drop)]
 pub(crate) struct MarkSet {
-    set: [bool; 2048],
+    set: [bool; MARK_COUNT],
 }
 
 impl Model for MarkSet {
@@ -49,12 +50,12 @@ impl MarkSet {
     fn none() -> MarkSet
         ensures { result ≡ none_set }
     {
-        MarkSet { set: [false; 2048] }
+        MarkSet { set: [false; MARK_COUNT] }
     }
 
     /// Sets a mark.
     fn add(&mut self, mark: usize)
-        requires { mark < 2048 }
+        requires { mark < mark_count }
         ensures { self.new ≡ with_mark self.old mark }
     {
         self.set[mark] = true;

@@ -50,7 +50,7 @@ use Rattle.eval_commands.specs.declared.builtin.Builtin.{Builtin}
 use Rattle.eval_commands.specs.declared.builtin.Builtin.TheVariants as asked_for
 use Rattle.eval_state.specs.Places.{is_there, place_of}
 use Rattle.eval_state.specs.Named.{NamedValue, named, named_place}
-use Rattle.eval_state.specs.Properties.{properties_set, property_set}
+use Rattle.eval_state.specs.Properties.{given_properties, properties_set, property_set}
 use Rattle.eval_acts.specs.ActTexts.{import_text, names_text, program_text, test_text}
 use Rattle.eval_acts.specs.Acts.{act_step, from_parent_by, imported, on_text, performed}
 use Rattle.eval_acts.specs.Inner.{left}
@@ -66,6 +66,7 @@ use Rattle.eval_laws.proofs.Found.{found_light, query_light}
 use Rattle.eval_laws.proofs.PrintedWeights.{answered_weight, answers_light, printed_light}
 use Rattle.eval_laws.proofs.CmdlineWeights.{cmdline_light, line_light, line_weight, set_weight}
 use Rattle.eval_laws.proofs.Scenes.{more, noted_within}
+use Rattle.eval_laws.proofs.Starts.{properties_light}
 
 -- the properties of a device, if there is one
 abbrev env_of : Option DeviceValue → List Pair
@@ -209,8 +210,10 @@ module _ (event : EventValue) where
     parent_within : (names : List (List Item)) (parent : Option DeviceValue) → pairs_weight (env_of parent) ≤ most → Within event (n + most) (from_parent names parent s).0
     parent_within names None light = stays
     parent_within names (Some parent) light =
-        let a = filter_light pair_weight (λ property. choice_fits names property.0) parent.env in
-        more_env Manual (names_fitting names parent.env) (omega (arith, a, light))
+        let given : List Pair = given_properties s.state.event.profile parent.env in
+        let a = filter_light pair_weight (λ property. choice_fits names property.0) given in
+        let b = properties_light s.state.event.profile parent.env in
+        more_env Manual (names_fitting names given) (omega (arith, a, b, light))
 
     hwdb_within : (known : Known) (command : Text) (hwdb : Option Hwdb) → entries_weight known.entries ≤ most → Within event (n + most) (builtin_run known r command (hwdb_asked hwdb) s).0
     hwdb_within known command None light = notes BadHwdbArguments command

@@ -7,6 +7,7 @@ use Rattle.text_tables.specs.Pairs.{Pair, named, value_of, with_value, with_valu
 use Rattle.text_tables.proofs.Found.{value_set}
 use Rattle.device_core.specs.Values.{EventValue, NumberValue}
 use Rattle.eval_state.specs.Scenes.{start}
+use Rattle.eval_state.specs.Properties.{given_properties}
 use Rattle.eval_state.specs.Start.{node_path, pair_if, reported_by, start_env}
 
 own : (name : Text) → same_text name name ≡ true
@@ -41,6 +42,10 @@ maybe_there : (held : List Pair) (name : Text) (given : Option Text) (value : Te
 maybe_there held name given value e = ap (λ (o : Option Text). value_of (with_values held (pair_if name o)) name) e ∙ set_there held name value
 
 module _ (event : EventValue) where
+  -- the properties that the device has by the profile
+  abbrev held : List Pair
+  held = given_properties event.profile event.device.env
+
   abbrev subsystem : Option Text
   subsystem = event.device.subsystem
 
@@ -55,7 +60,7 @@ module _ (event : EventValue) where
 
   -- the properties of the device with the action and the path, and with one more after another
   start_with : List Pair
-  start_with = with_value (with_value (with_values [] event.device.env) (codes "ACTION") event.action) (codes "DEVPATH") event.device.path
+  start_with = with_value (with_value (with_values [] held) (codes "ACTION") event.action) (codes "DEVPATH") event.device.path
 
   with_subsystem : List Pair
   with_subsystem = with_values start_with (pair_if (codes "SUBSYSTEM") subsystem)
@@ -95,14 +100,14 @@ module _ (event : EventValue) where
   unfolding start_with
   action_is =
       at_first (codes "ACTION") refl refl refl refl
-      ∙ past_one (with_value (with_values [] event.device.env) (codes "ACTION") event.action) (codes "DEVPATH") event.device.path (codes "ACTION") refl
-      ∙ set_there (with_values [] event.device.env) (codes "ACTION") event.action
+      ∙ past_one (with_value (with_values [] held) (codes "ACTION") event.action) (codes "DEVPATH") event.device.path (codes "ACTION") refl
+      ∙ set_there (with_values [] held) (codes "ACTION") event.action
 
   pub path_is : value_of (start event).state.env (codes "DEVPATH") ≡ Some event.device.path
   unfolding start_with
   path_is =
       at_first (codes "DEVPATH") refl refl refl refl
-      ∙ set_there (with_value (with_values [] event.device.env) (codes "ACTION") event.action) (codes "DEVPATH") event.device.path
+      ∙ set_there (with_value (with_values [] held) (codes "ACTION") event.action) (codes "DEVPATH") event.device.path
 
   pub subsystem_is : (value : Text) → event.device.subsystem ≡ Some value → value_of (start event).state.env (codes "SUBSYSTEM") ≡ Some value
   unfolding with_subsystem
@@ -120,11 +125,11 @@ module _ (event : EventValue) where
     ap (λ env. value_of env (codes "MINOR")) whole ∙ maybe_there with_major (codes "MINOR") minor number.minor (ap (option_map (λ (n : NumberValue). n.minor)) e),
   )
 
-  pub property_is : (before following : List Pair) (name value : Text) → event.device.env ≡ before ++ (name, value) ∷ following → named following name ≡ false
+  pub property_is : (before following : List Pair) (name value : Text) → held ≡ before ++ (name, value) ∷ following → named following name ≡ false
       → named (reported_by event) name ≡ false → value_of (start event).state.env name ≡ Some value
   unfolding start_env
   property_is before following name value split last other =
-      past (with_values [] event.device.env) (reported_by event) name other
+      past (with_values [] held) (reported_by event) name other
       ∙ ap (λ (env : List Pair). value_of (with_values [] env) name) split
       ∙ ap (λ (env : List Pair). value_of env name) (in_turn [] before ((name, value) ∷ following))
       ∙ past (with_value (with_values [] before) name value) following name last

@@ -16,6 +16,7 @@ use Rattle.rule_types.specs.declared.part.ActKind.TheVariants as act_kind
 use Rattle.rule_types.specs.declared.part.Import.TheVariants as import
 use Rattle.rule_types.specs.declared.roles.MatchOperator.TheVariants.{Equal}
 use Rattle.rule_types.specs.Rules.{Rule}
+use Rattle.eval_state.specs.Properties.{given_properties}
 use Rattle.eval_state.specs.Chains.{device_at}
 use Rattle.eval_state.specs.Scenes.{noted, with_env}
 use Rattle.eval_state.specs.declared.note_kind.NoteKind.TheVariants.{TestNotMade}
@@ -67,7 +68,9 @@ module _ (known : Known) (r : Rule) (s : Scene) (manual : s.state.event.profile 
 
     pub parent_there : (parent : DeviceValue) → device_at s.state.event 1 ≡ Some parent
         → act_step known r (parent_import names written) s ≡ (with_env (with_values s.state.env (filter (λ (property : Pair). choice_fits names property.0) parent.env)) s, true)
-    parent_there parent e = parent_is ∙ ap (λ (d : Option DeviceValue). after (act_kind.Import (import.Parent names written)) (acts.tried (from_parent names d s))) e
+    parent_there parent e =
+        parent_is ∙ ap (λ (d : Option DeviceValue). after (act_kind.Import (import.Parent names written)) (acts.tried (from_parent names d s))) e
+        ∙ ap (λ (p : Profile). (with_env (with_values s.state.env (filter (λ (property : Pair). choice_fits names property.0) (given_properties p parent.env))) s, true)) manual
 
     pub parent_absent : device_at s.state.event 1 ≡ None → act_step known r (parent_import names written) s ≡ (s, false)
     parent_absent e = parent_is ∙ ap (λ (d : Option DeviceValue). after (act_kind.Import (import.Parent names written)) (acts.tried (from_parent names d s))) e

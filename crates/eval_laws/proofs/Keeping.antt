@@ -165,9 +165,9 @@ parent_same : (names : List (List Item)) (d : Option DeviceValue) (s : Scene) �
 parent_same names None s = refl
 parent_same names (Some d) s = refl
 
-given_same : (name : Text) (value : Option Text) (s : Scene) → Same s (name_given name value s).0
+given_same : (name : Text) (given : Option Text) (s : Scene) → Same s (name_given name given s).0
 given_same name None s = refl
-given_same name (Some value) s = refl
+given_same name (Some text) s = refl
 
 line_same : (r : Rule) (name : Text) (line : Option Text) (s : Scene) → Same s (from_line r name line s).0
 line_same r name None s = refl

@@ -1,13 +1,18 @@
 -- What an event weighs before any rule has run.
-use Rattle.std.proofs.Common.{◌≡◌, ◌+◌, ◌≤◌, List, [], ◌∷◌, ◌++◌, length, Option, Some, None, option_map, codes, refl, arith}
+use Rattle.std.proofs.Common.{◌≡◌, ◌+◌, ◌≤◌, not, List, [], ◌∷◌, ◌++◌, length, Option, Some, None, option_map, codes, refl, arith}
 use Rattle.std.proofs.lemmas.List.Sums.{sum_by-cons, sum_by-append}
+use Rattle.text_bytes.specs.Texts.{is_empty}
+use Rattle.text_bytes.specs.declared.profile.Profile.{Profile}
+use Rattle.text_bytes.specs.declared.profile.Profile.TheVariants.{Manual, Udev}
 use Rattle.text_tables.specs.Texts.{Text}
 use Rattle.text_tables.specs.Pairs.{Pair, with_values}
 use Rattle.device_core.specs.Values.{EventValue, NumberValue}
 use Rattle.eval_laws.specs.DeviceWeights.{device_weight, event_weight, given_weight, number_weight, pair_weight, pairs_weight, text_weight}
+use Rattle.eval_state.specs.Properties.{given_properties}
 use Rattle.eval_state.specs.Start.{node_path, pair_if, reported_by, start_env}
 use Rattle.eval_state.specs.Scenes.{start}
 use Rattle.eval_laws.specs.Inner.{Within, scene_weight}
+use Rattle.eval_laws.proofs.Sums.{filter_light}
 use Rattle.eval_laws.proofs.Tables.{with_texts_light, with_values_light}
 
 given_light : (name : Text) (value : Option Text) → pairs_weight (pair_if name value) ≤ given_weight value + (length name + 1)
@@ -57,12 +62,18 @@ event_reported event =
     let d = numbers_light event.device.number in
     omega (arith, a, b, c, d)
 
+-- the properties that a device has by a profile are among those of its block
+pub properties_light : (profile : Profile) (env : List Pair) → pairs_weight (given_properties profile env) ≤ pairs_weight env
+properties_light Manual env = omega arith
+properties_light Udev env = filter_light pair_weight (λ property. not (is_empty property.1)) env
+
 env_light : (event : EventValue) → pairs_weight (start_env event) ≤ pairs_weight event.device.env + pairs_weight (reported_by event)
 unfolding start_env
 env_light event =
-    let a = with_values_light (with_values [] event.device.env) (reported_by event) in
-    let b = with_values_light [] event.device.env in
-    omega (arith, a, b)
+    let a = with_values_light (with_values [] (given_properties event.profile event.device.env)) (reported_by event) in
+    let b = with_values_light [] (given_properties event.profile event.device.env) in
+    let c = properties_light event.profile event.device.env in
+    omega (arith, a, b, c)
 
 own_light : (event : EventValue) → text_weight event.action + device_weight event.device ≤ event_weight event
 unfolding event_weight

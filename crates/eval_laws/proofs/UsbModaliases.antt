@@ -1,11 +1,11 @@
 -- The modalias that is made up for a USB device, and its digits.
-use Rattle.std.proofs.Common.{◌≡◌, ℕ, ◌+◌, ◌*◌, ◌<◌, ◌≤◌, ◌/◌, ◌%◌, Bool, true, false, not, ◌==◌, ◌&&◌, ◌||◌, cond, eqb, nat_le, List, [], ◌∷◌, drop, length, Some, None, option_and_then, codes, if◌then◌else◌, refl, ap, ◌∙◌, arith}
+use Rattle.std.proofs.Common.{◌≡◌, ℕ, ◌+◌, ◌*◌, ◌<◌, ◌≤◌, ◌/◌, ◌%◌, Bool, true, false, not, ◌==◌, ◌&&◌, ◌||◌, cond, eqb, nat_le, List, [], ◌∷◌, drop, length, Option, Some, None, option_and_then, codes, if◌then◌else◌, refl, ap, ◌∙◌, arith, true≢false}
 use Rattle.std.specs.List.{list_all, prefix_len}
 use Rattle.std.specs.Option.{option_or}
 use Rattle.std.proofs.lemmas.Bool.{agree_below_at, eqb-true, le-leb}
 use Rattle.text_bytes.specs.Escapes.{hex_digit}
 use Rattle.text_bytes.specs.Names.{digit_zero, is_whitespace, minus, plus}
-use Rattle.text_bytes.specs.Texts.{begins_with, skip_while}
+use Rattle.text_bytes.specs.Texts.{begins_with, is_empty, skip_while}
 use Rattle.text_bytes.specs.declared.profile.Profile.{Profile}
 use Rattle.text_bytes.specs.declared.profile.Profile.TheVariants.{Manual, Udev}
 use Rattle.text_tables.specs.Texts.{Text}
@@ -14,7 +14,7 @@ use Rattle.device_core.specs.Values.{DeviceValue}
 use Rattle.builtin_devices.specs.Devices.{is_of}
 use Rattle.builtin_devices.specs.Numbers.{Written, digit_value, digits_in, is_digit_in, natural, number_after, number_in, size_in, unsigned, written}
 use Rattle.builtin_devices.specs.declared.numbers.Base.TheVariants.{Hexadecimal}
-use Rattle.eval_state.specs.Texts.{or_empty}
+use Rattle.eval_state.specs.Texts.{filled, or_empty}
 use Rattle.eval_acts.specs.LookUps.{candidate}
 use Rattle.eval_acts.specs.UsbModalias.{four_digits, made_up, number_of, text_by, usb_modalias, usb_text}
 
@@ -115,19 +115,23 @@ digits_read n most =
 
 -- ---- devices
 
-pub own_stays : (profile : Profile) (device : DeviceValue) (env : List Pair) (modalias : Text) → value_of env (codes "MODALIAS") ≡ Some modalias → (candidate profile device env).modalias ≡ Some modalias
-own_stays Manual device env modalias e = e
-own_stays Udev device env modalias e = ap (λ m. option_or m (made_up device)) e
+pub own_stays : (profile : Profile) (device : DeviceValue) (env : List Pair) (modalias : Text) → value_of env (codes "MODALIAS") ≡ Some modalias → is_empty modalias ≡ false → (candidate profile device env).modalias ≡ Some modalias
+own_stays Manual device env modalias e some = e
+own_stays Udev device env [] e some = absurd (true≢false some)
+own_stays Udev device env (b ∷ modalias) e some = ap (λ (m : Option Text). option_or (filled m) (made_up device)) e
+
+pub empty_is_none : (device : DeviceValue) (env : List Pair) → value_of env (codes "MODALIAS") ≡ Some [] → (candidate Udev device env).modalias ≡ made_up device
+empty_is_none device env e = ap (λ (m : Option Text). option_or (filled m) (made_up device)) e
 
 pub made_is : (device : DeviceValue) (env : List Pair) (vendor product : ℕ) → value_of env (codes "MODALIAS") ≡ None → is_of (codes "usb") (Some (codes "usb_device")) device ≡ true
     → number_of device (codes "idVendor") ≡ Some vendor → number_of device (codes "idProduct") ≡ Some product
     → (candidate Udev device env).modalias ≡ Some (usb_text vendor product (or_empty (value_of device.attrs (codes "product"))))
 unfolding usb_modalias
 made_is device env vendor product none is first second =
-    ap (λ m. option_or m (made_up device)) none
+    ap (λ (m : Option Text). option_or (filled m) (made_up device)) none
     ∙ ap (λ b. if b then usb_modalias device else None) is
     ∙ ap (λ v. text_by device v (number_of device (codes "idProduct"))) first
     ∙ ap (text_by device (Some vendor)) second
 
 pub none_is_made : (device : DeviceValue) (env : List Pair) → value_of env (codes "MODALIAS") ≡ None → is_of (codes "usb") (Some (codes "usb_device")) device ≡ false → (candidate Udev device env).modalias ≡ None
-none_is_made device env none other = ap (λ m. option_or m (made_up device)) none ∙ ap (λ b. if b then usb_modalias device else None) other
+none_is_made device env none other = ap (λ (m : Option Text). option_or (filled m) (made_up device)) none ∙ ap (λ b. if b then usb_modalias device else None) other

@@ -11,6 +11,7 @@ ghost use Rattle.builtin_devices.specs.Knowledge.{Known};
 ghost use Rattle.rule_laws.specs.Outcomes.{HasLabel};
 ghost use Rattle.rule_types.specs.Rules.{Rule};
 ghost use Rattle.device_core.specs.Values.{EventValue, NumberValue};
+ghost use Rattle.eval_state.specs.Properties.{given_properties};
 ghost use Rattle.eval_state.specs.Finals.{is_final};
 ghost use Rattle.eval_state.specs.Scenes.{start};
 ghost use Rattle.eval_state.specs.Start.{reported_by};
@@ -25,7 +26,8 @@ ghost use Rattle.eval_rules.specs.Laws.{SameButNotes, SameOutcomeButNotes, plain
 ghost use Rattle.eval_rules.specs.Outcomes.{outcome, outcome_of};
 ghost use Rattle.eval_rules.specs.Steps.{apply};
 
-/// An event begins with the properties of its device, each with its last value, and over these what the event itself says.
+/// An event begins with the properties that its device has by the profile, each with its last value, and over these what the
+/// event itself says.
 pub fn an_event_begins_with_what_its_block_says()
     ensures action { (event : EventValue) → value_of (start event).state.env (codes "ACTION") ≡ Some event.action }
     ensures path { (event : EventValue) → value_of (start event).state.env (codes "DEVPATH") ≡ Some event.device.path }
@@ -35,7 +37,7 @@ pub fn an_event_begins_with_what_its_block_says()
         → value_of (start event).state.env (codes "DEVNAME") ≡ Some (codes "/dev/" ++ node) }
     ensures number { (event : EventValue) (number : NumberValue) → event.device.number ≡ Some number
         → (value_of (start event).state.env (codes "MAJOR") ≡ Some number.major) × (value_of (start event).state.env (codes "MINOR") ≡ Some number.minor) }
-    ensures properties { (event : EventValue) (before following : List Pair) (name value : Text) → event.device.env ≡ before ++ (name, value) ∷ following
+    ensures properties { (event : EventValue) (before following : List Pair) (name value : Text) → given_properties event.profile event.device.env ≡ before ++ (name, value) ∷ following
         → named following name ≡ false → named (reported_by event) name ≡ false → value_of (start event).state.env name ≡ Some value }
 {}
 

@@ -20,7 +20,7 @@ ghost use Rattle.eval_state.specs.Texts.{or_empty};
 ghost use Rattle.eval_state.specs.declared.state.State.{State};
 ghost use Rattle.eval_commands.specs.Hwdb.{hwdb_of};
 ghost use Rattle.eval_acts.specs.LookUps.{Candidate, candidate, candidates, counted_properties, found, is_last, texts};
-ghost use Rattle.eval_acts.specs.UsbModalias.{four_digits, number_of};
+ghost use Rattle.eval_acts.specs.UsbModalias.{four_digits, made_up, number_of};
 ghost use Rattle.eval_commands.specs.declared.hwdb.Hwdb.{Hwdb};
 ghost use Rattle.eval_laws.specs.LookUps.{HasNoValue, IsFirstAnswer, IsLastValue, texts_of};
 
@@ -56,13 +56,15 @@ pub fn no_device_after_a_usb_device_is_asked()
         → texts hwdb state ≡ texts_of hwdb (candidates state) }
 {}
 
-/// A device that has the property MODALIAS is looked up by it. With udev a USB device without it has `usb:v`, four
+/// A device that has the property MODALIAS is looked up by it; with udev an empty one is none. With udev a USB device without it has `usb:v`, four
 /// digits, `p`, four digits, a colon and the product's name, cut off after 2,047 bytes, if both attributes are
 /// numbers of at most 65,535; the digits are those of these numbers. By the manual it has none, and with udev no other
 /// device has one.
 pub fn a_usb_device_may_have_a_modalias_made_up()
     ensures own { (profile : Profile) (device : DeviceValue) (env : List Pair) (modalias : Text) → value_of env (codes "MODALIAS") ≡ Some modalias
-        → (candidate profile device env).modalias ≡ Some modalias }
+        → is_empty modalias ≡ false → (candidate profile device env).modalias ≡ Some modalias }
+    ensures empty { (device : DeviceValue) (env : List Pair) → value_of env (codes "MODALIAS") ≡ Some []
+        → (candidate Udev device env).modalias ≡ made_up device }
     ensures made { (device : DeviceValue) (env : List Pair) (vendor product : ℕ) → value_of env (codes "MODALIAS") ≡ None
         → is_of (codes "usb") (Some (codes "usb_device")) device ≡ true → number_of device (codes "idVendor") ≡ Some vendor
         → number_of device (codes "idProduct") ≡ Some product

@@ -11,7 +11,7 @@ use Rattle.eval_state.specs.Places.{PlaceValue, gone, has, has_rest, is_there, p
 use Rattle.eval_state.proofs.Starring.{after_two}
 
 -- the place one component on, by whether that stays and whether it leads up
-next_to : PlaceValue → Text → (still up : Bool) → PlaceValue
+abbrev next_to : PlaceValue → Text → (still up : Bool) → PlaceValue
 next_to at component still up =
     cond still (record { components = at.components; is_folder = true })
     (cond up (record { components = take (length at.components - 1) at.components; is_folder = true }) (record { components = at.components ++ component ∷ []; is_folder = false }))

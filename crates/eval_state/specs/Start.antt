@@ -3,6 +3,7 @@ use Rattle.std.specs.Prelude.{List, [], ◌∷◌, ◌++◌, Option, Some, None,
 use Rattle.text_tables.specs.Texts.{Text, with_texts}
 use Rattle.text_tables.specs.Pairs.{Pair, with_values}
 use Rattle.device_core.specs.Values.{EventValue}
+use Rattle.eval_state.specs.Properties.{given_properties}
 use Rattle.eval_state.specs.declared.state.State.{State}
 
 -- a property, if it has a value
@@ -25,7 +26,7 @@ reported_by event =
 
 -- the properties that an event begins with: those of its device, and what the event says set over them
 unfoldable pub start_env : EventValue → List Pair
-start_env event = with_values (with_values [] event.device.env) (reported_by event)
+start_env event = with_values (with_values [] (given_properties event.profile event.device.env)) (reported_by event)
 
 -- what is known if nothing is left but the event itself
 abbrev pub blank_state : EventValue → State

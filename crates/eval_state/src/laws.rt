@@ -1,12 +1,15 @@
 //! What is true of names that udev looks up below a device, and of paths.
 //!
 //! Each function here is empty: its contract is the law.
-ghost use Rattle.std.specs.Prelude.{◌≡◌, ◌∷◌, ◌++◌, ℕ, Some, codes, true, false};
+ghost use Rattle.std.specs.Prelude.{◌≡◌, ◌∷◌, ◌++◌, ℕ, List, [], Some, codes, true, false};
 ghost use Rattle.text_bytes.specs.Names.{slash};
+ghost use Rattle.text_bytes.specs.declared.profile.Profile.TheVariants.{Manual, Udev};
+ghost use Rattle.text_tables.specs.Pairs.{Pair};
 ghost use Rattle.text_tables.specs.Texts.{Text, same_text};
 ghost use Rattle.device_core.specs.Values.{DeviceValue, EventValue};
 ghost use Rattle.eval_state.specs.Files.{has_name, star_place, starred};
 ghost use Rattle.eval_state.specs.Laws.{leads};
+ghost use Rattle.eval_state.specs.Properties.{given_properties};
 ghost use Rattle.eval_state.specs.Places.{PlaceValue, gone, has, is_there, path_to, stays};
 
 /// What a name with a folder `*` stands for is a file or a folder of the device.
@@ -47,4 +50,16 @@ pub fn some_paths()
     ensures literal { leads (codes "q/*") ≡ false }
     ensures absent { leads (codes "q/c") ≡ false }
     ensures other { leads (codes "../w") ≡ false }
+{}
+
+/// By the manual a device has the properties that its block gives it. For udev it has those of them that are not empty, in
+/// their order.
+pub fn an_empty_property_is_none_for_udev()
+    ensures manual { (env : List Pair) → given_properties Manual env ≡ env }
+    ensures none { given_properties Udev [] ≡ [] }
+    ensures empty { (before following : List Pair) (name : Text)
+        → given_properties Udev (before ++ (name, []) ∷ following) ≡ given_properties Udev before ++ given_properties Udev following }
+    ensures filled { (before following : List Pair) (name text : Text) (byte : ℕ)
+        → given_properties Udev (before ++ (name, byte ∷ text) ∷ following)
+        ≡ given_properties Udev before ++ (name, byte ∷ text) ∷ given_properties Udev following }
 {}

@@ -2,14 +2,16 @@
 ghost use Rattle.std.specs.Prelude.{◌≡◌, [], OnOk, IfOk, option_map, codes};
 ghost use Rattle.text_tables.specs.Pairs.{with_values};
 ghost use Rattle.text_tables.specs.Texts.{with_texts};
+ghost use Rattle.text_bytes.specs.declared.profile.Profile.TheVariants.{Udev};
+ghost use Rattle.eval_state.specs.Properties.{given_properties};
 ghost use Rattle.eval_state.specs.Start.{node_path, pair_if, reported_by, start_env, start_state};
 
 use crate::chain::Chain;
 use crate::state::State;
 use device_core::Event;
 use std::alloc::{AllocError, Global};
-use text_bytes::Bytes;
-use text_tables::{CowPairs, OwnedTexts};
+use text_bytes::{Bytes, Profile};
+use text_tables::{CowPairs, OwnedTexts, Pairs};
 
 /// Sets a property if it has a value.
 fn set_given<'a>(
@@ -61,6 +63,32 @@ fn set_reported<'a>(
     set_given(env, b"MINOR", device.number().map(|number| number.minor()))
 }
 
+/// Sets those properties of a device that are not empty.
+fn set_filled<'a>(env: &mut CowPairs<'a>, given: &Pairs<'a>) -> Result<(), AllocError>
+    ensures { OnOk result (env.new ≡ with_values env.old (given_properties Udev given.now)) }
+{
+    for (name, value) in given.as_map().iter() {
+        if !value.is_empty() {
+            env.lend(name, value)?;
+        }
+    }
+    Ok(())
+}
+
+/// Sets the properties that a device has by a profile: for udev an empty one is none.
+fn set_own<'a>(
+    env: &mut CowPairs<'a>,
+    profile: Profile,
+    given: &Pairs<'a>,
+) -> Result<(), AllocError>
+    ensures { OnOk result (env.new ≡ with_values env.old (given_properties profile given.now)) }
+{
+    match profile {
+        Profile::Manual => env.lend_all(given),
+        Profile::Udev => set_filled(env, given),
+    }
+}
+
 /// Sets the properties that an event begins with.
 #[tactic(auto, unfolding(crate::specs::Start::start_env))]
 fn set_env<'a>(
@@ -71,7 +99,7 @@ fn set_env<'a>(
     requires { env.old ≡ [] }
     ensures { OnOk result (env.new ≡ start_env event.now) }
 {
-    env.lend_all(event.device().env())?;
+    set_own(env, event.profile(), event.device().env())?;
     set_reported(alloc, env, event)
 }
 
@@ -96,7 +124,8 @@ fn set_tables<'a>(
 impl<'a> State<'a> {
     /// What is known about an event before any rule has run, as udev(7) has it: the properties of its device with
     /// ACTION, DEVPATH and, if given, SUBSYSTEM, DEVNAME (`/dev/` and the node), MAJOR and MINOR set over them; its
-    /// links and its tags; no result, no name and no selected device.
+    /// links and its tags; no result, no name and no selected device. For udev (systemd 257) an empty property of the
+    /// device is none.
     pub fn new(alloc: Global, event: &'a Event<'_>) -> Result<State<'a>, AllocError>
         ensures { IfOk result (λ state. state ≡ start_state event.now) }
     {

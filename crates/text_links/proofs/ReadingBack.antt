@@ -6,7 +6,8 @@ use Rattle.std.proofs.lemmas.Bool.{agree_below_at, eqb-true}
 use Rattle.std.proofs.lemmas.List.{flat_map_more}
 use Rattle.std.specs.List.{range_with_len}
 use Rattle.text_bytes.specs.Names.{backslash}
-use Rattle.text_links.specs.Safe.{is_in_sequence, stays_anywhere, value_marks}
+use Rattle.text_links.specs.Characters.{is_in_character}
+use Rattle.text_links.specs.Safe.{stays_anywhere, value_marks}
 use Rattle.text_links.specs.Encoded.{encoded, encoded_byte, in_digits, is_own, read_back, small_digit, small_digits}
 
 digits_agree : (n : ℕ) → n < 16 → eqb (small_digit (slice_index small_digits n)) n ≡ true
@@ -29,7 +30,7 @@ no_backslash false b h = refl
 
 own_is_no_backslash : (text : List ℕ) (place : ℕ) → is_own text place ≡ true → eqb (slice_index text place) backslash ≡ false
 unfolding is_own
-own_is_no_backslash text place h = no_backslash (eqb (slice_index text place) backslash) (stays_anywhere value_marks (slice_index text place) || is_in_sequence text place) h
+own_is_no_backslash text place h = no_backslash (eqb (slice_index text place) backslash) (stays_anywhere value_marks (slice_index text place) || is_in_character text place) h
 
 by_case : (b : ℕ) (rest : List ℕ) (own : Bool) → (own ≡ true → eqb b backslash ≡ false) → b < 256
     → read_back (cond own (b ∷ []) (in_digits b) ++ rest) ≡ b ∷ read_back rest

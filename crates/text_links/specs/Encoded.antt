@@ -2,11 +2,13 @@
 use Rattle.std.specs.Prelude.{ℕ, ◌+◌, ◌*◌, ◌/◌, ◌%◌, ◌==◌, ◌||◌, ◌&&◌, not, Bool, if◌then◌else◌, List, [], ◌∷◌, ◌++◌, length, flat_map, slice_index, codes}
 use Rattle.std.specs.List.{position_or_len, range_with_len}
 use Rattle.text_bytes.specs.Names.{backslash}
-use Rattle.text_links.specs.Safe.{is_in_sequence, stays_anywhere, value_marks}
+use Rattle.text_links.specs.Characters.{is_in_character}
+use Rattle.text_links.specs.Safe.{stays_anywhere, value_marks}
 
--- whether the byte at a place stands for itself: a letter, a digit, one of the marks, or part of a UTF-8 sequence of several bytes; a backslash never does
+-- whether the byte at a place stands for itself: a letter, a digit, one of the marks, or part of a UTF-8 sequence of several
+-- bytes whose number a character may have; a backslash never does
 unfoldable pub is_own : List ℕ → ℕ → Bool
-is_own text place = not (slice_index text place == backslash) && (stays_anywhere value_marks (slice_index text place) || is_in_sequence text place)
+is_own text place = not (slice_index text place == backslash) && (stays_anywhere value_marks (slice_index text place) || is_in_character text place)
 
 -- the lower case hexadecimal digits, in the order of their numbers
 abbrev pub small_digits : List ℕ

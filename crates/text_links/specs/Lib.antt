@@ -1,4 +1,5 @@
 pub mod Safe
+pub mod Characters
 pub mod Underscores
 pub mod Encoded
 pub mod Kernels

@@ -2,7 +2,8 @@
 ghost use Rattle.std.specs.Prelude.{◌≡◌, ◌<◌, ◌++◌, length, IfOk, OnOk};
 ghost use Rattle.text_links.specs.Encoded.{encoded, encoded_byte, in_digits, is_own, read_back};
 
-use crate::safe::{VALUE_MARKS, is_in_sequence, stays_anywhere};
+use crate::characters::is_in_character;
+use crate::safe::{VALUE_MARKS, stays_anywhere};
 use std::alloc::{AllocError, Global};
 
 /// The digits of a hexadecimal number.
@@ -15,7 +16,7 @@ fn is_own(text: &[u8], place: usize) -> bool
     ensures { result ≡ is_own text.now place }
 {
     text[place] != b'\\'
-        && (stays_anywhere(VALUE_MARKS, text[place]) || is_in_sequence(text, place))
+        && (stays_anywhere(VALUE_MARKS, text[place]) || is_in_character(text, place))
 }
 
 /// A byte in hexadecimal digits.
@@ -44,8 +45,8 @@ fn push_encoded(made: &mut Vec<u8>, text: &[u8], place: usize) -> Result<(), All
 }
 
 /// A text as udev of systemd 257 encodes the value of a property whose name ends in `_ENC`: ASCII letters and
-/// digits, `#+-.:=@_` and UTF-8 sequences of two to four bytes stay; every other byte, also the backslash, is `\x`
-/// and two lower case hexadecimal digits.
+/// digits, `#+-.:=@_` and UTF-8 sequences of two to four bytes stay, but not those of numbers that no character has; every
+/// other byte, also the backslash, is `\x` and two lower case hexadecimal digits.
 #[tactic(auto, using(crate::proofs::ReadingBack::encoded_more), unfolding(crate::specs::Encoded::encoded))]
 pub fn encoded(alloc: Global, text: &[u8]) -> Result<Vec<u8>, AllocError>
     ensures { IfOk result (λ made. made.items ≡ encoded text.now) }

@@ -17,7 +17,7 @@ fn last_component_len(path: &[u8]) -> usize
 }
 
 /// What follows the last slash of a path.
-fn last_component(path: &[u8]) -> &[u8]
+pub fn last_component(path: &[u8]) -> &[u8]
     ensures { result.now ≡ last_component path.now }
 {
     let (_, component) = path.split_at(path.len() - last_component_len(path));

@@ -2,12 +2,14 @@
 //! names that the kernel gives devices.
 #![tactic(auto)]
 
+mod characters;
 mod encodings;
 mod kernels;
 mod safe;
 mod underscores;
 
+pub use characters::{no_character_has_these_numbers, value_safe};
 pub use encodings::{encoded, encoded_is_read_back};
-pub use kernels::{kernel_name, last_digits};
-pub use safe::{attribute_safe, link_safe, value_safe};
+pub use kernels::{kernel_name, last_component, last_digits};
+pub use safe::{attribute_safe, link_safe};
 pub use underscores::{Word, underscored};

@@ -1,7 +1,7 @@
 //! A text made safe, byte by byte.
 ghost use Rattle.std.specs.Prelude.{◌≡◌, ◌<◌, IfOk, length};
 ghost use Rattle.text_links.specs.Safe.{attribute_marks, is_hex_escape, is_in_sequence, stays_anywhere, is_reached};
-ghost use Rattle.text_links.specs.Safe.{link_marks, safe, safe_byte, sequence_len, stays, value_marks};
+ghost use Rattle.text_links.specs.Safe.{link_marks, safe, safe_byte, sequence_len, stays};
 
 use bstr::decode_utf8;
 use std::alloc::{AllocError, Global};
@@ -72,7 +72,7 @@ fn stays(marks: &[u8], text: &[u8], place: usize) -> bool
 
 /// What is at a place of the safe text.
 #[tactic(auto, unfolding(crate::specs::Safe::safe_byte))]
-fn safe_byte(marks: &[u8], text: &[u8], place: usize) -> u8
+pub(crate) fn safe_byte(marks: &[u8], text: &[u8], place: usize) -> u8
     requires { place < length text.now }
     ensures { result ≡ safe_byte marks.now text.now place }
 {
@@ -114,14 +114,4 @@ pub fn attribute_safe(alloc: Global, text: &[u8]) -> Result<Vec<u8>, AllocError>
     ensures { IfOk result (λ made. made.items ≡ safe attribute_marks text.now) }
 {
     safe(alloc, ATTRIBUTE_MARKS, text)
-}
-
-/// A text that a device reports about itself, as the value of a property: as [`link_safe`] has it, but a slash does
-/// not stay.
-///
-/// This is what udev of systemd 257 does with vendors, models and serial numbers.
-pub fn value_safe(alloc: Global, text: &[u8]) -> Result<Vec<u8>, AllocError>
-    ensures { IfOk result (λ made. made.items ≡ safe value_marks text.now) }
-{
-    safe(alloc, VALUE_MARKS, text)
 }

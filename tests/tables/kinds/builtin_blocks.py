@@ -26,6 +26,25 @@ def event(*devices):
     return 'C: add\n' + ''.join(devices)
 
 
+def lines_of(block, path):
+    """the lines of the device with a path"""
+    before, _, after = block.partition(f'P: {path}\n')
+    return before, after.split('P: ', 1)[0], after
+
+
+def without(block, path):
+    """a block without the device with a path"""
+    before, own, after = lines_of(block, path)
+    return before + after.removeprefix(own)
+
+
+def without_subsystem(block, path):
+    """a block in which the device with a path has no subsystem"""
+    before, own, after = lines_of(block, path)
+    rest = ''.join(line for line in own.splitlines(True) if not line.startswith('U: '))
+    return f'{before}P: {path}\n{rest}{after.removeprefix(own)}'
+
+
 def descriptors(*triples, begin='12010003000000098107830600010102030109021f0001010080fa'):
     """descriptors of a device with one configuration: its interfaces, each followed by one endpoint"""
     faces = ''.join(f'0904{number:02x}0001{triple}00' + '0705810200020000'[:14] for number, triple in enumerate(triples))

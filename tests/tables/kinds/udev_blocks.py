@@ -223,7 +223,8 @@ def begun(block):
             properties['MAJOR'], properties['MINOR'] = text.split(':')
         elif device == 1 and letter == 'E':
             name, value = text.split('=', 1)
-            properties[name] = value
+            if value:
+                properties[name] = value
     return [f'event {action} {path}'] + [f'env {name}={value}' for name, value in properties.items()]
 
 

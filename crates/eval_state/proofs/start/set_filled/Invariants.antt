@@ -1,0 +1,8 @@
+use Rattle.std.proofs.Common.{◌≡◌, map}
+use Rattle.text_bytes.specs.declared.profile.Profile.TheVariants.{Udev}
+use Rattle.text_tables.specs.Pairs.{with_values}
+use Rattle.eval_state.specs.Properties.{given_properties}
+use Rattle.eval_state.proofs.start.set_filled.Given as goal
+
+abbrev pub invariant-loop-name : goal.invariant-loop-name
+invariant-loop-name l = with_values l.env (given_properties Udev (map (λ e. (e.0.now, e.1.now)) l.name-iterator)) ≡ with_values l.fn.env (given_properties Udev l.fn.given)

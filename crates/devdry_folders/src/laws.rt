@@ -38,7 +38,6 @@ pub fn a_path_leads_to_a_place_inside_its_root<D: Disk>()
 /// The least status of a run is 3 if anything that it visited could not be read. If all could, it is 0 if the run is
 /// passed a file of the kinds that it needs or the index in place of the database, and 1 if it is not, which is then
 /// reported.
-#[tactic(auto, using(crate::proofs::HandedOn::status_of_all))]
 pub fn what_could_not_be_read_makes_the_status()
     ensures { (needed : List kinds.FileKind) (survey : surveys.Survey) (others : List Elsewhere)
         → least_status (all_unread survey) (if has_needed needed survey then [] else nothing_lines needed survey.visits.items others)

@@ -25,7 +25,8 @@ EVERY = Begins(b"")
 
 def said(line, number, word):
     """A lint of a line, by its number."""
-    return f"l.hwdb:{line}: D{number} {TEXTS[number]}: {word}\n"
+    shown = (word if isinstance(word, bytes) else word.encode())[:32].replace(b"\t", b"\\x09").decode()
+    return f"l.hwdb:{line}: D{number} {TEXTS[number]}{': ' if shown else ''}{shown}\n"
 
 
 def linted(name, text, *lints, words="update --lint l.hwdb", status=0):
@@ -58,14 +59,14 @@ MATCHES = [
     matches("no D1", 0, "usb:v1D6B*", "usb:v*p000a*", "usb:v[0-9a-f]*", "mouse:usb:v046d*", "mouse:ps2:*:name:ABC:", "vmbus:02780ada*",
             "evdev:name:abc:*", "acpi:abc*:", "usb:v1D6Bp0002:a hub*"),
     matches("D2", 2, "usb:v1D6p0002*", "usb:1D6B*", "usb:V1D6B*", "usb:v0x1D6B*", "usb:v1D6Bd0100*", "usb:v1D6B:p0002*".replace(":p", "-p"),
-            "pci:v8086d1234*", "pci:v00008086p*", "bluetooth:v1p*", "evdev:nam:a:", "evdev:inputb0003*", "id-input:modalia:*", "OUI:00-00*"),
+            "pci:v8086d1234*", "pci:v00008086p*", "bluetooth:v1p*", "evdev:nam:a:", "evdev:inputb0003*", "id-input:modalius:*", "OUI:00-00*"),
     matches("no D2", 0, "usb:*", "usb:v*", "usb:v1D6Bp0002d0100dc09dsc00dp01ic09isc00ip00in00", "usb:v1D6Bp0002d0100dc09dsc00dp01ic09isc00ip00in00x",
-            "evdev:*", "evdev:i?put:*", "usb:v1D6B:a*", "pci:v00008086d*sv*", "mouse:usb::name:a:", "evdev:input:b0003v046DpC52Be0111-e0*"),
+            "evdev:*", "evdev:i?put:*", "usb:v1D6B:a*", "pci:v00008086d*sv*", "mouse:usb::name:a:", "usb:v1D6Bp0002?p*", "usb:?*", "evdev:input:b0003v046DpC52Be0111-e0*"),
     matches("D3", 3, "usb:v1D6B", "usb:v1D6Bp", "usb:", "OUI:000000", "pci:v00008086", "evdev:input:b0003", "acpi:PNP0303", "dmi:bvnA", "evdev:name:a",
             "evdev:atkbd:dmi:bvn*:svnAcer", "mouse:usb:v046dp0001:name:a", "sensor:modalias:acpi:A", "touchpad:i8042", "vmbus:02780ada"),
     matches("no D3", 0, "acpi:PNP0303:", "dmi:a?", "evdev:name:a[bc]", "vmbus:02780ada77e3ac4a8e770558eb1073f8", "OUI:0000000000AB",
             "ieee1394:node:ven0x1", "input:a", "usb:v1D6Bp0002:Hub"),
-    matches("D4", 4, "foo:bar*", "ubs:v1*", "USB:v1*", "a", "mouse", "evdevs:*"),
+    matches("D4", 4, "foo:bar*", "ubs:v1*", "USB:v1*", "a", "evdevs:*"),
     matches("no D4", 0, "*", "us?:*", "[u]sb:*", "hid:b0003*", "of:N*", "net:naming:drv*", "fb:vmbus:0", "cpu:type:x86", "x\\:a"),
     linted("D5 in a record", "usb:v*\nusb:v1*\nusb:v*\n A=1\n", (3, 5, "usb:v*")),
     linted("D5 in another", "usb:v*\n A=1\n\n# a\n\nusb:v*  # b\n B=1\n\nusb:v*\n C=1\n", (6, 5, "usb:v*"), (9, 5, "usb:v*")),
@@ -73,8 +74,8 @@ MATCHES = [
     linted("D9", "usb:v* \n A=1\n\nusb:v1*\t\t\n A=1\n\nusb:v2* # a\n A=1\n\nusb:v3*\r\n A=1\n", (1, 9, "usb:v*"), (4, 9, "usb:v1*")),
     linted("D10", b"\xef\xbb\xbfusb:v1d6b\n A=1\n", (1, 10, "usb:v1d6b")),
     linted("D10 before a comment", b"\xef\xbb\xbf# a\nusb:v*\n A=1\n", (1, 10, "")),
-    linted("D11", "usb:v1*#a\n A=b#c\n B=#\n C=d # e\n #A=1\n D=\t# e\n\n#usb#\n", (1, 11, "#a"), (2, 11, "#c"), (3, 11, "#")),
-    matches("no D12", 0, "usb:v[12]*", "usb:v[[]*", "usb:v*]", "usb:v[]12]*", "usb:v]*"),
+    linted("D11", "usb:v1*#a\n A=b#c\n B=#\n C=d # e\n #A=1\n D=\t# e\n\n#usb#\n", (1, 11, "#a"), (2, 11, "#c"), (3, 11, "#"), words="update --lint --ignore H1 l.hwdb"),
+    matches("no D12", 0, "usb:v[12]*", "usb:v[[]*", "usb:v*]", "usb:v[]12]*", "hid:]*"),
     linted("D12", "usb:v[1*\n A=1\n\nusb:v[12]*[3*\n A=1\n\nusb:v*[[4\n A=1\n", (1, 12, "[1*"), (4, 12, "[3*"), (7, 12, "[[4")),
     linted("a match with several", "foo:a[ \nfoo:a[#b\n A=1\n", (1, 4, "foo:a["), (1, 9, "foo:a["), (1, 12, "["), (2, 4, "foo:a["), (2, 5, "foo:a["), (2, 11, "#b"),
            (2, 12, "[")),
@@ -126,8 +127,8 @@ RUNS = [
     Row("gcc", "update --lint --format gcc l.hwdb", {"l.hwdb": "usb:v1*\n  ID_PDA =x#y\n"}, output=EVERY,
         messages=f"l.hwdb:2:3: warning: {TEXTS[7]}: ID_PDA =x [D7]\nl.hwdb:2:12: warning: {TEXTS[11]}: #y [D11]\nl.hwdb:2:3: warning: {TEXTS[13]}: ID_PDA =x [D13]\n"),
     Row("human", "update --lint --format human l.hwdb", {"l.hwdb": "usb:v1d6b*\n A=1\n"}, output=EVERY,
-        messages="l.hwdb:1:1: warning D1: case of a digit that no modalias has: usb:v1d6b*\n  usb:v1d6b*\n  ^~~~~~~~~~\n"
-        "  Write the digits in capitals for usb:, pci: and the kernel's other buses, and in small letters for mouse: and the like.\n"),
+        messages="l.hwdb:1:1: warning: case of a digit that no modalias has [D1]\n  usb:v1d6b*\n  ^~~~~~~~~~\n"
+        "  = Write the digits in capitals for usb:, pci: and the kernel's other buses, and in small letters for mouse: and the like.\n"),
 ]
 
 ROWS = MATCHES + PROPERTIES + RUNS

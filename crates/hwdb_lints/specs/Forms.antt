@@ -30,22 +30,36 @@ is_small_digit byte = is_digit byte || (nat_le 97 byte && nat_le byte 102)
 abbrev pub is_digit_place : ℕ → Bool
 is_digit_place place = place == 88 || place == 120
 
+-- a hexadecimal digit in either case
+abbrev pub is_hexadecimal : ℕ → Bool
+is_hexadecimal byte = is_capital_digit byte || is_small_digit byte
+
+-- whether modaliases of a form have this byte at a place of it; a place that is no digit stands for itself
+abbrev pub is_written : ℕ → ℕ → Bool
+is_written place byte = if place == 88 then is_capital_digit byte else if place == 120 then is_small_digit byte else byte == place
+
 -- whether a byte is a digit in the other case than its place has
 abbrev pub is_swapped : ℕ → ℕ → Bool
-is_swapped place byte = if place == 88 then nat_le 97 byte && nat_le byte 102 else ((place == 120) && nat_le 65 byte) && nat_le byte 70
+is_swapped place byte = (is_hexadecimal byte && not (is_written place byte)) && is_digit_place place
 
--- whether a byte fits a place, whatever the case of a digit; a place that is no digit stands for itself
-abbrev pub fits_place : ℕ → ℕ → Bool
-fits_place place byte = if is_digit_place place then is_capital_digit byte || is_small_digit byte else byte == place
+-- what a byte of a match means at a place that is a digit, for which `?` can stand
+abbrev pub digit_step : ℕ → Step
+digit_step byte = if byte == question_mark || is_hexadecimal byte then step.On else step.Other
 
--- What a byte of a match means at a place of a form. `*`, a set and an escape can stand for anything that follows, `?`
--- for any byte; and a `:` can come in place of a byte that is no digit, and of what follows that.
+-- the same at a place that is no digit: a `:` can come in place of it and of what follows it, and so can a `?`
+abbrev pub letter_step : ℕ → ℕ → Step
+letter_step place byte =
+    if byte == question_mark then step.Free
+    else if byte == place then step.On
+    else if byte == colon then step.Free
+    else step.Other
+
+-- what a byte of a match means at a place of a form: `*`, a set and an escape can stand for anything that follows
 abbrev pub step_at : ℕ → ℕ → Step
 step_at place byte =
     if (byte == star || byte == open_bracket) || byte == backslash then step.Free
-    else if byte == question_mark || fits_place place byte then step.On
-    else if byte == colon && not (is_digit_place place) then step.Free
-    else step.Other
+    else if is_digit_place place then digit_step byte
+    else letter_step place byte
 
 -- how a match meets a form, by what its next byte means and how what follows meets the rest of the form
 abbrev pub meeting_after : Step → Meeting → Meeting
@@ -60,16 +74,18 @@ meeting_of [] text = meeting.Fits
 meeting_of (place ∷ form) [] = meeting.Short
 meeting_of (place ∷ form) (byte ∷ text) = meeting_after (step_at place byte) (meeting_of form text)
 
--- whether a digit has the other case, by what its byte means and whether one that follows has
-abbrev pub swapped_after : Step → Bool → Bool
-swapped_after step.On following = following
-swapped_after _ following = false
+-- whether a digit has the other case, by what the next byte means, whether it is one that has, and whether one that
+-- follows has
+abbrev pub swapped_after : Step → Bool → Bool → Bool
+swapped_after step.On swapped following = swapped || following
+swapped_after step.Free swapped following = false
+swapped_after step.Other swapped following = false
 
 -- whether a digit is in the other case than the form has it, among those that are compared with the form
 abbrev pub has_swapped : List ℕ → List ℕ → Bool
 has_swapped [] text = false
 has_swapped (place ∷ form) [] = false
-has_swapped (place ∷ form) (byte ∷ text) = if is_swapped place byte then true else swapped_after (step_at place byte) (has_swapped form text)
+has_swapped (place ∷ form) (byte ∷ text) = swapped_after (step_at place byte) (is_swapped place byte) (has_swapped form text)
 
 -- whether a match ends so that a modalias that ends in `:` can fit it
 abbrev pub ends_well : Text → Bool
@@ -120,3 +136,11 @@ fault_by None text = if is_unknown text then Some UnknownPrefix else None
 -- why no modalias fits a match, if that is known
 abbrev pub match_fault : Text → Option DatabaseLint
 match_fault text = fault_by (form_among forms text) text
+
+-- whether a modalias has a form behind its prefix: the bytes of its places, or up to a place that is no digit, and then
+-- `:`; more may follow
+abbrev pub is_of_form : List ℕ → List ℕ → Bool
+is_of_form [] modalias = true
+is_of_form (place ∷ form) [] = false
+is_of_form (place ∷ form) (byte ∷ modalias) =
+    if is_written place byte then is_of_form form modalias else byte == colon && not (is_digit_place place)

@@ -1,5 +1,5 @@
 -- D13: the values that properties take.
-use Rattle.std.specs.Prelude.{ℕ, Bool, true, not, ◌==◌, ◌&&◌, ◌||◌, nat_le, if◌then◌else◌, List, [], ◌∷◌, length, map, count_by, codes, Option, Some, None}
+use Rattle.std.specs.Prelude.{ℕ, Bool, true, not, ◌==◌, ◌&&◌, ◌||◌, nat_le, if◌then◌else◌, List, [], ◌∷◌, map, count_by, codes, Option, Some, None}
 use Rattle.std.specs.Prelude.{unwrap_or}
 use Rattle.std.specs.List.{list_all}
 use Rattle.text_bytes.specs.Names.{colon, comma, dot, minus, plus, space, star, underscore, is_blank}
@@ -42,7 +42,8 @@ is_integer value = not (is_empty (without (codes "-") value)) && list_all is_dig
 
 -- a byte that names of keyboard layouts have: `_`, from `+` to `9`, from `@` to `Z`, a small letter
 abbrev pub is_layout_byte : ℕ → Bool
-is_layout_byte byte = ((byte == underscore || (nat_le plus byte && nat_le byte 57)) || (nat_le 64 byte && nat_le byte 90)) || (nat_le 97 byte && nat_le byte 122)
+is_layout_byte byte =
+    ((byte == underscore || (nat_le plus byte && nat_le byte 57)) || (nat_le 64 byte && nat_le byte 90)) || (nat_le 97 byte && nat_le byte 122)
 
 -- the name of a keyboard's layout, or nothing
 abbrev pub is_layout : Text → Bool

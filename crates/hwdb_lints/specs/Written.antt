@@ -1,5 +1,5 @@
 -- What is looked at in a line as it is written.
-use Rattle.std.specs.Prelude.{ℕ, ◌-◌, Bool, not, ◌==◌, ◌&&◌, ◌||◌, nat_lt, if◌then◌else◌, List, [], ◌∷◌, length, drop, position, slice_index}
+use Rattle.std.specs.Prelude.{ℕ, ◌-◌, Bool, not, ◌==◌, ◌&&◌, ◌||◌, nat_lt, if◌then◌else◌, [], ◌∷◌, length, drop, position, slice_index}
 use Rattle.std.specs.Prelude.{Option, Some, None, is_none, option_map}
 use Rattle.std.specs.List.{suffix_len}
 use Rattle.text_bytes.specs.Names.{close_bracket, hash, open_bracket, space, tab, is_whitespace}

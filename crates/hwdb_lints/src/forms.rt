@@ -1,7 +1,8 @@
 //! D1 to D4: a match beside the modaliases that its prefix can have.
 ghost use Rattle.std.specs.Prelude.{◌≡◌, drop, length, map, option_map};
-ghost use Rattle.hwdb_lints.specs.Forms.{ends_well, fault_in_form, fault_met, first_word, fits_place, form_among, has_sign, has_swapped, is_capital_digit};
-ghost use Rattle.hwdb_lints.specs.Forms.{is_digit_place, is_small_digit, is_swapped, is_unknown, match_fault, meeting_of, step_at};
+ghost use Rattle.hwdb_lints.specs.Forms.{digit_step, ends_well, fault_in_form, fault_met, first_word, form_among, has_sign, has_swapped};
+ghost use Rattle.hwdb_lints.specs.Forms.{is_capital_digit, is_digit_place, is_hexadecimal, is_small_digit, is_swapped, is_unknown, is_written};
+ghost use Rattle.hwdb_lints.specs.Forms.{letter_step, match_fault, meeting_of, step_at};
 
 use crate::lint::DatabaseLint;
 use crate::listed::is_among;
@@ -51,25 +52,57 @@ fn is_digit_place(place: u8) -> bool
     place == b'X' || place == b'x'
 }
 
+/// Whether a byte is a hexadecimal digit in either case.
+fn is_hexadecimal(byte: u8) -> bool
+    ensures { result ≡ is_hexadecimal byte }
+{
+    is_capital_digit(byte) || is_small_digit(byte)
+}
+
+/// Whether modaliases of a form have this byte at a place of it.
+fn is_written(place: u8, byte: u8) -> bool
+    ensures { result ≡ is_written place byte }
+{
+    if place == b'X' {
+        is_capital_digit(byte)
+    } else if place == b'x' {
+        is_small_digit(byte)
+    } else {
+        byte == place
+    }
+}
+
 /// Whether a byte is a digit in the other case than its place has.
 fn is_swapped(place: u8, byte: u8) -> bool
     ensures { result ≡ is_swapped place byte }
 {
-    if place == b'X' {
-        b'a' <= byte && byte <= b'f'
+    is_hexadecimal(byte) && !is_written(place, byte) && is_digit_place(place)
+}
+
+/// What a byte of a match means at a place of the form of its modaliases that is a digit, if it is not one behind which
+/// anything can come.
+fn digit_step(byte: u8) -> Step
+    ensures { result ≡ digit_step byte }
+{
+    if byte == b'?' || is_hexadecimal(byte) {
+        Step::On
     } else {
-        place == b'x' && b'A' <= byte && byte <= b'F'
+        Step::Other
     }
 }
 
-/// Whether a byte fits a place, whatever the case of a digit.
-fn fits_place(place: u8, byte: u8) -> bool
-    ensures { result ≡ fits_place place byte }
+/// The same at a place that is no digit.
+fn letter_step(place: u8, byte: u8) -> Step
+    ensures { result ≡ letter_step place byte }
 {
-    if is_digit_place(place) {
-        is_capital_digit(byte) || is_small_digit(byte)
+    if byte == b'?' {
+        Step::Free
+    } else if byte == place {
+        Step::On
+    } else if byte == b':' {
+        Step::Free
     } else {
-        byte == place
+        Step::Other
     }
 }
 
@@ -79,12 +112,10 @@ fn step_at(place: u8, byte: u8) -> Step
 {
     if byte == b'*' || byte == b'[' || byte == b'\\' {
         Step::Free
-    } else if byte == b'?' || fits_place(place, byte) {
-        Step::On
-    } else if byte == b':' && !is_digit_place(place) {
-        Step::Free
+    } else if is_digit_place(place) {
+        digit_step(byte)
     } else {
-        Step::Other
+        letter_step(place, byte)
     }
 }
 
@@ -118,12 +149,10 @@ fn has_swapped(form: &[u8], text: &[u8]) -> bool
         let place = *place;
         match rest.split_first() {
             Some((byte, following)) => {
-                if is_swapped(place, *byte) {
-                    return true;
-                }
                 match step_at(place, *byte) {
+                    Step::On if is_swapped(place, *byte) => return true,
                     Step::On => rest = following,
-                    _ => return false,
+                    Step::Free | Step::Other => return false,
                 }
             }
             None => return false,

@@ -1,12 +1,23 @@
 //! Examples of whole results, each the contract of a function with an empty body.
-ghost use Rattle.std.specs.Prelude.{◌≡◌, ◌∷◌, ◌++◌, [], codes, false, true, None, Some};
-ghost use Rattle.hwdb_lints.specs.Forms.{match_fault};
+ghost use Rattle.std.specs.Prelude.{◌≡◌, ◌∷◌, ◌++◌, ℕ, List, [], codes, false, true, None, Some, Ok};
+ghost use Rattle.text_core.specs.Fits.{fits};
+ghost use Rattle.text_core.specs.Spell.{spell};
+ghost use Rattle.text_core.specs.declared.item.Item.{Item};
+ghost use Rattle.hwdb_lints.specs.Forms.{has_swapped, is_of_form, match_fault, meeting_of};
 ghost use Rattle.hwdb_lints.specs.Lints.{database_lints};
 ghost use Rattle.hwdb_lints.specs.Names.{is_name};
 ghost use Rattle.hwdb_lints.specs.Placed.{placed};
 ghost use Rattle.hwdb_lints.specs.Values.{takes};
-ghost use Rattle.hwdb_lints.specs.declared.lint.DatabaseLint.TheVariants.{BlankAtEnd, BlankAtEquals, ByteOrderMark, CutWord, DigitCase, EndMissing, MatchTwice, NoModalias};
-ghost use Rattle.hwdb_lints.specs.declared.lint.DatabaseLint.TheVariants.{OddName, OpenSet, PropertyTwice, UnknownPrefix, WrongValue};
+ghost use Rattle.hwdb_lints.specs.declared.forms.Meeting.{Meeting};
+ghost use Rattle.hwdb_lints.specs.declared.lint.DatabaseLint.TheVariants.{BlankAtEnd, BlankAtEquals, ByteOrderMark, CutWord, DigitCase, EndMissing};
+ghost use Rattle.hwdb_lints.specs.declared.lint.DatabaseLint.TheVariants.{MatchTwice, NoModalias, OddName, OpenSet, PropertyTwice, UnknownPrefix, WrongValue};
+
+/// What a match has after its prefix, read as a pattern, fits no modalias of a form if it is reported to end before the
+/// form does, to have another byte, or to have a digit in the other case.
+pub fn reported_matches_fit_no_modalias()
+    ensures { (form text modalias : List ℕ) (items : List Item) → spell text ≡ Ok items → fits items modalias ≡ true → is_of_form form modalias ≡ true
+        → (meeting_of form text ≡ Meeting.Fits) × (has_swapped form text ≡ false) }
+{}
 
 /// The kernel writes the numbers of a USB device in capitals, and the rules for mice those of a mouse in small letters.
 pub fn digits_have_the_case_of_their_prefix()
@@ -15,6 +26,7 @@ pub fn digits_have_the_case_of_their_prefix()
     ensures mouse { match_fault (codes "mouse:usb:v046Dpc53f:name:*:") ≡ Some DigitCase }
     ensures small { match_fault (codes "mouse:usb:v046dpc53f:name:*:") ≡ None }
     ensures ends { match_fault (codes "usb:v1d6bp0002") ≡ Some DigitCase }
+    ensures any { match_fault (codes "usb:v1D6Bp0002?Hub*") ≡ None }
     ensures sets { match_fault (codes "usb:v1D6Bp000[12a]*") ≡ None }
 {}
 

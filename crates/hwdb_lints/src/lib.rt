@@ -24,7 +24,7 @@ pub use file_lints::database_lints;
 pub use laws::{
     a_match_is_given_twice_in_its_file, blanks_belong_to_nothing,
     digits_have_the_case_of_their_prefix, matches_end_where_modaliases_do, names_are_those_of_udev,
-    properties_take_their_values,
+    properties_take_their_values, reported_matches_fit_no_modalias,
 };
 pub use lint::DatabaseLint;
 pub use placed_lint::PlacedLint;

@@ -20,6 +20,11 @@ Case = namedtuple("Case", "name count make most", defaults=(15,))
 # A run below so many seconds is only start and end.
 SHORT = 0.2
 
+
+class Link(str):
+    """The path that a symbolic link leads to, among the files of a run."""
+
+
 DEVICE = "C: add\nP: /a\n"
 LONG = "a" * 60_000
 
@@ -81,6 +86,14 @@ def interface_of(count):
 def printing(count):
     """An answer that sets as many properties, and then removes them, starting with the first."""
     return f"{DEVICE}Q: /p\nR: 0 " + each("a#=1\r", count) + each('a#=""\r', count) + "\n"
+
+
+def linked(count):
+    """Rules files below a root that are links, which lead on through 38 others, each along a path of 1,600 names."""
+    there = "d/../" * 800
+    return ["verify", "-r", "root"], {
+        "root/d/x": "", "root/l38": "", **{f"root/l{number}": Link(f"{there}l{number + 1}") for number in range(38)},
+        **{f"root/etc/udev/rules.d/{number:05}.rules": Link(f"/{there}l0") for number in range(count)}}, ""
 
 
 def falling(count):
@@ -175,6 +188,7 @@ DATABASE = [
     Case("files of two folders", 1_000, lambda n: (["verify", "-r", "."], {
         **{f"etc/udev/rules.d/b{number:05}.rules": "" for number in range(n)},
         **{f"run/udev/rules.d/a{number:05}.rules": "" for number in range(n)}}, "")),
+    Case("rules files below a root, each behind 39 links with 1,600 names", 2, linked),
     Case("named files", 2_000, lambda n: (["verify", *["r"] * n], {"r": ""}, "")),
 ]
 
@@ -191,6 +205,9 @@ def prepared(program, case, count):
         os.chdir(folder)
         for name, text in {"input": block, **files}.items():
             os.makedirs(os.path.dirname(os.path.join(folder, name)), exist_ok=True)
+            if isinstance(text, Link):
+                os.symlink(text, name)
+                continue
             with open(name, "wb") as file:
                 file.write(as_bytes(text))
         yield Run([program, *words], "input", "output", (0, 1))

@@ -17,13 +17,13 @@ _devdry_words() {
     mapfile -t COMPREPLY < <(compgen -W "$*" -- "$word")
 }
 
-_devdry_codes='V1 V2 V3 V4 V5 V6 V7 V8 V9 V10 V11 V12 V13 V14 V15 V16 V17 V18 V19 V20 V21 V22 V23 V24 V25 V26 S1 S2 S3 S4 S5 S6 H1 H2 H3 H4 H5 H6 W1 W2 W3 W4 W5 W6 W7 W8 W9 W10 W11 W12 W13 W14'
+_devdry_codes='V1 V2 V3 V4 V5 V6 V7 V8 V9 V10 V11 V12 V13 V14 V15 V16 V17 V18 V19 V20 V21 V22 V23 V24 V25 V26 S1 S2 S3 S4 S5 S6 H1 H2 H3 H4 H5 H6 W1 W2 W3 W4 W5 W6 W7 W8 W9 W10 W11 W12 W13 W14 D1 D2 D3 D4 D5 D6 D7 D8 D9 D10 D11 D12 D13'
 
 # _devdry_code_list: the current word may become codes with commas between them, with `comments` among them.
 _devdry_code_list() {
     local front=
     case $word in *,*) front=${word%,*}, ;; esac
-    mapfile -t COMPREPLY < <(compgen -P "$front" -W "$_devdry_codes comments" -- "${word##*,}")
+    mapfile -t COMPREPLY < <(compgen -P "$front" -W "V S H W I $_devdry_codes comments" -- "${word##*,}")
 }
 
 # Whether query takes a database file as the current word: after a modalias, a word that is neither an option nor the
@@ -59,12 +59,12 @@ _devdry() {
         return
     fi
     case $command in
-        verify) suffix=.rules options='-r --root --all --format --ignore --no-summary --no-style --lint --udev --users --groups -h --help -V --version' ;;
-        query) suffix=.hwdb options='-r --root --sources --index -h --help -V --version' ;;
-        update) suffix=.hwdb options='-r --root -s --strict --all --format --ignore -h --help -V --version' ;;
-        events) suffix=.rules options='-r --root --sources --why --questions --index --udev -h --help -V --version' ;;
+        verify) suffix=.rules options='-r --root -s --strict --all --format --ignore --no-summary --no-style --lint --udev --users --groups -h --help -V --version' ;;
+        query) suffix=.hwdb options='-r --root --all --sources --index -h --help -V --version' ;;
+        update) suffix=.hwdb options='-r --root -s --strict --all --format --ignore --lint -h --help -V --version' ;;
+        events) suffix=.rules options='-r --root --all --sources --why --questions --index --udev -h --help -V --version' ;;
         files) suffix='' options='-r --root -h --help -V --version' ;;
-        compare) suffix='' options='--index --udev -h --help -V --version' ;;
+        compare) suffix='' options='--all --index --udev -h --help -V --version' ;;
         explain) suffix='' options='-h --help -V --version' ;;
         help)
             [ "$COMP_CWORD" -gt 2 ] || _devdry_words verify query update events files compare explain help
@@ -76,7 +76,7 @@ _devdry() {
         -r:* | --root:*) _devdry_files '' ;;
         --index:* | --users:* | --groups:*) _devdry_any_files ;;
         --why:*) _devdry_files .rules ;;
-        --format:*) _devdry_words plain gcc github gitlab json human ;;
+        --format:*) _devdry_words plain gcc github gitlab json sarif human ;;
         --ignore:*) _devdry_code_list ;;
         *:-*) _devdry_words "$options" ;;
         *) _devdry_arguments ;;

@@ -3,7 +3,7 @@
 
 usage: tests/read_formats.py PROGRAM
 
-`json` and `gitlab` are read by Python's json, `github` as GitHub's runner parses a workflow command, `gcc` by the regular
+`json`, `gitlab` and `sarif` are read by Python's json, and by jq where it is there, `github` as GitHub's runner parses a workflow command, `gcc` by the regular
 expression of a problem matcher, `human` line by line, with the part of the line that it shows. Over files with faults,
 some of them made from a seed, all formats have to give the messages of `plain`, the place of each has to contain what its
 message is about, and messages and places have to be those of a plain reading of the rules (placed_rules.py). Each case is
@@ -18,8 +18,10 @@ import subprocess
 import sys
 import tempfile
 from pathlib import Path
+from urllib.parse import unquote_to_bytes
 
 from placed_rules import findings
+from tables.kinds.marked import COMMA_AT_THE_END, UNSEEN, masked
 
 TOP = Path(__file__).resolve().parent.parent
 
@@ -95,6 +97,26 @@ def read_gitlab(text):
     return found
 
 
+def read_sarif(text):
+    log = json.loads(text.decode("utf-8"))
+    [only] = log["runs"]
+    if log["version"] != "2.1.0" or only["tool"]["driver"]["name"] != "devdry":
+        raise ValueError(f"the head {text[:300]!r}")
+    rules = {it["id"]: it["shortDescription"]["text"] for it in only["tool"]["driver"]["rules"]}
+    prints = [it["partialFingerprints"]["devdryLine/v1"] for it in only["results"]]
+    if len(set(prints)) < len(prints):
+        raise ValueError("two fingerprints are the same")
+    found = []
+    for it in only["results"]:
+        [place] = [place["physicalLocation"] for place in it["locations"]]
+        path = text_of(unquote_to_bytes(re.sub("^file://", "", place["artifactLocation"]["uri"])))
+        reported = it["message"]["text"].replace("{{", "{").replace("}}", "}")
+        if not reported.startswith(rules[it["ruleId"]]):
+            raise ValueError(f"the message {reported!r}")
+        found.append((escaped(path), place["region"]["startLine"], None, None, it["ruleId"], it["level"], reported))
+    return found
+
+
 def read_github(text):
     found = []
     for line in text_of(text).split("\n")[:-1]:
@@ -123,7 +145,22 @@ def read_human(text):
     return found
 
 
-READERS = {"json": read_json, "gitlab": read_gitlab, "github": read_github, "gcc": read_gcc, "human": read_human}
+READERS = {"json": read_json, "gitlab": read_gitlab, "sarif": read_sarif, "github": read_github, "gcc": read_gcc, "human": read_human}
+
+
+# The reports for programs: they are all of the standard output, and no message goes to the standard error.
+REPORTS = ("json", "gitlab", "sarif")
+
+
+def beside_jq(text):
+    """Where jq reads other values than Python's json; nothing without jq."""
+    if not shutil.which("jq"):
+        return ""
+    came = subprocess.run(["jq", "--compact-output", "."], input=text, capture_output=True, timeout=60)
+    if came.returncode:
+        return text_of(came.stderr)
+    return first_difference([json.loads(line) for line in text.decode("utf-8").split("\n")[:-1]],
+                            [json.loads(line) for line in came.stdout.decode("utf-8").split("\n")[:-1]])
 
 
 def run(program, folder, *words):
@@ -169,7 +206,7 @@ def plain_value(line, column):
 def wrong_place(folder, it):
     """What is wrong with the place of a message, or nothing."""
     path, number, column, end, code, severity, text = it
-    if severity != ("warning" if code[0] in "SIW" else "error"):
+    if severity != ("warning" if code[0] in "SIWD" else "error"):
         return f"{it}: its severity"
     lines = (folder / path).read_bytes().split(b"\n")
     line = lines[number - 1]
@@ -207,6 +244,7 @@ def columns(text):
 
 def shown_bytes(text):
     """Bytes as `human` shows them."""
+    text = masked(text)
     return bytes(0x20 if byte == 0x09 else ord("?") if byte < 0x20 or byte == 0x7F else byte for byte in text)
 
 
@@ -227,7 +265,9 @@ def wrong_caret(folder, whole, it):
         return f"{whole}: shown: {shown!r}, but the line from byte {begins} on: {line[begins:begins + SHOWN]!r}"
     if caret != marks:
         return f"{whole}: the marks under {shown!r} are {caret!r}, not {marks!r}"
-    return "" if sentence == first_sentence(code) else f"{it}: docs/messages.md begins with {first_sentence(code)!r}"
+    # (of a few messages it tells more than the first sentence of their section)
+    more = code in ("V1", "S1") and sentence in [hint.decode() for hint in (COMMA_AT_THE_END, *(hint for _, hint in UNSEEN))]
+    return "" if more or sentence == first_sentence(code) else f"{it}: docs/messages.md begins with {first_sentence(code)!r}"
 
 
 def beside_a_reading(folder, words, whole):
@@ -258,11 +298,15 @@ def check(case, program, folder, words, name_of=lambda path: path):
     for form, reader in READERS.items():
         came = run(program, folder, *words, f"--format={form}")
         try:
-            read[form] = reader(came[2])
+            read[form] = reader(came[1] if form in REPORTS else came[2])
         except (AttributeError, IndexError, KeyError, TypeError, ValueError) as fault:
-            reported(f"{case}: {form} is readable", f"{fault!r} of {came[2][:1000]!r}")
+            reported(f"{case}: {form} is readable", f"{fault!r} of {came[1:]!r}"[:2000])
             continue
-        reported(f"{case}: {form} is readable, with {len(read[form])} messages", "" if came[:2] == (status, output) else f"{came[:2]}, not {(status, output)}")
+        beside = (status, b"") if form in REPORTS else (status, output)
+        rest = (came[0], came[2]) if form in REPORTS else came[:2]
+        reported(f"{case}: {form} is readable, with {len(read[form])} messages", "" if rest == beside else f"{rest}, not {beside}")
+        if form in REPORTS:
+            reported(f"{case}: jq reads {form} as Python does", beside_jq(came[1]))
     same_plain = run(program, folder, *words, "--format=plain")
     reported(f"{case}: plain is the same as no --format", "" if same_plain == (status, output, plain) else f"{same_plain}")
     whole = read.get("json")
@@ -347,7 +391,7 @@ def main(program):
             (folder / path).parent.mkdir(exist_ok=True)
             (folder / path).write_text('FOO="x"\nTAG="a",TAG="b",TAG="c"\n')
         check("odd names", program, folder, ["verify", *(path for path in NAMES if "\n" not in path)])
-        status, _, text = run(program, folder, "verify", "--format=json", NAMES[-1])
+        status, text, _ = run(program, folder, "verify", "--format=json", NAMES[-1])
         reported("json has the full name of a file with a newline in its name",
              "" if [json.loads(line)["path"] for line in text.decode().split("\n")[:-1]] == [NAMES[-1]] * 3 else text_of(text))
 

@@ -196,6 +196,26 @@ l.rules:2: W7 value assigned that others compare: A
 l.rules:2: W13 rule never reached: end
 """
 
+# a record without an entry that causes most lints of the database
+LINTED_SOURCE = "usb:v1d6b*\nusb:v1d6b* \nfoo:[\npci:v8086\n\n# devdry: ignore D8\n a = 1\n a=2#3\n ID_PDA=x\n"
+LINTED_SOURCE_REPORTED = """\
+s.hwdb:1: H2 match without a property: usb:v1d6b*
+s.hwdb:1: D1 case of a digit that no modalias has: usb:v1d6b*
+s.hwdb:2: D1 case of a digit that no modalias has: usb:v1d6b*
+s.hwdb:2: D5 match given twice: usb:v1d6b*
+s.hwdb:2: D9 blank at the end of a match: usb:v1d6b*
+s.hwdb:3: D4 unknown prefix: foo:[
+s.hwdb:3: D12 set without ]: [
+s.hwdb:4: D3 end of a match is missing: pci:v8086
+s.hwdb:7: H1 property without a match: a = 1
+s.hwdb:7: D7 blank beside the =: a = 1
+s.hwdb:8: H1 property without a match: a=2
+s.hwdb:8: D8 key that no program asks for: a
+s.hwdb:8: D11 comment within a word: #3
+s.hwdb:9: H1 property without a match: ID_PDA=x
+s.hwdb:9: D13 value that the property does not take: ID_PDA=x
+"""
+
 FAULTY_SOURCE = " A=1\n\nm1\n\nm2\n =x\n B\nm3\n C=1\n\n[[.a.]]\n D=1\n"
 FAULTY_SOURCE_REPORTED = """\
 s.hwdb:1: H1 property without a match: A=1
@@ -308,6 +328,9 @@ ROWS = [
     Row(
         "a faulty database file", ["update", "-s", "s.hwdb"], {"s.hwdb": FAULTY_SOURCE},
         output=EMPTY_INDEX, messages=FAULTY_SOURCE_REPORTED, status=1),
+    Row(
+        "a database file with lints", ["update", "--lint", "--ignore", "comments", "s.hwdb"], {"s.hwdb": LINTED_SOURCE},
+        output=EMPTY_INDEX, messages=LINTED_SOURCE_REPORTED),
     Row("an index written", ["update", "t.hwdb"], {"t.hwdb": "a*\n K=V\n"}, output=INDEX, each_byte=True),
     Row("an index", ["query", "--index", "a.index", "abc"], {"a.index": INDEX}, output="K=V\n"),
     Row("an index, line by line", ["query", "--index", "a.index", "-"], {"a.index": INDEX}, "abc\nb\na", "K=V\n\n\nK=V\n\n"),
@@ -328,9 +351,9 @@ ROWS = [
         "C: add\nP: /a\n\nC: add\nP: /b\n", COMPARED, "r.rules:1: V2 unknown key: FOO\n", status=1, each_byte=True),
     Row(
         "two roots compared as udev does, with an index", ["compare", "--udev", "--index", "a.index", "old", "new"],
-        {"a.index": INDEX, f"new/{RULES}": 'IMPORT{builtin}="hwdb abc"\n'}, "C: add\nP: /a\n", "event add /a\n+env K=V\n\n", status=1),
+        {"a.index": INDEX, f"old/{RULES}": "", f"new/{RULES}": 'IMPORT{builtin}="hwdb abc"\n'}, "C: add\nP: /a\n", "event add /a\n+env K=V\n\n", status=1),
     Row(
-        "a faulty block after a difference", ["compare", "old", "new"], {f"new/{RULES}": 'TAG+="a"\n'},
+        "a faulty block after a difference", ["compare", "old", "new"], {f"old/{RULES}": "", f"new/{RULES}": 'TAG+="a"\n'},
         "C: add\nP: /a\n\nC: add\n", "event add /a\n+tag a\n\n", line="block 2, line 1: no device\n", status=1),
     Row(
         "modaliases after messages", ["query", "-", "s.hwdb"], {"s.hwdb": "m1\n\nm*\n A=1\n"}, "mx\n\nm", "A=1\n\n\nA=1\n\n",
@@ -363,8 +386,8 @@ ROWS = [
         status=None, each_byte=True),
     *(Row(
         f"faulty rules as {form}", ["verify", f"--format={form}", "--ignore", "S2", "f.rules"],
-        {"f.rules": 'FOO="x"\nKERNEL=="a",TAG+="t" NAME="b"\n'}, output=None, line=None, status=1) for form in ("gcc", "github", "gitlab", "json", "human")),
-    Row("a faulty database file as JSON", ["update", "--format", "json", "--ignore", "H5", "s.hwdb"], {"s.hwdb": "m1\n\nm2\n =x\n"}, output=EMPTY_INDEX, line=None),
+        {"f.rules": 'FOO="x"\nKERNEL=="a",TAG+="t" NAME="b"\n'}, output=None, line=None, status=1) for form in ("gcc", "github", "gitlab", "json", "sarif", "human")),
+    Row("a faulty database file as JSON", ["update", "--format", "json", "--ignore", "H5", "s.hwdb"], {"s.hwdb": "m1\n\nm2\n =x\n"}, output=None, line=None),
     Row(
         "as udev does, with sources and what rules met", ["events", "--udev", "--sources", "--why", "w.rules", "-r", ".", "w.rules"], REPORTED_FILES, REPORTED,
         None),

@@ -167,7 +167,8 @@ def main(program):
         (folder / "a.rules").write_text(RULES)
         (folder / "good.rules").write_text('ACTION=="add", TAG+="t"\n')
         (folder / "a.hwdb").write_text("m\n")
-        (folder / "old").mkdir()
+        (folder / "old/etc/udev/rules.d").mkdir(parents=True)
+        (folder / "old/etc/udev/rules.d/good.rules").write_text("")
         rules = folder / "new/etc/udev/rules.d"
         rules.mkdir(parents=True)
         (rules / "good.rules").write_text('ACTION=="add", TAG+="t"\n')

@@ -11,6 +11,6 @@ worst() {
 }
 
 devdry files -r "$root"
-worst devdry verify --all --format=gcc --ignore V6,comments -r "$root"
+worst devdry verify --strict --format=gcc --ignore V6,comments -r "$root"
 worst devdry update --all --strict --format=gcc --ignore comments -r "$root" > /dev/null
 exit "$status"

@@ -6,7 +6,7 @@ program.
 from tables.kinds.answered import block
 from tables.kinds.compared import NEW, OLD, compared, placed
 from tables.kinds.index_bytes import WITHOUT_FILE
-from tables.kinds.row import FOLDER, Begins, Row
+from tables.kinds.row import FOLDER, Begins, Link, Row
 
 D = "/devices/d"
 START = f"event add {D}\n"
@@ -78,22 +78,48 @@ EVENTS = [
     compared("no event", ['TAG+="t"'], ['TAG+="u"']),
     compared("each event starts from its own block", ['RUN+="/bin/a"'], ['RUN+="/bin/a"', 'TAG=="x", RUN+="/bin/b"'], ("/a", ["G: x"],
         "+run program /bin/b"), ("/a", [])),
-    Row("an event with another action and an escaped path", ["compare", OLD, NEW], {placed(NEW): 'TAG+="t"\n'},
+    Row("an event with another action and an escaped path", ["compare", OLD, NEW], {placed(OLD): "", placed(NEW): 'TAG+="t"\n'},
         b"C: change\nP: /a\\b\n",
         "event change /a\\x5Cb\n+tag t\n\n", status=1),
-    Row("a faulty block ends the run after the earlier differences", ["compare", OLD, NEW], {placed(NEW): 'TAG+="t"\n'},
+    Row("a faulty block ends the run after the earlier differences", ["compare", OLD, NEW], {placed(OLD): "", placed(NEW): 'TAG+="t"\n'},
         block(D) + b"C: add\n",
         START + "+tag t\n\n", "block 2, line 1: no device\n", 1),
-    Row("a faulty block after an event without differences", ["compare", OLD, NEW], {}, block(D) + b"C: add\n", "",
+    Row("a faulty block after an event without differences", ["compare", OLD, NEW], {placed(OLD): "", placed(NEW): ""}, block(D) + b"C: add\n", "",
         "block 2, line 1: no device\n", 1),
 ]
 
+FOLDERS = ["etc/udev/rules.d", "run/udev/rules.d", "usr/local/lib/udev/rules.d", "usr/lib/udev/rules.d"]
+
+
+def no_rules(root, **places):
+    """What is reported for a root without rules, whose folders are absent or as is said of their first names."""
+    return "devdry: no files\n" + "".join(f"devdry: {root}/{folder}: {places.get(folder.split('/')[0], 'absent')}\n" for folder in FOLDERS)
+
+
 ROOTS = [
-    Row("two roots that do not exist", ["compare", OLD, NEW], {}, block(D)),
+    Row("two roots that do not exist", ["compare", OLD, NEW], {}, block(D), messages=no_rules(OLD) + no_rules(NEW), status=1),
     Row("a root without files and a root with files", ["compare", OLD, NEW], {OLD: FOLDER, placed(NEW): 'TAG+="t"\n'}, block(D),
-        START + "+tag t\n\n", status=1),
+        START + "+tag t\n\n", no_rules(OLD), 1),
+    Row("a root without files after a root with files", ["compare", OLD, NEW], {placed(OLD): "", "new/etc/udev/rules.d/README": ""}, block(D),
+        messages=no_rules(NEW, etc="has no .rules files"), status=1),
+    Row("a root with a database alone", ["compare", OLD, NEW], {placed(OLD): "", "new/etc/udev/hwdb.d/a.hwdb": ""}, block(D),
+        messages=no_rules(NEW), status=1),
+    Row("where files were looked for comes before messages and differences", ["compare", OLD, NEW], {placed(NEW): 'FOO="1"\nTAG+="t"\n'}, block(D),
+        no_rules(OLD) + "r.rules:1: V2 unknown key: FOO\n" + START + "+tag t\n\n", status=1, together=True),
+    Row("--all goes on after a link to nothing", ["compare", "--all", OLD, NEW], {placed(OLD): 'TAG+="t"\n', placed(NEW): 'TAG+="u"\n',
+        placed(NEW, "s.rules"): Link("none")}, block(D), START + "-tag t\n+tag u\n\n",
+        "devdry: cannot read new/usr/lib/udev/rules.d/s.rules: link to nothing: none\n", 3),
+    Row("--all with links to nothing in both", ["compare", "--all", OLD, NEW], {placed(OLD): "", placed(OLD, "s.rules"): Link("a"), placed(NEW): "",
+        placed(NEW, "s.rules"): Link("b")}, block(D), "", "devdry: cannot read old/usr/lib/udev/rules.d/s.rules: link to nothing: a\n"
+        "devdry: cannot read new/usr/lib/udev/rules.d/s.rules: link to nothing: b\n", 3),
+    Row("--all with roots that do not exist", ["compare", "--all", OLD, NEW], {}, block(D), messages=no_rules(OLD) + no_rules(NEW), status=1),
+    Row("--all without unreadable files", ["compare", "--all", OLD, NEW], {placed(OLD): "", placed(NEW): ""}, block(D)),
+    Row("--all with an index that does not exist", ["compare", "--all", "--index", "i", OLD, NEW], {placed(OLD): "", placed(NEW): 'TAG+="t"\n'}, block(D),
+        START + "+tag t\n\n", "devdry: cannot read i: no such file\n", 3),
+    Row("--all with an index", ["compare", "--all", "--index", "i", OLD, NEW], {placed(OLD): "", placed(NEW): 'IMPORT{builtin}="hwdb abc"\n', "i": WITHOUT_FILE},
+        block(D), START + "+env K=V\n\n", status=1),
     Row("the same root twice", ["compare", NEW, NEW], {placed(NEW): 'TAG+="t"\n'}, block(D)),
-    Row("OLD and NEW exchanged", ["compare", NEW, OLD], {placed(NEW): 'TAG+="t"\n'}, block(D), START + "-tag t\n\n", status=1),
+    Row("OLD and NEW exchanged", ["compare", NEW, OLD], {placed(NEW): 'TAG+="t"\n', placed(OLD): ""}, block(D), START + "-tag t\n\n", status=1),
     Row("files of all folders, the first of each name", ["compare", OLD, NEW],
         {"old/usr/lib/udev/rules.d/a.rules": 'TAG+="a"\n', "new/usr/lib/udev/rules.d/a.rules": 'TAG+="a"\n',
         "new/etc/udev/rules.d/a.rules": 'TAG+="b"\n',
@@ -109,7 +135,7 @@ ROOTS = [
         messages="devdry: cannot read new/etc/udev/rules.d\n", status=3),
     Row("of two unreadable files that of OLD is reported", ["compare", OLD, NEW], {"old/etc/udev/rules.d": "", "new/etc/udev/rules.d": ""}, block(D),
         messages="devdry: cannot read old/etc/udev/rules.d\n", status=3),
-    Row("a file that is not an index", ["compare", "--index", "i", OLD, NEW], {"i": "none"}, block(D),
+    Row("a file that is not an index", ["compare", "--index", "i", OLD, NEW], {"i": "none", placed(OLD): "", placed(NEW): ""}, block(D),
         messages="devdry: index: short\n", status=1),
     Row("an index that does not exist", ["compare", "--index", "i", OLD, NEW], {}, block(D), messages="devdry: cannot read i\n",
         status=3),
@@ -119,7 +145,7 @@ ROOTS = [
 TOGETHER = [
     Row("messages come before the differences in one stream", ["compare", OLD, NEW], {placed(OLD): 'FOO="1"\n', placed(NEW): 'BAR="1"\nTAG+="t"\n'}, block(D),
         "r.rules:1: V2 unknown key: FOO\nr.rules:1: V2 unknown key: BAR\n" + START + "+tag t\n\n", status=1, together=True),
-    Row("a faulty block comes after the differences in one stream", ["compare", OLD, NEW], {placed(NEW): 'FOO="1"\nTAG+="t"\n'}, block(D) + b"C: add\n",
+    Row("a faulty block comes after the differences in one stream", ["compare", OLD, NEW], {placed(OLD): "", placed(NEW): 'FOO="1"\nTAG+="t"\n'}, block(D) + b"C: add\n",
         "r.rules:1: V2 unknown key: FOO\n" + START + "+tag t\n\nblock 2, line 1: no device\n", status=1, together=True),
 ]
 

@@ -4,7 +4,7 @@ What is wanted was written by hand, or follows from places that are marked by ha
 nothing here was taken from the program. tests/read_formats.py reads the formats as other programs do.
 """
 from tables.kinds.index_bytes import EMPTY
-from tables.kinds.marked import FORMATS, gitlab_report, in_formats, messages, read_marks, sentence, summary
+from tables.kinds.marked import FORMATS, REPORTS, gitlab_report, in_formats, messages, read_marks, sarif_log, sentence, summary, written
 from tables.kinds.row import Begins, Read, Row
 
 # The example of README.md, and what each format says about it.
@@ -52,9 +52,14 @@ r.rules:6:15: warning: blank after a comma expected [S2]
   = {sentence("S2").decode()}
 """,
     "gitlab": Read(gitlab_report, [
-        ("r.rules", 2, "major", "V2", "V2 unknown key: SUBSYSTEMM"),
-        ("r.rules", 4, "major", "V7", "V7 no later label: end"),
-        ("r.rules", 6, "minor", "S2", "S2 blank after a comma expected: TAG"),
+        ("r.rules", 2, "major", "V2", "V2 unknown key: SUBSYSTEMM", '1:V2:r.rules:SUBSYSTEMM=="block", TAG+="disk"'),
+        ("r.rules", 4, "major", "V7", "V7 no later label: end", '1:V7:r.rules:KERNEL=="sd*", GOTO="end"'),
+        ("r.rules", 6, "minor", "S2", "S2 blank after a comma expected: TAG", '1:S2:r.rules:KERNEL=="sr*",TAG+="optical"'),
+    ]),
+    "sarif": Read(sarif_log, [
+        ("r.rules", 2, 1, 11, "error", "V2", "unknown key: SUBSYSTEMM", '1:V2:r.rules:SUBSYSTEMM=="block", TAG+="disk"'),
+        ("r.rules", 4, 22, 25, "error", "V7", "no later label: end", '1:V7:r.rules:KERNEL=="sd*", GOTO="end"'),
+        ("r.rules", 6, 15, 18, "warning", "S2", "blank after a comma expected: TAG", '1:S2:r.rules:KERNEL=="sr*",TAG+="optical"'),
     ]),
 }
 # The same for a file of the database.
@@ -93,12 +98,20 @@ t.hwdb:11:1: error: pattern not supported: [[.a.]] [H6]
 {"path":"t.hwdb","line":11,"column":1,"end_column":8,"code":"H6","text":"pattern not supported","word":"[[.a.]]","severity":"error"}
 """,
     "gitlab": Read(gitlab_report, [
-        ("t.hwdb", 1, "major", "H1", "H1 property without a match: A=1"),
-        ("t.hwdb", 3, "major", "H2", "H2 match without a property: m1"),
-        ("t.hwdb", 6, "major", "H5", "H5 empty key: =x"),
-        ("t.hwdb", 7, "major", "H4", "H4 no =: B"),
-        ("t.hwdb", 8, "major", "H3", "H3 unindented line after properties: m3"),
-        ("t.hwdb", 11, "major", "H6", "H6 pattern not supported: [[.a.]]"),
+        ("t.hwdb", 1, "major", "H1", "H1 property without a match: A=1", "1:H1:t.hwdb: A=1"),
+        ("t.hwdb", 3, "major", "H2", "H2 match without a property: m1", "1:H2:t.hwdb:m1"),
+        ("t.hwdb", 6, "major", "H5", "H5 empty key: =x", "1:H5:t.hwdb: =x"),
+        ("t.hwdb", 7, "major", "H4", "H4 no =: B", "1:H4:t.hwdb:   B"),
+        ("t.hwdb", 8, "major", "H3", "H3 unindented line after properties: m3", "1:H3:t.hwdb:m3"),
+        ("t.hwdb", 11, "major", "H6", "H6 pattern not supported: [[.a.]]", "1:H6:t.hwdb:[[.a.]]"),
+    ]),
+    "sarif": Read(sarif_log, [
+        ("t.hwdb", 1, 2, 5, "error", "H1", "property without a match: A=1", "1:H1:t.hwdb: A=1"),
+        ("t.hwdb", 3, 1, 3, "error", "H2", "match without a property: m1", "1:H2:t.hwdb:m1"),
+        ("t.hwdb", 6, 2, 4, "error", "H5", "empty key: =x", "1:H5:t.hwdb: =x"),
+        ("t.hwdb", 7, 4, 5, "error", "H4", "no =: B", "1:H4:t.hwdb:   B"),
+        ("t.hwdb", 8, 1, 3, "error", "H3", "unindented line after properties: m3", "1:H3:t.hwdb:m3"),
+        ("t.hwdb", 11, 1, 8, "error", "H6", "pattern not supported: [[.a.]]", "1:H6:t.hwdb:[[.a.]]"),
     ]),
 }
 
@@ -152,7 +165,7 @@ PLACES = [
         "<V1|" + "long" * 30 + ">"),
     *in_formats("no message", 'TAG+="a"'),
     *in_formats("four thousand messages about one line", 'TAG="",' + ",".join(["<S2|TAG>=\"\""] * 2_000), formats=["plain", "gcc",
-        "github", "json", "gitlab"]),
+        "github", "json", "gitlab", "sarif"]),
 ]
 
 # Texts that have a meaning in the formats.
@@ -164,6 +177,10 @@ SIGNS = [
     *in_formats("a backslash in a word", "<V1|a\\b\\c>"),
     *in_formats("characters in a word", "<V1|\u00e4\u20ac\U0001f600>", 'OPTIONS="<V5|' + "0" * 31 + 'ä>"'),
     *in_formats("characters before the place", 'TAG="\u00e4\u20ac\U0001f600",<S2|TAG>+="x"'),
+    *in_formats("control characters of two bytes, and marks of direction", 'KERNEL=="sda\u202e\u0085", <V2|FO\u2066\u009bO>=="a\u2069"',
+                "TAG+=\"\u202d\u202f\u2065\u206a\u00a0\u2028\"<S1|,>", file="a\u009b2J\u202e.rules"),
+    *in_formats("no-break spaces", 'TAG+="a",<V1|\u00a0TAG+="b">', 'TAG+="a", <V1|\u00a0TAG+="b">'),
+    *in_formats("lines that end in CR LF", 'TAG+="a"<V1|\r>', "<V1|\r>"),
     *in_formats("bytes that are not UTF-8", b"<V1|A\xFFB>", b'LABEL="<S4|\xE4>"'),
 ]
 
@@ -241,8 +258,8 @@ def in_image(form):
         path = f"mnt/{folder}/{name}.rules"
         files[path], found = read_marks(['TAG+="x"', f'<V2|{name.upper() * 3}>="1"'])
         read.insert(0, (f"{name}.rules", path, found))
-    return Row(f"files of folders by their full path, {form}", f"verify -r mnt --format {form}", files, output=summary(read),
-               messages=messages(form, read), status=1)
+    return Row(f"files of folders by their full path, {form}", f"verify -r mnt --format {form}", files, status=1,
+               **written(form, messages(form, read), summary(read)))
 
 
 def of_database(form, name, files, words=(), status=0):
@@ -252,8 +269,7 @@ def of_database(form, name, files, words=(), status=0):
         texts[path], found = read_marks(lines, rules=False)
         read.append((shown, path, found))
     words = words or [path for _, path in files]
-    return Row(f"{name}, {form}", ["update", f"--format={form}", *words], texts, output=EMPTY, messages=messages(form, read),
-    status=status)
+    return Row(f"{name}, {form}", ["update", f"--format={form}", *words], texts, status=status, **written(form, messages(form, read), EMPTY))
 
 
 BY_MARKS = [
@@ -267,13 +283,11 @@ BY_MARKS = [
 ]
 
 ROWS = [
-    *(Row(f"the example of README.md, {form}", f"verify --format {form} r.rules", {"r.rules": MISTAKES},
-          output="1 files checked, 0 good, 1 bad\n", messages=said, status=1) for form, said in SAID.items()),
-    *(Row(f"an example of the database, {form}", f"update --format {form} t.hwdb", {"t.hwdb": DATABASE}, output=EMPTY,
-        messages=said)
+    *(Row(f"the example of README.md, {form}", f"verify --format {form} r.rules", {"r.rules": MISTAKES}, status=1,
+          **written(form, said, "1 files checked, 0 good, 1 bad\n")) for form, said in SAID.items()),
+    *(Row(f"an example of the database, {form}", f"update --format {form} t.hwdb", {"t.hwdb": DATABASE}, **written(form, said, EMPTY))
       for form, said in DATABASE_SAID.items()),
-    *(Row(f"with --strict, {form}", f"update -s --format={form} t.hwdb", {"t.hwdb": DATABASE}, output=EMPTY, messages=said,
-        status=1)
+    *(Row(f"with --strict, {form}", f"update -s --format={form} t.hwdb", {"t.hwdb": DATABASE}, status=1, **written(form, said, EMPTY))
       for form, said in DATABASE_SAID.items()),
     *EACH,
     *PLACES,
@@ -291,10 +305,17 @@ ROWS = [
     Row("without style", "verify --format=gcc --no-style r.rules", {"r.rules": MISTAKES},
         output="1 files checked, 0 good, 1 bad\n",
         messages="".join(SAID["gcc"].splitlines(True)[:2]), status=1),
-    Row("without the summary", "verify --no-summary --format=json r.rules", {"r.rules": MISTAKES}, messages=SAID["json"],
+    Row("without the summary", "verify --no-summary --format=json r.rules", {"r.rules": MISTAKES}, output=SAID["json"],
         status=1),
     Row("only messages about style, with --no-style", "verify --no-style --format=gitlab r.rules", {"r.rules": 'TAG="a",TAG="b"\n'},
-        output="1 files checked, 1 good, 0 bad\n", messages=Read(gitlab_report, [])),
+        output=Read(gitlab_report, [])),
+    *(Row(f"a report and the lines about what can't be read go apart, {form}", f"verify --all --format={form} r.rules no", {"r.rules": MISTAKES},
+          output=SAID[form], messages="devdry: cannot read no: not found\n", status=3) for form in REPORTS),
+    *(Row(f"lines of the same text are counted, and keep their fingerprints below {'a' if head else 'no'} line more, {form}", f"verify --format={form} r.rules",
+          {"r.rules": f'{head}FOO="1"\nFOO="1", BAR="2"\nFOO="1"\n'}, status=1,
+          output=Read(lambda text, of=reader: [it[-1] for it in of(text)],
+                      ['1:V2:r.rules:FOO="1"', '1:V2:r.rules:FOO="1", BAR="2"', '2:V2:r.rules:FOO="1"']))
+      for form, reader in (("gitlab", gitlab_report), ("sarif", sarif_log)) for head in ("", 'KERNEL=="sda", TAG+="x"\n')),
     Row("two files, the named one by its name as given", "verify -r mnt --format gcc b.rules a.rules", {"b.rules": "FOO\n",
         "a.rules": "BAR\n"},
         output="2 files checked, 0 good, 2 bad\n",

@@ -40,6 +40,13 @@ CODES = [
     *(without(codes) for codes in ["V2", "V7", "S2", "S3", "V2,V7", "S2,S3", "V2,V7,S2", "V2,V7,S2,S3", "S3,S2,V7,V2", "V2,V2",
     "V6", "H1", "S1,V12"]),
     without("V2,S2", "verify --ignore V2 --ignore S2"),
+    without("S2,S3", "verify --ignore S"),
+    without("V2,V7", "verify --ignore=V"),
+    without("V2,V7,S2,S3", "verify --ignore S,V"),
+    without("V2,S2,S3", "verify --ignore V2,S"),
+    without("", "verify --ignore H,W,I"),
+    Row("a class of codes without the lints", "verify --lint --ignore W r.rules", {"r.rules": 'ATTRS{idVendor}=="0BDA", SYMLINK+="x"\n'},
+        output="1 files checked, 1 good, 0 bad\n"),
     without("V2,S2,S3", "verify --ignore=V2,S2 --ignore S3"),
     Row("without V2 and V7, and without the summary", "verify --ignore V7 --ignore V7,V2 --no-summary r.rules", {"r.rules": TEXT},
         messages="".join(f"r.rules:3: {said}\n" for said in STYLE[1:]), status=1),
@@ -72,6 +79,7 @@ DATABASE = [
     updated("update without two codes", "--ignore H1,H5", H2),
     updated("update --strict, with one message left", "-s --ignore H1,H5", H2, 1),
     updated("update --strict, with no message left", "-s --ignore H1,H5,H2", ""),
+    updated("update --strict, without the class of messages about the database", "-s --ignore H", ""),
     updated("update --strict without codes of rules", "-s --ignore V1,S2", H1 + H2 + H5, 1),
     updated("update --strict without codes of lints", "-s --ignore W1,W13", H1 + H2 + H5, 1),
     updated("update with --format", "-s --ignore H2,H5 --format=github",
@@ -92,6 +100,15 @@ COMMENTS = [
     commented("several codes", "# devdry: ignore S3,S2", STYLE[0], STYLE),
     commented("blanks around codes", "# devdry: ignore  S3, S2 ", STYLE[0], "# devdry: ignore \tS2", silent(STYLE, "S2")),
     commented("a comment that ends in a carriage return", "# devdry: ignore-file S3,S2\r", STYLE[0]),
+    commented("a reason after a code", "# devdry: ignore S3 -- udev reads it as =", silent(STYLE, "S3")),
+    commented("a reason after several codes", "# devdry: ignore S3, S2 -- as upstream has it, V2 -- S4", STYLE[0]),
+    commented("a reason for the whole file", "# devdry: ignore-file S2,S3 -- upstream", STYLE[0]),
+    commented("a reason with nothing to ignore", ("# devdry: ignore V6 -- upstream", idle("V6")), UNKNOWN),
+    commented("an unknown code before a reason", ("# devdry: ignore X -- upstream", unknown("X")), UNKNOWN),
+    commented("two dashes without a reason", ("# devdry: ignore V2 --", unknown("V2 --")), UNKNOWN),
+    commented("a reason without codes", ("# devdry: ignore  -- upstream", unknown("")), UNKNOWN),
+    commented("a reason after one dash", ("# devdry: ignore V2 - upstream", unknown("V2 - upstream")), UNKNOWN),
+    commented("comments on comments are a class", "# devdry: ignore V6,X", UNKNOWN, words="verify --ignore comments,I"),
     commented("one of two codes", "# devdry: ignore S3", silent(STYLE, "S3")),
     commented("two comments about one rule", "# devdry: ignore S3", "# devdry: ignore S2", STYLE[0]),
     commented("another comment between the comment and its rule", "# devdry: ignore V2", "# It is so on purpose.", UNKNOWN[0]),
@@ -121,9 +138,11 @@ COMMENTS = [
     Row("a comment is about its own file", "verify --ignore comments a.rules b.rules",
         {"a.rules": "# devdry: ignore-file V1\nFOO\n", "b.rules": "FOO\n"}, output="2 files checked, 1 good, 1 bad\n",
         messages="b.rules:1: V1 bad syntax: FOO\n", status=1),
+    Row("with --format the place is the code before a reason", "verify --ignore comments --format=gcc r.rules",
+        {"r.rules": "# devdry: ignore V6, X -- upstream\n"}, output="1 files checked, 0 good, 1 bad\n",
+        messages="r.rules:1:18: warning: nothing to ignore: V6 [I1]\nr.rules:1:22: warning: unknown code: X [I2]\n", status=1),
     Row("with --format the place is the code in the comment", "verify --ignore comments --format json r.rules",
-        {"r.rules": "# devdry: ignore V6,  X \nFOO\n"},
-        output="1 files checked, 0 good, 1 bad\n", messages="""\
+        {"r.rules": "# devdry: ignore V6,  X \nFOO\n"}, output="""\
 {"path":"r.rules","line":1,"column":18,"end_column":20,"code":"I1","text":"nothing to ignore","word":"V6","severity":"warning"}
 {"path":"r.rules","line":1,"column":23,"end_column":24,"code":"I2","text":"unknown code","word":"X","severity":"warning"}
 {"path":"r.rules","line":2,"column":1,"end_column":4,"code":"V1","text":"bad syntax","word":"FOO","severity":"error"}
@@ -133,7 +152,7 @@ COMMENTS = [
 # what is said about a part of `--ignore` that is neither a code nor `comments`, before any file is looked at
 NO_SUCH_CODE = """\
 error: invalid value '{}' for '--ignore <CODES>'
-  [possible values: V1, V2, V3, V4, V5, V6, V7, V8, V9, V10, V11, V12, V13, V14, V15, V16, V17, V18, V19, V20, V21, V22, V23, V24, V25, V26, S1, S2, S3, S4, S5, S6, H1, H2, H3, H4, H5, H6, W1, W2, W3, W4, W5, W6, W7, W8, W9, W10, W11, W12, W13, W14, I1, I2, comments]
+  [possible values: V1, V2, V3, V4, V5, V6, V7, V8, V9, V10, V11, V12, V13, V14, V15, V16, V17, V18, V19, V20, V21, V22, V23, V24, V25, V26, S1, S2, S3, S4, S5, S6, H1, H2, H3, H4, H5, H6, W1, W2, W3, W4, W5, W6, W7, W8, W9, W10, W11, W12, W13, W14, D1, D2, D3, D4, D5, D6, D7, D8, D9, D10, D11, D12, D13, I1, I2, V, S, H, W, I, comments]
 
 For more information, try '--help'.
 """

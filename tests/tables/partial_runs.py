@@ -4,7 +4,8 @@ As in `folders`, what can't be read is a link that leads to nothing or to itself
 of a folder.
 """
 from tables.folders import ETC, LIB, RULES
-from tables.kinds.row import FOLDER, Link, Row
+from tables.kinds.row import FOLDER, PIPE, Begins, Link, Row
+from tables.lookups import INDEX
 from tables.words import EMPTY_INDEX
 
 NO_FILE = "0 files checked, 0 good, 0 bad\n"
@@ -66,6 +67,52 @@ PARTIAL_RUNS = [
      unread("none.rules", "no such file") + nothing([]), 3),
 ]
 
+BLOCK = "C: add\nP: /x\n\n"
+ANSWER = "event add /x\nlink a\nenv ACTION=add\nenv DEVPATH=/x\n\n"
+PLAIN_ANSWER = "event add /x\nenv ACTION=add\nenv DEVPATH=/x\n\n"
+LOST_RULES = {f"{RULES[3]}/a.rules": 'SYMLINK+="a"\n', f"{RULES[3]}/b.rules": Link("nowhere")}
+IMPORTS = 'IMPORT{builtin}="hwdb m", SYMLINK+="a"\n'
+
+# (what is asked, words, files, input, output, messages, status)
+ANSWERED = [
+    ("events without unreadable files", "events --all -r mnt", {f"{RULES[3]}/a.rules": 'SYMLINK+="a"\n'}, BLOCK, ANSWER, "", 0),
+    ("events go on after a link to nothing", "events --all -r mnt", LOST_RULES, BLOCK + BLOCK, ANSWER * 2,
+     unread(f"{RULES[3]}/b.rules", "link to nothing: nowhere"), 3),
+    ("events end at a link to nothing without --all", "events -r mnt", LOST_RULES, BLOCK, "", f"devdry: cannot read {RULES[3]}/b.rules\n", 3),
+    ("events go on after a pipe", "events --all -r mnt", {f"{RULES[0]}/a.rules": 'SYMLINK+="a"\n', f"{RULES[1]}/p.rules": PIPE}, BLOCK, ANSWER,
+     unread(f"{RULES[1]}/p.rules", "not a regular file"), 3),
+    ("events without a rules file", "events --all -r mnt", {f"{LIB}/a.hwdb": "m\n A=1\n"}, BLOCK, PLAIN_ANSWER, nothing(absent(RULES)), 1),
+    ("events without a rules file and without --all", "events -r mnt", {}, BLOCK, PLAIN_ANSWER, "", 0),
+    ("events without a database", "events --all -r mnt", {f"{RULES[0]}/a.rules": 'SYMLINK+="a"\n'}, BLOCK, ANSWER, "", 0),
+    ("events of a named file below a root that does not exist", "events --all -r mnt a.rules", {"a.rules": 'SYMLINK+="a"\n'}, BLOCK, ANSWER,
+     "devdry: mnt: absent\n", 1),
+    ("events of a named file below a root", "events --all -r mnt a.rules", {"a.rules": 'SYMLINK+="a"\n', "mnt": FOLDER}, BLOCK, ANSWER, "", 0),
+    ("events of a named file below a root that is a file", "events --all -r mnt a.rules", {"a.rules": 'SYMLINK+="a"\n', "mnt": ""}, BLOCK, ANSWER,
+     unread(ETC, "not a folder") + unread(LIB, "not a folder") + "devdry: mnt: not a folder\n", 3),
+    ("events of a named file that does not exist", "events --all -r mnt none.rules", {"mnt": FOLDER}, BLOCK, PLAIN_ANSWER,
+     unread("none.rules", "no such file") + nothing([]), 3),
+    ("events of the files of a folder", "events --all -r mnt d", {"d/a.rules": 'SYMLINK+="a"\n', "d/b.txt": "x", "mnt": FOLDER}, BLOCK, ANSWER, "", 0),
+    ("events with an index", "events --all -r mnt --index i", {f"{RULES[0]}/a.rules": IMPORTS, "i": INDEX}, BLOCK,
+     "event add /x\nlink a\nenv A=1\nenv ACTION=add\nenv B=2\nenv DEVPATH=/x\n\n", "", 0),
+    ("events with an index that does not exist", "events --all -r mnt --index i", {f"{RULES[0]}/a.rules": 'SYMLINK+="a"\n'}, BLOCK, ANSWER,
+     unread("i", "no such file"), 3),
+    ("events with a folder as index", "events --all -r mnt --index mnt", {f"{RULES[0]}/a.rules": 'SYMLINK+="a"\n'}, BLOCK, ANSWER,
+     unread("mnt", "not a regular file"), 3),
+    ("a faulty block after unread files", "events --all -r mnt", LOST_RULES, BLOCK + "C: add\n", ANSWER,
+     unread(f"{RULES[3]}/b.rules", "link to nothing: nowhere") + "block 2, line 1: no device\n", 3),
+    ("query goes on after a link to nothing", "query --all -r mnt m", {f"{LIB}/a.hwdb": "m\n A=1\n", f"{ETC}/b.hwdb": Link("none")}, "", "A=1\n",
+     unread(f"{ETC}/b.hwdb", "link to nothing: none"), 3),
+    ("query without files", "query --all -r mnt m", {f"{RULES[0]}/a.rules": ""}, "", "", nothing(absent([ETC, LIB])), 1),
+    ("query without files and without --all", "query -r mnt m", {}, "", "", "", 0),
+    ("query of lines goes on after a link to nothing", "query --all -r mnt -", {f"{LIB}/a.hwdb": "m\n A=1\n", f"{ETC}/b.hwdb": Link("none")}, "m\nx\n",
+     "A=1\n\n\n", unread(f"{ETC}/b.hwdb", "link to nothing: none"), 3),
+    ("query with an index", "query --all --index i m", {"i": INDEX}, "", "A=1\nB=2\n", "", 0),
+    ("query with an index that does not exist", "query --all --index i m", {}, "", "", unread("i", "no such file") + nothing([]), 3),
+    ("query of a named file and one that does not exist", "query --all m a.hwdb none.hwdb", {"a.hwdb": "m\n A=1\n"}, "", "A=1\n",
+     unread("none.hwdb", "no such file"), 3),
+    ("an empty root is refused", ["events", "--all", "-r", ""], {}, BLOCK, "", Begins(b"error: an empty value of '--root <DIR>' names no folder\n"), 2),
+]
+
 # (what is asked, files, output, messages, status) of `files -r mnt`
 LISTED = [
     ("one file in each folder", {f"{folder}/{name}": "x" for folder, name in zip([*RULES, ETC, LIB], ["d.rules", "c.rules", "b.rules", "a.rules", "b.hwdb", "a.hwdb"])},
@@ -90,6 +137,9 @@ LISTED = [
 ]
 
 ROWS = [
+    *(Row(name, words, files, given, output=output, messages=messages, status=status) for name, words, files, given, output, messages, status in ANSWERED),
+    Row("what can't be read comes before the answers in one stream", "events --all -r mnt", LOST_RULES, BLOCK, together=True, status=3,
+        output=unread(f"{RULES[3]}/b.rules", "link to nothing: nowhere") + ANSWER),
     *(Row(name, words, files, output=output, messages=messages, status=status) for name, words, files, output, messages, status in PARTIAL_RUNS),
     *(Row(f"files: {name}", "files -r mnt", files, output=output, messages=messages, status=status)
       for name, files, output, messages, status in LISTED),

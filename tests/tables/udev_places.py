@@ -23,7 +23,7 @@ ROWS = [
     *reported("V22", 'KERNEL=="sda", ATTRS{<V22|device/model>}=="Mine", TAG+="disk"', 'ATTRS{<V22|a/../b>}=="1", TAG+="t"'),
     *reported("V23", 'SUBSYSTEM=="<V23|bus>", TAG+="x"', 'SUBSYSTEM!="<V23|class>", TAG+="x"', 'SUBSYSTEMS=="bus", TAG+="x"'),
     *reported("V24", 'KERNEL=="sda", <V24|ENV>{DISK}:="1"', '<V24|MODE> += "0660"'),
-    *reported("V26", 'TAG+="a"', "<V26=|#" + "-" * 16_383 + ">", 'FOO="b"', formats=["plain", "gcc", "github", "gitlab", "json"]),
+    *reported("V26", 'TAG+="a"', "<V26=|#" + "-" * 16_383 + ">", 'FOO="b"', formats=["plain", "gcc", "github", "gitlab", "json", "sarif"]),
     *reported("S5", '<S5=|, >KERNEL=="sda", TAG+="disk"', ' <S5=|, >TAG+="a"'),
     *reported("S6", 'KERNEL=="sda" , <S6|TAG>+="disk"'),
 ]

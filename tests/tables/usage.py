@@ -5,13 +5,13 @@ MORE = "\nFor more information, try '--help'.\n"
 
 # of each command its arguments, its flags, and its options with the value that each takes
 COMMANDS = {
-    "update": ("[FILE]...", ["--strict", "--all"], {"--root": "<DIR>", "--format": "<FORMAT>", "--ignore": "<CODES>"}),
-    "query": ("<MODALIAS> [FILE]...", ["--sources"], {"--root": "<DIR>", "--index": "<FILE>"}),
-    "verify": ("[FILE]...", ["--all", "--no-summary", "--no-style", "--lint", "--udev"],
+    "update": ("[FILE]...", ["--strict", "--all", "--lint"], {"--root": "<DIR>", "--format": "<FORMAT>", "--ignore": "<CODES>"}),
+    "query": ("<MODALIAS> [FILE]...", ["--all", "--sources"], {"--root": "<DIR>", "--index": "<FILE>"}),
+    "verify": ("[FILE]...", ["--strict", "--all", "--no-summary", "--no-style", "--lint", "--udev"],
                {"--root": "<DIR>", "--format": "<FORMAT>", "--ignore": "<CODES>", "--users": "<FILE>", "--groups": "<FILE>"}),
-    "events": ("[FILE]...", ["--sources", "--questions", "--udev"], {"--root": "<DIR>", "--why": "<FILE[:LINE]>", "--index": "<FILE>"}),
+    "events": ("[FILE]...", ["--all", "--sources", "--questions", "--udev"], {"--root": "<DIR>", "--why": "<FILE[:LINE]>", "--index": "<FILE>"}),
     "files": ("", [], {"--root": "<DIR>"}),
-    "compare": ("<OLD> <NEW>", ["--udev"], {"--index": "<FILE>"}),
+    "compare": ("<OLD> <NEW>", ["--all", "--udev"], {"--index": "<FILE>"}),
 }
 # the letter that an option may be written as
 LETTERS = {"--root": "-r", "--strict": "-s"}

@@ -29,7 +29,7 @@ Status:
      --strict was given, or an event block is faulty, or a
      line of query - is too long, or there are too many rules
      or entries, or the index is refused, or compare found a
-     difference, or files or --all no file
+     difference, or files, compare or --all no file
   2  the command line is wrong
   3  a file, a folder, the input or an output failed
   4  out of memory
@@ -57,7 +57,8 @@ Options:
   -s, --strict           Exit with status 1 if there is a message
       --all              Go on where a file can't be read, and fail where there is none
       --format <FORMAT>  How messages are written: plain, gcc, github, gitlab, json, sarif or human
-      --ignore <CODES>   Leave out the messages of these codes, as V6,S2; comments: as the files say
+      --ignore <CODES>   Leave out the messages of these codes, as V6,S; comments: as the files say
+      --lint             Also tell of lines that are most likely not the ones that were meant
   -h, --help             Print help
   -V, --version          Print version
 """
@@ -73,6 +74,7 @@ Arguments:
 
 Options:
   -r, --root <DIR>    Folder to put before each folder that is read
+      --all           Go on where a file can't be read, and fail where there is none
       --sources       Say where each line comes from
       --index <FILE>  Index to read in place of the database's folders
   -h, --help          Print help
@@ -89,9 +91,10 @@ Arguments:
 
 Options:
   -r, --root <DIR>       Folder to put before each folder that is read
+  -s, --strict           Make every check: --lint, --udev, --all, users and groups of the root
       --all              Go on where a file can't be read, and fail where there is none
       --format <FORMAT>  How messages are written: plain, gcc, github, gitlab, json, sarif or human
-      --ignore <CODES>   Leave out the messages of these codes, as V6,S2; comments: as the files say
+      --ignore <CODES>   Leave out the messages of these codes, as V6,S; comments: as the files say
       --no-summary       Do not count the good and the bad files
       --no-style         Give no messages about style
       --lint             Also tell of rules that are most likely not the ones that were meant
@@ -112,6 +115,7 @@ Arguments:
 
 Options:
   -r, --root <DIR>         Folder to put before each folder that is read
+      --all                Go on where a file can't be read, and fail where there is none
       --sources            Say where each line comes from
       --why <FILE[:LINE]>  Say what the rules of this file, or the one of this line, met
       --questions          Print the commands that the blocks do not answer, in place of answers
@@ -142,6 +146,7 @@ Arguments:
   <NEW>  Root of the system after
 
 Options:
+      --all           Go on where a file can't be read, and fail where there is none
       --index <FILE>  Index to read in place of the database's folders
       --udev          Read and evaluate rules as udev itself does
   -h, --help          Print help
@@ -209,7 +214,7 @@ Usage: devdry compare <OLD> <NEW>
 """
 
 NO_UDEV = """\
-error: the arguments '--users <FILE>' and '--groups <FILE>' need '--udev'
+error: the arguments '--users <FILE>' and '--groups <FILE>' need '--udev' or '--strict'
 
 Usage: devdry verify --udev --users <FILE> --groups <FILE> [FILE]...
 
@@ -237,7 +242,7 @@ For more information, try '--help'.
 
 NO_SUCH_CODE = """\
 error: invalid value 'V27' for '<CODE>'
-  [possible values: V1, V2, V3, V4, V5, V6, V7, V8, V9, V10, V11, V12, V13, V14, V15, V16, V17, V18, V19, V20, V21, V22, V23, V24, V25, V26, S1, S2, S3, S4, S5, S6, H1, H2, H3, H4, H5, H6, W1, W2, W3, W4, W5, W6, W7, W8, W9, W10, W11, W12, W13, W14, I1, I2]
+  [possible values: V1, V2, V3, V4, V5, V6, V7, V8, V9, V10, V11, V12, V13, V14, V15, V16, V17, V18, V19, V20, V21, V22, V23, V24, V25, V26, S1, S2, S3, S4, S5, S6, H1, H2, H3, H4, H5, H6, W1, W2, W3, W4, W5, W6, W7, W8, W9, W10, W11, W12, W13, W14, D1, D2, D3, D4, D5, D6, D7, D8, D9, D10, D11, D12, D13, I1, I2]
 
 For more information, try '--help'.
 """
@@ -271,9 +276,9 @@ NOT_UNDERSTOOD = [
     ("install", "error: unrecognized subcommand 'install'\n\nUsage: devdry <COMMAND>\n"),
     ("query", NO_MODALIAS),
     ("verify --none", "error: unexpected argument '--none' found\n"),
-    ("verify --strict", "error: unexpected argument '--strict' found\n"),
+    ("events --strict", "error: unexpected argument '--strict' found\n"),
     ("verify --sources", "error: unexpected argument '--sources' found\n"),
-    ("update --lint", "error: unexpected argument '--lint' found\n"),
+    ("query --lint m", "error: unexpected argument '--lint' found\n"),
     ("verify --why a.rules", "error: unexpected argument '--why' found\n"),
     ("query m --why a.rules", "error: unexpected argument '--why' found\n"),
     ("verify --questions a.rules", "error: unexpected argument '--questions' found\n"),
@@ -291,7 +296,7 @@ NOT_UNDERSTOOD = [
     ("explain", "error: the following required arguments were not provided:\n  <CODE>\n"),
     ("explain V1 V2", "error: unexpected argument 'V2' found\n"),
     ("explain V27", NO_SUCH_CODE),
-    ("query m --all", "error: unexpected argument '--all' found\n"),
+    ("files --all", "error: unexpected argument '--all' found\n"),
     ("events --lint", "error: unexpected argument '--lint' found\n"),
     ("query --udev x", "error: unexpected argument '--udev' found\n"),
     ("update --udev", "error: unexpected argument '--udev' found\n"),
@@ -303,6 +308,8 @@ NOT_UNDERSTOOD = [
     ("events --ignore V6", "error: unexpected argument '--ignore' found\n"),
     ("update --format=xml a.hwdb", NO_SUCH_FORMAT),
     ("verify --all --root=", EMPTY_ROOT),
+    ("verify --strict --root=", EMPTY_ROOT),
+    (["query", "--all", "-r", "", "m"], EMPTY_ROOT),
     (["update", "-r", "", "--all"], EMPTY_ROOT),
     (["files", "-r", ""], EMPTY_ROOT),
     ("files --root=", EMPTY_ROOT),

@@ -1,5 +1,5 @@
 -- What `compare` does with two lines of `events`.
-use Rattle.std.specs.Prelude.{◌≡◌, ℕ, ◌⊎◌, List, Option}
+use Rattle.std.specs.Prelude.{◌≡◌, ◌++◌, ℕ, ◌⊎◌, Bool, true, false, List, Option, max}
 use Rattle.text_bytes.specs.declared.source_file.SourceFile.{SourceFile}
 use Rattle.engine_ends.specs.declared.line.Line.{Line}
 use Rattle.engine_ends.specs.Streams.{Streams}
@@ -11,6 +11,10 @@ use Rattle.devdry_files.specs.Places.{Wants}
 use Rattle.devdry_files.specs.declared.fault.ReadFault.{ReadFault}
 use Rattle.devdry_files.specs.declared.fault.ReadFault.TheVariants.{Memory}
 use Rattle.devdry_files.specs.declared.places.Wanted.{Wanted}
+use Rattle.devdry_folders.specs.Surveys.{AreFilesReadSome, IsReadSome, IsReportOnFiles}
+use Rattle.devdry_folders.specs.declared.reading.ReadSome.{ReadSome}
+use Rattle.devdry_folders.specs.declared.reading.Report.{Report}
+use Rattle.devdry.specs.PartialRuns.{IsRefusedToRead, RunsAfter}
 use Rattle.devdry.specs.Reading.{AreReadFor, FailsAt, IsFaultOf}
 
 -- the files are those that the line asks for
@@ -24,10 +28,36 @@ abbrev pub IsFileFault : (Answer → Type 0) → Line → ReadFault → Type 0
 IsFileFault may line fault = (fault ≡ Memory)
     ⊎ ((wanted : Wanted) × Wants line wanted × HasPath (IsFaultyWanted may wanted) fault)
 
--- the files of the old line, and those of the new one with the index, are those that the lines ask for
-pub record AreReadForBoth (may : Answer → Type 0) (old new : Line) (old_files new_files : List SourceFile) (index : Option (List ℕ)) : Type 0 where
+-- a report that is two, one after the other
+pub record AreReported (one other report : Report) : Type 0 where
+  pub lines : report.lines.items ≡ one.lines.items ++ other.lines.items
+  pub least : report.least ≡ max one.least other.least
+
+-- what is reported on the files of both lines, that on the old ones first
+pub record AreReportedOnBoth (may : Answer → Type 0) (old new : Line) (old_files new_files : List SourceFile) (report : Report) : Type 0 where
+  pub on_old : Report
+  pub on_new : Report
+  pub old_is : IsReportOnFiles may old old_files on_old
+  pub new_is : IsReportOnFiles may new new_files on_new
+  pub both : AreReported on_old on_new report
+
+-- the files of the old line, and those of the new one with the index, are those that the lines ask for, and where files
+-- were looked for is reported if one of the lines has none
+pub record AreReadForBoth (may : Answer → Type 0) (old new : Line) (old_files new_files : List SourceFile) (index : Option (List ℕ)) (report : Report) : Type 0 where
   pub old_are : AreFilesFor may old old_files
   pub new_are : AreReadFor may new new_files index
+  pub reported : AreReportedOnBoth may old new old_files new_files report
+
+-- the files of the old line, and those of the new one with the index, are what can be read of what the lines ask for
+pub record AreReadOfBoth (may : Answer → Type 0) (old new : Line) (old_files new_files : List SourceFile) (index : Option (List ℕ)) (report : Report) : Type 0 where
+  pub some_old : ReadSome
+  pub some_new : ReadSome
+  pub old_is : AreFilesReadSome may old some_old
+  pub new_is : IsReadSome may new some_new
+  pub old_files_are : old_files ≡ some_old.files.items
+  pub new_files_are : new_files ≡ some_new.files.items
+  pub index_is : index ≡ some_new.index
+  pub reported : AreReported some_old.report some_new.report report
 
 -- the files of the old line were read, and the fault is about what the new one asks for
 pub record IsFaultOfNew (may : Answer → Type 0) (old new : Line) (fault : ReadFault) : Type 0 where
@@ -39,15 +69,35 @@ pub record IsFaultOfNew (may : Answer → Type 0) (old new : Line) (fault : Read
 abbrev pub IsFaultOfBoth : (Answer → Type 0) → Line → Line → ReadFault → Type 0
 IsFaultOfBoth may old new fault = IsFileFault may old fault ⊎ IsFaultOfNew may old new fault
 
--- What the two lines ask for was read, and their answers to the input are compared.
-pub record ComparesOverFiles (may : Answer → Type 0) (old new : Line) (status : ℕ) (before now : Streams) : Type 0 where
+-- what is reported is written first, and then the answers to the input are compared
+abbrev pub ComparesAfter : Line → Line → List SourceFile → List SourceFile → Option (List ℕ) → Report → ℕ → Streams → Streams → Type 0
+ComparesAfter old new old_files new_files index report status before now =
+    RunsAfter report.lines.items report.least (ComparesOver old new old_files new_files index) status before now
+
+-- For what was read of the two lines this holds, and their answers are compared after what is reported.
+pub record ComparesRead (Read : List SourceFile → List SourceFile → Option (List ℕ) → Report → Type 0) (old new : Line) (status : ℕ) (before now : Streams) : Type 0 where
   pub old_files : List SourceFile
   pub new_files : List SourceFile
   pub index : Option (List ℕ)
-  pub are_read : AreReadForBoth may old new old_files new_files index
-  pub over : ComparesOver old new old_files new_files index status before now
+  pub report : Report
+  pub are_read : Read old_files new_files index report
+  pub over : ComparesAfter old new old_files new_files index report status before now
+
+-- what `compare` does with two lines if it ends at what can't be read
+abbrev pub ComparesWanted : (Answer → Type 0) → Line → Line → ℕ → Streams → Streams → Type 0
+ComparesWanted may old new status before now =
+    ComparesRead (AreReadForBoth may old new) old new status before now ⊎ FailsAt (IsFaultOfBoth may old new) status before now
+
+-- what it does with two lines if it goes on after that
+abbrev pub ComparesSome : (Answer → Type 0) → Line → Line → ℕ → Streams → Streams → Type 0
+ComparesSome may old new status before now =
+    ComparesRead (AreReadOfBoth may old new) old new status before now ⊎ IsRefusedToRead status before now
+
+-- what it does by whether it goes on
+abbrev pub ComparesBy : Bool → (Answer → Type 0) → Line → Line → ℕ → Streams → Streams → Type 0
+ComparesBy true may old new status before now = ComparesSome may old new status before now
+ComparesBy false may old new status before now = ComparesWanted may old new status before now
 
 -- what `compare` does with two lines
 abbrev pub ComparesLines : (Answer → Type 0) → Line → Line → ℕ → Streams → Streams → Type 0
-ComparesLines may old new status before now =
-    ComparesOverFiles may old new status before now ⊎ FailsAt (IsFaultOfBoth may old new) status before now
+ComparesLines may old new status before now = ComparesBy old.all may old new status before now

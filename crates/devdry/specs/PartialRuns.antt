@@ -1,5 +1,5 @@
 -- What runs that go on after what can't be read do.
-use Rattle.std.specs.Prelude.{◌≡◌, ℕ, ◌⊎◌, List, [], None, max}
+use Rattle.std.specs.Prelude.{◌≡◌, ℕ, ◌⊎◌, List, [], max}
 use Rattle.engine_ends.specs.declared.line.Line.{Line}
 use Rattle.engine_ends.specs.Delivery.{Delivers, IsOutOfMemory}
 use Rattle.engine_ends.specs.Sinks.{BreaksOff, HandsOn, SinkState}
@@ -39,7 +39,7 @@ pub record IsRefusedToRead (status : ℕ) (before now : Streams) : Type 0 where
 pub record RunsOverSome (may : Answer → Type 0) (line : Line) (status : ℕ) (before now : Streams) : Type 0 where
   pub some : ReadSome
   pub is_some : IsReadSome may line some
-  pub runs : RunsAfter some.reported.items some.least (RunsOver line some.files.items None) status before now
+  pub runs : RunsAfter some.report.lines.items some.report.least (RunsOver line some.files.items some.index) status before now
 
 -- what a line that goes on after what can't be read does
 abbrev pub RunsSome : (Answer → Type 0) → Line → ℕ → Streams → Streams → Type 0
@@ -53,7 +53,7 @@ DeliversLines lines own before now = Delivers (record { output = lines; messages
 pub record ReportsFiles (may : Answer → Type 0) (line : Line) (status : ℕ) (before now : Streams) : Type 0 where
   pub listed : Listed
   pub is_listed : IsListed may line listed
-  pub runs : RunsAfter listed.reported.items listed.least (DeliversLines listed.lines.items) status before now
+  pub runs : RunsAfter listed.report.lines.items listed.report.least (DeliversLines listed.lines.items) status before now
   pub unread : now.input ≡ before.input
 
 -- what `files` does for the line that reads the folders

@@ -9,7 +9,6 @@ ghost use Rattle.std.specs.Prelude.{◌≡◌, drop};
 
 mod comparing;
 mod knowing;
-mod linking;
 mod partial_runs;
 mod reporting;
 mod running;

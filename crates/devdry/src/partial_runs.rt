@@ -4,7 +4,6 @@
 //! the one that the reading asks for.
 ghost use Rattle.engine_core.specs.Runs.{RunsOver};
 ghost use Rattle.engine_ends.specs.Sources.{SourceState};
-ghost use Rattle.std.specs.Prelude.{None};
 ghost use Rattle.devdry.specs.PartialRuns.{DeliversLines, ListsFiles, RunsAfter, RunsSome};
 
 use devdry_files::Disk;
@@ -12,6 +11,7 @@ use devdry_folders::{Listed, ReadSome, list_files, read_what_can};
 use engine_core::serve;
 use engine_ends::{DeviceFault, Line, Sink, Source, deliver, hand_on, report_out_of_memory};
 use std::alloc::Global;
+use text_bytes::Bytes;
 
 /// Runs a line over what can be read of all that it asks for.
 pub(crate) fn run_some<D: Disk, I: Source, W: Sink, E: Sink>(
@@ -41,14 +41,20 @@ fn run_over<I: Source, W: Sink, E: Sink>(
     output: &mut W,
     error: &mut E,
 ) -> u8
-    ensures { RunsAfter some.reported.items some.least (RunsOver line.now some.files.items None) result
+    ensures { RunsAfter some.report.lines.items some.report.least (RunsOver line.now some.files.items some.index) result
         (record { input = I.shown input.old; out = W.shown output.old; err = E.shown error.old })
         (record { input = I.shown input.new; out = W.shown output.new; err = E.shown error.new }) }
 {
-    match hand_on(error, &some.reported) {
+    let ReadSome {
+        files,
+        index,
+        report,
+    } = some;
+    match hand_on(error, &report.lines) {
         Ok(()) => {
-            let own = serve(alloc, line, some.files, None, input, output, error);
-            own.max(some.least)
+            let index = index.as_ref().map(Bytes::as_slice);
+            let own = serve(alloc, line, files, index, input, output, error);
+            own.max(report.least)
         }
         Err(DeviceFault) => 3,
     }
@@ -74,15 +80,15 @@ pub(crate) fn run_files<D: Disk, W: Sink, E: Sink>(
 
 /// Writes what is reported for the folders, and then the lines on their files.
 fn report_listed<W: Sink, E: Sink>(listed: &Listed, output: &mut W, error: &mut E) -> u8
-    ensures { (input : SourceState) → RunsAfter listed.now.reported.items listed.now.least
+    ensures { (input : SourceState) → RunsAfter listed.now.report.lines.items listed.now.report.least
         (DeliversLines listed.now.lines.items) result
         (record { input = input; out = W.shown output.old; err = E.shown error.old })
         (record { input = input; out = W.shown output.new; err = E.shown error.new }) }
 {
-    match hand_on(error, &listed.reported) {
+    match hand_on(error, &listed.report.lines) {
         Ok(()) => {
             let own = deliver(b"", &listed.lines, 0, output, error);
-            own.max(listed.least)
+            own.max(listed.report.least)
         }
         Err(DeviceFault) => 3,
     }

@@ -6,6 +6,7 @@
 mod codes;
 mod comments;
 mod database;
+mod database_lints;
 mod lints;
 mod rules;
 mod sections;

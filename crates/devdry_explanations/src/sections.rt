@@ -6,9 +6,10 @@ ghost use Rattle.engine_formats.specs.declared.remark.Remark.TheVariants.{Messag
 ghost use Rattle.engine_formats.specs.declared.remark.Remark.TheVariants as about;
 
 use crate::codes::remark_with;
-use crate::{comments, database, lints, rules, style, udev};
+use crate::{comments, database, database_lints, lints, rules, style, udev};
 use engine_formats::Remark;
 use file_messages::MessageKind;
+use hwdb_lints::DatabaseLint;
 use rule_lints::Lint;
 
 /// The section on a kind of message.
@@ -81,6 +82,28 @@ fn section_on_lint(lint: Lint) -> &'static str
     }
 }
 
+/// The section on a lint of a database.
+fn section_on_database_lint(lint: DatabaseLint) -> &'static str
+    ensures heading { HasHeading (about.DatabaseLint lint) result.now }
+    ensures advice { HasAdvice (about.DatabaseLint lint) result.now }
+{
+    match lint {
+        DatabaseLint::DigitCase => database_lints::D1,
+        DatabaseLint::NoModalias => database_lints::D2,
+        DatabaseLint::EndMissing => database_lints::D3,
+        DatabaseLint::UnknownPrefix => database_lints::D4,
+        DatabaseLint::MatchTwice => database_lints::D5,
+        DatabaseLint::PropertyTwice => database_lints::D6,
+        DatabaseLint::BlankAtEquals => database_lints::D7,
+        DatabaseLint::OddName => database_lints::D8,
+        DatabaseLint::BlankAtEnd => database_lints::D9,
+        DatabaseLint::ByteOrderMark => database_lints::D10,
+        DatabaseLint::CutWord => database_lints::D11,
+        DatabaseLint::OpenSet => database_lints::D12,
+        DatabaseLint::WrongValue => database_lints::D13,
+    }
+}
+
 /// The section on a remark. Its first line is the heading of the remark, and after an empty line come what it
 /// means, a file that causes it, and the corrected file.
 pub fn section_on(remark: Remark) -> &'static str
@@ -90,6 +113,7 @@ pub fn section_on(remark: Remark) -> &'static str
     match remark {
         Remark::Message(kind) => section_on_kind(kind),
         Remark::Lint(lint) => section_on_lint(lint),
+        Remark::DatabaseLint(lint) => section_on_database_lint(lint),
         Remark::IdleIgnore => comments::I1,
         Remark::UnknownCode => comments::I2,
     }

@@ -63,9 +63,13 @@ ReadsNotAt may place (end.File identity) fault = may (NoOwnContent place identit
 ReadsNotAt may place end.Null fault = ⊥
 ReadsNotAt may place it fault = fault ≡ unreadable it
 
+-- both numbers of two identities are the same
+abbrev pub same_identity : Identity → Identity → Bool
+same_identity one other = one.device == other.device && one.number == other.number
+
 -- what a path leads to is the file with this identity
 abbrev pub is_file_with : Identity → End → Bool
-is_file_with identity (end.File own) = own.device == identity.device && own.number == identity.number
+is_file_with identity (end.File own) = same_identity own identity
 is_file_with identity _ = false
 
 -- why what a path leads to can't be read as the file with an identity, given whether it is that

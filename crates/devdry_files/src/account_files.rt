@@ -1,19 +1,21 @@
 //! Reads the files of users and groups that a line names.
-ghost use Rattle.std.specs.Option.{option_to_list};
-ghost use Rattle.std.specs.Prelude.{IfErr, IfOk, map};
-ghost use Rattle.devdry_files.specs.AccountFiles.{AreAccountsRead, IsAccountRead, IsFaultyAccounts};
-ghost use Rattle.devdry_files.specs.Faults.{HasPath, IsFirstUnread};
+ghost use Rattle.std.specs.Prelude.{◌≡◌, ◌++◌, ℕ, IfErr, IfOk, List, false, string_bytes, true};
+ghost use Rattle.devdry_files.specs.AccountFiles.{AreAccountsRead, IsAccountRead, IsFaultyAccount, IsFaultyAccounts, IsFileRead, account_place};
+ghost use Rattle.devdry_files.specs.Faults.{HasPath, IsUnread};
+ghost use Rattle.devdry_files.specs.Inside.{MayInside};
 
-use crate::disk::Disk;
-use crate::fault::ReadFault;
+use crate::disk::{Disk, DiskFault};
+use crate::fault::{ReadFault, fault_at};
 use crate::reading::bytes_at;
+use crate::rooted_disk::RootedDisk;
 use engine_ends::{AccountFile, Line};
-use std::alloc::Global;
+use std::alloc::{AllocError, Global};
 
 /// Reads the files of users and groups that a line names, first that of users: all their bytes.
 ///
-/// `ReadFault::Path` means that a file can't be read or does not exist, with the path as it is named;
-/// `ReadFault::Memory` that an allocation failed. What the bytes list is not looked at.
+/// A file of the root is read inside the root; if it is not there, the line has none. `ReadFault::Path` means that a
+/// file can't be read, or that one that is named does not exist, with its path; `ReadFault::Memory` that an allocation
+/// failed. What the bytes list is not looked at.
 pub fn read_account_files<D: Disk>(
     alloc: Global,
     disk: &D,
@@ -22,23 +24,74 @@ pub fn read_account_files<D: Disk>(
     ensures files { IfOk result (λ _. AreAccountsRead (D.may_answer disk.now) line.old line.new) }
     ensures fault { IfErr result (HasPath (IsFaultyAccounts (D.may_answer disk.now) line.old)) }
 {
-    read_account_file(alloc, disk, &mut line.users)?;
-    read_account_file(alloc, disk, &mut line.groups)
+    let users = line.users.take();
+    line.users = read_account_file(alloc, disk, line.root, users)?;
+    let groups = line.groups.take();
+    line.groups = read_account_file(alloc, disk, line.root, groups)?;
+    Ok(())
 }
 
 /// Reads a file of users or groups, if one is named.
-fn read_account_file<D: Disk>(
+fn read_account_file<'a, D: Disk>(
     alloc: Global,
     disk: &D,
-    file: &mut Option<AccountFile<'_>>,
-) -> Result<(), ReadFault>
-    ensures file { IfOk result (λ _. IsAccountRead (D.may_answer disk.now) file.old file.new) }
-    ensures fault { IfErr result (HasPath (IsFirstUnread (D.may_answer disk.now)
-        (map (λ f. f.path.now) (option_to_list file.old)))) }
+    root: &str,
+    named: Option<AccountFile<'a>>,
+) -> Result<Option<AccountFile<'a>>, ReadFault>
+    ensures file { IfOk result (IsAccountRead (D.may_answer disk.now) root.now named.entry) }
+    ensures fault { IfErr result (HasPath (IsFaultyAccount (D.may_answer disk.now) root.now named.entry)) }
 {
-    if let Some(file) = file {
-        let path = String::from_str(alloc, file.path)?;
-        file.bytes = bytes_at(alloc, disk, path)?;
+    match named {
+        None => Ok(None),
+        Some(file) if file.of_root => read_of_root(alloc, disk, root, file),
+        Some(file) => read_named(alloc, disk, file),
     }
-    Ok(())
+}
+
+/// Reads a file of users or groups at its own path.
+fn read_named<'a, D: Disk>(
+    alloc: Global,
+    disk: &D,
+    mut file: AccountFile<'a>,
+) -> Result<Option<AccountFile<'a>>, ReadFault>
+    requires { file.of_root ≡ false }
+    ensures file { IfOk result (λ read. (root : List ℕ) → IsFileRead (D.may_answer disk.now) root file.entry read) }
+    ensures fault { IfErr result (HasPath (λ path. (path ≡ file.entry.path.now) × IsUnread (D.may_answer disk.now) path)) }
+{
+    let path = String::from_str(alloc, file.path)?;
+    file.bytes = bytes_at(alloc, disk, path)?;
+    Ok(Some(file))
+}
+
+/// The path of a file of users or groups below a root.
+fn path_below(alloc: Global, root: &str, path: &str) -> Result<String, AllocError>
+    ensures { IfOk result (λ whole. string_bytes whole ≡ root.now ++ path.now) }
+{
+    let mut whole = String::from_str(alloc, root)?;
+    whole.push_str(path)?;
+    Ok(whole)
+}
+
+/// Reads a file of users or groups inside a root; there is none if it is not there.
+fn read_of_root<'a, D: Disk>(
+    alloc: Global,
+    disk: &D,
+    root: &str,
+    mut file: AccountFile<'a>,
+) -> Result<Option<AccountFile<'a>>, ReadFault>
+    requires { file.of_root ≡ true }
+    ensures file { IfOk result (IsFileRead (D.may_answer disk.now) root.now file.entry) }
+    ensures fault { IfErr result (HasPath (λ path. (path ≡ root.now ++ file.entry.path.now)
+        × IsUnread (MayInside (D.may_answer disk.now) root.now) path)) }
+{
+    let path = path_below(alloc, root, file.path)?;
+    let inside = RootedDisk::new(disk, root);
+    match inside.read(alloc, path.as_str()) {
+        Ok(bytes) => {
+            file.bytes = bytes;
+            Ok(Some(file))
+        }
+        Err(DiskFault::Absent) => Ok(None),
+        Err(fault) => Err(fault_at(path, fault)),
+    }
 }

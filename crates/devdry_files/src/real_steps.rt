@@ -4,8 +4,9 @@
 ghost use Rattle.std.specs.Fs.{IsDir, IsFile, file_type};
 ghost use Rattle.std.specs.IoError.{error_kind};
 ghost use Rattle.std.specs.Path.{path_buf_bytes};
-ghost use Rattle.std.specs.Prelude.{◌≡◌, ◌⊎◌, Err, IfErr, IfOk, IsOk, MatchResult, Ok, alloc_error, if◌then◌else◌, ok_or, option_map, string_bytes};
+ghost use Rattle.std.specs.Prelude.{◌≡◌, ◌⊎◌, Err, IfErr, IfOk, IfSome, IsOk, IsOkAnd, MatchResult, Ok, alloc_error, false, if◌then◌else◌, ok_or, option_map, string_bytes, true};
 ghost use Rattle.devdry_files.specs.Errors.{fault_from, look_from, read_fault_from, step_unread};
+ghost use Rattle.devdry_files.specs.Inside.{same_identity};
 ghost use Rattle.devdry_files.specs.Memory.{LinksTo};
 ghost use Rattle.devdry_files.specs.declared.disk.DiskFault.TheVariants.{OutOfMemory, Unreadable};
 
@@ -72,13 +73,24 @@ pub(crate) fn step_at<R: Files + AllocGlobal>(rt: &R, path: &str) -> Result<Step
     }
 }
 
-/// Whether what was opened is the file with an identity, by what the system says about it, or why that can't be told.
-fn is_own(looked: io::Result<Metadata>, identity: Identity) -> Result<bool, DiskFault>
-    ensures untold { IfErr looked (λ error. result ≡ Err (read_fault_from (error_kind error))) }
+/// The identity of what was opened, by what the system says about it, or why that can't be told.
+fn identity_from(looked: io::Result<Metadata>) -> io::Result<Identity>
     ensures told { IfOk looked (λ _. IsOk result) }
+    ensures untold { IfErr looked (λ error. result ≡ Err error) }
 {
     match looked {
-        Ok(metadata) => Ok(identity_of(&metadata) == identity),
+        Ok(metadata) => Ok(identity_of(&metadata)),
+        Err(error) => Err(error),
+    }
+}
+
+/// Whether what was opened is the file with an identity, by its own identity, or why that can't be told.
+fn is_own(opened: io::Result<Identity>, identity: Identity) -> Result<bool, DiskFault>
+    ensures { MatchResult opened (λ own. result ≡ Ok (same_identity own identity))
+        (λ error. result ≡ Err (read_fault_from (error_kind error))) }
+{
+    match opened {
+        Ok(own) => Ok(own == identity),
         Err(error) => Err(read_fault(error)),
     }
 }
@@ -107,7 +119,23 @@ fn own_bytes_of<F: Read + OpenFile + Drop>(
 ) -> Result<Bytes, DiskFault>
     ensures { IfErr result (λ fault. (fault ≡ Unreadable) ⊎ (fault ≡ OutOfMemory)) }
 {
-    if is_own(file.metadata(), identity)? {
+    let own = identity_from(file.metadata());
+    own_bytes_by(alloc, file, own, identity)
+}
+
+/// The bytes of a file with an identity of its own, if that is the other one, or why they can't be read.
+fn own_bytes_by<F: Read + Drop>(
+    alloc: Global,
+    file: F,
+    own: io::Result<Identity>,
+    identity: Identity,
+) -> Result<Bytes, DiskFault>
+    ensures own { IfOk result (λ _. IsOkAnd own (λ it. same_identity it identity ≡ true)) }
+    ensures bytes { IfOk result (λ read. IfSome (F.remaining file) (λ bytes. read ≡ bytes)) }
+    ensures other { IfOk own (λ it. same_identity it identity ≡ false → result ≡ Err Unreadable) }
+    ensures fault { IfErr result (λ fault. (fault ≡ Unreadable) ⊎ (fault ≡ OutOfMemory)) }
+{
+    if is_own(own, identity)? {
         bytes_from(alloc, Ok(file))
     } else {
         Err(DiskFault::Unreadable)

@@ -1,16 +1,24 @@
 -- Whether any file was read, and whether any is passed on.
-use Rattle.std.proofs.Common.{◌≡◌, ◌∙◌, ◌++◌, ◌∷◌, ◌==◌, ◌||◌, [], ap, arith, Bool, cond, false, flat_map, length, List, not, refl, sym, true, ℕ}
+use Rattle.std.proofs.Common.{◌≡◌, ◌∙◌, ◌++◌, ◌∷◌, ◌==◌, ◌&&◌, ◌||◌, [], Option, None, Some, ap, codes, filter, is_some, arith, Bool, cond, false, flat_map, length, List, not, refl, sym, true, ℕ}
 use Rattle.text_bytes.specs.declared.source_file.FileKind.{FileKind}
+use Rattle.text_bytes.specs.declared.source_file.FileKind.TheVariants.{Hwdb}
 use Rattle.text_bytes.specs.declared.source_file.SourceFile.{SourceFile}
 use Rattle.std.specs.List.{list_any}
-use Rattle.devdry_folders.specs.Laws.{is_unread_at, lacks_some}
-use Rattle.devdry_folders.specs.Nothing.{has_unread, is_unread}
-use Rattle.devdry_folders.specs.Unread.{file_of_met, file_of_sight, files_of, files_of_visit, has_file, has_files, is_file, least_status, line_on_met, line_on_spot, lines_on_visit, unread_lines}
+use Rattle.std.specs.Option.{option_to_list}
+use Rattle.std.proofs.lemmas.List.Elements.{filter-append}
+use Rattle.devdry_folders.specs.Laws.{files_among, is_unread_at, lacks_any, lacks_some, passes_needed}
+use Rattle.devdry_folders.specs.Indexes.{index_bytes, is_index_read}
+use Rattle.devdry_folders.specs.Missing.{has_needed}
+use Rattle.devdry_folders.specs.Nothing.{has_unread, is_unread, nothing_lines}
+use Rattle.devdry_folders.specs.Unread.{file_of_met, file_of_sight, files_of, files_of_visit, has_file, has_files, is_file, is_one_of, least_status, line_on_met, line_on_spot, lines_on_visit, unread_lines}
+use Rattle.devdry_folders.specs.Surveys.{all_unread}
+use Rattle.devdry_folders.specs.declared.elsewhere.Elsewhere.{Elsewhere}
 use Rattle.devdry_folders.specs.declared.sights.Spot.{Spot}
 use Rattle.devdry_folders.specs.declared.sights.Spot.TheVariants as spot
 use Rattle.devdry_folders.specs.declared.sights.Met.{Met}
 use Rattle.devdry_folders.specs.declared.sights.Met.TheVariants as met
 use Rattle.devdry_folders.specs.declared.sights.Sight.{Sight}
+use Rattle.devdry_folders.specs.declared.sights.Survey.{Survey}
 use Rattle.devdry_folders.specs.declared.sights.Visit.{Visit}
 
 -- whether there are any
@@ -39,16 +47,54 @@ some_sights kind rank named (s ∷ sights) =
     ∙ ap (λ b. any (file_of_sight kind rank named s) || b) (some_sights kind rank named sights)
     ∙ sym (joined (file_of_sight kind rank named s) (flat_map (file_of_sight kind rank named) sights))
 
-some_visits : (visits : List Visit) → has_files visits ≡ any (files_of visits)
-some_visits [] = refl
-some_visits (v ∷ visits) =
-    ap (λ b. b || has_files visits) (some_sights v.kind v.rank v.is_named v.scan.sights.items)
-    ∙ ap (λ b. any (files_of_visit v) || b) (some_visits visits)
-    ∙ sym (joined (files_of_visit v) (files_of visits))
+-- the files of these kinds
+abbrev among : List FileKind → List SourceFile → List SourceFile
+among kinds files = filter (λ file. is_one_of kinds file.kind) files
 
--- any file was read exactly if one is passed on
-pub some_files : (visits : List Visit) → has_files visits ≡ not (length (files_of visits) == 0)
-some_files visits = some_visits visits ∙ counted (files_of visits)
+both_ways : (b one more : Bool) → ((b && one) || (b && more)) ≡ (b && (one || more))
+both_ways true one more = refl
+both_ways false one more = refl
+
+kept : (b : Bool) (file : SourceFile) → any (cond b (file ∷ []) []) ≡ (b && true)
+kept true file = refl
+kept false file = refl
+
+none_kept : (b : Bool) → false ≡ (b && false)
+none_kept true = refl
+none_kept false = refl
+
+met_among : (kinds : List FileKind) (kind : FileKind) (rank : ℕ) (name : List ℕ) (it : Met)
+    → any (among kinds (file_of_met kind rank name it)) ≡ (is_one_of kinds kind && any (file_of_met kind rank name it))
+met_among kinds kind rank name (met.File bytes) = kept (is_one_of kinds kind) (record { kind = kind; rank = rank; name = name; bytes = bytes })
+met_among kinds kind rank name met.OtherName = none_kept (is_one_of kinds kind)
+met_among kinds kind rank name met.Folder = none_kept (is_one_of kinds kind)
+met_among kinds kind rank name (met.Unread reason) = none_kept (is_one_of kinds kind)
+
+sights_among : (kinds : List FileKind) (kind : FileKind) (rank : ℕ) (named : Bool) (sights : List Sight)
+    → any (among kinds (flat_map (file_of_sight kind rank named) sights)) ≡ (is_one_of kinds kind && any (flat_map (file_of_sight kind rank named) sights))
+sights_among kinds kind rank named [] = none_kept (is_one_of kinds kind)
+sights_among kinds kind rank named (s ∷ sights) =
+    let own = file_of_sight kind rank named s in
+    let others = flat_map (file_of_sight kind rank named) sights in
+    ap any (filter-append (λ file. is_one_of kinds file.kind) own others)
+    ∙ joined (among kinds own) (among kinds others)
+    ∙ ap (λ b. b || any (among kinds others)) (met_among kinds kind rank (cond named s.path s.name) s.met)
+    ∙ ap (λ b. (is_one_of kinds kind && any own) || b) (sights_among kinds kind rank named sights)
+    ∙ both_ways (is_one_of kinds kind) (any own) (any others)
+    ∙ ap (λ b. is_one_of kinds kind && b) (sym (joined own others))
+
+some_visits : (kinds : List FileKind) (visits : List Visit) → has_files kinds visits ≡ any (among kinds (files_of visits))
+some_visits kinds [] = refl
+some_visits kinds (v ∷ visits) =
+    ap (λ b. (is_one_of kinds v.kind && b) || has_files kinds visits) (some_sights v.kind v.rank v.is_named v.scan.sights.items)
+    ∙ ap (λ b. b || has_files kinds visits) (sym (sights_among kinds v.kind v.rank v.is_named v.scan.sights.items))
+    ∙ ap (λ b. any (among kinds (files_of_visit v)) || b) (some_visits kinds visits)
+    ∙ sym (joined (among kinds (files_of_visit v)) (among kinds (files_of visits)))
+    ∙ sym (ap any (filter-append (λ file. is_one_of kinds file.kind) (files_of_visit v) (files_of visits)))
+
+-- any file of these kinds was read exactly if one is passed on
+pub some_files : (kinds : List FileKind) (visits : List Visit) → has_files kinds visits ≡ not (length (files_among kinds visits) == 0)
+some_files kinds visits = some_visits kinds visits ∙ counted (among kinds (files_of visits))
 
 -- whether a text has a byte
 abbrev says : List ℕ → Bool
@@ -95,13 +141,39 @@ visits_are_said (v ∷ visits) =
 abbrev either : Bool → ℕ → ℕ → ℕ
 either b one other = cond b one other
 
-unless : (b : Bool) → either (not b) 0 1 ≡ either b 1 0
-unless true = refl
-unless false = refl
+missing_is_said : (b : Bool) (kinds : List FileKind) (visits : List Visit) (others : List Elsewhere)
+    → either (length (cond b [] (nothing_lines kinds visits others)) == 0) 0 1 ≡ either b 0 1
+missing_is_said true kinds visits others = refl
+missing_is_said false kinds visits others =
+    let some : (length (nothing_lines kinds visits others) == 0) ≡ false = grind arith in ap (λ b. either b 0 1) some
+
+index_is_read : (index : Option Sight) → is_index_read index ≡ is_some (index_bytes index)
+index_is_read None = refl
+index_is_read (Some s) = by s.met
+  where
+    by : (it : Met) → is_file it ≡ is_some (index_bytes (Some (record s { met = it })))
+    by (met.File bytes) = refl
+    by met.OtherName = refl
+    by met.Folder = refl
+    by (met.Unread reason) = refl
+
+all_are_said : (survey : Survey) → says (all_unread survey) ≡ lacks_any survey
+all_are_said survey =
+    says_both (unread_lines survey.visits.items) (flat_map (λ s. line_on_met s.path s.met) (option_to_list survey.index))
+    ∙ ap (λ b. b || says (flat_map (λ s. line_on_met s.path s.met) (option_to_list survey.index))) (visits_are_said survey.visits.items)
+    ∙ ap (λ b. list_any lacks_some survey.visits.items || b) (sights_are_said (option_to_list survey.index))
+
+needed : (kinds : List FileKind) (survey : Survey) → has_needed kinds survey ≡ passes_needed kinds survey
+needed kinds survey =
+    ap (λ b. b || (is_one_of kinds Hwdb && is_index_read survey.index)) (some_files kinds survey.visits.items)
+    ∙ ap (λ b. not (length (files_among kinds survey.visits.items) == 0) || (is_one_of kinds Hwdb && b)) (index_is_read survey.index)
 
 -- the least status, by what could not be read and what is passed on
-pub status_of_all : (visits : List Visit) → least_status visits ≡ either (list_any lacks_some visits) 3 (either (length (files_of visits) == 0) 1 0)
-status_of_all visits =
-    ap (λ b. either b 3 (either (has_files visits) 0 1)) (sym (says_by_length (unread_lines visits)) ∙ visits_are_said visits)
-    ∙ ap (λ b. either (list_any lacks_some visits) 3 (either b 0 1)) (some_files visits)
-    ∙ ap (λ n. either (list_any lacks_some visits) 3 n) (unless (length (files_of visits) == 0))
+pub status_of_all : (kinds : List FileKind) (survey : Survey) (others : List Elsewhere)
+    → least_status (all_unread survey) (cond (has_needed kinds survey) [] (nothing_lines kinds survey.visits.items others))
+    ≡ either (lacks_any survey) 3 (either (passes_needed kinds survey) 0 1)
+status_of_all kinds survey others =
+    let missing = cond (has_needed kinds survey) [] (nothing_lines kinds survey.visits.items others) in
+    ap (λ b. either b 3 (either (length missing == 0) 0 1)) (sym (says_by_length (all_unread survey)) ∙ all_are_said survey)
+    ∙ ap (λ n. either (lacks_any survey) 3 n) (missing_is_said (has_needed kinds survey) kinds survey.visits.items others)
+    ∙ ap (λ b. either (lacks_any survey) 3 (either b 0 1)) (needed kinds survey)

@@ -1,14 +1,19 @@
 -- What can't be read, and which files count: as `files` reports it, and as a run reads them.
-use Rattle.std.specs.Prelude.{◌≡◌, ◌≤◌, ◌||◌, ℕ, Bool, true, false, List, [], ◌∷◌, Contains, Option, Some, None, MatchBool, ⊤, filter}
+use Rattle.std.specs.Prelude.{◌≡◌, ◌≤◌, ◌||◌, ◌&&◌, ◌==◌, ℕ, Bool, true, false, List, [], ◌∷◌, Contains, Option, Some, None, MatchBool, ⊤, filter, is_some, length, not}
+use Rattle.std.specs.List.{list_any}
+use Rattle.std.specs.Option.{option_to_list}
 use Rattle.text_bytes.specs.declared.source_file.FileKind.{FileKind}
+use Rattle.text_bytes.specs.declared.source_file.FileKind.TheVariants.{Hwdb}
 use Rattle.text_bytes.specs.declared.source_file.SourceFile.{SourceFile}
 use Rattle.engine_ends.specs.Kinds.{same_kind}
 use Rattle.devdry_folders.specs.Nothing.{has_unread}
-use Rattle.devdry_folders.specs.Unread.{files_of}
+use Rattle.devdry_folders.specs.Indexes.{index_bytes}
+use Rattle.devdry_folders.specs.Unread.{files_of, is_one_of}
 use Rattle.devdry_folders.specs.declared.sights.Met.TheVariants as met
 use Rattle.devdry_folders.specs.declared.sights.Sight.{Sight}
 use Rattle.devdry_folders.specs.declared.sights.Spot.{Spot}
 use Rattle.devdry_folders.specs.declared.sights.Spot.TheVariants as spot
+use Rattle.devdry_folders.specs.declared.sights.Survey.{Survey}
 use Rattle.devdry_folders.specs.declared.sights.Visit.{Visit}
 
 -- whether what is at a path can't be read
@@ -19,6 +24,19 @@ is_unread_at _ = false
 -- whether a folder or a file that is visited can't be read, or a file in the folder
 abbrev pub lacks_some : Visit → Bool
 lacks_some v = is_unread_at v.scan.spot || has_unread v.scan.sights.items
+
+-- whether anything that was visited can't be read
+abbrev pub lacks_any : Survey → Bool
+lacks_any survey = list_any lacks_some survey.visits.items || has_unread (option_to_list survey.index)
+
+-- the files of these kinds that are passed on
+abbrev pub files_among : List FileKind → List Visit → List SourceFile
+files_among kinds visits = filter (λ file. is_one_of kinds file.kind) (files_of visits)
+
+-- whether a file of these kinds is passed on, or the index in place of the database
+abbrev pub passes_needed : List FileKind → Survey → Bool
+passes_needed kinds survey =
+    not (length (files_among kinds survey.visits.items) == 0) || (is_one_of kinds Hwdb && is_some (index_bytes survey.index))
 
 -- Visits of a kind are of folders, and their ranks do not fall from this one on.
 abbrev pub RanksRise : FileKind → ℕ → List Visit → Type 0

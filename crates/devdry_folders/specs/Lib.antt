@@ -3,6 +3,8 @@ pub mod Meetings
 pub mod Visits
 pub mod Unread
 pub mod Nothing
+pub mod Indexes
+pub mod Missing
 pub mod SightStatus
 pub mod Surveys
 pub mod Staying

@@ -7,7 +7,7 @@ use Rattle.text_bytes.specs.Kinds.{suffix_of}
 use Rattle.text_bytes.specs.Names.{newline}
 use Rattle.text_bytes.specs.declared.source_file.FileKind.{FileKind}
 use Rattle.text_bytes.specs.declared.source_file.FileKind.TheVariants.{Hwdb, Rules}
-use Rattle.engine_ends.specs.Kinds.{kinds_read, reads_folders_of}
+use Rattle.engine_ends.specs.Kinds.{reads_folders_of}
 use Rattle.engine_ends.specs.declared.line.Line.{Line}
 use Rattle.devdry_files.specs.Answers.{Answer}
 use Rattle.devdry_files.specs.Answers.Answer.{Listing, NoListing, Stepped}
@@ -16,6 +16,7 @@ use Rattle.devdry_files.specs.declared.disk.DiskFault.TheVariants.{Absent, Unrea
 use Rattle.devdry_files.specs.declared.disk.Entry.{Entry}
 use Rattle.devdry_files.specs.declared.step.Step.{Step}
 use Rattle.devdry_folders.specs.Meetings.{target_of}
+use Rattle.devdry_folders.specs.Unread.{is_one_of}
 use Rattle.devdry_folders.specs.declared.elsewhere.Elsewhere.{Elsewhere}
 use Rattle.devdry_folders.specs.declared.sights.Met.{Met}
 use Rattle.devdry_folders.specs.declared.sights.Met.TheVariants as met
@@ -68,10 +69,14 @@ files_word count = if count == 1 then codes " file" else codes " files"
 abbrev pub line_elsewhere : Elsewhere → List ℕ
 line_elsewhere e = if e.count == 0 then [] else line_on e.path (codes " has " ++ decimal e.count ++ files_word e.count)
 
--- all that is reported if no file was read
-abbrev pub nothing_lines : List Visit → List Elsewhere → List ℕ
-nothing_lines visits others =
-    codes "devdry: no files\n" ++ flat_map line_on_place visits ++ flat_map line_elsewhere others
+-- the line on what was visited, if files of one of these kinds were looked for there
+abbrev pub line_on_place_of : List FileKind → Visit → List ℕ
+line_on_place_of kinds v = if is_one_of kinds v.kind then line_on_place v else []
+
+-- all that is reported if no file of these kinds was read
+abbrev pub nothing_lines : List FileKind → List Visit → List Elsewhere → List ℕ
+nothing_lines kinds visits others =
+    codes "devdry: no files\n" ++ flat_map (line_on_place_of kinds) visits ++ flat_map line_elsewhere others
 
 -- how many files of the kind are in the folder at the path, as the disk may list it, and none if it may not
 pub record IsCounted (may : Answer → Type 0) (kind : FileKind) (path : List ℕ) (count : ℕ) : Type 0 where
@@ -89,14 +94,14 @@ pub record AreElsewhereOf (may : Answer → Type 0) (root : List ℕ) (kinds : L
   pub kinds_are : map (λ e. e.kind) others ≡ kinds
   pub each : All (IsElsewhere may root) others
 
--- such a folder for each kind whose folders the line reads; but none if there is a symlink at `/lib`, since the files
--- below it are those of the folder that it leads to
-abbrev pub AreElsewhereBy : (Answer → Type 0) → Line → Bool → List Elsewhere → Type 0
-AreElsewhereBy may line false others = AreElsewhereOf may line.root.now (filter (reads_folders_of line) (kinds_read line.verb)) others
-AreElsewhereBy may line true others = others ≡ []
+-- such a folder for each of these kinds whose folders the line reads; but none if there is a symlink at `/lib`, since
+-- the files below it are those of the folder that it leads to
+abbrev pub AreElsewhereBy : (Answer → Type 0) → Line → List FileKind → Bool → List Elsewhere → Type 0
+AreElsewhereBy may line kinds false others = AreElsewhereOf may line.root.now (filter (reads_folders_of line) kinds) others
+AreElsewhereBy may line kinds true others = others ≡ []
 
 -- the same, by what the disk may show at `/lib` after the root
-pub record AreElsewhere (may : Answer → Type 0) (line : Line) (others : List Elsewhere) : Type 0 where
+pub record AreElsewhere (may : Answer → Type 0) (line : Line) (kinds : List FileKind) (others : List Elsewhere) : Type 0 where
   pub shown : Step
   pub stepped : may (Stepped (line.root.now ++ codes "/lib") shown)
-  pub are : AreElsewhereBy may line (is_some (target_of shown)) others
+  pub are : AreElsewhereBy may line kinds (is_some (target_of shown)) others

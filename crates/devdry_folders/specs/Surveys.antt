@@ -1,17 +1,24 @@
 -- The outcome of a line whose reading goes on after what can't be read.
-use Rattle.std.specs.Prelude.{◌≡◌, ◌++◌, ℕ, false, List, [], if◌then◌else◌}
+use Rattle.std.specs.Prelude.{◌≡◌, ◌++◌, ◌∷◌, ℕ, Bool, List, [], MatchBool, None, flat_map}
+use Rattle.std.specs.List.{list_any}
+use Rattle.std.specs.Option.{option_copied, option_to_list}
+use Rattle.text_bytes.specs.declared.source_file.FileKind.{FileKind}
+use Rattle.text_bytes.specs.declared.source_file.SourceFile.{SourceFile}
+use Rattle.engine_ends.specs.Kinds.{kind_named, kinds_read}
 use Rattle.engine_ends.specs.declared.line.Line.{Line}
+use Rattle.engine_ends.specs.declared.line.Verb.{Verb}
 use Rattle.devdry_files.specs.Answers.{Answer}
-use Rattle.devdry_files.specs.Inside.{MayInside}
 use Rattle.devdry_files.specs.Places.{Wants}
 use Rattle.devdry_files.specs.declared.places.Wanted.{Wanted}
-use Rattle.devdry_folders.specs.Nothing.{AreElsewhere, nothing_lines}
+use Rattle.devdry_folders.specs.Indexes.{IsIndexSight, index_bytes}
+use Rattle.devdry_folders.specs.Missing.{AreMissing}
 use Rattle.devdry_folders.specs.SightStatus.{AreListed}
-use Rattle.devdry_folders.specs.Unread.{files_of, has_files, least_status, unread_lines}
+use Rattle.devdry_folders.specs.Unread.{files_of, is_one_of, least_status, line_on_met, unread_lines}
 use Rattle.devdry_folders.specs.Visits.{AreVisits}
-use Rattle.devdry_folders.specs.declared.elsewhere.Elsewhere.{Elsewhere}
 use Rattle.devdry_folders.specs.declared.reading.Listed.{Listed}
 use Rattle.devdry_folders.specs.declared.reading.ReadSome.{ReadSome}
+use Rattle.devdry_folders.specs.declared.reading.Report.{Report}
+use Rattle.devdry_folders.specs.declared.sights.Survey.{Survey}
 use Rattle.devdry_folders.specs.declared.sights.Visit.{Visit}
 
 -- These are visits of all that the line asks for.
@@ -20,26 +27,68 @@ pub record AreVisitsFor (may : Answer → Type 0) (line : Line) (visits : List V
   pub wants : Wants line wanted
   pub are_visits : AreVisits may wanted visits
 
--- What is reported for visits before the run: what can't be read, and what was looked at if no file was read.
-pub record IsReported (may : Answer → Type 0) (line : Line) (visits : List Visit) (reported : List ℕ) : Type 0 where
-  pub others : List Elsewhere
-  pub elsewhere : has_files visits ≡ false → AreElsewhere (MayInside may line.root.now) line others
-  pub reported_is : reported ≡ unread_lines visits ++ (if has_files visits then [] else nothing_lines visits others)
+-- All that the line asks for was visited, and last the index.
+pub record IsSurveyFor (may : Answer → Type 0) (line : Line) (survey : Survey) : Type 0 where
+  pub are_visits : AreVisitsFor may line survey.visits.items
+  pub is_index : IsIndexSight may (option_copied line.index) survey.index
 
--- What the line asks for was visited; the files that were read, what is reported and the least status follow from
--- that.
-pub record IsReadSome (may : Answer → Type 0) (line : Line) (some : ReadSome) : Type 0 where
-  pub visits : List Visit
-  pub are_visits : AreVisitsFor may line visits
-  pub files : some.files.items ≡ files_of visits
-  pub reported : IsReported may line visits some.reported.items
-  pub least : some.least ≡ least_status visits
+-- the lines on all that can't be read, that on the index last
+abbrev pub all_unread : Survey → List ℕ
+all_unread survey = unread_lines survey.visits.items ++ flat_map (λ s. line_on_met s.path s.met) (option_to_list survey.index)
+
+-- What is reported for a survey before the run: what can't be read, and what was looked at if no file of these kinds was
+-- read; and the least status of the run, which follows from both.
+pub record IsReported (may : Answer → Type 0) (line : Line) (kinds : List FileKind) (survey : Survey) (report : Report) : Type 0 where
+  pub missing : List ℕ
+  pub are_missing : AreMissing may line kinds survey missing
+  pub lines : report.lines.items ≡ all_unread survey ++ missing
+  pub least : report.least ≡ least_status (all_unread survey) missing
+
+-- the kind of the files that a line of this subcommand names: a run needs one of them, or the index in place of the database
+abbrev pub kinds_needed : Verb → List FileKind
+kinds_needed verb = kind_named verb ∷ []
+
+-- All that the line asks for but an index was visited.
+pub record IsFilesSurveyFor (may : Answer → Type 0) (line : Line) (survey : Survey) : Type 0 where
+  pub are_visits : AreVisitsFor may line survey.visits.items
+  pub no_index : survey.index ≡ None
+
+-- There was a survey for which this holds; the files that were read, the index, what is reported and the least status
+-- follow from that.
+pub record IsReadBy (may : Answer → Type 0) (line : Line) (IsSurvey : Survey → Type 0) (some : ReadSome) : Type 0 where
+  pub survey : Survey
+  pub is_survey : IsSurvey survey
+  pub files : some.files.items ≡ files_of survey.visits.items
+  pub index : some.index ≡ index_bytes survey.index
+  pub reported : IsReported may line (kinds_needed line.verb) survey some.report
+
+-- all that the line asks for was visited
+abbrev pub IsReadSome : (Answer → Type 0) → Line → ReadSome → Type 0
+IsReadSome may line some = IsReadBy may line (IsSurveyFor may line) some
+
+-- all that the line asks for but an index was visited
+abbrev pub AreFilesReadSome : (Answer → Type 0) → Line → ReadSome → Type 0
+AreFilesReadSome may line some = IsReadBy may line (IsFilesSurveyFor may line) some
 
 -- What the line asks for was visited; the lines on all that was met, what is reported and the least status follow
 -- from that.
 pub record IsListed (may : Answer → Type 0) (line : Line) (listed : Listed) : Type 0 where
-  pub visits : List Visit
-  pub are_visits : AreVisitsFor may line visits
-  pub lines : AreListed visits listed.lines.items
-  pub reported : IsReported may line visits listed.reported.items
-  pub least : listed.least ≡ least_status visits
+  pub survey : Survey
+  pub is_survey : IsSurveyFor may line survey
+  pub lines : AreListed survey.visits.items listed.lines.items
+  pub reported : IsReported may line (kinds_read line.verb) survey listed.report
+
+-- whether one of the files is of a kind that a line needs
+abbrev pub has_file_needed : Line → List SourceFile → Bool
+has_file_needed line files = list_any (λ file. is_one_of (kinds_needed line.verb) file.kind) files
+
+-- What is reported for a survey of all that the line asks for but an index.
+pub record IsReportOn (may : Answer → Type 0) (line : Line) (report : Report) : Type 0 where
+  pub survey : Survey
+  pub is_survey : IsFilesSurveyFor may line survey
+  pub reported : IsReported may line (kinds_needed line.verb) survey report
+
+-- what is reported on files that were read for a line: nothing if one of them is of a kind that it needs
+abbrev pub IsReportOnFiles : (Answer → Type 0) → Line → List SourceFile → Report → Type 0
+IsReportOnFiles may line files report =
+    MatchBool (has_file_needed line files) ((report.lines.items ≡ []) × (report.least ≡ 0)) (IsReportOn may line report)

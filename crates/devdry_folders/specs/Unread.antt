@@ -1,10 +1,11 @@
 -- What is reported for what can't be read, and the files that were read.
-use Rattle.std.specs.Prelude.{◌++◌, ◌∷◌, ◌==◌, ℕ, Bool, true, false, List, [], codes, flat_map, if◌then◌else◌, length, not}
+use Rattle.std.specs.Prelude.{◌++◌, ◌∷◌, ◌==◌, ◌&&◌, ℕ, Bool, true, false, List, [], codes, flat_map, if◌then◌else◌, length, not}
 use Rattle.std.specs.List.{list_any}
 use Rattle.text_bytes.specs.Escapes.{escape_text}
 use Rattle.text_bytes.specs.Names.{newline}
 use Rattle.text_bytes.specs.declared.source_file.FileKind.{FileKind}
 use Rattle.text_bytes.specs.declared.source_file.SourceFile.{SourceFile}
+use Rattle.engine_ends.specs.Kinds.{same_kind}
 use Rattle.devdry_folders.specs.Reasons.{reason_text}
 use Rattle.devdry_folders.specs.declared.reasons.Reason.{Reason}
 use Rattle.devdry_folders.specs.declared.sights.Met.{Met}
@@ -45,9 +46,13 @@ is_file _ = false
 abbrev pub has_file : List Sight → Bool
 has_file sights = list_any (λ s. is_file s.met) sights
 
--- whether any file was read
-abbrev pub has_files : List Visit → Bool
-has_files visits = list_any (λ v. has_file v.scan.sights.items) visits
+-- whether a kind is one of these
+abbrev pub is_one_of : List FileKind → FileKind → Bool
+is_one_of kinds kind = list_any (λ one. same_kind one kind) kinds
+
+-- whether any file of these kinds was read
+abbrev pub has_files : List FileKind → List Visit → Bool
+has_files kinds visits = list_any (λ v. is_one_of kinds v.kind && has_file v.scan.sights.items) visits
 
 -- the file with a name, if one was met
 abbrev pub file_of_met : FileKind → ℕ → List ℕ → Met → List SourceFile
@@ -66,6 +71,7 @@ files_of_visit v = flat_map (file_of_sight v.kind v.rank v.is_named) v.scan.sigh
 abbrev pub files_of : List Visit → List SourceFile
 files_of visits = flat_map files_of_visit visits
 
--- the least status of a run over visits: 3 if something can't be read, else 1 if no file was read
-abbrev pub least_status : List Visit → ℕ
-least_status visits = if not (length (unread_lines visits) == 0) then 3 else if has_files visits then 0 else 1
+-- the least status of a run, by the lines on what can't be read and those on where no file was found: 3 if something
+-- can't be read, else 1 if files are missing
+abbrev pub least_status : List ℕ → List ℕ → ℕ
+least_status unread missing = if not (length unread == 0) then 3 else if length missing == 0 then 0 else 1

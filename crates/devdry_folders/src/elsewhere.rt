@@ -1,6 +1,6 @@
 //! Files that are where none is read: below `/lib`, if that is not a symlink, as it mostly is to `/usr/lib`.
 ghost use Rattle.std.specs.Prelude.{◌≡◌, ◌++◌, ◌⊎◌, [], IfErr, IfOk, codes, filter, is_some};
-ghost use Rattle.engine_ends.specs.Kinds.{kinds_read, reads_folders_of};
+ghost use Rattle.engine_ends.specs.Kinds.{reads_folders_of};
 ghost use Rattle.devdry_files.specs.Answers.Answer.{Listing, NoListing, Stepped};
 ghost use Rattle.devdry_files.specs.declared.disk.DiskFault.TheVariants as faults;
 ghost use Rattle.devdry_folders.specs.Meetings.{target_of};
@@ -79,13 +79,17 @@ fn elsewhere_of<D: Disk>(
     })
 }
 
-/// The kinds that a line reads from folders.
-fn kinds_in_folders(alloc: Global, line: &Line<'_>) -> Result<Vec<FileKind>, AllocError>
-    ensures { IfOk result (λ kinds.
-        kinds.items ≡ filter (reads_folders_of line.now) (kinds_read line.now.verb)) }
+/// Those of these kinds that a line reads from folders.
+fn kinds_in_folders(
+    alloc: Global,
+    line: &Line<'_>,
+    kinds: &[FileKind],
+) -> Result<Vec<FileKind>, AllocError>
+    ensures { IfOk result (λ found. found.items ≡ filter (reads_folders_of line.now) kinds.now) }
 {
-    let kinds = line.verb.kinds_read().iter().copied();
     kinds
+        .iter()
+        .copied()
         .filter(|kind| line.reads_folders_of(*kind))
         .collect(alloc)
 }
@@ -123,18 +127,19 @@ fn step_to_lib<D: Disk>(alloc: Global, disk: &D, root: &str) -> Result<Step, All
     disk.step(alloc, path.as_str())
 }
 
-/// The files that are elsewhere, for each kind that the line reads from folders; none if `/lib` is a symlink, since
+/// The files that are elsewhere, for each of these kinds that the line reads from folders; none if `/lib` is a symlink, since
 /// the files below it are those of the folder that it leads to.
 pub(crate) fn files_elsewhere<D: Disk>(
     alloc: Global,
     disk: &D,
     line: &Line<'_>,
+    kinds: &[FileKind],
 ) -> Result<Vec<Elsewhere>, AllocError>
-    ensures { IfOk result (λ others. AreElsewhere (D.may_answer disk.now) line.now others.items) }
+    ensures { IfOk result (λ others. AreElsewhere (D.may_answer disk.now) line.now kinds.now others.items) }
 {
     if is_link(&step_to_lib(alloc, disk, line.root)?) {
         return Ok(Vec::new(alloc));
     }
-    let kinds = kinds_in_folders(alloc, line)?;
+    let kinds = kinds_in_folders(alloc, line, kinds)?;
     elsewhere_of_kinds(alloc, disk, line.root, &kinds)
 }

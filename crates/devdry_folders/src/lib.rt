@@ -7,8 +7,10 @@
 
 mod elsewhere;
 mod files;
+mod indexes;
 mod laws;
 mod meetings;
+mod missing;
 mod nothing;
 mod reading;
 mod reasons;
@@ -21,4 +23,6 @@ pub use laws::{
     a_path_leads_to_a_place_inside_its_root, no_file_is_reported_where_none_is_handed_on,
     the_file_that_counts_is_the_one_that_is_read, what_could_not_be_read_makes_the_status,
 };
-pub use reading::{Listed, ReadSome, list_files, read_what_can};
+pub use reading::{
+    Listed, ReadSome, Report, list_files, read_files_that_can, read_what_can, report_on_files,
+};

@@ -3,17 +3,23 @@
 //! A check of no files must not look like a successful one, so each place that was looked at is named.
 ghost use Rattle.std.specs.Prelude.{◌≡◌, ◌++◌, IfOk, OnOk, flat_map};
 ghost use Rattle.devdry_folders.specs.Nothing.{folder_line, has_unread, is_unread, line_elsewhere, line_on, files_word};
-ghost use Rattle.devdry_folders.specs.Nothing.{line_on_place, nothing_lines, why_no_file};
+ghost use Rattle.devdry_folders.specs.Nothing.{line_on_place, line_on_place_of, nothing_lines, why_no_file};
 
 use crate::elsewhere::Elsewhere;
 use crate::reasons::push_escaped;
 use crate::sights::{Met, Sight, Spot, Visit};
+use crate::unread::is_one_of;
 use itoa::Buffer;
 use std::alloc::{AllocError, Global};
 use text_bytes::FileKind;
 
 /// Adds a line on a place.
-fn push_line(alloc: Global, lines: &mut Vec<u8>, path: &[u8], text: &[u8]) -> Result<(), AllocError>
+pub(crate) fn push_line(
+    alloc: Global,
+    lines: &mut Vec<u8>,
+    path: &[u8],
+    text: &[u8],
+) -> Result<(), AllocError>
     ensures { OnOk result (lines.new.items ≡ lines.old.items ++ line_on path.now text.now) }
 {
     push_escaped(alloc, lines, b"devdry: ", path)?;
@@ -98,28 +104,50 @@ fn push_elsewhere(alloc: Global, lines: &mut Vec<u8>, other: &Elsewhere) -> Resu
     push_line(alloc, lines, other.path.as_slice(), &text)
 }
 
-/// Adds the lines on all places that were looked at.
-fn push_places(alloc: Global, lines: &mut Vec<u8>, visits: &[Visit]) -> Result<(), AllocError>
-    ensures { OnOk result (lines.new.items ≡ lines.old.items ++ flat_map line_on_place visits.now) }
+/// Adds the line on a place, if files of one of these kinds were looked for there.
+fn push_place_of(
+    alloc: Global,
+    lines: &mut Vec<u8>,
+    kinds: &[FileKind],
+    visit: &Visit,
+) -> Result<(), AllocError>
+    ensures { OnOk result (lines.new.items ≡ lines.old.items ++ line_on_place_of kinds.now visit.now) }
+{
+    if is_one_of(kinds, visit.kind) {
+        push_folder(alloc, lines, visit)
+    } else {
+        Ok(())
+    }
+}
+
+/// Adds the lines on all places where files of these kinds were looked for.
+fn push_places(
+    alloc: Global,
+    lines: &mut Vec<u8>,
+    kinds: &[FileKind],
+    visits: &[Visit],
+) -> Result<(), AllocError>
+    ensures { OnOk result (lines.new.items ≡ lines.old.items ++ flat_map (line_on_place_of kinds.now) visits.now) }
 {
     for visit in visits {
-        push_folder(alloc, lines, visit)?;
+        push_place_of(alloc, lines, kinds, visit)?;
     }
     Ok(())
 }
 
-/// The lines that say that no file was read: `devdry: no files`, then for each folder that was looked at `devdry:
-/// PATH: absent`, `empty` or `has no .rules files`, and `devdry: PATH has 12 files` (`1 file`) for files that are
+/// The lines that say that no file of these kinds was read: `devdry: no files`, then for each folder of theirs that
+/// was looked at `devdry: PATH: absent`, `empty` or `has no .rules files`, and `devdry: PATH has 12 files` (`1 file`) for files that are
 /// elsewhere. What can't be read has no line here.
 pub(crate) fn nothing_lines(
     alloc: Global,
+    kinds: &[FileKind],
     visits: &[Visit],
     others: &[Elsewhere],
 ) -> Result<Vec<u8>, AllocError>
-    ensures { IfOk result (λ lines. lines.items ≡ nothing_lines visits.now others.now) }
+    ensures { IfOk result (λ lines. lines.items ≡ nothing_lines kinds.now visits.now others.now) }
 {
     let mut lines = Vec::from_slice(alloc, b"devdry: no files\n")?;
-    push_places(alloc, &mut lines, visits)?;
+    push_places(alloc, &mut lines, kinds, visits)?;
     for other in others {
         push_elsewhere(alloc, &mut lines, other)?;
     }

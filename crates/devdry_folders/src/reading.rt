@@ -1,32 +1,40 @@
 //! The outcome of a line whose reading goes on after what can't be read.
-ghost use Rattle.std.specs.Prelude.{◌≡◌, ◌≤◌, ◌==◌, IfOk, List, [], false, if◌then◌else◌, length, not};
-ghost use Rattle.devdry_files.specs.Inside.{MayInside};
-ghost use Rattle.devdry_folders.specs.Nothing.{AreElsewhere, nothing_lines};
-ghost use Rattle.devdry_folders.specs.Surveys.{AreVisitsFor, IsListed, IsReadSome, IsReported};
+ghost use Rattle.std.specs.Option.{option_to_list};
+ghost use Rattle.std.specs.Prelude.{◌≡◌, ◌≤◌, IfOk};
+ghost use Rattle.devdry_folders.specs.Surveys.{AreFilesReadSome, AreVisitsFor, IsFilesSurveyFor, IsListed, IsReadBy, IsReadSome, IsReportOn, IsReportOnFiles, IsReported, IsSurveyFor};
+ghost use Rattle.devdry_folders.specs.Surveys.{all_unread, has_file_needed, kinds_needed};
 ghost use Rattle.devdry_folders.specs.Unread.{least_status};
-ghost use Rattle.devdry_folders.specs.declared.elsewhere.Elsewhere.{Elsewhere};
 
-use crate::elsewhere::files_elsewhere;
 use crate::files::files_of;
-use crate::nothing::nothing_lines;
+use crate::indexes::{index_bytes, index_sight, push_on_index};
+use crate::missing::missing_lines;
 use crate::sight_status::status_lines;
-use crate::sights::Visit;
-use crate::unread::{has_files, unread_lines};
+use crate::sights::{Survey, Visit};
+use crate::unread::{is_one_of, unread_lines};
 use crate::visiting::visits;
-use devdry_files::{Disk, RootedDisk, wanted};
-use engine_ends::Line;
+use devdry_files::{Disk, wanted};
+use engine_ends::{Line, Verb};
 use std::alloc::{AllocError, Global};
-use text_bytes::SourceFile;
+use text_bytes::{Bytes, FileKind, SourceFile};
+
+/// What is reported on the error output before a run.
+#[derive(Debug, Drop)]
+pub struct Report {
+    /// The lines.
+    pub lines: Vec<u8>,
+    /// The least status of the run.
+    pub least: u8,
+}
 
 /// What could be read of all that a line asks for.
 #[derive(Debug, Drop)]
 pub struct ReadSome {
     /// The files that were read, in the order of reading.
     pub files: Vec<SourceFile>,
-    /// What is reported on the error output before the run.
-    pub reported: Vec<u8>,
-    /// The least status of the run.
-    pub least: u8,
+    /// The bytes of the index, if the line names one and it could be read.
+    pub index: Option<Bytes>,
+    /// What is reported before the run.
+    pub report: Report,
 }
 
 /// Which files of the folders count.
@@ -34,10 +42,8 @@ pub struct ReadSome {
 pub struct Listed {
     /// The lines for the output.
     pub lines: Vec<u8>,
-    /// What is reported on the error output before them.
-    pub reported: Vec<u8>,
-    /// The least status of the run.
-    pub least: u8,
+    /// What is reported before them.
+    pub report: Report,
 }
 
 /// Visits of all that a line asks for.
@@ -48,61 +54,102 @@ fn visits_for<D: Disk>(alloc: Global, disk: &D, line: &Line<'_>) -> Result<Vec<V
     visits(alloc, disk, &wanted)
 }
 
-/// What is reported for visits before the run, and the least status of the run.
-#[derive(Drop)]
-struct Reported {
-    lines: Vec<u8>,
-    least: u8,
+/// A survey of all that a line asks for; the index is looked at last.
+fn survey_for<D: Disk>(alloc: Global, disk: &D, line: &Line<'_>) -> Result<Survey, AllocError>
+    ensures { IfOk result (IsSurveyFor (D.may_answer disk.now) line.now) }
+{
+    Ok(Survey {
+        visits: visits_for(alloc, disk, line)?,
+        index: index_sight(alloc, disk, line)?,
+    })
 }
 
-/// The least status of a run, by the lines on what can't be read and whether any file was read.
-fn least_of(unread: &[u8], some: bool) -> u8
-    ensures { result ≡ (if not (length unread.now == 0) then 3 else if some then 0 else 1) }
+/// A survey of all that a line asks for but an index.
+fn files_survey_for<D: Disk>(alloc: Global, disk: &D, line: &Line<'_>) -> Result<Survey, AllocError>
+    ensures { IfOk result (IsFilesSurveyFor (D.may_answer disk.now) line.now) }
+{
+    Ok(Survey {
+        visits: visits_for(alloc, disk, line)?,
+        index: None,
+    })
+}
+
+/// The least status of a run, by the lines on what can't be read and those on where no file was found.
+fn least_status(unread: &[u8], missing: &[u8]) -> u8
+    ensures status { result ≡ least_status unread.now missing.now }
+    ensures least { result ≤ 3 }
 {
     if !unread.is_empty() {
         3
-    } else if some {
+    } else if missing.is_empty() {
         0
     } else {
         1
     }
 }
 
-/// What is reported if no file was read, and nothing otherwise.
-fn reported_for_nothing<D: Disk>(
-    alloc: Global,
-    disk: &D,
-    line: &Line<'_>,
-    visits: &[Visit],
-    some: bool,
-) -> Result<Vec<u8>, AllocError>
-    ensures { IfOk result (λ lines. (others : List Elsewhere)
-        × (some ≡ false → AreElsewhere (MayInside (D.may_answer disk.now) line.now.root.now) line.now others)
-        × (lines.items ≡ (if some then [] else nothing_lines visits.now others))) }
+/// The lines on all that can't be read.
+fn all_unread(alloc: Global, survey: &Survey) -> Result<Vec<u8>, AllocError>
+    ensures { IfOk result (λ lines. lines.items ≡ all_unread survey.now) }
 {
-    if some {
-        return Ok(Vec::new(alloc));
-    }
-    let inside = RootedDisk::new(disk, line.root);
-    let others = files_elsewhere(alloc, &inside, line)?;
-    nothing_lines(alloc, visits, &others)
+    let mut lines = unread_lines(alloc, &survey.visits)?;
+    push_on_index(alloc, &mut lines, &survey.index)?;
+    Ok(lines)
 }
 
-/// What is reported for visits before the run, and the least status of the run.
+/// What is reported for a survey before the run, of which files of these kinds are needed.
 fn reported_for<D: Disk>(
     alloc: Global,
     disk: &D,
     line: &Line<'_>,
-    visits: &[Visit],
-) -> Result<Reported, AllocError>
-    ensures reported { IfOk result (λ t. IsReported (D.may_answer disk.now) line.now visits.now t.lines.items) }
-    ensures least { IfOk result (λ t. t.least ≡ least_status visits.now) }
+    kinds: &[FileKind],
+    survey: &Survey,
+) -> Result<Report, AllocError>
+    ensures reported { IfOk result (λ r. IsReported (D.may_answer disk.now) line.now kinds.now survey.now r) }
+    ensures least { IfOk result (λ r. r.least ≤ 3) }
 {
-    let mut lines = unread_lines(alloc, visits)?;
-    let some = has_files(visits);
-    let least = least_of(&lines, some);
-    lines.append(&mut reported_for_nothing(alloc, disk, line, visits, some)?)?;
-    Ok(Reported { lines, least })
+    let mut lines = all_unread(alloc, survey)?;
+    let mut missing = missing_lines(alloc, disk, line, kinds, survey)?;
+    let least = least_status(&lines, &missing);
+    lines.append(&mut missing)?;
+    Ok(Report { lines, least })
+}
+
+/// The kind of the files that a line of this subcommand names.
+fn kinds_needed(verb: Verb) -> &'static [FileKind]
+    ensures { result.now ≡ kinds_needed verb }
+{
+    match verb {
+        Verb::Update | Verb::Query => &[FileKind::Hwdb],
+        Verb::Verify | Verb::Events => &[FileKind::Rules],
+    }
+}
+
+/// Whether one of the files is of a kind that a line needs.
+fn has_file_needed(line: &Line<'_>, files: &[SourceFile]) -> bool
+    ensures { result ≡ has_file_needed line.now files.now }
+{
+    let kinds = kinds_needed(line.verb);
+    files.iter().any(|file| is_one_of(kinds, file.kind))
+}
+
+/// What was read by a survey, and what is reported for it.
+fn read_by<D: Disk>(
+    alloc: Global,
+    disk: &D,
+    line: &Line<'_>,
+    survey: Survey,
+) -> Result<ReadSome, AllocError>
+    ensures some { IfOk result (IsReadBy (D.may_answer disk.now) line.now (λ s. s ≡ survey)) }
+    ensures least { IfOk result (λ some. some.report.least ≤ 3) }
+{
+    let report = reported_for(alloc, disk, line, kinds_needed(line.verb), &survey)?;
+    let Survey { visits, index } = survey;
+    Ok(ReadSome {
+        files: files_of(alloc, visits)?,
+        index: index_bytes(index),
+        report,
+    })
 }
 
 /// Reads what can be read of all that a line asks for: the files that it names in the order given, then the
@@ -111,37 +158,74 @@ fn reported_for<D: Disk>(
 /// If the line names a folder, the files in it whose names end in the suffix of their kind are taken, by name, each
 /// as `FILE/NAME`, with one slash. What can't be read is reported, `devdry: cannot read PATH: REASON`, and the
 /// least status is then 3; nothing is opened that is neither a folder nor a regular file, except the null device.
-/// An absent folder is not a fault. If no file was read, each folder that was looked at is reported, and the least
-/// status is 1, unless it is 3.
+/// An absent folder is not a fault. The index is read last. If no file of the kind that the line names was read, nor an
+/// index in place of the database, each of its folders that was looked at is reported, and the least status is 1,
+/// unless it is 3; so is a root that is no folder, if folders are read below it beside files that are named.
 pub fn read_what_can<D: Disk>(
     alloc: Global,
     disk: &D,
     line: &Line<'_>,
 ) -> Result<ReadSome, AllocError>
     ensures some { IfOk result (IsReadSome (D.may_answer disk.now) line.now) }
-    ensures least { IfOk result (λ some. some.least ≤ 3) }
+    ensures least { IfOk result (λ some. some.report.least ≤ 3) }
 {
-    let visits = visits_for(alloc, disk, line)?;
-    let reported = reported_for(alloc, disk, line, &visits)?;
-    Ok(ReadSome {
-        files: files_of(alloc, visits)?,
-        reported: reported.lines,
-        least: reported.least,
-    })
+    let survey = survey_for(alloc, disk, line)?;
+    read_by(alloc, disk, line, survey)
+}
+
+/// Reads what can be read of all that a line asks for but an index, as `read_what_can` does.
+pub fn read_files_that_can<D: Disk>(
+    alloc: Global,
+    disk: &D,
+    line: &Line<'_>,
+) -> Result<ReadSome, AllocError>
+    ensures some { IfOk result (AreFilesReadSome (D.may_answer disk.now) line.now) }
+    ensures least { IfOk result (λ some. some.report.least ≤ 3) }
+{
+    let survey = files_survey_for(alloc, disk, line)?;
+    read_by(alloc, disk, line, survey)
 }
 
 /// Reports which files of the folders that a line asks for count: each file is used, masks those of its name, is
 /// hidden by another, or is skipped with the reason; what can't be read is also reported, and the least status is
-/// as with `read_what_can`.
+/// as with `read_what_can`, but a file of any kind that the line reads is enough.
 pub fn list_files<D: Disk>(alloc: Global, disk: &D, line: &Line<'_>) -> Result<Listed, AllocError>
     ensures listed { IfOk result (IsListed (D.may_answer disk.now) line.now) }
-    ensures least { IfOk result (λ listed. listed.least ≤ 3) }
+    ensures least { IfOk result (λ listed. listed.report.least ≤ 3) }
 {
-    let visits = visits_for(alloc, disk, line)?;
-    let reported = reported_for(alloc, disk, line, &visits)?;
+    let survey = survey_for(alloc, disk, line)?;
+    let report = reported_for(alloc, disk, line, line.verb.kinds_read(), &survey)?;
     Ok(Listed {
-        lines: status_lines(alloc, visits)?,
-        reported: reported.lines,
-        least: reported.least,
+        lines: status_lines(alloc, survey.visits)?,
+        report,
     })
+}
+
+/// What is reported for a survey of all that a line asks for but an index.
+fn report_on<D: Disk>(alloc: Global, disk: &D, line: &Line<'_>) -> Result<Report, AllocError>
+    ensures report { IfOk result (IsReportOn (D.may_answer disk.now) line.now) }
+    ensures least { IfOk result (λ report. report.least ≤ 3) }
+{
+    let survey = files_survey_for(alloc, disk, line)?;
+    reported_for(alloc, disk, line, kinds_needed(line.verb), &survey)
+}
+
+/// What is reported on files that were read for a line: nothing, with status 0, if one of them is of the kind that the
+/// line names; otherwise all that it asks for but an index is visited, and reported as with `read_what_can`.
+pub fn report_on_files<D: Disk>(
+    alloc: Global,
+    disk: &D,
+    line: &Line<'_>,
+    files: &[SourceFile],
+) -> Result<Report, AllocError>
+    ensures report { IfOk result (IsReportOnFiles (D.may_answer disk.now) line.now files.now) }
+    ensures least { IfOk result (λ report. report.least ≤ 3) }
+{
+    if has_file_needed(line, files) {
+        return Ok(Report {
+            lines: Vec::new(alloc),
+            least: 0,
+        });
+    }
+    report_on(alloc, disk, line)
 }

@@ -63,3 +63,12 @@ pub(crate) struct Visit {
     /// The outcome of the visit.
     pub scan: Scan,
 }
+
+/// All that a line asks for, and the outcome of visiting it.
+#[derive(Debug, Drop)]
+pub(crate) struct Survey {
+    /// The visits of files and folders, in the order of the visits.
+    pub visits: Vec<Visit>,
+    /// The index, if the line names one: its path, and what is met there.
+    pub index: Option<Sight>,
+}

@@ -1,10 +1,12 @@
 //! What is reported for what can't be read.
 ghost use Rattle.std.specs.Prelude.{◌≡◌, ◌++◌, IfOk, OnOk, flat_map};
-ghost use Rattle.devdry_folders.specs.Unread.{has_file, has_files, is_file, line_on_met, line_on_spot, lines_on_visit, unread_line, unread_lines};
+ghost use Rattle.devdry_folders.specs.Unread.{has_file, has_files, is_file, is_one_of, line_on_met, line_on_spot, lines_on_visit, unread_line, unread_lines};
 
 use crate::reasons::{Reason, push_escaped, push_reason};
 use crate::sights::{Met, Sight, Spot, Visit};
+use engine_ends::same_kind;
 use std::alloc::{AllocError, Global};
+use text_bytes::FileKind;
 
 /// Adds the line on what can't be read.
 fn push_unread(
@@ -23,7 +25,12 @@ fn push_unread(
 }
 
 /// Adds the line on what is met at a path, if it can't be read.
-fn push_on_met(alloc: Global, lines: &mut Vec<u8>, path: &[u8], met: &Met) -> Result<(), AllocError>
+pub(crate) fn push_on_met(
+    alloc: Global,
+    lines: &mut Vec<u8>,
+    path: &[u8],
+    met: &Met,
+) -> Result<(), AllocError>
     ensures { OnOk result (lines.new.items ≡ lines.old.items ++ line_on_met path.now met.now) }
 {
     match met {
@@ -84,9 +91,16 @@ fn has_file(sights: &[Sight]) -> bool
     sights.iter().any(|sight| is_file(&sight.met))
 }
 
-/// Whether any file was read.
-pub(crate) fn has_files(visits: &[Visit]) -> bool
-    ensures { result ≡ has_files visits.now }
+/// Whether a kind is one of these.
+pub(crate) fn is_one_of(kinds: &[FileKind], kind: FileKind) -> bool
+    ensures { result ≡ is_one_of kinds.now kind }
 {
-    visits.iter().any(|visit| has_file(&visit.scan.sights))
+    kinds.iter().any(|one| same_kind(*one, kind))
+}
+
+/// Whether any file of these kinds was read.
+pub(crate) fn has_files(kinds: &[FileKind], visits: &[Visit]) -> bool
+    ensures { result ≡ has_files kinds.now visits.now }
+{
+    visits.iter().any(|visit| is_one_of(kinds, visit.kind) && has_file(&visit.scan.sights))
 }

@@ -13,7 +13,8 @@ use Rattle.engine_ends.specs.declared.line.Format.{Format}
 use Rattle.engine_ends.specs.declared.line.Format.TheVariants.{Plain, Gcc, Github, Gitlab, Json, Sarif, Human, HumanInColor}
 use Rattle.devdry_words.specs.declared.refusals.Refusal.{Refusal}
 use Rattle.devdry_words.specs.declared.refusals.Refusal.TheVariants.{TwoDatabases, TwoAnswers, EmptyRoot, EmptySide, NoUdev, UnknownFormat, UnknownPart}
-use Rattle.devdry_words.specs.Lines.{format_name, format_named, format_of, profile_of}
+use Rattle.engine_ends.specs.declared.line.Verb.TheVariants.{Update, Verify, Events}
+use Rattle.devdry_words.specs.Lines.{asks_every, class_codes, codes_with, format_name, format_named, format_of, is_set_or_every, profile_of}
 use Rattle.text_bytes.specs.Texts.{split_once}
 use Rattle.text_bytes.specs.declared.profile.Profile.{Profile}
 use Rattle.text_bytes.specs.declared.profile.Profile.TheVariants.{Manual, Udev}
@@ -86,29 +87,33 @@ verify_is_asked : option_map {U = Option Format × (Bool × (Bool × List Text))
 unfolding clap_on_literals devdry
 verify_is_asked = refl
 
-lint_of_update : fault_of devdry (codes "update" ∷ codes "--lint" ∷ []) ≡ kind.UnknownArgument ∷ []
+lint_of_update : takes devdry (codes "update" ∷ codes "--lint" ∷ codes "a.hwdb" ∷ []) ≡ true
 unfolding clap_on_literals devdry
 lint_of_update = refl
 
-udev_is_asked : option_map {U = Profile × List Text} (λ p. (profile_of p.1, texts_of (codes "FILE") p.1)) (subcommand_of devdry (codes "verify" ∷ codes "--udev" ∷ codes "a.rules" ∷ []))
+lint_of_query : fault_of devdry (codes "query" ∷ codes "--lint" ∷ codes "usb:v1" ∷ []) ≡ kind.UnknownArgument ∷ []
+unfolding clap_on_literals devdry
+lint_of_query = refl
+
+udev_is_asked : option_map {U = Profile × List Text} (λ p. (profile_of Verify p.1, texts_of (codes "FILE") p.1)) (subcommand_of devdry (codes "verify" ∷ codes "--udev" ∷ codes "a.rules" ∷ []))
     ≡ Some (Udev, codes "a.rules" ∷ [])
 unfolding clap_on_literals devdry
 udev_is_asked = refl
 
-manual_is_asked : option_map {U = Profile} (λ p. profile_of p.1) (subcommand_of devdry verify_words) ≡ Some Manual
+manual_is_asked : option_map {U = Profile} (λ p. profile_of Verify p.1) (subcommand_of devdry verify_words) ≡ Some Manual
 unfolding clap_on_literals devdry
 manual_is_asked = refl
 
-udev_of_events : option_map {U = Profile × List Text} (λ p. (profile_of p.1, texts_of (codes "FILE") p.1)) (subcommand_of devdry (codes "events" ∷ codes "--udev" ∷ codes "a.rules" ∷ []))
+udev_of_events : option_map {U = Profile × List Text} (λ p. (profile_of Events p.1, texts_of (codes "FILE") p.1)) (subcommand_of devdry (codes "events" ∷ codes "--udev" ∷ codes "a.rules" ∷ []))
     ≡ Some (Udev, codes "a.rules" ∷ [])
 unfolding clap_on_literals devdry
 udev_of_events = refl
 
-manual_of_events : option_map {U = Profile} (λ p. profile_of p.1) (subcommand_of devdry (codes "events" ∷ codes "a.rules" ∷ [])) ≡ Some Manual
+manual_of_events : option_map {U = Profile} (λ p. profile_of Events p.1) (subcommand_of devdry (codes "events" ∷ codes "a.rules" ∷ [])) ≡ Some Manual
 unfolding clap_on_literals devdry
 manual_of_events = refl
 
-udev_of_both_sides : option_map {U = Profile × (Text × Text)} (λ p. (profile_of p.1, (text_of (codes "OLD") p.1, text_of (codes "NEW") p.1))) (subcommand_of devdry (codes "compare" ∷ codes "--udev" ∷ codes "/old" ∷ codes "/new" ∷ []))
+udev_of_both_sides : option_map {U = Profile × (Text × Text)} (λ p. (profile_of Events p.1, (text_of (codes "OLD") p.1, text_of (codes "NEW") p.1))) (subcommand_of devdry (codes "compare" ∷ codes "--udev" ∷ codes "/old" ∷ codes "/new" ∷ []))
     ≡ Some (Udev, (codes "/old", codes "/new"))
 unfolding clap_on_literals devdry
 udev_of_both_sides = refl
@@ -150,7 +155,7 @@ format_of_events : fault_of devdry (codes "events" ∷ codes "--format" ∷ code
 unfolding clap_on_literals devdry
 format_of_events = refl
 
-questions_are_asked : option_map {U = Bool × (Profile × List Text)} (λ p. (is_set (codes "questions") p.1, (profile_of p.1, texts_of (codes "FILE") p.1))) (subcommand_of devdry (codes "events" ∷ codes "--questions" ∷ codes "--udev" ∷ codes "a.rules" ∷ []))
+questions_are_asked : option_map {U = Bool × (Profile × List Text)} (λ p. (is_set (codes "questions") p.1, (profile_of Events p.1, texts_of (codes "FILE") p.1))) (subcommand_of devdry (codes "events" ∷ codes "--questions" ∷ codes "--udev" ∷ codes "a.rules" ∷ []))
     ≡ Some (true, (Udev, codes "a.rules" ∷ []))
 unfolding clap_on_literals devdry
 questions_are_asked = refl
@@ -238,6 +243,35 @@ no_root_is_taken : refused (codes "verify" ∷ codes "--all" ∷ []) ≡ Some No
 unfolding clap_on_literals devdry
 no_root_is_taken = refl
 
+strict_makes_every_check : option_map {U = Bool × (Profile × Bool)} (λ p. (is_set_or_every Verify (codes "lint") p.1, (profile_of Verify p.1, is_set_or_every Verify (codes "all") p.1))) (subcommand_of devdry (codes "verify" ∷ codes "--strict" ∷ []))
+    ≡ Some (true, (Udev, true))
+unfolding clap_on_literals devdry
+strict_makes_every_check = refl
+
+strict_update_makes_no_check : option_map {U = Bool} (λ p. is_set_or_every Update (codes "all") p.1) (subcommand_of devdry (codes "update" ∷ codes "-s" ∷ [])) ≡ Some false
+unfolding clap_on_literals devdry
+strict_update_makes_no_check = refl
+
+strict_needs_a_root : refused (codes "verify" ∷ codes "--strict" ∷ codes "--root=" ∷ []) ≡ Some (Some EmptyRoot)
+unfolding clap_on_literals devdry
+strict_needs_a_root = refl
+
+strict_knows_users : refused (codes "verify" ∷ codes "--strict" ∷ codes "--users=passwd" ∷ []) ≡ Some None
+unfolding clap_on_literals devdry
+strict_knows_users = refl
+
+classes_are_taken : refused (codes "verify" ∷ codes "--ignore" ∷ codes "S,W13,I" ∷ []) ≡ Some None
+unfolding clap_on_literals devdry remark_of heading_parts split_once codes_with
+classes_are_taken = refl
+
+no_class_is_refused : refused (codes "verify" ∷ codes "--ignore" ∷ codes "s" ∷ []) ≡ Some (Some UnknownPart)
+unfolding clap_on_literals devdry remark_of heading_parts split_once codes_with
+no_class_is_refused = refl
+
+events_go_on : option_map {U = Bool} (λ p. is_set_or_every Events (codes "all") p.1) (subcommand_of devdry (codes "events" ∷ codes "--all" ∷ [])) ≡ Some true
+unfolding clap_on_literals devdry
+events_go_on = refl
+
 -- the format that words name it by
 abbrev uncolored : Format → Format
 uncolored HumanInColor = Human
@@ -253,6 +287,6 @@ each_format_is_found Sarif = refl
 each_format_is_found Human = refl
 each_format_is_found HumanInColor = refl
 
-pub each_code_is_listed : codes "V1, V2, V3, V4, V5, V6, V7, V8, V9, V10, V11, V12, V13, V14, V15, V16, V17, V18, V19, V20, V21, V22, V23, V24, V25, V26, S1, S2, S3, S4, S5, S6, H1, H2, H3, H4, H5, H6, W1, W2, W3, W4, W5, W6, W7, W8, W9, W10, W11, W12, W13, W14, I1, I2" ≡ known_codes
+pub each_code_is_listed : codes "V1, V2, V3, V4, V5, V6, V7, V8, V9, V10, V11, V12, V13, V14, V15, V16, V17, V18, V19, V20, V21, V22, V23, V24, V25, V26, S1, S2, S3, S4, S5, S6, H1, H2, H3, H4, H5, H6, W1, W2, W3, W4, W5, W6, W7, W8, W9, W10, W11, W12, W13, W14, D1, D2, D3, D4, D5, D6, D7, D8, D9, D10, D11, D12, D13, I1, I2" ≡ known_codes
 unfolding known_codes listed heading_parts split_once
 each_code_is_listed = refl

@@ -1,5 +1,6 @@
 -- The line that the matches of a subcommand mean.
-use Rattle.std.specs.Prelude.{◌≡◌, ◌∷◌, IfSome, if◌then◌else◌, List, [], Option, Some, find, flat_map, map, not, unwrap_or, codes, false}
+use Rattle.std.specs.Prelude.{◌≡◌, ◌∷◌, ◌&&◌, ◌||◌, Bool, true, false, IfSome, if◌then◌else◌, List, [], Option, Some, None, filter, find, flat_map, map, nat_eq, not, unwrap_or, codes}
+use Rattle.std.specs.List.{starts_with}
 use Rattle.std.specs.Option.{option_map, option_map_or}
 use Rattle.std.specs.Str.{bytes_eq}
 use Rattle.clap.specs.Words.{Row, Text, first_of}
@@ -11,6 +12,8 @@ use Rattle.engine_ends.specs.declared.line.Format.TheVariants.{Plain, Gcc, Githu
 use Rattle.engine_ends.specs.declared.line.Line.{Line}
 use Rattle.engine_ends.specs.declared.line.Verb.{Verb}
 use Rattle.engine_ends.specs.declared.line.Verb.TheVariants.{Update, Query, Verify, Events}
+use Rattle.engine_formats.specs.Codes.{remarks}
+use Rattle.engine_formats.specs.Remarks.{code_of}
 use Rattle.text_bytes.specs.declared.profile.Profile.{Profile}
 use Rattle.text_bytes.specs.declared.profile.Profile.TheVariants.{Manual, Udev}
 use Rattle.devdry_words.specs.Values.{cut_at_commas, is_set, text_of, texts_of}
@@ -59,13 +62,49 @@ color_of rows = option_map_or color_named (first_of (codes "color") rows) (Some 
 abbrev pub input_name_of : List Row → Text
 input_name_of rows = unwrap_or (first_of (codes "stdin-name") rows) (codes "-")
 
+-- whether a verb is `verify`
+abbrev pub is_verify : Verb → Bool
+is_verify Verify = true
+is_verify _ = false
+
+-- whether every check is asked for: `verify` is strict
+abbrev pub asks_every : Verb → List Row → Bool
+asks_every verb rows = is_verify verb && is_set (codes "strict") rows
+
+-- whether a flag is given, or every check is asked for, which is more
+abbrev pub is_set_or_every : Verb → Text → List Row → Bool
+is_set_or_every verb id rows = is_set id rows || asks_every verb rows
+
 -- the profile by which rules are read and evaluated: udev's if `--udev` is given, otherwise the manual's
-abbrev pub profile_of : List Row → Profile
-profile_of rows = if is_set (codes "udev") rows then Udev else Manual
+abbrev pub profile_of : Verb → List Row → Profile
+profile_of verb rows = if is_set_or_every verb (codes "udev") rows then Udev else Manual
+
+-- the path of a file of users or groups, and whether it is that inside the root: the one that is named, and without
+-- one that of the root if every check is asked for
+abbrev pub account_path : Bool → Option Text → Text → Option (Text × Bool)
+account_path every (Some path) own = Some (path, false)
+account_path true None own = Some (own, true)
+account_path false None own = None
 
 -- the file of users or groups at the path, if there is one; none of its bytes has been read yet
-abbrev pub IsUnreadFile : Option Text → Option AccountFile → Type 0
-IsUnreadFile path file = (option_map (λ f. f.path.now) file ≡ path) × IfSome file (λ f. (f.of_root ≡ false) × (f.bytes ≡ []))
+abbrev pub IsUnreadFile : Option (Text × Bool) → Option AccountFile → Type 0
+IsUnreadFile path file = (option_map (λ f. (f.path.now, f.of_root)) file ≡ path) × IfSome file (λ f. f.bytes ≡ [])
+
+-- the codes that begin with the letter of a class
+unfoldable pub codes_with : Text → List Text
+codes_with letter = filter (λ code. starts_with nat_eq code letter) (map code_of remarks)
+
+-- the letters of the classes of codes
+abbrev pub class_letters : List Text
+class_letters = codes "V" ∷ codes "S" ∷ codes "H" ∷ codes "W" ∷ codes "I" ∷ []
+
+-- the codes of a class, if there is one with this letter
+abbrev pub class_codes : Text → Option (List Text)
+class_codes letter = option_map codes_with (find (λ l. bytes_eq letter l) class_letters)
+
+-- what a part of `--ignore` names: the codes of a class, and otherwise itself
+abbrev pub codes_named : Text → List Text
+codes_named part = unwrap_or (class_codes part) (part ∷ [])
 
 -- the line is that of the verb, below the root, and its other fields are the values of the matches
 pub record Reads (verb : Verb) (root : Text) (rows : List Row) (line : Line) : Type 0 where
@@ -82,12 +121,11 @@ pub record Reads (verb : Verb) (root : Text) (rows : List Row) (line : Line) : T
   pub modalias : line.modalias.now ≡ text_of (codes "MODALIAS") rows
   pub summary : line.summary ≡ not (is_set (codes "no-summary") rows)
   pub style : line.style ≡ not (is_set (codes "no-style") rows)
-  pub lint : line.lint ≡ is_set (codes "lint") rows
+  pub lint : line.lint ≡ is_set_or_every verb (codes "lint") rows
   pub format : line.format ≡ unwrap_or (format_of rows) Plain
   pub color : line.color ≡ unwrap_or (color_of rows) Auto
-  pub all : line.all ≡ is_set (codes "all") rows
-  pub ignored : map (λ c. c.now) line.ignored.items ≡ flat_map cut_at_commas (texts_of (codes "ignore") rows)
-  pub profile : line.profile ≡ profile_of rows
-  pub users : IsUnreadFile (first_of (codes "users") rows) line.users
-  pub groups : IsUnreadFile (first_of (codes "groups") rows) line.groups
-  pub links : line.links.items ≡ []
+  pub all : line.all ≡ is_set_or_every verb (codes "all") rows
+  pub ignored : map (λ c. c.now) line.ignored.items ≡ flat_map codes_named (flat_map cut_at_commas (texts_of (codes "ignore") rows))
+  pub profile : line.profile ≡ profile_of verb rows
+  pub users : IsUnreadFile (account_path (asks_every verb rows) (first_of (codes "users") rows) (codes "/etc/passwd")) line.users
+  pub groups : IsUnreadFile (account_path (asks_every verb rows) (first_of (codes "groups") rows) (codes "/etc/group")) line.groups

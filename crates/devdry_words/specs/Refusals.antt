@@ -7,7 +7,7 @@ use Rattle.engine_formats.specs.Codes.{remark_of, remarks}
 use Rattle.engine_formats.specs.Remarks.{code_of}
 use Rattle.devdry_words.specs.declared.refusals.Refusal.{Refusal}
 use Rattle.devdry_words.specs.declared.refusals.Refusal.TheVariants.{TwoDatabases, TwoAnswers, EmptyRoot, EmptySide, NoUdev, UnknownFormat, UnknownPart}
-use Rattle.devdry_words.specs.Lines.{format_of}
+use Rattle.devdry_words.specs.Lines.{class_codes, format_of}
 use Rattle.devdry_words.specs.Values.{cut_at_commas, has_value, is_empty_text, is_set, text_of, texts_of}
 
 -- a query names two databases: files and an index
@@ -18,21 +18,30 @@ names_two name rows = bytes_eq name (codes "query") && (is_some (first_of (codes
 abbrev pub asks_both : List Row → Bool
 asks_both rows = is_set (codes "questions") rows && (is_set (codes "sources") rows || has_value (codes "why") rows)
 
+-- `verify` is strict, and so asks for every check
+abbrev pub is_strict : Text → List Row → Bool
+is_strict name rows = bytes_eq name (codes "verify") && is_set (codes "strict") rows
+
+-- all is asked for
+abbrev pub asks_all : Text → List Row → Bool
+asks_all name rows = is_set (codes "all") rows || is_strict name rows
+
 -- all is asked for, or which files count, below a root that is given and empty
 abbrev pub lacks_root : Text → List Row → Bool
-lacks_root name rows = (is_set (codes "all") rows || bytes_eq name (codes "files")) && is_empty_text (codes "root") rows
+lacks_root name rows = (asks_all name rows || bytes_eq name (codes "files")) && is_empty_text (codes "root") rows
 
 -- one of the two roots that are compared is empty
 abbrev pub lacks_side : List Row → Bool
 lacks_side rows = is_empty_text (codes "OLD") rows || is_empty_text (codes "NEW") rows
 
 -- users or groups are named, and rules are not to be read as udev reads them
-abbrev pub lacks_udev : List Row → Bool
-lacks_udev rows = (is_some (first_of (codes "users") rows) || is_some (first_of (codes "groups") rows)) && not (is_set (codes "udev") rows)
+abbrev pub lacks_udev : Text → List Row → Bool
+lacks_udev name rows = (is_some (first_of (codes "users") rows) || is_some (first_of (codes "groups") rows))
+    && not (is_set (codes "udev") rows || is_strict name rows)
 
--- a part of `--ignore` is the word `comments`, or the code of a remark
+-- a part of `--ignore` is the word `comments`, the code of a remark or a class of codes
 abbrev pub is_ignorable : Text → Bool
-is_ignorable part = bytes_eq part (codes "comments") || is_some (remark_of part)
+is_ignorable part = bytes_eq part (codes "comments") || (is_some (remark_of part) || is_some (class_codes part))
 
 -- the first of these parts that is neither
 abbrev pub first_unknown : List Text → Option Text
@@ -53,7 +62,7 @@ refusal_of name rows = if names_two name rows then Some TwoDatabases
     else (if asks_both rows then Some TwoAnswers
     else (if lacks_root name rows then Some EmptyRoot
     else (if lacks_side rows then Some EmptySide
-    else (if lacks_udev rows then Some NoUdev else unknown_value rows))))
+    else (if lacks_udev name rows then Some NoUdev else unknown_value rows))))
 
 -- what is said about a value that its argument does not take, by what comes before and after the value
 abbrev pub invalid_value : Text → Text → Text
@@ -73,9 +82,9 @@ listed (text ∷ next ∷ others) = text ++ codes ", " ++ listed (next ∷ other
 unfoldable pub known_codes : Text
 known_codes = listed (map code_of remarks)
 
--- what is said after a part of `--ignore` that is neither a code nor the word `comments`
+-- what is said after a part of `--ignore` that is neither a code nor a class nor the word `comments`
 abbrev pub not_ignorable : Text
-not_ignorable = codes "' for '--ignore <CODES>'\n  [possible values: " ++ known_codes ++ codes ", comments]\n\nFor more information, try '--help'.\n"
+not_ignorable = codes "' for '--ignore <CODES>'\n  [possible values: " ++ known_codes ++ codes ", V, S, H, W, I, comments]\n\nFor more information, try '--help'.\n"
 
 -- what is said about matches that are refused
 abbrev pub said_of : Refusal → List Row → Text
@@ -83,6 +92,6 @@ said_of TwoDatabases rows = codes "error: the argument '--index <FILE>' cannot b
 said_of TwoAnswers rows = codes "error: the argument '--questions' cannot be used with '--sources' or '--why <FILE[:LINE]>'\n\nUsage: devdry events --questions [FILE]...\n\nFor more information, try '--help'.\n"
 said_of EmptyRoot rows = codes "error: an empty value of '--root <DIR>' names no folder\n\nFor more information, try '--help'.\n"
 said_of EmptySide rows = codes "error: an empty value of '<OLD>' or '<NEW>' names no folder; '/' is that of the running system\n\nFor more information, try '--help'.\n"
-said_of NoUdev rows = codes "error: the arguments '--users <FILE>' and '--groups <FILE>' need '--udev'\n\nUsage: devdry verify --udev --users <FILE> --groups <FILE> [FILE]...\n\nFor more information, try '--help'.\n"
+said_of NoUdev rows = codes "error: the arguments '--users <FILE>' and '--groups <FILE>' need '--udev' or '--strict'\n\nUsage: devdry verify --udev --users <FILE> --groups <FILE> [FILE]...\n\nFor more information, try '--help'.\n"
 said_of UnknownFormat rows = invalid_value (text_of (codes "format") rows) no_such_format
 said_of UnknownPart rows = invalid_value (unwrap_or (unknown_part rows) []) not_ignorable

@@ -18,7 +18,7 @@ const STATUSES: &str = "Status:
      --strict was given, or an event block is faulty, or a
      line of query - is too long, or there are too many rules
      or entries, or the index is refused, or compare found a
-     difference, or files or --all no file
+     difference, or files, compare or --all no file
   2  the command line is wrong
   3  a file, a folder, the input or an output failed
   4  out of memory
@@ -36,6 +36,14 @@ Examples:
 const DATABASE_FILES: &str = "Database files to read in place of the folders";
 
 const RULES_FILES: &str = "Rules files to read in place of the folders";
+
+const MESSAGES_FAIL: &str = "Exit with status 1 if there is a message";
+
+const EVERY_CHECK: &str = "Make every check: --lint, --udev, --all, users and groups of the root";
+
+const LINT_RULES: &str = "Also tell of rules that are most likely not the ones that were meant";
+
+const LINT_RECORDS: &str = "Also tell of lines that are most likely not the ones that were meant";
 
 const READ_AS_UDEV: &str = "Read rules as udev itself reads them";
 
@@ -62,11 +70,12 @@ fn flag<'a>(alloc: Global, name: &'a str, help: &'a str) -> Arg<'a>
         .help(help)
 }
 
-/// `-s` of `update`: a message makes the status 1.
-fn strict_flag<'a>(alloc: Global) -> Arg<'a>
+/// `-s`, `--strict`, with the help that its subcommand has for it: a message makes the status of `update` 1, and
+/// `verify` makes every check.
+fn strict_flag<'a>(alloc: Global, help: &'a str) -> Arg<'a>
     ensures { (rule_of result ≡ strict_rule) × (result.global ≡ false) }
 {
-    flag(alloc, "strict", "Exit with status 1 if there is a message").short('s')
+    flag(alloc, "strict", help).short('s')
 }
 
 /// `--sources`: each line says where it comes from.
@@ -126,15 +135,11 @@ fn no_style_flag<'a>(alloc: Global) -> Arg<'a>
     flag(alloc, "no-style", "Give no messages about style")
 }
 
-/// `--lint`: rules that are most likely not the ones that were meant are reported, too.
-fn lint_flag<'a>(alloc: Global) -> Arg<'a>
+/// `--lint`: what is most likely not what was meant is reported, too; with the help that its subcommand has for it.
+fn lint_flag<'a>(alloc: Global, help: &'a str) -> Arg<'a>
     ensures { (rule_of result ≡ flag_rule (codes "lint")) × (result.global ≡ false) }
 {
-    flag(
-        alloc,
-        "lint",
-        "Also tell of rules that are most likely not the ones that were meant",
-    )
+    flag(alloc, "lint", help)
 }
 
 /// `--udev`, with the help that its subcommand has for it.
@@ -205,7 +210,7 @@ fn ignore_option<'a>(alloc: Global) -> Arg<'a>
         .long("ignore")
         .value_name("CODES")
         .action(ArgAction::Append)
-        .help("Leave out the messages of these codes, as V6,S2; comments: as the files say")
+        .help("Leave out the messages of these codes, as V6,S; comments: as the files say")
 }
 
 /// An argument that has to be given.
@@ -261,10 +266,11 @@ fn update_command<'a>(alloc: Global) -> Result<Command<'a>, AllocError>
     Command::new(alloc, "update")
         .about("Checks the files of the hardware database and writes its index")
         .arg(root_option(alloc))?
-        .arg(strict_flag(alloc))?
+        .arg(strict_flag(alloc, MESSAGES_FAIL))?
         .arg(all_flag(alloc))?
         .arg(format_option(alloc))?
         .arg(ignore_option(alloc))?
+        .arg(lint_flag(alloc, LINT_RECORDS))?
         .arg(files_argument(alloc, DATABASE_FILES))
 }
 
@@ -276,6 +282,7 @@ fn query_command<'a>(alloc: Global) -> Result<Command<'a>, AllocError>
         .about("Prints the properties that the hardware database has for a device")
         .override_usage("devdry query [OPTIONS] <MODALIAS> [FILE]...")
         .arg(root_option(alloc))?
+        .arg(all_flag(alloc))?
         .arg(sources_flag(alloc))?
         .arg(index_option(alloc))?
         .arg(modalias_argument(alloc))?
@@ -289,12 +296,13 @@ fn verify_command<'a>(alloc: Global) -> Result<Command<'a>, AllocError>
     Command::new(alloc, "verify")
         .about("Checks rules files")
         .arg(root_option(alloc))?
+        .arg(strict_flag(alloc, EVERY_CHECK))?
         .arg(all_flag(alloc))?
         .arg(format_option(alloc))?
         .arg(ignore_option(alloc))?
         .arg(no_summary_flag(alloc))?
         .arg(no_style_flag(alloc))?
-        .arg(lint_flag(alloc))?
+        .arg(lint_flag(alloc, LINT_RULES))?
         .arg(udev_flag(alloc, READ_AS_UDEV))?
         .arg(users_option(alloc))?
         .arg(groups_option(alloc))?
@@ -308,6 +316,7 @@ fn events_command<'a>(alloc: Global) -> Result<Command<'a>, AllocError>
     Command::new(alloc, "events")
         .about("Answers the event blocks of the standard input")
         .arg(root_option(alloc))?
+        .arg(all_flag(alloc))?
         .arg(sources_flag(alloc))?
         .arg(why_option(alloc))?
         .arg(questions_flag(alloc))?
@@ -331,6 +340,7 @@ fn compare_command<'a>(alloc: Global) -> Result<Command<'a>, AllocError>
 {
     Command::new(alloc, "compare")
         .about("Tells where two systems answer the event blocks of the standard input differently")
+        .arg(all_flag(alloc))?
         .arg(index_option(alloc))?
         .arg(udev_flag(alloc, EVALUATE_AS_UDEV))?
         .arg(old_argument(alloc))?

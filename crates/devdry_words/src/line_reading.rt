@@ -1,9 +1,10 @@
 //! The line that the matches of a parse mean.
 ghost use Rattle.std.specs.Prelude.{◌≡◌, IfOk};
 ghost use Rattle.clap.specs.Words.{first_of, found_of, rows_of};
-ghost use Rattle.devdry_words.specs.Lines.{IsUnreadFile, Reads, color_named, color_of, format_named, format_of, input_name_of, profile_of};
+ghost use Rattle.devdry_words.specs.Lines.{IsUnreadFile, Reads, account_path, asks_every, color_named, color_of, format_named, format_of, input_name_of, is_set_or_every, profile_of};
 
-use crate::values::{is_given, parts, text, texts, value};
+use crate::ignored::ignored_codes;
+use crate::values::{is_given, text, texts, value};
 use clap::ArgMatches;
 use engine_ends::{AccountFile, Color, Format, Line, Verb};
 use std::alloc::{AllocError, Global};
@@ -67,27 +68,63 @@ fn input_name_of<'a>(matches: &ArgMatches<'a>) -> &'a str
     }
 }
 
-/// The profile by which matches ask to read and evaluate rules.
-fn profile_of(matches: &ArgMatches<'_>) -> Profile
-    ensures { result ≡ profile_of (rows_of (found_of matches.now)) }
+/// Whether every check is asked for: `verify` is strict.
+fn asks_every(verb: Verb, matches: &ArgMatches<'_>) -> bool
+    ensures { result ≡ asks_every verb (rows_of (found_of matches.now)) }
 {
-    if is_given(matches, "udev") {
+    match verb {
+        Verb::Verify => is_given(matches, "strict"),
+        Verb::Update | Verb::Query | Verb::Events => false,
+    }
+}
+
+/// Whether a flag is given, or every check is asked for, which is more.
+fn is_given_or_every(verb: Verb, matches: &ArgMatches<'_>, id: &str) -> bool
+    ensures { result ≡ is_set_or_every verb id.now (rows_of (found_of matches.now)) }
+{
+    is_given(matches, id) || asks_every(verb, matches)
+}
+
+/// The profile by which matches ask to read and evaluate rules.
+fn profile_of(verb: Verb, matches: &ArgMatches<'_>) -> Profile
+    ensures { result ≡ profile_of verb (rows_of (found_of matches.now)) }
+{
+    if is_given_or_every(verb, matches, "udev") {
         Profile::Udev
     } else {
         Profile::Manual
     }
 }
 
-/// The file of users or groups that an option names, if it was given. None of its bytes has been read yet.
-fn account_file<'a>(alloc: Global, matches: &ArgMatches<'a>, id: &str) -> Option<AccountFile<'a>>
-    ensures { IsUnreadFile (first_of id.now (rows_of (found_of matches.now))) result }
+/// A file of users or groups, of which no byte has been read yet.
+fn unread_file<'a>(alloc: Global, path: &'a str, of_root: bool) -> AccountFile<'a>
+    ensures place { (result.path.now, result.of_root) ≡ (path.entry.now, of_root) }
+    ensures unread { result.bytes ≡ [] }
 {
-    let path = value(matches, id)?;
-    Some(AccountFile {
+    AccountFile {
         path,
-        of_root: false,
+        of_root,
         bytes: Bytes::new(Vec::new(alloc)),
-    })
+    }
+}
+
+/// The file of users or groups that an option names, if it was given; if it was not and every check is asked for,
+/// that of the root, at its own path. None of its bytes has been read yet.
+fn account_file<'a>(
+    alloc: Global,
+    verb: Verb,
+    matches: &ArgMatches<'a>,
+    id: &str,
+    own: &'a str,
+) -> Option<AccountFile<'a>>
+    ensures { IsUnreadFile (account_path (asks_every verb (rows_of (found_of matches.now)))
+        (first_of id.now (rows_of (found_of matches.now))) own.entry.now) result }
+{
+    match value(matches, id) {
+        Some(path) => Some(unread_file(alloc, path, false)),
+        None if asks_every(verb, matches) => Some(unread_file(alloc, own, true)),
+        None => None,
+    }
 }
 
 /// The line of a verb below a root, with these matches.
@@ -113,14 +150,13 @@ pub(crate) fn line_with<'a>(
         modalias: text(matches, "MODALIAS"),
         summary: !is_given(matches, "no-summary"),
         style: !is_given(matches, "no-style"),
-        lint: is_given(matches, "lint"),
+        lint: is_given_or_every(verb, matches, "lint"),
         format: format_of(matches).unwrap_or(Format::Plain),
         color: color_of(matches).unwrap_or(Color::Auto),
-        all: is_given(matches, "all"),
-        ignored: parts(alloc, matches, "ignore")?,
-        profile: profile_of(matches),
-        users: account_file(alloc, matches, "users"),
-        groups: account_file(alloc, matches, "groups"),
-        links: Vec::new(alloc),
+        all: is_given_or_every(verb, matches, "all"),
+        ignored: ignored_codes(alloc, matches)?,
+        profile: profile_of(verb, matches),
+        users: account_file(alloc, verb, matches, "users", "/etc/passwd"),
+        groups: account_file(alloc, verb, matches, "groups", "/etc/group"),
     })
 }

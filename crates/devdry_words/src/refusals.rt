@@ -41,7 +41,8 @@ const EMPTY_SIDE: &str =
 For more information, try '--help'.
 ";
 
-const NO_UDEV: &str = "error: the arguments '--users <FILE>' and '--groups <FILE>' need '--udev'
+const NO_UDEV: &str =
+    "error: the arguments '--users <FILE>' and '--groups <FILE>' need '--udev' or '--strict'
 
 Usage: devdry verify --udev --users <FILE> --groups <FILE> [FILE]...
 
@@ -88,11 +89,25 @@ fn asks_both(matches: &ArgMatches<'_>) -> bool
     is_given(matches, "questions") & (is_given(matches, "sources") | has_value(matches, "why"))
 }
 
+/// Whether the matches of a subcommand are those of a strict `verify`, and so ask for every check.
+fn is_strict(name: &str, matches: &ArgMatches<'_>) -> bool
+    ensures { result ≡ is_strict name.now (rows_of (found_of matches.now)) }
+{
+    (name == "verify") & is_given(matches, "strict")
+}
+
+/// Whether the matches of a subcommand ask for all.
+fn asks_all(name: &str, matches: &ArgMatches<'_>) -> bool
+    ensures { result ≡ asks_all name.now (rows_of (found_of matches.now)) }
+{
+    is_given(matches, "all") | is_strict(name, matches)
+}
+
 /// Whether the matches of a subcommand ask for all, or which files count, below a root that is given and empty.
 fn lacks_root(name: &str, matches: &ArgMatches<'_>) -> bool
     ensures { result ≡ lacks_root name.now (rows_of (found_of matches.now)) }
 {
-    (is_given(matches, "all") | (name == "files")) & is_empty(matches, "root")
+    (asks_all(name, matches) | (name == "files")) & is_empty(matches, "root")
 }
 
 /// Whether a root that matches compare is empty.
@@ -103,11 +118,11 @@ fn lacks_side(matches: &ArgMatches<'_>) -> bool
 }
 
 /// Whether matches name users or groups, and do not ask to read rules as udev reads them.
-fn lacks_udev(matches: &ArgMatches<'_>) -> bool
-    ensures { result ≡ lacks_udev (rows_of (found_of matches.now)) }
+fn lacks_udev(name: &str, matches: &ArgMatches<'_>) -> bool
+    ensures { result ≡ lacks_udev name.now (rows_of (found_of matches.now)) }
 {
     (value(matches, "users").is_some() | value(matches, "groups").is_some())
-        & !is_given(matches, "udev")
+        & !(is_given(matches, "udev") | is_strict(name, matches))
 }
 
 /// Why a value of matches that has to be one of a few is refused, if it is.
@@ -135,7 +150,7 @@ pub(crate) fn refusal_of(name: &str, matches: &ArgMatches<'_>) -> Option<Refusal
         Some(Refusal::EmptyRoot)
     } else if lacks_side(matches) {
         Some(Refusal::EmptySide)
-    } else if lacks_udev(matches) {
+    } else if lacks_udev(name, matches) {
         Some(Refusal::NoUdev)
     } else {
         unknown_value(matches)
@@ -157,7 +172,7 @@ pub(crate) fn usage_of(alloc: Global, refusal: Refusal, matches: &ArgMatches<'_>
             alloc,
             unknown_text(matches),
             "' for '--ignore <CODES>'\n  [possible values: ",
-            ", comments]\n\nFor more information, try '--help'.\n",
+            ", V, S, H, W, I, comments]\n\nFor more information, try '--help'.\n",
         ),
     }
 }

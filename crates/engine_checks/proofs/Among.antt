@@ -9,13 +9,13 @@ use Rattle.engine_ends.specs.declared.line.Line.{Line}
 use Rattle.engine_formats.specs.Diagnostics.{DiagnosticValue}
 use Rattle.engine_formats.specs.Remarks.{code_of}
 use Rattle.engine_formats.specs.declared.remark.Remark.{Remark}
-use Rattle.engine_formats.specs.declared.remark.Remark.TheVariants.{Message, Lint, IdleIgnore, UnknownCode}
+use Rattle.engine_formats.specs.declared.remark.Remark.TheVariants.{Message, Lint, DatabaseLint, IdleIgnore, UnknownCode}
 use Rattle.engine_checks.specs.Codes.{has_comments, is_found}
-use Rattle.engine_checks.specs.Files.{asked_by, database_diagnostic, database_found, database_reported, file_text, findings_of, ignored_by, ignores_counted, lint_diagnostic, lints_counted, rule_diagnostic, rules_found, rules_reported}
+use Rattle.engine_checks.specs.Files.{asked_by, database_diagnostic, database_found, database_lint_diagnostic, database_lints_counted, database_reported, file_text, findings_of, ignored_by, ignores_counted, lint_diagnostic, lints_counted, rule_diagnostic, rules_found, rules_reported}
 use Rattle.engine_checks.specs.Ignores.{Ignore, ignores_in}
 use Rattle.engine_checks.specs.Laws.{found_among, messages_in, remarks_among}
 use Rattle.engine_checks.specs.Reported.{Asked, FileText, comment_diagnostic, comment_diagnostics, file_reported, is_about_style, is_asked, is_lint, is_reported, is_unknown, silences}
-use Rattle.engine_checks.proofs.AsBefore.{messages_alone, none_among}
+use Rattle.engine_checks.proofs.AsBefore.{database_alone, messages_alone, none_among}
 use Rattle.engine_checks.proofs.Merged.{both_hold, filter_all, filter_alike, filter_swap, first_left, others_left}
 
 -- what is said of comments is not about what is found
@@ -36,6 +36,7 @@ anyway false known = refl
 asked_anyway : (asked : Asked) (remark : Remark) → is_found remark ≡ false → is_asked asked remark ≡ not (is_among asked.ignored (code_of remark))
 asked_anyway asked (Message kind) e = cc
 asked_anyway asked (Lint l) e = cc
+asked_anyway asked (DatabaseLint l) e = cc
 asked_anyway asked IdleIgnore e = anyway asked.style (is_among asked.ignored (code_of IdleIgnore))
 asked_anyway asked UnknownCode e = anyway asked.style (is_among asked.ignored (code_of UnknownCode))
 
@@ -74,7 +75,10 @@ rules_are_found line file =
     (All-map (λ d. is_found d.remark ≡ true) (lint_diagnostic (file_text line file)) (lints_counted (asked_by line) file) (λ k d h. refl))
 
 database_is_found : (line : Line) (file : SourceFile) → All (λ d. is_found d.remark ≡ true) (database_found line file)
-database_is_found line file = All-map (λ d. is_found d.remark ≡ true) (database_diagnostic (file_text line file)) (messages_of (file ∷ [])) (λ k d h. refl)
+database_is_found line file =
+    both_hold (λ d. is_found d.remark ≡ true) (map (database_diagnostic (file_text line file)) (messages_of (file ∷ []))) (map (database_lint_diagnostic (file_text line file)) (database_lints_counted (asked_by line) file))
+    (All-map (λ d. is_found d.remark ≡ true) (database_diagnostic (file_text line file)) (messages_of (file ∷ [])) (λ k d h. refl))
+    (All-map (λ d. is_found d.remark ≡ true) (database_lint_diagnostic (file_text line file)) (database_lints_counted (asked_by line) file) (λ k d h. refl))
 
 module _ (line : Line) (file : SourceFile) (counts : has_comments (ignored_by line) ≡ true) where
   counted : ignores_counted (asked_by line) file ≡ ignores_in line.profile file
@@ -141,6 +145,15 @@ module _ (line : Line) (file : SourceFile) (counts : has_comments (ignored_by li
           subst (λ ds. All (λ d. is_counted line.lint d ≡ true) ds) (sym (messages_alone line file e counts))
           (All-map (λ d. is_counted line.lint d ≡ true) (rule_diagnostic (file_text line file)) (findings_of line file) (λ k d h. refl))
 
+  database_counted : All (λ d. is_counted line.lint d ≡ true) (database_found line file)
+  database_counted = by line.lint refl
+    where
+      by : (lint : Bool) → line.lint ≡ lint → All (λ d. is_counted line.lint d ≡ true) (database_found line file)
+      by true e = All-weaker (λ d. is_found d.remark ≡ true) (λ d. is_counted line.lint d ≡ true) (λ d h. asked_lint (is_lint d.remark) line.lint e) (database_found line file) (database_is_found line file)
+      by false e =
+          subst (λ ds. All (λ d. is_counted line.lint d ≡ true) ds) (sym (database_alone line file e counts))
+          (All-map (λ d. is_counted line.lint d ≡ true) (database_diagnostic (file_text line file)) (messages_of (file ∷ [])) (λ k d h. refl))
+
   pub rules_plainly_reported : rules_reported line file ≡ filter (λ d. (line.style || not (is_about_style d.remark)) && not (is_among (ignored_by line) (code_of d.remark))) (rules_found line file)
   unfolding rules_reported
   rules_plainly_reported =
@@ -152,7 +165,7 @@ module _ (line : Line) (file : SourceFile) (counts : has_comments (ignored_by li
   database_plainly_reported =
       ap (λ is. file_reported (asked_by line) (file_text line file) is (database_found line file)) uncounted
       ∙ plainly_reported (asked_by line) (file_text line file) (database_found line file)
-      (All-map (λ d. is_counted line.lint d ≡ true) (database_diagnostic (file_text line file)) (messages_of (file ∷ [])) (λ k d h. refl))
+      database_counted
 
   -- only messages are reported if lints are not asked for
   pub messages_plainly_reported : line.lint ≡ false → rules_reported line file ≡ filter (λ d. (line.style || not (is_about_style d.remark)) && not (is_among (ignored_by line) (code_of d.remark))) (messages_in line file)

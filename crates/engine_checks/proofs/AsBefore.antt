@@ -9,6 +9,8 @@ use Rattle.text_bytes.specs.declared.source_file.SourceFile.{SourceFile}
 use Rattle.text_bytes.specs.declared.source_file.FileKind.TheVariants.{Rules}
 use Rattle.text_tables.specs.Texts.{Text}
 use Rattle.file_messages.specs.declared.message.MessageKind.{MessageKind}
+use Rattle.hwdb_core.specs.Sources.{messages_of}
+use Rattle.hwdb_lints.specs.Lints.{database_lints}
 use Rattle.rule_types.specs.Rules.{tokens_in}
 use Rattle.rule_core.specs.Ends.{file_as_read}
 use Rattle.rule_core.specs.Rules.{file_messages, set_of_as}
@@ -27,9 +29,9 @@ use Rattle.engine_formats.specs.Diagnostics.{DiagnosticValue}
 use Rattle.engine_formats.specs.Formats.{formatted}
 use Rattle.engine_formats.specs.Made.{AreMadeFrom, IsMadeFrom}
 use Rattle.engine_checks.specs.Codes.{has_comments}
-use Rattle.engine_checks.specs.Files.{accounts_by, asked_by, file_text, findings_of, found_with, ignored_by, ignores_counted, rule_diagnostic, rules_found, rules_reported}
+use Rattle.engine_checks.specs.Files.{accounts_by, asked_by, database_diagnostic, database_found, database_found_with, file_text, findings_of, found_with, ignored_by, ignores_counted, rule_diagnostic, rules_found, rules_reported}
 use Rattle.engine_checks.specs.Laws.{messages_in}
-use Rattle.engine_checks.specs.Outcomes.{checks_outcome, checks_said, rules_checks}
+use Rattle.engine_checks.specs.Outcomes.{checks_outcome, checks_said, in_format, rules_checks}
 use Rattle.engine_checks.specs.Reported.{Asked, FileText, merged, file_reported, is_reported}
 use Rattle.engine_checks.proofs.ByLines.{alone}
 
@@ -72,6 +74,14 @@ messages_alone line file unasked counts =
     ap (λ b. found_with (file_text line file) (findings_of line file) (cond (b || has_comments (ignored_by line)) (placed_lints line.profile file) [])) unasked
     ∙ ap (λ b. found_with (file_text line file) (findings_of line file) (cond b (placed_lints line.profile file) [])) counts
     ∙ none_among (messages_in line file)
+
+-- the same of a file of a database
+pub database_alone : (line : Line) (file : SourceFile) → line.lint ≡ false → has_comments (ignored_by line) ≡ false
+    → database_found line file ≡ map (database_diagnostic (file_text line file)) (messages_of (file ∷ []))
+database_alone line file unasked counts =
+    ap (λ b. database_found_with (file_text line file) (messages_of (file ∷ [])) (cond (b || has_comments (ignored_by line)) (database_lints file.bytes) [])) unasked
+    ∙ ap (λ b. database_found_with (file_text line file) (messages_of (file ∷ [])) (cond b (database_lints file.bytes) [])) counts
+    ∙ none_among (map (database_diagnostic (file_text line file)) (messages_of (file ∷ [])))
 
 -- a line that ignores nothing and asks for no lints
 plainly_asked : (line : Line) → line.lint ≡ false → ignored_by line ≡ [] → asked_by line ≡ plain (asked_by line) line.style
@@ -122,7 +132,8 @@ same_names (m ∷ ms) (d ∷ ds) made = ap₂ (λ n ns. n ∷ ns) made.0.name (s
 module _ (plainly : (ms : List Message) (ds : List DiagnosticValue) → AreMadeFrom ms ds → formatted Plain ds ≡ message_lines ms) where
   same_said : (line : Line) (files : List SourceFile) (ms : List Message) (ds : List DiagnosticValue) → line.format ≡ Plain → AreMadeFrom ms ds → checks_said line files ds ≡ said_of line.summary files ms
   same_said line files ms ds format made =
-      ap₂ (files_said line.summary files) (same_names ms ds made) (ap (λ f. formatted f ds) format ∙ plainly ms ds made)
+      ap (λ f. in_format f (files_said line.summary files (map (λ d. d.name) ds) (formatted line.format ds))) format
+      ∙ ap₂ (files_said line.summary files) (same_names ms ds made) (ap (λ f. formatted f ds) format ∙ plainly ms ds made)
 
   same_rules : (line : Line) (files : List SourceFile) → line.profile ≡ Manual → line.format ≡ Plain → line.lint ≡ false → ignored_by line ≡ [] → rules_checks line files ≡ rules_outcome line files
   unfolding rules_checks rules_outcome set_of_as

@@ -7,6 +7,7 @@ use Rattle.text_tables.specs.Texts.{Text, is_among}
 use Rattle.hwdb_core.specs.Sources.{WithinBounds, entries_of, messages_of}
 use Rattle.hwdb_core.specs.declared.fault.HwdbFault.{HwdbFault}
 use Rattle.hwdb_core.specs.declared.fault.HwdbFault.TheVariants as hwdb
+use Rattle.hwdb_lints.specs.Lints.{database_lints}
 use Rattle.rule_types.specs.Rules.{tokens_in}
 use Rattle.rule_core.specs.Rules.{set_of_as}
 use Rattle.rule_file_lints.specs.FileLints.{placed_lints}
@@ -19,10 +20,10 @@ use Rattle.engine_formats.specs.Diagnostics.{DiagnosticValue}
 use Rattle.engine_formats.specs.Remarks.{code_of}
 use Rattle.engine_formats.specs.declared.remark.Remark.{Remark}
 use Rattle.engine_checks.specs.Codes.{comments_word, has_comments}
-use Rattle.engine_checks.specs.Files.{accounts_by, asked_by, database_found, database_reported, file_text, findings_of, found_with, ignored_by, ignores_counted, lints_counted, reported_for, rules_found, rules_reported}
+use Rattle.engine_checks.specs.Files.{accounts_by, asked_by, database_found, database_found_with, database_reported, file_text, findings_of, found_with, ignored_by, ignores_counted, lints_counted, reported_for, rules_found, rules_reported}
 use Rattle.engine_checks.specs.Ignores.{Ignore, ignores_in}
 use Rattle.engine_checks.specs.Outcomes.{checks_said, database_checks, rules_checks, entries_said}
-use Rattle.engine_checks.specs.Tables.{database_reported_by, read_by, rules_found_by, rules_reported_by}
+use Rattle.engine_checks.specs.Tables.{database_found_by, database_reported_by, read_by, rules_found_by, rules_reported_by}
 use Rattle.engine_checks.specs.Reported.{Asked, FileText, merged, comment_diagnostics, file_reported, is_about_style, is_asked, is_lint, is_reported, is_silenced}
 
 same_filter : {X : Type 0} (p q : X → Bool) (xs : List X) → ((x : X) → p x ≡ q x) → filter p xs ≡ filter q xs
@@ -65,9 +66,15 @@ module _ (line : Line) (asked : Asked) (p : asked.profile ≡ line.profile) (a :
   unfolding rules_reported
   rules_file file = ap (file_reported asked (file_text line file) (ignores_counted asked file)) (found_file file) ∙ one_file file (rules_found line file)
 
+  -- what is found in a file of a database, by tables
+  found_database : (file : SourceFile) → database_found_by asked (read_by line file) ≡ database_found line file
+  found_database file =
+      ap (λ b. database_found_with (file_text line file) (messages_of (file ∷ [])) (cond (b || has_comments asked.ignored) (database_lints file.bytes) [])) l
+      ∙ ap (λ b. database_found_with (file_text line file) (messages_of (file ∷ [])) (cond (line.lint || b) (database_lints file.bytes) [])) (e comments_word)
+
   database_file : (file : SourceFile) → database_reported_by asked (read_by line file) ≡ database_reported line file
   unfolding database_reported
-  database_file file = one_file file (database_found line file)
+  database_file file = ap (file_reported asked (file_text line file) (ignores_counted asked file)) (found_database file) ∙ one_file file (database_found line file)
 
   -- rules files that are read, by tables
   pub files_by : (files : List SourceFile) → flat_map (rules_reported_by asked) (map (read_by line) files) ≡ flat_map (rules_reported line) files

@@ -5,11 +5,13 @@ use Rattle.std.specs.Cmp.Lexicographic.{bytes_decides}
 use Rattle.text_bytes.specs.Texts.{split_once}
 use Rattle.file_messages.specs.declared.message.MessageKind.TheVariants.{PropertyWithoutMatch, MatchWithoutProperty, UnindentedLine, NoEquals, EmptyKey, PatternNotSupported, BadSyntax, UnknownKey, OperatorNotAllowed, WrongAttribute, BadValue, BadSubstitution, NoLaterLabel, GivenTwice, LineTooLong, BadPrefix, SetNotSupported, OpenAtEnd, ReservedProperty, NameWithoutEffect, UnknownBuiltin, MatchesExclude, SaidTwice, RuleWithoutEffect, ResultBeforeProgram, EmptyValue, BadAttributeSubstitution, AttributeElsewhere, OldSubsystemName, AssignExpected, UnknownAccount, FileAbandoned, CommaExpected, BlankExpected, ReadAsAssign, LabelUnused, LeadingComma, BlankBeforeComma}
 use Rattle.rule_lints.specs.declared.lint.Lint.TheVariants.{ModeNotOctal, SignOfShell, RelativeProgram, LetterCase, NoSuchDevice, ImportedBelow, MeantToCompare, NameOutsideNet, LinkWithDev, QuotedName, NotAPattern, AlwaysHolds, NeverReached, NoPatternForUdev}
+use Rattle.hwdb_lints.specs.declared.lint.DatabaseLint.TheVariants.{DigitCase, NoModalias, EndMissing, UnknownPrefix, MatchTwice, PropertyTwice, BlankAtEquals}
+use Rattle.hwdb_lints.specs.declared.lint.DatabaseLint.TheVariants.{OddName, BlankAtEnd, ByteOrderMark, CutWord, OpenSet, WrongValue}
 use Rattle.text_tables.specs.Texts.{Text, same_text}
 use Rattle.engine_formats.specs.Codes.{remark_of, remarks}
 use Rattle.engine_formats.specs.Remarks.{code_of, heading_parts}
 use Rattle.engine_formats.specs.declared.remark.Remark.{Remark}
-use Rattle.engine_formats.specs.declared.remark.Remark.TheVariants.{Message, Lint, IdleIgnore, UnknownCode}
+use Rattle.engine_formats.specs.declared.remark.Remark.TheVariants.{Message, Lint, DatabaseLint, IdleIgnore, UnknownCode}
 use Rattle.engine_checks.specs.Codes.{is_code, is_found}
 
 -- each remark is found by its code
@@ -67,6 +69,19 @@ each_found (Lint NotAPattern) = refl
 each_found (Lint AlwaysHolds) = refl
 each_found (Lint NeverReached) = refl
 each_found (Lint NoPatternForUdev) = refl
+each_found (DatabaseLint DigitCase) = refl
+each_found (DatabaseLint NoModalias) = refl
+each_found (DatabaseLint EndMissing) = refl
+each_found (DatabaseLint UnknownPrefix) = refl
+each_found (DatabaseLint MatchTwice) = refl
+each_found (DatabaseLint PropertyTwice) = refl
+each_found (DatabaseLint BlankAtEquals) = refl
+each_found (DatabaseLint OddName) = refl
+each_found (DatabaseLint BlankAtEnd) = refl
+each_found (DatabaseLint ByteOrderMark) = refl
+each_found (DatabaseLint CutWord) = refl
+each_found (DatabaseLint OpenSet) = refl
+each_found (DatabaseLint WrongValue) = refl
 each_found IdleIgnore = refl
 each_found UnknownCode = refl
 

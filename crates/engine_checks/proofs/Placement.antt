@@ -1,5 +1,5 @@
 -- The codes of comments, at their columns.
-use Rattle.std.proofs.Common.{◌≡◌, ℕ, zero, suc, ◌+◌, ◌-◌, ◌^◌, ◌<◌, ◌≤◌, ◌==◌, Bool, true, false, cond, List, [], ◌∷◌, ◌++◌, append-nil, codes, length, take, drop, get_or, All, Option, Some, None, refl, ap, sym, ◌∙◌, subst, arith, length-append, length-drop, append_assoc, take-append-drop}
+use Rattle.std.proofs.Common.{◌≡◌, ℕ, zero, suc, ◌+◌, ◌-◌, ◌^◌, ◌<◌, ◌≤◌, ◌==◌, Bool, true, false, cond, List, [], ◌∷◌, ◌++◌, append-nil, codes, length, take, drop, get_or, All, Option, Some, None, refl, ap, sym, ◌∙◌, subst, arith, length-append, length-drop, append_assoc, take-append-drop, unwrap_or}
 use Rattle.std.specs.List.{onto_first, prefix_len, slice_split, suffix_len}
 use Rattle.std.proofs.lemmas.List.{drop-append-le, drop-drop, drop_at, length-take-le, take-append-le}
 use Rattle.std.proofs.lemmas.List.Elements.{All-append, All-cons, All-from_get_or, All-get_or, All-head, All-nil, All-tail}
@@ -14,7 +14,7 @@ use Rattle.text_bytes.specs.declared.source_file.FileKind.TheVariants.{Hwdb, Rul
 use Rattle.text_bytes.specs.declared.source_file.SourceFile.{SourceFile}
 use Rattle.text_tables.specs.Texts.{Text, same_text}
 use Rattle.engine_formats.specs.Placing.{line_numbered}
-use Rattle.engine_checks.specs.Ignores.{asked_by, asked_or, code_column, code_in, comment_of, ignore_at, ignores_after, ignores_among, ignores_asked, ignores_at, ignores_in, ignores_of_line, next_after, starts_of, texts_of}
+use Rattle.engine_checks.specs.Ignores.{asked_by, asked_or, before_reason, code_column, code_in, comment_of, ignore_at, ignores_after, ignores_among, ignores_asked, ignores_at, ignores_in, ignores_of_line, next_after, reason_place, starts_of, texts_of}
 use Rattle.engine_checks.specs.Laws.{IsInLine}
 use Rattle.engine_checks.specs.declared.ignores.Scope.{Scope}
 use Rattle.engine_checks.specs.declared.ignores.Scope.TheVariants.{File, Next, Unread}
@@ -30,15 +30,15 @@ dropped n text = (take n text, sym (take-append-drop n text))
 end_of_end : (whole text last : Text) → IsEnd whole text → IsEnd text last → IsEnd whole last
 end_of_end whole text last (prefix, e) (more, f) = (prefix ++ more, e ∙ ap (λ t. prefix ++ t) f ∙ sym (append_assoc prefix more last))
 
--- Texts are the parts of a text, which is made of them with a byte between each two.
+-- Texts are the parts of a text, which begins with them, with a byte between each two.
 abbrev pub AreParts : List Text → Text → Type 0
 AreParts [] text = ⊥
-AreParts (t ∷ []) text = text ≡ t
+AreParts (t ∷ []) text = (rest : Text) × (text ≡ t ++ rest)
 AreParts (t ∷ u ∷ ts) text = (b : ℕ) × ((rest : Text) × ((text ≡ t ++ b ∷ rest) × AreParts (u ∷ ts) rest))
 
 more_at_start : (b : ℕ) (ts : List Text) (text : Text) → AreParts ts text → AreParts (onto_first b ts) (b ∷ text)
 more_at_start b [] text h = absurd h
-more_at_start b (t ∷ []) text h = ap (λ x. b ∷ x) h
+more_at_start b (t ∷ []) text (rest, h) = (rest, ap (λ x. b ∷ x) h)
 more_at_start b (t ∷ u ∷ ts) text (c, (rest, (e, h))) = (c, (rest, (ap (λ x. b ∷ x) e, h)))
 
 cut_off : (b : ℕ) (ts : List Text) (text : Text) → AreParts ts text → AreParts ([] ∷ ts) (b ∷ text)
@@ -47,7 +47,7 @@ cut_off b (t ∷ ts) text h = (b, (text, (refl, h)))
 
 -- the parts between commas are such parts
 commas : (text : Text) → AreParts (slice_split (λ b. b == comma) text) text
-commas [] = refl
+commas [] = ([], refl)
 commas (b ∷ text) = by (b == comma) (commas text)
   where
     by : (v : Bool) → AreParts (slice_split (λ b. b == comma) text) text
@@ -55,10 +55,24 @@ commas (b ∷ text) = by (b == comma) (commas text)
     by true more = cut_off b (slice_split (λ b. b == comma) text) text more
     by false more = more_at_start b (slice_split (λ b. b == comma) text) text more
 
+-- parts of a text are those of one that goes on
+going_on : (ts : List Text) (text more : Text) → AreParts ts text → AreParts ts (text ++ more)
+going_on [] text more h = absurd h
+going_on (t ∷ []) text more (rest, h) = (rest ++ more, ap (λ x. x ++ more) h ∙ append_assoc t rest more)
+going_on (t ∷ u ∷ ts) text more (b, (rest, (e, h))) =
+    (b, (rest ++ more, (ap (λ x. x ++ more) e ∙ append_assoc t (b ∷ rest) more, going_on (u ∷ ts) rest more h)))
+
+-- the codes before a reason are such parts
+codes_are_parts : (list : Text) → AreParts (slice_split (λ b. b == comma) (before_reason list)) list
+codes_are_parts list =
+    let size : ℕ = unwrap_or (reason_place list) (length list) in
+    subst (λ t. AreParts (slice_split (λ b. b == comma) (take size list)) t) (take-append-drop size list)
+    (going_on (slice_split (λ b. b == comma) (take size list)) (take size list) (drop size list) (commas (take size list)))
+
 texts_are_parts : (scope : Scope) (text : Text) → AreParts (texts_of scope text) text
-texts_are_parts File text = commas text
-texts_are_parts (Next next) text = commas text
-texts_are_parts Unread text = refl
+texts_are_parts File text = codes_are_parts text
+texts_are_parts (Next next) text = codes_are_parts text
+texts_are_parts Unread text = ([], sym (append-nil text))
 
 -- what a comment asks for ends where its line does
 prefix_dropped : (prefix text rest : Text) → following prefix text ≡ Some rest → IsEnd text rest
@@ -116,9 +130,9 @@ module _ (bytes : List ℕ) (line : ℕ) (scope : Scope) (whole : Text) (there :
 
   all_in_place : (ts : List Text) (prefix text : Text) (column : ℕ) → AreParts ts text → column ≡ length prefix + 1 → whole ≡ prefix ++ text → All (IsInLine bytes) (ignores_at line scope column ts)
   all_in_place [] prefix text column parts at is = absurd parts
-  all_in_place (t ∷ []) prefix text column parts at is =
+  all_in_place (t ∷ []) prefix text column (rest, parts) at is =
       All-cons (IsInLine bytes) (ignore_at line scope column t) []
-      (one_in_place prefix t [] column at (is ∙ ap (λ x. prefix ++ x) (parts ∙ sym (append-nil t)))) (All-nil (IsInLine bytes))
+      (one_in_place prefix t rest column at (is ∙ ap (λ x. prefix ++ x) parts)) (All-nil (IsInLine bytes))
   all_in_place (t ∷ u ∷ ts) prefix text column (b, (rest, (e, parts))) at is =
       let more : whole ≡ (prefix ++ (t ++ b ∷ [])) ++ rest =
       is ∙ ap (λ x. prefix ++ x) (e ∙ sym (append_assoc t (b ∷ []) rest)) ∙ sym (append_assoc prefix (t ++ b ∷ []) rest) in

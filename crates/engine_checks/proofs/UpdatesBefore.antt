@@ -31,10 +31,11 @@ use Rattle.engine_formats.specs.Diagnostics.{DiagnosticValue}
 use Rattle.engine_formats.specs.Formats.{formatted}
 use Rattle.engine_formats.specs.Made.{AreMadeFrom}
 use Rattle.engine_formats.specs.Placing.{placed}
+use Rattle.engine_checks.specs.Codes.{has_comments}
 use Rattle.engine_checks.specs.Files.{asked_by, database_diagnostic, database_found, database_reported, file_text, ignored_by, ignores_counted}
-use Rattle.engine_checks.specs.Outcomes.{database_checks, entries_said, reported_update_outcome}
+use Rattle.engine_checks.specs.Outcomes.{database_checks, entries_said, in_format, reported_update_outcome}
 use Rattle.engine_checks.specs.Reported.{Asked, FileText, file_reported, is_reported}
-use Rattle.engine_checks.proofs.AsBefore.{all_asked, both_made}
+use Rattle.engine_checks.proofs.AsBefore.{all_asked, both_made, database_alone}
 
 -- A message of a database has the name of its file, and is not about style.
 pub record IsOf (name : Text) (m : Message) : Type 0 where
@@ -122,23 +123,24 @@ all_reported asked style file (m ∷ ms) h = by style (all_reported asked style 
 abbrev pub KeepsWords : SourceFile → Type 0
 KeepsWords file = length (lines file.bytes) < 2 ^ 32 → All (λ m. word_of (placed (numbered_lines file.bytes) m).word ≡ m.word) (messages_of (file ∷ []))
 
-file_made : (line : Line) (file : SourceFile) → KeepsWords file → ignored_by line ≡ [] → length (lines file.bytes) < 2 ^ 32 → AreMadeFrom (messages_of (file ∷ [])) (database_reported line file)
+file_made : (line : Line) (file : SourceFile) → KeepsWords file → line.lint ≡ false → ignored_by line ≡ [] → length (lines file.bytes) < 2 ^ 32 → AreMadeFrom (messages_of (file ∷ [])) (database_reported line file)
 unfolding database_reported
-file_made line file kept none few =
+file_made line file kept unasked none few =
     subst (λ ds. AreMadeFrom (messages_of (file ∷ [])) ds)
     (sym
     (ap (λ (codes : List Text). file_reported (record (asked_by line) { ignored = codes }) (file_text line file) (ignores_counted (record (asked_by line) { ignored = codes }) file) (database_found line file)) none
     ∙ all_asked (unsilenced (asked_by line) line.style) (file_text line file) (database_found line file)
+    ∙ ap (filter (is_reported (unsilenced (asked_by line) line.style) [])) (database_alone line file unasked (ap has_comments none))
     ∙ all_reported (asked_by line) line.style (file_text line file) (messages_of (file ∷ [])) (all_of file)))
     (all_made (file_text line file) (messages_of (file ∷ [])) (all_of file) (kept few))
 
-files_made : (line : Line) (files : List SourceFile) → ((file : SourceFile) → KeepsWords file) → ignored_by line ≡ [] → All (λ f. length (lines f.bytes) < 2 ^ 32) files → AreMadeFrom (messages_of files) (flat_map (database_reported line) files)
-files_made line [] kept none few = tt
-files_made line (file ∷ files) kept none few =
+files_made : (line : Line) (files : List SourceFile) → ((file : SourceFile) → KeepsWords file) → line.lint ≡ false → ignored_by line ≡ [] → All (λ f. length (lines f.bytes) < 2 ^ 32) files → AreMadeFrom (messages_of files) (flat_map (database_reported line) files)
+files_made line [] kept unasked none few = tt
+files_made line (file ∷ files) kept unasked none few =
     subst (λ ms. AreMadeFrom (ms ++ messages_of files) (database_reported line file ++ flat_map (database_reported line) files)) (append-nil (flat_map (cut_messages file.name) (cuts_of file)))
     (both_made (messages_of (file ∷ [])) (messages_of files) (database_reported line file) (flat_map (database_reported line) files)
-    (file_made line file (kept file) none (All-head (λ f. length (lines f.bytes) < 2 ^ 32) file files few))
-    (files_made line files kept none (All-tail (λ f. length (lines f.bytes) < 2 ^ 32) file files few)))
+    (file_made line file (kept file) unasked none (All-head (λ f. length (lines f.bytes) < 2 ^ 32) file files few))
+    (files_made line files kept unasked none (All-tail (λ f. length (lines f.bytes) < 2 ^ 32) file files few)))
 
 as_many : (ms : List Message) (ds : List DiagnosticValue) → AreMadeFrom ms ds → length ds ≡ length ms
 as_many [] [] made = refl
@@ -152,15 +154,15 @@ module _ (plainly : (ms : List Message) (ds : List DiagnosticValue) → AreMadeF
   same_said line files ds format made =
       let text : formatted line.format ds ≡ message_lines (messages_of files) = ap (λ f. formatted f ds) format ∙ plainly (messages_of files) ds made in
       let said : Text → ℕ → RunOutcome = λ (t : Text) (n : ℕ). record { output = image (entries_of files); messages = t; status = update_status line.strict n } in
-      ap (λ t. said t (length ds)) text ∙ ap (said (message_lines (messages_of files))) (as_many (messages_of files) ds made)
+      ap (λ f. in_format f (said (formatted line.format ds) (length ds))) format ∙ ap (λ t. said t (length ds)) text ∙ ap (said (message_lines (messages_of files))) (as_many (messages_of files) ds made)
 
-  same_database : (line : Line) (files : List SourceFile) → line.format ≡ Plain → ignored_by line ≡ [] → All (λ f. length (lines f.bytes) < 2 ^ 32) files
+  same_database : (line : Line) (files : List SourceFile) → line.format ≡ Plain → line.lint ≡ false → ignored_by line ≡ [] → All (λ f. length (lines f.bytes) < 2 ^ 32) files
       → database_checks line files ≡ database_outcome (update_outcome line) files
   unfolding database_checks database_outcome
-  same_database line files format none few =
-      ap (λ o. cond (are_few files) o too_many_entries) (same_said line files (flat_map (database_reported line) files) format (files_made line files kept none few))
+  same_database line files format unasked none few =
+      ap (λ o. cond (are_few files) o too_many_entries) (same_said line files (flat_map (database_reported line) files) format (files_made line files kept unasked none few))
 
   -- what `update` says is as before
-  pub updates_as_before : (line : Line) (files : List SourceFile) → line.format ≡ Plain → ignored_by line ≡ [] → All (λ f. length (lines f.bytes) < 2 ^ 32) (files_read Hwdb line files)
+  pub updates_as_before : (line : Line) (files : List SourceFile) → line.format ≡ Plain → line.lint ≡ false → ignored_by line ≡ [] → All (λ f. length (lines f.bytes) < 2 ^ 32) (files_read Hwdb line files)
       → reported_update_outcome line files ≡ database_outcome (update_outcome line) (files_read Hwdb line files)
-  updates_as_before line files format none few = same_database line (files_read Hwdb line files) format none few
+  updates_as_before line files format unasked none few = same_database line (files_read Hwdb line files) format unasked none few

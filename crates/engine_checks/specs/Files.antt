@@ -5,6 +5,8 @@ use Rattle.file_messages.specs.declared.message.Message.{Message}
 use Rattle.text_bytes.specs.declared.source_file.SourceFile.{SourceFile}
 use Rattle.text_tables.specs.Texts.{Text}
 use Rattle.hwdb_core.specs.Sources.{messages_of}
+use Rattle.hwdb_lints.specs.Lints.{database_lints}
+use Rattle.hwdb_lints.specs.declared.placed_lint.PlacedLint.{PlacedLint}
 use Rattle.file_messages.specs.declared.message.MessageKind.{MessageKind}
 use Rattle.rule_lints.specs.declared.lint.Lint.{Lint}
 use Rattle.rule_pairs.specs.Accounts.{Accounts}
@@ -40,6 +42,10 @@ database_diagnostic file message =
     let place = placed file.lines message in
     diagnostic_in file message.line message.line place.column place.end (about.Message message.kind) place.word
 
+-- a lint of a database as a diagnostic
+abbrev pub database_lint_diagnostic : FileText → PlacedLint → DiagnosticValue
+database_lint_diagnostic file l = diagnostic_in file l.line l.line l.column l.end (about.DatabaseLint l.lint) l.word
+
 -- the texts of `--ignore`
 abbrev pub ignored_by : Line → List Text
 ignored_by line = map (λ t. t.now) line.ignored.items
@@ -71,9 +77,17 @@ found_with file findings lints = merged (map (rule_diagnostic file) findings) (m
 abbrev pub rules_found : Line → SourceFile → List DiagnosticValue
 rules_found line file = found_with (file_text line file) (findings_of line file) (lints_counted (asked_by line) file)
 
+-- the lints of a file of a database, if they are asked for or comments count
+abbrev pub database_lints_counted : Asked → SourceFile → List PlacedLint
+database_lints_counted asked file = if asked.lint || has_comments asked.ignored then database_lints file.bytes else []
+
+-- what is found in a file of a database: its messages with these lints merged in, each after all that is said of its line
+abbrev pub database_found_with : FileText → List Message → List PlacedLint → List DiagnosticValue
+database_found_with file messages lints = merged (map (database_diagnostic file) messages) (map (database_lint_diagnostic file) lints)
+
 -- all that is found in a file of a database
 abbrev pub database_found : Line → SourceFile → List DiagnosticValue
-database_found line file = map (database_diagnostic (file_text line file)) (messages_of (file ∷ []))
+database_found line file = database_found_with (file_text line file) (messages_of (file ∷ [])) (database_lints_counted (asked_by line) file)
 
 -- the codes in comments of a file, if comments count
 abbrev pub ignores_counted : Asked → SourceFile → List Ignore
@@ -87,6 +101,6 @@ reported_for line file found = file_reported (asked_by line) (file_text line fil
 unfoldable pub rules_reported : Line → SourceFile → List DiagnosticValue
 rules_reported line file = reported_for line file (rules_found line file)
 
--- what is reported for a file of a database, which has no lints and no messages about style
+-- what is reported for a file of a database, which has no messages about style
 unfoldable pub database_reported : Line → SourceFile → List DiagnosticValue
 database_reported line file = reported_for line file (database_found line file)

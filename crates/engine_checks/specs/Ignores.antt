@@ -1,7 +1,7 @@
 -- The codes that comments in a file ask to ignore.
-use Rattle.std.specs.Prelude.{ℕ, ◌+◌, ◌-◌, not, ◌==◌, nat_lt, List, [], ◌∷◌, ◌++◌, length, map, filter, find, flat_map, codes, Option, Some, None}
+use Rattle.std.specs.Prelude.{ℕ, ◌+◌, ◌-◌, not, ◌==◌, nat_lt, List, [], ◌∷◌, ◌++◌, length, map, filter, find, flat_map, codes, nat_eq, Bool, Option, Some, None, drop, take, position, unwrap_or}
 use Rattle.std.specs.Prelude.{option_to_list}
-use Rattle.std.specs.List.{slice_split}
+use Rattle.std.specs.List.{range_with_len, slice_split, starts_with}
 use Rattle.text_bytes.specs.Lines.{NumberedLine, numbered_lines}
 use Rattle.text_bytes.specs.Numbers.{capped}
 use Rattle.text_bytes.specs.Names.{comma}
@@ -34,10 +34,22 @@ asked_or next None None text = (Unread, unindented text)
 abbrev pub asked_by : Option ℕ → Text → Scope × Text
 asked_by next text = asked_or next (following (codes " ignore ") text) (following (codes " ignore-file ") text) text
 
--- the codes of a list, cut at its commas; what is not understood is one text
+-- whether a reason begins at a place of a list of codes: two dashes between two spaces
+abbrev pub is_reason : Text → ℕ → Bool
+is_reason list place = starts_with nat_eq (drop place list) (codes " -- ")
+
+-- the first place of a list of codes at which a reason begins
+unfoldable pub reason_place : Text → Option ℕ
+reason_place list = position (is_reason list) (range_with_len 0 (length list))
+
+-- what stands before the reason in a list of codes
+abbrev pub before_reason : Text → Text
+before_reason list = take (unwrap_or (reason_place list) (length list)) list
+
+-- the codes of a list, cut at its commas, without the reason behind them; what is not understood is one text
 abbrev pub texts_of : Scope → Text → List Text
 texts_of Unread text = text ∷ []
-texts_of scope list = slice_split (λ b. b == comma) list
+texts_of scope list = slice_split (λ b. b == comma) (before_reason list)
 
 -- the code in a text: without the blanks before it and the whitespace after it
 abbrev pub code_in : Text → Text

@@ -3,15 +3,16 @@ use Rattle.std.specs.Prelude.{◌≡◌, ◌⊎◌, ◌<◌, ◌≤◌, ◌-◌,
 use Rattle.text_bytes.specs.Lines.{numbered_lines}
 use Rattle.text_bytes.specs.Texts.{trimmed, unindented}
 use Rattle.text_bytes.specs.declared.source_file.SourceFile.{SourceFile}
+use Rattle.hwdb_lints.specs.Lints.{database_lints}
 use Rattle.rule_file_lints.specs.FileLints.{placed_lints}
 use Rattle.engine_ends.specs.declared.line.Line.{Line}
 use Rattle.engine_formats.specs.Diagnostics.{DiagnosticValue}
 use Rattle.engine_formats.specs.Placing.{line_numbered}
 use Rattle.engine_formats.specs.Remarks.{code_of}
 use Rattle.engine_formats.specs.declared.remark.Remark.{Remark}
-use Rattle.engine_formats.specs.declared.remark.Remark.TheVariants.{Message, Lint, IdleIgnore, UnknownCode}
+use Rattle.engine_formats.specs.declared.remark.Remark.TheVariants.{Message, Lint, DatabaseLint, IdleIgnore, UnknownCode}
 use Rattle.engine_checks.specs.Codes.{is_found}
-use Rattle.engine_checks.specs.Files.{file_text, findings_of, lint_diagnostic, rule_diagnostic}
+use Rattle.engine_checks.specs.Files.{database_lint_diagnostic, file_text, findings_of, lint_diagnostic, rule_diagnostic}
 use Rattle.engine_checks.specs.Ignores.{Ignore}
 use Rattle.engine_checks.specs.Reported.{Asked, is_about_style, is_lint}
 use Rattle.engine_checks.specs.declared.ignores.Scope.TheVariants.{File, Next, Unread}
@@ -28,6 +29,7 @@ remarks_among reported = filter (λ d. not (is_found d.remark)) reported
 abbrev pub is_message : Remark → Bool
 is_message (Message kind) = true
 is_message (Lint lint) = false
+is_message (DatabaseLint lint) = false
 is_message IdleIgnore = false
 is_message UnknownCode = false
 
@@ -46,6 +48,10 @@ messages_in line file = map (rule_diagnostic (file_text line file)) (findings_of
 -- the lints of a rules file
 abbrev pub lints_in : Line → SourceFile → List DiagnosticValue
 lints_in line file = map (lint_diagnostic (file_text line file)) (placed_lints line.profile file)
+
+-- the lints of a file of a database
+abbrev pub database_lints_in : Line → SourceFile → List DiagnosticValue
+database_lints_in line file = map (database_lint_diagnostic (file_text line file)) (database_lints file.bytes)
 
 -- A code in a comment silences what was found: that has the code, and the comment is about the whole file, or about
 -- the line with which this is reported.
@@ -76,6 +82,7 @@ IsSaidOf found ignore (Some UnknownCode) = IsUnknown ignore
 IsSaidOf found ignore (Some IdleIgnore) = (IsInUse found ignore → ⊥) × (IsUnknown ignore → ⊥)
 IsSaidOf found ignore (Some (Message kind)) = ⊥
 IsSaidOf found ignore (Some (Lint lint)) = ⊥
+IsSaidOf found ignore (Some (DatabaseLint lint)) = ⊥
 
 -- A code in a comment is in the line with its number at its columns, without the blanks before it and the whitespace
 -- after it.

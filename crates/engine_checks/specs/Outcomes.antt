@@ -1,5 +1,5 @@
 -- What `verify` and `update` say with other formats, with lints, and with messages that are ignored.
-use Rattle.std.specs.Prelude.{ℕ, if◌then◌else◌, List, length, flat_map, map}
+use Rattle.std.specs.Prelude.{ℕ, if◌then◌else◌, List, [], length, flat_map, map}
 use Rattle.text_bytes.specs.declared.source_file.SourceFile.{SourceFile}
 use Rattle.text_bytes.specs.declared.source_file.FileKind.TheVariants.{Hwdb, Rules}
 use Rattle.file_messages.specs.declared.message.Message.{Message}
@@ -9,17 +9,27 @@ use Rattle.rule_core.specs.Ends.{file_as_read}
 use Rattle.rule_core.specs.Rules.{set_of_as}
 use Rattle.trie_core.specs.Image.{image}
 use Rattle.engine_ends.specs.Delivery.{RunOutcome}
+use Rattle.engine_ends.specs.declared.line.Format.{Format}
 use Rattle.engine_ends.specs.declared.line.Line.{Line}
 use Rattle.engine_reports.specs.Checks.{files_said}
 use Rattle.engine_reports.specs.FilesRead.{files_read}
 use Rattle.engine_reports.specs.Outcomes.{database_outcome, hold_few_tokens, too_many_rules, update_status}
 use Rattle.engine_formats.specs.Diagnostics.{DiagnosticValue}
-use Rattle.engine_formats.specs.Formats.{formatted}
+use Rattle.engine_formats.specs.Formats.{formatted, is_report}
 use Rattle.engine_checks.specs.Files.{database_reported, rules_reported}
+
+-- what is said in a format: a report for programs is all of the output, and there are no messages
+abbrev pub in_format : Format → RunOutcome → RunOutcome
+in_format format said = record {
+  output = if is_report format then said.messages else said.output;
+  messages = if is_report format then [] else said.messages;
+  status = said.status;
+}
 
 -- what is said about files and what is reported for them
 abbrev pub checks_said : Line → List SourceFile → List DiagnosticValue → RunOutcome
-checks_said line files reported = files_said line.summary files (map (λ d. d.name) reported) (formatted line.format reported)
+checks_said line files reported =
+    in_format line.format (files_said line.summary files (map (λ d. d.name) reported) (formatted line.format reported))
 
 -- what `verify` says about rules files
 unfoldable pub rules_checks : Line → List SourceFile → RunOutcome
@@ -31,9 +41,11 @@ rules_checks line files =
 abbrev pub checks_outcome : Line → List SourceFile → RunOutcome
 checks_outcome line files = rules_checks line (map (file_as_read line.profile) (files_read Rules line files))
 
--- what `update` says about the entries of the database and the text of so many diagnostics: the entries as an index
+-- what `update` says about the entries of the database and the text of so many diagnostics: the entries as an index,
+-- unless the text is a report for programs
 abbrev pub updated_by : Line → Text → ℕ → List Entry → RunOutcome
-updated_by line text count entries = record { output = image entries; messages = text; status = update_status line.strict count }
+updated_by line text count entries =
+    in_format line.format (record { output = image entries; messages = text; status = update_status line.strict count })
 
 -- what `update` says about the entries and what is reported for the files; the messages of the database are among
 -- what is reported

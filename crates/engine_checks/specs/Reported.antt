@@ -12,7 +12,7 @@ use Rattle.engine_formats.specs.Diagnostics.{DiagnosticValue}
 use Rattle.engine_formats.specs.Placing.{line_numbered}
 use Rattle.engine_formats.specs.Remarks.{code_of}
 use Rattle.engine_formats.specs.declared.remark.Remark.{Remark}
-use Rattle.engine_formats.specs.declared.remark.Remark.TheVariants.{Message, Lint, IdleIgnore, UnknownCode}
+use Rattle.engine_formats.specs.declared.remark.Remark.TheVariants.{Message, Lint, DatabaseLint, IdleIgnore, UnknownCode}
 use Rattle.engine_checks.specs.Codes.{is_code}
 use Rattle.engine_checks.specs.Ignores.{Ignore}
 use Rattle.engine_checks.specs.declared.ignores.Scope.{Scope}
@@ -41,6 +41,7 @@ is_about_style _ = false
 -- whether a remark is a lint
 abbrev pub is_lint : Remark → Bool
 is_lint (Lint lint) = true
+is_lint (DatabaseLint lint) = true
 is_lint _ = false
 
 -- what a command line asks for: the profile by which rules are read, the users and groups that are known, whether

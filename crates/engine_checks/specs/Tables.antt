@@ -12,7 +12,7 @@ use Rattle.hwdb_core.specs.Sources.{messages_of}
 use Rattle.rule_remarks.specs.Findings.{findings_as}
 use Rattle.engine_ends.specs.declared.line.Line.{Line}
 use Rattle.engine_checks.specs.Ignores.{Ignore}
-use Rattle.engine_checks.specs.Files.{database_diagnostic, file_text, found_with, ignores_counted, lints_counted}
+use Rattle.engine_checks.specs.Files.{database_found_with, database_lints_counted, file_text, found_with, ignores_counted, lints_counted}
 use Rattle.engine_checks.specs.Reported.{Asked, FileText, file_reported, is_asked, is_unknown}
 use Rattle.engine_checks.specs.declared.ignores.Scope.{Scope}
 use Rattle.engine_checks.specs.declared.ignores.Scope.TheVariants.{File, Next, Unread}
@@ -89,7 +89,10 @@ rules_found_by asked read = found_with read.text (findings_as asked.profile aske
 abbrev pub rules_reported_by : Asked → FileRead → List DiagnosticValue
 rules_reported_by asked read = file_reported asked read.text (ignores_counted asked read.file) (rules_found_by asked read)
 
+-- all that is found in a file of a database that is read
+abbrev pub database_found_by : Asked → FileRead → List DiagnosticValue
+database_found_by asked read = database_found_with read.text (messages_of (read.file ∷ [])) (database_lints_counted asked read.file)
+
 -- what is reported for a file of a database that is read
 abbrev pub database_reported_by : Asked → FileRead → List DiagnosticValue
-database_reported_by asked read =
-    file_reported asked read.text (ignores_counted asked read.file) (map (database_diagnostic read.text) (messages_of (read.file ∷ [])))
+database_reported_by asked read = file_reported asked read.text (ignores_counted asked read.file) (database_found_by asked read)

@@ -5,6 +5,7 @@ ghost use Rattle.engine_reports.specs.Reports.{IsSaid, said};
 ghost use Rattle.engine_checks.specs.Outcomes.{checks_outcome, checks_said, rules_checks};
 
 use crate::asked::asked_by;
+use crate::in_format::in_format;
 use crate::reads::read_files;
 use crate::rules_reported::rules_reported;
 use engine_ends::Line;
@@ -61,5 +62,6 @@ fn report_on_reported(
     ensures status { IfOk result (λ r. r.status < 3) }
 {
     let lines = formatted(alloc, line.format, reported)?;
-    report_on_files(alloc, line.summary, files, reported, lines)
+    let report = report_on_files(alloc, line.summary, files, reported, lines)?;
+    Ok(in_format(alloc, line.format, report))
 }

@@ -20,7 +20,7 @@ fn is_found(remark: Remark) -> bool
     ensures { result ≡ is_found remark }
 {
     match remark {
-        Remark::Message(_) | Remark::Lint(_) => true,
+        Remark::Message(_) | Remark::Lint(_) | Remark::DatabaseLint(_) => true,
         Remark::IdleIgnore | Remark::UnknownCode => false,
     }
 }

@@ -2,8 +2,11 @@
 ghost use Rattle.std.specs.Prelude.{◌≡◌, ◌∷◌, [], flat_map, map, IfOk};
 ghost use Rattle.hwdb_core.specs.Sources.{messages_of};
 ghost use Rattle.engine_formats.specs.Diagnostics.{shown};
+ghost use Rattle.engine_checks.specs.Files.{database_found_with, database_lints_counted};
 ghost use Rattle.engine_checks.specs.Tables.{database_reported_by};
 
+use crate::by_line::merged;
+use crate::database_lints::{database_lint_diagnostics, database_lints_counted};
 use crate::found::database_diagnostics;
 use crate::ignores::ignores_counted;
 use crate::reads::FileRead;
@@ -26,6 +29,25 @@ fn messages_about(alloc: Global, file: &SourceFile) -> Result<Vec<Message>, Allo
     }
 }
 
+/// All that is found in a file of a database with these messages: them, and after those of each line its lints.
+fn database_found<'r>(
+    alloc: Global,
+    asked: &Asked<'_>,
+    read: &'r FileRead<'_>,
+    messages: &[Message],
+) -> Result<Vec<Diagnostic<'r>>, AllocError>
+    ensures { IfOk result (λ found. map shown found.items
+        ≡ database_found_with read.now.text messages.now (database_lints_counted asked.now read.now.file)) }
+{
+    let lints = database_lints_counted(alloc, asked, read.file())?;
+    let found = database_diagnostics(alloc, read.text(), messages)?;
+    merged(
+        alloc,
+        found,
+        database_lint_diagnostics(alloc, read.text(), lints)?,
+    )
+}
+
 /// What is reported for a file of a database.
 fn reported_for_file<'r>(
     alloc: Global,
@@ -36,7 +58,7 @@ fn reported_for_file<'r>(
         ≡ database_reported_by asked.now read.now) }
 {
     let messages = messages_about(alloc, read.file())?;
-    let found = database_diagnostics(alloc, read.text(), &messages)?;
+    let found = database_found(alloc, asked, read, &messages)?;
     let ignores = ignores_counted(alloc, asked, read.file())?;
     file_reported(alloc, asked, read.text(), &ignores, found)
 }

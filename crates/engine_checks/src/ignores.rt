@@ -2,13 +2,13 @@
 //!
 //! `# devdry: ignore V6,S2` is about the next rule, `# devdry: ignore-file S1` about the whole file. Such a comment
 //! is a line of its own; in rules blanks may come before it. Codes are cut at commas, and blanks around a code are
-//! not part of it. A comment that begins with `# devdry:` and goes on in another way is also kept, so that it can
-//! be reported.
-ghost use Rattle.std.specs.Prelude.{◌≡◌, ◌++◌, ◌+◌, ◌-◌, ◌≤◌, ◌<◌, ◌^◌, ◌==◌, length, IfOk, OnOk};
+//! not part of it. A reason may stand behind them, as in `ignore S2 -- as upstream has it`. A comment that begins with
+//! `# devdry:` and goes on in another way is also kept, so that it can be reported.
+ghost use Rattle.std.specs.Prelude.{◌≡◌, ◌++◌, ◌+◌, ◌-◌, ◌≤◌, ◌<◌, ◌^◌, ◌==◌, length, IfOk, IfSome, OnOk};
 ghost use Rattle.std.specs.List.{slice_split};
 ghost use Rattle.text_bytes.specs.Lines.{numbered_lines};
 ghost use Rattle.text_bytes.specs.Names.{comma};
-ghost use Rattle.engine_checks.specs.Ignores.{asked_by, comment_of, ignore_at, ignores_among, ignores_at, ignores_of_line, texts_of};
+ghost use Rattle.engine_checks.specs.Ignores.{asked_by, before_reason, comment_of, is_reason, reason_place, ignore_at, ignores_among, ignores_at, ignores_of_line, texts_of};
 ghost use Rattle.engine_checks.specs.Files.{ignores_counted};
 ghost use Rattle.rule_core.specs.Lines.{joined_lines};
 
@@ -21,6 +21,9 @@ use std::marker::Model;
 use text_bytes::{
     FileKind, Line, Lines, SourceFile, capped, following, split_once, trimmed, unindented,
 };
+
+/// What begins the reason of a comment.
+const REASON: &[u8] = b" -- ";
 
 /// What a code in a comment is about.
 #[derive(Clone, Copy, Debug, PartialEq, Eq)]
@@ -101,6 +104,33 @@ fn asked_by(next: Option<u32>, text: &[u8]) -> (Scope, &[u8])
     }
 }
 
+/// Whether a reason begins at a place of a list of codes.
+fn is_reason(list: &[u8], place: usize) -> bool
+    ensures { result ≡ is_reason list.now place }
+{
+    list.get(place..).unwrap_or(b"").starts_with(REASON)
+}
+
+/// The first place of a list of codes at which a reason begins.
+#[tactic(auto, unfolding(crate::specs::Ignores::reason_place))]
+fn reason_place(list: &[u8]) -> Option<usize>
+    ensures value { result ≡ reason_place list.now }
+    ensures within { IfSome result (λ place. place < length list.now) }
+{
+    (0..list.len()).position(|place| is_reason(list, place))
+}
+
+/// What stands before a reason in a list of codes, which begins at two dashes between two spaces.
+fn before_reason(list: &[u8]) -> &[u8]
+    ensures value { result.now ≡ before_reason list.now }
+    ensures within { length result.now ≤ length list.now }
+{
+    match reason_place(list) {
+        Some(place) => &list[..place],
+        None => list,
+    }
+}
+
 /// Adds the codes of a list, which ends before a column.
 fn push_list<'a>(
     ignores: &mut Vec<Ignore<'a>>,
@@ -137,7 +167,10 @@ fn push_asked<'a>(
             ignores.push(Ignore::at(line, scope, end - text.len(), text))?;
             Ok(())
         }
-        _ => push_list(ignores, line, scope, end, text),
+        _ => {
+            let list = before_reason(text);
+            push_list(ignores, line, scope, end - (text.len() - list.len()), list)
+        }
     }
 }
 

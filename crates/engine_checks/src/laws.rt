@@ -28,10 +28,10 @@ pub fn plain_checks_are_as_before()
     messages_are_plain_diagnostics();
 }
 
-/// With the default format and nothing ignored `update` says what it says without these options, if the lines of
-/// each file that is read can be reported by number.
+/// With the default format, without lints and with nothing ignored `update` says what it says without these options, if
+/// the lines of each file that is read can be reported by number.
 pub fn plain_updates_are_as_before()
-    ensures { (line : Line) (files : List SourceFile) → line.format ≡ Format.Plain → ignored_by line ≡ []
+    ensures { (line : Line) (files : List SourceFile) → line.format ≡ Format.Plain → line.lint ≡ false → ignored_by line ≡ []
         → All (λ file. length (lines file.bytes) < 2 ^ 32) (files_read kinds.FileKind.Hwdb line files)
         → reported_update_outcome line files ≡ database_outcome (update_outcome line) (files_read kinds.FileKind.Hwdb line files) }
 {

@@ -8,18 +8,22 @@ ghost use Rattle.engine_ends.specs.declared.line.Line.{Line};
 ghost use Rattle.engine_formats.specs.Remarks.{code_of};
 ghost use Rattle.engine_checks.specs.Codes.{has_comments};
 ghost use Rattle.engine_checks.specs.Files.{asked_by, database_reported, ignored_by, ignores_counted, rules_found, rules_reported};
-ghost use Rattle.engine_checks.specs.Laws.{lints_among, lints_in, messages_among, messages_in};
+ghost use Rattle.engine_checks.specs.Laws.{database_lints_in, lints_among, lints_in, messages_among, messages_in};
 ghost use Rattle.engine_checks.specs.Reported.{is_about_style, is_reported, is_silenced};
 
 /// Lints are reported if and only if they are asked for, in their order, except for those that the line or a
-/// comment silences; never for a database.
+/// comment silences; in rules files and in those of a database.
 pub fn lints_are_reported_where_asked()
     ensures asked { (line : Line) (file : SourceFile) → line.lint ≡ true
         → lints_among (rules_reported line file)
         ≡ filter (λ d. not (is_among (ignored_by line) (code_of d.remark))
         && not (is_silenced (ignores_counted (asked_by line) file) d)) (lints_in line file) }
     ensures unasked { (line : Line) (file : SourceFile) → line.lint ≡ false → lints_among (rules_reported line file) ≡ [] }
-    ensures database { (line : Line) (file : SourceFile) → lints_among (database_reported line file) ≡ [] }
+    ensures database { (line : Line) (file : SourceFile) → line.lint ≡ true
+        → lints_among (database_reported line file)
+        ≡ filter (λ d. not (is_among (ignored_by line) (code_of d.remark))
+        && not (is_silenced (ignores_counted (asked_by line) file) d)) (database_lints_in line file) }
+    ensures no_database { (line : Line) (file : SourceFile) → line.lint ≡ false → lints_among (database_reported line file) ≡ [] }
 {}
 
 /// Lints change nothing in which messages are reported. If they are not asked for and comments don't count, all

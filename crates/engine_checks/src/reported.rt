@@ -56,7 +56,7 @@ fn is_lint(remark: Remark) -> bool
     ensures { result ≡ is_lint remark }
 {
     match remark {
-        Remark::Lint(_) => true,
+        Remark::Lint(_) | Remark::DatabaseLint(_) => true,
         _ => false,
     }
 }

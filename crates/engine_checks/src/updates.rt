@@ -1,4 +1,4 @@
-//! What `update` says with other formats, and with messages that are ignored.
+//! What `update` says with other formats, with lints, and with messages that are ignored.
 ghost use Rattle.std.specs.Prelude.{◌≡◌, ◌<◌, flat_map, length, IfOk, IfErr};
 ghost use Rattle.engine_formats.specs.Formats.{formatted};
 ghost use Rattle.engine_reports.specs.Reports.{IsSaid, said};
@@ -7,6 +7,7 @@ ghost use Rattle.engine_checks.specs.Outcomes.{database_checks, reported_update_
 
 use crate::asked::asked_by;
 use crate::database_reported::database_reported;
+use crate::in_format::in_format;
 use crate::reads::read_files;
 use engine_ends::Line;
 use engine_formats::formatted;
@@ -24,8 +25,9 @@ struct ReportedText {
     count: usize,
 }
 
-/// What `update` says about the files passed in, with the line's format and without the messages that it ignores:
-/// what is reported, which makes a strict run fail, and the entries as an index.
+/// What `update` says about the files passed in, with the line's format, with lints if the line asks for them, and
+/// without the messages and lints that it ignores: what is reported, which makes a strict run fail, and the entries as
+/// an index.
 ///
 /// A text of the line that is not a code silences nothing. `TooManyEntries` comes exactly if the files hold more
 /// than a database may, `Memory` if memory runs out.
@@ -88,9 +90,10 @@ fn updated(
     ensures said { IfOk result (λ r. said r ≡ updated_by line.now reported.text.items reported.count entries.now.entries) }
     ensures status { IfOk result (λ r. r.status < 3) }
 {
-    Ok(Report {
+    let report = Report {
         output: write_index(alloc, entries)?,
         messages: reported.text,
         status: update_status(line.strict, reported.count),
-    })
+    };
+    Ok(in_format(alloc, line.format, report))
 }

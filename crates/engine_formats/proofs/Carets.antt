@@ -8,13 +8,14 @@ use Rattle.std.proofs.lemmas.List.Sums.{prefix_len-le-length}
 use Rattle.text_bytes.specs.Lines.{lines}
 use Rattle.text_bytes.specs.Names.{caret, newline, space, tab}
 use Rattle.engine_formats.specs.Diagnostics.{DiagnosticValue}
-use Rattle.engine_formats.specs.Human.{advice_line, continues, first_start, human_lines, mark_line, shown_byte, source_line, source_lines, tilde, title_line, under, window, window_start}
+use Rattle.engine_formats.specs.Human.{advice_line, continues, first_start, human_lines, mark_line, safe_lines, shown_byte, source_line, source_lines, tilde, title_line, under, window, window_start}
+use Rattle.engine_formats.specs.Masked.{masked, masked_after, safe}
 use Rattle.engine_formats.specs.Marks.{PointsAt, before_caret, columns, columns_from, line_after}
 use Rattle.engine_formats.specs.Paints.{escape_code, paint_of, paint_start, paint_stop}
 use Rattle.engine_formats.specs.Readers.{HasPlace}
 use Rattle.engine_formats.specs.declared.paint.Paint.{Paint}
 use Rattle.engine_formats.specs.declared.paint.Paint.TheVariants.{Unpainted, Red, Yellow}
-use Rattle.engine_formats.proofs.Counted.{IsLine, mark_body, mark_body_lacks, shown_lacks, title_is_line}
+use Rattle.engine_formats.proofs.Counted.{IsLine, mark_body, mark_body_lacks, safe_place, shown_lacks, title_is_line}
 use Rattle.engine_formats.proofs.OneLine.{Lacks, first_line_is, lacks-append, up_to}
 
 -- a byte as it is shown takes the columns that the byte has of its own
@@ -112,11 +113,11 @@ first_of body rest h = ap lines (append_assoc body (newline ∷ []) rest) ∙ fi
 
 -- the lines of a diagnostic, one by one
 four_lines : (in_color : Bool) (d : DiagnosticValue) → HasPlace d
-    → (title : List ℕ) × (lines (human_lines in_color d) ≡ title ∷ shown_line d ∷ marks_of in_color d ∷ lines (advice_line d.remark))
-unfolding human_lines source_lines source_line mark_line mark_body IsLine
+    → (title : List ℕ) × (lines (safe_lines in_color d) ≡ title ∷ shown_line d ∷ marks_of in_color d ∷ lines (advice_line d))
+unfolding safe_lines source_lines source_line mark_line mark_body IsLine
 four_lines in_color d h =
     let paint : Paint = paint_of in_color d.remark in
-    let advice : List ℕ = advice_line d.remark in
+    let advice : List ℕ = advice_line d in
     let shown : List ℕ = shown_line d in
     let marks : List ℕ = marks_of in_color d in
     let ended : List ℕ = shown ++ newline ∷ [] in
@@ -160,9 +161,9 @@ from_place source column start near =
     ∙ ap (take (160 - count)) (drop-drop count start source ∙ ap (λ (n : ℕ). drop n source) at)
     ∙ enough source column count near.room near.most
 
-pub caret_points : (in_color : Bool) (d : DiagnosticValue) → HasPlace d → d.column ≤ length d.source + 1
-    → PointsAt d.source d.column (line_after 1 (human_lines in_color d)) (line_after 2 (human_lines in_color d))
-caret_points in_color d h within =
+safe_points : (in_color : Bool) (d : DiagnosticValue) → HasPlace d → d.column ≤ length d.source + 1
+    → PointsAt d.source d.column (line_after 1 (safe_lines in_color d)) (line_after 2 (safe_lines in_color d))
+safe_points in_color d h within =
     let start : ℕ = window_start d.source d.column in
     let count : ℕ = count_before d in
     let part : List ℕ = part_of d in
@@ -187,9 +188,22 @@ from_the_start source column short =
     let none : first_start source column ≡ 0 = omega (arith, short) in
     ap (λ (n : ℕ). cond (eqb n 0) 0 (n + prefix_len continues (take 3 (drop n source)))) none
 
-pub whole_shown : (in_color : Bool) (d : DiagnosticValue) → HasPlace d → length d.source ≤ 160
-    → line_after 1 (human_lines in_color d) ≡ codes "  " ++ map shown_byte d.source
-whole_shown in_color d h short =
+safe_whole : (in_color : Bool) (d : DiagnosticValue) → HasPlace d → length d.source ≤ 160
+    → line_after 1 (safe_lines in_color d) ≡ codes "  " ++ map shown_byte d.source
+safe_whole in_color d h short =
     ap (λ (ls : List (List ℕ)). slice_index_or ls 1 []) (four_lines in_color d h).1
     ∙ ap (λ (n : ℕ). codes "  " ++ map shown_byte (window d.source n)) (from_the_start d.source d.column short)
     ∙ ap (λ (t : List ℕ). codes "  " ++ map shown_byte t) (take_all 160 d.source short)
+
+-- a text is as long where it is shown
+masked_length : (before last : ℕ) (text : List ℕ) → length (masked_after before last text) ≡ length text
+masked_length before last [] = refl
+masked_length before last (b ∷ text) = ap suc (masked_length last b text)
+
+pub caret_points : (in_color : Bool) (d : DiagnosticValue) → HasPlace d → d.column ≤ length d.source + 1
+    → PointsAt (masked d.source) d.column (line_after 1 (human_lines in_color d)) (line_after 2 (human_lines in_color d))
+caret_points in_color d h within = safe_points in_color (safe d) (safe_place d h) (omega (arith, within, masked_length 0 0 d.source))
+
+pub whole_shown : (in_color : Bool) (d : DiagnosticValue) → HasPlace d → length d.source ≤ 160
+    → line_after 1 (human_lines in_color d) ≡ codes "  " ++ map shown_byte (masked d.source)
+whole_shown in_color d h short = safe_whole in_color (safe d) (safe_place d h) (omega (arith, short, masked_length 0 0 d.source))

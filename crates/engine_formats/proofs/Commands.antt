@@ -10,7 +10,7 @@ use Rattle.engine_formats.specs.Readers.{ends_line, ends_property, github_read, 
 use Rattle.engine_formats.proofs.OneLine.{up_to}
 
 -- a byte that is not `%` is itself
-plain : (b : ℕ) (rest : List ℕ) → eqb b percent ≡ false → github_read (b ∷ rest) ≡ b ∷ github_read rest
+pub plain : (b : ℕ) (rest : List ℕ) → eqb b percent ≡ false → github_read (b ∷ rest) ≡ b ∷ github_read rest
 plain b [] e = refl
 plain b (c ∷ []) e = refl
 plain b (c ∷ d ∷ rest) e = rw e refl

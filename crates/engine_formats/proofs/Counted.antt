@@ -1,22 +1,27 @@
 -- How many lines the formats for people have.
-use Rattle.std.proofs.Common.{◌≡◌, ℕ, ◌+◌, ◌-◌, ◌*◌, ◌^◌, ◌<◌, ◌≤◌, Bool, true, false, ◌||◌, ◌==◌, cond, eqb, ltb, List, [], ◌∷◌, ◌++◌, codes, decimal, drop, flat_map, length, map, take, refl, ap, sym, ◌∙◌, arith, append_assoc}
-use Rattle.std.specs.List.{AllByRecursion, list_any}
+use Rattle.std.proofs.Common.{◌≡◌, ℕ, ◌+◌, ◌-◌, ◌*◌, ◌^◌, ◌<◌, ◌≤◌, Bool, true, false, ◌||◌, ◌==◌, cond, eqb, ltb, List, [], ◌∷◌, ◌++◌, codes, decimal, drop, flat_map, length, map, nat_eq, take, refl, ap, sym, ◌∙◌, arith, append_assoc}
+use Rattle.std.specs.List.{AllByRecursion, list_any, starts_with}
 use Rattle.std.proofs.lemmas.Bool.{agree_below_at, le-ltb, ltb-false, ltb-true, ne_eqb, or_from}
 use Rattle.text_bytes.specs.Escapes.{escape_byte, escape_text, is_control}
 use Rattle.text_bytes.specs.Lines.{lines}
 use Rattle.text_bytes.specs.Names.{carriage_return, colon, comma, newline, question_mark, space, tab}
+use Rattle.text_bytes.specs.Texts.{begins_with}
 use Rattle.engine_ends.specs.Places.{place_of, word_part}
 use Rattle.engine_formats.specs.Advice.{advice_of}
 use Rattle.engine_formats.specs.Diagnostics.{DiagnosticValue}
 use Rattle.engine_formats.specs.Github.{github_line, github_place, github_property, github_text}
-use Rattle.engine_formats.specs.Human.{advice_line, continues, human_lines, mark_line, shown_byte, source_line, source_lines, tilde, title_line, under, window, window_start}
+use Rattle.engine_formats.specs.Hints.{advice_by, advice_for, advice_on_comma, byte_order_mark, is_at_end, no_break_space}
+use Rattle.engine_formats.specs.Human.{advice_line, continues, human_lines, mark_line, safe_lines, shown_byte, source_line, source_lines, tilde, title_line, under, window, window_start}
 use Rattle.engine_formats.specs.Lines.{code_part, gcc_line, plain_line, spot_of}
+use Rattle.engine_formats.specs.Masked.{safe}
 use Rattle.engine_formats.specs.Paints.{paint_of, paint_start, paint_stop}
 use Rattle.engine_formats.specs.Readers.{HasPlace, ends_line, ends_property}
 use Rattle.engine_formats.specs.Remarks.{code_of, remark_heading, severity_of, severity_word, text_of}
 use Rattle.engine_formats.specs.declared.paint.Paint.{Paint}
 use Rattle.engine_formats.specs.declared.paint.Paint.TheVariants.{Unpainted, Red, Yellow}
 use Rattle.engine_formats.specs.declared.remark.Remark.{Remark}
+use Rattle.engine_formats.specs.declared.remark.Remark.TheVariants as about
+use Rattle.file_messages.specs.declared.message.MessageKind.TheVariants.{BadSyntax, CommaExpected, UnknownKey, PropertyWithoutMatch, MatchWithoutProperty, UnindentedLine, NoEquals, EmptyKey, PatternNotSupported, OperatorNotAllowed, WrongAttribute, BadValue, BadSubstitution, NoLaterLabel, GivenTwice, LineTooLong, BadPrefix, SetNotSupported, OpenAtEnd, ReservedProperty, NameWithoutEffect, UnknownBuiltin, MatchesExclude, SaidTwice, RuleWithoutEffect, ResultBeforeProgram, EmptyValue, BadAttributeSubstitution, AttributeElsewhere, OldSubsystemName, AssignExpected, UnknownAccount, FileAbandoned, BlankExpected, ReadAsAssign, LabelUnused, LeadingComma, BlankBeforeComma}
 use Rattle.engine_formats.specs.declared.remark.Severity.{Severity}
 use Rattle.engine_formats.specs.declared.remark.Severity.TheVariants.{Error, Warning}
 use Rattle.engine_formats.proofs.Commands.{property_ends_none, text_ends_no_line}
@@ -213,12 +218,71 @@ mark_is_line : (paint : Paint) (before place : List ℕ) → IsLine (mark_line p
 unfolding mark_line mark_body
 mark_is_line paint before place = whole_line (mark_body paint before place) (mark_body_lacks paint before place)
 
-advice_is_line : (remark : Remark) → IsLine (advice_line remark)
-unfolding advice_line
-advice_is_line remark = whole_line (codes "  = " ++ advice_of remark) (lacks-append newline (codes "  = ") (advice_of remark) refl (advice_lacks remark))
+text_hint_lacks : (otherwise : List ℕ) (is_mark is_space is_return : Bool) → Lacks newline otherwise
+    → Lacks newline (cond is_mark (codes "The file begins with a byte order mark, which an editor does not show: save it as UTF-8 without one.")
+    (cond is_space (codes "Here is a no-break space, which looks like a space: write a space.")
+    (cond is_return (codes "The line ends in CR LF, as on Windows: save the file with LF alone.") otherwise)))
+text_hint_lacks otherwise true s r h = refl
+text_hint_lacks otherwise false true r h = refl
+text_hint_lacks otherwise false false true h = refl
+text_hint_lacks otherwise false false false h = h
 
-four_more : (in_color : Bool) (d : DiagnosticValue) (rest : List ℕ) → HasPlace d → length (lines (human_lines in_color d ++ rest)) ≡ 4 + length (lines rest)
-unfolding human_lines source_lines
+comma_hint_lacks : (otherwise : List ℕ) (at_end : Bool) → Lacks newline otherwise → Lacks newline (advice_on_comma otherwise at_end)
+comma_hint_lacks otherwise true h = refl
+comma_hint_lacks otherwise false h = h
+
+-- the sentence on a diagnostic is that on its remark, or one of the others
+hint_lacks : (remark : Remark) (d : DiagnosticValue) → Lacks newline (advice_of d.remark) → Lacks newline (advice_by remark d)
+hint_lacks (about.Message BadSyntax) d h =
+    text_hint_lacks (advice_of d.remark) (starts_with nat_eq d.word byte_order_mark) (starts_with nat_eq d.word no_break_space) (begins_with carriage_return d.word) h
+hint_lacks (about.Message CommaExpected) d h = comma_hint_lacks (advice_of d.remark) (is_at_end d) h
+hint_lacks (about.Message UnknownKey) d h = h
+hint_lacks (about.Message PropertyWithoutMatch) d h = h
+hint_lacks (about.Message MatchWithoutProperty) d h = h
+hint_lacks (about.Message UnindentedLine) d h = h
+hint_lacks (about.Message NoEquals) d h = h
+hint_lacks (about.Message EmptyKey) d h = h
+hint_lacks (about.Message PatternNotSupported) d h = h
+hint_lacks (about.Message OperatorNotAllowed) d h = h
+hint_lacks (about.Message WrongAttribute) d h = h
+hint_lacks (about.Message BadValue) d h = h
+hint_lacks (about.Message BadSubstitution) d h = h
+hint_lacks (about.Message NoLaterLabel) d h = h
+hint_lacks (about.Message GivenTwice) d h = h
+hint_lacks (about.Message LineTooLong) d h = h
+hint_lacks (about.Message BadPrefix) d h = h
+hint_lacks (about.Message SetNotSupported) d h = h
+hint_lacks (about.Message OpenAtEnd) d h = h
+hint_lacks (about.Message ReservedProperty) d h = h
+hint_lacks (about.Message NameWithoutEffect) d h = h
+hint_lacks (about.Message UnknownBuiltin) d h = h
+hint_lacks (about.Message MatchesExclude) d h = h
+hint_lacks (about.Message SaidTwice) d h = h
+hint_lacks (about.Message RuleWithoutEffect) d h = h
+hint_lacks (about.Message ResultBeforeProgram) d h = h
+hint_lacks (about.Message EmptyValue) d h = h
+hint_lacks (about.Message BadAttributeSubstitution) d h = h
+hint_lacks (about.Message AttributeElsewhere) d h = h
+hint_lacks (about.Message OldSubsystemName) d h = h
+hint_lacks (about.Message AssignExpected) d h = h
+hint_lacks (about.Message UnknownAccount) d h = h
+hint_lacks (about.Message FileAbandoned) d h = h
+hint_lacks (about.Message BlankExpected) d h = h
+hint_lacks (about.Message ReadAsAssign) d h = h
+hint_lacks (about.Message LabelUnused) d h = h
+hint_lacks (about.Message LeadingComma) d h = h
+hint_lacks (about.Message BlankBeforeComma) d h = h
+hint_lacks (about.Lint lint) d h = h
+hint_lacks (about.DatabaseLint lint) d h = h
+hint_lacks about.IdleIgnore d h = h
+hint_lacks about.UnknownCode d h = h
+
+advice_is_line : (d : DiagnosticValue) → IsLine (advice_line d)
+unfolding advice_line
+advice_is_line d = whole_line (codes "  = " ++ advice_for d) (lacks-append newline (codes "  = ") (advice_for d) refl (hint_lacks d.remark d (advice_lacks d.remark)))
+
+four_more : (in_color : Bool) (d : DiagnosticValue) (rest : List ℕ) → HasPlace d → length (lines (safe_lines in_color d ++ rest)) ≡ 4 + length (lines rest)
+unfolding safe_lines source_lines
 four_more in_color d rest h =
     let paint : Paint = paint_of in_color d.remark in
     let start : ℕ = window_start d.source d.column in
@@ -226,13 +290,17 @@ four_more in_color d rest h =
     let line : List ℕ = source_line part in
     let marks : List ℕ = mark_line paint (take (d.column - 1 - start) part) (take (d.end - d.column) (drop (d.column - 1 - start) part)) in
     let title : List ℕ = title_line paint d in
-    let advice : List ℕ = advice_line d.remark in
+    let advice : List ℕ = advice_line d in
     let regrouped : ((title ++ (line ++ marks)) ++ advice) ++ rest ≡ title ++ (line ++ (marks ++ (advice ++ rest))) = simp append_assoc in
     let first = one_more title (line ++ (marks ++ (advice ++ rest))) (title_is_line paint d h) in
     let second = one_more line (marks ++ (advice ++ rest)) (source_is_line part) in
     let third = one_more marks (advice ++ rest) (mark_is_line paint (take (d.column - 1 - start) part) (take (d.end - d.column) (drop (d.column - 1 - start) part))) in
-    let fourth = one_more advice rest (advice_is_line d.remark) in
+    let fourth = one_more advice rest (advice_is_line d) in
     ap (λ (t : List ℕ). length (lines t)) regrouped ∙ omega (arith, first, second, third, fourth)
+
+-- it has its place where it is shown, too
+pub safe_place : (d : DiagnosticValue) → HasPlace d → HasPlace (safe d)
+safe_place d h = record { begins = h.begins; line = h.line; column = h.column; end = h.end }
 
 counted : (f : DiagnosticValue → List ℕ) (n : ℕ) → ((d : DiagnosticValue) (rest : List ℕ) → HasPlace d → length (lines (f d ++ rest)) ≡ n + length (lines rest))
     → (ds : List DiagnosticValue) → AllByRecursion HasPlace ds → length (lines (flat_map f ds)) ≡ n * length ds
@@ -249,4 +317,4 @@ pub github_counted : (ds : List DiagnosticValue) → AllByRecursion HasPlace ds 
 github_counted ds h = counted github_line 1 (λ d rest k. one_more (github_line d) rest (github_is_line d k)) ds h ∙ omega arith
 
 pub human_counted : (in_color : Bool) (ds : List DiagnosticValue) → AllByRecursion HasPlace ds → length (lines (flat_map (human_lines in_color) ds)) ≡ 4 * length ds
-human_counted in_color ds h = counted (human_lines in_color) 4 (four_more in_color) ds h
+human_counted in_color ds h = counted (human_lines in_color) 4 (λ d rest k. four_more in_color (safe d) rest (safe_place d k)) ds h

@@ -14,6 +14,7 @@ use Rattle.engine_formats.specs.declared.remark.Remark.{Remark}
 use Rattle.engine_formats.specs.declared.remark.Remark.TheVariants as about
 use Rattle.engine_formats.specs.declared.remark.Remark.TheVariants.{Message, IdleIgnore, UnknownCode}
 use Rattle.engine_formats.specs.declared.remark.Severity.TheVariants.{Error, Warning}
+use Rattle.engine_formats.proofs.DatabaseHeadings.{database_code_has_no_colon, database_in_one_line, database_in_two_parts}
 use Rattle.engine_formats.proofs.OneLine.{Lacks, lacks-append}
 
 -- the two parts of each heading, of which the first has no space
@@ -71,6 +72,7 @@ in_two_parts (about.Lint NotAPattern) = (refl, refl)
 in_two_parts (about.Lint AlwaysHolds) = (refl, refl)
 in_two_parts (about.Lint NeverReached) = (refl, refl)
 in_two_parts (about.Lint NoPatternForUdev) = (refl, refl)
+in_two_parts (about.DatabaseLint lint) = database_in_two_parts lint
 in_two_parts IdleIgnore = (refl, refl)
 in_two_parts UnknownCode = (refl, refl)
 
@@ -187,6 +189,7 @@ in_one_line (about.Lint NotAPattern) = (refl, refl, refl)
 in_one_line (about.Lint AlwaysHolds) = (refl, refl, refl)
 in_one_line (about.Lint NeverReached) = (refl, refl, refl)
 in_one_line (about.Lint NoPatternForUdev) = (refl, refl, refl)
+in_one_line (about.DatabaseLint lint) = database_in_one_line lint
 in_one_line IdleIgnore = (refl, refl, refl)
 in_one_line UnknownCode = (refl, refl, refl)
 
@@ -258,5 +261,6 @@ code_has_no_colon (about.Lint NotAPattern) = refl
 code_has_no_colon (about.Lint AlwaysHolds) = refl
 code_has_no_colon (about.Lint NeverReached) = refl
 code_has_no_colon (about.Lint NoPatternForUdev) = refl
+code_has_no_colon (about.DatabaseLint lint) = database_code_has_no_colon lint
 code_has_no_colon IdleIgnore = refl
 code_has_no_colon UnknownCode = refl

@@ -1,11 +1,14 @@
 mod OneLine
 mod Commands
+mod DatabaseHeadings
 mod Headings
 mod Issues
 mod SameLines
 mod Read
-mod Fingerprints
+mod Counts
+mod Logs
 mod Places
 mod Placement
 mod Counted
+mod Masking
 mod Carets

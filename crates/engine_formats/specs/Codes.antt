@@ -10,6 +10,7 @@ use Rattle.file_messages.specs.declared.message.MessageKind.TheVariants.{EmptyVa
 use Rattle.file_messages.specs.declared.message.MessageKind.TheVariants.{AssignExpected, UnknownAccount, FileAbandoned, CommaExpected}
 use Rattle.file_messages.specs.declared.message.MessageKind.TheVariants.{BlankExpected, ReadAsAssign, LabelUnused, LeadingComma, BlankBeforeComma}
 use Rattle.std.specs.Cmp.Lexicographic.{pointwise}
+use Rattle.engine_formats.specs.DatabaseLints.{database_lints}
 use Rattle.engine_formats.specs.Remarks.{code_of}
 use Rattle.rule_lints.specs.declared.lint.Lint.{Lint}
 use Rattle.rule_lints.specs.declared.lint.Lint.TheVariants.{ModeNotOctal, SignOfShell, RelativeProgram, LetterCase, NoSuchDevice, ImportedBelow, MeantToCompare}
@@ -34,7 +35,7 @@ lints = ModeNotOctal ∷ SignOfShell ∷ RelativeProgram ∷ LetterCase ∷ NoSu
 
 -- each remark
 abbrev pub remarks : List Remark
-remarks = map (λ kind. Message kind) kinds ++ map (λ lint. about.Lint lint) lints ++ IdleIgnore ∷ UnknownCode ∷ []
+remarks = map (λ kind. Message kind) kinds ++ map (λ lint. about.Lint lint) lints ++ map (λ lint. about.DatabaseLint lint) database_lints ++ IdleIgnore ∷ UnknownCode ∷ []
 
 -- the remark with a code, if there is one
 unfoldable pub remark_of : List ℕ → Option Remark

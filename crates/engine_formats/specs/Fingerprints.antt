@@ -1,10 +1,11 @@
 -- What distinguishes the diagnostics of a report from one another, in each run in the same way.
-use Rattle.std.specs.Prelude.{ℕ, suc, List, [], ◌∷◌, ◌++◌, count_by, decimal, map}
+use Rattle.std.specs.Prelude.{ℕ, suc, List, [], ◌∷◌, ◌++◌, count_by, decimal, map, string_bytes}
 use Rattle.std.specs.Str.Lossy.{utf8_lossy}
 use Rattle.text_bytes.specs.Names.{colon}
 use Rattle.text_tables.specs.Texts.{Text, same_text}
-use Rattle.engine_formats.specs.Diagnostics.{DiagnosticValue}
+use Rattle.engine_formats.specs.Diagnostics.{DiagnosticValue, shown}
 use Rattle.engine_formats.specs.Remarks.{code_of}
+use Rattle.engine_formats.specs.declared.fingerprints.Fingerprinted.{Fingerprinted}
 
 -- what a diagnostic is known by, wherever its line is in the file: `V6:PATH:LINE`, the code, the path and the text of
 -- the line; what is not UTF-8 becomes U+FFFD
@@ -17,18 +18,22 @@ abbrev pub fingerprint_after : List Text → Text → Text
 fingerprint_after before mark = decimal (suc (count_by (same_text mark) before)) ++ colon ∷ mark
 
 -- a diagnostic with its fingerprint
-pub record Fingerprinted : Type 0 where
+pub record FingerprintedValue : Type 0 where
   pub diagnostic : DiagnosticValue
   pub fingerprint : Text
 
+-- what a contract sees of one
+abbrev pub shown_given : Fingerprinted → FingerprintedValue
+shown_given f = record { diagnostic = shown f.diagnostic.now; fingerprint = string_bytes f.fingerprint }
+
 -- diagnostics with their fingerprints, by the marks of those before them
-abbrev pub fingerprinted_after : List Text → List DiagnosticValue → List Fingerprinted
+abbrev pub fingerprinted_after : List Text → List DiagnosticValue → List FingerprintedValue
 fingerprinted_after before [] = []
 fingerprinted_after before (d ∷ ds) =
     record { diagnostic = d; fingerprint = fingerprint_after before (mark_of d) } ∷ fingerprinted_after (before ++ mark_of d ∷ []) ds
 
 -- the diagnostics of a report with their fingerprints
-abbrev pub fingerprinted : List DiagnosticValue → List Fingerprinted
+abbrev pub fingerprinted : List DiagnosticValue → List FingerprintedValue
 fingerprinted ds = fingerprinted_after [] ds
 
 -- the fingerprints of the diagnostics of a report

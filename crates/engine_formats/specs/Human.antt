@@ -3,13 +3,13 @@ use Rattle.std.specs.Prelude.{ℕ, ◌+◌, ◌-◌, Bool, ◌==◌, ◌&&◌, n
 use Rattle.std.specs.List.{prefix_len}
 use Rattle.text_bytes.specs.Escapes.{is_control}
 use Rattle.text_bytes.specs.Names.{newline, question_mark, space, tab}
-use Rattle.engine_formats.specs.Advice.{advice_of}
 use Rattle.engine_formats.specs.Diagnostics.{DiagnosticValue}
+use Rattle.engine_formats.specs.Hints.{advice_for}
 use Rattle.engine_formats.specs.Lines.{code_part, spot_of}
+use Rattle.engine_formats.specs.Masked.{safe}
 use Rattle.engine_formats.specs.Paints.{paint_of, paint_start, paint_stop}
 use Rattle.engine_formats.specs.Remarks.{text_of}
 use Rattle.engine_formats.specs.declared.paint.Paint.{Paint}
-use Rattle.engine_formats.specs.declared.remark.Remark.{Remark}
 
 -- the place of a diagnostic and what it says, `PATH:LINE:COLUMN: error: bad substitution [V6]`; in a color up to what
 -- it says
@@ -65,12 +65,16 @@ source_lines paint source column end =
     let before = column - 1 - start in
     source_line part ++ mark_line paint (take before part) (take (end - column) (drop before part))
 
--- how to fix what a remark is about, `  = Put a space after the comma.`
-unfoldable pub advice_line : Remark → List ℕ
-advice_line remark = codes "  = " ++ advice_of remark ++ newline ∷ []
+-- how to fix what a diagnostic is about, `  = Put a space after the comma.`
+unfoldable pub advice_line : DiagnosticValue → List ℕ
+advice_line d = codes "  = " ++ advice_for d ++ newline ∷ []
 
--- the four lines of a diagnostic, in colors or without
-unfoldable pub human_lines : Bool → DiagnosticValue → List ℕ
-human_lines in_color d =
+-- the four lines of a diagnostic whose path and whose line are safe on a terminal, in colors or without
+unfoldable pub safe_lines : Bool → DiagnosticValue → List ℕ
+safe_lines in_color d =
     let paint = paint_of in_color d.remark in
-    title_line paint d ++ source_lines paint d.source d.column d.end ++ advice_line d.remark
+    title_line paint d ++ source_lines paint d.source d.column d.end ++ advice_line d
+
+-- the four lines of a diagnostic
+abbrev pub human_lines : Bool → DiagnosticValue → List ℕ
+human_lines in_color d = safe_lines in_color (safe d)

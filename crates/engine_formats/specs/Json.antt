@@ -7,7 +7,7 @@ use Rattle.json.specs.Json.{Json, array, number, object, string, Items, item, no
 use Rattle.json.specs.Print.{print}
 use Rattle.json.specs.Tree.{json_tokens}
 use Rattle.engine_formats.specs.Diagnostics.{DiagnosticValue}
-use Rattle.engine_formats.specs.Fingerprints.{fingerprinted}
+use Rattle.engine_formats.specs.Fingerprints.{FingerprintedValue, fingerprinted}
 use Rattle.engine_formats.specs.Remarks.{code_of, remark_heading, severity_of, severity_word, text_of}
 use Rattle.engine_formats.specs.declared.remark.Severity.{Severity}
 use Rattle.engine_formats.specs.declared.remark.Severity.TheVariants.{Error, Warning}
@@ -64,11 +64,13 @@ gitlab_location d =
     object_of ((codes "path", text_value d.path) ∷ (codes "lines", object_of ((codes "begin", number_value d.line) ∷ [])) ∷ [])
 
 -- a diagnostic with its fingerprint as an issue of code quality
-abbrev pub gitlab_issue : DiagnosticValue × List ℕ → Json
-gitlab_issue (d, fingerprint) = object_of (
+abbrev pub gitlab_issue : FingerprintedValue → Json
+gitlab_issue f =
+    let d = f.diagnostic in
+    object_of (
     (codes "description", text_value (remark_heading d.remark ++ word_part d.word))
     ∷ (codes "check_name", text_value (code_of d.remark))
-    ∷ (codes "fingerprint", string fingerprint)
+    ∷ (codes "fingerprint", string f.fingerprint)
     ∷ (codes "severity", string (gitlab_severity (severity_of d.remark)))
     ∷ (codes "location", gitlab_location d)
     ∷ [])

@@ -3,6 +3,7 @@ use Rattle.std.specs.Prelude.{ℕ, ◌+◌, ◌*◌, ◌^◌, ◌<◌, Bool, not
 use Rattle.text_bytes.specs.Escapes.{digit_value}
 use Rattle.text_bytes.specs.Names.{carriage_return, colon, comma, newline, percent}
 use Rattle.engine_formats.specs.Diagnostics.{DiagnosticValue}
+use Rattle.engine_formats.specs.Sarif.{is_brace}
 
 -- The numbers of a diagnostic are in the range of lines and columns.
 pub record HasPlace (d : DiagnosticValue) : Type 0 where
@@ -19,6 +20,12 @@ github_read (b ∷ c ∷ []) = b ∷ c ∷ []
 github_read (b ∷ high ∷ low ∷ rest) =
     if b == percent then (16 * digit_value high + digit_value low) ∷ github_read rest
     else b ∷ github_read (high ∷ low ∷ rest)
+
+-- What a reader of SARIF takes from a message: of two braces in a row one.
+abbrev pub message_read : List ℕ → List ℕ
+message_read [] = []
+message_read (b ∷ []) = b ∷ []
+message_read (b ∷ c ∷ rest) = if is_brace b then b ∷ message_read rest else b ∷ message_read (c ∷ rest)
 
 -- the two ends of a line
 abbrev pub ends_line : ℕ → Bool

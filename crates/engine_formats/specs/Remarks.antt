@@ -7,6 +7,7 @@ use Rattle.rule_lints.specs.declared.lint.Lint.{Lint}
 use Rattle.rule_lints.specs.declared.lint.Lint.TheVariants.{ModeNotOctal, SignOfShell, RelativeProgram, LetterCase, NoSuchDevice, ImportedBelow, MeantToCompare}
 use Rattle.rule_lints.specs.declared.lint.Lint.TheVariants.{NameOutsideNet, LinkWithDev, QuotedName, NotAPattern, AlwaysHolds, NeverReached, NoPatternForUdev}
 use Rattle.engine_reports.specs.Messages.{heading_of}
+use Rattle.engine_formats.specs.DatabaseLints.{database_heading}
 use Rattle.engine_formats.specs.declared.remark.Remark.{Remark}
 use Rattle.engine_formats.specs.declared.remark.Remark.TheVariants as about
 use Rattle.engine_formats.specs.declared.remark.Remark.TheVariants.{Message, IdleIgnore, UnknownCode}
@@ -34,6 +35,7 @@ lint_heading NoPatternForUdev = codes "W14 no pattern for udev"
 abbrev pub remark_heading : Remark → List ℕ
 remark_heading (Message kind) = heading_of kind
 remark_heading (about.Lint lint) = lint_heading lint
+remark_heading (about.DatabaseLint lint) = database_heading lint
 remark_heading IdleIgnore = codes "I1 nothing to ignore"
 remark_heading UnknownCode = codes "I2 unknown code"
 
@@ -49,9 +51,9 @@ code_of remark = (heading_parts remark).0
 abbrev pub text_of : Remark → List ℕ
 text_of remark = (heading_parts remark).1
 
--- how severe a remark is, by the letter of its code: S, I and W are warnings, all others errors
+-- how severe a remark is, by the letter of its code: S, I, W and D are warnings, all others errors
 abbrev pub severity_of : Remark → Severity
-severity_of remark = if list_any (λ letter. begins_with letter (remark_heading remark)) (codes "SIW") then Warning else Error
+severity_of remark = if list_any (λ letter. begins_with letter (remark_heading remark)) (codes "SIWD") then Warning else Error
 
 -- the word for how severe something is
 abbrev pub severity_word : Severity → List ℕ

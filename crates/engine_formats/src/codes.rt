@@ -5,10 +5,11 @@ ghost use Rattle.engine_formats.specs.Remarks.{code_of};
 
 use crate::remark::Remark;
 use file_messages::MessageKind;
+use hwdb_lints::DatabaseLint;
 use rule_lints::Lint;
 
 /// Each remark.
-const REMARKS: [Remark; 54] = [
+const REMARKS: [Remark; 67] = [
     Remark::Message(MessageKind::BadSyntax),
     Remark::Message(MessageKind::UnknownKey),
     Remark::Message(MessageKind::OperatorNotAllowed),
@@ -61,11 +62,24 @@ const REMARKS: [Remark; 54] = [
     Remark::Lint(Lint::AlwaysHolds),
     Remark::Lint(Lint::NeverReached),
     Remark::Lint(Lint::NoPatternForUdev),
+    Remark::DatabaseLint(DatabaseLint::DigitCase),
+    Remark::DatabaseLint(DatabaseLint::NoModalias),
+    Remark::DatabaseLint(DatabaseLint::EndMissing),
+    Remark::DatabaseLint(DatabaseLint::UnknownPrefix),
+    Remark::DatabaseLint(DatabaseLint::MatchTwice),
+    Remark::DatabaseLint(DatabaseLint::PropertyTwice),
+    Remark::DatabaseLint(DatabaseLint::BlankAtEquals),
+    Remark::DatabaseLint(DatabaseLint::OddName),
+    Remark::DatabaseLint(DatabaseLint::BlankAtEnd),
+    Remark::DatabaseLint(DatabaseLint::ByteOrderMark),
+    Remark::DatabaseLint(DatabaseLint::CutWord),
+    Remark::DatabaseLint(DatabaseLint::OpenSet),
+    Remark::DatabaseLint(DatabaseLint::WrongValue),
     Remark::IdleIgnore,
     Remark::UnknownCode,
 ];
 
-/// Each remark, by code: V, S, H, W and I.
+/// Each remark, by code: V, S, H, W, D and I.
 pub fn remarks() -> &'static [Remark]
     ensures { result.now ≡ remarks }
 {

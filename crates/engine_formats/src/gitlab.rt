@@ -3,16 +3,16 @@ ghost use Rattle.std.specs.Prelude.{◌≡◌, ◌++◌, map, flat_map, IfOk, On
 ghost use Rattle.engine_ends.specs.Places.{word_part};
 ghost use Rattle.json.specs.Tree.{json_tokens};
 ghost use Rattle.engine_formats.specs.Diagnostics.{shown};
-ghost use Rattle.engine_formats.specs.Json.{fingerprint, gitlab_location, gitlab_report, gitlab_severity};
+ghost use Rattle.engine_formats.specs.Fingerprints.{shown_given};
+ghost use Rattle.engine_formats.specs.Json.{gitlab_location, gitlab_report, gitlab_severity};
 ghost use Rattle.engine_formats.specs.Tokens.{issue_tokens};
 ghost use Rattle.engine_formats.specs.Remarks.{remark_heading};
 
 use crate::diagnostic::Diagnostic;
+use crate::fingerprints::{Fingerprinted, with_fingerprints};
 use crate::json_members::{write_number, write_text, write_word};
-use crate::parts::{push_number, push_part};
 use crate::remark::{Remark, Severity};
 use engine_ends::push_word;
-use itoa::Buffer;
 use json::Writer;
 use std::alloc::{AllocError, Global};
 
@@ -24,9 +24,10 @@ pub(crate) fn gitlab_report(
 ) -> Result<Vec<u8>, AllocError>
     ensures { IfOk result (λ text. text.items ≡ gitlab_report (map shown diagnostics.now)) }
 {
+    let given = with_fingerprints(alloc, diagnostics)?;
     let mut writer = Writer::new(Vec::new(alloc));
     writer.begin_array()?;
-    write_issues(alloc, &mut writer, diagnostics)?;
+    write_issues(alloc, &mut writer, &given)?;
     writer.end_array()?;
     let mut text = writer.into_inner();
     text.push(b'\n')?;
@@ -37,13 +38,13 @@ pub(crate) fn gitlab_report(
 fn write_issues(
     alloc: Global,
     writer: &mut Writer,
-    diagnostics: &[Diagnostic<'_>],
+    given: &[Fingerprinted<'_, '_>],
 ) -> Result<(), AllocError>
-    ensures tokens { OnOk result (writer.new.tokens ≡ writer.old.tokens ++ flat_map issue_tokens (map shown diagnostics.now)) }
+    ensures tokens { OnOk result (writer.new.tokens ≡ writer.old.tokens ++ flat_map issue_tokens (map shown_given given.now)) }
     ensures before { OnOk result (writer.new.before ≡ writer.old.before) }
 {
-    for diagnostic in diagnostics {
-        write_issue(alloc, writer, diagnostic)?;
+    for one in given {
+        write_issue(alloc, writer, one)?;
     }
     Ok(())
 }
@@ -53,18 +54,18 @@ fn write_issues(
 fn write_issue(
     alloc: Global,
     writer: &mut Writer,
-    diagnostic: &Diagnostic<'_>,
+    given: &Fingerprinted<'_, '_>,
 ) -> Result<(), AllocError>
-    ensures tokens { OnOk result (writer.new.tokens ≡ writer.old.tokens ++ issue_tokens (shown diagnostic.now)) }
+    ensures tokens { OnOk result (writer.new.tokens ≡ writer.old.tokens ++ issue_tokens (shown_given given.now)) }
     ensures before { OnOk result (writer.new.before ≡ writer.old.before) }
 {
+    let diagnostic = given.diagnostic;
     let remark = diagnostic.remark;
     let said = description(alloc, remark, diagnostic.word.as_slice())?;
-    let own = fingerprint(alloc, diagnostic)?;
     writer.begin_object()?;
     write_text(alloc, writer, "description", &said)?;
     write_text(alloc, writer, "check_name", remark.code())?;
-    write_text(alloc, writer, "fingerprint", &own)?;
+    write_word(writer, "fingerprint", &given.fingerprint)?;
     write_word(writer, "severity", gitlab_severity(remark.severity()))?;
     writer.key("location")?;
     write_location(alloc, writer, diagnostic)?;
@@ -97,17 +98,6 @@ fn description(alloc: Global, remark: Remark, word: &[u8]) -> Result<Vec<u8>, Al
 {
     let mut text = Vec::from_slice(alloc, remark.heading())?;
     push_word(alloc, &mut text, word)?;
-    Ok(text)
-}
-
-/// What distinguishes a diagnostic from the others about its file: `LINE:COLUMN:V6:PATH`.
-fn fingerprint(alloc: Global, diagnostic: &Diagnostic<'_>) -> Result<Vec<u8>, AllocError>
-    ensures { IfOk result (λ text. text.items ≡ fingerprint (shown diagnostic.now)) }
-{
-    let mut text = Vec::from_slice(alloc, Buffer::new().format(diagnostic.line).as_bytes())?;
-    push_number(&mut text, diagnostic.column)?;
-    push_part(&mut text, diagnostic.remark.code())?;
-    push_part(&mut text, diagnostic.path)?;
     Ok(text)
 }
 

@@ -1,14 +1,16 @@
 //! Diagnostics for people: each with its line, a mark below the place, and how to fix it.
 ghost use Rattle.std.specs.Prelude.{◌≡◌, ◌++◌, map, flat_map, IfOk, OnOk};
 ghost use Rattle.engine_formats.specs.Diagnostics.{shown};
-ghost use Rattle.engine_formats.specs.Human.{advice_line, human_lines, title_line};
+ghost use Rattle.engine_formats.specs.Human.{advice_line, human_lines, safe_lines, title_line};
 
 use crate::diagnostic::Diagnostic;
 use crate::gcc::{push_code, push_spot};
+use crate::hints::advice_for;
 use crate::marks::push_source;
+use crate::masked::masked;
 use crate::paint::Paint;
-use crate::remark::Remark;
 use std::alloc::{AllocError, Global};
+use text_bytes::Bytes;
 
 /// The lines of diagnostics, four for each, in colors or without, in the order given.
 pub(crate) fn human_lines(
@@ -26,7 +28,6 @@ pub(crate) fn human_lines(
 }
 
 /// Appends the four lines of a diagnostic, in colors or without.
-#[tactic(auto, unfolding(crate::specs::Human::human_lines))]
 fn push_human_lines(
     alloc: Global,
     text: &mut Vec<u8>,
@@ -34,6 +35,32 @@ fn push_human_lines(
     diagnostic: &Diagnostic<'_>,
 ) -> Result<(), AllocError>
     ensures { OnOk result (text.new.items ≡ text.old.items ++ human_lines in_color (shown diagnostic.now)) }
+{
+    let path = masked(alloc, diagnostic.path)?;
+    let source = masked(alloc, diagnostic.source)?;
+    let safe = Diagnostic {
+        name: diagnostic.name,
+        path: &path,
+        source: &source,
+        begins: diagnostic.begins,
+        line: diagnostic.line,
+        column: diagnostic.column,
+        end: diagnostic.end,
+        remark: diagnostic.remark,
+        word: Bytes::new(Vec::from_slice(alloc, diagnostic.word.as_slice())?),
+    };
+    push_safe_lines(alloc, text, in_color, &safe)
+}
+
+/// Appends the four lines of a diagnostic whose path and whose line are safe on a terminal.
+#[tactic(auto, unfolding(crate::specs::Human::safe_lines))]
+fn push_safe_lines(
+    alloc: Global,
+    text: &mut Vec<u8>,
+    in_color: bool,
+    diagnostic: &Diagnostic<'_>,
+) -> Result<(), AllocError>
+    ensures { OnOk result (text.new.items ≡ text.old.items ++ safe_lines in_color (shown diagnostic.now)) }
 {
     let paint = Paint::of(in_color, diagnostic.remark);
     push_title(alloc, text, paint, diagnostic)?;
@@ -44,7 +71,7 @@ fn push_human_lines(
         diagnostic.column as usize,
         diagnostic.end as usize,
     )?;
-    push_advice(text, diagnostic.remark)
+    push_advice(text, diagnostic)
 }
 
 /// Appends `PATH:LINE:COLUMN: error: bad substitution [V6]` and a newline, in a color up to what is said.
@@ -64,13 +91,13 @@ fn push_title(
     push_code(text, diagnostic.remark)
 }
 
-/// Appends `  = `, how to fix what a remark is about, and a newline.
+/// Appends `  = `, how to fix what a diagnostic is about, and a newline.
 #[tactic(auto, unfolding(crate::specs::Human::advice_line))]
-fn push_advice(text: &mut Vec<u8>, remark: Remark) -> Result<(), AllocError>
-    ensures { OnOk result (text.new.items ≡ text.old.items ++ advice_line remark) }
+fn push_advice(text: &mut Vec<u8>, diagnostic: &Diagnostic<'_>) -> Result<(), AllocError>
+    ensures { OnOk result (text.new.items ≡ text.old.items ++ advice_line (shown diagnostic.now)) }
 {
     text.extend_from_slice(b"  = ")?;
-    text.extend_from_slice(remark.advice())?;
+    text.extend_from_slice(advice_for(diagnostic))?;
     text.push(b'\n')?;
     Ok(())
 }

@@ -10,6 +10,7 @@ ghost use Rattle.file_messages.specs.declared.message.Message.{Message};
 ghost use Rattle.file_messages.specs.declared.message.MessageKind.{MessageKind};
 ghost use Rattle.text_bytes.specs.declared.source_file.SourceFile.{SourceFile};
 ghost use Rattle.hwdb_core.specs.Sources.{messages_of};
+ghost use Rattle.hwdb_lints.specs.declared.lint.DatabaseLint.{DatabaseLint};
 ghost use Rattle.rule_lints.specs.declared.lint.Lint.{Lint};
 ghost use Rattle.engine_ends.specs.declared.line.Format.{Format};
 ghost use Rattle.engine_reports.specs.Checks.{is_style};
@@ -20,6 +21,7 @@ ghost use Rattle.engine_formats.specs.Github.{github_place, github_property, git
 ghost use Rattle.engine_formats.specs.Human.{human_lines, shown_byte};
 ghost use Rattle.engine_formats.specs.Made.{AreMadeFrom, IsFoundIn};
 ghost use Rattle.engine_formats.specs.Marks.{PointsAt, line_after};
+ghost use Rattle.engine_formats.specs.Masked.{masked};
 ghost use Rattle.engine_formats.specs.Placing.{placed};
 ghost use Rattle.engine_formats.specs.Readers.{HasPlace, ends_line, ends_property, github_read, property_at};
 ghost use Rattle.engine_formats.specs.Remarks.{code_of, remark_heading, severity_of, text_of};
@@ -38,6 +40,7 @@ pub fn a_heading_is_its_code_and_text()
 pub fn style_is_a_warning()
     ensures message { (kind : MessageKind) → severity_of (about.Message kind) ≡ (if is_style kind then Warning else Error) }
     ensures lint { (lint : Lint) → severity_of (about.Lint lint) ≡ Warning }
+    ensures database { (lint : DatabaseLint) → severity_of (about.DatabaseLint lint) ≡ Warning }
     ensures idle { severity_of about.IdleIgnore ≡ Warning }
     ensures unknown { severity_of about.UnknownCode ≡ Warning }
 {}
@@ -76,9 +79,19 @@ pub fn messages_are_at_their_words()
 /// A line of at most 160 bytes is shown whole.
 pub fn marks_are_below_their_places()
     ensures mark { (in_color : Bool) (d : DiagnosticValue) → HasPlace d → d.column ≤ length d.source + 1
-        → PointsAt d.source d.column (line_after 1 (human_lines in_color d)) (line_after 2 (human_lines in_color d)) }
+        → PointsAt (masked d.source) d.column (line_after 1 (human_lines in_color d)) (line_after 2 (human_lines in_color d)) }
     ensures whole { (in_color : Bool) (d : DiagnosticValue) → HasPlace d → length d.source ≤ 160
-        → line_after 1 (human_lines in_color d) ≡ codes "  " ++ map shown_byte d.source }
+        → line_after 1 (human_lines in_color d) ≡ codes "  " ++ map shown_byte (masked d.source) }
+{}
+
+/// What a terminal would obey becomes a sign that it shows: here a control character of two bytes, a mark that reverses what
+/// follows, and one that isolates it. Other characters stay.
+pub fn terminals_are_not_obeyed()
+    ensures control { masked (194 ∷ 128 ∷ 194 ∷ 155 ∷ 194 ∷ 159 ∷ []) ≡ 194 ∷ 191 ∷ 194 ∷ 191 ∷ 194 ∷ 191 ∷ [] }
+    ensures direction { masked (226 ∷ 128 ∷ 170 ∷ 226 ∷ 128 ∷ 174 ∷ []) ≡ 226 ∷ 128 ∷ 189 ∷ 226 ∷ 128 ∷ 189 ∷ [] }
+    ensures isolation { masked (226 ∷ 129 ∷ 166 ∷ 226 ∷ 129 ∷ 169 ∷ []) ≡ 226 ∷ 129 ∷ 135 ∷ 226 ∷ 129 ∷ 135 ∷ [] }
+    ensures others { masked (155 ∷ 194 ∷ 160 ∷ 226 ∷ 128 ∷ 169 ∷ 226 ∷ 128 ∷ 175 ∷ 226 ∷ 129 ∷ 165 ∷ 226 ∷ 129 ∷ 170 ∷ [])
+        ≡ 155 ∷ 194 ∷ 160 ∷ 226 ∷ 128 ∷ 169 ∷ 226 ∷ 128 ∷ 175 ∷ 226 ∷ 129 ∷ 165 ∷ 226 ∷ 129 ∷ 170 ∷ [] }
 {}
 
 /// The formats for people and for GitHub have a line for each diagnostic, or four if its line is shown, whatever

@@ -6,16 +6,20 @@
 
 mod advice;
 mod codes;
+mod database_lints;
 mod diagnostic;
+mod fingerprints;
 mod formats;
 mod gcc;
 mod github;
 mod github_escapes;
 mod gitlab;
+mod hints;
 mod human;
 mod json_members;
 mod laws;
 mod marks;
+mod masked;
 mod objects;
 mod paint;
 mod parts;
@@ -24,18 +28,21 @@ mod placing;
 mod plain;
 mod reader_laws;
 mod remark;
+mod sarif;
+mod uris;
 
 pub use codes::{each_remark_is_found, remark_of, remarks};
 pub use diagnostic::Diagnostic;
-pub use formats::formatted;
+pub use formats::{formatted, is_report};
 pub use laws::{
     a_heading_is_its_code_and_text, commands_are_read_back, commands_end_nowhere_within,
     diagnostics_have_their_lines, marks_are_below_their_places, messages_are_at_their_words,
-    messages_are_plain_diagnostics, style_is_a_warning,
+    messages_are_plain_diagnostics, style_is_a_warning, terminals_are_not_obeyed,
 };
 pub use paths::path_of;
 pub use placing::{TextPlace, file_lines, line_numbered, placed_message};
 pub use reader_laws::{
-    a_gitlab_report_is_an_array, each_json_line_is_an_object, fingerprints_differ,
+    a_gitlab_report_is_an_array, a_sarif_log_is_an_object, each_json_line_is_an_object,
+    fingerprints_differ, fingerprints_stay, logs_are_read_back,
 };
 pub use remark::{Remark, Severity};

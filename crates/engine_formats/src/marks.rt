@@ -81,7 +81,7 @@ fn window(source: &[u8], start: usize) -> &[u8]
 
 /// The first bytes of a text, all of them if there are fewer.
 #[tactic(auto, using(std::proofs::lemmas::List::take_min))]
-fn prefix(text: &[u8], len: usize) -> &[u8]
+pub(crate) fn prefix(text: &[u8], len: usize) -> &[u8]
     ensures { result.now ≡ take len text.now }
 {
     &text[..len.min(text.len())]
@@ -160,7 +160,7 @@ fn push_under(text: &mut Vec<u8>, mark: u8, bytes: &[u8]) -> Result<(), AllocErr
 }
 
 /// Whether a byte continues a UTF-8 character, and so takes no column of its own.
-fn continues(byte: u8) -> bool
+pub(crate) fn continues(byte: u8) -> bool
     ensures { result ≡ continues byte }
 {
     0x80 <= byte && byte < 0xC0

@@ -2,8 +2,10 @@
 ghost use Rattle.std.specs.Prelude.{◌≡◌};
 ghost use Rattle.engine_formats.specs.Remarks.{code_of, heading_parts, lint_heading, remark_heading, severity_of, severity_word, text_of};
 
+use crate::database_lints::database_heading;
 use engine_reports::heading;
 use file_messages::MessageKind;
+use hwdb_lints::DatabaseLint;
 use rule_lints::Lint;
 use text_bytes::{begins_with, split_once};
 
@@ -14,6 +16,8 @@ pub enum Remark {
     Message(MessageKind),
     /// W1 to W14: a rule is most likely not the one that was meant.
     Lint(Lint),
+    /// D1 to D13: a line of a database is most likely not the one that was meant.
+    DatabaseLint(DatabaseLint),
     /// I1: a comment ignores messages with a code, and there are none.
     IdleIgnore,
     /// I2: a comment names an unknown code, or is not understood.
@@ -37,6 +41,7 @@ impl Remark {
         match self {
             Remark::Message(kind) => heading(kind),
             Remark::Lint(lint) => lint_heading(lint),
+            Remark::DatabaseLint(lint) => database_heading(lint),
             Remark::IdleIgnore => b"I1 nothing to ignore",
             Remark::UnknownCode => b"I2 unknown code",
         }
@@ -70,13 +75,17 @@ impl Remark {
         }
     }
 
-    /// How severe a remark is, which the letter of its code says: V and H are errors, S, I and W
-    /// warnings.
+    /// How severe a remark is, which the letter of its code says: V and H are errors, S, I, W
+    /// and D warnings.
     pub fn severity(self) -> Severity
         ensures { result ≡ severity_of self }
     {
         let heading = self.heading();
-        if begins_with(b'S', heading) || begins_with(b'I', heading) || begins_with(b'W', heading) {
+        if begins_with(b'S', heading)
+            || begins_with(b'I', heading)
+            || begins_with(b'W', heading)
+            || begins_with(b'D', heading)
+        {
             Severity::Warning
         } else {
             Severity::Error

@@ -1,5 +1,5 @@
 -- The status of checks, by what is reported.
-use Rattle.std.proofs.Common.{◌≡◌, ℕ, ◌+◌, ◌==◌, ◌||◌, Bool, true, false, cond, List, [], ◌∷◌, map, flat_map, count_by, arith, refl, ap, ◌∙◌}
+use Rattle.std.proofs.Common.{◌≡◌, ℕ, ◌+◌, ◌==◌, ◌||◌, Bool, true, false, cond, List, [], ◌∷◌, map, flat_map, count_by, arith, refl, ap, sym, ◌∙◌}
 use Rattle.std.specs.List.{list_any}
 use Rattle.std.proofs.lemmas.List.Sums.{sum_by-cons}
 use Rattle.text_bytes.specs.declared.source_file.SourceFile.{SourceFile}
@@ -8,9 +8,11 @@ use Rattle.rule_core.specs.Rules.{set_of_as}
 use Rattle.engine_ends.specs.Delivery.{RunOutcome}
 use Rattle.engine_ends.specs.declared.line.Format.{Format}
 use Rattle.engine_ends.specs.declared.line.Line.{Line}
+use Rattle.engine_reports.specs.Checks.{files_said}
 use Rattle.engine_reports.specs.Outcomes.{hold_few_tokens, too_many_rules}
+use Rattle.engine_formats.specs.Formats.{formatted, is_report}
 use Rattle.engine_checks.specs.Files.{rules_reported}
-use Rattle.engine_checks.specs.Outcomes.{checks_said, rules_checks}
+use Rattle.engine_checks.specs.Outcomes.{checks_said, in_format, rules_checks}
 
 -- one of two numbers
 abbrev either_number : Bool → ℕ → ℕ → ℕ
@@ -44,9 +46,35 @@ status_stays line format files =
     (checks_said (record line { format = format }) files (flat_map (rules_reported (record line { format = format })) files))
     (checks_said line files (flat_map (rules_reported line) files)) too_many_rules refl
 
-pub count_stays : (line : Line) (format : Format) (files : List SourceFile) → (rules_checks (record line { format = format }) files).output ≡ (rules_checks line files).output
+-- the output of messages is that of what is said
+unreported : (format : Format) (said : RunOutcome) → is_report format ≡ false → (in_format format said).output ≡ said.output
+unreported format said e = ap (λ b. cond b said.messages said.output) e
+
+pub count_stays : (line : Line) (format : Format) (files : List SourceFile) → is_report format ≡ false → is_report line.format ≡ false
+    → (rules_checks (record line { format = format }) files).output ≡ (rules_checks line files).output
 unfolding rules_checks rules_reported
-count_stays line format files =
+count_stays line format files other own =
     either (λ (o : RunOutcome). o.output) (hold_few_tokens (set_of_as line.profile files).rules)
     (checks_said (record line { format = format }) files (flat_map (rules_reported (record line { format = format })) files))
-    (checks_said line files (flat_map (rules_reported line) files)) too_many_rules refl
+    (checks_said line files (flat_map (rules_reported line) files)) too_many_rules
+    (unreported format (counted format) other ∙ sym (unreported line.format (counted line.format) own))
+  where
+    counted : Format → RunOutcome
+    counted f = files_said line.summary files (map (λ d. d.name) (flat_map (rules_reported line) files)) (formatted f (flat_map (rules_reported line) files))
+
+pub report_alone : (line : Line) (files : List SourceFile) → is_report line.format ≡ true → hold_few_tokens (set_of_as line.profile files).rules ≡ true
+    → ((rules_checks line files).output ≡ formatted line.format (flat_map (rules_reported line) files)) × ((rules_checks line files).messages ≡ [])
+unfolding rules_checks
+report_alone line files own few = (
+  ap (λ b. (cond b said too_many_rules).output) few ∙ ap (λ b. cond b lines counts) own,
+  ap (λ b. (cond b said too_many_rules).messages) few ∙ ap (λ b. cond b [] lines) own,
+)
+  where
+    lines : List ℕ
+    lines = formatted line.format (flat_map (rules_reported line) files)
+
+    said : RunOutcome
+    said = checks_said line files (flat_map (rules_reported line) files)
+
+    counts : List ℕ
+    counts = (files_said line.summary files (map (λ d. d.name) (flat_map (rules_reported line) files)) lines).output

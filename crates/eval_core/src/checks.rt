@@ -20,8 +20,11 @@ const MAX_NAMES: usize = 60;
 
 /// The positions in what is seen of an event.
 const ACTION_SLOT: usize = 0;
+
 const KERNEL_SLOT: usize = 1;
+
 const SUBSYSTEM_SLOT: usize = 2;
+
 const DRIVER_SLOT: usize = 3;
 
 /// The position of the first byte of the kernel's name.

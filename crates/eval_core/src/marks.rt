@@ -50,7 +50,9 @@ impl MarkSet {
     fn none() -> MarkSet
         ensures { result ≡ none_set }
     {
-        MarkSet { set: [false; MARK_COUNT] }
+        MarkSet {
+            set: [false; MARK_COUNT],
+        }
     }
 
     /// Sets a mark.

@@ -103,15 +103,15 @@ module _ (name : Text) where
   after_light : (begin word : Text) → after_size begin (after_name begin word) ≤ length word
   after_light [] word = omega arith
   after_light (b ∷ begin) [] = omega arith
-  after_light (b ∷ begin) (c ∷ word) = by (folded b == folded c)
+  after_light (b ∷ begin) (c ∷ word) = by (after_light begin word) (folded b == folded c)
     where
       more : (rest : Option Text) → after_size begin rest ≤ length word → after_size (b ∷ begin) rest ≤ length (c ∷ word)
       more None light = omega arith
       more (Some rest) light = omega (arith, light)
 
-      by : (same : Bool) → after_size (b ∷ begin) (if same then after_name begin word else None) ≤ length (c ∷ word)
-      by true = more (after_name begin word) (after_light begin word)
-      by false = omega arith
+      by : after_size begin (after_name begin word) ≤ length word → (same : Bool) → after_size (b ∷ begin) (if same then after_name begin word else None) ≤ length (c ∷ word)
+      by light true = more (after_name begin word) light
+      by light false = omega arith
 
   value_light : (word : Text) (rest : Option Text) → after_size name rest ≤ length word → room (value_after rest) ≤ length word
   value_light word None light = omega arith
@@ -135,12 +135,13 @@ module _ (name : Text) where
 
   alone_light : (words : List Text) → list_any (λ word. is_alone (after_name name word)) words ≡ true → length name ≤ total words
   alone_light [] is = cc
-  alone_light (word ∷ words) is = by (after_name name word) (after_light name word) is
+  alone_light (word ∷ words) is = by (λ more. alone_light words more) (after_name name word) (after_light name word) is
     where
-      by : (rest : Option Text) → after_size name rest ≤ length word → (is_alone rest || list_any (λ other. is_alone (after_name name other)) words) ≡ true → length name ≤ total (word ∷ words)
-      by None light more = let a = sum_by-cons length word words in let b = alone_light words more in omega (arith, a, b)
-      by (Some []) light more = let a = sum_by-cons length word words in omega (arith, a, light)
-      by (Some (b ∷ rest)) light more = let a = sum_by-cons length word words in omega (arith, a, light)
+      by : (list_any (λ other. is_alone (after_name name other)) words ≡ true → length name ≤ total words)
+          → (rest : Option Text) → after_size name rest ≤ length word → (is_alone rest || list_any (λ other. is_alone (after_name name other)) words) ≡ true → length name ≤ total (word ∷ words)
+      by later None light more = let a = sum_by-cons length word words in let b = later more in omega (arith, a, b)
+      by later (Some []) light more = let a = sum_by-cons length word words in omega (arith, a, light)
+      by later (Some (b ∷ rest)) light more = let a = sum_by-cons length word words in omega (arith, a, light)
 
   one_light : (words : List Text) → room (one_if_alone name words) ≤ total words + 2
   one_light words = by (list_any (λ word. is_alone (after_name name word)) words) refl

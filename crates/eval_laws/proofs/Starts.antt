@@ -70,7 +70,7 @@ properties_light Udev env = filter_light pair_weight (λ property. not (is_empty
 env_light : (event : EventValue) → pairs_weight (start_env event) ≤ pairs_weight event.device.env + pairs_weight (reported_by event)
 unfolding start_env
 env_light event =
-    let a = with_values_light (with_values [] event.device.env) (reported_by event) in
+    let a = with_values_light (with_values [] (given_properties event.profile event.device.env)) (reported_by event) in
     let b = with_values_light [] (given_properties event.profile event.device.env) in
     let c = properties_light event.profile event.device.env in
     omega (arith, a, b, c)

@@ -1,5 +1,6 @@
 -- What an answer weighs at most.
 use Rattle.std.proofs.Common.{◌≡◌, ℕ, ◌+◌, ◌≤◌, Bool, true, false, cond, List, length, Option, Some, None, Ok, arith}
+use Rattle.std.proofs.lemmas.List.Sums.{sum_by-cons}
 use Rattle.text_bytes.specs.declared.profile.Profile.{Profile}
 use Rattle.text_tables.specs.Texts.{Text}
 use Rattle.builtin_devices.specs.Knowledge.{Known}
@@ -39,7 +40,12 @@ device_by_light profile device = let a = number_by_light profile device.number i
 -- an event by a profile weighs no more
 pub weight_by : (profile : Profile) (event : EventValue) → event_weight (by_profile profile event) ≤ event_weight event
 unfolding event_weight
-weight_by profile event = let a = device_by_light profile event.device in omega (arith, a)
+weight_by profile event =
+    let changed : DeviceValue = record event.device { number = number_by profile event.device.number } in
+    let a : device_weight changed ≤ device_weight event.device = device_by_light profile event.device in
+    let b = sum_by-cons device_weight event.device event.parents in
+    let c = sum_by-cons device_weight changed event.parents in
+    omega (arith, a, b, c)
 
 pub block_answer : (profile : Profile) (rules : List Rule) (known : Known) (block : Text) (event : EventValue) → block_gives block ≡ Ok event
     → outcome_weight (outcome rules known (by_profile profile event)) ≤ most_weight profile (length block) known.entries rules

@@ -21,7 +21,7 @@ use Rattle.engine_formats.specs.Diagnostics.{DiagnosticValue}
 use Rattle.engine_formats.specs.Formats.{formatted}
 use Rattle.engine_formats.specs.Paths.{path_in_folder}
 use Rattle.engine_checks.specs.Files.{asked_by, found_with, ignores_counted, lints_counted, rules_reported}
-use Rattle.engine_checks.specs.Outcomes.{checks_outcome, rules_checks}
+use Rattle.engine_checks.specs.Outcomes.{checks_outcome, in_format, rules_checks}
 use Rattle.engine_checks.specs.Reported.{Asked, FileText, file_reported}
 use Rattle.example_laws.specs.Checked.{Checks, rules_file}
 
@@ -39,7 +39,7 @@ reported asked file =
 abbrev said_about : Asked → Format → Bool → SourceFile → RunOutcome
 said_about asked format summary file =
     cond (hold_few_tokens (set_of_as asked.profile (file ∷ [])).rules)
-    (files_said summary (file ∷ []) (map (λ d. d.name) (flat_map (reported asked) (file ∷ []))) (formatted format (flat_map (reported asked) (file ∷ []))))
+    (in_format format (files_said summary (file ∷ []) (map (λ d. d.name) (flat_map (reported asked) (file ∷ []))) (formatted format (flat_map (reported asked) (file ∷ [])))))
     too_many_rules
 
 -- the same for a file as it is passed in
@@ -73,7 +73,7 @@ named_one rules line named =
     said_at : Text → RunOutcome
     said_at path =
         cond (hold_few_tokens (set_of_as line.profile (file ∷ [])).rules)
-        (files_said line.summary (file ∷ []) (map (λ d. d.name) (flat_map (λ (f : SourceFile). reported_at path) (file ∷ []))) (formatted line.format (flat_map (λ (f : SourceFile). reported_at path) (file ∷ []))))
+        (in_format line.format (files_said line.summary (file ∷ []) (map (λ d. d.name) (flat_map (λ (f : SourceFile). reported_at path) (file ∷ []))) (formatted line.format (flat_map (λ (f : SourceFile). reported_at path) (file ∷ [])))))
         too_many_rules
 
 -- so what it says is what it asks for

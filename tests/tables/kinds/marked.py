@@ -6,9 +6,11 @@ the text without the marks, and the formats are written anew from docs/behaviour
 """
 import json
 import re
+from collections import Counter
 from dataclasses import dataclass
 from functools import cache
 from pathlib import Path
+from urllib.parse import quote
 
 from tables.kinds.row import Read, Row, as_bytes
 
@@ -74,7 +76,9 @@ TEXTS = {
 MARK = re.compile(rb"<([VSHIW]\d+(?: [VSHIW]\d+)*)(?:=([^|<>]*))?\|([^<>]*)>")
 # Lints of one rule are ordered by their codes, except for these, which come last.
 LAST_LINTS = [6, 7, 13]
-FORMATS = ["plain", "gcc", "github", "gitlab", "json", "human"]
+FORMATS = ["plain", "gcc", "github", "gitlab", "json", "sarif", "human"]
+# Those that are reports for programs, and all of the standard output.
+REPORTS = ["gitlab", "json", "sarif"]
 
 # A message has so many bytes of a word in `plain`.
 WORD = 32
@@ -94,7 +98,7 @@ class Found:
 
     @property
     def severity(self):
-        return "warning" if self.code[0] in "SIW" else "error"
+        return "warning" if self.code[0] in "SIWD" else "error"
 
     @property
     def text(self):
@@ -194,13 +198,42 @@ def columns(text):
     return sum(not 0x80 <= byte < 0xC0 for byte in text)
 
 
+# What a terminal would obey, in UTF-8, and what it shows instead: control characters of two bytes, and marks of direction.
+OBEYED = [
+    (re.compile(rb"\xC2[\x80-\x9F]"), "\u00BF".encode()),
+    (re.compile(rb"\xE2\x80[\xAA-\xAE]"), "\u203D".encode()),
+    (re.compile(rb"\xE2\x81[\xA6-\xA9]"), "\u2047".encode()),
+]
+# What `human` says about a text that begins with what nobody sees, and about a comma at a line's end, instead of the sentence.
+UNSEEN = [
+    ("\uFEFF".encode(), b"The file begins with a byte order mark, which an editor does not show: save it as UTF-8 without one."),
+    ("\u00A0".encode(), b"Here is a no-break space, which looks like a space: write a space."),
+    (b"\r", b"The line ends in CR LF, as on Windows: save the file with LF alone."),
+]
+COMMA_AT_THE_END = b"Remove the comma at the end, or write a backslash after it if the rule goes on in the next line."
+
+
+def masked(text):
+    """Bytes without the characters that a terminal would obey."""
+    for pattern, sign in OBEYED:
+        text = pattern.sub(sign, text)
+    return text
+
+
+def advice(code, word, at_end):
+    """How `human` says that a message is to be fixed, by its code, its word, and whether its place ends its line."""
+    if code == "V1":
+        return next((hint for start, hint in UNSEEN if word.startswith(start)), sentence(code))
+    return COMMA_AT_THE_END if code == "S1" and at_end else sentence(code)
+
+
 def human(found, name, path):
     # (of a line of more than 160 bytes only a part is shown: such rows are written by hand)
-    source = bytes(0x20 if byte == 0x09 else ord("?") if byte < 0x20 or byte == 0x7F else byte for byte in found.source)
+    source = bytes(0x20 if byte == 0x09 else ord("?") if byte < 0x20 or byte == 0x7F else byte for byte in masked(found.source))
     caret = b" " * columns(found.source[:found.column - 1]) + b"^" + b"~" * columns(found.source[found.column:found.end - 1])
     return b"%s:%d:%d: %s: %s [%s]\n  %s\n  %s\n  = %s\n" % (
-        escaped(path), found.line, found.column, found.severity.encode(), found.text, found.code.encode(), source, caret,
-        sentence(found.code))
+        masked(escaped(path)), found.line, found.column, found.severity.encode(), found.text, found.code.encode(), source, caret,
+        advice(found.code, found.word, found.end == len(found.source) + 1))
 
 
 def gitlab_report(text):
@@ -210,7 +243,7 @@ def gitlab_report(text):
     if not all(isinstance(mark, str) and mark for mark in prints) or len(set(prints)) < len(prints):
         raise ValueError(f"fingerprints {prints}")
     return [
-        (it["location"]["path"], it["location"]["lines"]["begin"], it["severity"], it["check_name"], it["description"])
+        (it["location"]["path"], it["location"]["lines"]["begin"], it["severity"], it["check_name"], it["description"], it["fingerprint"])
         for it in report
     ]
 
@@ -220,6 +253,47 @@ def gitlab(found, name, path):
     return (shown(path), found.line, severity, found.code, f"{found.code} {shown(with_word(found, escaped(found.word)))}")
 
 
+def with_fingerprints(said, every):
+    """What is said about messages, each with its fingerprint: which of those with its code, its path and the text of its line it is."""
+    seen, given = Counter(), []
+    for it, (found, _, path) in zip(said, every):
+        mark = shown(b":".join([found.code.encode(), path, found.source]))
+        seen[mark] += 1
+        given.append((*it, f"{seen[mark]}:{mark}"))
+    return given
+
+
+def sarif_log(text):
+    """What a reader of SARIF reads of a log: for each result its place, its level, its rule, its message and its fingerprint."""
+    log = json.loads(text.decode("utf-8"))
+    [only] = log["runs"]
+    driver = only["tool"]["driver"]
+    rules = {it["id"]: (it["shortDescription"]["text"], it["help"]["text"]) for it in driver["rules"]}
+    if (log["version"], driver["name"], only["columnKind"]) != ("2.1.0", "devdry", "unicodeCodePoints"):
+        raise ValueError(f"the head of {log}")
+    if len(rules) < len(driver["rules"]) or any(
+            rules[code] != (said, sentence(code).decode().replace("{", "{{").replace("}", "}}")) for code, said in TEXTS.items()):
+        raise ValueError(f"rules {rules}")
+    results = []
+    for it in only["results"]:
+        [place] = [place["physicalLocation"] for place in it["locations"]]
+        region = place["region"]
+        results.append((place["artifactLocation"]["uri"], region["startLine"], region["startColumn"], region["endColumn"], it["level"], it["ruleId"],
+                        it["message"]["text"], it["partialFingerprints"]["devdryLine/v1"]))
+    return results
+
+
+def uri_of(path):
+    """A path as a reference of RFC 3986."""
+    return ("file://" if path.startswith(b"/") else "") + quote(path, safe="/-._~")
+
+
+def sarif(found, name, path):
+    said = shown(with_word(found, escaped(found.word))).replace("{", "{{").replace("}", "}}")
+    begins, ends = (columns(found.source[:at - 1]) + 1 for at in (found.column, found.end))
+    return (uri_of(path), found.line, begins, ends, found.severity, found.code, said)
+
+
 LINES = {"plain": plain, "gcc": gcc, "github": github, "json": json_line, "human": human}
 
 
@@ -227,8 +301,15 @@ def messages(form, files):
     """Everything that a format says about messages: `files` are name, path and messages of each file."""
     every = [(it, as_bytes(name), as_bytes(path)) for name, path, found in files for it in found]
     if form == "gitlab":
-        return Read(gitlab_report, [gitlab(*it) for it in every])
+        return Read(gitlab_report, with_fingerprints([gitlab(*it) for it in every], every))
+    if form == "sarif":
+        return Read(sarif_log, with_fingerprints([sarif(*it) for it in every], every))
     return b"".join(LINES[form](*it) for it in every)
+
+
+def written(form, said, answer):
+    """Where what is said in a format and the answer beside it go."""
+    return {"output": said} if form in REPORTS else {"output": answer, "messages": said}
 
 
 def summary(files):
@@ -243,7 +324,7 @@ def in_formats(name, *lines, file=b"r.rules", formats=FORMATS, words=(), beside=
     file = as_bytes(file)
     files = [(file, file, found)]
     return [
-        Row(f"{name}, {form}", ["verify", f"--format={form}", *words, file], {file: text, **(beside or {})}, output=summary(files),
-            messages=messages(form, files), status=1 if found else 0)
+        Row(f"{name}, {form}", ["verify", f"--format={form}", *words, file], {file: text, **(beside or {})}, status=1 if found else 0,
+            **written(form, messages(form, files), summary(files)))
         for form in formats
     ]

@@ -9,9 +9,10 @@ pub returns : goal.returns
 returns c =
     let start : IsCommand (new_shape (codes "events")) c.about.result = search rules in
     let first = one_more _ _ _ _ _ start c.root_option.ensures c.in_ok-arg.ensures in
-    let second = one_more _ _ _ _ _ first c.sources_flag.ensures c.in_ok-arg-2.ensures in
-    let third = one_more _ _ _ _ _ second c.why_option.ensures c.in_ok-arg-3.ensures in
-    let fourth = one_more _ _ _ _ _ third c.questions_flag.ensures c.in_ok-arg-4.ensures in
-    let fifth = one_more _ _ _ _ _ fourth c.index_option.ensures c.in_ok-arg-5.ensures in
-    let sixth = one_more _ _ _ _ _ fifth c.udev_flag.ensures c.in_ok-arg-6.ensures in
-    IfOk-weaker c.arg-7.result _ _ (λ m h. one_more _ _ _ _ _ sixth c.files_argument.ensures h) c.arg-7.ensures
+    let second = one_more _ _ _ _ _ first c.all_flag.ensures c.in_ok-arg-2.ensures in
+    let third = one_more _ _ _ _ _ second c.sources_flag.ensures c.in_ok-arg-3.ensures in
+    let fourth = one_more _ _ _ _ _ third c.why_option.ensures c.in_ok-arg-4.ensures in
+    let fifth = one_more _ _ _ _ _ fourth c.questions_flag.ensures c.in_ok-arg-5.ensures in
+    let sixth = one_more _ _ _ _ _ fifth c.index_option.ensures c.in_ok-arg-6.ensures in
+    let seventh = one_more _ _ _ _ _ sixth c.udev_flag.ensures c.in_ok-arg-7.ensures in
+    IfOk-weaker c.arg-8.result _ _ (λ m h. one_more _ _ _ _ _ seventh c.files_argument.ensures h) c.arg-8.ensures

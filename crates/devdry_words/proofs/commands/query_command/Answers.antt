@@ -9,7 +9,8 @@ pub returns : goal.returns
 returns c =
     let start : IsCommand (new_shape (codes "query")) c.override_usage.result = search rules in
     let first = one_more _ _ _ _ _ start c.root_option.ensures c.in_ok-arg.ensures in
-    let second = one_more _ _ _ _ _ first c.sources_flag.ensures c.in_ok-arg-2.ensures in
-    let third = one_more _ _ _ _ _ second c.index_option.ensures c.in_ok-arg-3.ensures in
-    let fourth = one_more _ _ _ _ _ third c.modalias_argument.ensures c.in_ok-arg-4.ensures in
-    IfOk-weaker c.arg-5.result _ _ (λ m h. one_more _ _ _ _ _ fourth c.files_argument.ensures h) c.arg-5.ensures
+    let second = one_more _ _ _ _ _ first c.all_flag.ensures c.in_ok-arg-2.ensures in
+    let third = one_more _ _ _ _ _ second c.sources_flag.ensures c.in_ok-arg-3.ensures in
+    let fourth = one_more _ _ _ _ _ third c.index_option.ensures c.in_ok-arg-4.ensures in
+    let fifth = one_more _ _ _ _ _ fourth c.modalias_argument.ensures c.in_ok-arg-5.ensures in
+    IfOk-weaker c.arg-6.result _ _ (λ m h. one_more _ _ _ _ _ fifth c.files_argument.ensures h) c.arg-6.ensures

@@ -2,6 +2,8 @@ use Rattle.std.proofs.Common.{◌≡◌, Some, refl}
 use Rattle.text_bytes.specs.Texts.{split_once}
 use Rattle.file_messages.specs.declared.message.MessageKind.TheVariants.{PropertyWithoutMatch, MatchWithoutProperty, UnindentedLine, NoEquals, EmptyKey, PatternNotSupported, BadSyntax, UnknownKey, OperatorNotAllowed, WrongAttribute, BadValue, BadSubstitution, NoLaterLabel, GivenTwice, LineTooLong, BadPrefix, SetNotSupported, OpenAtEnd, ReservedProperty, NameWithoutEffect, UnknownBuiltin, MatchesExclude, SaidTwice, RuleWithoutEffect, ResultBeforeProgram, EmptyValue, BadAttributeSubstitution, AttributeElsewhere, OldSubsystemName, AssignExpected, UnknownAccount, FileAbandoned, CommaExpected, BlankExpected, ReadAsAssign, LabelUnused, LeadingComma, BlankBeforeComma}
 use Rattle.rule_lints.specs.declared.lint.Lint.TheVariants.{ModeNotOctal, SignOfShell, RelativeProgram, LetterCase, NoSuchDevice, ImportedBelow, MeantToCompare, NameOutsideNet, LinkWithDev, QuotedName, NotAPattern, AlwaysHolds, NeverReached, NoPatternForUdev}
+use Rattle.hwdb_lints.specs.declared.lint.DatabaseLint.TheVariants.{DigitCase, NoModalias, EndMissing, UnknownPrefix, MatchTwice, PropertyTwice, BlankAtEquals}
+use Rattle.hwdb_lints.specs.declared.lint.DatabaseLint.TheVariants.{OddName, BlankAtEnd, ByteOrderMark, CutWord, OpenSet, WrongValue}
 use Rattle.engine_formats.specs.Remarks.{code_of, heading_parts}
 use Rattle.engine_formats.specs.declared.remark.Remark.{Remark}
 use Rattle.engine_formats.specs.declared.remark.Remark.TheVariants as about
@@ -63,6 +65,19 @@ found (about.Lint NotAPattern) = refl
 found (about.Lint AlwaysHolds) = refl
 found (about.Lint NeverReached) = refl
 found (about.Lint NoPatternForUdev) = refl
+found (about.DatabaseLint DigitCase) = refl
+found (about.DatabaseLint NoModalias) = refl
+found (about.DatabaseLint EndMissing) = refl
+found (about.DatabaseLint UnknownPrefix) = refl
+found (about.DatabaseLint MatchTwice) = refl
+found (about.DatabaseLint PropertyTwice) = refl
+found (about.DatabaseLint BlankAtEquals) = refl
+found (about.DatabaseLint OddName) = refl
+found (about.DatabaseLint BlankAtEnd) = refl
+found (about.DatabaseLint ByteOrderMark) = refl
+found (about.DatabaseLint CutWord) = refl
+found (about.DatabaseLint OpenSet) = refl
+found (about.DatabaseLint WrongValue) = refl
 found IdleIgnore = refl
 found UnknownCode = refl
 

@@ -1,5 +1,6 @@
 use Rattle.std.proofs.Common.{map, append_assoc}
 use Rattle.engine_formats.specs.Diagnostics.{shown}
+use Rattle.engine_formats.specs.Fingerprints.{fingerprinted}
 use Rattle.engine_formats.specs.Json.{gitlab_report}
 use Rattle.engine_formats.proofs.Issues.{report_listed}
 use Rattle.engine_formats.proofs.gitlab.gitlab_report.Goals as goal
@@ -17,8 +18,10 @@ returns c =
       c.new.ensures.items,
       c.in_ok-end_array.ensures.ok,
       c.in_ok-write_issues.ensures.tokens,
+      c.deref.ensures.value,
+      c.in_ok-given.ensures,
       c.in_ok-begin_array.ensures.ok,
       c.new-writer.ensures.tokens,
-      ← report_listed (map shown c.args.diagnostics.now),
+      ← report_listed (fingerprinted (map shown c.args.diagnostics.now)),
     )
     (simp append_assoc)

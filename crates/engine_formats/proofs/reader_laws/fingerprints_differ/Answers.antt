@@ -1,5 +1,6 @@
-use Rattle.engine_formats.proofs.Fingerprints.{same_place}
+use Rattle.std.proofs.Common.{[], arith}
+use Rattle.engine_formats.proofs.Counts.{once_after}
 use Rattle.engine_formats.proofs.reader_laws.fingerprints_differ.Goals as goal
 
 pub returns : goal.returns
-returns c one other h k same = same_place one other h k same
+returns c diagnostics few = once_after [] diagnostics (omega arith)

@@ -1,3 +1,0 @@
-pub mod Seen
-pub mod AllFields
-pub mod NewNames

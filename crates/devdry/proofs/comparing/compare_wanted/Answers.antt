@@ -1,0 +1,10 @@
+use Rattle.std.proofs.Common.{inl, inr, refl}
+use Rattle.devdry.proofs.comparing.compare_wanted.Goals as goal
+
+pub returns-in-Ok : goal.returns-in-Ok
+returns-in-Ok g c =
+    let both = c.in-Ok.both in
+    inl (record { old_files = both.old.items; new_files = both.new.items; index = both.index; report = both.report; are_read = c.in-Ok.ensures.inputs; over = c.compare_after.ensures })
+
+pub returns-in-Err : goal.returns-in-Err
+returns-in-Err g c = inr (record { fault = c.in-Err.fault; is_fault = c.in-Err.ensures.fault; reports = c.report_read_fault.ensures; unread = refl; untouched = refl })

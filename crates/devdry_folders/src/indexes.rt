@@ -1,0 +1,102 @@
+//! The index that a line names, and what is met at its path.
+ghost use Rattle.std.specs.Option.{option_copied, option_to_list};
+ghost use Rattle.std.specs.Prelude.{◌≡◌, ◌++◌, IfOk, OnOk, flat_map};
+ghost use Rattle.devdry_folders.specs.Indexes.{IsIndexMet, IsIndexSight, as_index, bytes_of, index_bytes, is_index_read};
+ghost use Rattle.devdry_folders.specs.Unread.{line_on_met};
+
+use crate::meetings::met_at;
+use crate::reasons::Reason;
+use crate::sights::{Met, Sight};
+use crate::unread::{is_file, push_on_met};
+use devdry_files::Disk;
+use engine_ends::Line;
+use std::alloc::{AllocError, Global};
+use text_bytes::Bytes;
+
+/// What is met at the path of an index: a folder there can't be read.
+fn as_index(met: Met) -> Met
+    ensures { result ≡ as_index met }
+{
+    match met {
+        Met::Folder => Met::Unread(Reason::NotRegular),
+        Met::File(_) | Met::OtherName | Met::Unread(_) => met,
+    }
+}
+
+/// What is met at the path of an index.
+fn index_met<D: Disk>(alloc: Global, disk: &D, path: &str) -> Result<Met, AllocError>
+    ensures { IfOk result (IsIndexMet (D.may_answer disk.now) path.now) }
+{
+    Ok(as_index(met_at(alloc, disk, path)?))
+}
+
+/// The index at a path, as it is met.
+fn sight_at<D: Disk>(alloc: Global, disk: &D, path: &str) -> Result<Sight, AllocError>
+    ensures path { IfOk result (λ s. s.path ≡ path.now) }
+    ensures met { IfOk result (λ s. IsIndexMet (D.may_answer disk.now) path.now s.met) }
+{
+    Ok(Sight {
+        met: index_met(alloc, disk, path)?,
+        name: Bytes::copy_of(alloc, path.as_bytes())?,
+        path: Bytes::copy_of(alloc, path.as_bytes())?,
+    })
+}
+
+/// The index that a line names, as it is met, if it names one.
+pub(crate) fn index_sight<D: Disk>(
+    alloc: Global,
+    disk: &D,
+    line: &Line<'_>,
+) -> Result<Option<Sight>, AllocError>
+    ensures { IfOk result (IsIndexSight (D.may_answer disk.now) (option_copied line.now.index)) }
+{
+    match line.index {
+        Some(path) => Ok(Some(sight_at(alloc, disk, path)?)),
+        None => Ok(None),
+    }
+}
+
+/// Adds the line on an index, if it can't be read.
+pub(crate) fn push_on_index(
+    alloc: Global,
+    lines: &mut Vec<u8>,
+    index: &Option<Sight>,
+) -> Result<(), AllocError>
+    ensures { OnOk result (lines.new.items ≡ lines.old.items
+        ++ flat_map (λ s. line_on_met s.path s.met) (option_to_list index.now)) }
+{
+    match index {
+        Some(sight) => push_on_met(alloc, lines, sight.path.as_slice(), &sight.met),
+        None => Ok(()),
+    }
+}
+
+/// Whether an index was read.
+pub(crate) fn is_index_read(index: &Option<Sight>) -> bool
+    ensures { result ≡ is_index_read index.now }
+{
+    match index {
+        Some(sight) => is_file(&sight.met),
+        None => false,
+    }
+}
+
+/// The bytes of a file that was read.
+fn bytes_of(met: Met) -> Option<Bytes>
+    ensures { result ≡ bytes_of met }
+{
+    match met {
+        Met::File(bytes) => Some(bytes),
+        Met::OtherName | Met::Folder | Met::Unread(_) => None,
+    }
+}
+
+/// The bytes of an index, if it was read.
+pub(crate) fn index_bytes(index: Option<Sight>) -> Option<Bytes>
+    ensures { result ≡ index_bytes index }
+{
+    match index {
+        Some(sight) => bytes_of(sight.met),
+        None => None,
+    }
+}

@@ -1,7 +1,0 @@
-pub mod Lines
-pub mod Names
-pub mod Words
-pub mod Settings
-pub mod Lists
-pub mod Files
-pub mod Examples

@@ -29,3 +29,10 @@ rules_listed remarks = ap (λ (ts : List Token). token.begin_array ∷ ts) (item
 pub results_listed : (fs : List FingerprintedValue) → token.begin_array ∷ (flat_map result_tokens fs ++ token.end_array ∷ []) ≡ json_tokens (array_of (map result_object fs))
 unfolding result_tokens
 results_listed fs = ap (λ (ts : List Token). token.begin_array ∷ ts) (items_listed result_object result_tokens (λ (f : FingerprintedValue). refl) fs)
+
+-- tokens one after another, as they are written and as a value has them
+pub seven_parts : (old a b c d e f g : List Token) → ((((((old ++ a) ++ b) ++ c) ++ d) ++ e) ++ f) ++ g ≡ old ++ (a ++ (b ++ (c ++ (d ++ (e ++ (f ++ g))))))
+seven_parts old a b c d e f g = simp append_assoc
+
+pub eight_parts : (old a b c d e f g h : List Token) → (((((((old ++ a) ++ b) ++ c) ++ d) ++ e) ++ f) ++ g) ++ h ≡ old ++ (a ++ (b ++ (c ++ (d ++ (e ++ ((f ++ g) ++ h))))))
+eight_parts old a b c d e f g h = simp append_assoc

@@ -1,4 +1,3 @@
-use Rattle.std.proofs.Common.{map, append_assoc}
 use Rattle.engine_formats.specs.Sarif.{sarif_log}
 use Rattle.engine_formats.proofs.sarif.sarif_log.Goals as goal
 
@@ -16,4 +15,3 @@ returns c =
       c.deref.ensures.value,
       c.in_ok-given.ensures,
     )
-    (simp append_assoc)

@@ -1,4 +1,4 @@
-use Rattle.std.proofs.Common.{append_assoc}
+use Rattle.engine_formats.proofs.Issues.{eight_parts}
 use Rattle.engine_formats.proofs.sarif.write_log.Goals as goal
 
 pub returns-clause-tokens : goal.returns-clause-tokens
@@ -13,4 +13,4 @@ returns-clause-tokens c =
       c.in_ok-write_word.ensures.tokens,
       c.in_ok-begin_object.ensures.ok,
     )
-    (simp append_assoc)
+    (eight_parts _ _ _ _ _ _ _ _ _)

@@ -1,4 +1,4 @@
-use Rattle.std.proofs.Common.{append_assoc}
+use Rattle.engine_formats.proofs.Issues.{seven_parts}
 use Rattle.engine_formats.proofs.sarif.write_run.Goals as goal
 
 pub returns-clause-tokens : goal.returns-clause-tokens
@@ -12,4 +12,4 @@ returns-clause-tokens c =
       c.in_ok-key.ensures.ok,
       c.in_ok-begin_object.ensures.ok,
     )
-    (simp append_assoc)
+    (seven_parts _ _ _ _ _ _ _ _)

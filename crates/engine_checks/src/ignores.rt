@@ -151,6 +151,22 @@ fn push_list<'a>(
     Ok(())
 }
 
+/// Adds the codes of a list and leaves out the reason behind them, which ends before a column.
+fn push_codes<'a>(
+    ignores: &mut Vec<Ignore<'a>>,
+    line: u32,
+    scope: Scope,
+    end: usize,
+    text: &'a [u8],
+) -> Result<(), AllocError>
+    requires { length text.now ≤ end }
+    ensures { OnOk result (ignores.new.items ≡ ignores.old.items
+        ++ ignores_at line scope (end - length text.now) (slice_split (λ b. b == comma) (before_reason text.now))) }
+{
+    let list = before_reason(text);
+    push_list(ignores, line, scope, end - (text.len() - list.len()), list)
+}
+
 /// Adds what a comment asks for, which ends before a column.
 fn push_asked<'a>(
     ignores: &mut Vec<Ignore<'a>>,
@@ -167,10 +183,7 @@ fn push_asked<'a>(
             ignores.push(Ignore::at(line, scope, end - text.len(), text))?;
             Ok(())
         }
-        _ => {
-            let list = before_reason(text);
-            push_list(ignores, line, scope, end - (text.len() - list.len()), list)
-        }
+        _ => push_codes(ignores, line, scope, end, text),
     }
 }
 

@@ -1,5 +1,5 @@
 //! The line that the matches of a parse mean.
-ghost use Rattle.std.specs.Prelude.{◌≡◌, IfOk};
+ghost use Rattle.std.specs.Prelude.{◌≡◌, [], IfOk};
 ghost use Rattle.clap.specs.Words.{first_of, found_of, rows_of};
 ghost use Rattle.devdry_words.specs.Lines.{IsUnreadFile, Reads, account_path, asks_every, color_named, color_of, format_named, format_of, input_name_of, is_set_or_every, profile_of};
 
@@ -98,7 +98,8 @@ fn profile_of(verb: Verb, matches: &ArgMatches<'_>) -> Profile
 
 /// A file of users or groups, of which no byte has been read yet.
 fn unread_file<'a>(alloc: Global, path: &'a str, of_root: bool) -> AccountFile<'a>
-    ensures place { (result.path.now, result.of_root) ≡ (path.entry.now, of_root) }
+    ensures path { result.path.now ≡ path.entry.now }
+    ensures of_root { result.of_root ≡ of_root }
     ensures unread { result.bytes ≡ [] }
 {
     AccountFile {

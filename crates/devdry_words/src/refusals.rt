@@ -5,7 +5,7 @@
 ghost use Rattle.std.specs.Prelude.{◌≡◌};
 ghost use Rattle.clap.specs.Words.{found_of, rows_of};
 ghost use Rattle.devdry_words.specs.Named.{IsUsageOf};
-ghost use Rattle.devdry_words.specs.Refusals.{asks_both, lacks_root, lacks_side, lacks_udev, names_two, refusal_of, said_of, unknown_value};
+ghost use Rattle.devdry_words.specs.Refusals.{asks_all, asks_both, is_strict, lacks_root, lacks_side, lacks_udev, names_two, refusal_of, said_of, unknown_value};
 
 use crate::ignored::{unknown_part, unknown_text};
 use crate::line_reading::format_of;
@@ -172,7 +172,7 @@ pub(crate) fn usage_of(alloc: Global, refusal: Refusal, matches: &ArgMatches<'_>
             alloc,
             unknown_text(matches),
             "' for '--ignore <CODES>'\n  [possible values: ",
-            ", V, S, H, W, I, comments]\n\nFor more information, try '--help'.\n",
+            ", V, S, H, W, D, I, comments]\n\nFor more information, try '--help'.\n",
         ),
     }
 }

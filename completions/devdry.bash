@@ -23,7 +23,7 @@ _devdry_codes='V1 V2 V3 V4 V5 V6 V7 V8 V9 V10 V11 V12 V13 V14 V15 V16 V17 V18 V1
 _devdry_code_list() {
     local front=
     case $word in *,*) front=${word%,*}, ;; esac
-    mapfile -t COMPREPLY < <(compgen -P "$front" -W "V S H W I $_devdry_codes comments" -- "${word##*,}")
+    mapfile -t COMPREPLY < <(compgen -P "$front" -W "V S H W D I $_devdry_codes comments" -- "${word##*,}")
 }
 
 # Whether query takes a database file as the current word: after a modalias, a word that is neither an option nor the

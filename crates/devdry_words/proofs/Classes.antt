@@ -20,6 +20,10 @@ pub w_codes : (codes "W1" ∷ codes "W2" ∷ codes "W3" ∷ codes "W4" ∷ codes
 unfolding codes_with heading_parts split_once
 w_codes = refl
 
+pub d_codes : (codes "D1" ∷ codes "D2" ∷ codes "D3" ∷ codes "D4" ∷ codes "D5" ∷ codes "D6" ∷ codes "D7" ∷ codes "D8" ∷ codes "D9" ∷ codes "D10" ∷ codes "D11" ∷ codes "D12" ∷ codes "D13" ∷ []) ≡ codes_with (codes "D")
+unfolding codes_with heading_parts split_once
+d_codes = refl
+
 pub i_codes : (codes "I1" ∷ codes "I2" ∷ []) ≡ codes_with (codes "I")
 unfolding codes_with heading_parts split_once
 i_codes = refl

@@ -27,6 +27,11 @@ const W_CODES: &[&str] = &[
     "W1", "W2", "W3", "W4", "W5", "W6", "W7", "W8", "W9", "W10", "W11", "W12", "W13", "W14",
 ];
 
+/// The codes of lints of the database.
+const D_CODES: &[&str] = &[
+    "D1", "D2", "D3", "D4", "D5", "D6", "D7", "D8", "D9", "D10", "D11", "D12", "D13",
+];
+
 /// The codes of remarks on comments.
 const I_CODES: &[&str] = &["I1", "I2"];
 
@@ -58,6 +63,13 @@ fn w_codes() -> &'static [&'static str]
     W_CODES
 }
 
+/// The codes of lints of the database.
+fn d_codes() -> &'static [&'static str]
+    ensures { map (λ c. c.now) result.now ≡ codes_with (codes "D") }
+{
+    D_CODES
+}
+
 /// The codes of remarks on comments.
 fn i_codes() -> &'static [&'static str]
     ensures { map (λ c. c.now) result.now ≡ codes_with (codes "I") }
@@ -74,6 +86,7 @@ fn class_codes(letter: &str) -> Option<&'static [&'static str]>
         "S" => Some(s_codes()),
         "H" => Some(h_codes()),
         "W" => Some(w_codes()),
+        "D" => Some(d_codes()),
         "I" => Some(i_codes()),
         _ => None,
     }

@@ -172,7 +172,7 @@ pub(crate) fn usage_of(alloc: Global, refusal: Refusal, matches: &ArgMatches<'_>
             alloc,
             unknown_text(matches),
             "' for '--ignore <CODES>'\n  [possible values: ",
-            ", V, S, H, W, I, comments]\n\nFor more information, try '--help'.\n",
+            ", V, S, H, W, D, I, comments]\n\nFor more information, try '--help'.\n",
         ),
     }
 }

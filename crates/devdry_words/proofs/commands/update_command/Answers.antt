@@ -13,4 +13,5 @@ returns c =
     let third = one_more _ _ _ _ _ second c.all_flag.ensures c.in_ok-arg-3.ensures in
     let fourth = one_more _ _ _ _ _ third c.format_option.ensures c.in_ok-arg-4.ensures in
     let fifth = one_more _ _ _ _ _ fourth c.ignore_option.ensures c.in_ok-arg-5.ensures in
-    IfOk-weaker c.arg-6.result _ _ (λ m h. one_more _ _ _ _ _ fifth c.files_argument.ensures h) c.arg-6.ensures
+    let sixth = one_more _ _ _ _ _ fifth c.lint_flag.ensures c.in_ok-arg-6.ensures in
+    IfOk-weaker c.arg-7.result _ _ (λ m h. one_more _ _ _ _ _ sixth c.files_argument.ensures h) c.arg-7.ensures

@@ -26,8 +26,9 @@ COMMANDS = [
     (["query", "-", "a.hwdb"], LINES, 0),
     (["compare", "old", "new"], BLOCK, 1),
 ]
-# How much more than the first peak a later one may be, in MB: that of a page or two.
-SPARE = 0.25
+# How much more than the first peak a later one may be, in MB. What of the program's own file is in memory differs by
+# 0.3 MB from run to run; an input that is kept would add all of the difference in size.
+SPARE = 1
 
 
 def grows(program, words, text, status, sizes):

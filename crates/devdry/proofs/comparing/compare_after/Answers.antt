@@ -1,18 +1,20 @@
 use Rattle.std.proofs.Common.{◌≡◌, inl, rules, subst}
 use Rattle.std.specs.Option.{option_map}
 use Rattle.engine_core.specs.Comparing.{ComparesOver}
+use Rattle.engine_ends.specs.Sinks.{HandsOn}
 use Rattle.devdry.proofs.comparing.compare_after.Goals as goal
 
 pub returns-in-Ok : goal.returns-in-Ok
 returns-in-Ok g c =
     let both = c.args.both in
     let borrowed : option_map (λ bytes. bytes.now) c.map-index.result ≡ both.index = search rules in
+    let said : c.deref.result.now ≡ both.report.lines.items = search rules in
     inl (record {
       err = g.E.Sink.shown c.hand_on.new.sink;
-      hands_on = c.in-Ok.ensures.whole;
-      own = c.serve_compare.result;
-      runs = subst (λ index. ComparesOver c.args.old.now c.args.new.now both.old.items both.new.items index c.serve_compare.result
+      hands_on = subst (λ text. HandsOn (g.E.Sink.shown c.args.error.now) text (g.E.Sink.shown c.hand_on.new.sink)) said c.in-Ok.ensures.whole;
+      own = c.serve_compare-own.result;
+      runs = subst (λ index. ComparesOver c.args.old.now c.args.new.now both.old.items both.new.items index c.serve_compare-own.result
           (record { input = g.I.Source.shown c.args.input.now; out = g.W.Sink.shown c.args.output.now; err = g.E.Sink.shown c.hand_on.new.sink })
-          (record { input = g.I.Source.shown c.serve_compare.new.input; out = g.W.Sink.shown c.serve_compare.new.output; err = g.E.Sink.shown c.serve_compare.new.error })) borrowed c.serve_compare.ensures;
+          (record { input = g.I.Source.shown c.serve_compare-own.new.input; out = g.W.Sink.shown c.serve_compare-own.new.output; err = g.E.Sink.shown c.serve_compare-own.new.error })) borrowed c.serve_compare-own.ensures;
       status_is = search rules;
     })

@@ -72,12 +72,12 @@ pub struct Line<'a> {
     pub verb: Verb,
     /// What comes before each folder; empty if nothing was given.
     pub root: &'a str,
-    /// The files that are named, in the order given; `-` among them is the standard input.
+    /// The files that are named, in the order given.
     pub files: Vec<&'a str>,
     /// The files that stand among those of the folders as if they were in the first of these, by their names, in the
-    /// order given.
+    /// order given. No run looks at them yet.
     pub added: Vec<&'a str>,
-    /// The name of the standard input as a file, `-` if none was given.
+    /// The name of the standard input as a file, `-` if none was given. No run looks at it yet.
     pub input_name: &'a str,
     /// The index that is named, if any: it replaces the database's folders. `update` and `verify` name none.
     pub index: Option<&'a str>,
@@ -95,11 +95,11 @@ pub struct Line<'a> {
     pub summary: bool,
     /// Whether `verify` gives messages about style; true for the other subcommands.
     pub style: bool,
-    /// Whether `verify` also reports rules that are most likely not what was meant.
+    /// Whether `verify` and `update` also report what is most likely not what was meant.
     pub lint: bool,
-    /// How `verify` and `update` write messages, and `events` and `compare` their answers; plain for the others.
+    /// How `verify` and `update` write messages; plain for the other subcommands.
     pub format: Format,
-    /// When messages for people are in colors.
+    /// When messages for people are in colors. No run looks at it yet.
     pub color: Color,
     /// Whether the run goes on after what can't be read, and fails if there is no file.
     pub all: bool,

@@ -1,6 +1,6 @@
 #!/usr/bin/env python3
 """Asks the real `udevadm test-builtin` of systemd 257 for the name of an interface by `.link` files, and prints where
-bench/plain_links.py differs from it, or from what bench/link_cases.py says.
+bench/plain_links.py differs from it, or from what tests/tables/kinds/link_cases.py says.
 
 The interface is one of a veth pair in a network namespace of its own. Its sysfs is mounted in ROOT, with the file name_assign_type
 of the case bound over its own, and its properties are in /run/udev/data.
@@ -16,7 +16,9 @@ import tempfile
 from pathlib import Path
 
 import plain_links
-from link_cases import CASES
+
+sys.path.insert(0, str(Path(__file__).resolve().parent.parent / "tests"))
+from tables.kinds.link_cases import CASES  # noqa: E402
 
 DEVICE = "veth1"
 FOLDERS = [folder.removeprefix("/") for folder in plain_links.FOLDERS]

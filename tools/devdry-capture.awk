@@ -187,7 +187,7 @@ BEGIN {
     looked_at["ap"] = "^(ap_functions|type)$"
     looked_at["block"] = looked_at["nvme-generic"] = "^nsid$"
     looked_at["input"] = "^(capabilities/(abs|ev|key|rel)|id/bustype|properties)$"
-    looked_at["net"] = "^(addr_assign_type|address|dev_id|dev_port|iflink|phys_port_name|type)$"
+    looked_at["net"] = "^(addr_assign_type|address|dev_id|dev_port|flags|iflink|name_assign_type|phys_port_name|type)$"
     looked_at["pci"] = "^(acpi_index|ari_enabled|firmware_node/sun|function_id|index|label|modalias)$"
     looked_at["scsi"] = "^(ieee1394_id|model|rev|type|vendor)$"
     looked_at["usb"] = "^(bDeviceProtocol|bInterface(Class|Number|SubClass)|bcdDevice|id(Product|Vendor)" \

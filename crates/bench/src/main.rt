@@ -54,7 +54,7 @@ impl Rules {
         alloc: Global,
         event: &'a Event<'_>,
     ) -> Result<Outcome<'a>, AllocError> {
-        let known = Builtins::new(PlainDb::new(Vec::new(alloc)));
+        let known = Builtins::new(PlainDb::new(Vec::new(alloc)), &[]);
         let outcome = match self {
             Rules::Plain(rules) => evaluate_plain(alloc, rules, event, &known),
             Rules::Compiled(program) => program.evaluate(alloc, event, &known),

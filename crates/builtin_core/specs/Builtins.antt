@@ -1,4 +1,4 @@
--- What evaluating rules asks beyond the event, by the entries of a hardware database.
+-- What evaluating rules asks beyond the event, by the entries of a hardware database and the .link files.
 use Rattle.std.specs.Prelude.{Bool, List}
 use Rattle.text_tables.specs.Pairs.{Pair}
 use Rattle.hwdb_lookup.specs.declared.entry.Entry.{Entry}
@@ -6,7 +6,9 @@ use Rattle.device_core.specs.Values.{EventValue}
 use Rattle.builtin_chains.specs.Needs.{input_needs, net_needs, path_needs, usb_needs}
 use Rattle.builtin_devices.specs.Knowledge.{Known}
 use Rattle.builtin_devices.specs.Outcomes.{OutcomeValue, needing_first}
+use Rattle.link_files.specs.Files.{LinkFileValue}
 use Rattle.builtin_input.specs.Input.{input_id}
+use Rattle.builtin_link.specs.Link.{net_setup_link}
 use Rattle.builtin_net.specs.NetId.{lookup, net_id}
 use Rattle.builtin_path.specs.Path.{path_id}
 use Rattle.builtin_usb.specs.UsbId.{usb_id}
@@ -30,13 +32,19 @@ input_outcome event = needing_first (input_needs event) (input_id event)
 abbrev pub net_outcome : EventValue → (env : List Pair) → OutcomeValue
 net_outcome event env = needing_first (net_needs event) (net_id event env)
 
+-- The .link files by which interfaces are named, in order, and the entries of a database.
+pub record Held : Type 0 where
+  pub links : List LinkFileValue
+  pub entries : List Entry
+
 -- the entries, and these outcomes
-abbrev pub known_by : List Entry → Known
-known_by entries = record {
-  entries = entries;
+abbrev pub known_by : Held → Known
+known_by held = record {
+  entries = held.entries;
   usb_id = usb_outcome;
   path_id = path_outcome;
   input_id = input_outcome;
   net_id = net_outcome;
   net_lookup = lookup;
+  net_setup_link = net_setup_link held.links;
 }

@@ -1,44 +1,46 @@
-//! The builtins over a database.
+//! The builtins over a database and `.link` files.
 ghost use Rattle.std.specs.Prelude.{◌≡◌};
 ghost use Rattle.builtin_core.specs.Builtins.{known_by};
 
 use builtin_chains::{input_needs, net_needs, path_needs, usb_needs};
 use builtin_devices::{BuiltinOutcome, Knowledge, NetNames};
 use builtin_input::input_id;
+use builtin_link::net_setup_link;
 use builtin_net::net_id;
 use builtin_path::path_id;
 use builtin_usb::usb_id;
 use device_core::Event;
 use hwdb_lookup::Lookup;
+use link_files::LinkFile;
 use std::alloc::{AllocError, Global};
 use std::marker::Model;
 use text_tables::CowPairs;
 
-/// The builtins of udev over a hardware database.
+/// The builtins of udev over a hardware database and `.link` files.
 #[derive(Drop)]
-pub struct Builtins<L: Lookup> {
+pub struct Builtins<'l, L: Lookup> {
     database: L,
+    links: &'l [LinkFile],
 }
 
-impl<L: Lookup> Model for Builtins<L> {
-    ghost use Rattle.std.specs.Prelude.{List};
-    ghost use Rattle.hwdb_lookup.specs.declared.entry.Entry.{Entry};
+impl<'l, L: Lookup> Model for Builtins<'l, L> {
+    ghost use Rattle.builtin_core.specs.Builtins.{Held};
 
-    ghost Value = { List Entry };
+    ghost Value = { Held };
 
-    ghost view = { λ b. L.entries b.database };
+    ghost view = { λ b. record { links = b.links.now; entries = L.entries b.database } };
 }
 
-impl<L: Lookup> Builtins<L> {
-    /// The builtins over this database.
-    pub fn new(database: L) -> Builtins<L>
-        ensures { result ≡ L.entries database }
+impl<'l, L: Lookup> Builtins<'l, L> {
+    /// The builtins over this database, with the `.link` files by which interfaces are named.
+    pub fn new(database: L, links: &'l [LinkFile]) -> Builtins<'l, L>
+        ensures { result ≡ record { links = links.now; entries = L.entries database } }
     {
-        Builtins { database }
+        Builtins { database, links }
     }
 }
 
-impl<L: Lookup> Knowledge for Builtins<L> {
+impl<'l, L: Lookup> Knowledge for Builtins<'l, L> {
     ghost known = { known_by };
 
     fn query(&self, alloc: Global, modalias: &[u8]) -> Result<Vec<(&[u8], &[u8])>, AllocError> {
@@ -78,5 +80,14 @@ impl<L: Lookup> Knowledge for Builtins<L> {
         let needs = net_needs(alloc, event)?;
         let outcome = outcome.needing_first(alloc, needs)?;
         Ok(NetNames { outcome, lookup })
+    }
+
+    fn net_setup_link(
+        &self,
+        alloc: Global,
+        event: &Event<'_>,
+        env: &CowPairs<'_>,
+    ) -> Result<BuiltinOutcome, AllocError> {
+        net_setup_link(alloc, self.links, event, env)
     }
 }

@@ -47,4 +47,13 @@ pub trait Knowledge {
     ) -> Result<NetNames, AllocError>
         ensures outcome { IfOk result (λ names. names.outcome ≡ (known self.now).net_id event.now env.now) }
         ensures lookup { IfOk result (λ names. names.lookup ≡ (known self.now).net_lookup event.now env.now) };
+
+    /// The outcome of `net_setup_link`, by the current properties of the event device.
+    fn net_setup_link(
+        &self,
+        alloc: Global,
+        event: &Event<'_>,
+        env: &CowPairs<'_>,
+    ) -> Result<BuiltinOutcome, AllocError>
+        ensures { IfOk result (λ outcome. outcome ≡ (known self.now).net_setup_link event.now env.now) };
 }

@@ -6,8 +6,6 @@ use Rattle.engine_ends.specs.declared.line.Line.{Line}
 use Rattle.engine_ends.specs.declared.line.LineFault.{LineFault}
 use Rattle.engine_ends.specs.declared.line.Request.{Request}
 use Rattle.engine_ends.specs.declared.line.Request.TheVariants.{Run, Files, Compare}
-use Rattle.engine_ends.specs.declared.line.Verb.{Verb}
-use Rattle.engine_ends.specs.declared.line.Verb.TheVariants.{Events}
 use Rattle.engine_ends.specs.Streams.{Streams, outputs}
 use Rattle.engine_core.specs.Runs.{RunsOver}
 use Rattle.devdry_files.specs.Answers.{Answer}
@@ -15,7 +13,9 @@ use Rattle.devdry_words.specs.Commands.{devdry}
 use Rattle.devdry_words.specs.Answers.{AnswersWords}
 use Rattle.devdry_words.specs.Requests.{IsRequestOf}
 use Rattle.devdry.specs.Comparing.{ComparesLines}
-use Rattle.devdry.specs.PartialRuns.{ListsFiles, RunsAfter, RunsSome}
+use Rattle.devdry.specs.Linking.{ReadsRequest, RunsReported, is_events}
+use Rattle.devdry.specs.PartialRuns.{IsRefusedToRead, ListsFiles, RunsAfter, RunsSome}
+use Rattle.text_bytes.specs.Texts.{is_empty}
 use Rattle.devdry.specs.Knowing.{IsFaultOfAccounts, KnowsAccounts}
 use Rattle.devdry.specs.Reading.{AreReadFor, FailsAt, IsFaultOf}
 use Rattle.devdry.specs.Reporting.{ReportsLineFault}
@@ -49,11 +49,6 @@ DoesRequest may (Run line) status before now = RunsLine may line status before n
 DoesRequest may (Files line) status before now = ListsFiles may line status before now
 DoesRequest may (Compare old new) status before now = ComparesLines may old new status before now
 
--- the verb is that of `events`
-abbrev pub is_events : Verb → Bool
-is_events Events = true
-is_events _ = false
-
 -- whether a request answers event blocks
 abbrev pub takes_blocks : Request → Bool
 takes_blocks (Run line) = is_events line.verb
@@ -69,11 +64,22 @@ abbrev pub DoesAfter : Bool → (Answer → Type 0) → Request → ℕ → Stre
 DoesAfter true may request status before now = RunsAfter waiting 0 (DoesRequest may request) status before now
 DoesAfter false may request status before now = DoesRequest may request status before now
 
+-- The .link files for a request were read, what is reported about them was written, and the request is run with them.
+pub record RunsOverLinks (from_terminal : Bool) (may : Answer → Type 0) (named : Request) (status : ℕ) (before now : Streams) : Type 0 where
+  pub request : Request
+  pub reported : List ℕ
+  pub reads : ReadsRequest may named request
+  pub runs : RunsReported (is_empty reported) reported (DoesAfter (from_terminal && takes_blocks request) may request) status before now
+
+-- what a request does with .link files, given whether the input is a terminal
+abbrev pub RunsLinking : Bool → (Answer → Type 0) → Request → ℕ → Streams → Streams → Type 0
+RunsLinking from_terminal may named status before now = RunsOverLinks from_terminal may named status before now ⊎ IsRefusedToRead status before now
+
 -- The files of users and groups that a request names were read, and the request is run with what they list.
 pub record RunsOverAccounts (from_terminal : Bool) (may : Answer → Type 0) (named : Request) (status : ℕ) (before now : Streams) : Type 0 where
   pub request : Request
   pub knows : KnowsAccounts may named request
-  pub runs : DoesAfter (from_terminal && takes_blocks request) may request status before now
+  pub runs : RunsLinking from_terminal may request status before now
 
 -- what a request does, given whether the input is a terminal
 abbrev pub RunsKnowing : Bool → (Answer → Type 0) → Request → ℕ → Streams → Streams → Type 0

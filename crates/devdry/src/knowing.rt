@@ -3,8 +3,8 @@ ghost use Rattle.std.specs.Prelude.{IfErr, IfOk};
 ghost use Rattle.devdry.specs.Knowing.{IsFaultOfAccounts, KnowsAccounts};
 ghost use Rattle.devdry.specs.Runs.{RunsKnowing};
 
+use crate::linking::run_linking;
 use crate::reporting::report_read_fault;
-use crate::running::run_request;
 use devdry_files::{Disk, ReadFault, read_account_files};
 use engine_ends::{Request, Sink, Source};
 use std::alloc::Global;
@@ -25,7 +25,7 @@ pub(crate) fn run_knowing<D: Disk, I: Source, W: Sink, E: Sink>(
         (record { input = I.shown input.new; out = W.shown output.new; err = E.shown error.new }) }
 {
     match read_accounts(alloc, disk, &mut request) {
-        Ok(()) => run_request(alloc, disk, &request, from_terminal, input, output, error),
+        Ok(()) => run_linking(alloc, disk, request, from_terminal, input, output, error),
         Err(fault) => report_read_fault(&fault, error),
     }
 }

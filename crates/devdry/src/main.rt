@@ -9,6 +9,7 @@ ghost use Rattle.std.specs.Prelude.{◌≡◌, drop};
 
 mod comparing;
 mod knowing;
+mod linking;
 mod partial_runs;
 mod reporting;
 mod running;

@@ -129,3 +129,4 @@ pub record Reads (verb : Verb) (root : Text) (rows : List Row) (line : Line) : T
   pub profile : line.profile ≡ profile_of verb rows
   pub users : IsUnreadFile (account_path (asks_every verb rows) (first_of (codes "users") rows) (codes "/etc/passwd")) line.users
   pub groups : IsUnreadFile (account_path (asks_every verb rows) (first_of (codes "groups") rows) (codes "/etc/group")) line.groups
+  pub links : line.links.items ≡ []

@@ -159,5 +159,6 @@ pub(crate) fn line_with<'a>(
         profile: profile_of(verb, matches),
         users: account_file(alloc, verb, matches, "users", "/etc/passwd"),
         groups: account_file(alloc, verb, matches, "groups", "/etc/group"),
+        links: Vec::new(alloc),
     })
 }

@@ -1,8 +1,8 @@
 -- From the steps of a comparison to what it serves.
 use Rattle.std.proofs.Common.{◌≡◌, ℕ, List, ◌++◌, inl, inr, refl, subst, Result, Ok, Err}
-use Rattle.text_bytes.specs.declared.profile.Profile.{Profile}
 use Rattle.text_tables.specs.Texts.{Text}
 use Rattle.engine_ends.specs.Streams.{Streams, outputs}
+use Rattle.engine_ends.specs.declared.line.Line.{Line}
 use Rattle.engine_ends.specs.Delivery.{RunOutcome, Delivers, ReportsFailure, ReportsFaults, out_of_memory}
 use Rattle.engine_reports.specs.Openings.{OpeningValue}
 use Rattle.engine_reports.specs.Indexes.{refused_index}
@@ -10,10 +10,9 @@ use Rattle.engine_reports.specs.Outcomes.{too_many_entries, too_many_rules}
 use Rattle.engine_reports.specs.Reports.{IsRefused, IsSaid}
 use Rattle.engine_reports.specs.declared.refusal.Refusal.{Refusal}
 use Rattle.engine_reports.specs.declared.refusal.Refusal.TheVariants.{TooManyEntries, TooManyRules, Index, Memory}
-use Rattle.hwdb_lookup.specs.declared.entry.Entry.{Entry}
 use Rattle.rule_types.specs.Rules.{Rule}
 use Rattle.device_core.specs.Values.{EventValue}
-use Rattle.builtin_core.specs.Builtins.{known_by}
+use Rattle.builtin_core.specs.Builtins.{Held, known_by}
 use Rattle.engine_answers.specs.Answers.{answer_by}
 use Rattle.engine_sessions.specs.Findings.{FindsAll}
 use Rattle.engine_sessions.specs.Serves.{Serves}
@@ -23,12 +22,12 @@ use Rattle.engine_sessions.proofs.FindServing.{finds_serve}
 use Rattle.engine_compare.specs.Differences.{differences}
 use Rattle.engine_core.specs.Comparing.{ComparesBy, compare_outcome, differences_by}
 
-pub compares_serve : (profile : Profile) (old new : Result OpeningValue RunOutcome) (status : ℕ) (before now : Streams)
-    → ComparesBy profile old new status before now → Serves (compare_outcome profile old new) status before now
-compares_serve profile (Ok old) (Ok new) status before now r =
-    finds_serve (old.messages ++ new.messages) (answers_as profile (differences_by old new)) status before now r
-compares_serve profile (Ok old) (Err said) status before now r = reports_serve (λ text. said) said status before now (λ text. refl) r
-compares_serve profile (Err said) new status before now r = reports_serve (λ text. said) said status before now (λ text. refl) r
+pub compares_serve : (old_line new_line : Line) (old new : Result OpeningValue RunOutcome) (status : ℕ) (before now : Streams)
+    → ComparesBy old_line new_line old new status before now → Serves (compare_outcome old_line new_line old new) status before now
+compares_serve old_line new_line (Ok old) (Ok new) status before now r =
+    finds_serve (old.messages ++ new.messages) (answers_as old_line.profile (differences_by old_line new_line old new)) status before now r
+compares_serve old_line new_line (Ok old) (Err said) status before now r = reports_serve (λ text. said) said status before now (λ text. refl) r
+compares_serve old_line new_line (Err said) new status before now r = reports_serve (λ text. said) said status before now (λ text. refl) r
 
 -- what is delivered if one side can't be opened
 pub record Refuses (refusal : Refusal) (status : ℕ) (before now : Streams) : Type 0 where
@@ -38,41 +37,41 @@ pub record Refuses (refusal : Refusal) (status : ℕ) (before now : Streams) : T
   pub unread : now.input ≡ before.input
 
 -- the old side is refused
-pub old_refused : (profile : Profile) (refusal : Refusal) (old new : Result OpeningValue RunOutcome) (status : ℕ) (before now : Streams)
-    → IsRefused refusal old → Refuses refusal status before now → ComparesBy profile old new status before now
-old_refused profile TooManyEntries old new status before now is r =
+pub old_refused : (old_line new_line : Line) (refusal : Refusal) (old new : Result OpeningValue RunOutcome) (status : ℕ) (before now : Streams)
+    → IsRefused refusal old → Refuses refusal status before now → ComparesBy old_line new_line old new status before now
+old_refused old_line new_line TooManyEntries old new status before now is r =
     rw is (record { delivers = r.delivers too_many_entries refl; faults = r.faults; unread = r.unread })
-old_refused profile TooManyRules old new status before now is r =
+old_refused old_line new_line TooManyRules old new status before now is r =
     rw is (record { delivers = r.delivers too_many_rules refl; faults = r.faults; unread = r.unread })
-old_refused profile (Index fault) old new status before now is r =
+old_refused old_line new_line (Index fault) old new status before now is r =
     rw is (record { delivers = r.delivers (refused_index fault) refl; faults = r.faults; unread = r.unread })
-old_refused profile Memory (Ok old) (Ok new) status before now is r =
+old_refused old_line new_line Memory (Ok old) (Ok new) status before now is r =
     inl (record { unread = r.unread; unanswered = (r.memory refl).1; reports = inr (r.memory refl).0 })
-old_refused profile Memory (Ok old) (Err said) status before now is r = record { delivers = r.delivers said tt; faults = r.faults; unread = r.unread }
-old_refused profile Memory (Err said) new status before now is r = record { delivers = r.delivers said tt; faults = r.faults; unread = r.unread }
+old_refused old_line new_line Memory (Ok old) (Err said) status before now is r = record { delivers = r.delivers said tt; faults = r.faults; unread = r.unread }
+old_refused old_line new_line Memory (Err said) new status before now is r = record { delivers = r.delivers said tt; faults = r.faults; unread = r.unread }
 
 -- the new side is refused, if the old one is not
-pub new_refused : (profile : Profile) (refusal : Refusal) (old new : Result OpeningValue RunOutcome) (value : OpeningValue) (status : ℕ)
-    (before now : Streams) → old ≡ Ok value → IsRefused refusal new → Refuses refusal status before now → ComparesBy profile old new status before now
-new_refused profile TooManyEntries old new value status before now e is r =
+pub new_refused : (old_line new_line : Line) (refusal : Refusal) (old new : Result OpeningValue RunOutcome) (value : OpeningValue) (status : ℕ)
+    (before now : Streams) → old ≡ Ok value → IsRefused refusal new → Refuses refusal status before now → ComparesBy old_line new_line old new status before now
+new_refused old_line new_line TooManyEntries old new value status before now e is r =
     rw (e, is) (record { delivers = r.delivers too_many_entries refl; faults = r.faults; unread = r.unread })
-new_refused profile TooManyRules old new value status before now e is r =
+new_refused old_line new_line TooManyRules old new value status before now e is r =
     rw (e, is) (record { delivers = r.delivers too_many_rules refl; faults = r.faults; unread = r.unread })
-new_refused profile (Index fault) old new value status before now e is r =
+new_refused old_line new_line (Index fault) old new value status before now e is r =
     rw (e, is) (record { delivers = r.delivers (refused_index fault) refl; faults = r.faults; unread = r.unread })
-new_refused profile Memory old new value status before now e is r = old_refused profile Memory old new status before now tt r
+new_refused old_line new_line Memory old new value status before now e is r = old_refused old_line new_line Memory old new status before now tt r
 
--- rules, and the entries of a database
+-- rules, and what the builtins hold
 abbrev pub Tables : Type 0
-Tables = List Rule × List Entry
+Tables = List Rule × Held
 
 -- what comes and goes between two tables
 abbrev pub reported_by : Tables × Tables → EventValue → Text
 reported_by both event = differences event (answer_by both.0.0 (known_by both.0.1) event) (answer_by both.1.0 (known_by both.1.1) event)
 
-pub finds_both : (profile : Profile) (messages said : Text) (both tables : Tables × Tables) (status : ℕ) (before now : Streams)
-    → messages ≡ said → both ≡ tables → FindsAll messages (answers_as profile (reported_by both)) status before now
-    → FindsAll said (answers_as profile (reported_by tables)) status before now
-finds_both profile messages said both tables status before now e f h =
-    subst (λ m. FindsAll m (answers_as profile (reported_by tables)) status before now) e
-    (subst (λ t. FindsAll messages (answers_as profile (reported_by t)) status before now) f h)
+pub finds_both : (line : Line) (messages said : Text) (both tables : Tables × Tables) (status : ℕ) (before now : Streams)
+    → messages ≡ said → both ≡ tables → FindsAll messages (answers_as line.profile (reported_by both)) status before now
+    → FindsAll said (answers_as line.profile (reported_by tables)) status before now
+finds_both line messages said both tables status before now e f h =
+    subst (λ m. FindsAll m (answers_as line.profile (reported_by tables)) status before now) e
+    (subst (λ t. FindsAll messages (answers_as line.profile (reported_by t)) status before now) f h)

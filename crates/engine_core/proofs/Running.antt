@@ -22,10 +22,10 @@ use Rattle.engine_reports.specs.declared.refusal.Refusal.TheVariants.{TooManyEnt
 use Rattle.engine_sessions.specs.Serves.{AnswersAll, Serves}
 use Rattle.engine_sessions.specs.Sessions.{answers_as}
 use Rattle.engine_sessions.proofs.Serving.{answers_serve, reports_serve}
-use Rattle.builtin_core.specs.Builtins.{known_by}
+use Rattle.builtin_core.specs.Builtins.{Held, known_by}
 use Rattle.engine_answers.specs.Answers.{answer_by}
 use Rattle.engine_answers.specs.Questions.{question_answer}
-use Rattle.engine_core.specs.Outcomes.{answer_by_line, answer_with, asked_of, asks_more, before_input, outcome, outcome_by, reads_modaliases, reported_for}
+use Rattle.engine_core.specs.Outcomes.{answer_by_line, answer_with, asked_of, asks_more, before_input, known_for, outcome, outcome_by, reads_modaliases, reported_for}
 use Rattle.engine_core.specs.Runs.{RunsBy}
 use Rattle.engine_core.specs.Reported.{ReportedValue, reported_by}
 
@@ -80,21 +80,21 @@ answered_runs line opening messages answer status before now m a h =
     subst (λ u. AnswersAll u (answer_with line opening) status before now) m (subst (λ (f : EventValue → Text). AnswersAll messages (answers_as line.profile f) status before now) a h)
 
 -- a line that asks for questions is answered with these
-pub asked_runs : (line : Line) (opening : OpeningValue) (messages : Text) (tables : List Rule × List Entry) (status : ℕ) (before now : Streams) → line.questions ≡ true → messages ≡ opening.messages → tables ≡ (opening.rules, opening.entries)
+pub asked_runs : (line : Line) (opening : OpeningValue) (messages : Text) (tables : List Rule × Held) (status : ℕ) (before now : Streams) → line.questions ≡ true → messages ≡ opening.messages → tables ≡ (opening.rules, record { links = line.links.items; entries = opening.entries })
     → AnswersAll messages (answers_as line.profile (question_answer tables.0 (known_by tables.1))) status before now → AnswersAll opening.messages (answer_with line opening) status before now
 asked_runs line opening messages tables status before now q m t h =
-    let other : EventValue → Text = cond (asks_more line) (reported_by (reported_for line opening) (known_by opening.entries)) (answer_by opening.rules (known_by opening.entries)) in
+    let other : EventValue → Text = cond (asks_more line) (reported_by (reported_for line opening) (known_for line opening)) (answer_by opening.rules (known_for line opening)) in
     answered_runs line opening messages (question_answer tables.0 (known_by tables.1)) status before now m
-    (ap (λ (t : List Rule × List Entry). question_answer t.0 (known_by t.1)) t ∙ ap (λ b. cond b (question_answer opening.rules (known_by opening.entries)) other) (sym q)) h
+    (ap (λ (t : List Rule × Held). question_answer t.0 (known_by t.1)) t ∙ ap (λ b. cond b (question_answer opening.rules (known_for line opening)) other) (sym q)) h
 
 -- a line that asks for more is answered with that
-pub reported_runs : (line : Line) (opening : OpeningValue) (messages : Text) (tables : ReportedValue × List Entry) (status : ℕ) (before now : Streams) → line.questions ≡ false → asks_more line ≡ true → messages ≡ opening.messages
-    → tables ≡ (reported_for line opening, opening.entries) → AnswersAll messages (answers_as line.profile (reported_by tables.0 (known_by tables.1))) status before now → AnswersAll opening.messages (answer_with line opening) status before now
+pub reported_runs : (line : Line) (opening : OpeningValue) (messages : Text) (tables : ReportedValue × Held) (status : ℕ) (before now : Streams) → line.questions ≡ false → asks_more line ≡ true → messages ≡ opening.messages
+    → tables ≡ (reported_for line opening, record { links = line.links.items; entries = opening.entries }) → AnswersAll messages (answers_as line.profile (reported_by tables.0 (known_by tables.1))) status before now → AnswersAll opening.messages (answer_with line opening) status before now
 reported_runs line opening messages tables status before now q a m t h =
-    let asked : EventValue → Text = question_answer opening.rules (known_by opening.entries) in
-    let more : EventValue → Text = reported_by (reported_for line opening) (known_by opening.entries) in
-    let alone : EventValue → Text = answer_by opening.rules (known_by opening.entries) in
+    let asked : EventValue → Text = question_answer opening.rules (known_for line opening) in
+    let more : EventValue → Text = reported_by (reported_for line opening) (known_for line opening) in
+    let alone : EventValue → Text = answer_by opening.rules (known_for line opening) in
     answered_runs line opening messages (reported_by tables.0 (known_by tables.1)) status before now m
-    (ap (λ (t : ReportedValue × List Entry). reported_by t.0 (known_by t.1)) t
+    (ap (λ (t : ReportedValue × Held). reported_by t.0 (known_by t.1)) t
     ∙ ap (λ b. cond b more alone) (sym a)
     ∙ ap (λ b. cond b asked (cond (asks_more line) more alone)) (sym q)) h

@@ -16,6 +16,7 @@ use Rattle.engine_reports.specs.Databases.{database}
 use Rattle.engine_reports.specs.Openings.{OpeningValue, opening}
 use Rattle.engine_reports.specs.Outcomes.{query_over, usage_error}
 use Rattle.builtin_core.specs.Builtins.{known_by}
+use Rattle.builtin_devices.specs.Knowledge.{Known}
 use Rattle.engine_answers.specs.Answers.{answer_by}
 use Rattle.engine_courses.specs.Asked.{unknown}
 use Rattle.engine_core.specs.Checking.{update_said, verify_said}
@@ -27,6 +28,10 @@ use Rattle.engine_sessions.specs.Sessions.{answers_as}
 -- the texts of a line's `--why`
 abbrev pub why_of : Line → List Text
 why_of line = map (λ w. w.now) line.why.items
+
+-- what is known beyond an event, by the .link files of a line and the database of its opening
+abbrev pub known_for : Line → OpeningValue → Known
+known_for line opening = known_by (record { links = line.links.items; entries = opening.entries })
 
 -- what a line asks for in addition to the answers, and by what these are made
 abbrev pub reported_for : Line → OpeningValue → ReportedValue
@@ -45,7 +50,7 @@ asks_more line = line.sources || not (vec_len line.why == 0)
 -- outcome of the event with what else the line asks for
 abbrev pub answer_by_line : Line → OpeningValue → EventValue → Text
 answer_by_line line opening =
-    let known = known_by opening.entries in
+    let known = known_for line opening in
     if line.questions then question_answer opening.rules known
     else (if asks_more line then reported_by (reported_for line opening) known else answer_by opening.rules known)
 

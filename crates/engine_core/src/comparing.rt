@@ -20,7 +20,7 @@ use engine_sessions::find_after_messages;
 use hwdb_lookup::Lookup;
 use index_reading::{Index, IndexFault};
 use std::alloc::{AllocError, Global};
-use text_bytes::{Profile, SourceFile};
+use text_bytes::SourceFile;
 
 /// Compares the answers to the events of an input by two sets of rules, writes what appears and disappears, and
 /// returns the status to exit with.
@@ -69,7 +69,7 @@ fn compare_opened<R: Source, W: Sink, E: Sink>(
     output: &mut W,
     error: &mut E,
 ) -> u8
-    ensures { ComparesBy old_line.now.profile (opening old_line.now old_files.items opened.entry) (opening new_line.now new_files.items opened.entry) result
+    ensures { ComparesBy old_line.now new_line.now (opening old_line.now old_files.items opened.entry) (opening new_line.now new_files.items opened.entry) result
         (record { input = R.shown input.old; out = W.shown output.old; err = E.shown error.old })
         (record { input = R.shown input.new; out = W.shown output.new; err = E.shown error.new }) }
 {
@@ -77,12 +77,12 @@ fn compare_opened<R: Source, W: Sink, E: Sink>(
         None => {
             let old = open_with_database(alloc, old_line, old_files);
             let new = open_with_database(alloc, new_line, new_files);
-            compare_read(alloc, old_line.profile, old, new, input, output, error)
+            compare_read(alloc, old_line, new_line, old, new, input, output, error)
         }
         Some(Ok(index)) => {
             let old = open_beside(alloc, old_line, old_files, &index);
             let new = open_beside(alloc, new_line, new_files, &index);
-            compare_read(alloc, old_line.profile, old, new, input, output, error)
+            compare_read(alloc, old_line, new_line, old, new, input, output, error)
         }
         Some(Err(fault)) => deliver_refusal(Refusal::Index(fault), output, error),
     }
@@ -91,7 +91,8 @@ fn compare_opened<R: Source, W: Sink, E: Sink>(
 /// Compares two sets of rules with their databases, or writes why there are not both.
 fn compare_read<L: Lookup + Drop, M: Lookup + Drop, R: Source, W: Sink, E: Sink>(
     alloc: Global,
-    profile: Profile,
+    old_line: &Line<'_>,
+    new_line: &Line<'_>,
     old: Result<(RulesRead, L), Refusal>,
     new: Result<(RulesRead, M), Refusal>,
     input: &mut R,
@@ -101,14 +102,14 @@ fn compare_read<L: Lookup + Drop, M: Lookup + Drop, R: Source, W: Sink, E: Sink>
     ensures { (old_opened new_opened : Result OpeningValue RunOutcome)
         → IfOk old (λ r. old_opened ≡ Ok (shown_rules r.0 (L.entries r.1))) → IfErr old (λ e. IsRefused e old_opened)
         → IfOk new (λ r. new_opened ≡ Ok (shown_rules r.0 (M.entries r.1))) → IfErr new (λ e. IsRefused e new_opened)
-        → ComparesBy profile old_opened new_opened result
+        → ComparesBy old_line.now new_line.now old_opened new_opened result
         (record { input = R.shown input.old; out = W.shown output.old; err = E.shown error.old })
         (record { input = R.shown input.new; out = W.shown output.new; err = E.shown error.new }) }
 {
     match old {
         Ok((old_rules, old_lookup)) => match new {
             Ok((new_rules, new_lookup)) => compare_rules(
-                alloc, profile, old_rules, old_lookup, new_rules, new_lookup, input, output, error,
+                alloc, old_line, new_line, old_rules, old_lookup, new_rules, new_lookup, input, output, error,
             ),
             Err(refusal) => deliver_refusal(refusal, output, error),
         },
@@ -119,7 +120,8 @@ fn compare_read<L: Lookup + Drop, M: Lookup + Drop, R: Source, W: Sink, E: Sink>
 /// Writes the messages, and after them what appears and disappears.
 fn compare_rules<L: Lookup + Drop, M: Lookup + Drop, R: Source, W: Sink, E: Sink>(
     alloc: Global,
-    profile: Profile,
+    old_line: &Line<'_>,
+    new_line: &Line<'_>,
     old: RulesRead,
     old_lookup: L,
     new: RulesRead,
@@ -129,30 +131,32 @@ fn compare_rules<L: Lookup + Drop, M: Lookup + Drop, R: Source, W: Sink, E: Sink
     error: &mut E,
 ) -> u8
     ensures { FindsAll (old.messages.items ++ new.messages.items)
-        (answers_as profile (differences_by (shown_rules old (L.entries old_lookup)) (shown_rules new (M.entries new_lookup)))) result
+        (answers_as old_line.now.profile (differences_by old_line.now new_line.now (shown_rules old (L.entries old_lookup)) (shown_rules new (M.entries new_lookup)))) result
         (record { input = R.shown input.old; out = W.shown output.old; err = E.shown error.old })
         (record { input = R.shown input.new; out = W.shown output.new; err = E.shown error.new }) }
 {
-    match both_tables(alloc, old, old_lookup, new, new_lookup) {
+    let old_builtins = Builtins::new(old_lookup, &old_line.links);
+    let new_builtins = Builtins::new(new_lookup, &new_line.links);
+    match both_tables(alloc, old, old_builtins, new, new_builtins) {
         Ok((messages, tables)) => find_after_messages(
-            alloc, profile, &messages, &tables, input, output, error,
+            alloc, old_line.profile, &messages, &tables, input, output, error,
         ),
         Err(_) => report_out_of_memory(error),
     }
 }
 
 /// The messages about both sides, and the tables of both.
-fn both_tables<L: Lookup + Drop, M: Lookup + Drop>(
+fn both_tables<'l, 'm, L: Lookup + Drop, M: Lookup + Drop>(
     alloc: Global,
     old: RulesRead,
-    old_lookup: L,
+    old_builtins: Builtins<'l, L>,
     new: RulesRead,
-    new_lookup: M,
-) -> Result<(Vec<u8>, Compared<Tables<Builtins<L>>, Tables<Builtins<M>>>), AllocError>
+    new_builtins: Builtins<'m, M>,
+) -> Result<(Vec<u8>, Compared<Tables<Builtins<'l, L>>, Tables<Builtins<'m, M>>>), AllocError>
     ensures messages { IfOk result (λ both. both.0.items ≡ old.messages.items ++ new.messages.items) }
     ensures tables { IfOk result (λ both. both.1 ≡ (
-      (old.rules.rules, L.entries old_lookup),
-      (new.rules.rules, M.entries new_lookup),
+      (old.rules.rules, old_builtins),
+      (new.rules.rules, new_builtins),
     )) }
 {
     let RulesRead {
@@ -164,8 +168,8 @@ fn both_tables<L: Lookup + Drop, M: Lookup + Drop>(
         rules: new_rules,
     } = new;
     messages.append(&mut more)?;
-    let old_tables = Tables::new(alloc, old_rules.into_rules(), Builtins::new(old_lookup))?;
-    let new_tables = Tables::new(alloc, new_rules.into_rules(), Builtins::new(new_lookup))?;
+    let old_tables = Tables::new(alloc, old_rules.into_rules(), old_builtins)?;
+    let new_tables = Tables::new(alloc, new_rules.into_rules(), new_builtins)?;
     Ok((messages, Compared::new(old_tables, new_tables)))
 }
 

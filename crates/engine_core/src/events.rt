@@ -138,7 +138,7 @@ fn ask_by_rules<L: Lookup + Drop, R: Source, W: Sink, E: Sink>(
         (record { input = R.shown input.new; out = W.shown output.new; err = E.shown error.new }) }
 {
     let RulesRead { messages, rules } = read;
-    let tables = AskedTables::new(rules.into_rules(), Builtins::new(lookup));
+    let tables = AskedTables::new(rules.into_rules(), Builtins::new(lookup, &line.links));
     answer_after_messages(
         alloc,
         line.profile,
@@ -169,11 +169,11 @@ fn report_by_rules<L: Lookup + Drop, R: Source, W: Sink, E: Sink>(
     let RulesRead { messages, rules } = read;
     let profile = line.profile;
     if line.sources || !line.why.is_empty() {
-        let builtins = Builtins::new(lookup);
+        let builtins = Builtins::new(lookup, &line.links);
         let tables = ReportedTables::new(line.sources, &line.why, rules, builtins);
         return answer_after_messages(alloc, profile, &messages, &tables, input, output, error);
     }
-    match Tables::new(alloc, rules.into_rules(), Builtins::new(lookup)) {
+    match Tables::new(alloc, rules.into_rules(), Builtins::new(lookup, &line.links)) {
         Ok(tables) => answer_after_messages(
             alloc, profile, &messages, &tables, input, output, error,
         ),

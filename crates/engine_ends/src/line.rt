@@ -4,6 +4,7 @@
 //! needs another. Which files a line is about is defined here too, so that the crate that reads files and the one
 //! that answers from them can't differ.
 
+use link_files::LinkFile;
 use std::error::Error;
 use std::fmt;
 use text_bytes::{Bytes, Profile};
@@ -113,6 +114,9 @@ pub struct Line<'a> {
     pub users: Option<AccountFile<'a>>,
     /// The groups, likewise.
     pub groups: Option<AccountFile<'a>>,
+    /// The `.link` files by which `events` and `compare` name interfaces if they evaluate rules as udev does, in order;
+    /// none before they are read.
+    pub links: Vec<LinkFile>,
 }
 
 /// What the words of a command line ask for.

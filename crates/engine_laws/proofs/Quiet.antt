@@ -12,7 +12,7 @@ use Rattle.builtin_devices.specs.Knowledge.{Known}
 use Rattle.builtin_devices.specs.Outcomes.{OutcomeValue}
 use Rattle.device_core.specs.Values.{AnswerValue, DeviceValue, EventValue}
 use Rattle.rule_types.specs.Builtins.{builtin_name}
-use Rattle.rule_types.specs.declared.builtins.Builtin.TheVariants.{InputId, NetId, PathId, UsbId}
+use Rattle.rule_types.specs.declared.builtins.Builtin.TheVariants.{InputId, NetId, NetSetupLink, PathId, UsbId}
 use Rattle.rule_types.specs.Names.{import_name}
 use Rattle.rule_types.specs.Written.{attribute_of_target, key_of_target}
 use Rattle.rule_types.specs.WrittenParts.{attribute_of_act_kind, key_of_act_kind}
@@ -139,9 +139,11 @@ builtin_quiet known r t builtin.InputId s = taken_quiet r (builtin_name InputId)
 builtin_quiet known r t builtin.NetId s =
     let names : OutcomeValue = known.net_id s.state.event s.state.env in
     outcome_quiet r (builtin_name NetId) names (with_maker (looked_up known (known.net_lookup s.state.event s.state.env)) names.properties) s
+builtin_quiet known r t builtin.NetSetupLink s = taken_quiet r (builtin_name NetSetupLink) (known.net_setup_link s.state.event s.state.env) s
 builtin_quiet known r t builtin.PathId s = path_quiet known s.ran.path_id r s
 builtin_quiet known r t builtin.UsbId s = usb_quiet known s.ran.usb_id r s
 builtin_quiet known r t builtin.SetsNothing s = refl
+builtin_quiet known r t builtin.Fails s = refl
 builtin_quiet known r t (builtin.Answered name) s = answer_quiet r name (value_of s.state.event.programs (builtin_question t)) s
 builtin_quiet known r t (builtin.Other name) s = note_quiet r BuiltinNotRun name s refl
 builtin_quiet known r t builtin.BadArguments s = note_quiet r BadHwdbArguments t s refl

@@ -88,9 +88,11 @@ module _ (event : EventValue) where
   meant_fine command (asked.Hwdb hwdb) = refl
   meant_fine command asked.InputId = refl
   meant_fine command asked.NetId = refl
+  meant_fine command asked.NetSetupLink = refl
   meant_fine command asked.PathId = refl
   meant_fine command asked.UsbId = refl
   meant_fine command asked.SetsNothing = refl
+  meant_fine command asked.Fails = refl
   meant_fine command (asked.Other name) = refl
   meant_fine command asked.BadArguments = refl
 

@@ -7,7 +7,7 @@ use Rattle.text_tables.specs.Pairs.{Pair, value_of}
 use Rattle.hwdb_lookup.specs.Query.{query}
 use Rattle.builtin_devices.specs.Knowledge.{Known}
 use Rattle.rule_types.specs.Builtins.{builtin_name}
-use Rattle.rule_types.specs.declared.builtins.Builtin.TheVariants.{InputId, NetId, PathId, UsbId}
+use Rattle.rule_types.specs.declared.builtins.Builtin.TheVariants.{InputId, NetId, NetSetupLink, PathId, UsbId}
 use Rattle.rule_types.specs.Rules.{Rule}
 use Rattle.builtin_devices.specs.Outcomes.{OutcomeValue}
 use Rattle.eval_state.specs.Properties.{properties_set}
@@ -90,3 +90,7 @@ abbrev pub net_id_run : Known → Rule → Scene → Scene × Bool
 net_id_run known r s =
     let names = known.net_id s.state.event s.state.env in
     outcome_set r (builtin_name NetId) names (with_maker (looked_up known (known.net_lookup s.state.event s.state.env)) names.properties) s
+
+-- net_setup_link
+abbrev pub net_setup_link_run : Known → Rule → Scene → Scene × Bool
+net_setup_link_run known r s = outcome_taken r (builtin_name NetSetupLink) (known.net_setup_link s.state.event s.state.env) s

@@ -15,7 +15,7 @@ use Rattle.rule_types.specs.declared.types.ImportType.TheVariants.{Cmdline}
 use Rattle.rule_types.specs.Rules.{Rule}
 use Rattle.eval_commands.specs.Builtins.{builtin, builtin_question}
 use Rattle.eval_commands.specs.Cmdline.{cmdline_value}
-use Rattle.eval_acts.specs.BuiltinRuns.{input_id_run, net_id_run, path_id_run, usb_id_run}
+use Rattle.eval_acts.specs.BuiltinRuns.{input_id_run, net_id_run, net_setup_link_run, path_id_run, usb_id_run}
 use Rattle.eval_acts.specs.LookUps.{found}
 use Rattle.eval_acts.specs.Printed.{printed_properties}
 use Rattle.eval_commands.specs.declared.builtin.Builtin.{Builtin}
@@ -46,15 +46,17 @@ abbrev pub from_answer_or_noted : Rule → NoteKind → (word : Text) → Option
 from_answer_or_noted r kind word None s = (noted r kind word s, false)
 from_answer_or_noted r kind word (Some answer) s = from_answer answer s
 
--- the builtin of a command: `hwdb` takes what it finds, and four builtins of udev look at the devices. Of the others, by
+-- the builtin of a command: `hwdb` takes what it finds, and five builtins of udev look at the devices. Of the others, by
 -- udev, those that set nothing are done and the event's block answers the rest; by the manual none is run.
 abbrev pub builtin_run : Known → Rule → Text → Builtin → Scene → Scene × Bool
 builtin_run known r command (asked.Hwdb hwdb) s = taken (found known hwdb s.state) s
 builtin_run known r command asked.InputId s = input_id_run known r s
 builtin_run known r command asked.NetId s = net_id_run known r s
+builtin_run known r command asked.NetSetupLink s = net_setup_link_run known r s
 builtin_run known r command asked.PathId s = path_id_run known s.ran.path_id r s
 builtin_run known r command asked.UsbId s = usb_id_run known s.ran.usb_id r s
 builtin_run known r command asked.SetsNothing s = (s, true)
+builtin_run known r command asked.Fails s = (s, false)
 builtin_run known r command (asked.Answered name) s = from_answer_or_noted r BuiltinNotRun name (value_of s.state.event.programs (builtin_question command)) s
 builtin_run known r command (asked.Other name) s = (noted r BuiltinNotRun name s, false)
 builtin_run known r command asked.BadArguments s = (noted r BadHwdbArguments command s, false)

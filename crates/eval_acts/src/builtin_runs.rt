@@ -4,7 +4,7 @@ ghost use Rattle.hwdb_lookup.specs.Query.{shown};
 ghost use Rattle.rule_types.specs.Builtins.{builtin_name};
 ghost use Rattle.rule_types.specs.declared.builtins.Builtin.TheVariants.{NetId};
 ghost use Rattle.eval_state.specs.Properties.{properties_set};
-ghost use Rattle.eval_acts.specs.BuiltinRuns.{input_id_run, is_address_name, looked_up, most_set, need_noted, need_word, net_id_run, outcome_set};
+ghost use Rattle.eval_acts.specs.BuiltinRuns.{input_id_run, is_address_name, looked_up, most_set, need_noted, need_word, net_id_run, net_setup_link_run, outcome_set};
 ghost use Rattle.eval_acts.specs.BuiltinRuns.{outcome_taken, path_id_run, properties_size, property_size, usb_id_run, with_maker};
 
 use crate::imports::set_as_udev;
@@ -244,4 +244,19 @@ pub(crate) fn run_net_id<K: Knowledge>(
     let text = names.lookup.as_ref().map(Bytes::as_slice);
     let found = found_for(alloc, knowledge, text)?;
     take_names(alloc, rule, &names.outcome, &found, scene)
+}
+
+/// Runs `net_setup_link`.
+pub(crate) fn run_net_setup_link<K: Knowledge>(
+    alloc: Global,
+    rule: &Rule,
+    knowledge: &K,
+    scene: &mut Scene<'_>,
+) -> Result<bool, AllocError>
+    ensures scene { IfOk result (λ done. (scene.new, done) ≡ net_setup_link_run (K.known knowledge.now) rule.now scene.old) }
+    ensures refused { OnErr result (scene.new.state.event ≡ scene.old.state.event) }
+{
+    let event = scene.state.event.event();
+    let outcome = knowledge.net_setup_link(alloc, event, &scene.state.env)?;
+    take_outcome(alloc, rule, Builtin::NetSetupLink, &outcome, scene)
 }

@@ -1,5 +1,5 @@
 -- What a builtin's command asks for.
-use Rattle.std.specs.Prelude.{if◌then◌else◌, List, [], ◌∷◌, ◌++◌, drop, Option, Some, None, codes}
+use Rattle.std.specs.Prelude.{if◌then◌else◌, nat_lt, List, [], ◌∷◌, ◌++◌, drop, length, Option, Some, None, codes}
 use Rattle.text_bytes.specs.declared.profile.Profile.{Profile}
 use Rattle.text_bytes.specs.declared.profile.Profile.TheVariants.{Manual, Udev}
 use Rattle.text_tables.specs.Texts.{Text, same_text}
@@ -18,6 +18,10 @@ abbrev pub hwdb_asked : Option Hwdb → Builtin
 hwdb_asked None = asked.BadArguments
 hwdb_asked (Some hwdb) = asked.Hwdb hwdb
 
+-- what words of `net_setup_link` ask for: it takes no argument
+abbrev pub link_asked : List Text → Builtin
+link_asked words = if nat_lt 1 (length words) then asked.Fails else asked.NetSetupLink
+
 -- what words ask for: the first is the builtin's name, empty if there is none
 abbrev pub builtin_of_words : List Text → Builtin
 builtin_of_words [] = asked.Other []
@@ -35,6 +39,7 @@ builtin_meant None text = asked.Answered text
 builtin_meant (Some known_as.Hwdb) text = hwdb_asked (udev_hwdb_of (drop 1 (udev_words text)))
 builtin_meant (Some known_as.InputId) text = asked.InputId
 builtin_meant (Some known_as.NetId) text = asked.NetId
+builtin_meant (Some known_as.NetSetupLink) text = link_asked (udev_words text)
 builtin_meant (Some known_as.PathId) text = asked.PathId
 builtin_meant (Some known_as.UsbId) text = asked.UsbId
 builtin_meant (Some known_as.Keyboard) text = asked.SetsNothing

@@ -1,7 +1,7 @@
 //! What a builtin's command asks for.
 ghost use Rattle.std.specs.Prelude.{◌≡◌, IfOk, drop};
 ghost use Rattle.rule_types.specs.Builtins as udev;
-ghost use Rattle.eval_commands.specs.Builtins.{builtin, builtin_meant, builtin_of, builtin_of_words, builtin_question, hwdb_asked};
+ghost use Rattle.eval_commands.specs.Builtins.{builtin, builtin_meant, builtin_of, builtin_of_words, builtin_question, hwdb_asked, link_asked};
 ghost use Rattle.eval_commands.specs.Hwdb.{hwdb_of};
 ghost use Rattle.eval_commands.specs.UdevHwdb.{udev_hwdb_of};
 ghost use Rattle.eval_commands.specs.Words.{command_words, udev_words};
@@ -22,12 +22,16 @@ pub enum Builtin {
     InputId,
     /// For udev only: `net_id`.
     NetId,
+    /// For udev only: `net_setup_link` without an argument.
+    NetSetupLink,
     /// For udev only: `path_id`.
     PathId,
     /// For udev only: `usb_id`.
     UsbId,
     /// For udev only: `keyboard`, `kmod` or `uaccess`, which set nothing.
     SetsNothing,
+    /// For udev only: `net_setup_link` with an argument, with which it fails.
+    Fails,
     /// For udev only: another builtin, which is not run but answered by a block: its whole name, or the command if it
     /// means none.
     Answered(Bytes),
@@ -81,6 +85,18 @@ fn read_hwdb(alloc: Global, command: &[u8]) -> Result<Builtin, AllocError>
     }
 }
 
+/// What a command of `net_setup_link` asks for as udev has it, whose first word is the name.
+fn read_net_setup_link(alloc: Global, command: &[u8]) -> Result<Builtin, AllocError>
+    ensures { IfOk result (λ b. b ≡ link_asked (udev_words command.now)) }
+{
+    let words = udev_words(alloc, command)?;
+    Ok(if words.len() > 1 {
+        Builtin::Fails
+    } else {
+        Builtin::NetSetupLink
+    })
+}
+
 /// What a command asks for as udev has it.
 fn read_as_udev(alloc: Global, command: &[u8]) -> Result<Builtin, AllocError>
     ensures { IfOk result (λ b. b ≡ builtin_meant (udev.builtin_of command.now) command.now) }
@@ -89,6 +105,7 @@ fn read_as_udev(alloc: Global, command: &[u8]) -> Result<Builtin, AllocError>
         Some(rule_types::Builtin::Hwdb) => read_hwdb(alloc, command),
         Some(rule_types::Builtin::InputId) => Ok(Builtin::InputId),
         Some(rule_types::Builtin::NetId) => Ok(Builtin::NetId),
+        Some(rule_types::Builtin::NetSetupLink) => read_net_setup_link(alloc, command),
         Some(rule_types::Builtin::PathId) => Ok(Builtin::PathId),
         Some(rule_types::Builtin::UsbId) => Ok(Builtin::UsbId),
         Some(

@@ -37,7 +37,7 @@ use Rattle.eval_state.specs.declared.note_kind.NoteKind.TheVariants.{BadHwdbArgu
 use Rattle.eval_state.specs.declared.scene.Scene.{Scene}
 use Rattle.hwdb_lookup.specs.Query.{query}
 use Rattle.rule_types.specs.Builtins.{builtin_name}
-use Rattle.rule_types.specs.declared.builtins.Builtin.TheVariants.{InputId, NetId, PathId, UsbId}
+use Rattle.rule_types.specs.declared.builtins.Builtin.TheVariants.{InputId, NetId, NetSetupLink, PathId, UsbId}
 use Rattle.builtin_devices.specs.Outcomes.{OutcomeValue}
 use Rattle.eval_acts.specs.BuiltinRuns.{is_address_name, looked_up, most_set, need_noted, need_word, net_id_run, outcome_set, outcome_taken, path_id_run, properties_size, property_size, usb_id_run, with_maker}
 use Rattle.eval_commands.specs.Builtins.{builtin, builtin_of, builtin_question, hwdb_asked}
@@ -273,9 +273,11 @@ module _ (event : EventValue) where
     meant_within known command (asked_for.Hwdb hwdb) light short = hwdb_within known command (Some hwdb) (omega (arith, light))
     meant_within known command asked_for.InputId light short = taken_within (builtin_name InputId) (known.input_id s.state.event) (omega (arith, light))
     meant_within known command asked_for.NetId light short = net_within known light
+    meant_within known command asked_for.NetSetupLink light short = taken_within (builtin_name NetSetupLink) (known.net_setup_link s.state.event s.state.env) (omega (arith, light))
     meant_within known command asked_for.PathId light short = path_within known s.ran.path_id (omega (arith, light))
     meant_within known command asked_for.UsbId light short = usb_within known s.ran.usb_id (omega (arith, light))
     meant_within known command asked_for.SetsNothing light short = stays
+    meant_within known command asked_for.Fails light short = stays
     meant_within known command (asked_for.Answered name) light short = answer_within BuiltinNotRun name (builtin_question command) short
     meant_within known command (asked_for.Other name) light short = notes BuiltinNotRun name
     meant_within known command asked_for.BadArguments light short = notes BadHwdbArguments command

@@ -36,7 +36,7 @@ use Rattle.eval_state.specs.declared.note_kind.NoteKind.{NoteKind}
 use Rattle.eval_state.specs.declared.note_kind.NoteKind.TheVariants.{BadHwdbArguments, BuiltinNeeds, BuiltinNotRun, ImportNotRun, NoAnswer, TestNotMade, TextTooLong}
 use Rattle.eval_state.specs.declared.scene.Scene.{Scene}
 use Rattle.rule_types.specs.Builtins.{builtin_name}
-use Rattle.rule_types.specs.declared.builtins.Builtin.TheVariants.{InputId, NetId, PathId, UsbId}
+use Rattle.rule_types.specs.declared.builtins.Builtin.TheVariants.{InputId, NetId, NetSetupLink, PathId, UsbId}
 use Rattle.builtin_devices.specs.Outcomes.{OutcomeValue}
 use Rattle.eval_acts.specs.BuiltinRuns.{looked_up, most_set, need_noted, need_word, outcome_set, outcome_taken, path_id_run, properties_size, usb_id_run, with_maker}
 use Rattle.eval_commands.specs.Builtins.{builtin, builtin_question}
@@ -133,9 +133,11 @@ module _ (w : Note → ℕ) (v : RunValue → ℕ) (c : Rule → ℕ) (light : (
     builtin_counts known command asked_for.NetId =
         let names : OutcomeValue = known.net_id s.state.event s.state.env in
         outcome_counts r (builtin_name NetId) names (with_maker (looked_up known (known.net_lookup s.state.event s.state.env)) names.properties) s
+    builtin_counts known command asked_for.NetSetupLink = taken_counts r (builtin_name NetSetupLink) (known.net_setup_link s.state.event s.state.env) s
     builtin_counts known command asked_for.PathId = path_counts known r s.ran.path_id s
     builtin_counts known command asked_for.UsbId = usb_counts known r s.ran.usb_id s
     builtin_counts known command asked_for.SetsNothing = omega arith
+    builtin_counts known command asked_for.Fails = omega arith
     builtin_counts known command (asked_for.Answered name) = printed_counts BuiltinNotRun name (value_of s.state.event.programs (builtin_question command))
     builtin_counts known command (asked_for.Other name) = notes BuiltinNotRun name
     builtin_counts known command asked_for.BadArguments = notes BadHwdbArguments command

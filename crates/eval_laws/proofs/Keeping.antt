@@ -35,7 +35,7 @@ use Rattle.eval_rendering.specs.Bounds.{most_command_bytes, most_path_bytes}
 use Rattle.eval_rendering.specs.declared.rendered.Rendered.{Rendered}
 use Rattle.eval_rendering.specs.declared.rendered.Rendered.TheVariants as rendered
 use Rattle.rule_types.specs.Builtins.{builtin_name}
-use Rattle.rule_types.specs.declared.builtins.Builtin.TheVariants.{InputId, NetId, PathId, UsbId}
+use Rattle.rule_types.specs.declared.builtins.Builtin.TheVariants.{InputId, NetId, NetSetupLink, PathId, UsbId}
 use Rattle.builtin_devices.specs.Outcomes.{OutcomeValue}
 use Rattle.eval_commands.specs.Builtins.{builtin_question}
 use Rattle.eval_commands.specs.Cmdline.{cmdline_value}
@@ -154,9 +154,11 @@ builtin_same known r t builtin.InputId s = taken_same r (builtin_name InputId) (
 builtin_same known r t builtin.NetId s =
     let names : OutcomeValue = known.net_id s.state.event s.state.env in
     outcome_same r (builtin_name NetId) names (with_maker (looked_up known (known.net_lookup s.state.event s.state.env)) names.properties) s
+builtin_same known r t builtin.NetSetupLink s = taken_same r (builtin_name NetSetupLink) (known.net_setup_link s.state.event s.state.env) s
 builtin_same known r t builtin.PathId s = path_same known s.ran.path_id r s
 builtin_same known r t builtin.UsbId s = usb_same known s.ran.usb_id r s
 builtin_same known r t builtin.SetsNothing s = refl
+builtin_same known r t builtin.Fails s = refl
 builtin_same known r t (builtin.Answered name) s = printed_same r BuiltinNotRun name (value_of s.state.event.programs (builtin_question t)) s
 builtin_same known r t (builtin.Other name) s = refl
 builtin_same known r t builtin.BadArguments s = refl

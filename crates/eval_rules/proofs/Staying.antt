@@ -28,7 +28,7 @@ use Rattle.eval_rendering.specs.declared.rendered.Rendered.{Rendered}
 use Rattle.eval_rendering.specs.declared.rendered.Rendered.TheVariants as rendered
 use Rattle.builtin_devices.specs.Outcomes.{OutcomeValue}
 use Rattle.rule_types.specs.Builtins.{builtin_name}
-use Rattle.rule_types.specs.declared.builtins.Builtin.TheVariants.{InputId, NetId, PathId, UsbId}
+use Rattle.rule_types.specs.declared.builtins.Builtin.TheVariants.{InputId, NetId, NetSetupLink, PathId, UsbId}
 use Rattle.eval_commands.specs.Builtins.{builtin_question}
 use Rattle.eval_commands.specs.Cmdline.{cmdline_value}
 use Rattle.eval_commands.specs.declared.builtin.Builtin.{Builtin}
@@ -113,9 +113,11 @@ builtin_stays known r t builtin.InputId s = taken_stays r (builtin_name InputId)
 builtin_stays known r t builtin.NetId s =
     let names : OutcomeValue = known.net_id s.state.event s.state.env in
     outcome_stays r (builtin_name NetId) names (with_maker (looked_up known (known.net_lookup s.state.event s.state.env)) names.properties) s
+builtin_stays known r t builtin.NetSetupLink s = taken_stays r (builtin_name NetSetupLink) (known.net_setup_link s.state.event s.state.env) s
 builtin_stays known r t builtin.PathId s = path_stays known s.ran.path_id r s
 builtin_stays known r t builtin.UsbId s = usb_stays known s.ran.usb_id r s
 builtin_stays known r t builtin.SetsNothing s = refl
+builtin_stays known r t builtin.Fails s = refl
 builtin_stays known r t (builtin.Answered name) s = printed_stays r BuiltinNotRun name (value_of s.state.event.programs (builtin_question t)) s
 builtin_stays known r t (builtin.Other name) s = refl
 builtin_stays known r t builtin.BadArguments s = refl

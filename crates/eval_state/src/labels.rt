@@ -1,5 +1,5 @@
 //! Labels of security modules, in the order in which they are set.
-ghost use Rattle.std.specs.Prelude.{◌≡◌, ◌<◌, ◌++◌, ◌∷◌, [], length, position, IfOk, IfSome, OnOk, OnErr};
+ghost use Rattle.std.specs.Prelude.{◌≡◌, ◌<◌, ◌++◌, ◌∷◌, [], length, position, IfSome, OnOk, OnErr};
 ghost use Rattle.text_tables.specs.Pairs.{with_value};
 ghost use Rattle.text_tables.specs.Texts.{same_text};
 
@@ -24,13 +24,10 @@ impl Model for Label {
 
 impl Label {
     /// A label of a module.
-    fn new(alloc: Global, name: &[u8], text: Bytes) -> Result<Label, AllocError>
-        ensures { IfOk result (λ label. label ≡ (name.now, text)) }
+    pub fn new(name: Bytes, text: Bytes) -> Label
+        ensures { result ≡ (name, text) }
     {
-        Ok(Label {
-            name: Bytes::copy_of(alloc, name)?,
-            text,
-        })
+        Label { name, text }
     }
 
     /// Returns the name of the module.
@@ -81,6 +78,20 @@ impl Labels {
         }
     }
 
+    /// Labels in the order of a list.
+    pub fn from_vec(held: Vec<Label>) -> Labels
+        ensures { result ≡ held.items }
+    {
+        Labels { held }
+    }
+
+    /// Returns the list.
+    pub fn into_vec(self) -> Vec<Label>
+        ensures { result.items ≡ self.entry }
+    {
+        self.held
+    }
+
     /// Returns the labels, in order.
     pub fn as_slice(&self) -> &[Label]
         ensures { result.now ≡ self.now }
@@ -101,7 +112,7 @@ impl Labels {
         ensures labels { OnOk result (self.new ≡ self.old ++ (name.now, text) ∷ []) }
         ensures refused { OnErr result (self.new ≡ self.old) }
     {
-        let label = Label::new(alloc, name, text)?;
+        let label = Label::new(Bytes::copy_of(alloc, name)?, text);
         self.held.push(label)?;
         Ok(())
     }
@@ -113,7 +124,7 @@ impl Labels {
         ensures labels { OnOk result (self.new ≡ with_value self.old name.now text) }
         ensures refused { OnErr result (self.new ≡ self.old) }
     {
-        let label = Label::new(alloc, name, text)?;
+        let label = Label::new(Bytes::copy_of(alloc, name)?, text);
         match place_of(&self.held, name) {
             Some(place) => self.held[place] = label,
             None => self.held.push(label)?,

@@ -46,6 +46,7 @@ only_entries entries = record {
   input_id = λ event. failing [];
   net_id = λ event env. failing [];
   net_lookup = λ event env. None;
+  net_setup_link = λ event env. failing [];
 }
 
 -- the answer to an event over which rules are evaluated by a profile, or what is wrong with its block

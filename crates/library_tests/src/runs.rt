@@ -94,6 +94,7 @@ pub(crate) fn line<'a>(alloc: Global, verb: Verb, modalias: &'a str) -> Line<'a>
         profile: Profile::Manual,
         users: None,
         groups: None,
+        links: Vec::new(alloc),
     }
 }
 

@@ -11,7 +11,7 @@ use std::test::Fail;
 use text_bytes::Bytes;
 
 /// What files of rules answer without a database.
-fn tables_of(alloc: Global, given: &[Given<'_>]) -> Result<Tables<Builtins<PlainDb>>, Fail> {
+fn tables_of(alloc: Global, given: &[Given<'_>]) -> Result<Tables<Builtins<'_, PlainDb>>, Fail> {
     let Ok(read) = read_rules(alloc, &files_of(alloc, given)?) else {
         return Err("no rules")?;
     };
@@ -20,7 +20,7 @@ fn tables_of(alloc: Global, given: &[Given<'_>]) -> Result<Tables<Builtins<Plain
         Ok(database) => Ok(Tables::new(
             alloc,
             rules,
-            Builtins::new(PlainDb::new(database.entries)),
+            Builtins::new(PlainDb::new(database.entries), &[]),
         )?),
         Err(_fault) => {
             drop(rules);
@@ -32,7 +32,7 @@ fn tables_of(alloc: Global, given: &[Given<'_>]) -> Result<Tables<Builtins<Plain
 /// Whether a session uses so many bytes of a piece, for this answer or for none.
 fn takes(
     alloc: Global,
-    session: &mut Session<'_, Tables<Builtins<PlainDb>>>,
+    session: &mut Session<'_, Tables<Builtins<'_, PlainDb>>>,
     piece: &[u8],
     used: usize,
     answer: Option<&[u8]>,
@@ -46,7 +46,7 @@ fn takes(
 /// Whether a session ends with this answer, or with none.
 fn ends(
     alloc: Global,
-    session: &mut Session<'_, Tables<Builtins<PlainDb>>>,
+    session: &mut Session<'_, Tables<Builtins<'_, PlainDb>>>,
     answer: Option<&[u8]>,
 ) -> bool {
     match session.end(alloc) {
@@ -65,7 +65,7 @@ fn is_answer(answer: &Option<Bytes>, wanted: Option<&[u8]>) -> bool {
 }
 
 /// Whether a session has ended, so that it answers nothing more.
-fn has_ended(alloc: Global, session: &mut Session<'_, Tables<Builtins<PlainDb>>>) -> bool {
+fn has_ended(alloc: Global, session: &mut Session<'_, Tables<Builtins<'_, PlainDb>>>) -> bool {
     session.take(alloc, b"x").err() == Some(SessionFault::Ended)
         && session.end(alloc).err() == Some(SessionFault::Ended)
 }
@@ -90,7 +90,7 @@ const WRONG_PATH: SessionFault = SessionFault::Block(
 );
 
 /// Whether three blocks in one piece are answered in three calls, and nothing is left for the end.
-fn each_block_is_answered(alloc: Global, tables: &Tables<Builtins<PlainDb>>) -> Result<bool, Fail> {
+fn each_block_is_answered(alloc: Global, tables: &Tables<Builtins<'_, PlainDb>>) -> Result<bool, Fail> {
     let mut session = Session::new(alloc, tables)?;
     let (_, following) = THREE_BLOCKS.split_at(58);
     let (_, last) = THREE_BLOCKS.split_at(116);
@@ -106,7 +106,7 @@ fn each_block_is_answered(alloc: Global, tables: &Tables<Builtins<PlainDb>>) -> 
 /// Whether a block without the empty line after it is answered at the end, and not before.
 fn the_last_block_is_answered(
     alloc: Global,
-    tables: &Tables<Builtins<PlainDb>>,
+    tables: &Tables<Builtins<'_, PlainDb>>,
 ) -> Result<bool, Fail> {
     let mut session = Session::new(alloc, tables)?;
     let answered = takes(alloc, &mut session, DISK, 57, None)
@@ -118,7 +118,7 @@ fn the_last_block_is_answered(
 /// Whether a piece stops a session at the wrong path of its second block.
 fn is_stopped(
     alloc: Global,
-    session: &mut Session<'_, Tables<Builtins<PlainDb>>>,
+    session: &mut Session<'_, Tables<Builtins<'_, PlainDb>>>,
     piece: &[u8],
 ) -> bool {
     match session.take(alloc, piece) {
@@ -130,7 +130,7 @@ fn is_stopped(
 /// Whether the block before a faulty one is answered, and the one after it is not.
 fn a_faulty_block_is_the_last(
     alloc: Global,
-    tables: &Tables<Builtins<PlainDb>>,
+    tables: &Tables<Builtins<'_, PlainDb>>,
 ) -> Result<bool, Fail> {
     let mut session = Session::new(alloc, tables)?;
     let (_, following) = FAULTY.split_at(58);
@@ -144,7 +144,7 @@ fn a_faulty_block_is_the_last(
 /// Whether so many turns go on, and nothing goes out.
 fn is_held_back(
     alloc: Global,
-    session: &mut Session<'_, Tables<Builtins<PlainDb>>>,
+    session: &mut Session<'_, Tables<Builtins<'_, PlainDb>>>,
     input: &mut MemorySource,
     output: &mut MemorySink,
     turns: usize,
@@ -161,7 +161,7 @@ fn is_held_back(
 /// Whether the answer goes out, and is flushed, in the next turn.
 fn is_sent_now(
     alloc: Global,
-    session: &mut Session<'_, Tables<Builtins<PlainDb>>>,
+    session: &mut Session<'_, Tables<Builtins<'_, PlainDb>>>,
     input: &mut MemorySource,
     output: &mut MemorySink,
 ) -> bool {
@@ -173,7 +173,7 @@ fn is_sent_now(
 
 /// Whether an answer goes out in the turn that reads the last byte of its block, and nothing before, if the input
 /// gives a byte at a time.
-fn is_sent_at_its_end(alloc: Global, tables: &Tables<Builtins<PlainDb>>) -> Result<bool, Fail> {
+fn is_sent_at_its_end(alloc: Global, tables: &Tables<Builtins<'_, PlainDb>>) -> Result<bool, Fail> {
     let mut input = input_of(alloc, BLOCK, 1)?;
     let mut output = output_of(alloc, AMPLE)?;
     let mut session = Session::new(alloc, tables)?;
@@ -189,7 +189,7 @@ fn is_sent_at_its_end(alloc: Global, tables: &Tables<Builtins<PlainDb>>) -> Resu
 }
 
 /// Whether sessions answer a block once it is whole, and nothing after a faulty one, and turns send it at once.
-fn sessions_answer(alloc: Global, tables: &Tables<Builtins<PlainDb>>) -> Result<bool, Fail> {
+fn sessions_answer(alloc: Global, tables: &Tables<Builtins<'_, PlainDb>>) -> Result<bool, Fail> {
     Ok(
         each_block_is_answered(alloc, tables)?
             && the_last_block_is_answered(alloc, tables)?
@@ -212,7 +212,7 @@ fn sessions_answer_block_by_block(rt: HostRuntime) -> Result<(), Fail> {
 /// A call that says it used more than it was given also ends here.
 fn take_all(
     alloc: Global,
-    session: &mut Session<'_, Tables<Builtins<PlainDb>>>,
+    session: &mut Session<'_, Tables<Builtins<'_, PlainDb>>>,
     piece: &[u8],
     text: &mut Vec<u8>,
 ) -> Result<(), SessionFault> {
@@ -231,7 +231,7 @@ fn take_all(
 /// Passes an input to a session in pieces of so many bytes, and appends the answers to a text.
 fn feed_in_pieces(
     alloc: Global,
-    session: &mut Session<'_, Tables<Builtins<PlainDb>>>,
+    session: &mut Session<'_, Tables<Builtins<'_, PlainDb>>>,
     input: &[u8],
     size: usize,
     text: &mut Vec<u8>,
@@ -248,7 +248,7 @@ fn feed_in_pieces(
 /// How many bytes a session answers to an input in pieces of so many bytes, if nothing fails.
 fn answered(
     alloc: Global,
-    tables: &Tables<Builtins<PlainDb>>,
+    tables: &Tables<Builtins<'_, PlainDb>>,
     input: &[u8],
     size: usize,
 ) -> Result<usize, Fail> {
@@ -273,7 +273,7 @@ fn is_too_long(fault: &SessionFault) -> bool {
 /// Whether an input in pieces of so many bytes ends a session as too long, with no answer.
 fn is_refused(
     alloc: Global,
-    tables: &Tables<Builtins<PlainDb>>,
+    tables: &Tables<Builtins<'_, PlainDb>>,
     input: &[u8],
     size: usize,
 ) -> Result<bool, Fail> {
@@ -295,7 +295,7 @@ fn whole_block(alloc: Global, letters: usize) -> Result<Vec<u8>, Fail> {
 }
 
 /// Whether a block of 65,536 bytes is answered in pieces of each size, and one with a byte more ends the session.
-fn each_size_has_room(alloc: Global, tables: &Tables<Builtins<PlainDb>>) -> Result<bool, Fail> {
+fn each_size_has_room(alloc: Global, tables: &Tables<Builtins<'_, PlainDb>>) -> Result<bool, Fail> {
     let longest = whole_block(alloc, 65_509)?;
     let too_long = whole_block(alloc, 65_510)?;
     // event add /devices/x, env ACTION=add, env DEVPATH=/devices/x, env X= and the letters, and an empty line

@@ -15,7 +15,8 @@ use std::alloc::{AllocError, Global};
 use std::cmp::Ordering;
 use std::marker::Model;
 
-/// Names with their values, borrowed or owned, sorted by name, byte by byte; each name is there once.
+/// Names with their values, borrowed or owned, sorted by name, byte by byte; each name is there once. They are made from
+/// a table, which stays as it is: it can be read, and taken back.
 #[derive(Drop)]
 pub struct SortedPairs<'a> {
     held: CowPairs<'a>,
@@ -24,12 +25,15 @@ pub struct SortedPairs<'a> {
 }
 
 impl<'a> Model for SortedPairs<'a> {
-    ghost use Rattle.std.specs.Prelude.{List, ℕ, map};
+    ghost use Rattle.std.specs.Prelude.{◌≡◌, List, ℕ, map};
     ghost use Rattle.text_tables.specs.Heads.{pair_at};
+    ghost use Rattle.text_tables.specs.Sorted.{by_name};
 
     ghost Value = { List (List ℕ × List ℕ) };
 
     ghost view = { λ p. map (pair_at p.held) p.order.items };
+
+    ghost invariant = { λ p. map (pair_at p.held) p.order.items ≡ by_name p.held };
 }
 
 /// Each name with its place, in the order of the places.
@@ -68,6 +72,20 @@ impl<'a> SortedPairs<'a> {
     {
         let order = places_by_name(alloc, &pairs)?;
         Ok(SortedPairs { held: pairs, order })
+    }
+
+    /// The table that they were made from, in its own order.
+    pub fn as_pairs(&self) -> &CowPairs<'a>
+        ensures { by_name result.now ≡ self.now }
+    {
+        &self.held
+    }
+
+    /// Gives the table back.
+    pub fn into_pairs(self) -> CowPairs<'a>
+        ensures { by_name result ≡ self.entry }
+    {
+        self.held
     }
 
     /// How many names there are.

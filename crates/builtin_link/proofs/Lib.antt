@@ -1,0 +1,4 @@
+pub mod Seen
+pub mod AllFields
+pub mod NewNames
+pub mod Needs

@@ -1,0 +1,7 @@
+pub mod Globs
+pub mod Numbers
+pub mod Hardware
+pub mod Addresses
+pub mod Checks
+pub mod Policies
+pub mod Link

@@ -1,0 +1,276 @@
+//! Whether a `.link` file is for an interface, and what a block would have to report to tell.
+ghost use Rattle.std.specs.Prelude.{◌≡◌, IfOk, OnOk, filter_map, option_map};
+ghost use Rattle.std.specs.List.{list_all, list_any};
+ghost use Rattle.text_tables.specs.Texts.{with_texts};
+ghost use Rattle.builtin_link.specs.Checks.{address_check, check_of, is_for, is_given, is_met, is_unknown, known_check, lacked_word, lacked_words, lacking_check};
+ghost use Rattle.builtin_link.specs.Checks.{may_be_for, one_of_check, property_check, text_check, word_of};
+
+use crate::addresses::{are_addresses, has_address};
+use crate::globs::{are_true_of, passes_if};
+use std::alloc::{AllocError, Global};
+use text_bytes::Bytes;
+use text_tables::{CowPairs, OwnedTexts};
+
+/// What a block may lack to tell whether a file is for an interface.
+#[derive(Clone, Copy)]
+pub(crate) enum Need {
+    /// The driver.
+    Driver,
+    /// The kind of a virtual interface.
+    Kind,
+    /// The hardware.
+    Hardware,
+    /// The address.
+    Address,
+    /// The address of the hardware.
+    PermanentAddress,
+    /// An address in a form that is not read.
+    MacAddress,
+    /// The name of the machine.
+    Host,
+    /// Whether the machine is virtual.
+    Virtualization,
+    /// The kernel's command line.
+    KernelCommandLine,
+    /// The kernel's version.
+    KernelVersion,
+    /// The credentials of the service.
+    Credential,
+    /// The machine's architecture.
+    Architecture,
+    /// The machine's firmware.
+    Firmware,
+}
+
+/// What a key of `[Match]` says.
+#[derive(Clone, Copy)]
+pub(crate) enum Check {
+    /// It is not given.
+    Absent,
+    /// The file may be for the interface.
+    Holds,
+    /// The file is not for the interface.
+    Fails,
+    /// The block does not tell.
+    Lacks(Need),
+}
+
+impl Need {
+    /// The word for it.
+    pub(crate) fn word(self) -> &'static [u8]
+        ensures { result.now ≡ word_of self }
+    {
+        match self {
+            Need::Driver => b"ID_NET_DRIVER",
+            Need::Kind => b"Kind",
+            Need::Hardware => b"type",
+            Need::Address => b"address",
+            Need::PermanentAddress => b"permaddr",
+            Need::MacAddress => b"MACAddress",
+            Need::Host => b"Host",
+            Need::Virtualization => b"Virtualization",
+            Need::KernelCommandLine => b"cmdline",
+            Need::KernelVersion => b"KernelVersion",
+            Need::Credential => b"Credential",
+            Need::Architecture => b"Architecture",
+            Need::Firmware => b"Firmware",
+        }
+    }
+}
+
+impl Check {
+    /// The check of a key that is given.
+    fn of(holds: bool) -> Check
+        ensures { result ≡ check_of holds }
+    {
+        if holds { Check::Holds } else { Check::Fails }
+    }
+
+    /// Whether the key is given.
+    fn is_given(self) -> bool
+        ensures { result ≡ is_given self }
+    {
+        match self {
+            Check::Absent => false,
+            Check::Holds | Check::Fails | Check::Lacks(_) => true,
+        }
+    }
+
+    /// Whether the key says nothing against the interface.
+    fn is_met(self) -> bool
+        ensures { result ≡ is_met self }
+    {
+        match self {
+            Check::Absent | Check::Holds => true,
+            Check::Fails | Check::Lacks(_) => false,
+        }
+    }
+
+    /// Whether it is not known.
+    fn is_unknown(self) -> bool
+        ensures { result ≡ is_unknown self }
+    {
+        match self {
+            Check::Lacks(_) => true,
+            Check::Absent | Check::Holds | Check::Fails => false,
+        }
+    }
+
+    /// The word for what is not known.
+    fn lacked_word(self) -> Option<&'static [u8]>
+        ensures { option_map (λ t. t.now) result ≡ lacked_word self }
+    {
+        match self {
+            Check::Lacks(need) => Some(need.word()),
+            Check::Absent | Check::Holds | Check::Fails => None,
+        }
+    }
+}
+
+/// Whether a text fits the words that are given for it.
+#[tactic(auto, unfolding(crate::specs::Checks::text_check))]
+pub(crate) fn text_check(
+    alloc: Global,
+    words: &[Bytes],
+    text: Option<&[u8]>,
+) -> Result<Check, AllocError>
+    ensures { IfOk result (λ check. check ≡ text_check words.now (option_map (λ t. t.now) text.entry)) }
+{
+    if words.is_empty() {
+        return Ok(Check::Absent);
+    }
+    Ok(Check::of(passes_if(alloc, words, text)?))
+}
+
+/// The same for what each interface has.
+#[tactic(auto, unfolding(crate::specs::Checks::known_check))]
+pub(crate) fn known_check(
+    alloc: Global,
+    need: Need,
+    words: &[Bytes],
+    text: Option<&[u8]>,
+) -> Result<Check, AllocError>
+    ensures { IfOk result (λ check. check ≡ known_check need words.now (option_map (λ t. t.now) text.entry)) }
+{
+    match text {
+        Some(text) => text_check(alloc, words, Some(text)),
+        None if words.is_empty() => Ok(Check::Absent),
+        None => Ok(Check::Lacks(need)),
+    }
+}
+
+/// Whether an address is one of these words.
+fn one_of_check(alloc: Global, words: &[Bytes], text: &[u8]) -> Result<Check, AllocError>
+    ensures { IfOk result (λ check. check ≡ one_of_check words.now text.now) }
+{
+    if has_address(alloc, words, text)? {
+        return Ok(Check::Holds);
+    }
+    if are_addresses(alloc, words)? {
+        return Ok(Check::Fails);
+    }
+    Ok(Check::Lacks(Need::MacAddress))
+}
+
+/// The same for an address that the block may lack.
+fn lacking_check(
+    alloc: Global,
+    need: Need,
+    words: &[Bytes],
+    text: Option<&[u8]>,
+) -> Result<Check, AllocError>
+    ensures { IfOk result (λ check. check ≡ lacking_check need words.now (option_map (λ t. t.now) text.entry)) }
+{
+    match text {
+        Some(text) => one_of_check(alloc, words, text),
+        None => Ok(Check::Lacks(need)),
+    }
+}
+
+/// Whether an address is one of the words that are given for it.
+#[tactic(auto, unfolding(crate::specs::Checks::address_check))]
+pub(crate) fn address_check(
+    alloc: Global,
+    need: Need,
+    words: &[Bytes],
+    text: Option<&[u8]>,
+) -> Result<Check, AllocError>
+    ensures { IfOk result (λ check. check ≡ address_check need words.now (option_map (λ t. t.now) text.entry)) }
+{
+    if words.is_empty() {
+        return Ok(Check::Absent);
+    }
+    lacking_check(alloc, need, words, text)
+}
+
+/// Whether the words are true of the properties.
+#[tactic(auto, unfolding(crate::specs::Checks::property_check))]
+pub(crate) fn property_check(
+    alloc: Global,
+    env: &CowPairs<'_>,
+    words: &[Bytes],
+) -> Result<Check, AllocError>
+    ensures { IfOk result (λ check. check ≡ property_check env.now words.now) }
+{
+    if words.is_empty() {
+        return Ok(Check::Absent);
+    }
+    Ok(Check::of(are_true_of(alloc, env, words)?))
+}
+
+/// Whether a file is for an interface: a key is given, and each that is given says so.
+pub(crate) fn is_for(checks: &[Check]) -> bool
+    ensures { result ≡ is_for checks.now }
+{
+    has_given(checks) && are_met(checks)
+}
+
+/// Whether a key is given.
+fn has_given(checks: &[Check]) -> bool
+    ensures { result ≡ list_any is_given checks.now }
+{
+    checks.iter().any(|check| check.is_given())
+}
+
+/// Whether no key says anything against the interface.
+fn are_met(checks: &[Check]) -> bool
+    ensures { result ≡ list_all is_met checks.now }
+{
+    checks.iter().all(|check| check.is_met())
+}
+
+/// Whether no key says that the file is not for the interface.
+fn may_be_for(checks: &[Check]) -> bool
+    ensures { result ≡ may_be_for checks.now }
+{
+    checks
+        .iter()
+        .all(|check| check.is_met() || check.is_unknown())
+}
+
+/// Adds the words for what is not known.
+fn add_words(alloc: Global, checks: &[Check], needs: &mut OwnedTexts) -> Result<(), AllocError>
+    ensures { OnOk result (needs.new ≡ with_texts needs.old (filter_map lacked_word checks.now)) }
+{
+    for check in checks {
+        if let Some(word) = check.lacked_word() {
+            needs.add(alloc, word)?;
+        }
+    }
+    Ok(())
+}
+
+/// Adds what would tell whether a file is for an interface, if no key says that it is not.
+pub(crate) fn add_lacked(
+    alloc: Global,
+    checks: &[Check],
+    needs: &mut OwnedTexts,
+) -> Result<(), AllocError>
+    ensures { OnOk result (needs.new ≡ with_texts needs.old (lacked_words checks.now)) }
+{
+    if may_be_for(checks) {
+        add_words(alloc, checks, needs)
+    } else {
+        Ok(())
+    }
+}

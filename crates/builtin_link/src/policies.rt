@@ -1,0 +1,247 @@
+//! The name of an interface.
+ghost use Rattle.std.specs.Prelude.{◌≡◌, false, IfOk, map, option_map};
+ghost use Rattle.std.specs.Char.{to_ascii_lowercase};
+ghost use Rattle.std.specs.Option.{option_map_or};
+ghost use Rattle.text_tables.specs.Texts.{same_text};
+ghost use Rattle.link_files.specs.Words.{words_of};
+ghost use Rattle.link_files.specs.declared.words.WordKind.TheVariants.{Glob};
+ghost use Rattle.builtin_link.specs.Policies.{given_name, is_no, keeps_name, last_switch, name_by, name_by_policies, name_left, name_of, name_source, new_name};
+ghost use Rattle.builtin_link.specs.Policies.{policies_count, policies_of, present_name, property_of, with_name, with_switch};
+
+use crate::numbers::own_number;
+use builtin_devices::{file_at, is_number};
+use device_core::Event;
+use link_files::{LINK, Setting, WordKind, is_interface_name, is_of, last_of, words_of};
+use std::alloc::{AllocError, Global};
+use text_bytes::{Bytes, following};
+use text_tables::CowPairs;
+
+/// Where the name that an interface has comes from, as the kernel counts it.
+fn name_source(event: &Event<'_>) -> Option<u64>
+    ensures { result ≡ name_source event.now }
+{
+    own_number(event, b"name_assign_type")
+}
+
+/// Whether a policy says that the interface keeps its name.
+#[tactic(auto, unfolding(crate::specs::Policies::keeps_name))]
+fn keeps_name(source: Option<u64>, policy: &[u8]) -> bool
+    ensures { result ≡ keeps_name source policy.now }
+{
+    policy == b"kernel".as_slice() && is_number(2, source)
+        || policy == b"keep".as_slice() && (is_number(3, source) || is_number(4, source))
+}
+
+/// The property that has the name by a policy.
+#[tactic(auto, unfolding(crate::specs::Policies::property_of))]
+fn property_of(policy: &[u8]) -> Option<&'static [u8]>
+    ensures { option_map (λ t. t.now) result ≡ property_of policy.now }
+{
+    if policy == b"database".as_slice() {
+        return Some(b"ID_NET_NAME_FROM_DATABASE");
+    }
+    if policy == b"onboard".as_slice() {
+        return Some(b"ID_NET_NAME_ONBOARD");
+    }
+    if policy == b"slot".as_slice() {
+        return Some(b"ID_NET_NAME_SLOT");
+    }
+    if policy == b"path".as_slice() {
+        return Some(b"ID_NET_NAME_PATH");
+    }
+    if policy == b"mac".as_slice() {
+        return Some(b"ID_NET_NAME_MAC");
+    }
+    None
+}
+
+/// The name by a policy.
+fn name_by<'e>(env: &'e CowPairs<'_>, policy: &[u8]) -> Option<&'e [u8]>
+    ensures { option_map (λ t. t.now) result ≡ name_by env.now policy.now }
+{
+    let name = env.get(property_of(policy)?)?;
+    if is_interface_name(name) {
+        Some(name)
+    } else {
+        None
+    }
+}
+
+/// The name by policies in turn, or the one that is left.
+fn name_by_policies<'e>(
+    source: Option<u64>,
+    env: &'e CowPairs<'_>,
+    kept: Option<&'e [u8]>,
+    left: Option<&'e [u8]>,
+    policies: &[Bytes],
+) -> Option<&'e [u8]>
+    ensures { option_map (λ t. t.now) result
+        ≡ name_by_policies source env.now (option_map (λ t. t.now) kept.entry) (option_map (λ t. t.now) left.entry) policies.now }
+{
+    for policy in policies {
+        let policy = policy.as_slice();
+        if keeps_name(source, policy) {
+            return kept;
+        }
+        if let Some(name) = name_by(env, policy) {
+            return Some(name);
+        }
+    }
+    left
+}
+
+/// What one more setting makes of the name that is given.
+fn with_name<'e>(held: Option<&'e [u8]>, setting: &'e Setting) -> Option<&'e [u8]>
+    ensures { option_map (λ t. t.now) result ≡ with_name (option_map (λ t. t.now) held.entry) setting.now }
+{
+    if !is_of(LINK, b"Name", setting) {
+        return held;
+    }
+    let value = setting.value.as_slice();
+    if value.is_empty() {
+        return None;
+    }
+    if is_interface_name(value) {
+        return Some(value);
+    }
+    held
+}
+
+/// The name that is given.
+#[tactic(auto, unfolding(crate::specs::Policies::given_name))]
+fn given_name(settings: &[Setting]) -> Option<&[u8]>
+    ensures { option_map (λ t. t.now) result ≡ given_name settings.now }
+{
+    let mut held = None;
+    for setting in settings {
+        held = with_name(held, setting);
+    }
+    held
+}
+
+/// The policies, of which the last list counts.
+#[tactic(auto, unfolding(crate::specs::Policies::policies_of))]
+fn policies_of(alloc: Global, settings: &[Setting]) -> Result<Vec<Bytes>, AllocError>
+    ensures { IfOk result (λ policies. policies.items ≡ policies_of settings.now) }
+{
+    words_of(
+        alloc,
+        WordKind::Plain,
+        last_of(LINK, b"NamePolicy", settings),
+    )
+}
+
+/// The value of a word `net.ifnames=VALUE`, or of those before it.
+fn with_switch<'w>(held: Option<&'w [u8]>, word: &'w [u8]) -> Option<&'w [u8]>
+    ensures { option_map (λ t. t.now) result ≡ with_switch (option_map (λ t. t.now) held.entry) word.now }
+{
+    match following(b"net.ifnames=", word) {
+        Some(value) => Some(value),
+        None => held,
+    }
+}
+
+/// The value of the last word `net.ifnames=VALUE`.
+fn last_switch(words: &[Bytes]) -> Option<&[u8]>
+    ensures { option_map (λ t. t.now) result ≡ last_switch words.now }
+{
+    let mut held = None;
+    for word in words {
+        held = with_switch(held, word.as_slice());
+    }
+    held
+}
+
+/// Whether a word is another, in letters of any case.
+fn is_same_word(word: &[u8], other: &[u8]) -> bool
+    ensures { result ≡ same_text (map to_ascii_lowercase word.now) (map to_ascii_lowercase other.now) }
+{
+    word.eq_ignore_ascii_case(other)
+}
+
+/// Whether a word means no, in letters of any case.
+#[tactic(auto, unfolding(crate::specs::Policies::is_no))]
+fn is_no(word: &[u8]) -> bool
+    ensures { result ≡ is_no word.now }
+{
+    is_same_word(word, b"0")
+        || is_same_word(word, b"no")
+        || is_same_word(word, b"n")
+        || is_same_word(word, b"false")
+        || is_same_word(word, b"f")
+        || is_same_word(word, b"off")
+}
+
+/// Whether the kernel's command line leaves policies without effect.
+fn is_switched_off(alloc: Global, line: &[u8]) -> Result<bool, AllocError>
+    ensures { IfOk result (λ off. off ≡ option_map_or is_no (last_switch (words_of Glob line.now)) false) }
+{
+    let words = words_of(alloc, WordKind::Glob, line)?;
+    match last_switch(&words) {
+        Some(value) => Ok(is_no(value)),
+        None => Ok(false),
+    }
+}
+
+/// Whether policies count.
+#[tactic(auto, unfolding(crate::specs::Policies::policies_count))]
+fn policies_count(alloc: Global, event: &Event<'_>) -> Result<bool, AllocError>
+    ensures { IfOk result (λ count. count ≡ policies_count event.now) }
+{
+    match file_at(event, b"cmdline") {
+        Some(line) => Ok(!is_switched_off(alloc, line)?),
+        None => Ok(true),
+    }
+}
+
+/// The name that an interface has.
+pub(crate) fn present_name<'e>(env: &'e CowPairs<'_>) -> Option<&'e [u8]>
+    ensures { option_map (λ t. t.now) result ≡ present_name env.now }
+{
+    env.get(b"INTERFACE")
+}
+
+/// The name if no policy has one.
+fn name_left<'e>(env: &'e CowPairs<'_>, settings: &'e [Setting]) -> Option<&'e [u8]>
+    ensures { option_map (λ t. t.now) result ≡ name_left env.now settings.now }
+{
+    match given_name(settings) {
+        Some(name) => Some(name),
+        None => present_name(env),
+    }
+}
+
+/// The name that a new interface gets.
+#[tactic(auto, unfolding(crate::specs::Policies::new_name))]
+fn new_name<'e>(
+    alloc: Global,
+    event: &Event<'_>,
+    env: &'e CowPairs<'_>,
+    settings: &'e [Setting],
+) -> Result<Option<&'e [u8]>, AllocError>
+    ensures { IfOk result (λ name. option_map (λ t. t.now) name ≡ new_name event.now env.now settings.now) }
+{
+    let left = name_left(env, settings);
+    if !policies_count(alloc, event)? {
+        return Ok(left);
+    }
+    let policies = policies_of(alloc, settings)?;
+    Ok(name_by_policies(name_source(event), env, present_name(env), left, &policies))
+}
+
+/// The name by the event: only a new interface is named.
+#[tactic(auto, unfolding(crate::specs::Policies::name_of))]
+pub(crate) fn name_of<'e>(
+    alloc: Global,
+    event: &Event<'_>,
+    env: &'e CowPairs<'_>,
+    settings: &'e [Setting],
+) -> Result<Option<&'e [u8]>, AllocError>
+    ensures { IfOk result (λ name. option_map (λ t. t.now) name ≡ name_of event.now env.now settings.now) }
+{
+    if event.action() == b"add".as_slice() {
+        new_name(alloc, event, env, settings)
+    } else {
+        Ok(present_name(env))
+    }
+}

@@ -1,0 +1,20 @@
+//! The `.link` files of systemd.link(5), by which udev names network interfaces: which of them count, and what they set.
+#![tactic(auto)]
+
+mod files;
+mod laws;
+mod lines;
+mod lists;
+mod names;
+mod settings;
+mod words;
+
+pub use files::{LinkFile, link_folder, read_links};
+pub use laws::{
+    files_are_put_together, lines_are_put_together, lines_set_keys, names_are_short,
+    names_of_interfaces, values_are_split,
+};
+pub use lists::{LINK, MATCH, is_of, last_of, list_of};
+pub use names::is_interface_name;
+pub use settings::Setting;
+pub use words::{WordKind, words_of};

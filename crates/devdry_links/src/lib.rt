@@ -1,8 +1,13 @@
 //! Reading the `.link` files by which udev names network interfaces, with their drop-ins. What can't be read of them is
-//! said, and never ends a run.
+//! reported, and never ends a run.
 #![tactic(auto)]
 
-mod collecting;
+mod places;
 mod reading;
+mod survey;
+mod visits;
 
+pub use places::LinkPlace;
 pub use reading::{LinksRead, read_link_files};
+pub use survey::LinkSurvey;
+pub use visits::LinkVisit;

@@ -4,8 +4,13 @@ use crate::reasons::Reason;
 use text_bytes::{Bytes, FileKind};
 
 /// What is met at a name in a folder, or at the path of a named file.
+<<<<<<< HEAD
 #[derive(Debug, Drop)]
 pub enum Met {
+=======
+#[derive(Drop)]
+pub(crate) enum Met {
+>>>>>>> b17d61fb5ac554e1e56e79ddfd0fb744df710506
     /// A file, which was read: all its bytes.
     File(Bytes),
     /// Something whose name does not end like those of the kind; it is not looked at.
@@ -17,8 +22,13 @@ pub enum Met {
 }
 
 /// A name, its path, and what is met there.
+<<<<<<< HEAD
 #[derive(Debug, Drop)]
 pub struct Sight {
+=======
+#[derive(Drop)]
+pub(crate) struct Sight {
+>>>>>>> b17d61fb5ac554e1e56e79ddfd0fb744df710506
     /// The name without its folder; for a named file the path.
     pub name: Bytes,
     /// The path.
@@ -28,8 +38,13 @@ pub struct Sight {
 }
 
 /// What is at the path of a folder that is wanted, or of a named file.
+<<<<<<< HEAD
 #[derive(Debug, Drop)]
 pub enum Spot {
+=======
+#[derive(Drop)]
+pub(crate) enum Spot {
+>>>>>>> b17d61fb5ac554e1e56e79ddfd0fb744df710506
     /// Nothing, which is not a fault for a folder.
     Absent,
     /// A folder, which was listed.
@@ -41,8 +56,13 @@ pub enum Spot {
 }
 
 /// What is at a path, and what is met in it.
+<<<<<<< HEAD
 #[derive(Debug, Drop)]
 pub struct Scan {
+=======
+#[derive(Drop)]
+pub(crate) struct Scan {
+>>>>>>> b17d61fb5ac554e1e56e79ddfd0fb744df710506
     /// What is there.
     pub spot: Spot,
     /// What is met in a folder, sorted by name, or the file alone.
@@ -50,7 +70,7 @@ pub struct Scan {
 }
 
 /// A folder or a file that a line asks for, and the outcome of visiting it.
-#[derive(Debug, Drop)]
+#[derive(Drop)]
 pub(crate) struct Visit {
     /// What files there hold.
     pub kind: FileKind,
@@ -65,7 +85,7 @@ pub(crate) struct Visit {
 }
 
 /// All that a line asks for, and the outcome of visiting it.
-#[derive(Debug, Drop)]
+#[derive(Drop)]
 pub(crate) struct Survey {
     /// The visits of files and folders, in the order of the visits.
     pub visits: Vec<Visit>,

@@ -10,7 +10,7 @@ use link_files::{LinkFile, read_links};
 use std::alloc::{AllocError, Global};
 
 /// What was read of the `.link` files of a root.
-#[derive(Debug, Drop)]
+#[derive(Drop)]
 pub struct LinksRead {
     /// The files that count, in order, each with its drop-ins.
     pub links: Vec<LinkFile>,

@@ -10,7 +10,7 @@ use rule_lints::Lint;
 use text_bytes::{begins_with, split_once};
 
 /// What a diagnostic is about.
-#[derive(Clone, Copy, Debug, PartialEq, Eq)]
+#[derive(Clone, Copy, PartialEq, Eq)]
 pub enum Remark {
     /// A message about a file.
     Message(MessageKind),
@@ -25,7 +25,7 @@ pub enum Remark {
 }
 
 /// How severe a remark is.
-#[derive(Clone, Copy, Debug, PartialEq, Eq)]
+#[derive(Clone, Copy, PartialEq, Eq)]
 pub enum Severity {
     /// A part of the file is not read as it was meant.
     Error,

@@ -7,7 +7,7 @@ use rule_core::WrittenPart;
 use rule_types::{MatchOperator, Part, UpKey};
 
 /// The kind of devices that alone has an attribute.
-#[derive(Clone, Copy, Debug, PartialEq, Eq)]
+#[derive(Clone, Copy, PartialEq, Eq)]
 pub(crate) enum Group {
     /// USB devices.
     UsbDevice,

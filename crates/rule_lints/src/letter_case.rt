@@ -9,7 +9,7 @@ use rule_types::{Comparison, Part, PlainKey, UpKey};
 use text_core::{Item, Pattern};
 
 /// How the kernel writes a value.
-#[derive(Clone, Copy, Debug, PartialEq, Eq)]
+#[derive(Clone, Copy, PartialEq, Eq)]
 pub(crate) enum Writing {
     /// Hexadecimal digits in lower case letters.
     Lower,

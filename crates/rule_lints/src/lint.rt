@@ -3,7 +3,7 @@
 
 /// Why a rule is most likely not the one that was meant, though neither udevadm(8) nor the manual pages find fault
 /// with it.
-#[derive(Clone, Copy, Debug, PartialEq, Eq)]
+#[derive(Clone, Copy, PartialEq, Eq)]
 pub enum Lint {
     /// W1: MODE is not an octal number.
     ModeNotOctal,

@@ -4,13 +4,8 @@ use crate::reasons::Reason;
 use text_bytes::{Bytes, FileKind};
 
 /// What is met at a name in a folder, or at the path of a named file.
-<<<<<<< HEAD
-#[derive(Debug, Drop)]
-pub enum Met {
-=======
 #[derive(Drop)]
-pub(crate) enum Met {
->>>>>>> b17d61fb5ac554e1e56e79ddfd0fb744df710506
+pub enum Met {
     /// A file, which was read: all its bytes.
     File(Bytes),
     /// Something whose name does not end like those of the kind; it is not looked at.
@@ -22,13 +17,8 @@ pub(crate) enum Met {
 }
 
 /// A name, its path, and what is met there.
-<<<<<<< HEAD
-#[derive(Debug, Drop)]
-pub struct Sight {
-=======
 #[derive(Drop)]
-pub(crate) struct Sight {
->>>>>>> b17d61fb5ac554e1e56e79ddfd0fb744df710506
+pub struct Sight {
     /// The name without its folder; for a named file the path.
     pub name: Bytes,
     /// The path.
@@ -38,13 +28,8 @@ pub(crate) struct Sight {
 }
 
 /// What is at the path of a folder that is wanted, or of a named file.
-<<<<<<< HEAD
-#[derive(Debug, Drop)]
-pub enum Spot {
-=======
 #[derive(Drop)]
-pub(crate) enum Spot {
->>>>>>> b17d61fb5ac554e1e56e79ddfd0fb744df710506
+pub enum Spot {
     /// Nothing, which is not a fault for a folder.
     Absent,
     /// A folder, which was listed.
@@ -56,13 +41,8 @@ pub(crate) enum Spot {
 }
 
 /// What is at a path, and what is met in it.
-<<<<<<< HEAD
-#[derive(Debug, Drop)]
-pub struct Scan {
-=======
 #[derive(Drop)]
-pub(crate) struct Scan {
->>>>>>> b17d61fb5ac554e1e56e79ddfd0fb744df710506
+pub struct Scan {
     /// What is there.
     pub spot: Spot,
     /// What is met in a folder, sorted by name, or the file alone.

@@ -11,7 +11,7 @@ use text_bytes::{Bytes, SourceFile};
 const RANKS: [u8; 4] = [0, 1, 2, 3];
 
 /// A folder in which files are looked for.
-#[derive(Debug, Drop)]
+#[derive(Drop)]
 pub struct LinkPlace {
     rank: u8,
     suffix: &'static str,

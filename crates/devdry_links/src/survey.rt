@@ -9,7 +9,7 @@ use std::alloc::{AllocError, Global};
 use text_bytes::{SourceFile, order_files};
 
 /// What was read of the folders of a root.
-#[derive(Debug, Drop)]
+#[derive(Drop)]
 pub struct LinkSurvey {
     /// Of each name the `.link` file of the first folder, by name.
     pub files: Vec<SourceFile>,

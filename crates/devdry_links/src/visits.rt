@@ -9,7 +9,7 @@ use std::alloc::{AllocError, Global};
 use text_bytes::{Bytes, FileKind, SourceFile};
 
 /// A folder, and the outcome of looking at it.
-#[derive(Debug, Drop)]
+#[derive(Drop)]
 pub struct LinkVisit {
     /// The folder.
     pub place: LinkPlace,

@@ -1,13 +1,13 @@
 //! Runs that name network interfaces by `.link` files.
 ghost use Rattle.std.specs.Prelude.{◌≡◌, ◌&&◌, [], IfOk};
-ghost use Rattle.devdry.specs.Linking.{ReadsLinks, ReadsRequest, RunsReported, names_links};
+ghost use Rattle.devdry.specs.Linking.{HasLinks, ReadsBoth, ReadsLinks, ReadsRequest, RunsReported, names_links};
 ghost use Rattle.devdry.specs.Runs.{DoesAfter, RunsLinking, takes_blocks};
 
 use crate::comparing::joined;
 use crate::running::run_request;
 use devdry_files::Disk;
 use devdry_folders::Report;
-use devdry_links::{LinksRead, read_link_files};
+use devdry_links::read_link_files;
 use engine_ends::{DeviceFault, Line, Request, Sink, Source, Verb, hand_on, report_out_of_memory};
 use std::alloc::{AllocError, Global};
 use text_bytes::Profile;
@@ -56,15 +56,17 @@ fn run_reported<D: Disk, I: Source, W: Sink, E: Sink>(
         (record { input = I.shown input.old; out = W.shown output.old; err = E.shown error.old })
         (record { input = I.shown input.new; out = W.shown output.new; err = E.shown error.new }) }
 {
-    if report.lines.is_empty() {
-        return run_request(alloc, disk, request, from_terminal, input, output, error);
-    }
-    match hand_on(error, &report.lines) {
-        Ok(()) => {
-            let own = run_request(alloc, disk, request, from_terminal, input, output, error);
-            own.max(report.least)
+    let lines = report.lines.as_slice();
+    if lines.is_empty() {
+        run_request(alloc, disk, request, from_terminal, input, output, error)
+    } else {
+        match hand_on(error, lines) {
+            Ok(()) => {
+                let own = run_request(alloc, disk, request, from_terminal, input, output, error);
+                own.max(report.least)
+            }
+            Err(DeviceFault) => 3,
         }
-        Err(DeviceFault) => 3,
     }
 }
 
@@ -79,12 +81,22 @@ fn read_links<D: Disk>(
     match request {
         Request::Run(line) => read_line_links(alloc, disk, line),
         Request::Files(_) => Ok(nothing(alloc)),
-        Request::Compare(old, new) => {
-            let on_old = read_line_links(alloc, disk, old)?;
-            let on_new = read_line_links(alloc, disk, new)?;
-            joined(on_old, on_new)
-        }
+        Request::Compare(old, new) => read_both_links(alloc, disk, old, new),
     }
+}
+
+/// Reads the `.link` files for both lines of `compare`.
+fn read_both_links<D: Disk>(
+    alloc: Global,
+    disk: &D,
+    old: &mut Line<'_>,
+    new: &mut Line<'_>,
+) -> Result<Report, AllocError>
+    ensures { IfOk result (ReadsBoth (D.may_answer disk.now) old.old new.old old.new new.new) }
+{
+    let on_old = read_line_links(alloc, disk, old)?;
+    let on_new = read_line_links(alloc, disk, new)?;
+    joined(on_old, on_new)
 }
 
 /// A report of nothing.
@@ -114,10 +126,21 @@ fn read_line_links<D: Disk>(
     ensures { IfOk result (ReadsLinks (D.may_answer disk.now) line.old line.new) }
 {
     if names_links(line) {
-        let LinksRead { links, report } = read_link_files(alloc, disk, line.root)?;
-        line.links = links;
-        Ok(report)
+        take_links(alloc, disk, line)
     } else {
         Ok(nothing(alloc))
     }
+}
+
+/// Reads the `.link` files for a line that names interfaces by them.
+fn take_links<D: Disk>(
+    alloc: Global,
+    disk: &D,
+    line: &mut Line<'_>,
+) -> Result<Report, AllocError>
+    ensures { IfOk result (HasLinks (D.may_answer disk.now) line.old line.new) }
+{
+    let read = read_link_files(alloc, disk, line.root)?;
+    line.links = read.links;
+    Ok(read.report)
 }

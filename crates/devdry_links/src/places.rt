@@ -7,9 +7,6 @@ use std::alloc::{AllocError, Global};
 use std::marker::Model;
 use text_bytes::{Bytes, SourceFile};
 
-/// The ranks of the four folders, in the order in which they are looked at.
-const RANKS: [u8; 4] = [0, 1, 2, 3];
-
 /// A folder in which files are looked for.
 #[derive(Drop)]
 pub struct LinkPlace {
@@ -96,9 +93,26 @@ pub(crate) fn link_places(alloc: Global, root: &str) -> Result<Vec<LinkPlace>, A
     ensures { IfOk result (λ places. places.items ≡ link_places root.now) }
 {
     let mut places = Vec::new(alloc);
-    for rank in RANKS {
-        places.push(link_place(alloc, root, rank)?)?;
-    }
+    places.push(link_place(alloc, root, 0)?)?;
+    places.push(link_place(alloc, root, 1)?)?;
+    places.push(link_place(alloc, root, 2)?)?;
+    places.push(link_place(alloc, root, 3)?)?;
+    Ok(places)
+}
+
+/// The folders of the drop-ins of a `.link` file with a name.
+fn drop_in_places_named(
+    alloc: Global,
+    root: &str,
+    name: &[u8],
+) -> Result<Vec<LinkPlace>, AllocError>
+    ensures { IfOk result (λ places. places.items ≡ map (drop_in_place root.now name.now) ranks) }
+{
+    let mut places = Vec::new(alloc);
+    places.push(drop_in_place(alloc, root, name, 0)?)?;
+    places.push(drop_in_place(alloc, root, name, 1)?)?;
+    places.push(drop_in_place(alloc, root, name, 2)?)?;
+    places.push(drop_in_place(alloc, root, name, 3)?)?;
     Ok(places)
 }
 
@@ -114,9 +128,7 @@ fn push_drop_in_places(
     if file.bytes.as_slice().is_empty() {
         return Ok(());
     }
-    for rank in RANKS {
-        places.push(drop_in_place(alloc, root, file.name.as_slice(), rank)?)?;
-    }
+    places.append(&mut drop_in_places_named(alloc, root, file.name.as_slice())?)?;
     Ok(())
 }
 

@@ -133,11 +133,7 @@ fn read_line_links<D: Disk>(
 }
 
 /// Reads the `.link` files for a line that names interfaces by them.
-fn take_links<D: Disk>(
-    alloc: Global,
-    disk: &D,
-    line: &mut Line<'_>,
-) -> Result<Report, AllocError>
+fn take_links<D: Disk>(alloc: Global, disk: &D, line: &mut Line<'_>) -> Result<Report, AllocError>
     ensures { IfOk result (HasLinks (D.may_answer disk.now) line.old line.new) }
 {
     let read = read_link_files(alloc, disk, line.root)?;

@@ -20,11 +20,7 @@ pub struct LinkSurvey {
 }
 
 /// Reads the `.link` files of a root, and then the drop-ins of those that no other hides.
-pub(crate) fn survey<D: Disk>(
-    alloc: Global,
-    disk: &D,
-    root: &str,
-) -> Result<LinkSurvey, AllocError>
+pub(crate) fn survey<D: Disk>(alloc: Global, disk: &D, root: &str) -> Result<LinkSurvey, AllocError>
     ensures { IfOk result (IsSurvey (D.may_answer disk.now) root.now) }
 {
     let mut unread = Vec::new(alloc);

@@ -102,10 +102,7 @@ fn push_files(
 }
 
 /// The files of visits, in their order: one that can't be read has no bytes. The bytes of files are not copied.
-pub(crate) fn files_of(
-    alloc: Global,
-    visits: Vec<LinkVisit>,
-) -> Result<Vec<SourceFile>, AllocError>
+pub(crate) fn files_of(alloc: Global, visits: Vec<LinkVisit>) -> Result<Vec<SourceFile>, AllocError>
     ensures { IfOk result (λ files. files.items ≡ files_of visits.items) }
 {
     let mut files = Vec::new(alloc);
@@ -116,11 +113,7 @@ pub(crate) fn files_of(
 }
 
 /// Adds the lines on what can't be read in a folder.
-fn push_lines(
-    alloc: Global,
-    visit: &LinkVisit,
-    lines: &mut Vec<u8>,
-) -> Result<(), AllocError>
+fn push_lines(alloc: Global, visit: &LinkVisit, lines: &mut Vec<u8>) -> Result<(), AllocError>
     ensures { OnOk result (lines.new.items ≡ lines.old.items ++ lines_on_visit visit.now) }
 {
     push_on_scan(alloc, lines, visit.place.path().as_bytes(), &visit.scan)

@@ -172,7 +172,8 @@ UDEV = [
          lambda n: as_udev(each('SYMLINK+="l#"\n', 100) + f'ATTRS{{{"%L" * 8_000}}}=="x", TAG+="t"\n' * n, chain("", "D: 8:0\n"))),
     Case("devices that are described by their paths, and components of a path", 160,
          lambda n: as_udev('IMPORT{builtin}="net_id"\n' * 20, interface_of(n))),
-    Case(".link files with a drop-in each, and interfaces that none is for", 300, interfaces),
+    # each file has its drop-ins among all
+    Case(".link files with a drop-in each, and interfaces that none is for", 300, interfaces, 150),
     Case("lines of a .link file", 20_000, lambda n: named_by({"a.link": "[Match]\n" + each("OriginalName=x#\n", n) + "[Link]\nName=a\n"}, 3)),
     # as with links, all properties after one that is removed are moved up
     Case("properties that are imported and removed", 300, lambda n: as_udev('IMPORT{program}="/p"\n' * 100, printing(n)), 150),

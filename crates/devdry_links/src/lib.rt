@@ -2,11 +2,13 @@
 //! reported, and never ends a run.
 #![tactic(auto)]
 
+mod laws;
 mod places;
 mod reading;
 mod survey;
 mod visits;
 
+pub use laws::{folders_have_their_places, what_cannot_be_read_masks};
 pub use places::LinkPlace;
 pub use reading::{LinksRead, read_link_files};
 pub use survey::LinkSurvey;

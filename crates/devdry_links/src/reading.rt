@@ -3,7 +3,7 @@ ghost use Rattle.std.specs.Prelude.{◌≡◌, ◌++◌, ◌≤◌, IfOk, OnOk, 
 ghost use Rattle.devdry_files.specs.Inside.{MayInside};
 ghost use Rattle.devdry_links.specs.Reading.{AreLinksRead, line_on_link};
 
-use crate::survey::{LinkSurvey, survey};
+use crate::survey::survey;
 use devdry_files::{Disk, RootedDisk};
 use devdry_folders::{Report, least_status, push_escaped};
 use link_files::{LinkFile, read_links};
@@ -76,14 +76,10 @@ pub fn read_link_files<D: Disk>(
     ensures least { IfOk result (λ read. read.report.least ≤ 3) }
 {
     let inside = RootedDisk::new(disk, root);
-    let LinkSurvey {
-        files,
-        drop_ins,
-        unread,
-    } = survey(alloc, &inside, root)?;
-    let links = read_links(alloc, files, drop_ins)?;
-    let least = least_status(&unread, b"");
-    let mut lines = unread;
+    let survey = survey(alloc, &inside, root)?;
+    let links = read_links(alloc, survey.files, survey.drop_ins)?;
+    let least = least_status(&survey.unread, b"");
+    let mut lines = survey.unread;
     push_lines(alloc, root, &links, &mut lines)?;
     Ok(LinksRead {
         links,

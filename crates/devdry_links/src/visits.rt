@@ -1,5 +1,5 @@
 //! Looks for `.link` files and drop-ins, one folder after another, whatever the outcome.
-ghost use Rattle.std.specs.Prelude.{◌≡◌, ◌++◌, IfOk, OnOk};
+ghost use Rattle.std.specs.Prelude.{◌≡◌, ◌++◌, ◌∷◌, [], IfOk, OnOk};
 ghost use Rattle.devdry_links.specs.Visits.{AreVisits, IsVisit, file_at, file_of_sight, files_of, files_of_visit, lines_on_visit, unread_lines};
 
 use crate::places::LinkPlace;
@@ -67,6 +67,20 @@ fn file_at(
     })
 }
 
+/// Adds a file of a folder.
+fn push_at(
+    alloc: Global,
+    place: &LinkPlace,
+    name: &[u8],
+    bytes: Bytes,
+    files: &mut Vec<SourceFile>,
+) -> Result<(), AllocError>
+    ensures { OnOk result (files.new.items ≡ files.old.items ++ file_at place.now name.now bytes ∷ []) }
+{
+    files.push(file_at(alloc, place, name, bytes)?)?;
+    Ok(())
+}
+
 /// Adds the file of what was met at a name in a folder, if it is one.
 fn push_file(
     alloc: Global,
@@ -76,14 +90,12 @@ fn push_file(
 ) -> Result<(), AllocError>
     ensures { OnOk result (files.new.items ≡ files.old.items ++ file_of_sight place.now sight) }
 {
-    let Sight { name, met, .. } = sight;
-    let bytes = match met {
-        Met::File(bytes) => bytes,
-        Met::Unread(_) => Bytes::new(Vec::new(alloc)),
-        Met::Folder | Met::OtherName => return Ok(()),
-    };
-    files.push(file_at(alloc, place, name.as_slice(), bytes)?)?;
-    Ok(())
+    let name = sight.name.as_slice();
+    match sight.met {
+        Met::File(bytes) => push_at(alloc, place, name, bytes, files),
+        Met::Unread(_) => push_at(alloc, place, name, Bytes::new(Vec::new(alloc)), files),
+        Met::Folder | Met::OtherName => Ok(()),
+    }
 }
 
 /// Adds the files of a visit.

@@ -90,8 +90,13 @@ fn push_file(
 ) -> Result<(), AllocError>
     ensures { OnOk result (files.new.items ≡ files.old.items ++ file_of_sight place.now sight) }
 {
-    let name = sight.name.as_slice();
-    match sight.met {
+    let Sight {
+        name: own_name,
+        met,
+        ..
+    } = sight;
+    let name = own_name.as_slice();
+    match met {
         Met::File(bytes) => push_at(alloc, place, name, bytes, files),
         Met::Unread(_) => push_at(alloc, place, name, Bytes::new(Vec::new(alloc)), files),
         Met::Folder | Met::OtherName => Ok(()),

@@ -10,14 +10,14 @@ ghost use Rattle.devdry_folders.specs.declared.sights.Met.TheVariants as met;
 ghost use Rattle.devdry_links.specs.Places.{LinkPlaceValue, drop_in_places, link_places};
 ghost use Rattle.devdry_links.specs.Visits.{file_of_met};
 
-/// The folders of a root in their order, and those of the drop-ins of a file; a file without bytes has none.
+/// The folders of a root in their order, and what those of the drop-ins of a file put before their names; a file without bytes
+/// has none.
 pub fn folders_have_their_places()
     ensures links { map (λ p. p.path) (link_places (codes "/r")) ≡
         codes "/r/etc/systemd/network" ∷ codes "/r/run/systemd/network"
         ∷ codes "/r/usr/local/lib/systemd/network" ∷ codes "/r/usr/lib/systemd/network" ∷ [] }
-    ensures drop_ins { map (λ p. p.path) (drop_in_places (codes "/r") (at Rules 3 (codes "a.link") (codes "x") ∷ [])) ≡
-        codes "/r/etc/systemd/network/a.link.d" ∷ codes "/r/run/systemd/network/a.link.d"
-        ∷ codes "/r/usr/local/lib/systemd/network/a.link.d" ∷ codes "/r/usr/lib/systemd/network/a.link.d" ∷ [] }
+    ensures drop_ins { map (λ p. p.before) (drop_in_places (codes "/r") (at Rules 3 (codes "a.link") (codes "x") ∷ [])) ≡
+        codes "a.link.d/" ∷ codes "a.link.d/" ∷ codes "a.link.d/" ∷ codes "a.link.d/" ∷ [] }
     ensures masked { drop_in_places (codes "/r") (at Rules 0 (codes "a.link") [] ∷ []) ≡ [] }
 {}
 

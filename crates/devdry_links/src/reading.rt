@@ -59,6 +59,22 @@ fn push_lines(
     Ok(())
 }
 
+/// The `.link` files that count, as a disk answers, and what is reported about them.
+fn read_links_of<D: Disk>(alloc: Global, disk: &D, root: &str) -> Result<LinksRead, AllocError>
+    ensures read { IfOk result (AreLinksRead (D.may_answer disk.now) root.now) }
+    ensures least { IfOk result (λ read. read.report.least ≤ 3) }
+{
+    let survey = survey(alloc, disk, root)?;
+    let links = read_links(alloc, survey.files, survey.drop_ins)?;
+    let least = least_status(&survey.unread, b"");
+    let mut lines = survey.unread;
+    push_lines(alloc, root, &links, &mut lines)?;
+    Ok(LinksRead {
+        links,
+        report: Report { lines, least },
+    })
+}
+
 /// Reads the `.link` files of a root and their drop-ins, as systemd.link(5) has their folders: `/etc/systemd/network`,
 /// `/run/systemd/network`, `/usr/local/lib/systemd/network` and `/usr/lib/systemd/network`, each after the root, and in
 /// each of these `NAME.link.d` for the drop-ins of `NAME.link`. A symlink is followed inside the root, an absent folder is
@@ -76,13 +92,5 @@ pub fn read_link_files<D: Disk>(
     ensures least { IfOk result (λ read. read.report.least ≤ 3) }
 {
     let inside = RootedDisk::new(disk, root);
-    let survey = survey(alloc, &inside, root)?;
-    let links = read_links(alloc, survey.files, survey.drop_ins)?;
-    let least = least_status(&survey.unread, b"");
-    let mut lines = survey.unread;
-    push_lines(alloc, root, &links, &mut lines)?;
-    Ok(LinksRead {
-        links,
-        report: Report { lines, least },
-    })
+    read_links_of(alloc, &inside, root)
 }

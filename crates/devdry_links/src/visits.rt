@@ -1,5 +1,5 @@
 //! Looks for `.link` files and drop-ins, one folder after another, whatever the outcome.
-ghost use Rattle.std.specs.Prelude.{◌≡◌, ◌++◌, ◌∷◌, [], IfOk, OnOk};
+ghost use Rattle.std.specs.Prelude.{◌≡◌, ◌++◌, ◌∷◌, [], IfOk, OnOk, flat_map};
 ghost use Rattle.devdry_links.specs.Visits.{AreVisits, IsVisit, file_at, file_of_sight, files_of, files_of_visit, lines_on_visit, unread_lines};
 
 use crate::places::LinkPlace;
@@ -103,8 +103,23 @@ fn push_file(
     }
 }
 
-/// Adds the files of a visit.
+/// Adds the files of what was met in a folder.
 fn push_files(
+    alloc: Global,
+    place: &LinkPlace,
+    sights: Vec<Sight>,
+    files: &mut Vec<SourceFile>,
+) -> Result<(), AllocError>
+    ensures { OnOk result (files.new.items ≡ files.old.items ++ flat_map (file_of_sight place.now) sights.items) }
+{
+    for sight in sights {
+        push_file(alloc, place, sight, files)?;
+    }
+    Ok(())
+}
+
+/// Adds the files of a visit.
+fn push_files_of(
     alloc: Global,
     visit: LinkVisit,
     files: &mut Vec<SourceFile>,
@@ -112,10 +127,7 @@ fn push_files(
     ensures { OnOk result (files.new.items ≡ files.old.items ++ files_of_visit visit) }
 {
     let LinkVisit { place, scan } = visit;
-    for sight in scan.sights {
-        push_file(alloc, &place, sight, files)?;
-    }
-    Ok(())
+    push_files(alloc, &place, scan.sights, files)
 }
 
 /// The files of visits, in their order: one that can't be read has no bytes. The bytes of files are not copied.
@@ -124,7 +136,7 @@ pub(crate) fn files_of(alloc: Global, visits: Vec<LinkVisit>) -> Result<Vec<Sour
 {
     let mut files = Vec::new(alloc);
     for visit in visits {
-        push_files(alloc, visit, &mut files)?;
+        push_files_of(alloc, visit, &mut files)?;
     }
     Ok(files)
 }

@@ -1,5 +1,5 @@
 use Rattle.std.proofs.Common.{rules}
-use Rattle.devdry_links.proofs.reading.read_link_files.Goals as goal
+use Rattle.devdry_links.proofs.reading.read_links_of.Goals as goal
 
 pub returns-clause-read : goal.returns-clause-read
 returns-clause-read g c = record {

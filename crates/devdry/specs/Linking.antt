@@ -1,5 +1,5 @@
 -- The .link files for a request, as they come from the disk.
-use Rattle.std.specs.Prelude.{◌≡◌, ◌&&◌, ℕ, ⊥, Bool, true, false, List, [], MatchBool}
+use Rattle.std.specs.Prelude.{◌≡◌, ◌&&◌, ℕ, Bool, true, false, List, [], MatchBool}
 use Rattle.text_bytes.specs.Texts.{is_empty}
 use Rattle.text_bytes.specs.declared.profile.Profile.{Profile}
 use Rattle.text_bytes.specs.declared.profile.Profile.TheVariants.{Manual, Udev}

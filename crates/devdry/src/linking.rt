@@ -16,7 +16,7 @@ use text_bytes::Profile;
 pub(crate) fn run_linking<D: Disk, I: Source, W: Sink, E: Sink>(
     alloc: Global,
     disk: &D,
-    mut request: Request<'_>,
+    request: Request<'_>,
     from_terminal: bool,
     input: &mut I,
     output: &mut W,
@@ -26,8 +26,8 @@ pub(crate) fn run_linking<D: Disk, I: Source, W: Sink, E: Sink>(
         (record { input = I.shown input.old; out = W.shown output.old; err = E.shown error.old })
         (record { input = I.shown input.new; out = W.shown output.new; err = E.shown error.new }) }
 {
-    match read_links(alloc, disk, &mut request) {
-        Ok(report) => run_reported(
+    match read_links(alloc, disk, request) {
+        Ok((request, report)) => run_reported(
             alloc,
             disk,
             &report,
@@ -70,18 +70,24 @@ fn run_reported<D: Disk, I: Source, W: Sink, E: Sink>(
     }
 }
 
-/// Reads the `.link` files for the lines of a request.
-fn read_links<D: Disk>(
+/// A request whose lines have their `.link` files, and what is reported about these.
+fn read_links<'a, D: Disk>(
     alloc: Global,
     disk: &D,
-    request: &mut Request<'_>,
-) -> Result<Report, AllocError>
-    ensures { IfOk result (ReadsRequest (D.may_answer disk.now) request.old request.new) }
+    request: Request<'a>,
+) -> Result<(Request<'a>, Report), AllocError>
+    ensures { IfOk result (λ read. ReadsRequest (D.may_answer disk.now) request.entry read.0 read.1) }
 {
     match request {
-        Request::Run(line) => read_line_links(alloc, disk, line),
-        Request::Files(_) => Ok(nothing(alloc)),
-        Request::Compare(old, new) => read_both_links(alloc, disk, old, new),
+        Request::Run(mut line) => {
+            let report = read_line_links(alloc, disk, &mut line)?;
+            Ok((Request::Run(line), report))
+        }
+        Request::Files(line) => Ok((Request::Files(line), nothing(alloc))),
+        Request::Compare(mut old, mut new) => {
+            let report = read_both_links(alloc, disk, &mut old, &mut new)?;
+            Ok((Request::Compare(old, new), report))
+        }
     }
 }
 

@@ -5,13 +5,18 @@ use builtin_core::Builtins;
 use device_core::{BlockFault, BlockFaultKind};
 use engine_core::{MemorySink, MemorySource, Session, SessionFault, Tables, turn};
 use hwdb_core::{PlainDb, read_sources};
+use link_files::LinkFile;
 use rule_core::read_rules;
 use std::alloc::Global;
 use std::test::Fail;
 use text_bytes::Bytes;
 
-/// What files of rules answer without a database.
-fn tables_of(alloc: Global, given: &[Given<'_>]) -> Result<Tables<Builtins<'_, PlainDb>>, Fail> {
+/// What files of rules answer without a database, with these `.link` files.
+fn tables_of<'l>(
+    alloc: Global,
+    given: &[Given<'_>],
+    links: &'l [LinkFile],
+) -> Result<Tables<Builtins<'l, PlainDb>>, Fail> {
     let Ok(read) = read_rules(alloc, &files_of(alloc, given)?) else {
         return Err("no rules")?;
     };
@@ -20,7 +25,7 @@ fn tables_of(alloc: Global, given: &[Given<'_>]) -> Result<Tables<Builtins<'_, P
         Ok(database) => Ok(Tables::new(
             alloc,
             rules,
-            Builtins::new(PlainDb::new(database.entries), &[]),
+            Builtins::new(PlainDb::new(database.entries), links),
         )?),
         Err(_fault) => {
             drop(rules);
@@ -203,7 +208,8 @@ fn sessions_answer(alloc: Global, tables: &Tables<Builtins<'_, PlainDb>>) -> Res
 
 #[test]
 fn sessions_answer_block_by_block(rt: HostRuntime) -> Result<(), Fail> {
-    let tables = tables_of(rt.alloc(), &OF_DISKS)?;
+    let links = Vec::new(rt.alloc());
+    let tables = tables_of(rt.alloc(), &OF_DISKS, &links)?;
     let answered = sessions_answer(rt.alloc(), &tables);
     drop(tables);
     assert!(rt; answered?);
@@ -315,7 +321,8 @@ fn each_size_has_room(alloc: Global, tables: &Tables<Builtins<'_, PlainDb>>) -> 
 
 #[test]
 fn a_block_has_65536_bytes_in_any_pieces(rt: HostRuntime) -> Result<(), Fail> {
-    let tables = tables_of(rt.alloc(), &[])?;
+    let links = Vec::new(rt.alloc());
+    let tables = tables_of(rt.alloc(), &[], &links)?;
     let has_room = each_size_has_room(rt.alloc(), &tables);
     drop(tables);
     assert!(rt; has_room?);

@@ -5,7 +5,7 @@ ghost use Rattle.devdry.specs.Terminals.{shown_format, shown_line, shown_request
 use engine_ends::{Format, Line, Request};
 
 /// Which of the program's streams are terminals.
-#[derive(Clone, Copy, Debug, PartialEq, Eq)]
+#[derive(Clone, Copy, PartialEq, Eq)]
 pub(crate) struct Terminals {
     /// Whether the input is a terminal.
     pub(crate) input: bool,

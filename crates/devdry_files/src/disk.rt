@@ -18,7 +18,7 @@ use std::io;
 use text_bytes::Bytes;
 
 /// What is in a folder under one name.
-#[derive(Debug, Drop)]
+#[derive(Drop)]
 pub struct Entry {
     /// The name, without the folder.
     pub name: String,

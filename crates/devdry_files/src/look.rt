@@ -1,7 +1,7 @@
 //! What a look at a path shows.
 
 /// What is at a path, with symlinks followed.
-#[derive(Clone, Copy, Debug, PartialEq, Eq)]
+#[derive(Clone, Copy, PartialEq, Eq)]
 pub enum Look {
     /// 1: nothing, also at the end of a symlink to nothing.
     Absent,

@@ -11,7 +11,7 @@ use std::alloc::{AllocError, Global};
 use text_bytes::Bytes;
 
 /// An entry of a folder in memory.
-#[derive(Clone, Copy, Debug)]
+#[derive(Clone, Copy)]
 pub struct MemoryEntry<'a> {
     /// Its name.
     pub name: &'a str,
@@ -20,7 +20,7 @@ pub struct MemoryEntry<'a> {
 }
 
 /// What is at a path.
-#[derive(Clone, Copy, Debug)]
+#[derive(Clone, Copy)]
 pub enum DiskNode<'a> {
     /// A folder with these entries.
     Folder(&'a [MemoryEntry<'a>]),
@@ -33,7 +33,7 @@ pub enum DiskNode<'a> {
 }
 
 /// A path, and what is there.
-#[derive(Clone, Copy, Debug)]
+#[derive(Clone, Copy)]
 pub struct MemoryPlace<'a> {
     /// The path, with which a request has to agree byte by byte.
     pub path: &'a str,
@@ -43,7 +43,7 @@ pub struct MemoryPlace<'a> {
 
 /// A disk over memory. Of places with the same path the first counts; at any other path there is nothing. Its files
 /// have no identities: each step shows the same.
-#[derive(Clone, Copy, Debug)]
+#[derive(Clone, Copy)]
 pub struct MemoryDisk<'a> {
     /// All places.
     pub places: &'a [MemoryPlace<'a>],

@@ -3,7 +3,7 @@
 use text_bytes::FileKind;
 
 /// A folder whose files are to be read.
-#[derive(Debug, Drop)]
+#[derive(Drop)]
 pub struct Folder {
     /// What its files hold.
     pub kind: FileKind,
@@ -14,7 +14,7 @@ pub struct Folder {
 }
 
 /// What a line asks for.
-#[derive(Debug, Drop)]
+#[derive(Drop)]
 pub struct Wanted<'b, 'a> {
     /// What the named files hold.
     pub kind: FileKind,

@@ -15,7 +15,7 @@ use text_bytes::Bytes;
 
 /// What a disk shows of the paths inside a root. If that is the root of the running system, empty or only slashes,
 /// the disk is asked as it is.
-#[derive(Debug, Drop)]
+#[derive(Drop)]
 pub struct RootedDisk<'d, 'a, D> {
     disk: &'d D,
     root: &'a str,

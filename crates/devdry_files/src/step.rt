@@ -3,7 +3,7 @@
 use crate::look::Look;
 
 /// Which file a path leads to: as long as there is a file with these numbers, there is no other.
-#[derive(Clone, Copy, Debug, PartialEq, Eq)]
+#[derive(Clone, Copy, PartialEq, Eq)]
 pub struct Identity {
     /// The number of the file system.
     pub device: u64,
@@ -12,7 +12,7 @@ pub struct Identity {
 }
 
 /// What is at a path, with no symlink followed at its end.
-#[derive(Debug, Drop)]
+#[derive(Drop)]
 pub enum Step {
     /// 1: a folder.
     Folder,
@@ -27,7 +27,7 @@ pub enum Step {
 }
 
 /// What a path inside a root leads to.
-#[derive(Clone, Copy, Debug, PartialEq, Eq)]
+#[derive(Clone, Copy, PartialEq, Eq)]
 pub enum End {
     /// 1: a folder.
     Folder,

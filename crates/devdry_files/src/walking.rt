@@ -17,7 +17,7 @@ use std::collections::VecDeque;
 const MAX_WALKS: u32 = 41;
 
 /// What follows a name on a way.
-#[derive(Debug, Drop)]
+#[derive(Drop)]
 pub enum Next {
     /// 1: the next name.
     Further,

@@ -12,7 +12,7 @@ use std::alloc::{AllocError, Global};
 use text_bytes::{Bytes, FileKind};
 
 /// A folder that is not read, and how many files of a kind it has.
-#[derive(Debug, Drop)]
+#[derive(Drop)]
 pub(crate) struct Elsewhere {
     /// The kind.
     pub kind: FileKind,

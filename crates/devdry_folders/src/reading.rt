@@ -18,7 +18,7 @@ use std::alloc::{AllocError, Global};
 use text_bytes::{Bytes, FileKind, SourceFile};
 
 /// What is reported on the error output before a run.
-#[derive(Debug, Drop)]
+#[derive(Drop)]
 pub struct Report {
     /// The lines.
     pub lines: Vec<u8>,
@@ -27,7 +27,7 @@ pub struct Report {
 }
 
 /// What could be read of all that a line asks for.
-#[derive(Debug, Drop)]
+#[derive(Drop)]
 pub struct ReadSome {
     /// The files that were read, in the order of reading.
     pub files: Vec<SourceFile>,
@@ -38,7 +38,7 @@ pub struct ReadSome {
 }
 
 /// Which files of the folders count.
-#[derive(Debug, Drop)]
+#[derive(Drop)]
 pub struct Listed {
     /// The lines for the output.
     pub lines: Vec<u8>,

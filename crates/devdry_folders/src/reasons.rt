@@ -7,7 +7,7 @@ use std::alloc::{AllocError, Global};
 use text_bytes::{Bytes, escape};
 
 /// Why something can't be read.
-#[derive(Debug, Drop)]
+#[derive(Drop)]
 pub(crate) enum Reason {
     /// 1: nothing is there.
     Absent,

@@ -4,7 +4,7 @@ use crate::reasons::Reason;
 use text_bytes::{Bytes, FileKind};
 
 /// What is met at a name in a folder, or at the path of a named file.
-#[derive(Debug, Drop)]
+#[derive(Drop)]
 pub(crate) enum Met {
     /// A file, which was read: all its bytes.
     File(Bytes),
@@ -17,7 +17,7 @@ pub(crate) enum Met {
 }
 
 /// A name, its path, and what is met there.
-#[derive(Debug, Drop)]
+#[derive(Drop)]
 pub(crate) struct Sight {
     /// The name without its folder; for a named file the path.
     pub name: Bytes,
@@ -28,7 +28,7 @@ pub(crate) struct Sight {
 }
 
 /// What is at the path of a folder that is wanted, or of a named file.
-#[derive(Debug, Drop)]
+#[derive(Drop)]
 pub(crate) enum Spot {
     /// Nothing, which is not a fault for a folder.
     Absent,
@@ -41,7 +41,7 @@ pub(crate) enum Spot {
 }
 
 /// What is at a path, and what is met in it.
-#[derive(Debug, Drop)]
+#[derive(Drop)]
 pub(crate) struct Scan {
     /// What is there.
     pub spot: Spot,
@@ -50,7 +50,7 @@ pub(crate) struct Scan {
 }
 
 /// A folder or a file that a line asks for, and the outcome of visiting it.
-#[derive(Debug, Drop)]
+#[derive(Drop)]
 pub(crate) struct Visit {
     /// What files there hold.
     pub kind: FileKind,
@@ -65,7 +65,7 @@ pub(crate) struct Visit {
 }
 
 /// All that a line asks for, and the outcome of visiting it.
-#[derive(Debug, Drop)]
+#[derive(Drop)]
 pub(crate) struct Survey {
     /// The visits of files and folders, in the order of the visits.
     pub visits: Vec<Visit>,

@@ -12,7 +12,7 @@ use std::alloc::{AllocError, Global};
 use text_bytes::SourceFile;
 
 /// What was read of the `.link` files of a root.
-#[derive(Debug, Drop)]
+#[derive(Drop)]
 pub struct LinksRead {
     /// The files that count, in order, each with its drop-ins.
     pub links: Vec<LinkFile>,

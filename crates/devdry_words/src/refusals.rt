@@ -56,7 +56,7 @@ For more information, try '--help'.
 ";
 
 /// Why words that `clap` takes are refused.
-#[derive(Clone, Copy, Debug, PartialEq, Eq)]
+#[derive(Clone, Copy, PartialEq, Eq)]
 pub(crate) enum Refusal {
     /// A query names two databases: files and an index.
     TwoDatabases,

@@ -12,7 +12,7 @@ use engine_ends::{Request, Verb};
 use std::alloc::{AllocError, Global};
 
 /// A subcommand.
-#[derive(Clone, Copy, Debug, PartialEq, Eq)]
+#[derive(Clone, Copy, PartialEq, Eq)]
 pub(crate) enum Subcommand {
     /// One that is run over the files that it reads.
     Run(Verb),

@@ -14,7 +14,7 @@ use std::fmt;
 use std::marker::Model;
 
 /// The outcome of taking a piece.
-#[derive(Clone, Copy, Debug, PartialEq, Eq)]
+#[derive(Clone, Copy, PartialEq, Eq)]
 pub struct Taken {
     /// How many of the piece's bytes were used.
     pub used: usize,

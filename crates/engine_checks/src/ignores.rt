@@ -26,7 +26,7 @@ use text_bytes::{
 const REASON: &[u8] = b" -- ";
 
 /// What a code in a comment is about.
-#[derive(Clone, Copy, Debug, PartialEq, Eq)]
+#[derive(Clone, Copy, PartialEq, Eq)]
 pub(crate) enum Scope {
     /// The whole file.
     File,
@@ -38,7 +38,7 @@ pub(crate) enum Scope {
 }
 
 /// A code in a comment.
-#[derive(Debug, Drop)]
+#[derive(Drop)]
 pub(crate) struct Ignore<'a> {
     /// The number of the comment's line, counted from 1; at most 2^32 - 1.
     pub line: u32,

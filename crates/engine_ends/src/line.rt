@@ -10,7 +10,7 @@ use std::fmt;
 use text_bytes::{Bytes, Profile};
 
 /// The subcommand.
-#[derive(Clone, Copy, Debug, PartialEq, Eq)]
+#[derive(Clone, Copy, PartialEq, Eq)]
 pub enum Verb {
     /// Checks database files.
     Update,
@@ -23,7 +23,7 @@ pub enum Verb {
 }
 
 /// How messages about files are written.
-#[derive(Clone, Copy, Debug, PartialEq, Eq)]
+#[derive(Clone, Copy, PartialEq, Eq)]
 pub enum Format {
     /// `FILE:LINE: CODE TEXT: WORD`, the word cut after 32 bytes.
     Plain,
@@ -44,7 +44,7 @@ pub enum Format {
 }
 
 /// When messages for people are in colors.
-#[derive(Clone, Copy, Debug, PartialEq, Eq)]
+#[derive(Clone, Copy, PartialEq, Eq)]
 pub enum Color {
     /// If they go to a terminal, and the environment does not refuse colors.
     Auto,
@@ -55,7 +55,7 @@ pub enum Color {
 }
 
 /// A file that lists users or groups, in the form of /etc/passwd or of /etc/group.
-#[derive(Debug, Drop)]
+#[derive(Drop)]
 pub struct AccountFile<'a> {
     /// Its path, as it is named.
     pub path: &'a str,
@@ -67,7 +67,7 @@ pub struct AccountFile<'a> {
 }
 
 /// What a command line asks for.
-#[derive(Debug, Drop)]
+#[derive(Drop)]
 pub struct Line<'a> {
     /// The subcommand.
     pub verb: Verb,
@@ -120,7 +120,7 @@ pub struct Line<'a> {
 }
 
 /// What the words of a command line ask for.
-#[derive(Debug, Drop)]
+#[derive(Drop)]
 pub enum Request<'a> {
     /// A run of one of the four subcommands over the files that it reads.
     Run(Line<'a>),

@@ -7,7 +7,7 @@ use text_bytes::Bytes;
 /// What is said about a place in a file.
 ///
 /// Lines and columns are counted from 1, columns in bytes.
-#[derive(Debug, Drop)]
+#[derive(Drop)]
 pub struct Diagnostic<'a> {
     /// The file's name, as messages give it.
     pub name: &'a [u8],

@@ -5,7 +5,7 @@ ghost use Rattle.engine_formats.specs.Paints.{paint_of, paint_start, paint_stop}
 use crate::remark::{Remark, Severity};
 
 /// The color that a part of a text is shown in.
-#[derive(Clone, Copy, Debug, PartialEq, Eq)]
+#[derive(Clone, Copy, PartialEq, Eq)]
 pub(crate) enum Paint {
     /// The terminal's own.
     Unpainted,

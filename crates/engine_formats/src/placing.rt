@@ -11,7 +11,7 @@ use text_bytes::{Line, Lines, capped, trimmed, unindented};
 /// Where a message about a database is in its line.
 ///
 /// Columns are counted from 1, in bytes.
-#[derive(Clone, Copy, Debug, PartialEq, Eq)]
+#[derive(Clone, Copy, PartialEq, Eq)]
 pub struct TextPlace<'a> {
     /// The line, without its newline.
     pub source: &'a [u8],

@@ -16,7 +16,7 @@ use std::marker::Model;
 const MAX_BYTES: usize = 65_536;
 
 /// Why no more lines are answered.
-#[derive(Clone, Copy, Debug, PartialEq, Eq)]
+#[derive(Clone, Copy, PartialEq, Eq)]
 pub(crate) enum LookupFault {
     /// The input failed.
     Read,

@@ -7,7 +7,7 @@ use rule_core::RulesFault;
 use std::alloc::{AllocError, AllocFailed};
 
 /// Why a run has nothing to say about its files, or about its index.
-#[derive(Clone, Copy, Debug, PartialEq, Eq, Drop)]
+#[derive(Clone, Copy, PartialEq, Eq, Drop)]
 pub enum Refusal {
     /// They hold more than a database may.
     TooManyEntries,

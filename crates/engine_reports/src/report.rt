@@ -1,7 +1,7 @@
 //! What a run says, before any of it is written.
 
 /// What a run writes to its two outputs, and the status that it returns.
-#[derive(Debug, Drop)]
+#[derive(Drop)]
 pub struct Report {
     /// The answer, for the output.
     pub output: Vec<u8>,

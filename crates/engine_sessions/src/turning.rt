@@ -31,7 +31,7 @@ pub enum TurnFault {
 }
 
 /// The outcome of a turn.
-#[derive(Clone, Copy, Debug, PartialEq, Eq)]
+#[derive(Clone, Copy, PartialEq, Eq)]
 pub(crate) struct TurnOutcome {
     /// Whether the input goes on.
     pub(crate) more: bool,

@@ -8,7 +8,7 @@ use std::alloc::{AllocError, Global};
 use text_bytes::Profile;
 
 /// How a rule treats bytes of links and names.
-#[derive(Clone, Copy, Debug, PartialEq, Eq)]
+#[derive(Clone, Copy, PartialEq, Eq)]
 pub enum Escape {
     /// Bytes that do not belong there are replaced; spaces separate links.
     Usual,

@@ -17,7 +17,7 @@ use text_bytes::{Bytes, split_once};
 use text_core::Pattern;
 
 /// An option of `hwdb`.
-#[derive(Clone, Copy, Debug, PartialEq, Eq)]
+#[derive(Clone, Copy, PartialEq, Eq)]
 pub(crate) enum HwdbOption {
     /// `--filter`, `-f`: which keys count.
     Filter,

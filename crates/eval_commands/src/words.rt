@@ -11,7 +11,7 @@ use std::marker::Model;
 use text_bytes::{Bytes, Profile};
 
 /// Where in a command the next byte is.
-#[derive(Clone, Copy, Debug, PartialEq, Eq)]
+#[derive(Clone, Copy, PartialEq, Eq)]
 pub enum Place {
     /// Between words.
     Between,

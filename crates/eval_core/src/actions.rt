@@ -16,7 +16,7 @@ const ACTIONS: [&[u8]; 8] = [
 ];
 
 /// What is known of a rule whose first match is one of the action.
-#[derive(Clone, Copy, Debug)]
+#[derive(Clone, Copy)]
 pub(crate) struct ByAction {
     /// Whether the match holds, for each of the known actions.
     pub held: [bool; 8],

@@ -34,7 +34,7 @@ const KERNEL_HEAD_SLOT: usize = 4;
 const FIRST_ATTRIBUTE_SLOT: usize = 5;
 
 /// What has to be seen of an event for a choice to fit.
-#[derive(Clone, Copy, Debug)]
+#[derive(Clone, Copy)]
 pub(crate) struct Check {
     /// Its position in what is seen of an event.
     pub slot: usize,

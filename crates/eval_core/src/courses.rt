@@ -18,7 +18,7 @@ use std::alloc::{AllocError, Global};
 use text_bytes::{Bytes, Profile};
 
 /// What is known about a rule before it is looked at.
-#[derive(Clone, Copy, Debug)]
+#[derive(Clone, Copy)]
 pub(crate) enum Course {
     /// Nothing.
     Open,
@@ -35,7 +35,7 @@ pub(crate) enum Course {
 }
 
 /// The outcome of a rule, as far as it follows from what is seen of an event.
-#[derive(Clone, Copy, Debug)]
+#[derive(Clone, Copy)]
 pub(crate) enum Fate {
     /// It is not known.
     Unknown,

@@ -27,7 +27,7 @@ use text_bytes::{Profile, begins_with};
 use text_tables::Pairs;
 
 /// What a match of ATTR or ATTRS looks at.
-#[derive(Debug, Drop)]
+#[derive(Drop)]
 pub enum Attribute<'a> {
     /// An attribute by the manual, which may be absent.
     Manual(Option<&'a [u8]>),

@@ -23,7 +23,7 @@ use text_bytes::{Profile, trimmed};
 use text_links::{attribute_safe, underscored};
 
 /// The text of a piece.
-#[derive(Debug, Drop)]
+#[derive(Drop)]
 pub(crate) enum PieceText<'s> {
     /// One that is borrowed.
     Borrowed(&'s [u8]),

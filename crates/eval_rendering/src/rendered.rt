@@ -5,7 +5,7 @@ ghost use Rattle.eval_rendering.specs.Bounds.{within};
 use text_bytes::Bytes;
 
 /// What a text is rendered for.
-#[derive(Clone, Copy, Debug, PartialEq, Eq)]
+#[derive(Clone, Copy, PartialEq, Eq)]
 pub enum Mode {
     /// Any text: substitutions are put in as they are.
     Plain,
@@ -15,7 +15,7 @@ pub enum Mode {
 }
 
 /// A template with its substitutions made.
-#[derive(Debug, Drop)]
+#[derive(Drop)]
 pub enum Rendered {
     /// The text, of at most 16,384 bytes.
     Text(Bytes),

@@ -9,7 +9,7 @@ use text_bytes::Bytes;
 use text_tables::{CowPairs, OwnedTexts, SortedPairs};
 
 /// A command that udev would run when all rules are done.
-#[derive(Debug, Drop)]
+#[derive(Drop)]
 pub struct Command {
     /// Whether it is a program or a builtin.
     pub kind: RunType,
@@ -18,7 +18,7 @@ pub struct Command {
 }
 
 /// Commands in the order in which they are run.
-#[derive(Debug, Drop)]
+#[derive(Drop)]
 pub struct Commands {
     held: Vec<Command>,
 }

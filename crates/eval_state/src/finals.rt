@@ -5,7 +5,7 @@ ghost use Rattle.eval_state.specs.Finals.{is_final, made_final, no_finals};
 use std::marker::Model;
 
 /// A key that `:=` makes final, as udev(7) has it: no later rule of any file changes it.
-#[derive(Clone, Copy, Debug, PartialEq, Eq)]
+#[derive(Clone, Copy, PartialEq, Eq)]
 pub enum FinalKey {
     /// OWNER.
     Owner,
@@ -26,7 +26,7 @@ pub enum FinalKey {
 }
 
 /// Which keys no longer change.
-#[derive(Clone, Copy, Debug, PartialEq, Eq)]
+#[derive(Clone, Copy, PartialEq, Eq)]
 pub struct Finals {
     owner: bool,
     group: bool,

@@ -10,7 +10,7 @@ use std::marker::Model;
 use text_bytes::{begins_with, split_once};
 
 /// A device that is named by its subsystem and its kernel's name, and an attribute of it.
-#[derive(Debug, Drop)]
+#[derive(Drop)]
 pub struct Named<'a> {
     /// The subsystem of the device.
     pub subsystem: &'a [u8],

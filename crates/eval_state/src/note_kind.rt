@@ -3,7 +3,7 @@ ghost use Rattle.std.specs.Prelude.{◌≡◌};
 ghost use Rattle.eval_state.specs.Notes.{text_of};
 
 /// What a rule asked for that was not done, and what the word of its note then is.
-#[derive(Clone, Copy, Debug, PartialEq, Eq)]
+#[derive(Clone, Copy, PartialEq, Eq)]
 pub enum NoteKind {
     /// IMPORT of a type that is never run; the word is the type.
     ImportNotRun,

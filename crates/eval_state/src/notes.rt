@@ -11,7 +11,7 @@ use std::marker::Model;
 use text_bytes::{Bytes, word_of};
 
 /// A note about a rule.
-#[derive(Debug, Drop)]
+#[derive(Drop)]
 pub struct Note {
     /// The name of the rule's file.
     pub file: Bytes,
@@ -43,7 +43,7 @@ impl Note {
 }
 
 /// Notes in the order in which they were left.
-#[derive(Debug, Drop)]
+#[derive(Drop)]
 pub struct Notes {
     held: Vec<Note>,
 }

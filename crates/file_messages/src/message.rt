@@ -8,7 +8,7 @@ use std::alloc::{AllocError, Global};
 use text_bytes::{Bytes, capped, word_of};
 
 /// What is wrong with a line: of the database (H), with a rule (V), or with how a rule is written (S).
-#[derive(Clone, Copy, Debug, PartialEq, Eq)]
+#[derive(Clone, Copy, PartialEq, Eq)]
 pub enum MessageKind {
     /// H1: a property comes before the first match of its paragraph.
     PropertyWithoutMatch,
@@ -89,7 +89,7 @@ pub enum MessageKind {
 }
 
 /// A message about a line of a file.
-#[derive(Debug, Drop)]
+#[derive(Drop)]
 pub struct Message {
     /// The name of the file.
     pub file: Bytes,

@@ -18,7 +18,7 @@ use std::alloc::Global;
 use text_bytes::{Bytes, SourceFile};
 
 /// What database files hold, and what is wrong with them.
-#[derive(Debug, Drop)]
+#[derive(Drop)]
 pub struct Database {
     /// An entry for each match and property; the order of each is its place here.
     pub entries: Vec<Entry>,

@@ -21,7 +21,7 @@ use text_bytes::{Bytes, capped};
 use text_core::PackedPattern;
 
 /// Entries and messages, in order.
-#[derive(Debug, Drop)]
+#[derive(Drop)]
 pub(crate) struct Gathered {
     wanted: Option<Bytes>,
     entries: Vec<Entry>,

@@ -10,7 +10,7 @@ use file_messages::MessageKind;
 use text_bytes::{Line, find};
 
 /// A key and its value, both of a line.
-#[derive(Debug, Drop)]
+#[derive(Drop)]
 pub(crate) struct Pair<'a> {
     pub key: &'a [u8],
     pub value: &'a [u8],
@@ -48,7 +48,7 @@ pub(crate) fn match_run(lines: &[Line<'_>]) -> usize
 }
 
 /// The four parts of a paragraph, in order.
-#[derive(Debug, Drop)]
+#[derive(Drop)]
 pub(crate) struct Parts<'l, 'a> {
     pub early: &'l [Line<'a>],
     pub matches: &'l [Line<'a>],

@@ -10,7 +10,7 @@ use crate::modaliases::{FIRST_WORDS, MODALIASES, Modalias};
 use text_bytes::{ends_in, find, is_digit};
 
 /// What a byte of a match means for what follows.
-#[derive(Clone, Copy, Debug, PartialEq, Eq)]
+#[derive(Clone, Copy, PartialEq, Eq)]
 pub(crate) enum Step {
     /// It fits, but for the case of a digit; the next byte is looked at.
     On,
@@ -21,7 +21,7 @@ pub(crate) enum Step {
 }
 
 /// How a match meets the form of its modaliases, whatever the case of its digits.
-#[derive(Clone, Copy, Debug, PartialEq, Eq)]
+#[derive(Clone, Copy, PartialEq, Eq)]
 pub(crate) enum Meeting {
     /// A modalias of the form can fit it.
     Fits,

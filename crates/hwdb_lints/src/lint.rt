@@ -1,7 +1,7 @@
 //! What may be reported for a line of a database besides its faults.
 
 /// Why a line is most likely not the one that was meant, though hwdb(7) finds no fault with it.
-#[derive(Clone, Copy, Debug, PartialEq, Eq)]
+#[derive(Clone, Copy, PartialEq, Eq)]
 pub enum DatabaseLint {
     /// D1: a hexadecimal digit has the case that no modalias of the match's prefix has.
     DigitCase,

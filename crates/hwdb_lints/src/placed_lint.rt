@@ -7,7 +7,7 @@ use std::alloc::{AllocError, Global};
 use text_bytes::{Bytes, capped};
 
 /// What is reported for a line of a database, and where.
-#[derive(Debug, Drop)]
+#[derive(Drop)]
 pub struct PlacedLint {
     /// The number of the line, counted from 1.
     pub line: u32,

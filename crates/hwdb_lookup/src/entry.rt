@@ -5,7 +5,7 @@ use text_bytes::Bytes;
 use text_core::PackedPattern;
 
 /// A property for the devices whose modalias a pattern fits.
-#[derive(Debug, Drop)]
+#[derive(Drop)]
 pub struct Entry {
     /// The match above it.
     pub pattern: PackedPattern,

@@ -12,7 +12,7 @@ use crate::entry::Entry;
 use std::alloc::{AllocError, Global};
 
 /// A property, with the order of its entry, and where it comes from.
-#[derive(Clone, Copy, Debug)]
+#[derive(Clone, Copy)]
 pub struct Found<'a> {
     /// Its name.
     pub key: &'a [u8],

@@ -9,7 +9,7 @@ ghost use Rattle.hwdb_lookup.specs.declared.entry.Entry.{Entry};
 use std::alloc::{AllocError, Global};
 
 /// A property that applies to a device, and where it comes from.
-#[derive(Clone, Copy, Debug, PartialEq, Eq)]
+#[derive(Clone, Copy, PartialEq, Eq)]
 pub struct Sourced<'a> {
     /// The property's name.
     pub key: &'a [u8],

@@ -12,7 +12,7 @@ use std::alloc::{AllocError, Global};
 use std::marker::Model;
 
 /// A database that holds its entries as they are listed.
-#[derive(Debug, Drop)]
+#[derive(Drop)]
 pub struct PlainDb {
     listed: Vec<Entry>,
 }

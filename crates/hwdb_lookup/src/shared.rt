@@ -6,7 +6,7 @@ use std::marker::Model;
 use std::rc::RcSlice;
 
 /// Bytes that several entries share, as those of one file share its name.
-#[derive(Debug, Drop)]
+#[derive(Drop)]
 pub struct SharedBytes {
     held: RcSlice<u8>,
 }

@@ -15,7 +15,7 @@ use hwdb_lookup::{MAX_ENTRIES, MAX_NODES};
 use std::marker::Model;
 
 /// The records of a file whose header is right, and whose length is as the header says.
-#[derive(Debug, Drop)]
+#[derive(Drop)]
 pub struct Records<'a> {
     bytes: &'a [u8],
     header: Header,

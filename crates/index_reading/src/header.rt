@@ -22,7 +22,7 @@ pub const NODE_LEN: usize = 24;
 pub const SET_LEN: usize = 32;
 
 /// What a header says after its first eight bytes.
-#[derive(Clone, Copy, Debug, PartialEq, Eq)]
+#[derive(Clone, Copy, PartialEq, Eq)]
 pub struct Header {
     /// The version of the format.
     pub version: u32,
@@ -39,7 +39,7 @@ pub struct Header {
 }
 
 /// Where the parts of an index begin: the nodes come directly after the header.
-#[derive(Clone, Copy, Debug, PartialEq, Eq)]
+#[derive(Clone, Copy, PartialEq, Eq)]
 pub struct Places {
     /// Where the values begin.
     pub values: usize,

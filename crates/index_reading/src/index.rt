@@ -11,7 +11,7 @@ use std::alloc::{AllocError, Global};
 use std::marker::Model;
 
 /// A database in the bytes of an index file.
-#[derive(Debug, Drop)]
+#[derive(Drop)]
 pub struct Index<'a> {
     pub(crate) records: Records<'a>,
 }

@@ -13,7 +13,7 @@ use std::alloc::AllocError;
 const VALUE_LEN: usize = 32;
 
 /// A node, as it is written.
-#[derive(Clone, Copy, Debug, PartialEq, Eq)]
+#[derive(Clone, Copy, PartialEq, Eq)]
 pub struct NodeRecord {
     /// Its kind, one of [`kinds`](crate::kinds).
     pub kind: u8,
@@ -36,7 +36,7 @@ pub struct NodeRecord {
 }
 
 /// A part of the text.
-#[derive(Clone, Copy, Debug, PartialEq, Eq)]
+#[derive(Clone, Copy, PartialEq, Eq)]
 pub struct Span {
     /// Where it begins, counted from the start of the text.
     pub place: u32,
@@ -45,7 +45,7 @@ pub struct Span {
 }
 
 /// A value, as it is written.
-#[derive(Clone, Copy, Debug, PartialEq, Eq)]
+#[derive(Clone, Copy, PartialEq, Eq)]
 pub struct ValueRecord {
     /// The property's name.
     pub key: Span,

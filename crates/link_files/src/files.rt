@@ -11,7 +11,7 @@ use std::marker::Model;
 use text_bytes::{Bytes, SourceFile, begins_with, following, order_files};
 
 /// A `.link` file with what it and its drop-ins set.
-#[derive(Debug, Drop)]
+#[derive(Drop)]
 pub struct LinkFile {
     path: Bytes,
     drop_ins: Bytes,

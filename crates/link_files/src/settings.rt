@@ -12,7 +12,7 @@ use std::marker::Model;
 use text_bytes::{Bytes, begins_with, ends_in, first_line, split_once};
 
 /// A setting: a value of a key in a section.
-#[derive(Debug, Drop)]
+#[derive(Drop)]
 pub struct Setting {
     /// The section; empty before the first.
     pub section: Bytes,

@@ -7,7 +7,7 @@ use file_messages::MessageKind;
 use std::marker::Model;
 
 /// A rule as its line alone gives it.
-#[derive(Debug, Drop)]
+#[derive(Drop)]
 pub struct Draft<'a> {
     /// The name of its LABEL that counts: the first, for udev the last.
     pub label: Option<NamePlace>,

@@ -13,7 +13,7 @@ use std::marker::Model;
 use text_bytes::Bytes;
 
 /// Rules in order.
-#[derive(Debug, Drop)]
+#[derive(Drop)]
 pub(crate) struct Gathered {
     rules: Vec<Rule>,
     tokens: usize,

@@ -8,7 +8,7 @@ use std::marker::Model;
 use text_bytes::capped;
 
 /// A joined line of a rules file: the text of a rule, which may borrow the file.
-#[derive(Debug, Drop)]
+#[derive(Drop)]
 pub struct JoinedLine<'a> {
     number: u32,
     text: Text<'a>,
@@ -50,7 +50,7 @@ impl<'a> JoinedLine<'a> {
 }
 
 /// The joined lines of a rules file.
-#[derive(Debug, Drop)]
+#[derive(Drop)]
 pub struct JoinedLines<'a> {
     lines: Vec<JoinedLine<'a>>,
     open_at: Option<u32>,

@@ -14,7 +14,7 @@ use std::marker::Model;
 use text_bytes::{Lines, Profile, capped};
 
 /// A joined line of which all lines so far end in a backslash.
-#[derive(Debug, Drop)]
+#[derive(Drop)]
 struct OpenLine<'a> {
     number: usize,
     text: Text<'a>,
@@ -30,7 +30,7 @@ impl<'a> Model for OpenLine<'a> {
 }
 
 /// What the lines so far have given.
-#[derive(Debug, Drop)]
+#[derive(Drop)]
 struct Joining<'a> {
     lines: Vec<JoinedLine<'a>>,
     pending: Option<OpenLine<'a>>,

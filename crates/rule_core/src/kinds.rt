@@ -11,7 +11,7 @@ use std::marker::Model;
 use text_bytes::Profile;
 
 /// The parts of a rule by what they are for. LABEL and GOTO are not among them.
-#[derive(Debug, Drop)]
+#[derive(Drop)]
 pub(crate) struct Kinds {
     /// The matches of the event.
     pub plain: Vec<PlainMatch>,

@@ -5,7 +5,7 @@ use file_messages::MessageKind;
 use std::alloc::{AllocError, AllocFailed};
 
 /// Why a joined line is not a rule.
-#[derive(Debug, Drop)]
+#[derive(Drop)]
 pub(crate) enum LineFault {
     /// 1: it is not one, for this reason.
     Wrong(Spot<MessageKind>),

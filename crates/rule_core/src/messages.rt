@@ -11,7 +11,7 @@ use std::alloc::{AllocError, Global};
 use text_bytes::{Bytes, word_of};
 
 /// A line of a file.
-#[derive(Clone, Copy, Debug)]
+#[derive(Clone, Copy)]
 pub(crate) struct Place<'a> {
     /// The file's name.
     pub file: &'a [u8],

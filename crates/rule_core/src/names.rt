@@ -17,7 +17,7 @@ use std::marker::Model;
 use text_bytes::{Bytes, Profile};
 
 /// A name, with the place of the value that gives it.
-#[derive(Debug, Drop)]
+#[derive(Drop)]
 pub struct NamePlace {
     /// The name.
     pub name: Bytes,
@@ -28,7 +28,7 @@ pub struct NamePlace {
 }
 
 /// The names of a rule, and the findings about those that don't count.
-#[derive(Debug, Drop)]
+#[derive(Drop)]
 pub(crate) struct RuleNames {
     /// The name of its LABEL that counts: the first, for udev the last.
     pub label: Option<NamePlace>,

@@ -6,7 +6,7 @@ use std::marker::Model;
 use text_bytes::{Line, begins_with, ends_in, unindented};
 
 /// What a kept line gives to a joined line.
-#[derive(Debug, Drop)]
+#[derive(Drop)]
 pub struct Piece<'a> {
     /// The line's number in its file, counted from 1.
     pub number: usize,

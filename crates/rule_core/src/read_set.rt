@@ -6,7 +6,7 @@ use rule_types::RuleSet;
 use std::marker::Model;
 
 /// The rules of files, and the messages about them. Only `read_rules` and `read_rules_as` make it.
-#[derive(Debug, Drop)]
+#[derive(Drop)]
 pub struct ReadRules {
     pub(crate) rules: RuleSet,
     pub(crate) messages: Vec<Message>,

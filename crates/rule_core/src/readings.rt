@@ -19,7 +19,7 @@ use std::marker::Model;
 use text_bytes::Profile;
 
 /// A joined line, read as a rule.
-#[derive(Debug, Drop)]
+#[derive(Drop)]
 pub struct Reading<'a> {
     /// The number of the line of the file in which it begins, or for udev of the last that is part of it.
     pub line: u32,
@@ -38,7 +38,7 @@ impl<'a> Model for Reading<'a> {
 }
 
 /// A joined line with what becomes of its jump and of its label.
-#[derive(Debug, Drop)]
+#[derive(Drop)]
 pub struct LandedReading<'a> {
     /// The line.
     pub reading: Reading<'a>,

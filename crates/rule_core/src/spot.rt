@@ -12,7 +12,7 @@ use std::alloc::{AllocError, Global};
 use text_bytes::Bytes;
 
 /// What is reported about a part of a joined line: a finding, or a lint.
-#[derive(Debug, Drop)]
+#[derive(Drop)]
 pub struct Spot<K> {
     /// What is reported.
     pub kind: K,

@@ -5,7 +5,7 @@ use std::alloc::{AllocError, Global};
 use std::marker::Model;
 
 /// How the bytes of a text are held.
-#[derive(Debug, Drop)]
+#[derive(Drop)]
 pub(crate) enum Held<'a> {
     /// Those of one line, borrowed.
     Whole(&'a [u8]),
@@ -14,7 +14,7 @@ pub(crate) enum Held<'a> {
 }
 
 /// A text that can be continued.
-#[derive(Debug, Drop)]
+#[derive(Drop)]
 pub(crate) struct Text<'a> {
     held: Held<'a>,
 }

@@ -5,7 +5,7 @@ use rule_types::Part;
 use std::marker::Model;
 
 /// A token of a rule with the part of the rule that it is.
-#[derive(Debug, Drop)]
+#[derive(Drop)]
 pub struct WrittenPart<'a> {
     /// The token, as it is in its line.
     pub token: Token<'a>,

@@ -5,7 +5,7 @@ use rule_jumps::Landing;
 use std::marker::Model;
 
 /// A rule of a file, as its line was read.
-#[derive(Debug, Drop)]
+#[derive(Drop)]
 pub(crate) struct FileRule<'r, 'a> {
     /// The number of the line of the file with which it is reported.
     pub number: u32,

@@ -7,7 +7,7 @@ use std::alloc::{AllocError, Global};
 use std::marker::Model;
 
 /// A property or an attribute with a value, both borrowed.
-#[derive(Debug, Drop)]
+#[derive(Drop)]
 pub(crate) struct Valued<'a> {
     /// The key, which is ENV or ATTR.
     pub key: Key,

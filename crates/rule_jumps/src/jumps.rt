@@ -4,7 +4,7 @@ ghost use Rattle.std.specs.Prelude.{◌≡◌, option_map};
 use std::marker::Model;
 
 /// The names that a rule has for jumps, which it borrows.
-#[derive(Debug, Drop)]
+#[derive(Drop)]
 pub struct Jump<'a> {
     label: Option<&'a [u8]>,
     goto: Option<&'a [u8]>,
@@ -44,7 +44,7 @@ impl<'a> Jump<'a> {
 }
 
 /// What becomes of a rule's label and of its jump.
-#[derive(Clone, Copy, Debug, PartialEq, Eq)]
+#[derive(Clone, Copy, PartialEq, Eq)]
 pub struct Landing {
     /// It jumps to a label that no later rule has.
     pub lost: bool,

@@ -16,7 +16,7 @@ const NONE_IN_16_BITS: u32 = 0xFFFF;
 const NOBODY: u32 = 0xFFFE;
 
 /// A user or a group.
-#[derive(Debug, Drop)]
+#[derive(Drop)]
 pub struct Account {
     /// Its name.
     pub name: Bytes,
@@ -25,14 +25,14 @@ pub struct Account {
 }
 
 /// Whether a name is that of a user or of a group.
-#[derive(Clone, Copy, Debug, PartialEq, Eq)]
+#[derive(Clone, Copy, PartialEq, Eq)]
 pub enum AccountKind {
     User,
     Group,
 }
 
 /// What is known about users and groups.
-#[derive(Debug, Drop)]
+#[derive(Drop)]
 pub struct Accounts {
     /// The users; of those with one name the first counts. Without a list only `root` is known.
     pub users: Option<Vec<Account>>,
@@ -41,7 +41,7 @@ pub struct Accounts {
 }
 
 /// What a value of OWNER or GROUP gives.
-#[derive(Clone, Copy, Debug, PartialEq, Eq)]
+#[derive(Clone, Copy, PartialEq, Eq)]
 pub enum Given {
     /// A user or a group, by its number.
     Number(u32),

@@ -7,7 +7,7 @@ use rule_parts::is_something;
 use rule_types::{Key, Operator};
 
 /// How a token compares its value.
-#[derive(Clone, Copy, Debug, PartialEq, Eq)]
+#[derive(Clone, Copy, PartialEq, Eq)]
 pub(crate) enum Form {
     /// SUBSYSTEM with `subsystem`, `bus` or `class`, of which each means all three.
     AnySubsystem,

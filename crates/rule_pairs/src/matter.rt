@@ -15,7 +15,7 @@ use std::marker::Model;
 use text_bytes::Profile;
 
 /// What a token is about, besides its key.
-#[derive(Debug, Drop)]
+#[derive(Drop)]
 pub(crate) struct Matter<'a> {
     /// The type of IMPORT or RUN, or the option; empty if the key has only one kind.
     pub(crate) kind: &'static [u8],

@@ -5,7 +5,7 @@ ghost use Rattle.rule_pairs.specs.Pairs.{message_of};
 use file_messages::MessageKind;
 
 /// What two tokens of a rule are to each other.
-#[derive(Clone, Copy, Debug, PartialEq, Eq)]
+#[derive(Clone, Copy, PartialEq, Eq)]
 pub enum PairKind {
     /// They say the same.
     Same,
@@ -14,7 +14,7 @@ pub enum PairKind {
 }
 
 /// What is reported for two tokens of a rule.
-#[derive(Clone, Copy, Debug, PartialEq, Eq)]
+#[derive(Clone, Copy, PartialEq, Eq)]
 pub struct PairFinding {
     /// What they are to each other.
     pub kind: PairKind,

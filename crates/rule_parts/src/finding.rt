@@ -8,7 +8,7 @@ use std::alloc::{AllocError, AllocFailed, Global};
 use text_bytes::{Bytes, word_of};
 
 /// What is wrong with a part of a rule, before it is reported with the place of the rule.
-#[derive(Debug, Drop)]
+#[derive(Drop)]
 pub struct Finding {
     /// What is wrong.
     pub kind: MessageKind,
@@ -17,7 +17,7 @@ pub struct Finding {
 }
 
 /// Why a text is not a part of a rule.
-#[derive(Debug, Drop)]
+#[derive(Drop)]
 pub enum PartFault {
     /// 1: it is not one, for this reason.
     Wrong(Finding),

@@ -11,7 +11,7 @@ use std::marker::Model;
 use text_bytes::{Line, Lines, begins_with, capped, ends_in, unindented};
 
 /// A line that is kept.
-#[derive(Clone, Copy, Debug)]
+#[derive(Clone, Copy)]
 pub struct KeptLine {
     /// Its number in the file, counted from 1.
     pub number: usize,
@@ -24,7 +24,7 @@ pub struct KeptLine {
 }
 
 /// A part of a line of a file.
-#[derive(Clone, Copy, Debug)]
+#[derive(Clone, Copy)]
 pub(crate) struct Place {
     /// The line's number.
     pub line: u32,
@@ -35,7 +35,7 @@ pub(crate) struct Place {
 }
 
 /// The kept lines of a file, in order.
-#[derive(Debug, Drop)]
+#[derive(Drop)]
 pub struct KeptLines {
     lines: Vec<KeptLine>,
 }

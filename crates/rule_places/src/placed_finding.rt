@@ -3,7 +3,7 @@
 use text_bytes::Bytes;
 
 /// Something that is reported for a rules file, a finding or a lint, with the place in the file that it is about.
-#[derive(Debug, Drop)]
+#[derive(Drop)]
 pub struct PlacedFinding<K> {
     /// The line number with which the rule is reported, counted from 1: that of its first line, or for udev of its
     /// last.

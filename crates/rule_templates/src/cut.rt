@@ -9,7 +9,7 @@ use std::alloc::Global;
 use text_bytes::Bytes;
 
 /// A piece whose bytes are still in the text.
-#[derive(Debug, Drop)]
+#[derive(Drop)]
 pub enum Cut<'a> {
     /// Bytes as they are.
     Plain(&'a [u8]),

@@ -11,7 +11,7 @@ use text_bytes::{begins_with, is_blank, is_whitespace};
 const LIMIT: u64 = 1 << 32;
 
 /// The base of digits, as far as what comes before their sign determines it.
-#[derive(Clone, Copy, Debug, PartialEq, Eq)]
+#[derive(Clone, Copy, PartialEq, Eq)]
 pub(crate) enum Base {
     /// `0b`: in base 2.
     Binary,

@@ -8,7 +8,7 @@ ghost use Rattle.rule_templates.specs.Names.{long_names_as, named, short_names_a
 use text_bytes::Profile;
 
 /// What the name after a `$` or `%` asks for.
-#[derive(Clone, Copy, Debug, PartialEq, Eq)]
+#[derive(Clone, Copy, PartialEq, Eq)]
 pub enum Substitution {
     Kernel,
     Number,

@@ -3,7 +3,7 @@
 use text_bytes::Bytes;
 
 /// A piece of a template: bytes as they are, or what replaces a substitution.
-#[derive(Debug, Drop)]
+#[derive(Drop)]
 pub enum Piece {
     /// These bytes, never none.
     Plain(Bytes),

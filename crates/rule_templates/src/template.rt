@@ -13,7 +13,7 @@ use std::marker::Model;
 use text_bytes::{Bytes, Profile};
 
 /// A value with substitutions, as rules assign it.
-#[derive(Debug, Drop)]
+#[derive(Drop)]
 pub struct Template {
     written: Bytes,
     pieces: Vec<Piece>,

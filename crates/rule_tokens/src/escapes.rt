@@ -14,7 +14,7 @@ const VERTICAL_TAB: u8 = 0x0B;
 const FORM_FEED: u8 = 0x0C;
 
 /// What a piece of a value means.
-#[derive(Clone, Copy, Debug)]
+#[derive(Clone, Copy)]
 pub(crate) enum Meaning {
     /// This byte.
     Byte(u8),

@@ -5,7 +5,7 @@ use std::error::Error;
 use std::fmt;
 
 /// What is done with a key.
-#[derive(Clone, Copy, Debug, PartialEq, Eq)]
+#[derive(Clone, Copy, PartialEq, Eq)]
 pub enum Operator {
     /// `==`: the key is compared for equality.
     Equal,
@@ -37,7 +37,7 @@ impl Operator {
 }
 
 /// How a value is quoted: what the letters before its first `"` ask for.
-#[derive(Clone, Copy, Debug, PartialEq, Eq)]
+#[derive(Clone, Copy, PartialEq, Eq)]
 pub enum Quote {
     /// `".."`: only `\"` is an escape.
     Plain,
@@ -50,7 +50,7 @@ pub enum Quote {
 }
 
 /// Where a token lies in its line, in bytes from the line's start.
-#[derive(Clone, Copy, Debug, PartialEq, Eq)]
+#[derive(Clone, Copy, PartialEq, Eq)]
 pub struct Span {
     /// The place of the first byte of the key.
     pub start: usize,

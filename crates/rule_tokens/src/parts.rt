@@ -12,7 +12,7 @@ use std::marker::Model;
 use text_bytes::unindented;
 
 /// The parts of a token, wherever it lies.
-#[derive(Clone, Copy, Debug)]
+#[derive(Clone, Copy)]
 pub(crate) struct TokenParts<'a> {
     pub(crate) key: &'a [u8],
     pub(crate) attribute: Option<&'a [u8]>,
@@ -45,7 +45,7 @@ pub(crate) fn token_of(text: &[u8]) -> Result<(TokenParts<'_>, &[u8]), TokenFaul
 }
 
 /// A key with what is done to it. It borrows its line, and only `Tokens` makes it.
-#[derive(Debug, Drop)]
+#[derive(Drop)]
 pub struct Token<'a> {
     pub(crate) parts: TokenParts<'a>,
     pub(crate) span: Span,

@@ -12,7 +12,7 @@ use std::marker::Model;
 
 /// The tokens of a line in turn, and the fault that ends them, if one does: a fault is the last item. Blanks and
 /// commas between tokens are skipped. Nothing is allocated.
-#[derive(Debug, Drop)]
+#[derive(Drop)]
 pub struct Tokens<'a> {
     rest: &'a [u8],
     at: usize,

@@ -7,7 +7,7 @@ ghost use Rattle.rule_types.specs.Builtins.{builtin_name, builtin_of, first_word
 use rule_templates::{after_separators, is_separator};
 
 /// A command that is built into udev.
-#[derive(Clone, Copy, Debug, PartialEq, Eq)]
+#[derive(Clone, Copy, PartialEq, Eq)]
 pub enum Builtin {
     Blkid,
     Btrfs,

@@ -5,7 +5,7 @@ ghost use Rattle.std.specs.List.{find};
 ghost use Rattle.rule_types.specs.Names.{key_name, key_of};
 
 /// A key of a rule's token, by its name in udev(7).
-#[derive(Clone, Copy, Debug, PartialEq, Eq)]
+#[derive(Clone, Copy, PartialEq, Eq)]
 pub enum Key {
     Action,
     Devpath,

@@ -8,7 +8,7 @@ use text_bytes::Bytes;
 use text_core::Choice;
 
 /// A part of a rule: what one token asks for.
-#[derive(Debug, Drop)]
+#[derive(Drop)]
 pub enum Part {
     /// A match of the event.
     Plain(PlainMatch),
@@ -27,7 +27,7 @@ pub enum Part {
 }
 
 /// Patterns, and whether one of them has to fit or none may.
-#[derive(Debug, Drop)]
+#[derive(Drop)]
 pub struct Comparison {
     /// `==` if one has to fit, `!=` if none may.
     pub operator: MatchOperator,
@@ -40,7 +40,7 @@ pub struct Comparison {
 }
 
 /// A match of the event.
-#[derive(Debug, Drop)]
+#[derive(Drop)]
 pub struct PlainMatch {
     /// What is compared.
     pub key: PlainKey,
@@ -49,7 +49,7 @@ pub struct PlainMatch {
 }
 
 /// A match of one device of the chain.
-#[derive(Debug, Drop)]
+#[derive(Drop)]
 pub struct UpMatch {
     /// What is compared.
     pub key: UpKey,
@@ -58,7 +58,7 @@ pub struct UpMatch {
 }
 
 /// Something that is done while a rule is matched.
-#[derive(Debug, Drop)]
+#[derive(Drop)]
 pub struct Act {
     /// `==` if the rule goes on when it succeeds, `!=` if the rule goes on when it fails.
     pub operator: MatchOperator,
@@ -67,7 +67,7 @@ pub struct Act {
 }
 
 /// What an act does.
-#[derive(Debug, Drop)]
+#[derive(Drop)]
 pub enum ActKind {
     /// TEST asks whether the event device has a file, with a mask of file modes if there is one.
     Test(Option<Bytes>, Template),
@@ -78,7 +78,7 @@ pub enum ActKind {
 }
 
 /// Where IMPORT takes properties from.
-#[derive(Debug, Drop)]
+#[derive(Drop)]
 pub enum Import {
     /// The output of a command.
     Program(Template),
@@ -95,7 +95,7 @@ pub enum Import {
 }
 
 /// An assignment.
-#[derive(Debug, Drop)]
+#[derive(Drop)]
 pub struct Assignment {
     /// How it changes what was there. An operator that the key reads as `=` is `=`.
     pub operator: AssignOperator,
@@ -104,7 +104,7 @@ pub struct Assignment {
 }
 
 /// What an assignment changes.
-#[derive(Debug, Drop)]
+#[derive(Drop)]
 pub enum Change {
     /// An option of OPTIONS.
     Option(RuleOption),

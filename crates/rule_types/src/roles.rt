@@ -9,7 +9,7 @@ use rule_tokens::Operator;
 use text_bytes::Bytes;
 
 /// An operator that compares.
-#[derive(Clone, Copy, Debug, PartialEq, Eq)]
+#[derive(Clone, Copy, PartialEq, Eq)]
 pub enum MatchOperator {
     /// `==`.
     Equal,
@@ -18,7 +18,7 @@ pub enum MatchOperator {
 }
 
 /// An operator that assigns.
-#[derive(Clone, Copy, Debug, PartialEq, Eq)]
+#[derive(Clone, Copy, PartialEq, Eq)]
 pub enum AssignOperator {
     /// `=`: the value replaces what was there.
     Assign,
@@ -31,7 +31,7 @@ pub enum AssignOperator {
 }
 
 /// What a match of the event looks at.
-#[derive(Debug, Drop)]
+#[derive(Drop)]
 pub enum PlainKey {
     Action,
     Devpath,
@@ -52,7 +52,7 @@ pub enum PlainKey {
 }
 
 /// What a match of one device of the chain looks at.
-#[derive(Debug, Drop)]
+#[derive(Drop)]
 pub enum UpKey {
     Kernels,
     Subsystems,
@@ -63,7 +63,7 @@ pub enum UpKey {
 }
 
 /// What a text is assigned to.
-#[derive(Debug, Drop)]
+#[derive(Drop)]
 pub enum Target {
     Owner,
     Group,
@@ -82,7 +82,7 @@ pub enum Target {
 }
 
 /// What a token is for its rule.
-#[derive(Debug, Drop)]
+#[derive(Drop)]
 pub enum Role {
     /// A match of the event.
     Plain(PlainKey, MatchOperator),

@@ -6,7 +6,7 @@ use std::marker::Model;
 use text_bytes::Bytes;
 
 /// A rule: its file and line, its names for jumps, and its parts in the order in which they are evaluated.
-#[derive(Debug, Drop)]
+#[derive(Drop)]
 pub struct Rule {
     pub file: Bytes,
     pub line: u32,

@@ -1,7 +1,7 @@
 //! What OPTIONS asks for.
 
 /// An option of a rule, as OPTIONS names it in udev(7).
-#[derive(Clone, Copy, Debug, PartialEq, Eq)]
+#[derive(Clone, Copy, PartialEq, Eq)]
 pub enum RuleOption {
     /// `link_priority=N`: the priority of this device's links over those of others.
     LinkPriority(i32),

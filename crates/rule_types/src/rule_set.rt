@@ -9,7 +9,7 @@ use crate::rule::Rule;
 use std::marker::Model;
 
 /// The rules of files, of which at most 2^24 tokens are left.
-#[derive(Debug, Drop)]
+#[derive(Drop)]
 pub struct RuleSet {
     rules: Vec<Rule>,
 }

@@ -10,7 +10,7 @@ use crate::types::{ImportType, RunType, import_type_of, run_type_of};
 use text_bytes::{Bytes, Profile};
 
 /// A key with what is in its braces, if it is what the key takes.
-#[derive(Debug, Drop)]
+#[derive(Drop)]
 pub enum Topic {
     Action,
     Devpath,

@@ -3,7 +3,7 @@ ghost use Rattle.std.specs.Prelude.{◌≡◌, Some, IfSome};
 ghost use Rattle.rule_types.specs.Names.{import_name, import_type_of, run_name, run_type_of};
 
 /// Where IMPORT takes properties from.
-#[derive(Clone, Copy, Debug, PartialEq, Eq)]
+#[derive(Clone, Copy, PartialEq, Eq)]
 pub enum ImportType {
     /// `program`: the output of a command.
     Program,
@@ -20,7 +20,7 @@ pub enum ImportType {
 }
 
 /// What RUN runs.
-#[derive(Clone, Copy, Debug, PartialEq, Eq)]
+#[derive(Clone, Copy, PartialEq, Eq)]
 pub enum RunType {
     /// `program`: a command.
     Program,

@@ -6,7 +6,7 @@ use crate::search::find;
 use std::marker::Model;
 
 /// A line of a text, borrowed from it.
-#[derive(Debug, Drop)]
+#[derive(Drop)]
 pub struct Line<'a> {
     number: usize,
     text: &'a [u8],
@@ -47,7 +47,7 @@ impl<'a> Line<'a> {
 }
 
 /// The lines of a text in turn, each with its number.
-#[derive(Debug, Drop)]
+#[derive(Drop)]
 pub struct Lines<'a> {
     rest: &'a [u8],
     next_number: usize,

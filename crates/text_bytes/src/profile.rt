@@ -1,7 +1,7 @@
 //! The two readings of rules that can be asked for.
 
 /// Which authority is followed where the manual and udev differ.
-#[derive(Clone, Copy, Debug, PartialEq, Eq)]
+#[derive(Clone, Copy, PartialEq, Eq)]
 pub enum Profile {
     /// The manual pages udev(7) and udevadm(8).
     Manual,

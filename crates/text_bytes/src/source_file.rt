@@ -5,7 +5,7 @@ ghost use Rattle.text_bytes.specs.Kinds.{suffix_of};
 use crate::bytes::Bytes;
 
 /// What a file holds.
-#[derive(Clone, Copy, Debug, PartialEq, Eq)]
+#[derive(Clone, Copy, PartialEq, Eq)]
 pub enum FileKind {
     /// Records of the hardware database, as hwdb(7) says.
     Hwdb,
@@ -26,7 +26,7 @@ impl FileKind {
 }
 
 /// A file that was read whole.
-#[derive(Debug, Drop)]
+#[derive(Drop)]
 pub struct SourceFile {
     /// What it holds.
     pub kind: FileKind,

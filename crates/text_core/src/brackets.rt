@@ -12,7 +12,7 @@ use crate::reading::Reading;
 use std::alloc::{AllocError, Global};
 
 /// The elements up to the `]` that closes them.
-#[derive(Debug, Drop)]
+#[derive(Drop)]
 pub(crate) struct Expression {
     /// The elements, in order.
     pub elements: Vec<Element>,

@@ -5,7 +5,7 @@ ghost use Rattle.text_core.specs.Classes.{class_has, class_name, class_of};
 use text_bytes::{is_blank, is_whitespace};
 
 /// A class of bytes. Bytes over 0x7F are in none.
-#[derive(Clone, Copy, Debug, PartialEq, Eq)]
+#[derive(Clone, Copy, PartialEq, Eq)]
 pub enum ByteClass {
     /// `alnum`: letters and digits.
     Alphanumeric,

@@ -6,7 +6,7 @@ ghost use Rattle.std.specs.Prelude.{◌≡◌};
 ghost use Rattle.text_core.specs.Items.{set_has};
 
 /// A set of bytes: byte `b` belongs to it if bit `b % 8` of `bits[b / 8]` is 1.
-#[derive(Clone, Copy, Debug, PartialEq, Eq)]
+#[derive(Clone, Copy, PartialEq, Eq)]
 pub struct ByteSet {
     /// The bits, those of the least bytes first.
     pub bits: [u8; 32],

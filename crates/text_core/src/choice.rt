@@ -17,7 +17,7 @@ use std::slice;
 use text_bytes::find;
 
 /// The patterns of a choice: nearly all have one.
-#[derive(Debug, Drop)]
+#[derive(Drop)]
 enum Parts {
     /// Just this one.
     One(Pattern),
@@ -26,7 +26,7 @@ enum Parts {
 }
 
 /// Patterns of which one has to fit. There is always one, perhaps an empty one.
-#[derive(Debug, Drop)]
+#[derive(Drop)]
 pub struct Choice {
     parts: Parts,
 }

@@ -12,7 +12,7 @@ use crate::reading::Reading;
 use crate::symbols::symbol_len;
 
 /// An element between brackets.
-#[derive(Clone, Copy, Debug)]
+#[derive(Clone, Copy)]
 pub enum Element {
     /// A byte, perhaps after a backslash; read blind, a capital is its lower case letter.
     Single(u8),
@@ -27,7 +27,7 @@ pub enum Element {
 }
 
 /// An element found at a byte.
-#[derive(Clone, Copy, Debug)]
+#[derive(Clone, Copy)]
 pub struct Found {
     /// The element.
     pub element: Element,

@@ -8,7 +8,7 @@ use crate::byte_set::ByteSet;
 use crate::glob::AsItem;
 
 /// One item of a pattern, as hwdb(7) and udev(7) name them.
-#[derive(Clone, Copy, Debug, PartialEq, Eq)]
+#[derive(Clone, Copy, PartialEq, Eq)]
 pub enum Item {
     /// A byte that stands for itself.
     Byte(u8),

@@ -21,7 +21,7 @@ use std::rc::RcSlice;
 use text_bytes::find;
 
 /// How the items of a pattern are held.
-#[derive(Debug, Drop)]
+#[derive(Drop)]
 enum Held {
     /// By the byte that each is written as.
     Written(RcSlice<u8>),
@@ -30,7 +30,7 @@ enum Held {
 }
 
 /// A pattern that takes a byte for each item, if it is written without a `[`. Copies share what they hold.
-#[derive(Debug, Drop)]
+#[derive(Drop)]
 pub struct PackedPattern {
     held: Held,
 }

@@ -22,7 +22,7 @@ pub(crate) const MAX_LEN: usize = 16384;
 /// A pattern: `*` takes any bytes, `?` any one, `[..]` one byte of a set, and each other byte, also the backslash,
 /// itself. A set is negated by a first `!` or `^`, has ranges such as `a-z`, and ends at the first `]` after its
 /// first member; a `[` that no such `]` follows is a byte.
-#[derive(Debug, Drop)]
+#[derive(Drop)]
 pub struct Pattern {
     items: Vec<Item>,
 }

@@ -4,7 +4,7 @@
 //! stands for, and which bytes the members of a set have.
 
 /// How a text is read.
-#[derive(Clone, Copy, Debug, PartialEq, Eq)]
+#[derive(Clone, Copy, PartialEq, Eq)]
 pub enum Reading {
     /// Each byte is itself.
     Exact,

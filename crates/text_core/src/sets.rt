@@ -10,7 +10,7 @@ use crate::elements::{Element, takes_among};
 use crate::reading::Reading;
 
 /// What is between the brackets of a set.
-#[derive(Clone, Copy, Debug)]
+#[derive(Clone, Copy)]
 pub(crate) enum Between<'a> {
     /// Members as udev(7) describes them: bytes, and ranges with a minus.
     Members(&'a [u8]),

@@ -10,7 +10,7 @@ use crate::sets::{Between, set_of};
 use text_bytes::find;
 
 /// How a text begins.
-#[derive(Clone, Copy, Debug)]
+#[derive(Clone, Copy)]
 pub struct Head {
     /// The item that the first byte begins.
     pub item: Item,

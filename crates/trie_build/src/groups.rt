@@ -12,7 +12,7 @@ use std::alloc::AllocError;
 use text_core::Item;
 
 /// The rows whose patterns begin with one path.
-#[derive(Clone, Copy, Debug)]
+#[derive(Clone, Copy)]
 pub(crate) struct Group {
     /// The first of the rows.
     pub(crate) start: u32,

@@ -16,7 +16,7 @@ use std::cmp::Ordering;
 use text_core::PackedPattern;
 
 /// The pattern of an entry, with the entry's number.
-#[derive(Clone, Copy, Debug)]
+#[derive(Clone, Copy)]
 pub(crate) struct Row<'a> {
     /// The items of the pattern.
     pub(crate) items: &'a PackedPattern,
@@ -91,7 +91,7 @@ pub(crate) fn sorted_rows<'a>(
 }
 
 /// Sorted rows, and how many labels each has at its front in common with the row before it.
-#[derive(Clone, Copy, Debug)]
+#[derive(Clone, Copy)]
 pub(crate) struct Sorted<'r, 'a> {
     /// The rows.
     pub(crate) rows: &'r [Row<'a>],

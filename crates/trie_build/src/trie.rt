@@ -24,7 +24,7 @@ use text_core::Item;
 use trie_nodes::{Database, Node, Nodes};
 
 /// A database whose patterns are a trie: the cost of a query is that of the nodes that the modalias reaches.
-#[derive(Debug, Drop)]
+#[derive(Drop)]
 pub struct Trie {
     // The entries are the last field, as fields are dropped in order: a large piece of memory that is returned
     // after very many small ones makes the C library look at each of these again.

@@ -4,7 +4,7 @@ use text_core::Item;
 
 /// A node of a tree whose nodes are ordered level by level: its label, and where its children and its values are
 /// among all.
-#[derive(Clone, Copy, Debug)]
+#[derive(Clone, Copy)]
 pub struct Node {
     /// What a text has to have next to reach this node from its parent. The root's is never used.
     pub label: Item,

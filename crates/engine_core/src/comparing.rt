@@ -109,7 +109,8 @@ fn compare_read<L: Lookup + Drop, M: Lookup + Drop, R: Source, W: Sink, E: Sink>
     match old {
         Ok((old_rules, old_lookup)) => match new {
             Ok((new_rules, new_lookup)) => compare_rules(
-                alloc, old_line, new_line, old_rules, old_lookup, new_rules, new_lookup, input, output, error,
+                alloc, old_line, new_line, old_rules, old_lookup, new_rules, new_lookup, input,
+                output, error,
             ),
             Err(refusal) => deliver_refusal(refusal, output, error),
         },
@@ -139,7 +140,13 @@ fn compare_rules<L: Lookup + Drop, M: Lookup + Drop, R: Source, W: Sink, E: Sink
     let new_builtins = Builtins::new(new_lookup, &new_line.links);
     match both_tables(alloc, old, old_builtins, new, new_builtins) {
         Ok((messages, tables)) => find_after_messages(
-            alloc, old_line.profile, &messages, &tables, input, output, error,
+            alloc,
+            old_line.profile,
+            &messages,
+            &tables,
+            input,
+            output,
+            error,
         ),
         Err(_) => report_out_of_memory(error),
     }
@@ -152,7 +159,13 @@ fn both_tables<'l, 'm, L: Lookup + Drop, M: Lookup + Drop>(
     old_builtins: Builtins<'l, L>,
     new: RulesRead,
     new_builtins: Builtins<'m, M>,
-) -> Result<(Vec<u8>, Compared<Tables<Builtins<'l, L>>, Tables<Builtins<'m, M>>>), AllocError>
+) -> Result<
+    (
+        Vec<u8>,
+        Compared<Tables<Builtins<'l, L>>, Tables<Builtins<'m, M>>>,
+    ),
+    AllocError,
+>
     ensures messages { IfOk result (λ both. both.0.items ≡ old.messages.items ++ new.messages.items) }
     ensures tables { IfOk result (λ both. both.1 ≡ (
       (old.rules.rules, old_builtins),

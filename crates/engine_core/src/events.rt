@@ -173,7 +173,11 @@ fn report_by_rules<L: Lookup + Drop, R: Source, W: Sink, E: Sink>(
         let tables = ReportedTables::new(line.sources, &line.why, rules, builtins);
         return answer_after_messages(alloc, profile, &messages, &tables, input, output, error);
     }
-    match Tables::new(alloc, rules.into_rules(), Builtins::new(lookup, &line.links)) {
+    match Tables::new(
+        alloc,
+        rules.into_rules(),
+        Builtins::new(lookup, &line.links),
+    ) {
         Ok(tables) => answer_after_messages(
             alloc, profile, &messages, &tables, input, output, error,
         ),

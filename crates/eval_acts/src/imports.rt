@@ -12,9 +12,7 @@ ghost use Rattle.eval_acts.specs.Acts.{from_parent_by};
 ghost use Rattle.eval_acts.specs.Imports.{from_answer, from_answer_or_noted, from_cmdline, from_parent, from_program, line_for, name_given};
 ghost use Rattle.eval_acts.specs.Imports.{names_fitting, not_run, run_builtin, taken, with_found};
 
-use crate::builtin_runs::{
-    run_input_id, run_net_id, run_net_setup_link, run_path_id, run_usb_id,
-};
+use crate::builtin_runs::{run_input_id, run_net_id, run_net_setup_link, run_path_id, run_usb_id};
 use crate::lookups::{look_up, look_up_request};
 use crate::printed::set_printed;
 use builtin_devices::Knowledge;

@@ -2,7 +2,7 @@
 //! reported for one when all have run.
 use device_core::{BlockFaultKind, Event, ProgramAnswer, SplitFault, Splitter, Taken, read_block};
 use eval_rules::{Command, Commands};
-use eval_state::{Note, NoteKind, Notes, State};
+use eval_state::{Label, Labels, Note, NoteKind, Notes, State};
 use rule_core::RunType;
 use std::alloc::{AllocError, Global};
 use std::test::Fail;
@@ -295,9 +295,28 @@ fn commands_are_given(alloc: Global) -> Result<bool, AllocError> {
     })
 }
 
+/// A label of a module.
+fn label(alloc: Global, name: &[u8], text: &[u8]) -> Result<Label, AllocError> {
+    let name = Bytes::copy_of(alloc, name)?;
+    Ok(Label::new(name, Bytes::copy_of(alloc, text)?))
+}
+
+/// Whether labels are made from a list, and give it back with one more.
+fn labels_are_given(alloc: Global) -> Result<bool, AllocError> {
+    let held = vec![in alloc; label(alloc, b"b", b"1")?, label(alloc, b"a", b"2")?]?;
+    let mut labels = Labels::from_vec(held);
+    labels.put(alloc, b"b", Bytes::copy_of(alloc, b"3")?)?;
+    let held = labels.into_vec();
+    Ok(match held.as_slice() {
+        [first, second] => { first.text() == b"3".as_slice() && second.name() == b"a".as_slice() }
+        _ => false,
+    })
+}
+
 #[test]
-fn notes_and_commands_are_given_and_taken(rt: HostRuntime) -> Result<(), Fail> {
+fn notes_commands_and_labels_are_given_and_taken(rt: HostRuntime) -> Result<(), Fail> {
     assert!(rt; notes_are_given(rt.alloc())?);
     assert!(rt; commands_are_given(rt.alloc())?);
+    assert!(rt; labels_are_given(rt.alloc())?);
     Ok(())
 }

@@ -90,7 +90,10 @@ const WRONG_PATH: SessionFault = SessionFault::Block(
 );
 
 /// Whether three blocks in one piece are answered in three calls, and nothing is left for the end.
-fn each_block_is_answered(alloc: Global, tables: &Tables<Builtins<'_, PlainDb>>) -> Result<bool, Fail> {
+fn each_block_is_answered(
+    alloc: Global,
+    tables: &Tables<Builtins<'_, PlainDb>>,
+) -> Result<bool, Fail> {
     let mut session = Session::new(alloc, tables)?;
     let (_, following) = THREE_BLOCKS.split_at(58);
     let (_, last) = THREE_BLOCKS.split_at(116);

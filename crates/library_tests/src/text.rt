@@ -5,7 +5,7 @@ use std::borrow::CowSlice;
 use std::test::Fail;
 use text_bytes::{Bytes, capped};
 use text_core::{Choice, GlobFault, Item, PackedPattern, Pattern};
-use text_tables::{CowPairs, OwnedTexts, Pairs, Table, Texts};
+use text_tables::{CowPairs, OwnedTexts, Pairs, SortedPairs, Table, Texts};
 
 /// The pattern of a device by its name.
 const TRACKBALL: &[u8] = b"mouse:*:name:*[tT]rack[bB]all*:*";
@@ -198,6 +198,18 @@ fn cow_pairs_are_given(alloc: Global) -> Result<bool, AllocError> {
     )
 }
 
+/// Whether sorted names lend the table that they are made from, and give it back as it was.
+fn sorted_pairs_are_given(alloc: Global) -> Result<bool, AllocError> {
+    let mut pairs = CowPairs::new(alloc);
+    for (name, value) in [(b"b".as_slice(), b"1".as_slice()), (b"a", b"2")] {
+        pairs.set(alloc, name, value)?;
+    }
+    let sorted = SortedPairs::new(alloc, pairs)?;
+    let is_lent = is_value(sorted.as_pairs().get(b"b"), b"1");
+    let table = sorted.into_pairs();
+    Ok(is_lent && table.as_map().get_index_of(b"b".as_slice()) == Some(0) && table.len() == 2)
+}
+
 #[test]
 fn tables_are_given_and_taken(rt: HostRuntime) -> Result<(), Fail> {
     let alloc = rt.alloc();
@@ -208,5 +220,6 @@ fn tables_are_given_and_taken(rt: HostRuntime) -> Result<(), Fail> {
     assert!(rt; values_are_given(alloc)?);
     assert!(rt; owned_texts_are_given(alloc)?);
     assert!(rt; cow_pairs_are_given(alloc)?);
+    assert!(rt; sorted_pairs_are_given(alloc)?);
     Ok(())
 }

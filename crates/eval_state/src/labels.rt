@@ -1,5 +1,5 @@
 //! Labels of security modules, in the order in which they are set.
-ghost use Rattle.std.specs.Prelude.{◌≡◌, ◌<◌, ◌++◌, ◌∷◌, [], length, position, IfSome, OnOk, OnErr};
+ghost use Rattle.std.specs.Prelude.{◌≡◌, ◌<◌, ◌++◌, ◌∷◌, [], length, position, IfOk, IfSome, OnOk, OnErr};
 ghost use Rattle.text_tables.specs.Pairs.{with_value};
 ghost use Rattle.text_tables.specs.Texts.{same_text};
 
@@ -28,6 +28,13 @@ impl Label {
         ensures { result ≡ (name, text) }
     {
         Label { name, text }
+    }
+
+    /// A label of a module, with a copy of its name.
+    fn named(alloc: Global, name: &[u8], text: Bytes) -> Result<Label, AllocError>
+        ensures { IfOk result (λ label. label ≡ (name.now, text)) }
+    {
+        Ok(Label::new(Bytes::copy_of(alloc, name)?, text))
     }
 
     /// Returns the name of the module.
@@ -87,7 +94,7 @@ impl Labels {
 
     /// Returns the list.
     pub fn into_vec(self) -> Vec<Label>
-        ensures { result.items ≡ self.entry }
+        ensures { result.items ≡ self }
     {
         self.held
     }
@@ -112,7 +119,7 @@ impl Labels {
         ensures labels { OnOk result (self.new ≡ self.old ++ (name.now, text) ∷ []) }
         ensures refused { OnErr result (self.new ≡ self.old) }
     {
-        let label = Label::new(Bytes::copy_of(alloc, name)?, text);
+        let label = Label::named(alloc, name, text)?;
         self.held.push(label)?;
         Ok(())
     }
@@ -124,7 +131,7 @@ impl Labels {
         ensures labels { OnOk result (self.new ≡ with_value self.old name.now text) }
         ensures refused { OnErr result (self.new ≡ self.old) }
     {
-        let label = Label::new(Bytes::copy_of(alloc, name)?, text);
+        let label = Label::named(alloc, name, text)?;
         match place_of(&self.held, name) {
             Some(place) => self.held[place] = label,
             None => self.held.push(label)?,

@@ -2,7 +2,7 @@
 ghost use Rattle.std.specs.Prelude.{◌≡◌, map, option_map};
 ghost use Rattle.rule_value_lints.specs.Texts.{begins_with_one, has_name, has_one, is_named};
 
-use rule_core::Token;
+use rule_tokens::Token;
 use rule_lints::is_among;
 
 /// Whether a text begins with one of these.

@@ -64,7 +64,6 @@ returns-in-ListReplaced-clause-advice c = rw c.in-ListReplaced.is refl
 pub returns-in-MeantAsMatch-clause-advice : goal.returns-in-MeantAsMatch-clause-advice
 returns-in-MeantAsMatch-clause-advice c = rw c.in-MeantAsMatch.is refl
 
-
 pub returns-in-NameTooLong-clause-advice : goal.returns-in-NameTooLong-clause-advice
 returns-in-NameTooLong-clause-advice c = rw c.in-NameTooLong.is refl
 

@@ -7,8 +7,8 @@ ghost use Rattle.rule_value_lints.specs.Near.{common, differs_at_start, first_ne
 ghost use Rattle.rule_value_lints.specs.Near.{known_property, near_one};
 
 use crate::tables::{ATTRIBUTE_NAMES, PROPERTY_NAMES, USB_NAMES};
-use rule_tokens::Token;
 use rule_lints::is_among;
+use rule_tokens::Token;
 use text_bytes::begins_with;
 
 /// The least length of a name that others may be one byte off.

@@ -4,8 +4,8 @@ ghost use Rattle.rule_value_lints.specs.Values.{is_blank_beside_bar, is_compared
 
 use crate::tables::{DOUBLED_SIGNS, MISTAKEN_SUBSTITUTIONS, SUBSTITUTIONS};
 use crate::texts::has_one;
-use rule_tokens::Token;
 use rule_lints::{comparison_of, has_byte};
+use rule_tokens::Token;
 use rule_types::Part;
 use text_bytes::{begins_with, ends_in};
 

@@ -44,6 +44,21 @@ def as_udev(rules, block=DEVICE):
     return ["events", "--udev", "-r", "none", "r.rules"], {"r.rules": rules}, block
 
 
+def named_by(files, count):
+    """As many interfaces that get their names by .link files."""
+    own = "".join(f"{line}\n" for line in ("U: net", "E: INTERFACE=eth0", "E: IFINDEX=2", "A: flags=0x1002"))
+    words = ["events", "--udev", "-r", "root", "r.rules"]
+    placed = {f"root/etc/systemd/network/{name}": text for name, text in files.items()}
+    return words, {"r.rules": 'IMPORT{builtin}="net_setup_link"\n', **placed}, f"C: add\nP: /a\n{own}\n" * count
+
+
+def interfaces(count):
+    """.link files that are for no interface, each with a drop-in, and 10 interfaces."""
+    match = "[Match]\nOriginalName=none\n"
+    drop_ins = {f"{number:05}.link.d/a.conf": "[Link]\nName=a\n" for number in range(count)}
+    return named_by({f"{number:05}.link": match for number in range(count)} | drop_ins, 10)
+
+
 def verify(rules):
     return ["verify", "r.rules"], {"r.rules": rules}, ""
 
@@ -157,6 +172,9 @@ UDEV = [
          lambda n: as_udev(each('SYMLINK+="l#"\n', 100) + f'ATTRS{{{"%L" * 8_000}}}=="x", TAG+="t"\n' * n, chain("", "D: 8:0\n"))),
     Case("devices that are described by their paths, and components of a path", 160,
          lambda n: as_udev('IMPORT{builtin}="net_id"\n' * 20, interface_of(n))),
+    # each file has its drop-ins among all
+    Case(".link files with a drop-in each, and interfaces that none is for", 300, interfaces, 150),
+    Case("lines of a .link file", 20_000, lambda n: named_by({"a.link": "[Match]\n" + each("OriginalName=x#\n", n) + "[Link]\nName=a\n"}, 3)),
     # as with links, all properties after one that is removed are moved up
     Case("properties that are imported and removed", 300, lambda n: as_udev('IMPORT{program}="/p"\n' * 100, printing(n)), 150),
 ]

@@ -150,6 +150,30 @@ why w.rules:4: IMPORT{builtin}=="hwdb --subsystem=usb": holds, hwdb --subsystem=
 why w.rules:4: reached its end: OWNER is final since w.rules:2, env B=b set
 """
 
+# a .link file that names the interface of a block, with a drop-in, and one with a line that is not understood
+NETWORK = "etc/systemd/network"
+LINK_FILES = {
+    "i.rules": 'IMPORT{builtin}="net_setup_link", NAME="$env{ID_NET_NAME}"\n',
+    f"{NETWORK}/10-bad.link": "[Match]\nOriginalName=*\n[Link\n",
+    f"{NETWORK}/20-eth.link": "[Match]\nOriginalName=eth*\n[Link]\nName=lan0\n",
+    f"{NETWORK}/20-eth.link.d/a.conf": "[Link]\nName=lan1\n",
+}
+INTERFACE = "C: add\nP: /a/eth0\nU: net\nE: INTERFACE=eth0\nE: IFINDEX=2\nA: flags=0x1002\n"
+INTERFACE_MESSAGE = f"devdry: ./{NETWORK}/10-bad.link: not used: a line of it or of a drop-in is not understood\n"
+INTERFACE_ANSWER = f"""\
+event add /a/eth0
+name lan1
+env ACTION=add
+env DEVPATH=/a/eth0
+env ID_NET_LINK_FILE=/{NETWORK}/20-eth.link
+env ID_NET_LINK_FILE_DROPINS=/{NETWORK}/20-eth.link.d/a.conf
+env ID_NET_NAME=lan1
+env IFINDEX=2
+env INTERFACE=eth0
+env SUBSYSTEM=net
+
+"""
+
 FAULTY_RULES = """\
 KERNEL=="a" FOO="b"
 SUBSYSTEM=="x",ACTION-="y"
@@ -266,7 +290,7 @@ class Row:
         self.name, self.words, self.files = name, words, dict(files)
         self.events, self.output, self.messages, self.line = map(as_bytes, (events, output, messages, line))
         self.status, self.each_byte = status, each_byte
-        self.goes_on = words[0] == "files" or "--all" in words
+        self.goes_on = words[0] == "files" or bool({"--all", "--udev"} & set(words))
 
 
 ROWS = [
@@ -316,6 +340,8 @@ ROWS = [
     Row(
         "--questions", ["events", "-r", ".", "--questions", "w.rules"], REPORTED_FILES, REPORTED.replace("Q: /bin/id sda\nR: 0 ab cd\n", "") + "\n" + REPORTED,
         "event add /a/sda\nQ: /bin/id sda\n\nevent add /a/sda\n\n", REPORTED_MESSAGE),
+    Row(
+        "names by .link files", ["events", "--udev", "-r", ".", "i.rules"], LINK_FILES, INTERFACE, INTERFACE_ANSWER, INTERFACE_MESSAGE),
     Row(
         "--why with a line that has no rule", ["events", "-r", ".", "--why", "w.rules:9", "w.rules"], REPORTED_FILES, REPORTED, "", REPORTED_MESSAGE,
         "devdry: --why w.rules:9: no such rule, the nearest is w.rules:5\n", 2),

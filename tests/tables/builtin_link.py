@@ -19,7 +19,7 @@ NOT_UNDERSTOOD = {name: "etc" for name in (
 def unsound(name):
     """What is reported about the file of a case."""
     top = NOT_UNDERSTOOD.get(name)
-    return f"devdry: /{top}/systemd/network/10-a.link: not used: a line of it or of a drop-in is not understood\n" if top else ""
+    return f"devdry: r/{top}/systemd/network/10-a.link: not used: a line of it or of a drop-in is not understood\n" if top else ""
 
 
 def placed(name):

@@ -1,5 +1,6 @@
 -- The .link files for a request, as they come from the disk.
-use Rattle.std.specs.Prelude.{◌≡◌, ◌&&◌, ℕ, Bool, true, false, List}
+use Rattle.std.specs.Prelude.{◌≡◌, ◌&&◌, ℕ, ⊥, Bool, true, false, List, [], MatchBool}
+use Rattle.text_bytes.specs.Texts.{is_empty}
 use Rattle.text_bytes.specs.declared.profile.Profile.{Profile}
 use Rattle.text_bytes.specs.declared.profile.Profile.TheVariants.{Manual, Udev}
 use Rattle.engine_ends.specs.declared.line.Line.{Line}
@@ -10,7 +11,10 @@ use Rattle.engine_ends.specs.declared.line.Verb.TheVariants.{Events}
 use Rattle.engine_ends.specs.Streams.{Streams}
 use Rattle.devdry_files.specs.Answers.{Answer}
 use Rattle.devdry_files.specs.Inside.{MayInside}
-use Rattle.devdry_links.specs.Read.{AreLinksRead}
+use Rattle.devdry_folders.specs.declared.reading.Report.{Report}
+use Rattle.devdry_links.specs.Reading.{AreLinksRead}
+use Rattle.devdry_links.specs.declared.reading.LinksRead.{LinksRead}
+use Rattle.devdry.specs.Comparing.{AreReported}
 use Rattle.devdry.specs.PartialRuns.{RunsAfter}
 
 -- the verb is that of `events`
@@ -23,28 +27,43 @@ abbrev pub is_udev : Profile → Bool
 is_udev Manual = false
 is_udev Udev = true
 
--- whether a line names interfaces by .link files
+-- whether a line names interfaces by .link files: `events` and `compare` do as udev does
 abbrev pub names_links : Line → Bool
 names_links line = is_events line.verb && is_udev line.profile
 
--- the files of a line that names interfaces by them are those of its root; any other line stays as it is
-abbrev pub LinksOf : Bool → (Answer → Type 0) → (named line : Line) → Type 0
-LinksOf true may named line = AreLinksRead (MayInside may named.root.now) named.root.now line.links.items
-LinksOf false may named line = line ≡ named
+-- The .link files inside the line's root were read. The line has those that count, and what is reported is about the others.
+pub record HasLinks (may : Answer → Type 0) (named line : Line) (report : Report) : Type 0 where
+  pub read : LinksRead
+  pub is_read : AreLinksRead (MayInside may named.root.now) named.root.now read
+  pub links : line ≡ record named { links = read.links }
+  pub reported : report ≡ read.report
 
--- the same line, with these files
-pub record ReadsLinks (may : Answer → Type 0) (named line : Line) : Type 0 where
-  pub links : LinksOf (names_links named) may named line
-  pub rest : line ≡ record named { links = line.links }
+-- The line stays as it is, and nothing is reported.
+pub record Stays (named line : Line) (report : Report) : Type 0 where
+  pub same : line ≡ named
+  pub lines : report.lines.items ≡ []
+  pub least : report.least ≡ 0
 
--- the same request, with the files of its lines; `files` names no interface
-abbrev pub ReadsRequest : (Answer → Type 0) → Request → Request → Type 0
-ReadsRequest may (Run named) (Run line) = ReadsLinks may named line
-ReadsRequest may (Files named) (Files line) = line ≡ named
-ReadsRequest may (Compare old_named new_named) (Compare old new) = ReadsLinks may old_named old × ReadsLinks may new_named new
-ReadsRequest may named request = ⊥
+-- a line that names interfaces by .link files gets those of its root, and any other stays as it is
+abbrev pub ReadsLinks : (Answer → Type 0) → (named line : Line) → Report → Type 0
+ReadsLinks may named line report = MatchBool (names_links named) (HasLinks may named line report) (Stays named line report)
 
--- what is reported is written first, and the run follows; unless there is nothing to report
-abbrev pub RunsReported : (is_silent : Bool) → List ℕ → (ℕ → Streams → Streams → Type 0) → ℕ → Streams → Streams → Type 0
-RunsReported true reported Own status before now = Own status before now
-RunsReported false reported Own status before now = RunsAfter reported 0 Own status before now
+-- Both lines of `compare` get theirs; what is reported is about the old one's first.
+pub record ReadsBoth (may : Answer → Type 0) (old_named new_named old new : Line) (report : Report) : Type 0 where
+  pub on_old : Report
+  pub on_new : Report
+  pub reads_old : ReadsLinks may old_named old on_old
+  pub reads_new : ReadsLinks may new_named new on_new
+  pub both : AreReported on_old on_new report
+
+-- the same request, with the .link files of its lines; `files` names no interface
+abbrev pub ReadsRequest : (Answer → Type 0) → Request → Request → Report → Type 0
+ReadsRequest may (Run named) (Run line) report = ReadsLinks may named line report
+ReadsRequest may (Files named) (Files line) report = Stays named line report
+ReadsRequest may (Compare old_named new_named) (Compare old new) report = ReadsBoth may old_named new_named old new report
+ReadsRequest may named request report = ⊥
+
+-- a run after what is reported, or the run alone if that is nothing
+abbrev pub RunsReported : Report → (ℕ → Streams → Streams → Type 0) → ℕ → Streams → Streams → Type 0
+RunsReported report Own status before now =
+    MatchBool (is_empty report.lines.items) (Own status before now) (RunsAfter report.lines.items report.least Own status before now)

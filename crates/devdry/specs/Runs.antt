@@ -9,13 +9,13 @@ use Rattle.engine_ends.specs.declared.line.Request.TheVariants.{Run, Files, Comp
 use Rattle.engine_ends.specs.Streams.{Streams, outputs}
 use Rattle.engine_core.specs.Runs.{RunsOver}
 use Rattle.devdry_files.specs.Answers.{Answer}
+use Rattle.devdry_folders.specs.declared.reading.Report.{Report}
 use Rattle.devdry_words.specs.Commands.{devdry}
 use Rattle.devdry_words.specs.Answers.{AnswersWords}
 use Rattle.devdry_words.specs.Requests.{IsRequestOf}
 use Rattle.devdry.specs.Comparing.{ComparesLines}
 use Rattle.devdry.specs.Linking.{ReadsRequest, RunsReported, is_events}
 use Rattle.devdry.specs.PartialRuns.{IsRefusedToRead, ListsFiles, RunsAfter, RunsSome}
-use Rattle.text_bytes.specs.Texts.{is_empty}
 use Rattle.devdry.specs.Knowing.{IsFaultOfAccounts, KnowsAccounts}
 use Rattle.devdry.specs.Reading.{AreReadFor, FailsAt, IsFaultOf}
 use Rattle.devdry.specs.Reporting.{ReportsLineFault}
@@ -67,9 +67,9 @@ DoesAfter false may request status before now = DoesRequest may request status b
 -- The .link files for a request were read, what is reported about them was written, and the request is run with them.
 pub record RunsOverLinks (from_terminal : Bool) (may : Answer → Type 0) (named : Request) (status : ℕ) (before now : Streams) : Type 0 where
   pub request : Request
-  pub reported : List ℕ
-  pub reads : ReadsRequest may named request
-  pub runs : RunsReported (is_empty reported) reported (DoesAfter (from_terminal && takes_blocks request) may request) status before now
+  pub report : Report
+  pub reads : ReadsRequest may named request report
+  pub runs : RunsReported report (DoesAfter (from_terminal && takes_blocks request) may request) status before now
 
 -- what a request does with .link files, given whether the input is a terminal
 abbrev pub RunsLinking : Bool → (Answer → Type 0) → Request → ℕ → Streams → Streams → Type 0

@@ -144,7 +144,7 @@ fn read_both<D: Disk>(
 }
 
 /// Two reports, one after the other, as one.
-fn joined(mut one: Report, mut other: Report) -> Result<Report, AllocError>
+pub(crate) fn joined(mut one: Report, mut other: Report) -> Result<Report, AllocError>
     ensures { IfOk result (AreReported one other) }
 {
     one.lines.append(&mut other.lines)?;

@@ -1,17 +1,18 @@
 //! Runs that name network interfaces by `.link` files.
-ghost use Rattle.std.specs.Prelude.{◌≡◌, ◌&&◌, IfOk};
-ghost use Rattle.text_bytes.specs.Texts.{is_empty};
-ghost use Rattle.devdry.specs.Linking.{ReadsLinks, ReadsRequest, RunsReported, names_links};
+ghost use Rattle.std.specs.Prelude.{◌≡◌, ◌&&◌, [], IfOk};
+ghost use Rattle.devdry.specs.Linking.{HasLinks, ReadsBoth, ReadsLinks, ReadsRequest, RunsReported, names_links};
 ghost use Rattle.devdry.specs.Runs.{DoesAfter, RunsLinking, takes_blocks};
 
+use crate::comparing::joined;
 use crate::running::run_request;
 use devdry_files::Disk;
+use devdry_folders::Report;
 use devdry_links::read_link_files;
 use engine_ends::{DeviceFault, Line, Request, Sink, Source, Verb, hand_on, report_out_of_memory};
 use std::alloc::{AllocError, Global};
 use text_bytes::Profile;
 
-/// Reads the `.link` files for a request, writes what can't be read of them on `error`, and runs the request by the rest.
+/// Reads the `.link` files for a request, reports what can't be read of them, and runs the request by the rest.
 pub(crate) fn run_linking<D: Disk, I: Source, W: Sink, E: Sink>(
     alloc: Global,
     disk: &D,
@@ -26,53 +27,86 @@ pub(crate) fn run_linking<D: Disk, I: Source, W: Sink, E: Sink>(
         (record { input = I.shown input.new; out = W.shown output.new; err = E.shown error.new }) }
 {
     match read_links(alloc, disk, &mut request) {
-        Ok(reported) => run_reported(
-            alloc, disk, &reported, &request, from_terminal, input, output, error,
+        Ok(report) => run_reported(
+            alloc,
+            disk,
+            &report,
+            &request,
+            from_terminal,
+            input,
+            output,
+            error,
         ),
         Err(_) => report_out_of_memory(error),
     }
 }
 
-/// Writes what is reported, if it is anything, and runs a request.
+/// Writes what is reported, if it is anything, and runs a request. The status is at least the one that the report asks for.
 fn run_reported<D: Disk, I: Source, W: Sink, E: Sink>(
     alloc: Global,
     disk: &D,
-    reported: &[u8],
+    report: &Report,
     request: &Request<'_>,
     from_terminal: bool,
     input: &mut I,
     output: &mut W,
     error: &mut E,
 ) -> u8
-    ensures { RunsReported (is_empty reported.now) reported.now (DoesAfter (from_terminal && takes_blocks request.now) (D.may_answer disk.now) request.now) result
+    ensures { RunsReported report.now (DoesAfter (from_terminal && takes_blocks request.now) (D.may_answer disk.now) request.now) result
         (record { input = I.shown input.old; out = W.shown output.old; err = E.shown error.old })
         (record { input = I.shown input.new; out = W.shown output.new; err = E.shown error.new }) }
 {
-    if reported.is_empty() {
-        return run_request(alloc, disk, request, from_terminal, input, output, error);
-    }
-    match hand_on(error, reported) {
-        Ok(()) => run_request(alloc, disk, request, from_terminal, input, output, error),
-        Err(DeviceFault) => 3,
+    let lines = report.lines.as_slice();
+    if lines.is_empty() {
+        run_request(alloc, disk, request, from_terminal, input, output, error)
+    } else {
+        match hand_on(error, lines) {
+            Ok(()) => {
+                let own = run_request(alloc, disk, request, from_terminal, input, output, error);
+                own.max(report.least)
+            }
+            Err(DeviceFault) => 3,
+        }
     }
 }
 
-/// Reads the `.link` files for the lines of a request, and returns what is reported about them.
+/// Reads the `.link` files for the lines of a request.
 fn read_links<D: Disk>(
     alloc: Global,
     disk: &D,
     request: &mut Request<'_>,
-) -> Result<Vec<u8>, AllocError>
-    ensures { IfOk result (λ _. ReadsRequest (D.may_answer disk.now) request.old request.new) }
+) -> Result<Report, AllocError>
+    ensures { IfOk result (ReadsRequest (D.may_answer disk.now) request.old request.new) }
 {
     match request {
         Request::Run(line) => read_line_links(alloc, disk, line),
-        Request::Files(_) => Ok(Vec::new(alloc)),
-        Request::Compare(old, new) => {
-            let mut reported = read_line_links(alloc, disk, old)?;
-            reported.append(&mut read_line_links(alloc, disk, new)?)?;
-            Ok(reported)
-        }
+        Request::Files(_) => Ok(nothing(alloc)),
+        Request::Compare(old, new) => read_both_links(alloc, disk, old, new),
+    }
+}
+
+/// Reads the `.link` files for both lines of `compare`.
+fn read_both_links<D: Disk>(
+    alloc: Global,
+    disk: &D,
+    old: &mut Line<'_>,
+    new: &mut Line<'_>,
+) -> Result<Report, AllocError>
+    ensures { IfOk result (ReadsBoth (D.may_answer disk.now) old.old new.old old.new new.new) }
+{
+    let on_old = read_line_links(alloc, disk, old)?;
+    let on_new = read_line_links(alloc, disk, new)?;
+    joined(on_old, on_new)
+}
+
+/// A report of nothing.
+fn nothing(alloc: Global) -> Report
+    ensures lines { result.lines.items ≡ [] }
+    ensures least { result.least ≡ 0 }
+{
+    Report {
+        lines: Vec::new(alloc),
+        least: 0,
     }
 }
 
@@ -88,13 +122,21 @@ fn read_line_links<D: Disk>(
     alloc: Global,
     disk: &D,
     line: &mut Line<'_>,
-) -> Result<Vec<u8>, AllocError>
-    ensures { IfOk result (λ _. ReadsLinks (D.may_answer disk.now) line.old line.new) }
+) -> Result<Report, AllocError>
+    ensures { IfOk result (ReadsLinks (D.may_answer disk.now) line.old line.new) }
 {
-    if !names_links(line) {
-        return Ok(Vec::new(alloc));
+    if names_links(line) {
+        take_links(alloc, disk, line)
+    } else {
+        Ok(nothing(alloc))
     }
+}
+
+/// Reads the `.link` files for a line that names interfaces by them.
+fn take_links<D: Disk>(alloc: Global, disk: &D, line: &mut Line<'_>) -> Result<Report, AllocError>
+    ensures { IfOk result (HasLinks (D.may_answer disk.now) line.old line.new) }
+{
     let read = read_link_files(alloc, disk, line.root)?;
     line.links = read.links;
-    Ok(read.reported)
+    Ok(read.report)
 }

@@ -10,6 +10,7 @@ use Rattle.devdry_folders.specs.Reasons.{reason_text}
 use Rattle.devdry_folders.specs.declared.reasons.Reason.{Reason}
 use Rattle.devdry_folders.specs.declared.sights.Met.{Met}
 use Rattle.devdry_folders.specs.declared.sights.Met.TheVariants as met
+use Rattle.devdry_folders.specs.declared.sights.Scan.{Scan}
 use Rattle.devdry_folders.specs.declared.sights.Sight.{Sight}
 use Rattle.devdry_folders.specs.declared.sights.Spot.{Spot}
 use Rattle.devdry_folders.specs.declared.sights.Spot.TheVariants as spot
@@ -29,9 +30,13 @@ abbrev pub line_on_spot : List ℕ → Spot → List ℕ
 line_on_spot path (spot.Unread reason) = unread_line path reason
 line_on_spot path _ = []
 
--- the lines on a visit: on the folder, and on what is in it
+-- the lines on what was met at the path of a folder: on the folder, and on what is in it
+abbrev pub lines_on_scan : List ℕ → Scan → List ℕ
+lines_on_scan path scan = line_on_spot path scan.spot ++ flat_map (λ s. line_on_met s.path s.met) scan.sights.items
+
+-- the lines on a visit
 abbrev pub lines_on_visit : Visit → List ℕ
-lines_on_visit v = line_on_spot v.path v.scan.spot ++ flat_map (λ s. line_on_met s.path s.met) v.scan.sights.items
+lines_on_visit v = lines_on_scan v.path v.scan
 
 -- the lines on all that can't be read, in the order of the visits
 abbrev pub unread_lines : List Visit → List ℕ

@@ -39,32 +39,31 @@ pub record AreAllNames (may : Answer → Type 0) (folder : List ℕ) (names : Li
   pub once : IsPermutation (map (λ e. e.name) entries) names
   pub rise : IsSorted string_cmp names
 
--- what is met at a name in a folder of files of a kind: a name that does not end like those of the kind is not looked
--- at
-pub record IsSightIn (may : Answer → Type 0) (kind : FileKind) (folder : List ℕ) (s : Sight) : Type 0 where
+-- what is met at a name in a folder of files whose names end in a suffix: a name that does not is not looked at
+pub record IsSightIn (may : Answer → Type 0) (suffix folder : List ℕ) (s : Sight) : Type 0 where
   pub path_is : s.path ≡ below folder s.name
-  pub of_kind : ends_with nat_eq s.name (suffix_of kind) ≡ true → IsMet may s.path s.met
-  pub of_none : ends_with nat_eq s.name (suffix_of kind) ≡ false → s.met ≡ met.OtherName
+  pub of_kind : ends_with nat_eq s.name suffix ≡ true → IsMet may s.path s.met
+  pub of_none : ends_with nat_eq s.name suffix ≡ false → s.met ≡ met.OtherName
 
--- what is met at these names in a folder of files of a kind, in their order
-pub record AreSightsAt (may : Answer → Type 0) (kind : FileKind) (folder : List ℕ) (names : List (List ℕ)) (sights : List Sight) : Type 0 where
+-- what is met at these names in a folder of files with a suffix, in their order
+pub record AreSightsAt (may : Answer → Type 0) (suffix folder : List ℕ) (names : List (List ℕ)) (sights : List Sight) : Type 0 where
   pub named_so : map (λ s. s.name) sights ≡ names
-  pub each : All (IsSightIn may kind folder) sights
+  pub each : All (IsSightIn may suffix folder) sights
 
--- what is met in a folder of files of a kind: one sight for each name, in their order
-pub record AreSightsIn (may : Answer → Type 0) (kind : FileKind) (folder : List ℕ) (sights : List Sight) : Type 0 where
+-- what is met in a folder of files with a suffix: one sight for each name, in their order
+pub record AreSightsIn (may : Answer → Type 0) (suffix folder : List ℕ) (sights : List Sight) : Type 0 where
   pub names : List (String Global)
   pub are_names : AreAllNames may folder names
-  pub are_sights : AreSightsAt may kind folder (map string_bytes names) sights
+  pub are_sights : AreSightsAt may suffix folder (map string_bytes names) sights
 
 -- the outcome of listing the folder at a path: its sights, or that it is gone, can't be listed, or has a name that is
 -- not UTF-8
-abbrev pub IsListedSo : (Answer → Type 0) → FileKind → List ℕ → Spot → List Sight → Type 0
-IsListedSo may kind path spot.Folder sights = AreSightsIn may kind path sights
-IsListedSo may kind path spot.Absent sights = may (NoListing path disk.Absent) × (sights ≡ [])
-IsListedSo may kind path (spot.Unread reasons.Failed) sights = may (NoListing path disk.Unreadable) × (sights ≡ [])
-IsListedSo may kind path (spot.Unread reasons.NotUtf8) sights = may (NoListing path disk.NotUtf8) × (sights ≡ [])
-IsListedSo may kind path _ sights = ⊥
+abbrev pub IsListedSo : (Answer → Type 0) → (suffix path : List ℕ) → Spot → List Sight → Type 0
+IsListedSo may suffix path spot.Folder sights = AreSightsIn may suffix path sights
+IsListedSo may suffix path spot.Absent sights = may (NoListing path disk.Absent) × (sights ≡ [])
+IsListedSo may suffix path (spot.Unread reasons.Failed) sights = may (NoListing path disk.Unreadable) × (sights ≡ [])
+IsListedSo may suffix path (spot.Unread reasons.NotUtf8) sights = may (NoListing path disk.NotUtf8) × (sights ≡ [])
+IsListedSo may suffix path _ sights = ⊥
 
 -- what it means that nothing is at a folder's path, by the symlink there, if there is one: no folder, or a folder
 -- that can't be read
@@ -81,20 +80,24 @@ abbrev pub IsMissingFolder : (Answer → Type 0) → List ℕ → Scan → Type 
 IsMissingFolder may path scan = (shown : Step) × may (Stepped path shown) × IsUnlisted (missing_folder (target_of shown)) scan
 
 -- the outcome for a folder that is wanted, by a look
-abbrev pub IsScannedBy : (Answer → Type 0) → FileKind → List ℕ → Look → Scan → Type 0
-IsScannedBy may kind path looks.Absent scan = IsMissingFolder may path scan
-IsScannedBy may kind path looks.Folder scan = IsListedSo may kind path scan.spot scan.sights.items
-IsScannedBy may kind path looks.File scan = IsUnlisted (spot.Unread reasons.NotFolder) scan
-IsScannedBy may kind path looks.Forbidden scan = IsUnlisted (spot.Unread reasons.Forbidden) scan
-IsScannedBy may kind path looks.Other scan = IsUnlisted (spot.Unread reasons.NotFolder) scan
-IsScannedBy may kind path looks.Failed scan = IsUnlisted (spot.Unread reasons.Failed) scan
+abbrev pub IsScannedBy : (Answer → Type 0) → (suffix path : List ℕ) → Look → Scan → Type 0
+IsScannedBy may suffix path looks.Absent scan = IsMissingFolder may path scan
+IsScannedBy may suffix path looks.Folder scan = IsListedSo may suffix path scan.spot scan.sights.items
+IsScannedBy may suffix path looks.File scan = IsUnlisted (spot.Unread reasons.NotFolder) scan
+IsScannedBy may suffix path looks.Forbidden scan = IsUnlisted (spot.Unread reasons.Forbidden) scan
+IsScannedBy may suffix path looks.Other scan = IsUnlisted (spot.Unread reasons.NotFolder) scan
+IsScannedBy may suffix path looks.Failed scan = IsUnlisted (spot.Unread reasons.Failed) scan
+
+-- the outcome for a folder that is wanted, with files of a suffix
+pub record IsFolderScan (may : Answer → Type 0) (suffix path : List ℕ) (scan : Scan) : Type 0 where
+  pub look : Look
+  pub looked : may (Looked path look)
+  pub scanned : IsScannedBy may suffix path look scan
 
 -- a visit of a folder that is wanted
 pub record IsFolderVisit (may : Answer → Type 0) (v : Visit) : Type 0 where
   pub unnamed : v.is_named ≡ false
-  pub look : Look
-  pub looked : may (Looked v.path look)
-  pub scanned : IsScannedBy may v.kind v.path look v.scan
+  pub scan : IsFolderScan may (suffix_of v.kind) v.path v.scan
 
 -- the outcome for a named file: what is met at its path
 pub record IsOneFile (may : Answer → Type 0) (path : List ℕ) (look : Look) (scan : Scan) : Type 0 where
@@ -105,7 +108,7 @@ pub record IsOneFile (may : Answer → Type 0) (path : List ℕ) (look : Look) (
 
 -- the outcome for what is named, by a look: a folder is listed
 abbrev pub IsNamedSo : (Answer → Type 0) → FileKind → List ℕ → Look → Scan → Type 0
-IsNamedSo may kind path looks.Folder scan = IsListedSo may kind path scan.spot scan.sights.items
+IsNamedSo may kind path looks.Folder scan = IsListedSo may (suffix_of kind) path scan.spot scan.sights.items
 IsNamedSo may kind path look scan = IsOneFile may path look scan
 
 -- a visit of what is named: a file, or a folder whose files of the kind are taken

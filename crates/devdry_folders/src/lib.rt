@@ -24,5 +24,10 @@ pub use laws::{
     the_file_that_counts_is_the_one_that_is_read, what_could_not_be_read_makes_the_status,
 };
 pub use reading::{
-    Listed, ReadSome, Report, list_files, read_files_that_can, read_what_can, report_on_files,
+    Listed, ReadSome, Report, least_status, list_files, read_files_that_can, read_what_can,
+    report_on_files,
 };
+pub use reasons::{Reason, push_escaped};
+pub use sights::{Met, Scan, Sight, Spot};
+pub use unread::push_on_scan;
+pub use visiting::scan_folder;

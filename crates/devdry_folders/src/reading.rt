@@ -74,8 +74,9 @@ fn files_survey_for<D: Disk>(alloc: Global, disk: &D, line: &Line<'_>) -> Result
     })
 }
 
-/// The least status of a run, by the lines on what can't be read and those on where no file was found.
-fn least_status(unread: &[u8], missing: &[u8]) -> u8
+/// The least status of a run, by the lines on what can't be read and those on where no file was found: 3 if something can't be
+/// read, else 1 if files are missing.
+pub fn least_status(unread: &[u8], missing: &[u8]) -> u8
     ensures status { result ≡ least_status unread.now missing.now }
     ensures least { result ≤ 3 }
 {

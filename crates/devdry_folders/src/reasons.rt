@@ -8,7 +8,7 @@ use text_bytes::{Bytes, escape};
 
 /// Why something can't be read.
 #[derive(Drop)]
-pub(crate) enum Reason {
+pub enum Reason {
     /// 1: nothing is there.
     Absent,
     /// 2: whoever runs the program may not read it.
@@ -26,7 +26,7 @@ pub(crate) enum Reason {
 }
 
 /// Appends a front and a word, with the word escaped.
-pub(crate) fn push_escaped(
+pub fn push_escaped(
     alloc: Global,
     text: &mut Vec<u8>,
     prefix: &[u8],

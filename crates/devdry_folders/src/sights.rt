@@ -5,7 +5,7 @@ use text_bytes::{Bytes, FileKind};
 
 /// What is met at a name in a folder, or at the path of a named file.
 #[derive(Drop)]
-pub(crate) enum Met {
+pub enum Met {
     /// A file, which was read: all its bytes.
     File(Bytes),
     /// Something whose name does not end like those of the kind; it is not looked at.
@@ -18,7 +18,7 @@ pub(crate) enum Met {
 
 /// A name, its path, and what is met there.
 #[derive(Drop)]
-pub(crate) struct Sight {
+pub struct Sight {
     /// The name without its folder; for a named file the path.
     pub name: Bytes,
     /// The path.
@@ -29,7 +29,7 @@ pub(crate) struct Sight {
 
 /// What is at the path of a folder that is wanted, or of a named file.
 #[derive(Drop)]
-pub(crate) enum Spot {
+pub enum Spot {
     /// Nothing, which is not a fault for a folder.
     Absent,
     /// A folder, which was listed.
@@ -42,7 +42,7 @@ pub(crate) enum Spot {
 
 /// What is at a path, and what is met in it.
 #[derive(Drop)]
-pub(crate) struct Scan {
+pub struct Scan {
     /// What is there.
     pub spot: Spot,
     /// What is met in a folder, sorted by name, or the file alone.

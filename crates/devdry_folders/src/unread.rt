@@ -1,9 +1,9 @@
 //! What is reported for what can't be read.
 ghost use Rattle.std.specs.Prelude.{◌≡◌, ◌++◌, IfOk, OnOk, flat_map};
-ghost use Rattle.devdry_folders.specs.Unread.{has_file, has_files, is_file, is_one_of, line_on_met, line_on_spot, lines_on_visit, unread_line, unread_lines};
+ghost use Rattle.devdry_folders.specs.Unread.{has_file, has_files, is_file, is_one_of, line_on_met, line_on_spot, lines_on_scan, unread_line, unread_lines};
 
 use crate::reasons::{Reason, push_escaped, push_reason};
-use crate::sights::{Met, Sight, Spot, Visit};
+use crate::sights::{Met, Scan, Sight, Spot, Visit};
 use engine_ends::same_kind;
 use std::alloc::{AllocError, Global};
 use text_bytes::FileKind;
@@ -54,25 +54,30 @@ fn push_on_spot(
     }
 }
 
-/// Adds the lines on a visit.
-fn push_on_visit(alloc: Global, lines: &mut Vec<u8>, visit: &Visit) -> Result<(), AllocError>
-    ensures { OnOk result (lines.new.items ≡ lines.old.items ++ lines_on_visit visit.now) }
+/// Adds the lines on what was met at the path of a folder, if it, or what is in it, can't be read:
+/// `devdry: cannot read PATH: REASON`, with the path escaped.
+pub fn push_on_scan(
+    alloc: Global,
+    lines: &mut Vec<u8>,
+    path: &[u8],
+    scan: &Scan,
+) -> Result<(), AllocError>
+    ensures { OnOk result (lines.new.items ≡ lines.old.items ++ lines_on_scan path.now scan.now) }
 {
-    push_on_spot(alloc, lines, visit.path.as_slice(), &visit.scan.spot)?;
-    for sight in &visit.scan.sights {
+    push_on_spot(alloc, lines, path, &scan.spot)?;
+    for sight in &scan.sights {
         push_on_met(alloc, lines, sight.path.as_slice(), &sight.met)?;
     }
     Ok(())
 }
 
-/// The lines on all that can't be read, in the order of the visits: `devdry: cannot read PATH: REASON`, with the
-/// path escaped.
+/// The lines on all that can't be read, in the order of the visits.
 pub(crate) fn unread_lines(alloc: Global, visits: &[Visit]) -> Result<Vec<u8>, AllocError>
     ensures { IfOk result (λ lines. lines.items ≡ unread_lines visits.now) }
 {
     let mut lines = Vec::new(alloc);
     for visit in visits {
-        push_on_visit(alloc, &mut lines, visit)?;
+        push_on_scan(alloc, &mut lines, visit.path.as_slice(), &visit.scan)?;
     }
     Ok(lines)
 }

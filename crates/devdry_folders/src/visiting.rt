@@ -2,11 +2,10 @@
 ghost use Rattle.std.specs.List.{ends_with};
 ghost use Rattle.std.specs.Prelude.{◌≡◌, IfOk, IsPermutation, IsSorted, false, map, nat_eq, string_bytes, true};
 ghost use Rattle.std.specs.String.{string_cmp};
-ghost use Rattle.text_bytes.specs.Kinds.{suffix_of};
 ghost use Rattle.devdry_files.specs.Answers.Answer.{Listing};
 ghost use Rattle.devdry_files.specs.Places.{place_of};
 ghost use Rattle.devdry_folders.specs.Meetings.{IsMet};
-ghost use Rattle.devdry_folders.specs.Visits.{AreFolderVisits, AreNamedVisits, AreSightsAt, AreSightsIn, AreVisits, IsFolderVisit, IsListedSo, IsMissingFolder, IsNamedSo};
+ghost use Rattle.devdry_folders.specs.Visits.{AreFolderVisits, AreNamedVisits, AreSightsAt, AreSightsIn, AreVisits, IsFolderScan, IsFolderVisit, IsListedSo, IsMissingFolder, IsNamedSo};
 ghost use Rattle.devdry_folders.specs.Visits.{IsNamedVisit, IsOneFile, IsScannedBy, IsSightIn, IsUnlisted, below, missing_folder, place_of_visit};
 
 use crate::meetings::{met_at, met_by, target_of};
@@ -38,39 +37,39 @@ fn names_of(alloc: Global, entries: Vec<Entry>) -> Result<Vec<String>, AllocErro
     Ok(names)
 }
 
-/// What is met at a name in a folder of files of a kind.
+/// What is met at a name in a folder of files with a suffix.
 fn met_in<D: Disk>(
     alloc: Global,
     disk: &D,
-    kind: FileKind,
+    suffix: &str,
     name: &str,
     path: &str,
 ) -> Result<Met, AllocError>
-    ensures of_kind { IfOk result (λ it. ends_with nat_eq name.now (suffix_of kind) ≡ true
+    ensures of_kind { IfOk result (λ it. ends_with nat_eq name.now suffix.now ≡ true
         → IsMet (D.may_answer disk.now) path.now it) }
-    ensures of_none { IfOk result (λ it. ends_with nat_eq name.now (suffix_of kind) ≡ false
+    ensures of_none { IfOk result (λ it. ends_with nat_eq name.now suffix.now ≡ false
         → it ≡ Met.OtherName) }
 {
-    if name.as_bytes().ends_with(kind.suffix().as_bytes()) {
+    if name.as_bytes().ends_with(suffix.as_bytes()) {
         met_at(alloc, disk, path)
     } else {
         Ok(Met::OtherName)
     }
 }
 
-/// The sight of a name in a folder of files of a kind.
+/// The sight of a name in a folder of files with a suffix.
 fn sight_in<D: Disk>(
     alloc: Global,
     disk: &D,
-    kind: FileKind,
+    suffix: &str,
     folder: &str,
     name: &str,
 ) -> Result<Sight, AllocError>
     ensures name { IfOk result (λ s. s.name ≡ name.now) }
-    ensures sight { IfOk result (IsSightIn (D.may_answer disk.now) kind folder.now) }
+    ensures sight { IfOk result (IsSightIn (D.may_answer disk.now) suffix.now folder.now) }
 {
     let path = path_below(alloc, folder, name)?;
-    let met = met_in(alloc, disk, kind, name, path.as_str())?;
+    let met = met_in(alloc, disk, suffix, name, path.as_str())?;
     Ok(Sight {
         name: Bytes::copy_of(alloc, name.as_bytes())?,
         path: Bytes::copy_of(alloc, path.as_bytes())?,
@@ -78,20 +77,20 @@ fn sight_in<D: Disk>(
     })
 }
 
-/// The sights of names in a folder of files of a kind, in their order.
+/// The sights of names in a folder of files with a suffix, in their order.
 fn sights_of_names<D: Disk>(
     alloc: Global,
     disk: &D,
-    kind: FileKind,
+    suffix: &str,
     folder: &str,
     names: &[String],
 ) -> Result<Vec<Sight>, AllocError>
-    ensures { IfOk result (λ sights. AreSightsAt (D.may_answer disk.now) kind folder.now
+    ensures { IfOk result (λ sights. AreSightsAt (D.may_answer disk.now) suffix.now folder.now
         (map string_bytes names.now) sights.items) }
 {
     let mut sights = Vec::new(alloc);
     for name in names {
-        sights.push(sight_in(alloc, disk, kind, folder, name.as_str())?)?;
+        sights.push(sight_in(alloc, disk, suffix, folder, name.as_str())?)?;
     }
     Ok(sights)
 }
@@ -100,16 +99,16 @@ fn sights_of_names<D: Disk>(
 fn sights_in<D: Disk>(
     alloc: Global,
     disk: &D,
-    kind: FileKind,
+    suffix: &str,
     folder: &str,
     entries: Vec<Entry>,
 ) -> Result<Vec<Sight>, AllocError>
     requires { D.may_answer disk.now (Listing folder.now entries.items) }
     ensures { IfOk result (λ sights.
-        AreSightsIn (D.may_answer disk.now) kind folder.now sights.items) }
+        AreSightsIn (D.may_answer disk.now) suffix.now folder.now sights.items) }
 {
     let names = names_of(alloc, entries)?;
-    sights_of_names(alloc, disk, kind, folder, &names)
+    sights_of_names(alloc, disk, suffix, folder, &names)
 }
 
 /// The scan of a path that is not listed.
@@ -126,16 +125,16 @@ fn unlisted(alloc: Global, spot: Spot) -> Scan
 fn scan_listed<D: Disk>(
     alloc: Global,
     disk: &D,
-    kind: FileKind,
+    suffix: &str,
     path: &str,
 ) -> Result<Scan, AllocError>
     ensures { IfOk result (λ scan.
-        IsListedSo (D.may_answer disk.now) kind path.now scan.spot scan.sights.items) }
+        IsListedSo (D.may_answer disk.now) suffix.now path.now scan.spot scan.sights.items) }
 {
     match disk.list(alloc, path) {
         Ok(entries) => Ok(Scan {
             spot: Spot::Folder,
-            sights: sights_in(alloc, disk, kind, path, entries)?,
+            sights: sights_in(alloc, disk, suffix, path, entries)?,
         }),
         Err(DiskFault::Absent) => Ok(unlisted(alloc, Spot::Absent)),
         Err(DiskFault::Unreadable) => Ok(unlisted(alloc, Spot::Unread(Reason::Failed))),
@@ -167,19 +166,33 @@ fn scan_missing<D: Disk>(alloc: Global, disk: &D, path: &str) -> Result<Scan, Al
 fn scan_by<D: Disk>(
     alloc: Global,
     disk: &D,
-    kind: FileKind,
+    suffix: &str,
     path: &str,
     look: Look,
 ) -> Result<Scan, AllocError>
-    ensures { IfOk result (IsScannedBy (D.may_answer disk.now) kind path.now look) }
+    ensures { IfOk result (IsScannedBy (D.may_answer disk.now) suffix.now path.now look) }
 {
     match look {
         Look::Absent => scan_missing(alloc, disk, path),
-        Look::Folder => scan_listed(alloc, disk, kind, path),
+        Look::Folder => scan_listed(alloc, disk, suffix, path),
         Look::File | Look::Other => Ok(unlisted(alloc, Spot::Unread(Reason::NotFolder))),
         Look::Forbidden => Ok(unlisted(alloc, Spot::Unread(Reason::Forbidden))),
         Look::Failed => Ok(unlisted(alloc, Spot::Unread(Reason::Failed))),
     }
+}
+
+/// The outcome for a folder that is wanted, with the files in it whose names end in a suffix, sorted by name. Nothing else
+/// in it is looked at, and nothing is opened that is neither a folder nor a regular file, except the null device.
+pub fn scan_folder<D: Disk>(
+    alloc: Global,
+    disk: &D,
+    suffix: &str,
+    path: &str,
+) -> Result<Scan, AllocError>
+    ensures { IfOk result (IsFolderScan (D.may_answer disk.now) suffix.now path.now) }
+{
+    let look = disk.look(alloc, path)?;
+    scan_by(alloc, disk, suffix, path, look)
 }
 
 /// A visit of a folder that is wanted.
@@ -188,8 +201,7 @@ fn visit_folder<D: Disk>(alloc: Global, disk: &D, folder: &Folder) -> Result<Vis
     ensures visit { IfOk result (IsFolderVisit (D.may_answer disk.now)) }
 {
     let path = folder.path.as_str();
-    let look = disk.look(alloc, path)?;
-    let scan = scan_by(alloc, disk, folder.kind, path, look)?;
+    let scan = scan_folder(alloc, disk, folder.kind.suffix(), path)?;
     Ok(Visit {
         kind: folder.kind,
         rank: folder.rank,
@@ -226,7 +238,7 @@ fn scan_named<D: Disk>(
     ensures { IfOk result (IsNamedSo (D.may_answer disk.now) kind path.now look) }
 {
     match look {
-        Look::Folder => scan_listed(alloc, disk, kind, path),
+        Look::Folder => scan_listed(alloc, disk, kind.suffix(), path),
         _ => scan_file(alloc, disk, path, look),
     }
 }

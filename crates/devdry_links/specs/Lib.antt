@@ -1,1 +1,3 @@
-pub mod Read
+pub mod Places
+pub mod Visits
+pub mod Reading

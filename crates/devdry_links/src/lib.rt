@@ -1,8 +1,15 @@
 //! Reading the `.link` files by which udev names network interfaces, with their drop-ins. What can't be read of them is
-//! said, and never ends a run.
+//! reported, and never ends a run.
 #![tactic(auto)]
 
-mod collecting;
+mod laws;
+mod places;
 mod reading;
+mod survey;
+mod visits;
 
+pub use laws::{folders_have_their_places, what_cannot_be_read_masks};
+pub use places::LinkPlace;
 pub use reading::{LinksRead, read_link_files};
+pub use survey::LinkSurvey;
+pub use visits::LinkVisit;

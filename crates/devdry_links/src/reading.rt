@@ -1,177 +1,96 @@
-//! Reads the `.link` files of a root.
-ghost use Rattle.std.specs.Prelude.{IfOk, OnOk};
+//! The `.link` files of a root that count, and what is reported about the others.
+ghost use Rattle.std.specs.Prelude.{◌≡◌, ◌++◌, ◌≤◌, IfOk, OnOk, flat_map};
 ghost use Rattle.devdry_files.specs.Inside.{MayInside};
-ghost use Rattle.devdry_links.specs.Read.{AreHeld, AreLinksRead};
+ghost use Rattle.devdry_links.specs.Reading.{AreLinksRead, line_on_link};
 
-use crate::collecting::{
-    DROP_IN_SUFFIX, FOLDER_SUFFIX, LINK_SUFFIX, entries_at, folder_at, names_of, path_at, take_files,
-};
+use crate::survey::survey;
 use devdry_files::{Disk, RootedDisk};
+use devdry_folders::{Report, least_status, push_escaped};
 use link_files::{LinkFile, read_links};
 use std::alloc::{AllocError, Global};
-use text_bytes::SourceFile;
 
 /// What was read of the `.link` files of a root.
 #[derive(Drop)]
 pub struct LinksRead {
     /// The files that count, in order, each with its drop-ins.
     pub links: Vec<LinkFile>,
-    /// What is reported on the error output before a run: a line for each file or folder that can't be read, and for each
-    /// file with a line that can't be.
-    pub reported: Vec<u8>,
+    /// What is reported before a run.
+    pub report: Report,
 }
 
-/// Adds the files in the folder of a rank.
-fn take_links<D: Disk>(
-    alloc: Global,
-    disk: &D,
-    root: &str,
-    rank: u8,
-    files: &mut Vec<SourceFile>,
-    reported: &mut Vec<u8>,
-) -> Result<(), AllocError>
-    requires { AreHeld (D.may_answer disk.now) root.now files.old.items }
-    ensures { OnOk result (AreHeld (D.may_answer disk.now) root.now files.new.items) }
+/// The path of a file below a root.
+fn path_below(alloc: Global, root: &str, link: &LinkFile) -> Result<Vec<u8>, AllocError>
+    ensures { IfOk result (λ path. path.items ≡ root.now ++ link.now.path) }
 {
-    let folder = folder_at(alloc, root, rank)?;
-    let entries = entries_at(alloc, disk, folder.as_str(), reported)?;
-    let names = names_of(alloc, false, LINK_SUFFIX, &entries)?;
-    take_files(alloc, disk, root, rank, &names, files, reported)
+    let mut path = Vec::from_slice(alloc, root.as_bytes())?;
+    path.extend_from_slice(link.path())?;
+    Ok(path)
 }
 
-/// Names below a folder.
-fn names_below(alloc: Global, folder: &str, names: &[String]) -> Result<Vec<String>, AllocError> {
-    let mut below = Vec::new(alloc);
-    for name in names {
-        let mut whole = String::from_str(alloc, folder)?;
-        whole.push_str("/")?;
-        whole.push_str(name.as_str())?;
-        below.push(whole)?;
+/// Adds the line on a file that is not used since a line of it, or of a drop-in, is not understood.
+fn push_line(
+    alloc: Global,
+    root: &str,
+    link: &LinkFile,
+    lines: &mut Vec<u8>,
+) -> Result<(), AllocError>
+    ensures { OnOk result (lines.new.items ≡ lines.old.items ++ line_on_link root.now link.now) }
+{
+    if link.is_sound() {
+        return Ok(());
     }
-    Ok(below)
+    let path = path_below(alloc, root, link)?;
+    push_escaped(alloc, lines, b"devdry: ", &path)?;
+    lines.extend_from_slice(b": not used: a line of it or of a drop-in is not understood\n")
 }
 
-/// Adds the drop-ins in a folder of them, by its name in the folder of a rank.
-fn take_folder<D: Disk>(
+/// Adds the lines on files that are not used.
+fn push_lines(
     alloc: Global,
-    disk: &D,
     root: &str,
-    rank: u8,
-    name: &str,
-    files: &mut Vec<SourceFile>,
-    reported: &mut Vec<u8>,
+    links: &[LinkFile],
+    lines: &mut Vec<u8>,
 ) -> Result<(), AllocError>
-    requires { AreHeld (D.may_answer disk.now) root.now files.old.items }
-    ensures { OnOk result (AreHeld (D.may_answer disk.now) root.now files.new.items) }
+    ensures { OnOk result (lines.new.items ≡ lines.old.items ++ flat_map (line_on_link root.now) links.now) }
 {
-    let path = path_at(alloc, root, rank, name)?;
-    let entries = entries_at(alloc, disk, path.as_str(), reported)?;
-    let names = names_of(alloc, false, DROP_IN_SUFFIX, &entries)?;
-    let below = names_below(alloc, name, &names)?;
-    take_files(alloc, disk, root, rank, &below, files, reported)
-}
-
-/// Adds the drop-ins in folders of them.
-fn take_folders<D: Disk>(
-    alloc: Global,
-    disk: &D,
-    root: &str,
-    rank: u8,
-    names: &[String],
-    files: &mut Vec<SourceFile>,
-    reported: &mut Vec<u8>,
-) -> Result<(), AllocError>
-    requires { AreHeld (D.may_answer disk.now) root.now files.old.items }
-    ensures { OnOk result (AreHeld (D.may_answer disk.now) root.now files.new.items) }
-{
-    for name in names {
-        take_folder(alloc, disk, root, rank, name.as_str(), files, reported)?;
-    }
-    Ok(())
-}
-
-/// Adds the drop-ins in the folder of a rank.
-fn take_drop_ins<D: Disk>(
-    alloc: Global,
-    disk: &D,
-    root: &str,
-    rank: u8,
-    files: &mut Vec<SourceFile>,
-    reported: &mut Vec<u8>,
-) -> Result<(), AllocError>
-    requires { AreHeld (D.may_answer disk.now) root.now files.old.items }
-    ensures { OnOk result (AreHeld (D.may_answer disk.now) root.now files.new.items) }
-{
-    let folder = folder_at(alloc, root, rank)?;
-    let entries = entries_at(alloc, disk, folder.as_str(), reported)?;
-    let names = names_of(alloc, true, FOLDER_SUFFIX, &entries)?;
-    take_folders(alloc, disk, root, rank, &names, files, reported)
-}
-
-/// The files of all folders.
-fn all_links<D: Disk>(
-    alloc: Global,
-    disk: &D,
-    root: &str,
-    reported: &mut Vec<u8>,
-) -> Result<Vec<SourceFile>, AllocError>
-    ensures { IfOk result (λ files. AreHeld (D.may_answer disk.now) root.now files.items) }
-{
-    let mut files = Vec::new(alloc);
-    take_links(alloc, disk, root, 0, &mut files, reported)?;
-    take_links(alloc, disk, root, 1, &mut files, reported)?;
-    take_links(alloc, disk, root, 2, &mut files, reported)?;
-    take_links(alloc, disk, root, 3, &mut files, reported)?;
-    Ok(files)
-}
-
-/// The drop-ins of all folders.
-fn all_drop_ins<D: Disk>(
-    alloc: Global,
-    disk: &D,
-    root: &str,
-    reported: &mut Vec<u8>,
-) -> Result<Vec<SourceFile>, AllocError>
-    ensures { IfOk result (λ files. AreHeld (D.may_answer disk.now) root.now files.items) }
-{
-    let mut files = Vec::new(alloc);
-    take_drop_ins(alloc, disk, root, 0, &mut files, reported)?;
-    take_drop_ins(alloc, disk, root, 1, &mut files, reported)?;
-    take_drop_ins(alloc, disk, root, 2, &mut files, reported)?;
-    take_drop_ins(alloc, disk, root, 3, &mut files, reported)?;
-    Ok(files)
-}
-
-/// Adds a line for each file that does not count since a line of it can't be read.
-fn report_unsound(links: &[LinkFile], reported: &mut Vec<u8>) -> Result<(), AllocError> {
     for link in links {
-        if !link.is_sound() {
-            reported.extend_from_slice(b"devdry: ")?;
-            reported.extend_from_slice(link.path())?;
-            reported.extend_from_slice(b": not used: a line of it or of a drop-in is not understood\n")?;
-        }
+        push_line(alloc, root, link, lines)?;
     }
     Ok(())
+}
+
+/// The `.link` files that count, as a disk answers, and what is reported about them.
+fn read_links_of<D: Disk>(alloc: Global, disk: &D, root: &str) -> Result<LinksRead, AllocError>
+    ensures read { IfOk result (AreLinksRead (D.may_answer disk.now) root.now) }
+    ensures least { IfOk result (λ read. read.report.least ≤ 3) }
+{
+    let survey = survey(alloc, disk, root)?;
+    let links = read_links(alloc, survey.files, survey.drop_ins)?;
+    let least = least_status(&survey.unread, b"");
+    let mut lines = survey.unread;
+    push_lines(alloc, root, &links, &mut lines)?;
+    Ok(LinksRead {
+        links,
+        report: Report { lines, least },
+    })
 }
 
 /// Reads the `.link` files of a root and their drop-ins, as systemd.link(5) has their folders: `/etc/systemd/network`,
-/// `/run/systemd/network`, `/usr/local/lib/systemd/network` and `/usr/lib/systemd/network`, each after the root. A symlink
-/// is followed inside the root, and an absent folder is empty.
+/// `/run/systemd/network`, `/usr/local/lib/systemd/network` and `/usr/lib/systemd/network`, each after the root, and in
+/// each of these `NAME.link.d` for the drop-ins of `NAME.link`. A symlink is followed inside the root, an absent folder is
+/// empty, and folders are skipped among files.
 ///
-/// A file or a folder that can't be read gets the line `devdry: cannot read PATH: REASON`; such a file hides those of its
-/// name in further folders, as one without bytes does. There is an error only if memory runs out.
+/// What can't be read is reported, `devdry: cannot read PATH: REASON`, and the least status is then 3; such a file hides
+/// those of its name in further folders, as one without bytes does. A file that does not count since a line of it or of a
+/// drop-in is not understood is reported after that. There is an error only if memory runs out.
 pub fn read_link_files<D: Disk>(
     alloc: Global,
     disk: &D,
     root: &str,
 ) -> Result<LinksRead, AllocError>
-    ensures { IfOk result (λ read. AreLinksRead (MayInside (D.may_answer disk.now) root.now) root.now read.links.items) }
+    ensures read { IfOk result (AreLinksRead (MayInside (D.may_answer disk.now) root.now) root.now) }
+    ensures least { IfOk result (λ read. read.report.least ≤ 3) }
 {
     let inside = RootedDisk::new(disk, root);
-    let mut reported = Vec::new(alloc);
-    let files = all_links(alloc, &inside, root, &mut reported)?;
-    let drop_ins = all_drop_ins(alloc, &inside, root, &mut reported)?;
-    let links = read_links(alloc, files, drop_ins)?;
-    report_unsound(&links, &mut reported)?;
-    Ok(LinksRead { links, reported })
+    read_links_of(alloc, &inside, root)
 }

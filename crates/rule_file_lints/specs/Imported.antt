@@ -36,7 +36,6 @@ families =
     ∷ (codes "path_id", codes "ID_PATH*")
     ∷ (codes "input_id", codes "ID_INPUT*")
     ∷ (codes "net_id", codes "ID_NET_NAME_*")
-    ∷ (codes "net_setup_link", codes "ID_NET_LINK_FILE*")
     ∷ (codes "usb_id", codes "ID_USB_*")
     ∷ []
 

@@ -12,13 +12,12 @@ use std::alloc::AllocError;
 use text_tables::Texts;
 
 /// Builtins, each with a family of properties that it imports: what their names begin with, and then a `*`.
-const FAMILIES: [(&[u8], &[u8]); 7] = [
+const FAMILIES: [(&[u8], &[u8]); 6] = [
     (b"blkid", b"ID_FS_*"),
     (b"blkid", b"ID_PART_*"),
     (b"path_id", b"ID_PATH*"),
     (b"input_id", b"ID_INPUT*"),
     (b"net_id", b"ID_NET_NAME_*"),
-    (b"net_setup_link", b"ID_NET_LINK_FILE*"),
     (b"usb_id", b"ID_USB_*"),
 ];
 

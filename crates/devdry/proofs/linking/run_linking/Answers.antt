@@ -3,4 +3,4 @@ use Rattle.devdry.proofs.linking.run_linking.Goals as goal
 
 pub returns-in-Ok : goal.returns-in-Ok
 returns-in-Ok g c =
-    inl (record { request = c.read_links.new.request; reported = c.deref.result.now; reads = c.in-Ok.ensures; runs = c.run_reported.ensures })
+    inl (record { request = c.read_links.new.request; report = c.in-Ok.report; reads = c.in-Ok.ensures; runs = c.run_reported.ensures })

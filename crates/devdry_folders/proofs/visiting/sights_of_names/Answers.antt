@@ -16,8 +16,8 @@ loop-name-preserved g c =
     let next : take (index + 1) names ≡ take index names ++ name ∷ [] = ap (λ n. take n names) one ∙ take-suc names index name (search rules) ∙ ap (λ n. take index names ++ n ∷ []) (sym c.name-item.is) in
     let grown : c.push.new.self.items ≡ so_far ++ sight ∷ [] = search rules in
     let own : sight.name ≡ string_bytes name = c.in_ok-sight_in.ensures.name ∙ c.as_str.ensures.value in
-    let more : AreSightsAt may c.args.kind c.args.folder.now (map string_bytes (take index names ++ name ∷ [])) (so_far ++ sight ∷ []) = record {
+    let more : AreSightsAt may c.args.suffix.now c.args.folder.now (map string_bytes (take index names ++ name ∷ [])) (so_far ++ sight ∷ []) = record {
       named_so = simp (map-append, c.loop-name.invariant.named_so, own) refl;
-      each = All-push (IsSightIn may c.args.kind c.args.folder.now) so_far sight c.loop-name.invariant.each c.in_ok-sight_in.ensures.sight;
+      each = All-push (IsSightIn may c.args.suffix.now c.args.folder.now) so_far sight c.loop-name.invariant.each c.in_ok-sight_in.ensures.sight;
     } in
     rw (next, grown) more

@@ -1,5 +1,0 @@
-use Rattle.devdry_links.specs.Read.{AreHeld}
-use Rattle.devdry_links.proofs.collecting.take_files.Given as goal
-
-abbrev pub invariant-loop-name : goal.invariant-loop-name
-invariant-loop-name g l = AreHeld (g.D.Disk.may_answer l.disk) l.root l.files.items

@@ -1,7 +1,9 @@
 //! What is reported for the values, the names and the assignments of a rule.
-ghost use Rattle.std.specs.Prelude.{◌≡◌, ◌++◌, OnOk, option_map};
+ghost use Rattle.std.specs.Prelude.{◌≡◌, ◌++◌, not, ◌&&◌, OnOk, option_map};
+ghost use Rattle.std.specs.List.{list_any};
+ghost use Rattle.rule_value_lints.specs.Assignments.{changes_device, is_untagged};
 ghost use Rattle.std.specs.Bool.{then_some};
-ghost use Rattle.rule_value_lints.specs.ValueLints.{found_by, found_in, lints, value_lints, word_of};
+ghost use Rattle.rule_value_lints.specs.ValueLints.{found_by, found_in, value_lints, word_of};
 
 use crate::assignments::{
     changes_device, is_meant_to_match, is_untagged, replaces_list, wants_unit,
@@ -53,13 +55,32 @@ pub fn add_value_lints(
 ) -> Result<(), AllocError>
     ensures { OnOk result (spots.new.items ≡ spots.old.items ++ value_lints tagged tokens.now) }
 {
-    let changes = tokens.iter().any(|written| changes_device(&written.token));
-    let untagged = tokens.iter().any(|written| is_untagged(&written.token));
     let setting = Setting {
-        changes,
-        unseen: !tagged && untagged,
+        changes: change_device(tokens),
+        unseen: are_unseen(tagged, tokens),
     };
     add_tokens(alloc, spots, &setting, tokens)
+}
+
+/// Whether tokens change the device, its node or its names, or run a command.
+fn change_device(tokens: &[WrittenPart<'_>]) -> bool
+    ensures { result ≡ list_any (λ w. changes_device w.token) tokens.now }
+{
+    tokens.iter().any(|written| changes_device(&written.token))
+}
+
+/// Whether tokens hold only for devices that systemd does not tag.
+fn are_untagged(tokens: &[WrittenPart<'_>]) -> bool
+    ensures { result ≡ list_any (λ w. is_untagged w.token) tokens.now }
+{
+    tokens.iter().any(|written| is_untagged(&written.token))
+}
+
+/// Whether tokens hold only for devices that systemd does not see, in a file some of whose rules are about tags or none.
+fn are_unseen(tagged: bool, tokens: &[WrittenPart<'_>]) -> bool
+    ensures { result ≡ not tagged && list_any (λ w. is_untagged w.token) tokens.now }
+{
+    !tagged && are_untagged(tokens)
 }
 
 /// Adds what is reported for these tokens.
@@ -72,21 +93,22 @@ fn add_tokens(
     ensures { OnOk result (spots.new.items ≡ spots.old.items ++ found_by setting.now tokens.now) }
 {
     for written in tokens {
-        add_lints(alloc, spots, setting, written)?;
+        add_lints(alloc, spots, setting, written, &LINTS)?;
     }
     Ok(())
 }
 
-/// Adds what is reported for a token.
+/// Adds what these lints find in a token.
 fn add_lints(
     alloc: Global,
     spots: &mut Vec<Spot<Lint>>,
     setting: &Setting,
     written: &WrittenPart<'_>,
+    lints: &[Lint],
 ) -> Result<(), AllocError>
-    ensures { OnOk result (spots.new.items ≡ spots.old.items ++ found_in setting.now written.now lints) }
+    ensures { OnOk result (spots.new.items ≡ spots.old.items ++ found_in setting.now written.now lints.now) }
 {
-    for lint in &LINTS {
+    for lint in lints {
         add_word(
             alloc,
             spots,

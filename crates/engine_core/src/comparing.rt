@@ -168,8 +168,8 @@ fn both_tables<'l, 'm, L: Lookup + Drop, M: Lookup + Drop>(
 >
     ensures messages { IfOk result (λ both. both.0.items ≡ old.messages.items ++ new.messages.items) }
     ensures tables { IfOk result (λ both. both.1 ≡ (
-      (old.rules.rules, old_builtins),
-      (new.rules.rules, new_builtins),
+      (old.rules.rules, old_builtins.entry),
+      (new.rules.rules, new_builtins.entry),
     )) }
 {
     let RulesRead {

@@ -25,4 +25,5 @@ returns c = record {
   profile = c.profile_of.ensures;
   users = c.account_file.ensures;
   groups = c.account_file-2.ensures;
+  links = c.new.ensures.items;
 }

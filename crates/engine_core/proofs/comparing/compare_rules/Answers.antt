@@ -1,8 +1,15 @@
-use Rattle.std.proofs.Common.{◌∙◌}
+use Rattle.std.proofs.Common.{rules, ◌≡◌, ◌++◌, ◌∙◌}
+use Rattle.engine_reports.specs.Reports.{shown_rules}
 use Rattle.engine_core.proofs.Compared.{finds_both}
 use Rattle.engine_core.proofs.comparing.compare_rules.Goals as goal
 
 pub returns-in-Ok : goal.returns-in-Ok
 returns-in-Ok g c =
-    finds_both c.args.old_line.now _ _ c.in-Ok.tables _ _ _ _ (c.deref.ensures.value ∙ c.in-Ok.ensures.messages)
-    c.in-Ok.ensures.tables c.find_after_messages.ensures.steps
+    let old = shown_rules c.args.old (g.L.Lookup.entries c.args.old_lookup) in
+    let new = shown_rules c.args.new (g.M.Lookup.entries c.args.new_lookup) in
+    let messages : c.deref-in-Ok.result.now ≡ c.args.old.messages.items ++ c.args.new.messages.items = c.deref-in-Ok.ensures.value ∙ c.in-Ok.ensures.messages in
+    let tables : c.in-Ok.tables ≡ (
+      (old.rules, record { links = c.args.old_line.now.links.items; entries = old.entries }),
+      (new.rules, record { links = c.args.new_line.now.links.items; entries = new.entries }),
+    ) = search rules in
+    finds_both c.args.old_line.now _ _ c.in-Ok.tables _ _ _ _ messages tables c.find_after_messages.ensures.steps

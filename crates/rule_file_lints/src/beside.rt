@@ -1,6 +1,8 @@
 //! Properties that may be given before the rules of a file, and imports of properties of any names.
 ghost use Rattle.std.specs.Prelude.{◌≡◌, option_map};
-ghost use Rattle.rule_file_lints.specs.Beside.{imports_any, is_early, is_open};
+ghost use Rattle.text_tables.specs.Texts.{is_among};
+ghost use Rattle.rule_value_lints.specs.Texts.{begins_with_one};
+ghost use Rattle.rule_file_lints.specs.Beside.{early_properties, imports_any, is_early, is_open, shared_families};
 
 use rule_core::WrittenPart;
 use rule_lints::is_among;
@@ -62,7 +64,21 @@ const OPEN_SOURCES: [&[u8]; 2] = [b"program", b"file"];
 pub(crate) fn is_early(name: &[u8]) -> bool
     ensures { result ≡ is_early name.now }
 {
-    is_among(&EARLY_PROPERTIES, name) || begins_with_one(&SHARED_FAMILIES, name)
+    is_event_property(name) || is_shared(name)
+}
+
+/// Whether a property is one of the kernel's events.
+fn is_event_property(name: &[u8]) -> bool
+    ensures { result ≡ is_among early_properties name.now }
+{
+    is_among(&EARLY_PROPERTIES, name)
+}
+
+/// Whether the name of a property begins with one that other files use.
+fn is_shared(name: &[u8]) -> bool
+    ensures { result ≡ begins_with_one shared_families name.now }
+{
+    begins_with_one(&SHARED_FAMILIES, name)
 }
 
 /// Whether a token imports properties of any names: from a program or a file.

@@ -36,8 +36,14 @@ pub(crate) fn add_unguarded(
     if guarded || may_end(tokens) {
         return Ok(());
     }
-    let first = tokens.iter().find(|written| changes_device(&written.token));
-    add_first(alloc, spots, Lint::NoMatch, first)
+    add_first(alloc, spots, Lint::NoMatch, first_change(tokens))
+}
+
+/// The first of these tokens that changes the device.
+fn first_change<'w, 't>(tokens: &'w [WrittenPart<'t>]) -> Option<&'w WrittenPart<'t>>
+    ensures { option_map (λ w. w.now) result ≡ find (λ w. changes_device w.token) tokens.now }
+{
+    tokens.iter().find(|written| changes_device(&written.token))
 }
 
 /// Whether a rule may end at one of these tokens.
@@ -66,8 +72,14 @@ pub(crate) fn add_no_result(
     if programs || has_program(tokens) {
         return Ok(());
     }
-    let first = tokens.iter().find(|written| is_result(written));
-    add_first(alloc, spots, Lint::NoResultYet, first)
+    add_first(alloc, spots, Lint::NoResultYet, first_result(tokens))
+}
+
+/// The first of these tokens that is a match of RESULT.
+fn first_result<'w, 't>(tokens: &'w [WrittenPart<'t>]) -> Option<&'w WrittenPart<'t>>
+    ensures { option_map (λ w. w.now) result ≡ find is_result tokens.now }
+{
+    tokens.iter().find(|written| is_result(written))
 }
 
 /// Whether a token is a match of RESULT.

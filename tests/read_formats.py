@@ -31,7 +31,7 @@ PLAIN = re.compile(r"^(.*):(\d+): ([VSHIW]\d+) (.*)$")
 CARET = re.compile(r"^ *\^~*$")
 
 # The lints whose place is a value, and those whose place is a key and whose word is the name in braces after it.
-LINTS_OF_VALUES = ("W1", "W2", "W3", "W4", "W8", "W9", "W11")
+LINTS_OF_VALUES = ("W1", "W2", "W3", "W4", "W8", "W9", "W11", "W16", "W17", "W19", "W22", "W24")
 LINTS_OF_NAMES = ("W5", "W6", "W7", "W10")
 
 # How much of a line `human` shows, and how much of it before a place at most, unless the line ends there.
@@ -225,7 +225,9 @@ def wrong_place(folder, it):
     elif code in ("V5", "V6", "V7", "V8", "V11", "S4", *LINTS_OF_VALUES) and not plain_value(text_of(line), column):
         good = True
     elif code in LINTS_OF_NAMES:
-        good = place.isalpha() and escaped(text_of(line[end - 1:])).startswith("{" + word + "}")
+        good = place.isalpha() and (escaped(text_of(line[end - 1:])).startswith("{" + word + "}") or word == whole)
+    elif code == "W18":
+        good = place.isalpha()
     elif code == "W13":
         good = place.isalpha() and not line[:column - 1].strip(b" \t")
     else:

@@ -88,7 +88,7 @@ done
 )
 same "bash offers formats after --format" "gcc github gitlab" "$(bash_offers devdry verify --format g | paste -s -d " " -)"
 same "bash offers codes after --ignore" "H H1 H2 H3 H4 H5 H6" "$(bash_offers devdry update --ignore H | paste -s -d " " -)"
-same "bash offers codes of lints after --ignore" "W1 W10 W11 W12 W13 W14" "$(bash_offers devdry verify --ignore W1 | paste -s -d " " -)"
+same "bash offers codes of lints after --ignore" "W1 W10 W11 W12 W13 W14 W15 W16 W17 W18 W19" "$(bash_offers devdry verify --ignore W1 | paste -s -d " " -)"
 same "bash offers codes after a comma" "V6,S V6,S1 V6,S2 V6,S3 V6,S4 V6,S5 V6,S6" "$(bash_offers devdry verify --ignore V6,S | paste -s -d " " -)"
 same "bash offers the codes to explain" "$codes" "$(bash_offers devdry explain '' | LC_ALL=C sort)"
 same "docs/messages.md has these codes" "$codes" "$(sed -nE 's/^### ([A-Z][0-9]+) .*/\1/p' "$top/docs/messages.md" | LC_ALL=C sort)"

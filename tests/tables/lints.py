@@ -3,7 +3,7 @@
 What is wanted was written by hand, from the tables of docs/behaviour.md. tables/lints_of_files.py has what concerns all of
 them.
 """
-from tables.kinds.linted import lint, linted, reported
+from tables.kinds.linted import OTHERS, lint, linted, reported
 
 
 def each_value(number, key, values):
@@ -40,7 +40,8 @@ W2 = [
     linted("no W2 in quotes", "RUN+=\"/bin/a '|' '>' ';' '&&'\"", "RUN+=\"/bin/a 'b > c' d\"", 'RUN+=e"/bin/a \\"b > c\\""',
         'RUN+=e"/bin/a \\"it\'s > c\\""', "RUN+=\"/bin/a 'b > c\"", 'RUN+=e"/bin/a \'\\" > \'"'),
     linted("no W2 within a word", *(f'RUN+="/bin/a {word}"' for word in ["^fs.(a|b)", "http://h/?a=1;b=2", "a>b", "--only=a|b", "a;b", "1>2"])),
-    linted("no W2 of other signs", 'RUN+="/bin/a & b & c"', 'RUN+="/bin/a < b"', 'RUN+="/bin/a * ? [b] (c) {d,e} ! # ~"',
+    linted("W2 of what only a shell reads at the start", *each_value(2, "RUN+=", ["~/a b", "A=1 /bin/a", "PATH=/x:/y a", "/bin/a &", "/bin/a & b"])),
+    linted("no W2 of other signs", 'RUN+="/bin/a=b c"', 'RUN+="/bin/a b=c ~/d"', 'RUN+="/bin/a < b"', 'RUN+="/bin/a * ? [b] (c) {d,e} ! # ~"',
         "RUN+=\"/bin/a &'&' b\""),
     linted("no W2 of values that are not commands", 'RUN{builtin}+="kmod load a | b"', 'IMPORT{builtin}="hwdb a; b"', 'IMPORT{file}="/run/a | b"',
         'TEST=="a | b"', 'ENV{A}="a > b"', 'RESULT=="a | b"', 'ATTR{a}="x; y"'),
@@ -54,6 +55,7 @@ W3 = [
     linted("W3 of a command without arguments", *each_value(3, "RUN+=", ["touch", " ln", "cp ", "  rm $env{A}", "mv %k"])),
     linted("W3 with each operator and type", *reported(3, ('RUN="touch"', "touch"), ('RUN:="ln a"', "ln a"), ('RUN{program}+="rm"', "rm"))),
     linted("W3 after a tab", *reported(3, ('RUN+="\ttouch\ta"', "\\x09touch\\x09a"))),
+    linted("W3 of scripts", *each_value(3, "RUN+=", ["mine.sh", "mine.py %k"]), 'RUN+="/usr/local/bin/mine.sh"', 'RUN+="mine"'),
     linted("no W3", *(f'RUN+="{value}"' for value in ["/bin/touch a", "helper %k", "hdparm", "a", "./touch a", "bin/touch", "Touch a", "touchx", "xtouch",
         "'touch' a", "touch,a", "a touch", "$env{A} touch", "%c", "", "  ", "sync"])),
     linted("no W3 of other commands", 'RUN{builtin}+="kmod load a"', 'RUN{builtin}+="touch"', 'PROGRAM=="touch a"', 'PROGRAM="touch"',
@@ -62,7 +64,7 @@ W3 = [
 
 SMALL = ["idVendor", "idProduct", "bcdDevice", "bDeviceClass", "bDeviceSubClass", "bDeviceProtocol", "bInterfaceClass", "bInterfaceSubClass",
     "bInterfaceProtocol", "bInterfaceNumber", "bNumEndpoints", "id/vendor", "id/product", "id/version", "id/bustype", "subsystem_vendor",
-    "subsystem_device"]
+    "subsystem_device", "address"]
 MODALIASES = ["ENV{MODALIAS}", "ATTR{modalias}", "ATTRS{modalias}"]
 W4 = [
     linted("W4 of each attribute", *reported(4, *((f'{key}{{{name}}}=="0A*"', "0A*") for name in SMALL for key in ["ATTR", "ATTRS"]))),
@@ -94,6 +96,17 @@ W5 = [
         ('ATTRS{devnum}=="2", ATTRS{subsystem_device}=="0x1"', "subsystem_device"))),
     linted("W5 once for a rule, with the first known attribute", *reported(5, ('ATTRS{serial}=="1", ATTRS{id/vendor}=="0001", ATTRS{id/product}=="2", '
         'ATTRS{idVendor}=="1d6b", ATTRS{bNumEndpoints}=="02"', "idVendor"))),
+    linted("W5 of other keys", *reported(5,
+        ('SUBSYSTEM=="tty", ATTR{idVendor}=="0421"', "idVendor"), ('ATTR{idVendor}=="0421", KERNEL=="ttyUSB*"', "KERNEL"),
+        ('KERNEL=="sd[a-z]", ATTR{bInterfaceNumber}=="00"', "bInterfaceNumber"), ('KERNELS=="5-2:1.0", ATTRS{idVendor}=="0421"', "idVendor"),
+        ('DRIVERS=="cdc_acm", ATTRS{idVendor}=="0421"', "idVendor"), ('SUBSYSTEMS=="tty", ATTRS{idVendor}=="0421"', "idVendor"),
+        ('SUBSYSTEM=="net", KERNEL=="ttyACM0"', "KERNEL"), ('SUBSYSTEMS=="input", ATTRS{idProduct}=="0001"', "idProduct"))),
+    linted("W5 of both sides", ('SUBSYSTEM=="tty", ATTR{idVendor}=="0421", SUBSYSTEMS=="tty", ATTRS{idVendor}=="0421"',
+        lint(5, "idVendor"), lint(5, "idVendor"))),
+    linted("no W5 of other keys", 'SUBSYSTEM=="tty", ATTRS{idVendor}=="0421"', 'SUBSYSTEM=="usb", ATTR{idVendor}=="0421"',
+        'KERNEL=="ttyUSB*|a", ATTR{idVendor}=="0421"',
+        'SUBSYSTEM=="tty|net", ATTR{idVendor}=="0421"', 'KERNELS=="5-2", ATTRS{idVendor}=="0421"', 'DRIVERS=="usb", ATTRS{idVendor}=="0421"',
+        'SUBSYSTEM!="tty", ATTR{idVendor}=="0421"', 'KERNEL=="ttyUSB*", SUBSYSTEM=="tty", KERNELS=="5-2:1.0", DRIVERS=="ftdi_sio"'),
     linted("no W5", 'ATTRS{idVendor}=="1d6b", ATTRS{idProduct}=="0002", ATTRS{serial}=="x", ATTRS{bNumInterfaces}==" 1"',
         'ATTRS{bInterfaceNumber}=="01", ATTRS{bNumEndpoints}=="02"', 'ATTRS{id/vendor}=="1", ATTRS{id/version}=="2"',
         'ATTRS{subsystem_vendor}=="0x1", ATTRS{subsystem_device}=="0x2", ATTRS{vendor}=="0x3"', 'ATTRS{serial}=="1", ATTRS{manufacturer}=="2"'),
@@ -130,7 +143,7 @@ W6 = [
     *(linted(f"no W6 of a property that a rule above may set by {line}", line, 'ENV{ID_PATH}=="x"', 'IMPORT{builtin}="path_id"')
       for line in ['ENV{ID_PATH}="x"', 'ENV{ID_PATH}+="x"', 'IMPORT{db}="ID_PATH"', 'IMPORT{parent}="ID_PATH"', 'IMPORT{parent}="ID_*"', 'IMPORT{parent}="A*"',
                    'IMPORT{parent}="?"', 'IMPORT{parent}="[A]"', 'IMPORT{parent}="A|B"', 'IMPORT{program}="/bin/a"', 'IMPORT{file}="/run/a"',
-                   'IMPORT{builtin}="hwdb"', 'IMPORT{builtin}=="net_setup_link"']),
+                   'IMPORT{builtin}="hwdb"']),
     linted("no W6 of a property that nothing imports", 'ENV{ID_FS_TYPE}=="x"', 'ENV{mine}=="x"', 'IMPORT{cmdline}="mine_too"', 'IMPORT{db}="mine"',
         'IMPORT{builtin}="path_id"'),
     linted("no W6 of the empty text", 'ENV{mine}==""', 'ENV{mine}=="|x"', *reported(12, ('ENV{mine}=="*"', "ENV")), 'IMPORT{cmdline}="mine"'),
@@ -167,7 +180,8 @@ W7 = [
 W8 = [
     linted("W8", *reported(8, ('SUBSYSTEM=="block", NAME="disk"', "disk"), ('NAME="a b", SUBSYSTEM!="net"', "a b"),
         ('SUBSYSTEM=="usb|block", NAME:="%k"', "%k"), ('SUBSYSTEM=="net?", NAME="x"', "x"), ('SUBSYSTEM=="NET", NAME="x"', "x"),
-        ('SUBSYSTEM=="", NAME="x"', "x"), ('SUBSYSTEM!="n*", KERNEL=="a", NAME=""', ""), ('SUBSYSTEM=="net", SUBSYSTEM=="block", NAME="x"', "x"))),
+        ('SUBSYSTEM=="", NAME="x"', "x"), ('SUBSYSTEM!="n*", KERNEL=="a", NAME=""', ""))),
+    linted("W8 of two subsystems", ('SUBSYSTEM=="net", SUBSYSTEM=="block", NAME="x"', lint(5, "SUBSYSTEM"), lint(8, "x"))),
     linted("W8 with +=", ('SUBSYSTEM=="block", NAME+="x"', "S3 operator read as =: NAME", lint(8, "x"))),
     linted("no W8", *(f'{match}, NAME="x"' for match in ['SUBSYSTEM=="net"', 'SUBSYSTEM=="net|block"', 'SUBSYSTEM=="n*"', 'SUBSYSTEM!="block"',
         'SUBSYSTEM==i"NET"', 'KERNEL=="sda"', 'SUBSYSTEMS=="usb"']), 'NAME="x"', 'SUBSYSTEM=="block", NAME=="x"', 'SUBSYSTEM=="block"', 'NAME="x"'),
@@ -190,6 +204,7 @@ W10 = [
 W11 = [
     linted("W11", *each_value(11, "KERNEL==", ["^sd*", ".*", ".*a", "sd.*$", "sd[0-9]$", "$", "^", "(sd|sr)*", "a|b(c|d|e)", "sda|^sdb",
         "sd$|sr", "sd{a,b}", "{,}", "a{b{c,d}e"])),
+    linted("W11 of a set with a plus", *each_value(11, "KERNEL==", ["ttyUSB[0-9]+", "sd[a-z]+[0-9]"])),
     linted("W11 of classes", *reported(11, *((f'KERNEL=="sd\\{letter}"', f"sd\\x5C{letter}") for letter in "dws"))),
     linted("W11 of each kind of match", *reported(11, ('KERNEL!="^a"', "^a"), ('ATTR{a}=="b$"', "b$"), ('ENV{A}=="^b"', "^b"), ('TAG!="a$"', "a$"),
         ('KERNELS=="^a"', "^a"), ('ATTRS{a}!="b$"', "b$"), ('TAGS=="^a"', "^a"), ('RESULT=="^a"', "^a"), ('NAME=="^a"', "^a"),
@@ -229,7 +244,7 @@ W13 = [
 
 def by_udev(name, *lines):
     """A run as udev reads rules."""
-    return linted(name, *lines, words="verify --udev --lint")
+    return linted(name, *lines, words=f"verify --udev --lint --ignore {OTHERS}")
 
 
 # With `--udev` lints say what udev itself does with a rule, as docs/udev has it: `?*` is no pattern after some keys, blanks before a mode

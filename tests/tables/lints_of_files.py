@@ -2,15 +2,15 @@
 
 Apart from the files that are marked by hand (tables/kinds/marked.py), what is wanted was written by hand.
 """
-from tables.kinds.linted import lint, linted
+from tables.kinds.linted import OTHERS, lint, linted
 from tables.kinds.marked import in_formats
 from tables.kinds.row import Row
 from tables.kinds.verified import verified
 
 # A rule with most of them, and its lints in their order, among rules that cause some of its lints.
-MANY = ('SUBSYSTEM=="block", KERNEL=="*", ATTRS{idVendor}=="1D6B", ATTRS{bInterfaceNumber}=="^0", ENV{A}="1", NAME="a", MODE="x", '
+MANY = ('SUBSYSTEM=="block", KERNEL=="*", ATTRS{idVendor}=="1D6B", ATTRS{bAlternateSetting}=="^0", ENV{A}="1", NAME="a", MODE="x", '
         'RUN+="cp > b", SYMLINK+="/dev/b", ATTR{"c"}=="1", DRIVER=="*", ENV{ID_PATH}=="x"',
-        lint(1, "x"), lint(2, "cp > b"), lint(3, "cp > b"), lint(4, "1D6B"), lint(5, "bInterfaceNumber"), lint(8, "a"), lint(9, "/dev/b"),
+        lint(1, "x"), lint(2, "cp > b"), lint(3, "cp > b"), lint(4, "1D6B"), lint(5, "bAlternateSetting"), lint(8, "a"), lint(9, "/dev/b"),
         lint(10, '"c"'), lint(11, "^0"), lint(12, "KERNEL"), lint(12, "DRIVER"), lint(6, "ID_PATH"), lint(7, "A"), lint(13, "end"))
 FILE = ['GOTO="end"', MANY, 'IMPORT{builtin}="path_id"', 'ENV{A}=="1"', 'LABEL="end"']
 # A rule with two.
@@ -58,15 +58,15 @@ WHOLE = [
     linted("a file without lints", *GOOD),
     verified("no lints without --lint", *written(FILE)),
     linted("--lint after the other options", *FILE, words="verify --no-style --format=plain --lint"),
-    Row("--lint after the files", "verify r.rules --lint", {"r.rules": 'MODE="x"\n'}, output=BAD, messages=MODE, status=1),
-    Row("without the summary", "verify --no-summary --lint r.rules", {"r.rules": 'MODE="x"\n'}, messages=MODE, status=1),
-    Row("without style", "verify --lint --no-style r.rules", {"r.rules": 'MODE="x",TAG+="t"\n'}, output=BAD, messages=MODE, status=1),
+    Row("--lint after the files", "verify r.rules --lint", {"r.rules": 'KERNEL=="a", MODE="x"\n'}, output=BAD, messages=MODE, status=1),
+    Row("without the summary", "verify --no-summary --lint r.rules", {"r.rules": 'KERNEL=="a", MODE="x"\n'}, messages=MODE, status=1),
+    Row("without style", "verify --lint --no-style r.rules", {"r.rules": 'KERNEL=="a", MODE="x",TAG+="t"\n'}, output=BAD, messages=MODE, status=1),
     Row("each file has its own lints", "verify --lint a.rules r.rules c.rules", {"a.rules": 'ENV{ID_PATH}=="x"\nENV{A}="1", KERNEL=="a"\n',
-        "r.rules": 'MODE="x"\n', "c.rules": 'IMPORT{builtin}="path_id"\nENV{A}=="1"\n'}, output="3 files checked, 2 good, 1 bad\n", messages=MODE,
+        "r.rules": 'KERNEL=="a", MODE="x"\n', "c.rules": 'IMPORT{builtin}="path_id"\nENV{A}=="1"\n'}, output="3 files checked, 2 good, 1 bad\n", messages=MODE,
         status=1),
-    Row("files of folders", "verify --lint -r mnt", {"mnt/etc/udev/rules.d/r.rules": 'MODE="x"\n', "mnt/usr/lib/udev/rules.d/s.rules": 'TAG+="t"\n'},
+    Row("files of folders", "verify --lint -r mnt", {"mnt/etc/udev/rules.d/r.rules": 'KERNEL=="a", MODE="x"\n', "mnt/usr/lib/udev/rules.d/s.rules": 'TAG+="t"\n'},
         output="2 files checked, 1 good, 1 bad\n", messages=MODE, status=1),
-    Row("events has no lints", "events -r none r.rules", {"r.rules": 'MODE="x"\n'}),
+    Row("events has no lints", "events -r none r.rules", {"r.rules": 'KERNEL=="a", MODE="x"\n'}),
 ]
 
 # Codes that are left out of the file with many.
@@ -83,7 +83,7 @@ IGNORED = [
         words="verify --ignore comments"),
     linted("a comment that ignores nothing", ("# devdry: ignore W2", "I1 nothing to ignore: W2"), TWO, words="verify --lint --ignore comments"),
     linted("a comment that ignores nothing, without --lint", ("# devdry: ignore W2", "I1 nothing to ignore: W2"), TWO[0], words="verify --ignore comments"),
-    linted("an unknown code", ("# devdry: ignore W15", "I2 unknown code: W15"), TWO, words="verify --lint --ignore comments"),
+    linted("an unknown code", ("# devdry: ignore W26", "I2 unknown code: W26"), TWO, words="verify --lint --ignore comments"),
 ]
 
 # For each lint files that cause it, with its places.
@@ -109,4 +109,23 @@ EACH = {
     "a long value": ['RUN+="<W3|rm ' + "long/" * 12 + '>"'],
 }
 
-ROWS = [*WHOLE, *IGNORED, *(row for name, lines in EACH.items() for row in in_formats(name, *lines, words=["--lint"]))]
+# The same for W15 to W25, each in a rule that has no other.
+LATER = {
+    "W15": ['<W15|MODE>="0660"'],
+    "W16": ['KERNEL=="<W16|/dev/sda>"', 'ATTRS{idVendor} == "<W16|421>"'],
+    "W17": ['KERNEL=="<W17|a | b>"'],
+    "W18": ['<W18=idVendor|ATTR>{idvendor}=="0421"', 'KERNEL=="a", <W18=ID_VENDOR|ENV>{ID_VENDR}="1"'],
+    "W19": ['KERNEL=="<W19|%k>"', 'KERNEL=="a", SYMLINK+="<W19|a/%name>"'],
+    "W20": ['KERNEL=="a", <W20|RUN>="/bin/a"'],
+    "W21": ['KERNEL=="a", <W21|ATTR>{removable}="1"'],
+    "W22": ['SUBSYSTEM=="net", NAME="<W22|office-network-first>"'],
+    "W23": ['SUBSYSTEM=="usb", <W23|ENV>{SYSTEMD_WANTS}+="a.service"'],
+    "W24": ['KERNEL=="a", RUN+="<W24|/bin/mount /dev/a /mnt>"'],
+    "W25": ['<W25|RESULT>=="a"'],
+}
+
+ROWS = [
+    *WHOLE, *IGNORED,
+    *(row for name, lines in EACH.items() for row in in_formats(name, *lines, words=["--lint", "--ignore", OTHERS])),
+    *(row for name, lines in LATER.items() for row in in_formats(name, *lines, words=["--lint"])),
+]

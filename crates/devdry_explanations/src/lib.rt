@@ -7,11 +7,13 @@ mod codes;
 mod comments;
 mod database;
 mod database_lints;
+mod effects;
 mod lints;
 mod rules;
 mod sections;
 mod style;
 mod udev;
+mod values;
 
 pub use codes::{each_remark_is_found, remark_with};
 pub use sections::{explanation, section_on};

@@ -6,7 +6,7 @@ ghost use Rattle.engine_formats.specs.declared.remark.Remark.TheVariants.{Messag
 ghost use Rattle.engine_formats.specs.declared.remark.Remark.TheVariants as about;
 
 use crate::codes::remark_with;
-use crate::{comments, database, database_lints, lints, rules, style, udev};
+use crate::{comments, database, database_lints, effects, lints, rules, style, udev, values};
 use engine_formats::Remark;
 use file_messages::MessageKind;
 use hwdb_lints::DatabaseLint;
@@ -79,6 +79,17 @@ fn section_on_lint(lint: Lint) -> &'static str
         Lint::AlwaysHolds => lints::W12,
         Lint::NeverReached => lints::W13,
         Lint::NoPatternForUdev => lints::W14,
+        Lint::NoMatch => values::W15,
+        Lint::NeverFits => values::W16,
+        Lint::BlankBesideBar => values::W17,
+        Lint::UnknownName => values::W18,
+        Lint::NotSubstituted => values::W19,
+        Lint::ListReplaced => effects::W20,
+        Lint::MeantAsMatch => effects::W21,
+        Lint::NameTooLong => values::W22,
+        Lint::WantedWithoutTag => effects::W23,
+        Lint::ForbiddenCommand => effects::W24,
+        Lint::NoResultYet => values::W25,
     }
 }
 

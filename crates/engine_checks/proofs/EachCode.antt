@@ -4,6 +4,8 @@ use Rattle.std.specs.Option.{option_map_or}
 use Rattle.std.specs.Cmp.Lexicographic.{bytes_decides}
 use Rattle.text_bytes.specs.Texts.{split_once}
 use Rattle.file_messages.specs.declared.message.MessageKind.TheVariants.{PropertyWithoutMatch, MatchWithoutProperty, UnindentedLine, NoEquals, EmptyKey, PatternNotSupported, BadSyntax, UnknownKey, OperatorNotAllowed, WrongAttribute, BadValue, BadSubstitution, NoLaterLabel, GivenTwice, LineTooLong, BadPrefix, SetNotSupported, OpenAtEnd, ReservedProperty, NameWithoutEffect, UnknownBuiltin, MatchesExclude, SaidTwice, RuleWithoutEffect, ResultBeforeProgram, EmptyValue, BadAttributeSubstitution, AttributeElsewhere, OldSubsystemName, AssignExpected, UnknownAccount, FileAbandoned, CommaExpected, BlankExpected, ReadAsAssign, LabelUnused, LeadingComma, BlankBeforeComma}
+use Rattle.rule_lints.specs.declared.lint.Lint.TheVariants.{NoMatch, NeverFits, BlankBesideBar, UnknownName, NotSubstituted, ListReplaced, MeantAsMatch}
+use Rattle.rule_lints.specs.declared.lint.Lint.TheVariants.{NameTooLong, WantedWithoutTag, ForbiddenCommand, NoResultYet}
 use Rattle.rule_lints.specs.declared.lint.Lint.TheVariants.{ModeNotOctal, SignOfShell, RelativeProgram, LetterCase, NoSuchDevice, ImportedBelow, MeantToCompare, NameOutsideNet, LinkWithDev, QuotedName, NotAPattern, AlwaysHolds, NeverReached, NoPatternForUdev}
 use Rattle.hwdb_lints.specs.declared.lint.DatabaseLint.TheVariants.{DigitCase, NoModalias, EndMissing, UnknownPrefix, MatchTwice, PropertyTwice, BlankAtEquals}
 use Rattle.hwdb_lints.specs.declared.lint.DatabaseLint.TheVariants.{OddName, BlankAtEnd, ByteOrderMark, CutWord, OpenSet, WrongValue}
@@ -69,6 +71,17 @@ each_found (Lint NotAPattern) = refl
 each_found (Lint AlwaysHolds) = refl
 each_found (Lint NeverReached) = refl
 each_found (Lint NoPatternForUdev) = refl
+each_found (Lint NoMatch) = refl
+each_found (Lint NeverFits) = refl
+each_found (Lint BlankBesideBar) = refl
+each_found (Lint UnknownName) = refl
+each_found (Lint NotSubstituted) = refl
+each_found (Lint ListReplaced) = refl
+each_found (Lint MeantAsMatch) = refl
+each_found (Lint NameTooLong) = refl
+each_found (Lint WantedWithoutTag) = refl
+each_found (Lint ForbiddenCommand) = refl
+each_found (Lint NoResultYet) = refl
 each_found (DatabaseLint DigitCase) = refl
 each_found (DatabaseLint NoModalias) = refl
 each_found (DatabaseLint EndMissing) = refl

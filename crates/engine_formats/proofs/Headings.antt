@@ -6,6 +6,8 @@ use Rattle.text_bytes.specs.Texts.{split_once}
 use Rattle.file_messages.specs.declared.message.MessageKind.{MessageKind}
 use Rattle.file_messages.specs.declared.message.MessageKind.TheVariants.{PropertyWithoutMatch, MatchWithoutProperty, UnindentedLine, NoEquals, EmptyKey, PatternNotSupported, BadSyntax, UnknownKey, OperatorNotAllowed, WrongAttribute, BadValue, BadSubstitution, NoLaterLabel, GivenTwice, LineTooLong, BadPrefix, SetNotSupported, OpenAtEnd, ReservedProperty, NameWithoutEffect, UnknownBuiltin, MatchesExclude, SaidTwice, RuleWithoutEffect, ResultBeforeProgram, EmptyValue, BadAttributeSubstitution, AttributeElsewhere, OldSubsystemName, AssignExpected, UnknownAccount, FileAbandoned, CommaExpected, BlankExpected, ReadAsAssign, LabelUnused, LeadingComma, BlankBeforeComma}
 use Rattle.rule_lints.specs.declared.lint.Lint.{Lint}
+use Rattle.rule_lints.specs.declared.lint.Lint.TheVariants.{NoMatch, NeverFits, BlankBesideBar, UnknownName, NotSubstituted, ListReplaced, MeantAsMatch}
+use Rattle.rule_lints.specs.declared.lint.Lint.TheVariants.{NameTooLong, WantedWithoutTag, ForbiddenCommand, NoResultYet}
 use Rattle.rule_lints.specs.declared.lint.Lint.TheVariants.{ModeNotOctal, SignOfShell, RelativeProgram, LetterCase, NoSuchDevice, ImportedBelow, MeantToCompare, NameOutsideNet, LinkWithDev, QuotedName, NotAPattern, AlwaysHolds, NeverReached, NoPatternForUdev}
 use Rattle.engine_reports.specs.Checks.{is_style}
 use Rattle.engine_formats.specs.Advice.{advice_of}
@@ -72,6 +74,17 @@ in_two_parts (about.Lint NotAPattern) = (refl, refl)
 in_two_parts (about.Lint AlwaysHolds) = (refl, refl)
 in_two_parts (about.Lint NeverReached) = (refl, refl)
 in_two_parts (about.Lint NoPatternForUdev) = (refl, refl)
+in_two_parts (about.Lint NoMatch) = (refl, refl)
+in_two_parts (about.Lint NeverFits) = (refl, refl)
+in_two_parts (about.Lint BlankBesideBar) = (refl, refl)
+in_two_parts (about.Lint UnknownName) = (refl, refl)
+in_two_parts (about.Lint NotSubstituted) = (refl, refl)
+in_two_parts (about.Lint ListReplaced) = (refl, refl)
+in_two_parts (about.Lint MeantAsMatch) = (refl, refl)
+in_two_parts (about.Lint NameTooLong) = (refl, refl)
+in_two_parts (about.Lint WantedWithoutTag) = (refl, refl)
+in_two_parts (about.Lint ForbiddenCommand) = (refl, refl)
+in_two_parts (about.Lint NoResultYet) = (refl, refl)
 in_two_parts (about.DatabaseLint lint) = database_in_two_parts lint
 in_two_parts IdleIgnore = (refl, refl)
 in_two_parts UnknownCode = (refl, refl)
@@ -133,6 +146,17 @@ lint_warns NotAPattern = refl
 lint_warns AlwaysHolds = refl
 lint_warns NeverReached = refl
 lint_warns NoPatternForUdev = refl
+lint_warns NoMatch = refl
+lint_warns NeverFits = refl
+lint_warns BlankBesideBar = refl
+lint_warns UnknownName = refl
+lint_warns NotSubstituted = refl
+lint_warns ListReplaced = refl
+lint_warns MeantAsMatch = refl
+lint_warns NameTooLong = refl
+lint_warns WantedWithoutTag = refl
+lint_warns ForbiddenCommand = refl
+lint_warns NoResultYet = refl
 
 -- the words on each remark stay on their line
 in_one_line : (remark : Remark) → Lacks newline (code_of remark) × Lacks newline (text_of remark) × Lacks newline (advice_of remark)
@@ -189,6 +213,17 @@ in_one_line (about.Lint NotAPattern) = (refl, refl, refl)
 in_one_line (about.Lint AlwaysHolds) = (refl, refl, refl)
 in_one_line (about.Lint NeverReached) = (refl, refl, refl)
 in_one_line (about.Lint NoPatternForUdev) = (refl, refl, refl)
+in_one_line (about.Lint NoMatch) = (refl, refl, refl)
+in_one_line (about.Lint NeverFits) = (refl, refl, refl)
+in_one_line (about.Lint BlankBesideBar) = (refl, refl, refl)
+in_one_line (about.Lint UnknownName) = (refl, refl, refl)
+in_one_line (about.Lint NotSubstituted) = (refl, refl, refl)
+in_one_line (about.Lint ListReplaced) = (refl, refl, refl)
+in_one_line (about.Lint MeantAsMatch) = (refl, refl, refl)
+in_one_line (about.Lint NameTooLong) = (refl, refl, refl)
+in_one_line (about.Lint WantedWithoutTag) = (refl, refl, refl)
+in_one_line (about.Lint ForbiddenCommand) = (refl, refl, refl)
+in_one_line (about.Lint NoResultYet) = (refl, refl, refl)
 in_one_line (about.DatabaseLint lint) = database_in_one_line lint
 in_one_line IdleIgnore = (refl, refl, refl)
 in_one_line UnknownCode = (refl, refl, refl)
@@ -261,6 +296,17 @@ code_has_no_colon (about.Lint NotAPattern) = refl
 code_has_no_colon (about.Lint AlwaysHolds) = refl
 code_has_no_colon (about.Lint NeverReached) = refl
 code_has_no_colon (about.Lint NoPatternForUdev) = refl
+code_has_no_colon (about.Lint NoMatch) = refl
+code_has_no_colon (about.Lint NeverFits) = refl
+code_has_no_colon (about.Lint BlankBesideBar) = refl
+code_has_no_colon (about.Lint UnknownName) = refl
+code_has_no_colon (about.Lint NotSubstituted) = refl
+code_has_no_colon (about.Lint ListReplaced) = refl
+code_has_no_colon (about.Lint MeantAsMatch) = refl
+code_has_no_colon (about.Lint NameTooLong) = refl
+code_has_no_colon (about.Lint WantedWithoutTag) = refl
+code_has_no_colon (about.Lint ForbiddenCommand) = refl
+code_has_no_colon (about.Lint NoResultYet) = refl
 code_has_no_colon (about.DatabaseLint lint) = database_code_has_no_colon lint
 code_has_no_colon IdleIgnore = refl
 code_has_no_colon UnknownCode = refl

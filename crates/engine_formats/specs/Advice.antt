@@ -11,6 +11,8 @@ use Rattle.file_messages.specs.declared.message.MessageKind.TheVariants.{AssignE
 use Rattle.file_messages.specs.declared.message.MessageKind.TheVariants.{BlankExpected, ReadAsAssign, LabelUnused, LeadingComma, BlankBeforeComma}
 use Rattle.rule_lints.specs.declared.lint.Lint.{Lint}
 use Rattle.rule_lints.specs.declared.lint.Lint.TheVariants.{ModeNotOctal, SignOfShell, RelativeProgram, LetterCase, NoSuchDevice, ImportedBelow, MeantToCompare}
+use Rattle.rule_lints.specs.declared.lint.Lint.TheVariants.{NoMatch, NeverFits, BlankBesideBar, UnknownName, NotSubstituted, ListReplaced, MeantAsMatch}
+use Rattle.rule_lints.specs.declared.lint.Lint.TheVariants.{NameTooLong, WantedWithoutTag, ForbiddenCommand, NoResultYet}
 use Rattle.rule_lints.specs.declared.lint.Lint.TheVariants.{NameOutsideNet, LinkWithDev, QuotedName, NotAPattern, AlwaysHolds, NeverReached, NoPatternForUdev}
 use Rattle.engine_formats.specs.DatabaseLints.{database_advice}
 use Rattle.engine_formats.specs.declared.remark.Remark.{Remark}
@@ -74,6 +76,17 @@ advice_on_lint NotAPattern = codes "A pattern has *, ?, [..] and |, and is compa
 advice_on_lint AlwaysHolds = codes "Remove the match, or write ?* for any value but the empty one."
 advice_on_lint NeverReached = codes "Remove this rule, or give the rule above it a match."
 advice_on_lint NoPatternForUdev = codes "Write * for any tag, link or property, and the name of a file after TEST."
+advice_on_lint NoMatch = codes "Give the rule a match: without one it is for every device."
+advice_on_lint NeverFits = codes "Write the value as the kernel does: no device has this one."
+advice_on_lint BlankBesideBar = codes "Remove the blanks beside |: they are compared too."
+advice_on_lint UnknownName = codes "Write the known name or key, if that was meant."
+advice_on_lint NotSubstituted = codes "Write $name or %c{1}; in a match nothing is substituted."
+advice_on_lint ListReplaced = codes "Write += to add, or := if no other value is wanted."
+advice_on_lint MeantAsMatch = codes "Write == to compare the value."
+advice_on_lint NameTooLong = codes "Choose a name of at most 15 bytes."
+advice_on_lint WantedWithoutTag = codes "Add TAG+=\"systemd\" to the rule."
+advice_on_lint ForbiddenCommand = codes "Start a service by SYSTEMD_WANTS, or run systemd-mount."
+advice_on_lint NoResultYet = codes "Move PROGRAM to this rule, or to one above."
 
 -- the sentence on a remark
 abbrev pub advice_of : Remark → List ℕ

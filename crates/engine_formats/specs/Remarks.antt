@@ -6,6 +6,8 @@ use Rattle.text_bytes.specs.Texts.{begins_with, split_once}
 use Rattle.rule_lints.specs.declared.lint.Lint.{Lint}
 use Rattle.rule_lints.specs.declared.lint.Lint.TheVariants.{ModeNotOctal, SignOfShell, RelativeProgram, LetterCase, NoSuchDevice, ImportedBelow, MeantToCompare}
 use Rattle.rule_lints.specs.declared.lint.Lint.TheVariants.{NameOutsideNet, LinkWithDev, QuotedName, NotAPattern, AlwaysHolds, NeverReached, NoPatternForUdev}
+use Rattle.rule_lints.specs.declared.lint.Lint.TheVariants.{NoMatch, NeverFits, BlankBesideBar, UnknownName, NotSubstituted, ListReplaced, MeantAsMatch}
+use Rattle.rule_lints.specs.declared.lint.Lint.TheVariants.{NameTooLong, WantedWithoutTag, ForbiddenCommand, NoResultYet}
 use Rattle.engine_reports.specs.Messages.{heading_of}
 use Rattle.engine_formats.specs.DatabaseLints.{database_heading}
 use Rattle.engine_formats.specs.declared.remark.Remark.{Remark}
@@ -30,6 +32,17 @@ lint_heading NotAPattern = codes "W11 regular expression in a pattern"
 lint_heading AlwaysHolds = codes "W12 match that always holds"
 lint_heading NeverReached = codes "W13 rule never reached"
 lint_heading NoPatternForUdev = codes "W14 no pattern for udev"
+lint_heading NoMatch = codes "W15 rule without a match"
+lint_heading NeverFits = codes "W16 value that never fits"
+lint_heading BlankBesideBar = codes "W17 blank beside a bar"
+lint_heading UnknownName = codes "W18 name near a known one"
+lint_heading NotSubstituted = codes "W19 no substitution"
+lint_heading ListReplaced = codes "W20 list replaced"
+lint_heading MeantAsMatch = codes "W21 value assigned instead of compared"
+lint_heading NameTooLong = codes "W22 name of a network device too long"
+lint_heading WantedWithoutTag = codes "W23 unit wanted without a tag"
+lint_heading ForbiddenCommand = codes "W24 command that cannot work"
+lint_heading NoResultYet = codes "W25 result before its program"
 
 -- the code of a remark, and what it says
 abbrev pub remark_heading : Remark → List ℕ

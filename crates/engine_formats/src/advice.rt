@@ -130,6 +130,28 @@ const NEVER_REACHED: &[u8] = b"Remove this rule, or give the rule above it a mat
 const NO_PATTERN_FOR_UDEV: &[u8] =
     b"Write * for any tag, link or property, and the name of a file after TEST.";
 
+const NO_MATCH: &[u8] = b"Give the rule a match: without one it is for every device.";
+
+const NEVER_FITS: &[u8] = b"Write the value as the kernel does: no device has this one.";
+
+const BLANK_BESIDE_BAR: &[u8] = b"Remove the blanks beside |: they are compared too.";
+
+const UNKNOWN_NAME: &[u8] = b"Write the known name or key, if that was meant.";
+
+const NOT_SUBSTITUTED: &[u8] = b"Write $name or %c{1}; in a match nothing is substituted.";
+
+const LIST_REPLACED: &[u8] = b"Write += to add, or := if no other value is wanted.";
+
+const MEANT_AS_MATCH: &[u8] = b"Write == to compare the value.";
+
+const NAME_TOO_LONG: &[u8] = b"Choose a name of at most 15 bytes.";
+
+const WANTED_WITHOUT_TAG: &[u8] = b"Add TAG+=\"systemd\" to the rule.";
+
+const FORBIDDEN_COMMAND: &[u8] = b"Start a service by SYSTEMD_WANTS, or run systemd-mount.";
+
+const NO_RESULT_YET: &[u8] = b"Move PROGRAM to this rule, or to one above.";
+
 const IDLE_IGNORE: &[u8] = b"Remove the code from the comment, which silences nothing.";
 
 const UNKNOWN_CODE: &[u8] =
@@ -214,5 +236,16 @@ fn advice_on_lint(lint: Lint) -> &'static [u8]
         Lint::AlwaysHolds => ALWAYS_HOLDS,
         Lint::NeverReached => NEVER_REACHED,
         Lint::NoPatternForUdev => NO_PATTERN_FOR_UDEV,
+        Lint::NoMatch => NO_MATCH,
+        Lint::NeverFits => NEVER_FITS,
+        Lint::BlankBesideBar => BLANK_BESIDE_BAR,
+        Lint::UnknownName => UNKNOWN_NAME,
+        Lint::NotSubstituted => NOT_SUBSTITUTED,
+        Lint::ListReplaced => LIST_REPLACED,
+        Lint::MeantAsMatch => MEANT_AS_MATCH,
+        Lint::NameTooLong => NAME_TOO_LONG,
+        Lint::WantedWithoutTag => WANTED_WITHOUT_TAG,
+        Lint::ForbiddenCommand => FORBIDDEN_COMMAND,
+        Lint::NoResultYet => NO_RESULT_YET,
     }
 }

@@ -9,7 +9,7 @@ use hwdb_lints::DatabaseLint;
 use rule_lints::Lint;
 
 /// Each remark.
-const REMARKS: [Remark; 67] = [
+const REMARKS: [Remark; 78] = [
     Remark::Message(MessageKind::BadSyntax),
     Remark::Message(MessageKind::UnknownKey),
     Remark::Message(MessageKind::OperatorNotAllowed),
@@ -62,6 +62,17 @@ const REMARKS: [Remark; 67] = [
     Remark::Lint(Lint::AlwaysHolds),
     Remark::Lint(Lint::NeverReached),
     Remark::Lint(Lint::NoPatternForUdev),
+    Remark::Lint(Lint::NoMatch),
+    Remark::Lint(Lint::NeverFits),
+    Remark::Lint(Lint::BlankBesideBar),
+    Remark::Lint(Lint::UnknownName),
+    Remark::Lint(Lint::NotSubstituted),
+    Remark::Lint(Lint::ListReplaced),
+    Remark::Lint(Lint::MeantAsMatch),
+    Remark::Lint(Lint::NameTooLong),
+    Remark::Lint(Lint::WantedWithoutTag),
+    Remark::Lint(Lint::ForbiddenCommand),
+    Remark::Lint(Lint::NoResultYet),
     Remark::DatabaseLint(DatabaseLint::DigitCase),
     Remark::DatabaseLint(DatabaseLint::NoModalias),
     Remark::DatabaseLint(DatabaseLint::EndMissing),

@@ -14,7 +14,7 @@ use text_bytes::{begins_with, split_once};
 pub enum Remark {
     /// A message about a file.
     Message(MessageKind),
-    /// W1 to W14: a rule is most likely not the one that was meant.
+    /// W1 to W25: a rule is most likely not the one that was meant.
     Lint(Lint),
     /// D1 to D13: a line of a database is most likely not the one that was meant.
     DatabaseLint(DatabaseLint),
@@ -112,6 +112,17 @@ fn lint_heading(lint: Lint) -> &'static [u8]
         Lint::AlwaysHolds => b"W12 match that always holds",
         Lint::NeverReached => b"W13 rule never reached",
         Lint::NoPatternForUdev => b"W14 no pattern for udev",
+        Lint::NoMatch => b"W15 rule without a match",
+        Lint::NeverFits => b"W16 value that never fits",
+        Lint::BlankBesideBar => b"W17 blank beside a bar",
+        Lint::UnknownName => b"W18 name near a known one",
+        Lint::NotSubstituted => b"W19 no substitution",
+        Lint::ListReplaced => b"W20 list replaced",
+        Lint::MeantAsMatch => b"W21 value assigned instead of compared",
+        Lint::NameTooLong => b"W22 name of a network device too long",
+        Lint::WantedWithoutTag => b"W23 unit wanted without a tag",
+        Lint::ForbiddenCommand => b"W24 command that cannot work",
+        Lint::NoResultYet => b"W25 result before its program",
     }
 }
 

@@ -10,7 +10,7 @@ pub fn a_name_is_reported_in_a_rule_that_no_network_device_meets()
     ensures { Checks (linting Manual []) Gcc
         (text (
         codes "SUBSYSTEM==\"block\", NAME=\"a\"" ∷ codes "SUBSYSTEM==\"net\", NAME=\"b\"" ∷ codes "SUBSYSTEM!=\"net\", NAME=\"c\""
-        ∷ codes "SUBSYSTEM!=\"block\", NAME=\"d\"" ∷ codes "NAME=\"e\"" ∷ codes "SUBSYSTEM==\"net|block\", NAME=\"f\"" ∷ []))
+        ∷ codes "SUBSYSTEM!=\"block\", NAME=\"d\"" ∷ codes "KERNEL==\"e\", NAME=\"e\"" ∷ codes "SUBSYSTEM==\"net|block\", NAME=\"f\"" ∷ []))
         (said (codes "1 files checked, 0 good, 1 bad\n")
         (codes "r.rules:1:27: warning: name outside net: a [W8]\nr.rules:3:25: warning: name outside net: c [W8]\n") 1) }
 {}

@@ -1,5 +1,5 @@
 -- What the pass over the rules of a file keeps.
-use Rattle.std.proofs.Common.{◌≡◌, ℕ, ◌+◌, ◌<◌, ◌≤◌, suc, Bool, true, false, cond, ◌||◌, ◌&&◌, List, [], ◌∷◌, ◌++◌, length, map, get_or, take, drop, Option, Some, None, reverse, refl, ap, sym, ◌∙◌, append-nil, append_assoc, length-drop, arith}
+use Rattle.std.proofs.Common.{◌≡◌, ℕ, ◌+◌, ◌<◌, ◌≤◌, suc, Bool, true, false, cond, ◌||◌, ◌&&◌, List, [], ◌∷◌, ◌++◌, length, map, get_or, take, drop, Option, Some, None, reverse, refl, ap, subst, sym, ◌∙◌, append-nil, append_assoc, length-drop, arith}
 use Rattle.std.specs.List.{flat_map, list_any}
 use Rattle.std.proofs.Math.Seq.{drop-cons}
 use Rattle.std.proofs.lemmas.List.{reverse-append, take_more}
@@ -8,13 +8,17 @@ use Rattle.text_bytes.specs.declared.profile.Profile.{Profile}
 use Rattle.text_tables.specs.Texts.{Text, is_among, same_text, with_text, with_texts}
 use Rattle.text_tables.proofs.Found.{among_added}
 use Rattle.rule_file_lints.specs.Compared.{compared_texts, meant_spots, meant_to_compare, assigned_value, text_of, Valued}
-use Rattle.rule_file_lints.specs.FileLints.{lints_below, lints_of, spots_by, spots_of}
+use Rattle.rule_value_lints.specs.Assignments.{is_about_tags}
+use Rattle.rule_value_lints.specs.ValueLints.{value_lints}
+use Rattle.rule_file_lints.specs.Beside.{imported_beside, imports_any, late_spots}
+use Rattle.rule_file_lints.specs.FileLints.{FileNames, RulesAbove, left_by, lints_below, lints_of, names_of, spots_by, spots_of}
+use Rattle.rule_file_lints.specs.Guarded.{has_program, may_jump, no_result, unguarded}
 use Rattle.rule_file_lints.specs.FileRules.{FileRule}
 use Rattle.rule_file_lints.specs.Imported.{any_property, below_spots, families, given_by, given_names, has_property, imported_below, imported_names, is_of, wanted_in}
 use Rattle.rule_file_lints.specs.Matches.{is_match}
 use Rattle.rule_file_lints.specs.Reached.{jumps_above, never_reached}
 use Rattle.rule_lints.specs.RuleLints.{lints_of_rule}
-use Rattle.rule_file_lints.specs.Steps.{FileNames, RulesAbove, nothing_above, with_rule}
+use Rattle.rule_file_lints.specs.Steps.{nothing_above, with_rule}
 use Rattle.rule_core.specs.Written.{WrittenPart}
 use Rattle.rule_core.specs.declared.spot.Spot.{Spot}
 use Rattle.rule_lints.specs.declared.lint.Lint.{Lint}
@@ -84,24 +88,60 @@ meant_same compared all same (w ∷ tokens) =
     ap (λ x. cond (list_any (λ y. is_match y.part) tokens) x [] ++ meant_to_compare compared tokens) (spot_same compared all same w (assigned_value w.part))
     ∙ ap (λ x. cond (list_any (λ y. is_match y.part) tokens) (meant_spots all w (assigned_value w.part)) [] ++ x) (meant_same compared all same tokens)
 
-pub spots_same : (profile : Profile) (imported compared given all_imported all_compared before : List Text) (jump above : Option Text) (r : FileRule)
-    → SameTexts imported all_imported → SameTexts compared all_compared → SameTexts given before → jump ≡ above
-    → spots_by profile imported compared given jump r ≡ spots_by profile all_imported all_compared before above r
-spots_same profile imported compared given all_imported all_compared before jump above r i c g j =
-    ap (λ x. lints_of_rule profile r.draft.parts ++ (x ++ (meant_to_compare compared r.draft.parts ++ never_reached jump r))) (tokens_same imported all_imported given before i g r.draft.parts)
-    ∙ ap (λ x. lints_of_rule profile r.draft.parts ++ (flat_map (imported_below all_imported before) r.draft.parts ++ (x ++ never_reached jump r))) (meant_same compared all_compared c r.draft.parts)
-    ∙ ap (λ x. lints_of_rule profile r.draft.parts ++ (flat_map (imported_below all_imported before) r.draft.parts ++ (meant_to_compare all_compared r.draft.parts ++ never_reached x r))) j
+late_same : (given before : List Text) → SameTexts given before → (w : WrittenPart) (wanted : Option Text) → late_spots given w wanted ≡ late_spots before w wanted
+late_same given before g w None = refl
+late_same given before g w (Some name) = rw (g any_property, has_same given before g name)
+
+beside_same : (given before : List Text) → SameTexts given before → (imported : Bool) (tokens : List WrittenPart) → imported_beside given imported tokens ≡ imported_beside before imported tokens
+beside_same given before g imported [] = refl
+beside_same given before g imported (w ∷ tokens) =
+    ap (λ x. cond imported x [] ++ imported_beside given (imported || imports_any w) tokens) (late_same given before g w (wanted_in w.part))
+    ∙ ap (λ x. cond imported (late_spots before w (wanted_in w.part)) [] ++ x) (beside_same given before g (imported || imports_any w) tokens)
+
+-- names and what is left above are the same, the texts in any order
+pub record SameNames (names all : FileNames) : Type 0 where
+  pub imported : SameTexts names.imported all.imported
+  pub compared : SameTexts names.compared all.compared
+  pub tagged : names.tagged ≡ all.tagged
+
+pub record SameAbove (a b : RulesAbove) : Type 0 where
+  pub given : SameTexts a.given b.given
+  pub jump : a.jump ≡ b.jump
+  pub guarded : a.guarded ≡ b.guarded
+  pub programs : a.programs ≡ b.programs
+
+pub spots_same : (profile : Profile) (names all : FileNames) (a b : RulesAbove) (r : FileRule) → SameNames names all → SameAbove a b → spots_by profile names a r ≡ spots_by profile all b r
+spots_same profile names all a b r n s =
+    let tokens = r.draft.parts in
+    ap (λ x. lints_of_rule profile tokens ++ x)
+    (ap (λ t. value_lints t tokens ++ rest names.imported a.given names.compared a.jump a.guarded a.programs) n.tagged
+    ∙ ap (λ x. value_lints all.tagged tokens ++ x) rests)
+  where
+    rest : List Text → List Text → List Text → Option Text → Bool → Bool → List (Spot Lint)
+    rest imported given compared jump guarded programs =
+        flat_map (imported_below imported given) r.draft.parts
+        ++ (imported_beside given false r.draft.parts
+        ++ (meant_to_compare compared r.draft.parts
+        ++ (never_reached jump r
+        ++ (unguarded guarded r.draft.parts ++ no_result programs r.draft.parts))))
+
+    rests : rest names.imported a.given names.compared a.jump a.guarded a.programs ≡ rest all.imported b.given all.compared b.jump b.guarded b.programs
+    rests =
+        rw (tokens_same names.imported all.imported a.given b.given n.imported s.given r.draft.parts, beside_same a.given b.given s.given false r.draft.parts, meant_same names.compared all.compared n.compared r.draft.parts, s.jump, s.guarded, s.programs)
 
 -- going down: what the rules above leave is known, and the lints so far and those of the rules below are all
 pub record Descends (profile : Profile) (kept : List KeptLine) (above : RulesAbove) (spots : List (PlacedFinding Lint)) (rules : List FileRule) (i : ℕ) : Type 0 where
-  pub given : SameTexts above.given (given_names (reverse (take i rules)))
-  pub jump : above.jump ≡ jumps_above (reverse (take i rules))
+  pub left : SameAbove above (left_by (reverse (take i rules)))
   pub so_far : spots ++ lints_below profile kept rules (reverse (take i rules)) (drop i rules) ≡ lints_of profile kept rules
 
 pub down_start : (profile : Profile) (kept : List KeptLine) (above : RulesAbove) (spots : List (PlacedFinding Lint)) (rules : List FileRule) → above ≡ nothing_above → spots ≡ [] → Descends profile kept above spots rules 0
 down_start profile kept above spots rules e f = record {
-  given = λ name. ap (λ (a : RulesAbove). is_among a.given name) e;
-  jump = ap (λ (a : RulesAbove). a.jump) e;
+  left = record {
+    given = λ name. ap (λ (a : RulesAbove). is_among a.given name) e;
+    jump = ap (λ (a : RulesAbove). a.jump) e;
+    guarded = ap (λ (a : RulesAbove). a.guarded) e;
+    programs = ap (λ (a : RulesAbove). a.programs) e;
+  };
   so_far = ap (λ x. x ++ lints_of profile kept rules) f;
 }
 
@@ -118,25 +158,35 @@ given_more given above r same name =
     ∙ reversed_or (is_among (given_names above) name) (is_among (given_by r.draft.parts) name)
     ∙ sym (list_any-append (same_text name) (given_by r.draft.parts) (given_names above))
 
+-- one more rule above
+left_more : (above next : RulesAbove) (past : List FileRule) (r : FileRule) → SameAbove above (left_by past) → next ≡ with_rule above r → SameAbove next (left_by (r ∷ past))
+left_more above next past r same n = record {
+  given = λ name. ap (λ (a : RulesAbove). is_among a.given name) n ∙ given_more above.given past r same.given name;
+  jump = ap (λ (a : RulesAbove). a.jump) n;
+  guarded = ap (λ (a : RulesAbove). a.guarded) n ∙ ap (λ b. may_jump r || b) same.guarded;
+  programs = ap (λ (a : RulesAbove). a.programs) n ∙ ap (λ b. has_program r.draft.parts || b) same.programs;
+}
+
 pub down_past : (profile : Profile) (kept : List KeptLine) (above next : RulesAbove) (spots more : List (PlacedFinding Lint)) (found : List (Spot Lint)) (names : FileNames) (rules : List FileRule) (i : ℕ) (r : FileRule) → Descends profile kept above spots rules i
-    → i < length rules → r ≡ get_or rules i r → names.imported ≡ with_texts [] (imported_names rules) → names.compared ≡ with_texts [] (compared_texts rules)
-    → found ≡ spots_by profile names.imported names.compared above.given above.jump r → more ≡ spots ++ map (placed kept r.number r.start) found → next ≡ with_rule above r
+    → i < length rules → r ≡ get_or rules i r → names.imported ≡ with_texts [] (imported_names rules) → names.compared ≡ with_texts [] (compared_texts rules) → names.tagged ≡ list_any (λ s. is_about_tags s.draft.parts) rules
+    → found ≡ spots_by profile names above r → more ≡ spots ++ map (placed kept r.number r.start) found → next ≡ with_rule above r
     → Descends profile kept next more rules (i + 1)
-down_past profile kept above next spots more found names rules i r before h e imported compared f m n =
+down_past profile kept above next spots more found names rules i r before h e imported compared tagged f m n =
     let past : List FileRule = reverse (take i rules) in
     let reversed : reverse (take (i + 1) rules) ≡ r ∷ past = ap reverse (take_more rules i r h ∙ ap (λ x. take i rules ++ x ∷ []) (sym e)) ∙ reverse-append (take i rules) (r ∷ []) in
-    let own : spots_by profile names.imported names.compared above.given above.jump r ≡ spots_of profile rules past r =
-    spots_same profile names.imported names.compared above.given (imported_names rules) (compared_texts rules) (given_names past) above.jump (jumps_above past) r
-    (λ name. ap (λ x. is_among x name) imported ∙ all_added (imported_names rules) name)
-    (λ name. ap (λ x. is_among x name) compared ∙ all_added (compared_texts rules) name)
-    before.given before.jump in
+    let known : SameNames names (names_of rules) =
     record {
-      given = λ name. ap (λ (a : RulesAbove). is_among a.given name) n ∙ given_more above.given past r before.given name ∙ ap (λ rs. is_among (given_names rs) name) (sym reversed);
-      jump = ap (λ (a : RulesAbove). a.jump) n ∙ ap jumps_above (sym reversed);
+      imported = λ name. ap (λ x. is_among x name) imported ∙ all_added (imported_names rules) name;
+      compared = λ name. ap (λ x. is_among x name) compared ∙ all_added (compared_texts rules) name;
+      tagged = tagged;
+    } in
+    let own : spots_by profile names above r ≡ spots_of profile rules past r = spots_same profile names (names_of rules) above (left_by past) r known before.left in
+    record {
+      left = subst (λ rs. SameAbove next (left_by rs)) (sym reversed) (left_more above next past r before.left n);
       so_far =
           ap (λ x. x ++ lints_below profile kept rules (reverse (take (i + 1) rules)) (drop (i + 1) rules)) (m ∙ ap (λ (x : List (Spot Lint)). spots ++ map (placed kept r.number r.start) x) f)
-          ∙ ap (λ rs. (spots ++ map (placed kept r.number r.start) (spots_by profile names.imported names.compared above.given above.jump r)) ++ lints_below profile kept rules rs (drop (i + 1) rules)) reversed
-          ∙ append_assoc spots (map (placed kept r.number r.start) (spots_by profile names.imported names.compared above.given above.jump r)) (lints_below profile kept rules (r ∷ past) (drop (i + 1) rules))
+          ∙ ap (λ rs. (spots ++ map (placed kept r.number r.start) (spots_by profile names above r)) ++ lints_below profile kept rules rs (drop (i + 1) rules)) reversed
+          ∙ append_assoc spots (map (placed kept r.number r.start) (spots_by profile names above r)) (lints_below profile kept rules (r ∷ past) (drop (i + 1) rules))
           ∙ ap (λ x. spots ++ (map (placed kept r.number r.start) x ++ lints_below profile kept rules (r ∷ past) (drop (i + 1) rules))) own
           ∙ ap (λ rs. spots ++ lints_below profile kept rules past rs) (sym (rule_item rules i r h e))
           ∙ before.so_far;

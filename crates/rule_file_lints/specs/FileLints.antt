@@ -1,5 +1,6 @@
 -- All lints of a rules file, with their places.
-use Rattle.std.specs.Prelude.{List, [], ◌∷◌, ◌++◌, flat_map, map, Option}
+use Rattle.std.specs.Prelude.{Bool, false, List, [], ◌∷◌, ◌++◌, flat_map, map, Option}
+use Rattle.std.specs.List.{list_any}
 use Rattle.text_bytes.specs.declared.profile.Profile.{Profile}
 use Rattle.text_bytes.specs.declared.source_file.SourceFile.{SourceFile}
 use Rattle.text_tables.specs.Texts.{Text}
@@ -14,21 +15,52 @@ use Rattle.rule_file_lints.specs.FileRules.{FileRule, file_rules, rules_from}
 use Rattle.rule_file_lints.specs.Imported.{given_names, imported_below, imported_names}
 use Rattle.rule_file_lints.specs.Reached.{jumps_above, never_reached}
 use Rattle.rule_lints.specs.RuleLints.{lints_of_rule}
+use Rattle.rule_value_lints.specs.ValueLints.{value_lints}
+use Rattle.rule_value_lints.specs.Assignments.{is_about_tags}
+use Rattle.rule_file_lints.specs.Beside.{imported_beside}
+use Rattle.rule_file_lints.specs.Guarded.{are_guarded, have_program, no_result, unguarded}
 use Rattle.rule_places.specs.declared.placed_finding.PlacedFinding.{PlacedFinding}
 use Rattle.rule_core.specs.declared.spot.Spot.{Spot}
 
--- the lints of a rule among all rules of its file, by what they import and compare, what is given before it, and
--- where the rule above jumps
-abbrev pub spots_by : Profile → List Text → List Text → List Text → Option Text → FileRule → List (Spot Lint)
-spots_by profile imported compared given left_for r =
+-- what the rules of a file are about that the lints of each need: what they import and compare, and whether some are
+-- about tags
+pub record FileNames : Type 0 where
+  pub imported : List Text
+  pub compared : List Text
+  pub tagged : Bool
+
+-- what the lints of a rule need of the rules above it: what they import or assign, the label to which the nearest of them
+-- jumps for every device, and whether one of them may jump or has a program
+pub record RulesAbove : Type 0 where
+  pub given : List Text
+  pub jump : Option Text
+  pub guarded : Bool
+  pub programs : Bool
+
+-- the lints of a rule, by what its file and the rules above it are about
+abbrev pub spots_by : Profile → FileNames → RulesAbove → FileRule → List (Spot Lint)
+spots_by profile names a r =
     lints_of_rule profile r.draft.parts
-    ++ (flat_map (imported_below imported given) r.draft.parts
-    ++ (meant_to_compare compared r.draft.parts
-    ++ never_reached left_for r))
+    ++ (value_lints names.tagged r.draft.parts
+    ++ (flat_map (imported_below names.imported a.given) r.draft.parts
+    ++ (imported_beside a.given false r.draft.parts
+    ++ (meant_to_compare names.compared r.draft.parts
+    ++ (never_reached a.jump r
+    ++ (unguarded a.guarded r.draft.parts
+    ++ no_result a.programs r.draft.parts))))))
+
+-- what rules are about
+abbrev pub names_of : List FileRule → FileNames
+names_of all =
+    record { imported = imported_names all; compared = compared_texts all; tagged = list_any (λ r. is_about_tags r.draft.parts) all }
+
+-- what the rules above a rule leave, the nearest first
+abbrev pub left_by : List FileRule → RulesAbove
+left_by above = record { given = given_names above; jump = jumps_above above; guarded = are_guarded above; programs = have_program above }
 
 -- the lints of a rule among all of its file, given those above it, from the nearest on
 abbrev pub spots_of : Profile → List FileRule → List FileRule → FileRule → List (Spot Lint)
-spots_of profile all above r = spots_by profile (imported_names all) (compared_texts all) (given_names above) (jumps_above above) r
+spots_of profile all above r = spots_by profile (names_of all) (left_by above) r
 
 -- the lints of rules among all of a file at their places, given those above them, from the nearest on
 abbrev pub lints_below : Profile → List KeptLine → List FileRule → List FileRule → List FileRule → List (PlacedFinding Lint)

@@ -2,6 +2,8 @@ pub mod FileRules
 pub mod Matches
 pub mod Imported
 pub mod Compared
+pub mod Beside
+pub mod Guarded
 pub mod Reached
 pub mod Steps
 pub mod FileLints

@@ -1,32 +1,29 @@
 -- Serves inner proofs only: what its functions keep.
-use Rattle.std.specs.Prelude.{ℕ, ◌-◌, nat_lt, if◌then◌else◌, List, [], Option, None}
+use Rattle.std.specs.Prelude.{ℕ, ◌-◌, false, ◌||◌, nat_lt, if◌then◌else◌, List, [], Option, None}
 use Rattle.text_tables.specs.Texts.{Text, with_texts}
 use Rattle.rule_lints.specs.declared.lint.Lint.{Lint}
 use Rattle.rule_file_lints.specs.Compared.{assigned_value, meant_spots}
+use Rattle.rule_file_lints.specs.FileLints.{RulesAbove}
 use Rattle.rule_file_lints.specs.FileRules.{FileRule}
+use Rattle.rule_file_lints.specs.Guarded.{has_program, may_jump}
 use Rattle.rule_file_lints.specs.Imported.{given_by}
 use Rattle.rule_file_lints.specs.Matches.{is_match}
 use Rattle.rule_file_lints.specs.Reached.{jumps_to}
 use Rattle.rule_core.specs.Written.{WrittenPart}
 use Rattle.rule_core.specs.declared.spot.Spot.{Spot}
 
--- what the rules of a file import and compare
-pub record FileNames : Type 0 where
-  pub imported : List Text
-  pub compared : List Text
-
--- what the rules above a rule import or assign, and the label to which the nearest of them jumps for every device
-pub record RulesAbove : Type 0 where
-  pub given : List Text
-  pub jump : Option Text
-
 -- no rules above
 abbrev pub nothing_above : RulesAbove
-nothing_above = record { given = []; jump = None }
+nothing_above = record { given = []; jump = None; guarded = false; programs = false }
 
 -- one more rule above, which is then the nearest
 abbrev pub with_rule : RulesAbove → FileRule → RulesAbove
-with_rule a r = record { given = with_texts a.given (given_by r.draft.parts); jump = jumps_to r }
+with_rule a r = record {
+  given = with_texts a.given (given_by r.draft.parts);
+  jump = jumps_to r;
+  guarded = may_jump r || a.guarded;
+  programs = has_program r.draft.parts || a.programs;
+}
 
 -- how many of so many matches follow a token, which may be the first of them
 abbrev pub left_after : ℕ → WrittenPart → ℕ

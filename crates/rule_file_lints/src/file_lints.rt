@@ -1,6 +1,8 @@
 //! All lints of the rules of a file, in their order, with their places.
 ghost use Rattle.std.specs.Prelude.{◌≡◌, [], IfOk, OnOk};
+ghost use Rattle.std.specs.List.{list_any};
 ghost use Rattle.text_tables.specs.Texts.{with_texts};
+ghost use Rattle.rule_value_lints.specs.Assignments.{is_about_tags};
 ghost use Rattle.rule_file_lints.specs.Compared.{compared_texts};
 ghost use Rattle.rule_file_lints.specs.FileLints.{lints_of, lints_of_lines, spots_by};
 ghost use Rattle.rule_file_lints.specs.Imported.{imported_names};
@@ -8,23 +10,29 @@ ghost use Rattle.rule_file_lints.specs.Steps.{nothing_above, with_rule};
 
 use crate::file_rule::FileRule;
 use crate::file_rules::file_rules;
+use crate::guarded::{add_no_result, add_unguarded, has_program, may_jump};
 use crate::imported::{add_given, add_imported};
-use crate::imported_below::add_imported_below;
+use crate::imported_below::{add_imported_below, add_imported_beside};
 use crate::meant::{add_compared, add_meant};
 use crate::reached::{add_never_reached, jumps_to};
 use rule_core::{LandedReading, Spot};
 use rule_lints::{Lint, lints_of_rule};
 use rule_places::{KeptLines, PlacedFinding, place_spots};
+use rule_value_lints::{add_value_lints, is_about_tags};
 use std::alloc::{AllocError, Global};
 use std::marker::Model;
 use text_bytes::Profile;
 use text_tables::{OwnedTexts, Texts};
 
-/// What the rules of a file import and compare.
+/// What the rules of a file are about that the lints of each need.
 #[derive(Drop)]
 struct FileNames<'a> {
+    /// What they import.
     imported: Texts<'a>,
+    /// What they compare.
     compared: OwnedTexts,
+    /// Some give tags, or compare them.
+    tagged: bool,
 }
 
 /// What a rule needs to know about the rules above it.
@@ -34,32 +42,36 @@ struct RulesAbove<'a> {
     given: Texts<'a>,
     /// The label to which the nearest of them jumps for every device, if it does.
     jump: Option<&'a [u8]>,
+    /// One of them may jump.
+    guarded: bool,
+    /// One of them has a program.
+    programs: bool,
 }
 
 impl<'a> Model for FileNames<'a> {
-    ghost use Rattle.rule_file_lints.specs.Steps as steps;
+    ghost use Rattle.rule_file_lints.specs.FileLints as lints;
 
-    ghost Value = { steps.FileNames };
+    ghost Value = { lints.FileNames };
 
-    ghost view = { λ n. record { imported = n.imported; compared = n.compared } };
+    ghost view = { λ n. record { imported = n.imported; compared = n.compared; tagged = n.tagged } };
 }
 
 impl<'a> Model for RulesAbove<'a> {
     ghost use Rattle.std.specs.Prelude.{option_map};
-    ghost use Rattle.rule_file_lints.specs.Steps as steps;
+    ghost use Rattle.rule_file_lints.specs.FileLints as lints;
 
-    ghost Value = { steps.RulesAbove };
+    ghost Value = { lints.RulesAbove };
 
-    ghost view = { λ a. record { given = a.given; jump = option_map (λ t. t.now) a.jump } };
+    ghost view = { λ a. record { given = a.given; jump = option_map (λ t. t.now) a.jump; guarded = a.guarded; programs = a.programs } };
 }
 
 /// The lints of the lines of a file that were read, in the order of its rules, each with the physical line and the
 /// columns that it is about, for rules that are read by a profile. There are none for a line that is not a rule. The
 /// kept lines are those of the same file.
 ///
-/// The lints that are found in a rule by itself come first, then W6 and W7, each in written order, and W13 last. A
-/// place in several physical lines is reported as far as it is in the first of them. The number of a line or a
-/// column is at most 2^32 - 1.
+/// The lints that are found in a rule by itself come first, then those of its values, its names and its assignments, W6 and
+/// W7, each in written order, and W13, W15 and W25 last. A place in several physical lines is reported as far as it is in
+/// the first of them. The number of a line or a column is at most 2^32 - 1.
 pub fn lints_of_lines(
     alloc: Global,
     profile: Profile,
@@ -100,15 +112,34 @@ fn rule_spots(
     above: &RulesAbove<'_>,
     rule: &FileRule<'_, '_>,
 ) -> Result<Vec<Spot<Lint>>, AllocError>
-    ensures { IfOk result (λ spots. spots.items ≡ spots_by profile names.now.imported names.now.compared above.now.given above.now.jump rule.now) }
+    ensures { IfOk result (λ spots. spots.items ≡ spots_by profile names.now above.now rule.now) }
 {
     let draft = rule.draft;
     let tokens = &draft.parts;
     let mut spots = lints_of_rule(alloc, profile, tokens)?;
+    add_value_lints(alloc, &mut spots, names.tagged, tokens)?;
     add_imported_below(alloc, &mut spots, &names.imported, &above.given, tokens)?;
+    add_imported_beside(alloc, &mut spots, &above.given, tokens)?;
     add_meant(alloc, &mut spots, &names.compared, tokens)?;
     add_never_reached(alloc, &mut spots, above.jump, rule)?;
+    add_unguarded(alloc, &mut spots, above.guarded, tokens)?;
+    add_no_result(alloc, &mut spots, above.programs, tokens)?;
     Ok(spots)
+}
+
+/// Whether some of the rules give tags, or compare them.
+fn some_tagged(rules: &[FileRule<'_, '_>]) -> bool
+    ensures { result ≡ list_any (λ r. is_about_tags r.draft.parts) rules.now }
+{
+    rules.iter().any(|rule| is_tagged(rule))
+}
+
+/// Whether a rule gives tags, or compares them.
+fn is_tagged(rule: &FileRule<'_, '_>) -> bool
+    ensures { result ≡ is_about_tags rule.now.draft.parts }
+{
+    let draft = rule.draft;
+    is_about_tags(&draft.parts)
 }
 
 impl<'a> FileNames<'a> {
@@ -116,6 +147,7 @@ impl<'a> FileNames<'a> {
     fn of(alloc: Global, rules: &'a [FileRule<'_, '_>]) -> Result<FileNames<'a>, AllocError>
         ensures imported { IfOk result (λ names. names.imported ≡ with_texts [] (imported_names rules.now)) }
         ensures compared { IfOk result (λ names. names.compared ≡ with_texts [] (compared_texts rules.now)) }
+        ensures tagged { IfOk result (λ names. names.tagged ≡ list_any (λ r. is_about_tags r.draft.parts) rules.now) }
     {
         let mut imported = Texts::new(alloc);
         let mut compared = OwnedTexts::new(alloc);
@@ -124,7 +156,11 @@ impl<'a> FileNames<'a> {
             add_imported(&mut imported, &draft.parts)?;
             add_compared(alloc, &mut compared, &draft.parts)?;
         }
-        Ok(FileNames { imported, compared })
+        Ok(FileNames {
+            imported,
+            compared,
+            tagged: some_tagged(rules),
+        })
     }
 }
 
@@ -136,6 +172,8 @@ impl<'a> RulesAbove<'a> {
         RulesAbove {
             given: Texts::new(alloc),
             jump: None,
+            guarded: false,
+            programs: false,
         }
     }
 
@@ -146,6 +184,8 @@ impl<'a> RulesAbove<'a> {
         let draft = rule.draft;
         add_given(&mut self.given, &draft.parts)?;
         self.jump = jumps_to(rule);
+        self.guarded = may_jump(rule) || self.guarded;
+        self.programs = has_program(&draft.parts) || self.programs;
         Ok(())
     }
 }

@@ -1,7 +1,9 @@
 //! Matches of properties that are imported only further down.
-ghost use Rattle.std.specs.Prelude.{◌≡◌, ◌++◌, OnOk, flat_map, option_map};
+ghost use Rattle.std.specs.Prelude.{◌≡◌, [], ◌++◌, OnOk, false, flat_map, if◌then◌else◌, option_map};
+ghost use Rattle.rule_file_lints.specs.Beside.{imported_beside, late_spots};
 ghost use Rattle.rule_file_lints.specs.Imported.{asked_for, imported_below, wanted_in};
 
+use crate::beside::{imports_any, is_early};
 use crate::imported::{has_property, is_given};
 use rule_core::{Spot, WrittenPart, spot_at_key};
 use rule_lints::Lint;
@@ -39,6 +41,58 @@ fn add_token(
 {
     if let Some(name) = wanted_in(&token.part) {
         if has_property(imported, name) && !is_given(given, name) {
+            let word = Bytes::copy_of(alloc, name)?;
+            spots.push(spot_at_key(Lint::ImportedBelow, word, &token.token))?;
+        }
+    }
+    Ok(())
+}
+
+/// Adds the matches of a rule that are written after an import of any names, and ask for properties that are not given
+/// before the rule.
+pub(crate) fn add_imported_beside(
+    alloc: Global,
+    spots: &mut Vec<Spot<Lint>>,
+    given: &Texts<'_>,
+    tokens: &[WrittenPart<'_>],
+) -> Result<(), AllocError>
+    ensures { OnOk result (spots.new.items ≡ spots.old.items ++ imported_beside given.now false tokens.now) }
+{
+    let mut imported = false;
+    for token in tokens {
+        add_if_imported(alloc, spots, given, imported, token)?;
+        imported = imported || imports_any(token);
+    }
+    Ok(())
+}
+
+/// Adds a match that asks for a property that is not given before, if an import of any names is written before it.
+fn add_if_imported(
+    alloc: Global,
+    spots: &mut Vec<Spot<Lint>>,
+    given: &Texts<'_>,
+    imported: bool,
+    token: &WrittenPart<'_>,
+) -> Result<(), AllocError>
+    ensures { OnOk result (spots.new.items ≡ spots.old.items ++ (if imported then late_spots given.now token.now (wanted_in token.now.part) else [])) }
+{
+    if imported {
+        add_late(alloc, spots, given, token)?;
+    }
+    Ok(())
+}
+
+/// Adds a match that asks for a property that is not given before.
+fn add_late(
+    alloc: Global,
+    spots: &mut Vec<Spot<Lint>>,
+    given: &Texts<'_>,
+    token: &WrittenPart<'_>,
+) -> Result<(), AllocError>
+    ensures { OnOk result (spots.new.items ≡ spots.old.items ++ late_spots given.now token.now (wanted_in token.now.part)) }
+{
+    if let Some(name) = wanted_in(&token.part) {
+        if !(is_given(given, name) || is_early(name)) {
             let word = Bytes::copy_of(alloc, name)?;
             spots.push(spot_at_key(Lint::ImportedBelow, word, &token.token))?;
         }

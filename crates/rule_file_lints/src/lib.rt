@@ -5,10 +5,12 @@
 //! a file have their places here.
 #![tactic(auto)]
 
+mod beside;
 mod file_laws;
 mod file_lints;
 mod file_rule;
 mod file_rules;
+mod guarded;
 mod imported;
 mod imported_below;
 mod matches;

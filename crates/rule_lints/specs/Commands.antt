@@ -1,8 +1,8 @@
 -- The commands of a rule, and what in them is meant for a shell.
-use Rattle.std.specs.Prelude.{ℕ, Bool, true, false, not, ◌&&◌, ◌||◌, ◌==◌, if◌then◌else◌, List, [], ◌∷◌, Option, Some, None, is_none, take, codes}
-use Rattle.std.specs.List.{prefix_len}
+use Rattle.std.specs.Prelude.{ℕ, Bool, true, false, not, ◌&&◌, ◌||◌, ◌==◌, nat_eq, if◌then◌else◌, List, [], ◌∷◌, Option, Some, None, is_none, take, codes}
+use Rattle.std.specs.List.{ends_with, list_any, prefix_len}
 use Rattle.std.specs.Option.{option_and_then}
-use Rattle.text_bytes.specs.Names.{bar, double_quote, is_blank, single_quote, slash}
+use Rattle.text_bytes.specs.Names.{bar, double_quote, equals, is_blank, single_quote, slash}
 use Rattle.text_bytes.specs.Texts.{begins_with, unindented}
 use Rattle.rule_types.specs.declared.part.Change.{Change}
 use Rattle.rule_types.specs.declared.part.Change.TheVariants as change
@@ -14,7 +14,7 @@ use Rattle.rule_types.specs.declared.part.Part.TheVariants as part
 use Rattle.rule_types.specs.declared.types.RunType.TheVariants as run_of
 use Rattle.text_tables.specs.Texts.{is_among}
 use Rattle.rule_lints.specs.Parts.{change_of}
-use Rattle.rule_lints.specs.Texts.{rest_after_last}
+use Rattle.rule_lints.specs.Texts.{before_first, has_byte, rest_after_last}
 
 -- the byte `&`
 abbrev pub ampersand : ℕ
@@ -23,6 +23,10 @@ ampersand = 38
 -- the byte `;`
 abbrev pub semicolon : ℕ
 semicolon = 59
+
+-- the byte `~`
+abbrev pub tilde : ℕ
+tilde = 126
 
 -- the byte `>`
 abbrev pub greater : ℕ
@@ -64,10 +68,10 @@ is_word_end (b ∷ text) = is_blank b
 abbrev pub is_redirected : List ℕ → Bool
 is_redirected text = (is_word_end text || begins_with slash text) || (begins_with ampersand text || begins_with greater text)
 
--- whether a byte is a sign of the shell before this text: `|` or `;` at the end of a word, `>` before its target, or
+-- whether a byte is a sign of the shell before this text: `|`, `;` or `&` at the end of a word, `>` before its target, or
 -- `&` and another `&`
 abbrev pub is_shell_sign : ℕ → List ℕ → Bool
-is_shell_sign b text = ((b == bar || b == semicolon)
+is_shell_sign b text = ((b == bar || (b == semicolon || b == ampersand))
     && is_word_end text) || ((b == greater && is_redirected text) || (b == ampersand && begins_with ampersand text))
 
 -- whether a text has a sign of the shell outside of quotes, if this quote is open before it
@@ -91,9 +95,14 @@ program_name command = rest_after_last slash (first_word command)
 abbrev pub shells : List (List ℕ)
 shells = codes "sh" ∷ codes "ash" ∷ codes "bash" ∷ codes "dash" ∷ codes "ksh" ∷ codes "zsh" ∷ []
 
--- a command, if it has a sign of the shell and no shell runs it
+-- whether a word is what only a shell reads as a first one: a home folder, or a variable that is set
+abbrev pub is_shell_word : List ℕ → Bool
+is_shell_word word = begins_with tilde word || has_byte equals (before_first slash word)
+
+-- a command, if it has a sign of the shell, or begins as only one of the shell does, and no shell runs it
 abbrev pub lacks_shell : List ℕ → Option (List ℕ)
-lacks_shell command = if has_shell_sign command && not (is_among shells (program_name command)) then Some command else None
+lacks_shell command =
+    if (has_shell_sign command || is_shell_word (first_word command)) && not (is_among shells (program_name command)) then Some command else None
 
 -- the value with which W2 is reported
 abbrev pub shell_command : Part → Option (List ℕ)
@@ -108,10 +117,33 @@ commands_elsewhere =
     ∷ codes "rmmod" ∷ codes "setfacl" ∷ codes "sh" ∷ codes "sleep" ∷ codes "su" ∷ codes "sudo" ∷ codes "systemctl"
     ∷ codes "systemd-run" ∷ codes "sysctl" ∷ codes "tee" ∷ codes "touch" ∷ codes "udevadm" ∷ codes "umount" ∷ []
 
--- a command, if its first word is the name of one that is elsewhere
+-- the suffixes of scripts
+abbrev pub script_suffixes : List (List ℕ)
+script_suffixes = codes ".sh" ∷ codes ".py" ∷ []
+
+-- whether a word is the name of a script, without a path
+abbrev pub is_bare_script : List ℕ → Bool
+is_bare_script word = not (has_byte slash word) && list_any (λ suffix. ends_with nat_eq word suffix) script_suffixes
+
+-- a command, if its first word is the name of one that is elsewhere, or of a script
 abbrev pub lacks_path : List ℕ → Option (List ℕ)
-lacks_path command = if is_among commands_elsewhere (first_word command) then Some command else None
+lacks_path command = if is_among commands_elsewhere (first_word command) || is_bare_script (first_word command) then Some command else None
 
 -- the value with which W3 is reported
 abbrev pub relative_program : Part → Option (List ℕ)
 relative_program p = option_and_then lacks_path (option_and_then run_command (change_of p))
+
+-- programs that can't do their work in the sandbox where udev runs commands: those that mount and unmount, and those
+-- that use the network (udev(7), "RUN")
+abbrev pub forbidden_programs : List (List ℕ)
+forbidden_programs =
+    codes "curl" ∷ codes "fusermount" ∷ codes "fusermount3" ∷ codes "mount" ∷ codes "ntfs-3g" ∷ codes "ping" ∷ codes "rsync" ∷ codes "scp"
+    ∷ codes "ssh" ∷ codes "sshfs" ∷ codes "umount" ∷ codes "wget" ∷ []
+
+-- a command, if its program is one of these
+abbrev pub is_forbidden : List ℕ → Option (List ℕ)
+is_forbidden command = if is_among forbidden_programs (program_name command) then Some command else None
+
+-- the value with which W24 is reported
+abbrev pub forbidden_command : Part → Option (List ℕ)
+forbidden_command p = option_and_then is_forbidden (command_of p)

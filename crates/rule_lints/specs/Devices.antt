@@ -1,16 +1,23 @@
--- W5: the attributes that a rule asks one device for are those of different devices.
-use Rattle.std.specs.Prelude.{ℕ, Bool, true, false, not, if◌then◌else◌, List, [], ◌∷◌, Option, Some, None, codes}
-use Rattle.std.specs.Option.{option_and_then}
+-- W5: what a rule asks one device for is of different devices.
+use Rattle.std.specs.Prelude.{ℕ, Bool, true, false, not, ◌==◌, nat_eq, if◌then◌else◌, List, [], ◌∷◌, Option, Some, None, codes, unwrap_or}
+use Rattle.std.specs.List.{starts_with}
+use Rattle.text_bytes.specs.Names.{bar, colon, minus}
 use Rattle.rule_types.specs.declared.part.Part.{Part}
 use Rattle.rule_types.specs.declared.part.Part.TheVariants as part
 use Rattle.rule_types.specs.declared.roles.MatchOperator.{MatchOperator}
 use Rattle.rule_types.specs.declared.roles.MatchOperator.TheVariants as op
+use Rattle.rule_types.specs.declared.roles.PlainKey.{PlainKey}
+use Rattle.rule_types.specs.declared.roles.PlainKey.TheVariants as plain
 use Rattle.rule_types.specs.declared.roles.UpKey.{UpKey}
 use Rattle.rule_types.specs.declared.roles.UpKey.TheVariants as up
-use Rattle.text_tables.specs.Texts.{is_among}
+use Rattle.text_tables.specs.Texts.{is_among, same_text}
+use Rattle.rule_tokens.specs.Grammar.{Placed}
 use Rattle.rule_core.specs.Written.{WrittenPart}
 use Rattle.rule_lints.specs.declared.devices.Group.{Group}
-use Rattle.rule_lints.specs.declared.devices.Group.TheVariants.{UsbDevice, UsbInterface, Input, Pci}
+use Rattle.rule_lints.specs.declared.devices.Group.TheVariants.{UsbDevice, UsbInterface, Input, Pci, Tty, Net, Block, Hidraw, Sound, Video}
+use Rattle.rule_lints.specs.declared.devices.Side.{Side}
+use Rattle.rule_lints.specs.declared.devices.Side.TheVariants.{Event, Chain}
+use Rattle.rule_lints.specs.Texts.{has_byte, rest_after_first}
 
 -- attributes of a USB device, and of none of its interfaces
 abbrev pub usb_device_names : List (List ℕ)
@@ -40,27 +47,97 @@ group_named name =
     else (if is_among input_names name then Some Input
     else (if is_among pci_names name then Some Pci else None)))
 
--- whether two groups are the same
+-- drivers of interfaces of USB devices, and of no other devices
+abbrev pub interface_drivers : List (List ℕ)
+interface_drivers =
+    codes "cdc_acm" ∷ codes "cdc_ether" ∷ codes "cdc_mbim" ∷ codes "cdc_ncm" ∷ codes "ch341" ∷ codes "cp210x" ∷ codes "ftdi_sio" ∷ codes "option"
+    ∷ codes "pl2303" ∷ codes "qcserial" ∷ codes "qmi_wwan" ∷ codes "snd-usb-audio" ∷ codes "uas" ∷ codes "usb-storage" ∷ codes "usbhid"
+    ∷ codes "uvcvideo" ∷ []
+
+-- the kind of devices that alone is in a subsystem, if that is known
+abbrev pub group_in_subsystem : List ℕ → Option Group
+group_in_subsystem name =
+    if same_text name (codes "input") then Some Input
+    else (if same_text name (codes "pci") then Some Pci
+    else (if same_text name (codes "tty") then Some Tty
+    else (if same_text name (codes "net") then Some Net
+    else (if same_text name (codes "block") then Some Block
+    else (if same_text name (codes "hidraw") then Some Hidraw
+    else (if same_text name (codes "sound") then Some Sound
+    else (if same_text name (codes "video4linux") then Some Video else None)))))))
+
+-- what the kernel's names of devices of a kind begin with
+abbrev pub stems : List (List ℕ × Group)
+stems =
+    (codes "ttyUSB", Tty) ∷ (codes "ttyACM", Tty) ∷ (codes "ttyS", Tty) ∷ (codes "sda", Block) ∷ (codes "sdb", Block) ∷ (codes "sdc", Block)
+    ∷ (codes "sd[a-z]", Block) ∷ (codes "sd?", Block) ∷ (codes "mmcblk", Block) ∷ (codes "eth", Net) ∷ (codes "wlan", Net) ∷ (codes "hidraw", Hidraw)
+    ∷ (codes "video", Video) ∷ []
+
+-- the kind of the first of these stems that a text begins with
+abbrev pub group_by_stem : List (List ℕ × Group) → List ℕ → Option Group
+group_by_stem [] text = None
+group_by_stem (row ∷ rows) text = if starts_with nat_eq text row.0 then Some row.1 else group_by_stem rows text
+
+-- the kind of devices that alone has the kernel's names that a value asks for; one of several patterns is not known
+abbrev pub group_of_kernel : List ℕ → Option Group
+group_of_kernel value = if has_byte bar value then None else group_by_stem stems value
+
+-- the same for a parent: a `:` after a `-` is in the name of an interface of a USB device, as in `1-2:1.0`
+abbrev pub group_of_parent : List ℕ → Option Group
+group_of_parent value =
+    if has_byte bar value then None
+    else (if has_byte colon (rest_after_first minus value) then Some UsbInterface else None)
+
+-- the kind of devices that alone has a driver, if that is known
+abbrev pub group_of_driver : List ℕ → Option Group
+group_of_driver name = if is_among interface_drivers name then Some UsbInterface else None
+
+-- the kind of devices that alone meets a match of the event by `==`
+abbrev pub group_of_plain : PlainKey → List ℕ → Option Group
+group_of_plain (plain.Attr name) value = group_named name
+group_of_plain plain.Subsystem value = group_in_subsystem value
+group_of_plain plain.Kernel value = group_of_kernel value
+group_of_plain _ value = None
+
+-- the same for a match of one device of the chain
+abbrev pub group_of_up : UpKey → List ℕ → Option Group
+group_of_up (up.Attrs name) value = group_named name
+group_of_up up.Subsystems value = group_in_subsystem value
+group_of_up up.Kernels value = group_of_parent value
+group_of_up up.Drivers value = group_of_driver value
+group_of_up _ value = None
+
+-- what is known of a match by `==`
+abbrev pub if_equal : MatchOperator → Option Group → Option Group
+if_equal op.Equal group = group
+if_equal _ group = None
+
+-- the kind of devices that alone meets a part that asks for the event's device, or for one of the chain
+abbrev pub group_of_part : Side → Part → Option Group
+group_of_part Event (part.Plain m) = if_equal m.wanted.operator (group_of_plain m.key m.wanted.written)
+group_of_part Chain (part.Up m) = if_equal m.wanted.operator (group_of_up m.key m.wanted.written)
+group_of_part _ _ = None
+
+-- the same for a token
+abbrev pub group_of : Side → WrittenPart → Option Group
+group_of side w = group_of_part side w.part
+
+-- how many kinds come before a kind
+abbrev pub number : Group → ℕ
+number UsbDevice = 0
+number UsbInterface = 1
+number Input = 2
+number Pci = 3
+number Tty = 4
+number Net = 5
+number Block = 6
+number Hidraw = 7
+number Sound = 8
+number Video = 9
+
+-- whether two kinds are the same
 abbrev pub is_same : Group → Group → Bool
-is_same UsbDevice UsbDevice = true
-is_same UsbInterface UsbInterface = true
-is_same Input Input = true
-is_same Pci Pci = true
-is_same _ _ = false
-
--- the name of the attribute that a match of one device asks for by `==`
-abbrev pub asked_by : UpKey → MatchOperator → Option (List ℕ)
-asked_by (up.Attrs name) op.Equal = Some name
-asked_by _ _ = None
-
--- the name of the attribute that a part asks one device of the chain for by `==`
-abbrev pub asked_name : Part → Option (List ℕ)
-asked_name (part.Up m) = asked_by m.key m.wanted.operator
-asked_name _ = None
-
--- the kind of devices that alone has the attribute that a token asks for
-abbrev pub group_of : WrittenPart → Option Group
-group_of w = option_and_then group_named (asked_name w.part)
+is_same group other = number group == number other
 
 -- whether there is a group, and it is not this one
 abbrev pub is_other : Group → Option Group → Bool
@@ -69,11 +146,15 @@ is_other group (Some found) = not (is_same group found)
 
 -- The first token of another group than that of the first token of a group. If a group is given, that is the group of
 -- the first.
-abbrev pub stranger_by : Option Group → List WrittenPart → Option WrittenPart
-stranger_by first [] = None
-stranger_by None (w ∷ tokens) = stranger_by (group_of w) tokens
-stranger_by (Some group) (w ∷ tokens) = if is_other group (group_of w) then Some w else stranger_by (Some group) tokens
+abbrev pub stranger_by : Side → Option Group → List WrittenPart → Option WrittenPart
+stranger_by side first [] = None
+stranger_by side None (w ∷ tokens) = stranger_by side (group_of side w) tokens
+stranger_by side (Some group) (w ∷ tokens) = if is_other group (group_of side w) then Some w else stranger_by side (Some group) tokens
 
--- the token with which W5 is reported
-abbrev pub stranger : List WrittenPart → Option WrittenPart
-stranger tokens = stranger_by None tokens
+-- the token with which W5 is reported of a side
+abbrev pub stranger : Side → List WrittenPart → Option WrittenPart
+stranger side tokens = stranger_by side None tokens
+
+-- what W5 is reported with: the text in braces, or the key
+abbrev pub asked : Placed → List ℕ
+asked t = unwrap_or t.parts.head.attribute t.parts.head.key

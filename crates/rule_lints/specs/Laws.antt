@@ -13,6 +13,7 @@ use Rattle.rule_lints.specs.Patterns.{are_expressions, close_parenthesis, open_p
 use Rattle.rule_lints.specs.Texts.{has_byte}
 use Rattle.rule_core.specs.Written.{WrittenPart}
 use Rattle.rule_lints.specs.declared.devices.Group.{Group}
+use Rattle.rule_lints.specs.declared.devices.Side.{Side}
 use Rattle.rule_lints.specs.declared.letter_case.Writing.{Writing}
 
 -- the number that octal digits write, each by its position
@@ -84,22 +85,22 @@ is_reported_as_expression text = are_expressions (slice_split is_bar text)
 abbrev pub is_reported_to_hold : List ℕ → Bool
 is_reported_to_hold text = some_pattern take_all (choice text)
 
--- The attributes that a rule asks one device for are not those of different devices: there is a kind of devices, and
--- no token's attribute is that of another kind.
-pub record AreOfOneGroup (tokens : List WrittenPart) : Type 0 where
+-- What a rule asks one device for is not of different devices: there is a kind of devices, and no token asks for another
+-- kind.
+pub record AreOfOneGroup (side : Side) (tokens : List WrittenPart) : Type 0 where
   pub group : Group
-  pub none_other : AllByRecursion (λ w. is_other group (group_of w) ≡ false) tokens
+  pub none_other : AllByRecursion (λ w. is_other group (group_of side w) ≡ false) tokens
 
--- A token is the first whose attribute is of other devices than one before it: tokens come before it, of which some
--- ask for an attribute of a group, and none for one of another group, while it does.
-pub record IsStranger (tokens : List WrittenPart) (w : WrittenPart) : Type 0 where
+-- A token is the first that asks for other devices than one before it: tokens come before it, of which some ask for a
+-- kind, and none for another one, while it does.
+pub record IsStranger (side : Side) (tokens : List WrittenPart) (w : WrittenPart) : Type 0 where
   pub group : Group
   pub before : List WrittenPart
   pub following : List WrittenPart
   pub whole : tokens ≡ before ++ w ∷ following
-  pub some : list_any (λ v. is_some (group_of v)) before ≡ true
-  pub none_other : AllByRecursion (λ v. is_other group (group_of v) ≡ false) before
-  pub other : is_other group (group_of w) ≡ true
+  pub some : list_any (λ v. is_some (group_of side v)) before ≡ true
+  pub none_other : AllByRecursion (λ v. is_other group (group_of side v) ≡ false) before
+  pub other : is_other group (group_of side w) ≡ true
 
 -- A text has a `{`, after it a `,`, and after that a `}`.
 pub record HasBraces (text : List ℕ) : Type 0 where

@@ -18,14 +18,14 @@ use Rattle.rule_lints.specs.Parts.{comparison_of}
 use Rattle.rule_lints.specs.declared.letter_case.Writing.{Writing}
 use Rattle.rule_lints.specs.declared.letter_case.Writing.TheVariants.{Lower, Prefixed, Alias}
 
--- attributes in which the kernel writes hexadecimal digits in lower case letters
+-- attributes in which the kernel writes hexadecimal digits in lower case letters, the address of a network card among them
 abbrev pub lower_names : List (List ℕ)
 lower_names =
     codes "idVendor" ∷ codes "idProduct" ∷ codes "bcdDevice"
     ∷ codes "bDeviceClass" ∷ codes "bDeviceSubClass" ∷ codes "bDeviceProtocol"
     ∷ codes "bInterfaceClass" ∷ codes "bInterfaceSubClass" ∷ codes "bInterfaceProtocol" ∷ codes "bInterfaceNumber" ∷ codes "bNumEndpoints"
     ∷ codes "id/vendor" ∷ codes "id/product" ∷ codes "id/version" ∷ codes "id/bustype"
-    ∷ codes "subsystem_vendor" ∷ codes "subsystem_device"
+    ∷ codes "subsystem_vendor" ∷ codes "subsystem_device" ∷ codes "address"
     ∷ []
 
 -- attributes that several subsystems have, and that are such digits if `0x` comes before them

@@ -3,7 +3,7 @@
 use Rattle.std.specs.Prelude.{ℕ, Bool, true, false, not, ◌&&◌, ◌||◌, ◌==◌, nat_eq, if◌then◌else◌, List, [], ◌∷◌, Option, Some, None, codes}
 use Rattle.std.specs.List.{list_all, list_any, slice_split, starts_with}
 use Rattle.std.specs.Option.{option_and_then}
-use Rattle.text_bytes.specs.Names.{backslash, caret, close_brace, comma, dollar, open_brace}
+use Rattle.text_bytes.specs.Names.{backslash, caret, close_brace, close_bracket, comma, dollar, open_brace, plus}
 use Rattle.text_bytes.specs.Texts.{begins_with, ends_in, is_empty}
 use Rattle.text_bytes.specs.declared.profile.Profile.{Profile}
 use Rattle.text_bytes.specs.declared.profile.Profile.TheVariants.{Manual, Udev}
@@ -41,10 +41,10 @@ abbrev pub begins_with_class : List ℕ → Bool
 begins_with_class [] = false
 begins_with_class (b ∷ text) = is_class_letter b
 
--- whether a `\` with such a letter after it is in a text
+-- whether a `\` with such a letter after it is in a text, or a `]` with a `+` after it
 abbrev pub has_class : List ℕ → Bool
 has_class [] = false
-has_class (b ∷ text) = (b == backslash && begins_with_class text) || has_class text
+has_class (b ∷ text) = ((b == backslash && begins_with_class text) || (b == close_bracket && begins_with plus text)) || has_class text
 
 -- whether a text has a `(` that no `)` follows: one after the last `)`
 abbrev pub has_open_parenthesis : List ℕ → Bool

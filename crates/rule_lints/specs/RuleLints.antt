@@ -6,8 +6,10 @@ use Rattle.rule_tokens.specs.Grammar.{Placed}
 use Rattle.rule_lints.specs.declared.lint.Lint.{Lint}
 use Rattle.rule_lints.specs.declared.lint.Lint.TheVariants.{ModeNotOctal, SignOfShell, RelativeProgram, LetterCase, NoSuchDevice, NameOutsideNet}
 use Rattle.rule_lints.specs.declared.lint.Lint.TheVariants.{LinkWithDev, QuotedName, NotAPattern, AlwaysHolds, NoPatternForUdev}
-use Rattle.rule_lints.specs.Commands.{relative_program, shell_command}
-use Rattle.rule_lints.specs.Devices.{asked_name, stranger}
+use Rattle.rule_lints.specs.declared.lint.Lint.TheVariants.{NeverFits, BlankBesideBar, NotSubstituted, NameTooLong, ForbiddenCommand}
+use Rattle.rule_lints.specs.declared.devices.Side.TheVariants.{Event, Chain}
+use Rattle.rule_lints.specs.Commands.{forbidden_command, relative_program, shell_command}
+use Rattle.rule_lints.specs.Devices.{asked, stranger}
 use Rattle.rule_lints.specs.LetterCase.{wrong_case}
 use Rattle.rule_lints.specs.Modes.{wrong_mode}
 use Rattle.rule_lints.specs.Names.{dev_link, is_outside_net, name_given, quoted_name}
@@ -22,26 +24,40 @@ word_of profile ModeNotOctal w = wrong_mode profile w.part
 word_of profile SignOfShell w = shell_command w.part
 word_of profile RelativeProgram w = relative_program w.part
 word_of profile LetterCase w = wrong_case w.part
-word_of profile NoSuchDevice w = asked_name w.part
+word_of profile NoSuchDevice w = Some (asked w.token)
 word_of profile NameOutsideNet w = name_given w.part
 word_of profile LinkWithDev w = dev_link profile w.part
 word_of profile QuotedName w = quoted_name w.token
 word_of profile NotAPattern w = expression w.part
 word_of profile AlwaysHolds w = if always_holds w.part then Some w.token.parts.head.key else None
 word_of profile NoPatternForUdev w = if is_no_pattern profile w.part then Some w.token.parts.head.key else None
+word_of profile ForbiddenCommand w = forbidden_command w.part
 word_of profile _ w = None
 
 -- whether a lint is about a token's key, and not about its value
 abbrev pub is_of_key : Lint → Bool
-is_of_key NoSuchDevice = true
-is_of_key QuotedName = true
-is_of_key AlwaysHolds = true
-is_of_key NoPatternForUdev = true
-is_of_key _ = false
+is_of_key ModeNotOctal = false
+is_of_key SignOfShell = false
+is_of_key RelativeProgram = false
+is_of_key LetterCase = false
+is_of_key NameOutsideNet = false
+is_of_key LinkWithDev = false
+is_of_key NotAPattern = false
+is_of_key NeverFits = false
+is_of_key BlankBesideBar = false
+is_of_key NotSubstituted = false
+is_of_key NameTooLong = false
+is_of_key ForbiddenCommand = false
+is_of_key _ = true
 
 -- a lint about a token, reported with a text
 abbrev pub spot_of : Lint → Placed → List ℕ → Spot Lint
 spot_of lint t word = if is_of_key lint then spot_at_key lint word t else value_spot lint word t
+
+-- a lint about a token, if there is a text with which it is reported
+abbrev pub spots_with : Lint → Placed → Option (List ℕ) → List (Spot Lint)
+spots_with lint t None = []
+spots_with lint t (Some word) = spot_of lint t word ∷ []
 
 -- what a lint of single tokens finds in this one
 abbrev pub reported_for : Profile → Lint → WrittenPart → Option (Spot Lint)
@@ -63,14 +79,16 @@ names_reported profile tokens = if is_outside_net tokens then reported profile N
 -- what is reported for a rule's tokens: the lints in the order of their codes, and those of one code in written order
 unfoldable pub lints_of_rule : Profile → List WrittenPart → List (Spot Lint)
 lints_of_rule profile tokens =
-    (((((((((reported profile ModeNotOctal tokens
+    (((((((((((reported profile ModeNotOctal tokens
     ++ reported profile SignOfShell tokens)
     ++ reported profile RelativeProgram tokens)
     ++ reported profile LetterCase tokens)
-    ++ reported_if_there profile NoSuchDevice (stranger tokens))
+    ++ reported_if_there profile NoSuchDevice (stranger Event tokens))
+    ++ reported_if_there profile NoSuchDevice (stranger Chain tokens))
     ++ names_reported profile tokens)
     ++ reported profile LinkWithDev tokens)
     ++ reported profile QuotedName tokens)
     ++ reported profile NotAPattern tokens)
     ++ reported profile AlwaysHolds tokens)
-    ++ reported profile NoPatternForUdev tokens
+    ++ reported profile NoPatternForUdev tokens)
+    ++ reported profile ForbiddenCommand tokens

@@ -1,12 +1,12 @@
 //! W2 and W3: the commands of a rule, and what in them is meant for a shell.
-ghost use Rattle.std.specs.Prelude.{◌≡◌, ◌≤◌, length, not, option_map};
+ghost use Rattle.std.specs.Prelude.{◌≡◌, ◌≤◌, ◌||◌, length, not, option_map};
 ghost use Rattle.std.specs.List.{prefix_len};
 ghost use Rattle.text_bytes.specs.Names.{is_blank};
-ghost use Rattle.rule_lints.specs.Commands.{asked_command, command_of, first_word, is_quote, is_redirected, is_shell_sign, is_word_end, has_shell_sign};
-ghost use Rattle.rule_lints.specs.Commands.{open_after, relative_program, run_command, shell_command};
+ghost use Rattle.rule_lints.specs.Commands.{asked_command, command_of, first_word, forbidden_command, is_bare_script, is_quote, is_redirected, is_shell_sign, is_shell_word, is_word_end, has_shell_sign};
+ghost use Rattle.rule_lints.specs.Commands.{open_after, program_name, relative_program, run_command, shell_command};
 
 use crate::parts::{change_of, is_among};
-use crate::texts::rest_after_last;
+use crate::texts::{before_first, has_byte, rest_after_last};
 use rule_types::{ActKind, Change, Import, Part, RunType};
 use text_bytes::{begins_with, is_blank, unindented};
 
@@ -53,13 +53,61 @@ const COMMANDS: [&[u8]; 35] = [
     b"umount",
 ];
 
-/// The value with which W2 is reported: a command with a sign of the shell that no shell runs.
+/// Programs that mount and unmount, or use the network: udev(7), "RUN".
+const FORBIDDEN: [&[u8]; 12] = [
+    b"curl",
+    b"fusermount",
+    b"fusermount3",
+    b"mount",
+    b"ntfs-3g",
+    b"ping",
+    b"rsync",
+    b"scp",
+    b"ssh",
+    b"sshfs",
+    b"umount",
+    b"wget",
+];
+
+/// The value with which W2 is reported: a command that is written for a shell, and that no shell runs.
 pub(crate) fn shell_command(part: &Part) -> Option<&[u8]>
     ensures { option_map (λ text. text.now) result ≡ shell_command part.now }
 {
     let command = command_of(part)?;
-    let program = rest_after_last(b'/', first_word(command));
-    if has_shell_sign(command) && !is_among(&SHELLS, program) {
+    if needs_shell(command) && !is_among(&SHELLS, program_name(command)) {
+        Some(command)
+    } else {
+        None
+    }
+}
+
+/// Whether a command has a sign of the shell, or begins as only one of the shell does.
+fn needs_shell(command: &[u8]) -> bool
+    ensures { result ≡ (has_shell_sign command.now || is_shell_word (first_word command.now)) }
+{
+    has_shell_sign(command) || is_shell_word(first_word(command))
+}
+
+/// Whether a word is what only a shell reads as a first one: a home folder, or a variable that is set.
+fn is_shell_word(word: &[u8]) -> bool
+    ensures { result ≡ is_shell_word word.now }
+{
+    begins_with(b'~', word) || has_byte(b'=', before_first(b'/', word))
+}
+
+/// The name of the program of a command.
+fn program_name(command: &[u8]) -> &[u8]
+    ensures { result.now ≡ program_name command.now }
+{
+    rest_after_last(b'/', first_word(command))
+}
+
+/// The value with which W24 is reported: a command whose program can't do its work where udev runs it.
+pub(crate) fn forbidden_command(part: &Part) -> Option<&[u8]>
+    ensures { option_map (λ text. text.now) result ≡ forbidden_command part.now }
+{
+    let command = command_of(part)?;
+    if is_among(&FORBIDDEN, program_name(command)) {
         Some(command)
     } else {
         None
@@ -72,11 +120,19 @@ pub(crate) fn relative_program(part: &Part) -> Option<&[u8]>
     ensures { option_map (λ text. text.now) result ≡ relative_program part.now }
 {
     let command = run_command(change_of(part)?)?;
-    if is_among(&COMMANDS, first_word(command)) {
+    let word = first_word(command);
+    if is_among(&COMMANDS, word) || is_bare_script(word) {
         Some(command)
     } else {
         None
     }
+}
+
+/// Whether a word is the name of a script, without a path.
+fn is_bare_script(word: &[u8]) -> bool
+    ensures { result ≡ is_bare_script word.now }
+{
+    !has_byte(b'/', word) && (word.ends_with(b".sh") || word.ends_with(b".py"))
 }
 
 /// The program that a part of a rule runs, with its words.
@@ -151,7 +207,7 @@ fn is_quote(byte: u8) -> bool
 fn is_shell_sign(byte: u8, following: &[u8]) -> bool
     ensures { result ≡ is_shell_sign byte following.now }
 {
-    ((byte == b'|' || byte == b';') && is_word_end(following))
+    ((byte == b'|' || byte == b';' || byte == b'&') && is_word_end(following))
         || (byte == b'>' && is_redirected(following))
         || (byte == b'&' && begins_with(b'&', following))
 }

@@ -1,12 +1,14 @@
-//! W5: the attributes that a rule asks one device for are those of different devices.
-ghost use Rattle.std.specs.Prelude.{◌≡◌, option_map};
-ghost use Rattle.rule_lints.specs.Devices.{asked_by, asked_name, group_named, group_of, is_other, is_same, stranger};
+//! W5: what a rule asks one device for is of different devices.
+ghost use Rattle.std.specs.Prelude.{◌≡◌, map, option_map};
+ghost use Rattle.rule_lints.specs.Devices.{asked, group_by_stem, group_in_subsystem, group_named, group_of, group_of_driver, group_of_kernel};
+ghost use Rattle.rule_lints.specs.Devices.{group_of_parent, group_of_part, group_of_plain, group_of_up, if_equal, is_other, is_same, number, stranger};
 
 use crate::parts::is_among;
-use rule_core::WrittenPart;
-use rule_types::{MatchOperator, Part, UpKey};
+use crate::texts::{has_byte, rest_after_first};
+use rule_core::{Token, WrittenPart};
+use rule_types::{MatchOperator, Part, PlainKey, UpKey};
 
-/// The kind of devices that alone has an attribute.
+/// A kind of devices.
 #[derive(Clone, Copy, PartialEq, Eq)]
 pub(crate) enum Group {
     /// USB devices.
@@ -17,6 +19,27 @@ pub(crate) enum Group {
     Input,
     /// PCI devices.
     Pci,
+    /// Terminals.
+    Tty,
+    /// Network devices.
+    Net,
+    /// Disks and partitions.
+    Block,
+    /// Raw HID devices.
+    Hidraw,
+    /// Sound devices.
+    Sound,
+    /// Video devices.
+    Video,
+}
+
+/// Which device a match asks for.
+#[derive(Clone, Copy, PartialEq, Eq)]
+pub(crate) enum Side {
+    /// That of the event.
+    Event,
+    /// One device of the chain.
+    Chain,
 }
 
 /// Attributes of a USB device, and of none of its interfaces.
@@ -49,14 +72,54 @@ const INPUT_NAMES: [&[u8]; 4] = [b"id/vendor", b"id/product", b"id/version", b"i
 /// Attributes of a PCI device.
 const PCI_NAMES: [&[u8]; 2] = [b"subsystem_vendor", b"subsystem_device"];
 
-/// The token with which W5 is reported: the first whose attribute is of other devices than that of the first token
-/// with an attribute of a group.
-pub(crate) fn stranger<'w, 'a>(tokens: &'w [WrittenPart<'a>]) -> Option<&'w WrittenPart<'a>>
-    ensures { option_map (λ w. w.now) result ≡ stranger tokens.now }
+/// Drivers of interfaces of USB devices, and of no other devices.
+const INTERFACE_DRIVERS: [&[u8]; 16] = [
+    b"cdc_acm",
+    b"cdc_ether",
+    b"cdc_mbim",
+    b"cdc_ncm",
+    b"ch341",
+    b"cp210x",
+    b"ftdi_sio",
+    b"option",
+    b"pl2303",
+    b"qcserial",
+    b"qmi_wwan",
+    b"snd-usb-audio",
+    b"uas",
+    b"usb-storage",
+    b"usbhid",
+    b"uvcvideo",
+];
+
+/// What the kernel's names of devices of a kind begin with.
+const STEMS: [(&[u8], Group); 13] = [
+    (b"ttyUSB", Group::Tty),
+    (b"ttyACM", Group::Tty),
+    (b"ttyS", Group::Tty),
+    (b"sda", Group::Block),
+    (b"sdb", Group::Block),
+    (b"sdc", Group::Block),
+    (b"sd[a-z]", Group::Block),
+    (b"sd?", Group::Block),
+    (b"mmcblk", Group::Block),
+    (b"eth", Group::Net),
+    (b"wlan", Group::Net),
+    (b"hidraw", Group::Hidraw),
+    (b"video", Group::Video),
+];
+
+/// The token of a side with which W5 is reported: the first that asks for another kind of devices than the first token
+/// that asks for one.
+pub(crate) fn stranger<'w, 'a>(
+    side: Side,
+    tokens: &'w [WrittenPart<'a>],
+) -> Option<&'w WrittenPart<'a>>
+    ensures { option_map (λ w. w.now) result ≡ stranger side tokens.now }
 {
     let mut first = None;
     for written in tokens {
-        let group = group_of(written);
+        let group = group_of(side, written);
         match first {
             None => first = group,
             Some(known) => {
@@ -69,31 +132,144 @@ pub(crate) fn stranger<'w, 'a>(tokens: &'w [WrittenPart<'a>]) -> Option<&'w Writ
     None
 }
 
-/// The name of the attribute that a part asks one device of the chain for by `==`.
-pub(crate) fn asked_name(part: &Part) -> Option<&[u8]>
-    ensures { option_map (λ name. name.now) result ≡ asked_name part.now }
+/// What W5 is reported with: the text in braces, or the key.
+pub(crate) fn asked<'a>(token: &Token<'a>) -> &'a [u8]
+    ensures { result.now ≡ asked token.now }
 {
-    match part {
-        Part::Up(asked) => asked_by(&asked.key, asked.wanted.operator),
+    match token.attribute() {
+        None => token.key(),
+        Some(name) => name,
+    }
+}
+
+/// The kind of devices that alone meets a token that asks for a device of a side.
+fn group_of(side: Side, written: &WrittenPart<'_>) -> Option<Group>
+    ensures { result ≡ group_of side written.now }
+{
+    group_of_part(side, &written.part)
+}
+
+/// The kind of devices that alone meets a part that asks for a device of a side.
+fn group_of_part(side: Side, part: &Part) -> Option<Group>
+    ensures { result ≡ group_of_part side part.now }
+{
+    match (side, part) {
+        (Side::Event, Part::Plain(found)) => if_equal(
+            found.wanted.operator,
+            group_of_plain(&found.key, found.wanted.written.as_slice()),
+        ),
+        (Side::Chain, Part::Up(found)) => if_equal(
+            found.wanted.operator,
+            group_of_up(&found.key, found.wanted.written.as_slice()),
+        ),
         _ => None,
     }
 }
 
-/// The name of the attribute that a match of one device asks for by `==`.
-fn asked_by(key: &UpKey, operator: MatchOperator) -> Option<&[u8]>
-    ensures { option_map (λ name. name.now) result ≡ asked_by key.now operator }
+/// What is known of a match by `==`.
+fn if_equal(operator: MatchOperator, group: Option<Group>) -> Option<Group>
+    ensures { result ≡ if_equal operator group }
 {
-    match (key, operator) {
-        (UpKey::Attrs(name), MatchOperator::Equal) => Some(name.as_slice()),
+    match operator {
+        MatchOperator::Equal => group,
+        MatchOperator::NotEqual => None,
+    }
+}
+
+/// The kind of devices that alone meets a match of the event by `==`.
+fn group_of_plain(key: &PlainKey, value: &[u8]) -> Option<Group>
+    ensures { result ≡ group_of_plain key.now value.now }
+{
+    match key {
+        PlainKey::Attr(name) => group_named(name.as_slice()),
+        PlainKey::Subsystem => group_in_subsystem(value),
+        PlainKey::Kernel => group_of_kernel(value),
         _ => None,
     }
 }
 
-/// The kind of devices that alone has the attribute that a token asks for.
-fn group_of(written: &WrittenPart<'_>) -> Option<Group>
-    ensures { result ≡ group_of written.now }
+/// The kind of devices that alone meets a match of one device of the chain by `==`.
+fn group_of_up(key: &UpKey, value: &[u8]) -> Option<Group>
+    ensures { result ≡ group_of_up key.now value.now }
 {
-    group_named(asked_name(&written.part)?)
+    match key {
+        UpKey::Attrs(name) => group_named(name.as_slice()),
+        UpKey::Subsystems => group_in_subsystem(value),
+        UpKey::Kernels => group_of_parent(value),
+        UpKey::Drivers => group_of_driver(value),
+        UpKey::Tags => None,
+    }
+}
+
+/// The kind of devices that alone has the kernel's names that a value asks for.
+fn group_of_kernel(value: &[u8]) -> Option<Group>
+    ensures { result ≡ group_of_kernel value.now }
+{
+    if has_byte(b'|', value) {
+        None
+    } else {
+        group_by_stem(&STEMS, value)
+    }
+}
+
+/// The kind of the first of these stems that a text begins with.
+fn group_by_stem(rows: &[(&[u8], Group)], text: &[u8]) -> Option<Group>
+    ensures { result ≡ group_by_stem (map (λ row. (row.0.now, row.1)) rows.now) text.now }
+{
+    for row in rows {
+        if text.starts_with(row.0) {
+            return Some(row.1);
+        }
+    }
+    None
+}
+
+/// The kind of devices whose names, as parents, a value asks for: a `:` after a `-` is in the name of an interface of a
+/// USB device.
+fn group_of_parent(value: &[u8]) -> Option<Group>
+    ensures { result ≡ group_of_parent value.now }
+{
+    if !has_byte(b'|', value) && has_byte(b':', rest_after_first(b'-', value)) {
+        Some(Group::UsbInterface)
+    } else {
+        None
+    }
+}
+
+/// The kind of devices that alone has a driver.
+fn group_of_driver(name: &[u8]) -> Option<Group>
+    ensures { result ≡ group_of_driver name.now }
+{
+    if is_among(&INTERFACE_DRIVERS, name) {
+        Some(Group::UsbInterface)
+    } else {
+        None
+    }
+}
+
+/// The kind of devices that alone is in a subsystem.
+fn group_in_subsystem(name: &[u8]) -> Option<Group>
+    ensures { result ≡ group_in_subsystem name.now }
+{
+    if name == b"input".as_slice() {
+        Some(Group::Input)
+    } else if name == b"pci".as_slice() {
+        Some(Group::Pci)
+    } else if name == b"tty".as_slice() {
+        Some(Group::Tty)
+    } else if name == b"net".as_slice() {
+        Some(Group::Net)
+    } else if name == b"block".as_slice() {
+        Some(Group::Block)
+    } else if name == b"hidraw".as_slice() {
+        Some(Group::Hidraw)
+    } else if name == b"sound".as_slice() {
+        Some(Group::Sound)
+    } else if name == b"video4linux".as_slice() {
+        Some(Group::Video)
+    } else {
+        None
+    }
 }
 
 /// The kind of devices that alone has an attribute.
@@ -123,9 +299,27 @@ fn is_other(group: Group, found: Option<Group>) -> bool
     }
 }
 
-/// Whether two groups are the same.
+/// Whether two kinds are the same.
 fn is_same(group: Group, other: Group) -> bool
     ensures { result ≡ is_same group other }
 {
-    group == other
+    number(group) == number(other)
+}
+
+/// How many kinds come before a kind.
+fn number(group: Group) -> u8
+    ensures { result ≡ number group }
+{
+    match group {
+        Group::UsbDevice => 0,
+        Group::UsbInterface => 1,
+        Group::Input => 2,
+        Group::Pci => 3,
+        Group::Tty => 4,
+        Group::Net => 5,
+        Group::Block => 6,
+        Group::Hidraw => 7,
+        Group::Sound => 8,
+        Group::Video => 9,
+    }
 }

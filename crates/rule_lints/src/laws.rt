@@ -3,8 +3,8 @@ ghost use Rattle.std.specs.Prelude.{◌≡◌, ◌↔◌, ℕ, List, Option, Non
 ghost use Rattle.std.specs.List.{list_any};
 ghost use Rattle.text_core.specs.Fits.{fits};
 ghost use Rattle.text_core.specs.declared.item.Item.{Item};
-ghost use Rattle.rule_lints.specs.Commands.{has_shell_sign, lacks_path, lacks_shell};
-ghost use Rattle.rule_lints.specs.Devices.{stranger};
+ghost use Rattle.rule_lints.specs.Commands.{has_shell_sign, is_forbidden, lacks_path, lacks_shell};
+ghost use Rattle.rule_lints.specs.Devices.{group_in_subsystem, group_of_driver, group_of_kernel, group_of_parent, stranger};
 ghost use Rattle.rule_lints.specs.Laws.{AreOfOneGroup, HasBraces, HasOpenParenthesis, HasSignOutside, IsStranger, WritesMode, has_capital, is_reported_as};
 ghost use Rattle.rule_lints.specs.Laws.{is_reported_as_expression, is_reported_to_hold, is_small_text};
 ghost use Rattle.rule_lints.specs.LetterCase.{is_capital, is_small_alias, items_in_place};
@@ -22,6 +22,8 @@ ghost use Rattle.rule_types.specs.declared.roles.PlainKey.TheVariants as plain;
 ghost use Rattle.rule_types.specs.declared.roles.UpKey.TheVariants as up;
 ghost use Rattle.text_bytes.specs.declared.profile.Profile.TheVariants.{Manual, Udev};
 ghost use Rattle.text_tables.specs.Texts.{same_text};
+ghost use Rattle.rule_lints.specs.declared.devices.Group.TheVariants.{Block, Input, Tty, UsbInterface};
+ghost use Rattle.rule_lints.specs.declared.devices.Side.{Side};
 ghost use Rattle.rule_lints.specs.declared.letter_case.Writing.TheVariants.{Alias, Lower, Prefixed};
 ghost use Rattle.rule_core.specs.Written.{WrittenPart};
 
@@ -51,16 +53,31 @@ pub fn small_digits_of_aliases_are_never_written()
     ensures { (items : List Item) (text : List ℕ) → is_small_alias (items_in_place items) ≡ true → fits items text ≡ true → is_small_text text ≡ true }
 {}
 
-/// No token is reported because of its device if and only if no two attributes of the rule are of different groups.
+/// No token is reported because of its device if and only if no two tokens of a side ask for different kinds of devices.
 #[tactic(auto, using(crate::proofs::DeviceLaw::strangers))]
 pub fn strangers_are_of_two_groups()
-    ensures { (tokens : List WrittenPart) → (stranger tokens ≡ None) ↔ AreOfOneGroup tokens }
+    ensures { (side : Side) (tokens : List WrittenPart) → (stranger side tokens ≡ None) ↔ AreOfOneGroup side tokens }
 {}
 
-/// The token that is reported because of its device is the first of another group than one before it.
+/// The token that is reported because of its device is the first of its side that asks for another kind than one before
+/// it.
 #[tactic(auto, using(crate::proofs::DeviceLaw::stranger_found))]
 pub fn the_first_stranger_is_reported()
-    ensures { (tokens : List WrittenPart) (reported : WrittenPart) → stranger tokens ≡ Some reported → IsStranger tokens reported }
+    ensures { (side : Side) (tokens : List WrittenPart) (reported : WrittenPart) → stranger side tokens ≡ Some reported → IsStranger side tokens reported }
+{}
+
+/// Values, of which some ask for a known kind of devices.
+pub fn some_kinds_of_devices()
+    ensures terminal { group_of_kernel (codes "ttyUSB*") ≡ Some Tty }
+    ensures disk { group_of_kernel (codes "sd[a-z]1") ≡ Some Block }
+    ensures either { group_of_kernel (codes "ttyUSB*|sda") ≡ None }
+    ensures other { group_of_kernel (codes "*") ≡ None }
+    ensures interface { group_of_parent (codes "5-2:1.0") ≡ Some UsbInterface }
+    ensures device { group_of_parent (codes "5-2") ≡ None }
+    ensures function { group_of_parent (codes "0000:00:1f.0") ≡ None }
+    ensures driver { group_of_driver (codes "cdc_acm") ≡ Some UsbInterface }
+    ensures subsystem { group_in_subsystem (codes "input") ≡ Some Input }
+    ensures subsystems { group_in_subsystem (codes "input|tty") ≡ None }
 {}
 
 /// Braces are reported if and only if a comma is between them.
@@ -106,10 +123,19 @@ pub fn some_commands()
     ensures other { lacks_shell (codes "/bin/fish -c a; b") ≡ Some (codes "/bin/fish -c a; b") }
     ensures single { lacks_shell (codes "/bin/get a&b") ≡ None }
     ensures double { lacks_shell (codes "/bin/a && b") ≡ Some (codes "/bin/a && b") }
+    ensures background { lacks_shell (codes "/bin/a &") ≡ Some (codes "/bin/a &") }
+    ensures home { lacks_shell (codes "~/bin/a b") ≡ Some (codes "~/bin/a b") }
+    ensures variable { lacks_shell (codes "A=1 /bin/a") ≡ Some (codes "A=1 /bin/a") }
+    ensures option { lacks_shell (codes "/bin/a --b=c ~/d") ≡ None }
+    ensures path_with_equals { lacks_shell (codes "/bin/a=b c") ≡ None }
     ensures bare { lacks_path (codes " logger x") ≡ Some (codes " logger x") }
     ensures own { lacks_path (codes "cdrom_id --lock-media") ≡ None }
     ensures longer { lacks_path (codes "logger2") ≡ None }
     ensures path { lacks_path (codes "/bin/logger x") ≡ None }
+    ensures script { lacks_path (codes "mine.sh %k") ≡ Some (codes "mine.sh %k") }
+    ensures script_path { lacks_path (codes "/usr/local/bin/mine.sh") ≡ None }
+    ensures mount { is_forbidden (codes "/bin/mount /dev/sda1 /mnt") ≡ Some (codes "/bin/mount /dev/sda1 /mnt") }
+    ensures own_mount { is_forbidden (codes "/usr/bin/systemd-mount $devnode") ≡ None }
     ensures blanks { lacks_path (codes "  ") ≡ None }
 {}
 
@@ -170,6 +196,7 @@ pub fn some_patterns()
     ensures end { is_expression (codes "sd[a-z]$") ≡ true }
     ensures any { is_expression (codes ".*disk") ≡ true }
     ensures digit { is_expression (codes "sd\\d") ≡ true }
+    ensures repeated { is_expression (codes "ttyUSB[0-9]+") ≡ true }
     ensures group { is_reported_as_expression (codes "(sda|sdb)1") ≡ true }
     ensures three { is_reported_as_expression (codes "sd(a|b|c)") ≡ true }
     ensures closed { is_reported_as_expression (codes "Disk (USB)|Disk (SATA)") ≡ false }

@@ -20,7 +20,7 @@ pub(crate) enum Writing {
 }
 
 /// Attributes that are hexadecimal digits in lower case letters.
-const LOWER_NAMES: [&[u8]; 17] = [
+const LOWER_NAMES: [&[u8]; 18] = [
     b"idVendor",
     b"idProduct",
     b"bcdDevice",
@@ -38,6 +38,7 @@ const LOWER_NAMES: [&[u8]; 17] = [
     b"id/bustype",
     b"subsystem_vendor",
     b"subsystem_device",
+    b"address",
 ];
 
 /// Attributes that several subsystems have, and that are such digits if `0x` comes before them.
@@ -149,7 +150,7 @@ fn is_byte_in(first: u8, last: u8, item: &Item) -> bool
 }
 
 /// Whether items begin with bytes, one item for each.
-fn begin_with(text: &[u8], items: &[Item]) -> bool
+pub fn begin_with(text: &[u8], items: &[Item]) -> bool
     ensures { result ≡ begin_with text.now items.now }
 {
     text.len() <= items.len() && all_in_place(text, items)
@@ -181,7 +182,7 @@ fn length_in_place(items: &[Item]) -> usize
 }
 
 /// Whether an item takes any bytes.
-pub(crate) fn is_many(item: &Item) -> bool
+pub fn is_many(item: &Item) -> bool
     ensures { result ≡ is_many item.now }
 {
     matches!(item, Item::Many)

@@ -33,4 +33,26 @@ pub enum Lint {
     NeverReached,
     /// W14: for udev `?*` is no pattern after this key.
     NoPatternForUdev,
+    /// W15: a rule assigns for every device, as it has no match.
+    NoMatch,
+    /// W16: a pattern fits nothing that the kernel writes.
+    NeverFits,
+    /// W17: a blank beside a `|` is a part of the pattern there.
+    BlankBesideBar,
+    /// W18: a name in braces is not known, and near one that is.
+    UnknownName,
+    /// W19: what looks like a substitution is none, or another one.
+    NotSubstituted,
+    /// W20: `=` takes away what earlier rules added.
+    ListReplaced,
+    /// W21: a value is assigned where a match was meant.
+    MeantAsMatch,
+    /// W22: the name of a network device is too long.
+    NameTooLong,
+    /// W23: a unit is wanted by a device that systemd does not see.
+    WantedWithoutTag,
+    /// W24: a command can't do its work where udev runs it.
+    ForbiddenCommand,
+    /// W25: a result is compared before the program that gives it.
+    NoResultYet,
 }

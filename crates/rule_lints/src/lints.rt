@@ -3,10 +3,10 @@ ghost use Rattle.std.specs.Prelude.{◌≡◌, ◌∷◌, ◌++◌, [], IfOk, On
 ghost use Rattle.std.specs.Bool.{then_some};
 ghost use Rattle.rule_lints.specs.declared.lint.Lint.TheVariants.{NoSuchDevice};
 ghost use Rattle.rule_lints.specs.Devices.{stranger};
-ghost use Rattle.rule_lints.specs.RuleLints.{names_reported, reported, reported_if_there, lints_of_rule, spot_of, word_of};
+ghost use Rattle.rule_lints.specs.RuleLints.{is_of_key, lints_of_rule, names_reported, reported, reported_if_there, spot_of, spots_with, word_of};
 
-use crate::commands::{relative_program, shell_command};
-use crate::devices::{asked_name, stranger};
+use crate::commands::{forbidden_command, relative_program, shell_command};
+use crate::devices::{Side, asked, stranger};
 use crate::letter_case::wrong_case;
 use crate::lint::Lint;
 use crate::modes::wrong_mode;
@@ -32,26 +32,29 @@ pub fn lints_of_rule(
     add(alloc, profile, &mut spots, Lint::SignOfShell, tokens)?;
     add(alloc, profile, &mut spots, Lint::RelativeProgram, tokens)?;
     add(alloc, profile, &mut spots, Lint::LetterCase, tokens)?;
-    add_stranger(alloc, profile, &mut spots, tokens)?;
+    add_stranger(alloc, profile, &mut spots, Side::Event, tokens)?;
+    add_stranger(alloc, profile, &mut spots, Side::Chain, tokens)?;
     add_names(alloc, profile, &mut spots, tokens)?;
     add(alloc, profile, &mut spots, Lint::LinkWithDev, tokens)?;
     add(alloc, profile, &mut spots, Lint::QuotedName, tokens)?;
     add(alloc, profile, &mut spots, Lint::NotAPattern, tokens)?;
     add(alloc, profile, &mut spots, Lint::AlwaysHolds, tokens)?;
     add(alloc, profile, &mut spots, Lint::NoPatternForUdev, tokens)?;
+    add(alloc, profile, &mut spots, Lint::ForbiddenCommand, tokens)?;
     Ok(spots)
 }
 
-/// Adds the W5 of a rule's tokens, if any.
+/// Adds the W5 of a rule's tokens of a side, if any.
 fn add_stranger(
     alloc: Global,
     profile: Profile,
     spots: &mut Vec<Spot<Lint>>,
+    side: Side,
     tokens: &[WrittenPart<'_>],
 ) -> Result<(), AllocError>
-    ensures { OnOk result (spots.new.items ≡ spots.old.items ++ reported_if_there profile NoSuchDevice (stranger tokens.now)) }
+    ensures { OnOk result (spots.new.items ≡ spots.old.items ++ reported_if_there profile NoSuchDevice (stranger side tokens.now)) }
 {
-    match stranger(tokens) {
+    match stranger(side, tokens) {
         None => Ok(()),
         Some(written) => add_one(alloc, profile, spots, Lint::NoSuchDevice, written),
     }
@@ -99,8 +102,28 @@ fn add_one(
 ) -> Result<(), AllocError>
     ensures { OnOk result (spots.new.items ≡ spots.old.items ++ reported profile lint (written.now ∷ [])) }
 {
-    if let Some(word) = word_of(profile, lint, written) {
-        spots.push(spot_of(alloc, lint, word, &written.token)?)?;
+    add_word(
+        alloc,
+        spots,
+        lint,
+        word_of(profile, lint, written),
+        &written.token,
+    )
+}
+
+/// Adds a lint about a token, if there is a text with which it is reported. It is about the token's key or about its
+/// value, by its kind.
+pub fn add_word(
+    alloc: Global,
+    spots: &mut Vec<Spot<Lint>>,
+    lint: Lint,
+    word: Option<&[u8]>,
+    token: &Token<'_>,
+) -> Result<(), AllocError>
+    ensures { OnOk result (spots.new.items ≡ spots.old.items ++ spots_with lint token.now (option_map (λ text. text.now) word.entry)) }
+{
+    if let Some(word) = word {
+        spots.push(spot_of(alloc, lint, word, token)?)?;
     }
     Ok(())
 }
@@ -115,11 +138,31 @@ fn spot_of(
     ensures { IfOk result (λ spot. spot ≡ spot_of lint token.now word.now) }
 {
     let word = Bytes::copy_of(alloc, word)?;
+    if is_of_key(lint) {
+        Ok(spot_at_key(lint, word, token))
+    } else {
+        Ok(value_spot(lint, word, token))
+    }
+}
+
+/// Whether a lint is about a token's key, and not about its value.
+fn is_of_key(lint: Lint) -> bool
+    ensures { result ≡ is_of_key lint }
+{
     match lint {
-        Lint::NoSuchDevice | Lint::QuotedName | Lint::AlwaysHolds | Lint::NoPatternForUdev => Ok(
-            spot_at_key(lint, word, token),
-        ),
-        _ => Ok(value_spot(lint, word, token)),
+        Lint::ModeNotOctal
+        | Lint::SignOfShell
+        | Lint::RelativeProgram
+        | Lint::LetterCase
+        | Lint::NameOutsideNet
+        | Lint::LinkWithDev
+        | Lint::NotAPattern
+        | Lint::NeverFits
+        | Lint::BlankBesideBar
+        | Lint::NotSubstituted
+        | Lint::NameTooLong
+        | Lint::ForbiddenCommand => false,
+        _ => true,
     }
 }
 
@@ -132,13 +175,14 @@ fn word_of<'w>(profile: Profile, lint: Lint, written: &'w WrittenPart<'_>) -> Op
         Lint::SignOfShell => shell_command(&written.part),
         Lint::RelativeProgram => relative_program(&written.part),
         Lint::LetterCase => wrong_case(&written.part),
-        Lint::NoSuchDevice => asked_name(&written.part),
+        Lint::NoSuchDevice => Some(asked(&written.token)),
         Lint::NameOutsideNet => name_given(&written.part),
         Lint::LinkWithDev => dev_link(profile, &written.part),
         Lint::QuotedName => quoted_name(&written.token),
         Lint::NotAPattern => expression(&written.part),
         Lint::AlwaysHolds => key_if(always_holds(&written.part), written),
         Lint::NoPatternForUdev => key_if(is_no_pattern(profile, &written.part), written),
+        Lint::ForbiddenCommand => forbidden_command(&written.part),
         _ => None,
     }
 }

@@ -16,7 +16,7 @@ pub(crate) fn change_of(part: &Part) -> Option<&Change>
 }
 
 /// What a part compares with, if it is a match.
-pub(crate) fn comparison_of(part: &Part) -> Option<&Comparison>
+pub fn comparison_of(part: &Part) -> Option<&Comparison>
     ensures { option_map (λ wanted. wanted.now) result ≡ comparison_of part.now }
 {
     match part {
@@ -35,7 +35,7 @@ pub(crate) fn is_equal(operator: MatchOperator) -> bool
 }
 
 /// Whether a name is one of these.
-pub(crate) fn is_among(names: &[&[u8]], name: &[u8]) -> bool
+pub fn is_among(names: &[&[u8]], name: &[u8]) -> bool
     ensures { result ≡ is_among (map (λ known. known.now) names.now) name.now }
 {
     for known in names {

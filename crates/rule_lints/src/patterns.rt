@@ -1,6 +1,8 @@
 //! W11, W12 and W14: patterns that are written as regular expressions, matches that always hold, and what is no pattern
 //! for udev.
-ghost use Rattle.std.specs.Prelude.{◌≡◌, option_map};
+ghost use Rattle.std.specs.Prelude.{◌≡◌, ◌&&◌, ◌||◌, ◌==◌, option_map};
+ghost use Rattle.text_bytes.specs.Names.{backslash, close_bracket, plus};
+ghost use Rattle.text_bytes.specs.Texts.{begins_with};
 ghost use Rattle.std.specs.List.{list_all, list_any, slice_split};
 ghost use Rattle.text_core.specs.Choices.{is_bar};
 ghost use Rattle.rule_lints.specs.LetterCase.{is_many};
@@ -74,18 +76,26 @@ fn is_expression(text: &[u8]) -> bool
         || has_braces(text)
 }
 
-/// Whether a `\d`, `\w` or `\s` is in a text.
+/// Whether a `\d`, `\w` or `\s` is in a text, or a `]` with a `+` after it.
 fn has_class(text: &[u8]) -> bool
     ensures { result ≡ has_class text.now }
 {
     let mut rest = text;
     while let Some((byte, following)) = rest.split_first() {
-        if *byte == b'\\' && begins_with_class(following) {
+        if is_class(*byte, following) {
             return true;
         }
         rest = following;
     }
     false
+}
+
+/// Whether a byte and the text after it are such a thing.
+fn is_class(byte: u8, following: &[u8]) -> bool
+    ensures { result ≡ ((byte == backslash && begins_with_class following.now) || (byte == close_bracket && begins_with plus following.now)) }
+{
+    (byte == b'\\' && begins_with_class(following))
+        || (byte == b']' && begins_with(b'+', following))
 }
 
 /// Whether a text begins with the letter of a class.

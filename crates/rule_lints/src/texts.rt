@@ -4,7 +4,7 @@ ghost use Rattle.std.specs.List.{position_or_len, suffix_len};
 ghost use Rattle.rule_lints.specs.Texts.{before_first, has_byte, rest_after_first, rest_after_last};
 
 /// Whether a text has this byte.
-pub(crate) fn has_byte(byte: u8, text: &[u8]) -> bool
+pub fn has_byte(byte: u8, text: &[u8]) -> bool
     ensures { result ≡ has_byte byte text.now }
 {
     text.iter().any(|other| *other == byte)

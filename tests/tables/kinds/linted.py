@@ -8,8 +8,17 @@ def lint(number, word=""):
     return f"W{number} {TEXTS[f'W{number}']}" + (f": {word}" if word else "")
 
 
-def linted(name, *lines, words="verify --lint"):
-    """A run over a file of these lines, with what is said about each."""
+# The lints that rules of a test have besides those that it is about, such as W15 of a rule without a match.
+OTHERS = ",".join(f"W{number}" for number in range(15, 26))
+
+
+def linted(name, *lines, words=f"verify --lint --ignore {OTHERS}"):
+    """A run over a file of these lines, with what is said about each, apart from W15 to W25."""
+    return verified(name, *lines, words=words)
+
+
+def all_linted(name, *lines, words="verify --lint"):
+    """A run over a file of these lines, with all that is said about each."""
     return verified(name, *lines, words=words)
 
 

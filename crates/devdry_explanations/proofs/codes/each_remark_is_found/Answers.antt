@@ -1,6 +1,8 @@
 use Rattle.std.proofs.Common.{◌≡◌, Some, refl}
 use Rattle.text_bytes.specs.Texts.{split_once}
 use Rattle.file_messages.specs.declared.message.MessageKind.TheVariants.{PropertyWithoutMatch, MatchWithoutProperty, UnindentedLine, NoEquals, EmptyKey, PatternNotSupported, BadSyntax, UnknownKey, OperatorNotAllowed, WrongAttribute, BadValue, BadSubstitution, NoLaterLabel, GivenTwice, LineTooLong, BadPrefix, SetNotSupported, OpenAtEnd, ReservedProperty, NameWithoutEffect, UnknownBuiltin, MatchesExclude, SaidTwice, RuleWithoutEffect, ResultBeforeProgram, EmptyValue, BadAttributeSubstitution, AttributeElsewhere, OldSubsystemName, AssignExpected, UnknownAccount, FileAbandoned, CommaExpected, BlankExpected, ReadAsAssign, LabelUnused, LeadingComma, BlankBeforeComma}
+use Rattle.rule_lints.specs.declared.lint.Lint.TheVariants.{NoMatch, NeverFits, BlankBesideBar, UnknownName, NotSubstituted, ListReplaced, MeantAsMatch}
+use Rattle.rule_lints.specs.declared.lint.Lint.TheVariants.{NameTooLong, WantedWithoutTag, ForbiddenCommand, NoResultYet}
 use Rattle.rule_lints.specs.declared.lint.Lint.TheVariants.{ModeNotOctal, SignOfShell, RelativeProgram, LetterCase, NoSuchDevice, ImportedBelow, MeantToCompare, NameOutsideNet, LinkWithDev, QuotedName, NotAPattern, AlwaysHolds, NeverReached, NoPatternForUdev}
 use Rattle.hwdb_lints.specs.declared.lint.DatabaseLint.TheVariants.{DigitCase, NoModalias, EndMissing, UnknownPrefix, MatchTwice, PropertyTwice, BlankAtEquals}
 use Rattle.hwdb_lints.specs.declared.lint.DatabaseLint.TheVariants.{OddName, BlankAtEnd, ByteOrderMark, CutWord, OpenSet, WrongValue}
@@ -65,6 +67,17 @@ found (about.Lint NotAPattern) = refl
 found (about.Lint AlwaysHolds) = refl
 found (about.Lint NeverReached) = refl
 found (about.Lint NoPatternForUdev) = refl
+found (about.Lint NoMatch) = refl
+found (about.Lint NeverFits) = refl
+found (about.Lint BlankBesideBar) = refl
+found (about.Lint UnknownName) = refl
+found (about.Lint NotSubstituted) = refl
+found (about.Lint ListReplaced) = refl
+found (about.Lint MeantAsMatch) = refl
+found (about.Lint NameTooLong) = refl
+found (about.Lint WantedWithoutTag) = refl
+found (about.Lint ForbiddenCommand) = refl
+found (about.Lint NoResultYet) = refl
 found (about.DatabaseLint DigitCase) = refl
 found (about.DatabaseLint NoModalias) = refl
 found (about.DatabaseLint EndMissing) = refl

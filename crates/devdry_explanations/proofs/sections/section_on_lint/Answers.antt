@@ -42,3 +42,36 @@ returns-in-NeverReached-clause-advice c = rw c.in-NeverReached.is refl
 
 pub returns-in-NoPatternForUdev-clause-advice : goal.returns-in-NoPatternForUdev-clause-advice
 returns-in-NoPatternForUdev-clause-advice c = rw c.in-NoPatternForUdev.is refl
+
+pub returns-in-NoMatch-clause-advice : goal.returns-in-NoMatch-clause-advice
+returns-in-NoMatch-clause-advice c = rw c.in-NoMatch.is refl
+
+pub returns-in-NeverFits-clause-advice : goal.returns-in-NeverFits-clause-advice
+returns-in-NeverFits-clause-advice c = rw c.in-NeverFits.is refl
+
+pub returns-in-BlankBesideBar-clause-advice : goal.returns-in-BlankBesideBar-clause-advice
+returns-in-BlankBesideBar-clause-advice c = rw c.in-BlankBesideBar.is refl
+
+pub returns-in-UnknownName-clause-advice : goal.returns-in-UnknownName-clause-advice
+returns-in-UnknownName-clause-advice c = rw c.in-UnknownName.is refl
+
+pub returns-in-NotSubstituted-clause-advice : goal.returns-in-NotSubstituted-clause-advice
+returns-in-NotSubstituted-clause-advice c = rw c.in-NotSubstituted.is refl
+
+pub returns-in-ListReplaced-clause-advice : goal.returns-in-ListReplaced-clause-advice
+returns-in-ListReplaced-clause-advice c = rw c.in-ListReplaced.is refl
+
+pub returns-in-MeantAsMatch-clause-advice : goal.returns-in-MeantAsMatch-clause-advice
+returns-in-MeantAsMatch-clause-advice c = rw c.in-MeantAsMatch.is refl
+
+pub returns-in-NameTooLong-clause-advice : goal.returns-in-NameTooLong-clause-advice
+returns-in-NameTooLong-clause-advice c = rw c.in-NameTooLong.is refl
+
+pub returns-in-WantedWithoutTag-clause-advice : goal.returns-in-WantedWithoutTag-clause-advice
+returns-in-WantedWithoutTag-clause-advice c = rw c.in-WantedWithoutTag.is refl
+
+pub returns-in-ForbiddenCommand-clause-advice : goal.returns-in-ForbiddenCommand-clause-advice
+returns-in-ForbiddenCommand-clause-advice c = rw c.in-ForbiddenCommand.is refl
+
+pub returns-in-NoResultYet-clause-advice : goal.returns-in-NoResultYet-clause-advice
+returns-in-NoResultYet-clause-advice c = rw c.in-NoResultYet.is refl

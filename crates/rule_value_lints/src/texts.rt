@@ -1,0 +1,49 @@
+//! What is looked for in texts and in the head of a token.
+ghost use Rattle.std.specs.Prelude.{◌≡◌, map, option_map};
+ghost use Rattle.rule_value_lints.specs.Texts.{begins_with_one, has_name, has_one, is_named};
+
+use rule_lints::is_among;
+use rule_tokens::Token;
+
+/// Whether a text begins with one of these.
+pub fn begins_with_one(names: &[&[u8]], text: &[u8]) -> bool
+    ensures { result ≡ begins_with_one (map (λ name. name.now) names.now) text.now }
+{
+    for name in names {
+        if text.starts_with(name) {
+            return true;
+        }
+    }
+    false
+}
+
+/// Whether one of these is somewhere in a text.
+pub(crate) fn has_one(names: &[&[u8]], text: &[u8]) -> bool
+    ensures { result ≡ has_one (map (λ name. name.now) names.now) text.now }
+{
+    let mut rest = text;
+    while let Some((_, following)) = rest.split_first() {
+        if begins_with_one(names, rest) {
+            return true;
+        }
+        rest = following;
+    }
+    false
+}
+
+/// Whether a token has this key, and one of these names in braces.
+pub(crate) fn has_name(key: &[u8], names: &[&[u8]], token: &Token<'_>) -> bool
+    ensures { result ≡ has_name key.now (map (λ name. name.now) names.now) token.now }
+{
+    token.key() == key && is_named(names, token.attribute())
+}
+
+/// Whether there is a name in braces, and it is one of these.
+fn is_named(names: &[&[u8]], attribute: Option<&[u8]>) -> bool
+    ensures { result ≡ is_named (map (λ name. name.now) names.now) (option_map (λ name. name.now) attribute.entry) }
+{
+    match attribute {
+        None => false,
+        Some(name) => is_among(names, name),
+    }
+}

@@ -1,0 +1,75 @@
+"""Eighty mistakes that authors of rules make, each with what `verify --lint --udev` tells of it. Nothing is told of those at the
+end: whether they are mistakes can't be seen in the file.
+
+The mistakes are those that were tried in a review of 28 November 2026; what is wanted was written by hand.
+"""
+from tables.kinds.linted import lint
+from tables.kinds.verified import verified
+
+
+def told(name, *lines):
+    """A mistake, with what is told of its lines."""
+    return verified(name, *lines, words="verify --lint --udev")
+
+
+USB = 'SUBSYSTEM=="usb", ENV{DEVTYPE}=="usb_device"'
+
+LINTED = [
+    told("a number with 0x", ('SUBSYSTEMS=="usb", ATTRS{idVendor}=="0x0421", MODE="0660"', lint(16, "0x0421"))),
+    told("a number without its zero", ('SUBSYSTEMS=="usb", ATTRS{idVendor}=="421", MODE="0660"', lint(16, "421"))),
+    told("a number in capitals", ('SUBSYSTEMS=="usb", ATTRS{idProduct}=="007B", MODE="0660"', lint(4, "007B"))),
+    told("ATTR for ATTRS", ('SUBSYSTEM=="tty", ATTR{idVendor}=="0421", SYMLINK+="phone"', lint(5, "idVendor"))),
+    told("an attribute in small letters", (f'{USB}, ATTR{{idvendor}}=="0421", MODE="0660"', lint(18, "idVendor"))),
+    told("attributes of USB and PCI devices", ('ATTRS{idVendor}=="0421", ATTRS{subsystem_vendor}=="0x8086", MODE="0660"', lint(5, "subsystem_vendor"))),
+    told("an interface by its name, and a device by its vendor", ('SUBSYSTEM=="tty", KERNELS=="5-2:1.0", ATTRS{idVendor}=="0421", SYMLINK+="phone"', lint(5, "idVendor"))),
+    told("an interface by its driver, and a device by its vendor", ('SUBSYSTEM=="tty", DRIVERS=="cdc_acm", ATTRS{idVendor}=="0421", SYMLINK+="phone"', lint(5, "idVendor"))),
+    told("SUBSYSTEMS of the device itself", ('SUBSYSTEMS=="tty", ATTRS{idVendor}=="0421", SYMLINK+="phone"', lint(5, "idVendor"))),
+    told("RESULT in a rule above its PROGRAM", ('KERNEL=="sda", RESULT=="disk", SYMLINK+="mine"', lint(25, "RESULT")), 'KERNEL=="sda", PROGRAM="/usr/local/bin/info"'),
+    told("a property compared in the rule that imports it", ('KERNEL=="sda", IMPORT{program}="/usr/local/bin/info %k", ENV{MY_SIDE}=="left", SYMLINK+="left"', lint(6, "MY_SIDE"))),
+    told("a substitution in a match", ('KERNEL=="%k", SYMLINK+="mine"', lint(19, "%k"))),
+    told("a long name after a percent sign", ('KERNEL=="ttyUSB0", SYMLINK+="modem-%name"', lint(19, "modem-%name"))),
+    told("a word of the result without braces", ('KERNEL=="sda", PROGRAM="/usr/local/bin/info", SYMLINK+="mine-%c1"', lint(19, "mine-%c1"))),
+    told("a word of the result in brackets", ('KERNEL=="sda", PROGRAM="/usr/local/bin/info", SYMLINK+="mine-$result[1]"', lint(19, "mine-$result[1]"))),
+    told("a letter left out of a property", ('SUBSYSTEM=="block", ENV{ID_VENDR}=="Kingston", SYMLINK+="stick"', lint(18, "ID_VENDOR"))),
+    told("an attribute taken for a property", ('SUBSYSTEM=="tty", SYMLINK+="tty-$env{idVendor}"', lint(19, "tty-$env{idVendor}"))),
+    told("an action in capitals", ('ACTION=="ADD", SUBSYSTEM=="block", RUN+="/usr/local/bin/mine"', lint(16, "ADD"))),
+    told("a subsystem in capitals", ('SUBSYSTEM=="USB", ATTR{idVendor}=="0421", MODE="0660"', lint(16, "USB"))),
+    told("/dev/ in KERNEL", ('KERNEL=="/dev/ttyUSB0", SYMLINK+="modem"', lint(16, "/dev/ttyUSB0"))),
+    told("/sys in DEVPATH", ('DEVPATH=="/sys/devices/pci0000:00/*", RUN+="/usr/local/bin/mine"', lint(16, "/sys/devices/pci0000:00/*"))),
+    told("blanks around a bar", ('KERNEL=="ttyACM0 | ttyACM1", SYMLINK+="modem"', lint(17, "ttyACM0 | ttyACM1"))),
+    told("an address in capitals", ('SUBSYSTEM=="net", ATTR{address}=="00:1A:2B:3C:4D:5E", NAME="lan0"', lint(4, "00:1A:2B:3C:4D:5E"))),
+    told("removable is true", ('SUBSYSTEM=="block", ATTR{removable}=="true", GROUP="plugdev"', lint(16, "true"))),
+    told("an architecture of Debian", ('KERNEL=="sda", CONST{arch}=="amd64", SYMLINK+="mine"', lint(16, "amd64"))),
+    told("a plus of a regular expression", ('KERNEL=="ttyUSB[0-9]+", SYMLINK+="modem"', lint(11, "ttyUSB[0-9]+"))),
+    told("a rule whose line is not continued", 'KERNEL=="ttyUSB0", ATTRS{serial}=="A1", GROUP="dialout"', ('  SYMLINK+="modem"', lint(15, "SYMLINK"))),
+    told("letters of an attribute swapped", ('KERNEL=="sda", ATTR{queue/shceduler}="none"', lint(18, "queue/scheduler"))),
+    told("a program in the home folder", ('KERNEL=="sda", RUN+="~/bin/backup"', lint(2, "~/bin/backup"))),
+    told("a variable before the program", ('KERNEL=="sda", RUN+="DISPLAY=:0 /usr/bin/xset dpms"', lint(2, "DISPLAY=:0 /usr/bin/xset dpms"))),
+    told("a program in the background", ('KERNEL=="sda", RUN+="/usr/local/bin/backup &"', lint(2, "/usr/local/bin/backup &"))),
+    told("a sign of the shell", ('KERNEL=="sda", RUN+="/bin/echo %k > /run/disk"', lint(2, "/bin/echo %k > /run/disk"))),
+    told("a script without its path", ('KERNEL=="sda", RUN+="mine.sh %k"', lint(3, "mine.sh %k"))),
+    told("a command that mounts", ('KERNEL=="sda1", RUN+="/bin/mount /dev/sda1 /mnt"', lint(24, "/bin/mount /dev/sda1 /mnt"))),
+    told("RUN that replaces others", ('KERNEL=="sda", RUN="/usr/local/bin/backup"', lint(20, "RUN"))),
+    told("SYMLINK that replaces others", ('KERNEL=="sda", SYMLINK="backup"', lint(20, "SYMLINK"))),
+    told("a property assigned that was to be compared", ('SUBSYSTEM=="block", ENV{ID_BUS}="usb", SYMLINK+="stick"', lint(21, "ENV"))),
+    told("an attribute assigned that was to be compared", ('SUBSYSTEM=="block", ATTR{removable}="0", SYMLINK+="disk"', lint(21, "ATTR"))),
+    told("a name of 28 letters", ('SUBSYSTEM=="net", ATTR{address}=="00:1a:2b:3c:4d:5e", NAME="interface-of-the-first-floor"', lint(22, "interface-of-the-first-floor"))),
+    told("a unit that is wanted without the tag", (f'{USB}, ATTR{{idVendor}}=="0421", ENV{{SYSTEMD_WANTS}}+="phone.service"', lint(23, "ENV"))),
+    told("a letter left out of SYSTEMD_WANTS", (f'{USB}, TAG+="systemd", ENV{{SYSTEMD_WANT}}+="phone.service"', lint(18, "SYSTEMD_WANTS"))),
+    told("a link with /dev/, which udev leaves out", 'KERNEL=="ttyUSB0", SYMLINK+="/dev/modem"'),
+    told("a name outside net", ('SUBSYSTEM=="tty", NAME="modem"', lint(8, "modem"))),
+]
+
+# Nothing is told of these: what is wrong with them depends on the device, on other files, or on what their author means.
+SILENT = [
+    told("a product in part", 'SUBSYSTEM=="tty", ATTRS{product}=="Arduino", SYMLINK+="arduino"'),
+    told("the pattern of a whole disk for its partitions", 'KERNEL=="sd[a-z]", SUBSYSTEM=="block", SYMLINK+="part"'),
+    told("a blank in a link, which makes two", 'KERNEL=="ttyUSB0", SYMLINK+="my port"'),
+    told("a blank at the end of a value", 'KERNEL=="sda", ATTR{queue/scheduler}="none "'),
+    told("a label of a file system in a file that comes early", 'SUBSYSTEM=="block", ENV{ID_FS_LABEL}=="DATA", SYMLINK+="data"'),
+    told("the tag uaccess in a file that comes late", f'{USB}, ATTR{{idVendor}}=="0421", TAG+="uaccess"'),
+    told("a link of a network card", 'SUBSYSTEM=="net", ATTR{address}=="00:1a:2b:3c:4d:5e", SYMLINK+="lan"'),
+    told("a file that is tested by its path", 'KERNEL=="sda", TEST=="/etc/mine", SYMLINK+="mine"'),
+]
+
+ROWS = [*LINTED, *SILENT]

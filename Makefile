@@ -67,9 +67,11 @@ check-uses: $(PROGRAM)
 
 # Tries the wrong bodies that the prover has to refuse and that `make check` leaves out, those in crates/*/mutants: to
 # be run for each crate that a change touches, such as `make mutants NAME="text_core hwdb_core"`, on what is committed.
-# Without NAME it tries those of all crates, which takes an hour if their proofs are kept.
+# Without NAME it tries those of all crates, which takes an hour if their proofs are kept. Then it tries the wrong
+# definitions that laws of these crates have to refuse, those in crates/*/definitions.
 mutants:
 	RT=$(RT) tests/mutants.py $(NAME)
+	RT=$(RT) tests/definitions.py $(NAME)
 
 install: $(PROGRAM)
 	install -D -m 755 $(PROGRAM) $(DESTDIR)$(BINDIR)/devdry

@@ -1,6 +1,6 @@
 #!/usr/bin/env python3
-"""Checks the wrong bodies in crates/*/must-fail and crates/*/mutants without a prover: a line `ok CASE` for each case, or
-`not ok CASE` followed by what was found.
+"""Checks the wrong bodies in crates/*/must-fail and crates/*/mutants, and the wrong definitions in crates/*/definitions,
+without a prover: a line `ok CASE` for each case, or `not ok CASE` followed by what was found.
 usage: tests/edits.py [TOP]"""
 
 import pathlib
@@ -10,22 +10,24 @@ import sys
 MAX_EDITS = 29
 
 # How a line of an edit begins; other lines are ignored.
-MARKS = ("file: ", "old: ", "new:")
+MARKS = ("law: ", "file: ", "old: ", "new:")
 
 
-def applied(edit):
-    """What prevents an edit from being applied. Its pairs are applied in turn, each to the result of those before it."""
-    crate = edit.parent.parent
+def applied(edit, folder):
+    """What prevents an edit of files below a folder from being applied. Its pairs are applied in turn, each to the result of
+    those before it."""
     path, old, pairs, texts = None, None, 0, {}
     for line in edit.read_text(encoding="utf-8").splitlines():
         if not line.startswith(MARKS):
             yield f"{edit}: unknown line: {line}"
         elif line.startswith("file: "):
-            path = crate / line.removeprefix("file: ").strip()
+            path = folder / line.removeprefix("file: ").strip()
             if not path.is_file():
                 yield f"{edit}: there is no file {path}"
                 return
             texts.setdefault(path, path.read_text(encoding="utf-8"))
+        elif line.startswith("law: "):
+            continue
         elif path is None:
             yield f"{edit}: an old text before any file"
             return
@@ -45,6 +47,18 @@ def applied(edit):
         yield f"{edit}: no change"
 
 
+def unlawful(edit):
+    """What is wrong with the law that a wrong definition names: it is a function of its crate, as `module::function`."""
+    laws = [line.removeprefix("law: ") for line in edit.read_text(encoding="utf-8").splitlines() if line.startswith("law: ")]
+    for law in laws:
+        module, _, name = law.partition("::")
+        path = edit.parent.parent / "src" / f"{module}.rt"
+        if not path.is_file() or f"pub fn {name}()" not in path.read_text(encoding="utf-8"):
+            yield f"{edit}: there is no law {law}"
+    if len(laws) != 1:
+        yield f"{edit}: it names {len(laws)} laws"
+
+
 def strays(folder):
     """Files in a folder of edits that are neither edits nor notes about them."""
     return [f"{path}: not an .edit file" for path in folder.iterdir() if path.suffix not in (".edit", ".md")]
@@ -60,13 +74,18 @@ def main(top):
     crates = sorted(path for path in (top / "crates").iterdir() if path.is_dir())
     edits = {crate: sorted(crate.glob("must-fail/*.edit")) for crate in crates}
     mutants = {crate: sorted(crate.glob("mutants/*.edit")) for crate in crates}
+    definitions = sorted((top / "crates").glob("*/definitions/*.edit"))
     every = [edit for crate in crates for edit in edits[crate] + mutants[crate]]
     folders = [path for crate in crates for path in (crate / "must-fail", crate / "mutants") if path.is_dir()]
     count = sum(len(found) for found in edits.values())
 
     report(
         "each old text of a wrong body is in its file exactly once",
-        [line for edit in every for line in applied(edit)],
+        [line for edit in every for line in applied(edit, edit.parent.parent)],
+    )
+    report(
+        "each old text of a wrong definition is in its file exactly once, and its law is there",
+        [line for edit in definitions for line in [*applied(edit, top / "crates"), *unlawful(edit)]],
     )
     report("wrong bodies are .edit files", [line for folder in folders for line in strays(folder)])
     report(f"the gate has at most {MAX_EDITS} wrong bodies", [f"there are {count}"] if count > MAX_EDITS else [])

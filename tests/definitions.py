@@ -101,7 +101,7 @@ def tried(clone, crates, law_crate, group):
     ran = subprocess.run(call, cwd=clone / "crates" / law_crate, stdin=subprocess.DEVNULL, capture_output=True, text=True)
     for path, text in were.items():
         path.write_text(text, encoding="utf-8")
-    ended = re.search(r"(?m)^only=\d+ proved=\d+$", ran.stdout)
+    ended = re.search(r"(?m)^only=\d+ proved=\d+", ran.stdout)
     if not ended:
         print(ran.stdout[-3000:], ran.stderr[-1000:])
     for it in group:

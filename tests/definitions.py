@@ -98,15 +98,16 @@ def tried(clone, crates, law_crate, group):
             changed.add(file.split("/")[0])
     only = [word for it in group for word in ("--only", it.law)]
     call = [f"{KIT}/bin/rattle", *words(clone, crates, law_crate, changed), *only]
-    ran = subprocess.run(call, cwd=clone / "crates" / law_crate, stdin=subprocess.DEVNULL, capture_output=True, text=True)
+    how = {"stdin": subprocess.DEVNULL, "stdout": subprocess.PIPE, "stderr": subprocess.STDOUT, "text": True}
+    said = subprocess.run(call, cwd=clone / "crates" / law_crate, check=False, **how).stdout
     for path, text in were.items():
         path.write_text(text, encoding="utf-8")
-    ended = re.search(r"(?m)^only=\d+ proved=\d+", ran.stdout)
+    ended = re.search(r"(?m)^only=\d+ proved=\d+$", said)
     if not ended:
-        print(ran.stdout[-3000:], ran.stderr[-1000:])
+        print(said[-3000:])
     for it in group:
-        said = re.search(rf"(?m)^fn {law_crate}::{it.law}: (.*)", ran.stdout)
-        yield it, said[1] if ended and said else "NOT TRIED"
+        line = re.search(rf"(?m)^fn {law_crate}::{it.law}: (.*)", said)
+        yield it, line[1] if ended and line else "NOT TRIED"
 
 
 def main(names):

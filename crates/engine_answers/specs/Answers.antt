@@ -12,7 +12,8 @@ use Rattle.eval_rules.specs.declared.outcome.Outcome.{Outcome}
 use Rattle.eval_sources.specs.Sources.{Source, source_of}
 use Rattle.eval_sources.specs.Reported.{event_commands, stages}
 use Rattle.engine_ends.specs.Places.{place_of}
-use Rattle.engine_answers.specs.Lines.{event_line, note_lines, run_line}
+use Rattle.engine_answers.specs.Lines.{note_lines, run_line}
+use Rattle.engine_ends.specs.EventLine.{event_line}
 use Rattle.engine_answers.specs.Items.{item_lines}
 
 -- lines, each after what is in front of it, by what it is about

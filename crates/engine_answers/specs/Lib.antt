@@ -1,5 +1,4 @@
 pub mod Lines
 pub mod Items
 pub mod Answers
-pub mod Questions
 pub mod Inner

@@ -42,7 +42,3 @@ note_line note = line (codes "note") (place_of note.file note.line ++ text_of no
 -- the lines of notes
 abbrev pub note_lines : List Note → Text
 note_lines notes = flat_map note_line notes
-
--- the first line: what happened, and to which device
-unfoldable pub event_line : Text → Text → Text
-event_line action path = line (codes "event") (escape_text action ++ space ∷ escape_text path)

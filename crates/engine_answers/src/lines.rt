@@ -1,7 +1,7 @@
 //! One line of each kind, as text.
 ghost use Rattle.std.specs.Prelude.{◌≡◌, ◌++◌, codes, not, IfOk, OnOk};
 ghost use Rattle.engine_answers.specs.Inner.{pair_words, shown_as_is};
-ghost use Rattle.engine_answers.specs.Lines.{bare_line, event_line, is_hidden, line, note_line, pair_line, run_line, text_line};
+ghost use Rattle.engine_answers.specs.Lines.{bare_line, is_hidden, line, note_line, pair_line, run_line, text_line};
 
 use engine_ends::{is_plain, push_escaped, push_place, push_word};
 use eval_rules::Command;
@@ -148,24 +148,6 @@ pub(crate) fn push_note(alloc: Global, lines: &mut Vec<u8>, note: &Note) -> Resu
     push_place(alloc, lines, note.file.as_slice(), note.line)?;
     lines.extend_from_slice(note.kind.text())?;
     push_word(alloc, lines, note.word.as_slice())?;
-    lines.push(b'\n')?;
-    Ok(())
-}
-
-/// Adds the first line: what happened, and to which device.
-#[tactic(auto, unfolding(crate::specs::Lines::event_line))]
-pub fn push_event(
-    alloc: Global,
-    lines: &mut Vec<u8>,
-    action: &[u8],
-    path: &[u8],
-) -> Result<(), AllocError>
-    ensures { OnOk result (lines.new.items ≡ lines.old.items ++ event_line action.now path.now) }
-{
-    lines.extend_from_slice(b"event ")?;
-    push_escaped(alloc, lines, action)?;
-    lines.push(b' ')?;
-    push_escaped(alloc, lines, path)?;
     lines.push(b'\n')?;
     Ok(())
 }

@@ -4,7 +4,7 @@ use Rattle.std.proofs.lemmas.Bool.{eqb-true}
 use Rattle.text_bytes.specs.Names.{newline, minus, plus}
 use Rattle.text_tables.specs.Texts.{Text}
 use Rattle.device_core.specs.Values.{EventValue}
-use Rattle.engine_answers.specs.Lines.{event_line}
+use Rattle.engine_ends.specs.EventLine.{event_line}
 use Rattle.text_tallies.specs.Surplus.{times, surplus}
 use Rattle.engine_compare.specs.Differences.{compared_lines, differences, marked_lines, reported_for}
 use Rattle.text_tallies.proofs.Counting.{nothing_differs}

@@ -5,7 +5,7 @@ use Rattle.text_bytes.specs.Names.{newline, minus, plus}
 use Rattle.text_bytes.specs.Lines.{lines}
 use Rattle.text_tables.specs.Texts.{Text}
 use Rattle.device_core.specs.Values.{EventValue}
-use Rattle.engine_answers.specs.Lines.{event_line}
+use Rattle.engine_ends.specs.EventLine.{event_line}
 use Rattle.text_tallies.specs.Surplus.{surplus}
 
 -- whether a line of an answer is compared: it has a byte, and is not a note

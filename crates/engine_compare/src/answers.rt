@@ -4,7 +4,7 @@ ghost use Rattle.text_bytes.specs.Lines.{lines};
 ghost use Rattle.engine_compare.specs.Differences.{after_first, compared_lines, differences, is_compared, marked_line, marked_lines, reported_for};
 
 use device_core::Event;
-use engine_answers::push_event;
+use engine_ends::push_event;
 use std::alloc::{AllocError, Global};
 use text_bytes::{Bytes, first_line};
 use text_tallies::surplus;

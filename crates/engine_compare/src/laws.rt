@@ -3,7 +3,7 @@ ghost use Rattle.std.specs.Prelude.{◌≡◌, ◌↔◌, ◌++◌, [], codes};
 ghost use Rattle.text_tables.specs.Texts.{Text};
 ghost use Rattle.text_tallies.specs.Surplus.{times};
 ghost use Rattle.device_core.specs.Values.{EventValue};
-ghost use Rattle.engine_answers.specs.Lines.{event_line};
+ghost use Rattle.engine_ends.specs.EventLine.{event_line};
 ghost use Rattle.engine_compare.specs.Differences.{compared_lines, differences};
 
 /// Nothing is reported for two equal answers.

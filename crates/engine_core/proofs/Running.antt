@@ -24,7 +24,7 @@ use Rattle.engine_sessions.specs.Sessions.{answers_as}
 use Rattle.engine_sessions.proofs.Serving.{answers_serve, reports_serve}
 use Rattle.builtin_core.specs.Builtins.{Held, known_by}
 use Rattle.engine_answers.specs.Answers.{answer_by}
-use Rattle.engine_answers.specs.Questions.{question_answer}
+use Rattle.engine_courses.specs.Questions.{question_answer}
 use Rattle.engine_core.specs.Outcomes.{answer_by_line, answer_with, asked_of, asks_more, before_input, known_for, outcome, outcome_by, reads_modaliases, reported_for}
 use Rattle.engine_core.specs.Runs.{RunsBy}
 use Rattle.engine_core.specs.Reported.{ReportedValue, reported_by}

@@ -21,7 +21,7 @@ use Rattle.engine_answers.specs.Answers.{answer_by}
 use Rattle.engine_courses.specs.Asked.{unknown}
 use Rattle.engine_core.specs.Checking.{update_said, verify_said}
 use Rattle.engine_core.specs.Reported.{ReportedValue, reported_by}
-use Rattle.engine_answers.specs.Questions.{question_answer}
+use Rattle.engine_courses.specs.Questions.{question_answer}
 use Rattle.engine_sessions.specs.Outcomes.{input_outcome}
 use Rattle.engine_sessions.specs.Sessions.{answers_as}
 

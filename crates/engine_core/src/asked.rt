@@ -3,7 +3,7 @@ ghost use Rattle.std.specs.Prelude.{◌≡◌};
 
 use builtin_devices::Knowledge;
 use device_core::Event;
-use engine_answers::question_answer;
+use engine_courses::question_answer;
 use engine_sessions::Answering;
 use rule_types::RuleSet;
 use std::alloc::{AllocError, Global};
@@ -37,7 +37,7 @@ impl<K: Knowledge + Drop> AskedTables<K> {
 }
 
 impl<K: Knowledge> Answering for AskedTables<K> {
-    ghost use Rattle.engine_answers.specs.Questions.{question_answer};
+    ghost use Rattle.engine_courses.specs.Questions.{question_answer};
 
     ghost answers = { λ tables. question_answer tables.0 (K.known tables.1) };
 

@@ -2,3 +2,4 @@ pub mod Nearest
 pub mod Asked
 pub mod WhyLines
 pub mod Inner
+pub mod Questions

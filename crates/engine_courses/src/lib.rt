@@ -1,9 +1,12 @@
-//! Why rules did what they did, for the rules that `--why` asks for.
+//! Why rules did what they did, for the rules that `--why` asks for, and the commands that rules ask for, as `--questions`
+//! lists them.
 //!
 //! An argument of `--why` is the name of a rules file, or `FILE:LINE`. One that matches nothing is reported before any
 //! event. The answer to an event is followed by lines on the rules that were asked for: why a line is not a rule,
 //! which rule's GOTO skips a rule, or what each of its keys found. For these lines the rules are evaluated again, while
 //! something watches them.
+//!
+//! What rules ask and the event's block does not answer is written as lines that can be filled in and put into the block.
 #![tactic(auto)]
 
 mod answers;
@@ -12,6 +15,7 @@ mod laws;
 mod lines;
 mod nearest;
 mod places;
+mod questions;
 mod reporter;
 mod reporting;
 mod unknown;
@@ -22,4 +26,5 @@ pub use laws::{
     first_unknown_is_reported, nothing_is_reported_unasked, rules_are_reported_where_asked,
     unknown_asks_for_nothing,
 };
+pub use questions::question_answer;
 pub use unknown::first_unknown;

@@ -9,3 +9,4 @@ pub mod Streams
 pub mod Delivery
 pub mod Places
 pub mod FaultTexts
+pub mod EventLine

@@ -6,6 +6,7 @@
 mod delivery;
 mod device;
 mod escaping;
+mod event_line;
 mod folders;
 mod kinds;
 mod line;
@@ -20,6 +21,7 @@ pub use delivery::{
 };
 pub use device::{DeviceFault, Sink, Source};
 pub use escaping::{escaped_count, is_plain, push_escaped};
+pub use event_line::push_event;
 pub use folders::folder_path;
 pub use kinds::same_kind;
 pub use line::{AccountFile, Color, Format, Line, LineFault, Request, Verb};

@@ -7,7 +7,7 @@ use Rattle.engine_ends.specs.declared.line.Line.{Line}
 use Rattle.engine_ends.specs.Delivery.{RunOutcome}
 use Rattle.engine_reports.specs.Openings.{OpeningValue}
 use Rattle.engine_answers.specs.Answers.{answer_by}
-use Rattle.engine_answers.specs.Questions.{question_answer}
+use Rattle.engine_courses.specs.Questions.{question_answer}
 use Rattle.engine_core.specs.Outcomes.{answer_with, asked_of, asks_more, known_for, reported_for, why_of}
 use Rattle.engine_core.specs.Reported.{reported_by}
 use Rattle.engine_sessions.specs.Sessions.{answers_as}

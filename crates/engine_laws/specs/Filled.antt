@@ -3,7 +3,7 @@ use Rattle.std.specs.Prelude.{[], ◌∷◌, ◌++◌, codes, None}
 use Rattle.text_bytes.specs.declared.profile.Profile.TheVariants.{Manual}
 use Rattle.text_tables.specs.Texts.{Text}
 use Rattle.device_core.specs.Values.{DeviceValue, EventValue}
-use Rattle.engine_answers.specs.Questions.{question_line}
+use Rattle.engine_courses.specs.Questions.{question_line}
 
 -- the block of an event with the line that asks a command, and the answer that the program ended well and wrote nothing
 abbrev pub filled : Text → Text

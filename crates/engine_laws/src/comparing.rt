@@ -5,7 +5,7 @@ ghost use Rattle.std.specs.Prelude.{◌≡◌, ◌++◌, Ok, codes};
 ghost use Rattle.text_tables.specs.Texts.{Text};
 ghost use Rattle.device_core.specs.Values.{EventValue};
 ghost use Rattle.engine_answers.specs.Answers.{answer_by};
-ghost use Rattle.engine_answers.specs.Lines.{event_line};
+ghost use Rattle.engine_ends.specs.EventLine.{event_line};
 ghost use Rattle.engine_compare.specs.Differences.{differences};
 ghost use Rattle.engine_core.specs.Comparing.{compare_outcome};
 ghost use Rattle.engine_core.specs.Outcomes.{known_for};

@@ -20,7 +20,8 @@ use Rattle.eval_rules.specs.Outcomes.{outcome}
 use Rattle.eval_rules.specs.declared.outcome.Outcome.{Outcome}
 use Rattle.eval_laws.specs.Weights.{command_weight, note_weight, outcome_weight}
 use Rattle.eval_effects.specs.Items.{item_name, label_item}
-use Rattle.engine_answers.specs.Lines.{event_line, note_line, pair_line, run_line, text_line}
+use Rattle.engine_answers.specs.Lines.{note_line, pair_line, run_line, text_line}
+use Rattle.engine_ends.specs.EventLine.{event_line}
 use Rattle.engine_answers.specs.Inner.{shown_line}
 use Rattle.engine_answers.specs.Items.{ItemLine, env_lines, item_lines, label_lines, member_lines, node_lines, value_lines}
 use Rattle.engine_answers.specs.Answers.{answer, lines_with}

@@ -107,10 +107,11 @@ use Rattle.engine_checks.specs.Reported.{file_reported}
 use Rattle.engine_courses.specs.Asked.{unread, unknown_line, unknown}
 use Rattle.engine_courses.specs.Nearest.{least}
 use Rattle.engine_courses.specs.WhyLines.{why_line, unread_text, reported_from, why_lines}
-use Rattle.engine_answers.specs.Questions.{question_answer}
+use Rattle.engine_courses.specs.Questions.{question_answer}
 use Rattle.engine_answers.specs.Answers.{lines_with}
 use Rattle.engine_answers.specs.Items.{node_lines, item_lines}
-use Rattle.engine_answers.specs.Lines.{text_line, pair_line, run_line, note_line, event_line}
+use Rattle.engine_answers.specs.Lines.{text_line, pair_line, run_line, note_line}
+use Rattle.engine_ends.specs.EventLine.{event_line}
 use Rattle.example_laws.specs.Answered.{answered_by}
 use Rattle.example_laws.specs.Reported.{sourced, sourced_as_udev, explained, explained_as_udev, asked, asked_in_vain}
 

@@ -12,7 +12,7 @@ use Rattle.eval_rules.specs.Outcomes.{outcome}
 use Rattle.engine_answers.specs.Answers.{answer_lines, sourced_lines}
 use Rattle.engine_courses.specs.Asked.{unknown}
 use Rattle.engine_courses.specs.WhyLines.{why_lines}
-use Rattle.engine_answers.specs.Questions.{question_answer}
+use Rattle.engine_courses.specs.Questions.{question_answer}
 use Rattle.example_laws.specs.Answered.{answer_to, only_entries, read_by}
 
 -- the answer to an event in which each line has its source

@@ -52,7 +52,7 @@ fn blocks_are_cut(alloc: Global, size: usize) -> Result<bool, AllocError> {
 }
 
 /// A block with a property of so many letters: 27 bytes more.
-pub(crate) fn block_with(alloc: Global, letters: usize) -> Result<Vec<u8>, AllocError> {
+fn block_with(alloc: Global, letters: usize) -> Result<Vec<u8>, AllocError> {
     let mut block = Vec::from_slice(alloc, b"C: add\nP: /devices/x\nE: X=")?;
     block.extend_from_slice(vec![in alloc; b'x'; letters]?.as_slice())?;
     block.push(b'\n')?;

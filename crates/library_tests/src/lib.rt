@@ -1,6 +1,6 @@
 //! Tests of what only a caller of the libraries can ask: places in a text, which of several faults was found, what a
-//! type returns and is made from, what is counted and not printed, single calls, and whole runs over devices that
-//! take little, give little, or fail.
+//! type returns and is made from, what is counted and not printed, and single calls. Those of whole runs are in
+//! `run_tests`.
 //!
 //! What can be asked of the program itself is in the tables of tests/tables. These tests show what no contract states:
 //! that a call succeeds when memory is ample, and that the definitions mean what their readers think they mean. The
@@ -21,13 +21,7 @@ mod faults;
 #[cfg(test)]
 mod indexes;
 #[cfg(test)]
-mod memory_disk;
-#[cfg(test)]
 mod rules;
-#[cfg(test)]
-mod runs;
-#[cfg(test)]
-mod sessions;
 #[cfg(test)]
 mod slow_disk;
 #[cfg(test)]

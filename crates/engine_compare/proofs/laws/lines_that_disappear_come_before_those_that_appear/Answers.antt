@@ -1,5 +1,5 @@
 use Rattle.std.proofs.Common.{codes}
-use Rattle.engine_answers.specs.Lines.{event_line}
+use Rattle.engine_ends.specs.EventLine.{event_line}
 use Rattle.engine_compare.proofs.Reporting.{apart}
 use Rattle.engine_compare.proofs.laws.lines_that_disappear_come_before_those_that_appear.Goals as goal
 

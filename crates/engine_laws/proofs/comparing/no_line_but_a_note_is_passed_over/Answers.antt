@@ -1,5 +1,5 @@
 use Rattle.std.proofs.Common.{codes}
-use Rattle.engine_answers.specs.Lines.{event_line}
+use Rattle.engine_ends.specs.EventLine.{event_line}
 use Rattle.engine_compare.proofs.Reporting.{apart}
 use Rattle.engine_laws.proofs.comparing.no_line_but_a_note_is_passed_over.Goals as goal
 

@@ -5,7 +5,7 @@ use Rattle.text_tables.specs.Texts.{Text}
 use Rattle.builtin_devices.specs.Knowledge.{Known}
 use Rattle.rule_types.specs.Rules.{Rule}
 use Rattle.device_core.specs.Values.{EventValue}
-use Rattle.engine_answers.specs.Lines.{event_line}
+use Rattle.engine_ends.specs.EventLine.{event_line}
 use Rattle.eval_courses.specs.Questions.{questions}
 
 -- a command as the line of a block that asks it

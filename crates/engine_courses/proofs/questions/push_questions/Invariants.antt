@@ -1,5 +1,5 @@
 use Rattle.std.proofs.Common.{◌≡◌, ◌++◌, take, map}
-use Rattle.engine_answers.specs.Questions.{question_lines}
+use Rattle.engine_courses.specs.Questions.{question_lines}
 use Rattle.engine_answers.proofs.questions.push_questions.Given as goal
 
 abbrev pub invariant-loop-command : goal.invariant-loop-command

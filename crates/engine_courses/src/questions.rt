@@ -1,10 +1,10 @@
 //! The answer of `--questions` to an event.
 ghost use Rattle.std.specs.Prelude.{◌≡◌, ◌++◌, IfOk, OnOk};
-ghost use Rattle.engine_answers.specs.Questions.{question_answer, question_line, question_lines};
+ghost use Rattle.engine_courses.specs.Questions.{question_answer, question_line, question_lines};
 
-use crate::lines::push_event;
 use builtin_devices::Knowledge;
 use device_core::Event;
+use engine_ends::push_event;
 use eval_courses::questions;
 use rule_types::RuleSet;
 use std::alloc::{AllocError, Global};

@@ -1,5 +1,4 @@
 //! Sessions that get an input piece by piece, and turns that answer a block with its last byte.
-use crate::events::block_with;
 use crate::runs::{AMPLE, ANSWER, BLOCK, DISK, Given, OF_DISKS, files_of, input_of, output_of};
 use builtin_core::Builtins;
 use device_core::{BlockFault, BlockFaultKind};
@@ -296,10 +295,11 @@ fn is_refused(
     Ok(refused)
 }
 
-/// A block with a property of so many letters, and the empty line after it.
+/// A block with a property of so many letters, which are 27 bytes more, and the empty line after it.
 fn whole_block(alloc: Global, letters: usize) -> Result<Vec<u8>, Fail> {
-    let mut block = block_with(alloc, letters)?;
-    block.push(b'\n')?;
+    let mut block = Vec::from_slice(alloc, b"C: add\nP: /devices/x\nE: X=")?;
+    block.extend_from_slice(vec![in alloc; b'x'; letters]?.as_slice())?;
+    block.extend_from_slice(b"\n\n")?;
     Ok(block)
 }
 

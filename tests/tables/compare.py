@@ -130,7 +130,7 @@ ROOTS = [
              (D, [], "+tag t"), files=[*DATABASES.items(), ("i", WITHOUT_FILE)], words=["--index", "i"]),
     compared("messages about the rules of OLD, then of NEW", ['FOO="1"', 'TAG+="t",TAG+="u"'], ["# c", 'BAR="1"', 'TAG+="t"'],
         (D, [], "-tag u"),
-             messages="r.rules:1: V2 unknown key: FOO\nr.rules:2: V2 unknown key: BAR\n"),
+             messages="[OLD] r.rules:1: V2 unknown key: FOO\n[NEW] r.rules:2: V2 unknown key: BAR\n"),
     Row("a file that can't be read", ["compare", OLD, NEW], {placed(OLD): 'TAG+="t"\n', "new/etc/udev/rules.d": ""}, block(D),
         messages="devdry: cannot read new/etc/udev/rules.d\n", status=3),
     Row("of two unreadable files that of OLD is reported", ["compare", OLD, NEW], {"old/etc/udev/rules.d": "", "new/etc/udev/rules.d": ""}, block(D),

@@ -1,9 +1,12 @@
-"""Eighty mistakes that authors of rules make, each with what `verify --lint --udev` tells of it. Nothing is told of those at the
-end: whether they are mistakes can't be seen in the file.
+"""Mistakes that authors of rules make, each with what `verify --lint --udev` tells of it: first those that udev itself refuses or
+advises against, then those that only lints tell. Nothing is told of those at the end: whether they are mistakes can't be seen in
+the file.
 
 The mistakes are those that were tried in a review of 28 November 2026; what is wanted was written by hand.
 """
 from tables.kinds.linted import lint
+from tables.kinds.marked import TEXTS
+from tables.kinds.row import Row
 from tables.kinds.verified import verified
 
 
@@ -12,7 +15,60 @@ def told(name, *lines):
     return verified(name, *lines, words="verify --lint --udev")
 
 
+def fault(code, word=""):
+    """What a message with this code says, with the first 32 bytes of its word."""
+    return f"{code} {TEXTS[code]}" + (f": {word[:32]}" if word else "")
+
+
+def told_from(name, line, at):
+    """A line that can't be read from a text on, of which the rest is shown."""
+    return told(name, (line, fault("V1", line[line.index(at) :])))
+
+
 USB = 'SUBSYSTEM=="usb", ENV{DEVTYPE}=="usb_device"'
+
+FAULTY = [
+    told("a comma left out between matches", ('KERNEL=="sda" SUBSYSTEM=="block", SYMLINK+="mine"', fault("S1", "SUBSYSTEM"))),
+    told("a comma left out before an assignment", ('KERNEL=="sda" SYMLINK+="mine"', fault("S1", "SYMLINK"))),
+    told("a property after a dollar sign", ('KERNEL=="sda", RUN+="/usr/local/bin/mine $DEVNAME"', fault("V6", "/usr/local/bin/mine $DEVNAME"))),
+    told("one = for a subsystem", ('SUBSYSTEM="block", SYMLINK+="mine"', fault("V3", "SUBSYSTEM"))),
+    told("one = for an action", ('KERNEL=="sda", ACTION="add", SYMLINK+="mine"', fault("V3", "ACTION"))),
+    told("one = for a result", ('KERNEL=="sda", PROGRAM="/usr/local/bin/info", RESULT="disk", SYMLINK+="mine"', fault("V3", "RESULT"))),
+    told("== for a group", ('KERNEL=="sda", GROUP=="disk"', fault("V3", "GROUP"))),
+    told("a label of another name", ('KERNEL!="sda", GOTO="mine_end"', fault("V7", "mine_end")), 'ENV{MINE}="1", TAG+="mine", SYMLINK+="mine"', ('LABEL="my_end"', fault("S4", "my_end"))),
+    told("a label in small letters", ('KERNEL!="sda", GOTO="mine_end"', fault("V7", "mine_end")), ('label="mine_end"', fault("V2", "label"))),
+    told("a label above its jump", ('LABEL="mine"', fault("S4", "mine")), ('KERNEL!="sda", GOTO="mine"', fault("V7", "mine"))),
+    told("IMPORT without its type", ('KERNEL=="sda", IMPORT="/usr/local/bin/info"', fault("V4", "IMPORT"))),
+    told("ENV without a name", ('KERNEL=="sda", ENV=="1", SYMLINK+="mine"', fault("V4", "ENV"))),
+    told("SECLABEL without a module", ('KERNEL=="sda", SECLABEL="mine_t"', fault("V4", "SECLABEL"))),
+    told_from("an assignment in braces", 'KERNEL=="sda", ENV{A="1"}', "ENV"),
+    told_from("a name in parentheses", 'KERNEL=="sda", ENV(A)="1"', "ENV"),
+    told("a substitution in braces", ('KERNEL=="sda", SYMLINK+="disk-${kernel}"', fault("V6", "disk-${kernel}"))),
+    told("an option of old versions", ('KERNEL=="sda", OPTIONS+="ignore_device"', fault("V5", "ignore_device"))),
+    told_from("the operator of a regular expression", 'KERNEL=~"sd", SYMLINK+="mine"', "KERNEL"),
+    told_from("an operator the wrong way round", 'KERNEL=!"sda", SYMLINK+="mine"', "KERNEL"),
+    told("a plain percent sign", ('KERNEL=="sda", ENV{MINE}="50%"', fault("V6", "50%"))),
+    told("a substitution with the name of a match", ('KERNEL=="sda", SYMLINK+="disk-$attrs{idVendor}"', fault("V6", "disk-$attrs{idVendor}"))),
+    told("a mode that ends in a letter", ('KERNEL=="sda", MODE="0666o"', lint(1, "0666o"))),
+    told("a mode in decimal", ('KERNEL=="sda", MODE="438"', lint(1, "438"))),
+    told("a mode in letters", ('KERNEL=="sda", MODE="a+rw"', lint(1, "a+rw"))),
+    told_from("quotes within quotes", 'KERNEL=="sda", RUN+="/bin/sh -c "echo %k""', 'echo %k""'),
+    told_from("a comment behind a rule", 'KERNEL=="sda", SYMLINK+="mine" # my disk', "# my"),
+    told_from("two matches with && between", 'KERNEL=="sda" && SUBSYSTEM=="block", SYMLINK+="mine"', "&&"),
+    told("SYMLINK that compares and assigns nothing", ('KERNEL=="sda", SYMLINK=="mine"', fault("V18"))),
+    told("a constant that udev does not have", ('CONST{hostname}=="mine", KERNEL=="sda", SYMLINK+="mine"', fault("V4", "CONST"))),
+    told("two actions at once", ('ACTION=="add", ACTION=="change", KERNEL=="sda", SYMLINK+="mine"', fault("V16", "ACTION"))),
+    told("a builtin with a dash", ('KERNEL=="sda", IMPORT{builtin}="path-id"', fault("V15", "path-id"))),
+    told("a program taken for a builtin", ('KERNEL=="sda", RUN{builtin}+="mount"', fault("V15", "mount"))),
+    Row(
+        "letters of a user swapped",
+        "verify --lint --udev --users passwd r.rules",
+        {"passwd": b"john:x:1000:1000::/home/john:/bin/sh\n", "r.rules": b'KERNEL=="sda", OWNER="jonh"\n'},
+        output="1 files checked, 0 good, 1 bad\n",
+        messages=b"r.rules:1: V25 unknown user or group: jonh\n",
+        status=1,
+    ),
+]
 
 LINTED = [
     told("a number with 0x", ('SUBSYSTEMS=="usb", ATTRS{idVendor}=="0x0421", MODE="0660"', lint(16, "0x0421"))),
@@ -72,4 +128,4 @@ SILENT = [
     told("a file that is tested by its path", 'KERNEL=="sda", TEST=="/etc/mine", SYMLINK+="mine"'),
 ]
 
-ROWS = [*LINTED, *SILENT]
+ROWS = [*FAULTY, *LINTED, *SILENT]

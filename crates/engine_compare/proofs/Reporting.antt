@@ -1,7 +1,7 @@
 -- Where nothing is reported for an event.
-use Rattle.std.proofs.Common.{◌≡◌, ◌↔◌, ℕ, ◌+◌, ◌==◌, ◌&&◌, Bool, true, false, cond, List, [], ◌∷◌, ◌++◌, length, refl, ap, ap₂, sym, ◌∙◌, append_assoc, arith}
+use Rattle.std.proofs.Common.{◌≡◌, ◌↔◌, ℕ, ◌+◌, ◌==◌, ◌&&◌, Bool, true, false, cond, List, [], ◌∷◌, ◌++◌, codes, length, refl, ap, ap₂, sym, ◌∙◌, append_assoc, arith}
 use Rattle.std.proofs.lemmas.Bool.{eqb-true}
-use Rattle.text_bytes.specs.Names.{newline, minus, plus}
+use Rattle.text_bytes.specs.Names.{newline}
 use Rattle.text_tables.specs.Texts.{Text}
 use Rattle.device_core.specs.Values.{EventValue}
 use Rattle.engine_ends.specs.EventLine.{event_line}
@@ -19,9 +19,9 @@ second_empty [] second h = h
 second_empty (a ∷ first) second h = absurd (cc)
 
 -- what is reported for an event ends in an empty line
-reported_ends : (event : EventValue) (gone come : List Text) → event_line event.action event.device.path ++ marked_lines minus gone ++ marked_lines plus come ++ newline ∷ [] ≡ [] → ⊥
+reported_ends : (event : EventValue) (gone come : List Text) → event_line event.action event.device.path ++ marked_lines (codes "-") gone ++ marked_lines (codes "+") come ++ newline ∷ [] ≡ [] → ⊥
 reported_ends event gone come h =
-    let end : newline ∷ [] ≡ [] = second_empty (event_line event.action event.device.path ++ marked_lines minus gone ++ marked_lines plus come) (newline ∷ []) h in
+    let end : newline ∷ [] ≡ [] = second_empty (event_line event.action event.device.path ++ marked_lines (codes "-") gone ++ marked_lines (codes "+") come) (newline ∷ []) h in
     cc
 
 both : (a b : Bool) → (a && b) ≡ true → (a ≡ true) × (b ≡ true)
@@ -36,7 +36,7 @@ reported_nothing : (event : EventValue) (gone come : List Text) → reported_for
 reported_nothing event gone come h = by (length gone == 0 && length come == 0) refl h
   where
     by : (b : Bool) → (length gone == 0 && length come == 0) ≡ b
-        → cond b [] (event_line event.action event.device.path ++ marked_lines minus gone ++ marked_lines plus come ++ newline ∷ []) ≡ [] → (gone ≡ []) × (come ≡ [])
+        → cond b [] (event_line event.action event.device.path ++ marked_lines (codes "-") gone ++ marked_lines (codes "+") come ++ newline ∷ []) ≡ [] → (gone ≡ []) × (come ≡ [])
     by true is none = let empty = both (length gone == 0) (length come == 0) is in (none_in gone empty.0, none_in come empty.1)
     by false is none = absurd (reported_ends event gone come none)
 

@@ -1,7 +1,7 @@
-//! What appears and disappears between two answers to the same event, as text.
+//! What appears and disappears between two answers to the same event, as text, and which side a message is about.
 ghost use Rattle.std.specs.Prelude.{◌≡◌, ◌++◌, ◌∷◌, [], filter, map, IfOk, OnOk};
 ghost use Rattle.text_bytes.specs.Lines.{lines};
-ghost use Rattle.engine_compare.specs.Differences.{after_first, compared_lines, differences, is_compared, marked_line, marked_lines, reported_for};
+ghost use Rattle.engine_compare.specs.Differences.{after_first, compared_lines, differences, is_compared, marked_line, marked_lines, marked_text, reported_for};
 
 use device_core::Event;
 use engine_ends::push_event;
@@ -85,15 +85,15 @@ fn reported_for(
         return Ok(Bytes::new(text));
     }
     push_event(alloc, &mut text, event.action(), event.device().path())?;
-    push_marked_lines(&mut text, b'-', gone)?;
-    push_marked_lines(&mut text, b'+', come)?;
+    push_marked_lines(&mut text, b"-", gone)?;
+    push_marked_lines(&mut text, b"+", come)?;
     text.push(b'\n')?;
     Ok(Bytes::new(text))
 }
 
 /// Appends lines, each after a mark.
-fn push_marked_lines(text: &mut Vec<u8>, mark: u8, lines: &[&[u8]]) -> Result<(), AllocError>
-    ensures { OnOk result (text.new.items ≡ text.old.items ++ marked_lines mark (map (λ l. l.now) lines.now)) }
+fn push_marked_lines(text: &mut Vec<u8>, mark: &[u8], lines: &[&[u8]]) -> Result<(), AllocError>
+    ensures { OnOk result (text.new.items ≡ text.old.items ++ marked_lines mark.now (map (λ l. l.now) lines.now)) }
 {
     for line in lines {
         push_marked_line(text, mark, line)?;
@@ -102,11 +102,25 @@ fn push_marked_lines(text: &mut Vec<u8>, mark: u8, lines: &[&[u8]]) -> Result<()
 }
 
 /// Appends a line, after a mark.
-fn push_marked_line(text: &mut Vec<u8>, mark: u8, line: &[u8]) -> Result<(), AllocError>
-    ensures { OnOk result (text.new.items ≡ text.old.items ++ marked_line mark line.now) }
+fn push_marked_line(text: &mut Vec<u8>, mark: &[u8], line: &[u8]) -> Result<(), AllocError>
+    ensures { OnOk result (text.new.items ≡ text.old.items ++ marked_line mark.now line.now) }
 {
-    text.push(mark)?;
+    text.extend_from_slice(mark)?;
     text.extend_from_slice(line)?;
     text.push(b'\n')?;
     Ok(())
+}
+
+/// A text with each of its lines after a mark: the messages about one of two sets of rules.
+pub fn marked(alloc: Global, mark: &[u8], text: &[u8]) -> Result<Vec<u8>, AllocError>
+    ensures { IfOk result (λ marked. marked.items ≡ marked_text mark.now text.now) }
+{
+    let mut marked = Vec::new(alloc);
+    let mut rest = text;
+    while !rest.is_empty() {
+        let (line, below) = first_line(rest);
+        push_marked_line(&mut marked, mark, line)?;
+        rest = below;
+    }
+    Ok(marked)
 }

@@ -6,7 +6,7 @@ mod answers;
 mod compared;
 mod laws;
 
-pub use answers::differences;
+pub use answers::{differences, marked};
 pub use compared::Compared;
 pub use laws::{
     lines_that_disappear_come_before_those_that_appear,

@@ -1,5 +1,5 @@
 -- From the steps of a comparison to what it serves.
-use Rattle.std.proofs.Common.{◌≡◌, ℕ, List, ◌++◌, inl, inr, refl, subst, Result, Ok, Err}
+use Rattle.std.proofs.Common.{◌≡◌, ℕ, List, inl, inr, refl, subst, Result, Ok, Err}
 use Rattle.text_tables.specs.Texts.{Text}
 use Rattle.engine_ends.specs.Streams.{Streams, outputs}
 use Rattle.engine_ends.specs.declared.line.Line.{Line}
@@ -20,12 +20,12 @@ use Rattle.engine_sessions.specs.Sessions.{answers_as}
 use Rattle.engine_sessions.proofs.Serving.{reports_serve}
 use Rattle.engine_sessions.proofs.FindServing.{finds_serve}
 use Rattle.engine_compare.specs.Differences.{differences}
-use Rattle.engine_core.specs.Comparing.{ComparesBy, compare_outcome, differences_by}
+use Rattle.engine_core.specs.Comparing.{ComparesBy, both_messages, compare_outcome, differences_by}
 
 pub compares_serve : (old_line new_line : Line) (old new : Result OpeningValue RunOutcome) (status : ℕ) (before now : Streams)
     → ComparesBy old_line new_line old new status before now → Serves (compare_outcome old_line new_line old new) status before now
 compares_serve old_line new_line (Ok old) (Ok new) status before now r =
-    finds_serve (old.messages ++ new.messages) (answers_as old_line.profile (differences_by old_line new_line old new)) status before now r
+    finds_serve (both_messages old.messages new.messages) (answers_as old_line.profile (differences_by old_line new_line old new)) status before now r
 compares_serve old_line new_line (Ok old) (Err said) status before now r = reports_serve (λ text. said) said status before now (λ text. refl) r
 compares_serve old_line new_line (Err said) new status before now r = reports_serve (λ text. said) said status before now (λ text. refl) r
 

@@ -1,6 +1,6 @@
 -- What a comparison says: its outcome, as a function of the two command lines, the files passed in for each, the
 -- outcome of opening an index, and the input.
-use Rattle.std.specs.Prelude.{ℕ, List, ◌++◌, Option, Result, Ok, Err}
+use Rattle.std.specs.Prelude.{ℕ, List, ◌++◌, Option, Result, Ok, Err, codes}
 use Rattle.text_bytes.specs.declared.source_file.SourceFile.{SourceFile}
 use Rattle.text_tables.specs.Texts.{Text}
 use Rattle.index_reading.specs.declared.fault.IndexFault.{IndexFault}
@@ -17,26 +17,31 @@ use Rattle.engine_sessions.specs.Findings.{FindsAll, found}
 use Rattle.engine_sessions.specs.Outcomes.{input_outcome}
 use Rattle.engine_sessions.specs.Serves.{Reports, Serves}
 use Rattle.engine_sessions.specs.Sessions.{answers_as}
-use Rattle.engine_compare.specs.Differences.{differences}
+use Rattle.engine_compare.specs.Differences.{differences, marked_text}
 
 -- what appears and disappears between the answers to an event by two lines and their openings
 abbrev pub differences_by : (old_line new_line : Line) → (old new : OpeningValue) → EventValue → Text
 differences_by old_line new_line old new event =
     differences event (answer_by old.rules (known_for old_line old) event) (answer_by new.rules (known_for new_line new) event)
 
+-- the messages about both sides: those about the old rules, each line after `[OLD] `, and then those about the new ones, each
+-- after `[NEW] `
+abbrev pub both_messages : Text → Text → Text
+both_messages old new = marked_text (codes "[OLD] ") old ++ marked_text (codes "[NEW] ") new
+
 -- The outcome of a comparison over an input, by the two lines and the opening of both sides: rules are evaluated by the
 -- old line's profile. It is the messages about the old and then about the new rules, and for each block of the input what appears and
 -- disappears, which is a finding. If one side can't be opened, what is said about that, about the old one first.
 abbrev pub compare_outcome : (old_line new_line : Line) → Result OpeningValue RunOutcome → Result OpeningValue RunOutcome → Text → RunOutcome
 compare_outcome old_line new_line (Ok old) (Ok new) input =
-    found (input_outcome (old.messages ++ new.messages) (answers_as old_line.profile (differences_by old_line new_line old new)) input)
+    found (input_outcome (both_messages old.messages new.messages) (answers_as old_line.profile (differences_by old_line new_line old new)) input)
 compare_outcome old_line new_line (Ok old) (Err said) input = said
 compare_outcome old_line new_line (Err said) new input = said
 
 -- a comparison step by step, by the two lines and the opening of both sides
 abbrev pub ComparesBy : (old_line new_line : Line) → Result OpeningValue RunOutcome → Result OpeningValue RunOutcome → ℕ → Streams → Streams → Type 0
 ComparesBy old_line new_line (Ok old) (Ok new) status before now =
-    FindsAll (old.messages ++ new.messages) (answers_as old_line.profile (differences_by old_line new_line old new)) status before now
+    FindsAll (both_messages old.messages new.messages) (answers_as old_line.profile (differences_by old_line new_line old new)) status before now
 ComparesBy old_line new_line (Ok old) (Err said) status before now = Reports said status before now
 ComparesBy old_line new_line (Err said) new status before now = Reports said status before now
 

@@ -1,7 +1,7 @@
 //! `compare`: the messages about two sets of rules, and then what appears and disappears between their answers.
-ghost use Rattle.std.specs.Prelude.{◌≡◌, ◌++◌, Ok, Err, Some, None, IfOk, IfErr, option_map, Result};
+ghost use Rattle.std.specs.Prelude.{◌≡◌, Ok, Err, Some, None, IfOk, IfErr, option_map, Result};
 ghost use Rattle.engine_ends.specs.Delivery.{RunOutcome};
-ghost use Rattle.engine_core.specs.Comparing.{ComparesBy, ComparesOver, differences_by};
+ghost use Rattle.engine_core.specs.Comparing.{ComparesBy, ComparesOver, both_messages, differences_by};
 ghost use Rattle.engine_reports.specs.Indexes.{entries_in};
 ghost use Rattle.engine_reports.specs.Openings.{OpeningValue, opening};
 ghost use Rattle.engine_reports.specs.Reports.{IsRefused, shown_rules};
@@ -11,7 +11,7 @@ ghost use Rattle.engine_sessions.specs.Sessions.{answers_as};
 use crate::shared::Shared;
 use builtin_core::Builtins;
 use engine_answers::Tables;
-use engine_compare::Compared;
+use engine_compare::{Compared, marked};
 use engine_ends::{Line, Sink, Source, report_out_of_memory};
 use engine_reports::{
     Refusal, RulesRead, deliver_refusal, open_index, open_rules, open_with_database,
@@ -27,7 +27,7 @@ use text_bytes::SourceFile;
 ///
 /// The files of each side are those passed in for its line, taken and read as `events` does; rules are evaluated by
 /// the profile of the old line, which is that of the new one if a command line made both. Messages about the old
-/// and then about the new rules go to `error`; to `output`, for each block of `input` whose answers differ, what
+/// rules go to `error`, each after `[OLD] `, and then those about the new ones, each after `[NEW] `; to `output`, for each block of `input` whose answers differ, what
 /// appears and disappears, written and flushed before the next read. If `index` is passed in, both sides ask it,
 /// and no file of a database is read.
 ///
@@ -131,7 +131,7 @@ fn compare_rules<L: Lookup + Drop, M: Lookup + Drop, R: Source, W: Sink, E: Sink
     output: &mut W,
     error: &mut E,
 ) -> u8
-    ensures { FindsAll (old.messages.items ++ new.messages.items)
+    ensures { FindsAll (both_messages old.messages.items new.messages.items)
         (answers_as old_line.now.profile (differences_by old_line.now new_line.now (shown_rules old (L.entries old_lookup)) (shown_rules new (M.entries new_lookup)))) result
         (record { input = R.shown input.old; out = W.shown output.old; err = E.shown error.old })
         (record { input = R.shown input.new; out = W.shown output.new; err = E.shown error.new }) }
@@ -166,21 +166,22 @@ fn both_tables<'l, 'm, L: Lookup + Drop, M: Lookup + Drop>(
     ),
     AllocError,
 >
-    ensures messages { IfOk result (λ both. both.0.items ≡ old.messages.items ++ new.messages.items) }
+    ensures messages { IfOk result (λ both. both.0.items ≡ both_messages old.messages.items new.messages.items) }
     ensures tables { IfOk result (λ both. both.1 ≡ (
       (old.rules.rules, old_builtins.entry),
       (new.rules.rules, new_builtins.entry),
     )) }
 {
     let RulesRead {
-        mut messages,
+        messages: on_old,
         rules: old_rules,
     } = old;
     let RulesRead {
-        messages: mut more,
+        messages: on_new,
         rules: new_rules,
     } = new;
-    messages.append(&mut more)?;
+    let mut messages = marked(alloc, b"[OLD] ", &on_old)?;
+    messages.append(&mut marked(alloc, b"[NEW] ", &on_new)?)?;
     let old_tables = Tables::new(alloc, old_rules.into_rules(), old_builtins)?;
     let new_tables = Tables::new(alloc, new_rules.into_rules(), new_builtins)?;
     Ok((messages, Compared::new(old_tables, new_tables)))

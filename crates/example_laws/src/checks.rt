@@ -34,6 +34,27 @@ pub fn a_name_in_quotes_is_reported()
         (codes "r.rules:1:1: warning: name in quotes: \"A\" [W10]\nr.rules:3:14: warning: name in quotes: a\"b [W10]\n") 1) }
 {}
 
+/// W15 is reported at the first key that changes the device in a rule without a match, and not in a rule that a match or
+/// an import may end, nor below one that may jump.
+pub fn a_rule_for_every_device_is_reported()
+    ensures { Checks (linting Manual []) Gcc
+        (text (
+        codes "ENV{A}=\"1\", MODE=\"0660\", SYMLINK+=\"a\"" ∷ codes "KERNEL==\"b\", SYMLINK+=\"b\"" ∷ codes "IMPORT{parent}=\"C\", SYMLINK+=\"c\""
+        ∷ codes "KERNEL==\"d\", GOTO=\"end\"" ∷ codes "SYMLINK+=\"e\"" ∷ codes "LABEL=\"end\"" ∷ []))
+        (said (codes "1 files checked, 0 good, 1 bad\n")
+        (codes "r.rules:1:13: warning: rule without a match: MODE [W15]\n") 1) }
+{}
+
+/// W25 is reported at the first match of RESULT in a rule if neither the rule nor one above it has a PROGRAM.
+pub fn a_result_that_no_program_gives_yet_is_reported()
+    ensures { Checks (linting Manual []) Gcc
+        (text (
+        codes "KERNEL==\"a\", RESULT==\"1\", RESULT!=\"2\", SYMLINK+=\"a\"" ∷ codes "KERNEL==\"b\", PROGRAM==\"/b\", RESULT==\"1\", SYMLINK+=\"b\""
+        ∷ codes "KERNEL==\"c\", RESULT==\"1\", SYMLINK+=\"c\"" ∷ []))
+        (said (codes "1 files checked, 0 good, 1 bad\n")
+        (codes "r.rules:1:14: warning: result before its program: RESULT [W25]\n") 1) }
+{}
+
 /// V8 is reported at the value of the second label or jump, and for udev, to which the last label counts, at that of the
 /// label that does not count.
 pub fn what_is_given_twice_is_reported_at_the_one_that_does_not_count()

@@ -1,5 +1,6 @@
-use Rattle.std.proofs.Common.{rules, ◌≡◌, ◌++◌, ◌∙◌}
+use Rattle.std.proofs.Common.{rules, ◌≡◌, ◌∙◌}
 use Rattle.engine_reports.specs.Reports.{shown_rules}
+use Rattle.engine_core.specs.Comparing.{both_messages}
 use Rattle.engine_core.proofs.Compared.{finds_both}
 use Rattle.engine_core.proofs.comparing.compare_rules.Goals as goal
 
@@ -7,7 +8,7 @@ pub returns-in-Ok : goal.returns-in-Ok
 returns-in-Ok g c =
     let old = shown_rules c.args.old (g.L.Lookup.entries c.args.old_lookup) in
     let new = shown_rules c.args.new (g.M.Lookup.entries c.args.new_lookup) in
-    let messages : c.deref-in-Ok.result.now ≡ c.args.old.messages.items ++ c.args.new.messages.items = c.deref-in-Ok.ensures.value ∙ c.in-Ok.ensures.messages in
+    let messages : c.deref-in-Ok.result.now ≡ both_messages c.args.old.messages.items c.args.new.messages.items = c.deref-in-Ok.ensures.value ∙ c.in-Ok.ensures.messages in
     let tables : c.in-Ok.tables ≡ (
       (old.rules, record { links = c.args.old_line.now.links.items; entries = old.entries }),
       (new.rules, record { links = c.args.new_line.now.links.items; entries = new.entries }),

@@ -1,5 +1,5 @@
-use Rattle.std.proofs.Common.{◌++◌, length}
-use Rattle.engine_core.specs.Comparing.{differences_by}
+use Rattle.std.proofs.Common.{length}
+use Rattle.engine_core.specs.Comparing.{both_messages, differences_by}
 use Rattle.engine_sessions.specs.Answers.{answers_of}
 use Rattle.engine_sessions.specs.Sessions.{answers_as}
 use Rattle.engine_sessions.specs.Turns.{joined}
@@ -9,4 +9,4 @@ use Rattle.engine_laws.proofs.comparing.the_old_answer_is_compared_with_the_new_
 pub returns : goal.returns
 returns c old_line new_line old new input =
     let answers = answers_of (answers_as old_line.profile (differences_by old_line new_line old new)) input in
-    output_is (old.messages ++ new.messages) (joined answers.texts) (length answers.texts) answers.fault
+    output_is (both_messages old.messages new.messages) (joined answers.texts) (length answers.texts) answers.fault

@@ -35,7 +35,8 @@ described_at event path subsystem = described path subsystem (with_values [] (fi
 
 -- the device whose subsystem a constant gives
 abbrev pub described_by : EventValue → Pair → Option DeviceValue
-described_by event file = if ends_with nat_eq file.0 subsystem_file then Some (described_at event (take (length file.0 - length subsystem_file) file.0) file.1) else None
+described_by event file =
+    if ends_with nat_eq file.0 subsystem_file then Some (described_at event (take (length file.0 - length subsystem_file) file.0) file.1) else None
 
 -- the devices that the block describes by paths, in its order
 unfoldable pub described_devices : EventValue → List DeviceValue

@@ -40,7 +40,9 @@ pub fn some_kinds_imply_others()
 
 /// An accelerometer is of no other kind that points.
 pub fn accelerometers_are_nothing_else()
-    ensures { (c : CapabilitiesValue) → is_of kind.Accelerometer c ≡ true → list_any (λ k. is_of k c) (kind.PointingStick ∷ kind.Mouse ∷ kind.Touchpad ∷ kind.Touchscreen ∷ kind.Joystick ∷ kind.Tablet ∷ kind.TabletPad ∷ []) ≡ false }
+    ensures { (c : CapabilitiesValue) → is_of kind.Accelerometer c ≡ true
+        → list_any (λ k. is_of k c) (kind.PointingStick ∷ kind.Mouse ∷ kind.Touchpad ∷ kind.Touchscreen ∷ kind.Joystick ∷ kind.Tablet ∷ kind.TabletPad
+        ∷ []) ≡ false }
 {}
 
 /// A device whose bitmaps are empty is of no kind.

@@ -2,7 +2,8 @@
 ghost use Rattle.std.specs.Prelude.{◌≡◌, IfOk, OnOk, filter_map, option_map};
 ghost use Rattle.std.specs.List.{list_all, list_any};
 ghost use Rattle.text_tables.specs.Texts.{with_texts};
-ghost use Rattle.builtin_link.specs.Checks.{address_check, check_of, is_for, is_given, is_met, is_unknown, known_check, lacked_word, lacked_words, lacking_check};
+ghost use Rattle.builtin_link.specs.Checks.{address_check, check_of, is_for, is_given, is_met, is_unknown, known_check, lacked_word, lacked_words};
+ghost use Rattle.builtin_link.specs.Checks.{lacking_check};
 ghost use Rattle.builtin_link.specs.Checks.{may_be_for, one_of_check, property_check, text_check, word_of};
 
 use crate::addresses::{are_addresses, has_address};

@@ -5,7 +5,8 @@ ghost use Rattle.text_tables.specs.Pairs.{value_of};
 ghost use Rattle.builtin_devices.specs.Devices.{attribute};
 ghost use Rattle.link_files.specs.Lists.{list_of};
 ghost use Rattle.link_files.specs.declared.words.WordKind.TheVariants.{Glob, Name, Plain, Property};
-ghost use Rattle.builtin_link.specs.Checks.{address_check, checks_of, condition_check, kind_checks, known_check, name_checks, permanent_address, property_check, text_check};
+ghost use Rattle.builtin_link.specs.Checks.{address_check, checks_of, condition_check, kind_checks, known_check, name_checks, permanent_address};
+ghost use Rattle.builtin_link.specs.Checks.{property_check, text_check};
 ghost use Rattle.builtin_link.specs.Hardware.{type_text};
 ghost use Rattle.builtin_link.specs.declared.checks.Need.TheVariants.{Address, Driver, Hardware, Kind, PermanentAddress};
 
@@ -120,7 +121,8 @@ fn own_address_check(
     event: &Event<'_>,
     settings: &[Setting],
 ) -> Result<Check, AllocError>
-    ensures { IfOk result (λ check. check ≡ address_check Address (list_of Plain (codes "MACAddress") settings.now) (attribute event.now.device (codes "address"))) }
+    ensures { IfOk result (λ check. check ≡ address_check Address (list_of Plain (codes "MACAddress") settings.now)
+        (attribute event.now.device (codes "address"))) }
 {
     let words = list_of(alloc, WordKind::Plain, b"MACAddress", settings)?;
     address_check(
@@ -137,7 +139,8 @@ fn permanent_check(
     event: &Event<'_>,
     settings: &[Setting],
 ) -> Result<Check, AllocError>
-    ensures { IfOk result (λ check. check ≡ address_check PermanentAddress (list_of Plain (codes "PermanentMACAddress") settings.now) (permanent_address event.now)) }
+    ensures { IfOk result (λ check. check ≡ address_check PermanentAddress (list_of Plain (codes "PermanentMACAddress") settings.now)
+        (permanent_address event.now)) }
 {
     let words = list_of(alloc, WordKind::Plain, b"PermanentMACAddress", settings)?;
     address_check(

@@ -2,7 +2,8 @@
 ghost use Rattle.std.specs.Prelude.{◌≡◌, ◌∷◌, [], IfOk, OnOk, Some, map, option_copied, option_map};
 ghost use Rattle.text_tables.specs.Texts.{is_among, with_texts};
 ghost use Rattle.builtin_devices.specs.Outcomes.{needs_of};
-ghost use Rattle.builtin_link.specs.Link.{by_files, by_flags, by_present, file_for, file_needs, given_keys, is_loopback, name_needs, name_with, needed_with, needs_with, net_setup_link};
+ghost use Rattle.builtin_link.specs.Link.{by_files, by_flags, by_present, file_for, file_needs, given_keys, is_loopback, name_needs, name_with};
+ghost use Rattle.builtin_link.specs.Link.{needed_with, needs_with, net_setup_link};
 ghost use Rattle.builtin_link.specs.Link.{looking_actions, properties_by, set_by};
 
 use crate::checks::{add_lacked, is_for};

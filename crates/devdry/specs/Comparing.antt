@@ -43,13 +43,15 @@ pub record AreReportedOnBoth (may : Answer → Type 0) (old new : Line) (old_fil
 
 -- the files of the old line, and those of the new one with the index, are those that the lines ask for, and where files
 -- were looked for is reported if one of the lines has none
-pub record AreReadForBoth (may : Answer → Type 0) (old new : Line) (old_files new_files : List SourceFile) (index : Option (List ℕ)) (report : Report) : Type 0 where
+pub record AreReadForBoth (may : Answer → Type 0) (old new : Line) (old_files new_files : List SourceFile) (index : Option (List ℕ))
+    (report : Report) : Type 0 where
   pub old_are : AreFilesFor may old old_files
   pub new_are : AreReadFor may new new_files index
   pub reported : AreReportedOnBoth may old new old_files new_files report
 
 -- the files of the old line, and those of the new one with the index, are what can be read of what the lines ask for
-pub record AreReadOfBoth (may : Answer → Type 0) (old new : Line) (old_files new_files : List SourceFile) (index : Option (List ℕ)) (report : Report) : Type 0 where
+pub record AreReadOfBoth (may : Answer → Type 0) (old new : Line) (old_files new_files : List SourceFile) (index : Option (List ℕ))
+    (report : Report) : Type 0 where
   pub some_old : ReadSome
   pub some_new : ReadSome
   pub old_is : AreFilesReadSome may old some_old
@@ -75,7 +77,8 @@ ComparesAfter old new old_files new_files index report status before now =
     RunsAfter report.lines.items report.least (ComparesOver old new old_files new_files index) status before now
 
 -- For what was read of the two lines this holds, and their answers are compared after what is reported.
-pub record ComparesRead (Read : List SourceFile → List SourceFile → Option (List ℕ) → Report → Type 0) (old new : Line) (status : ℕ) (before now : Streams) : Type 0 where
+pub record ComparesRead (Read : List SourceFile → List SourceFile → Option (List ℕ) → Report → Type 0) (old new : Line) (status : ℕ)
+    (before now : Streams) : Type 0 where
   pub old_files : List SourceFile
   pub new_files : List SourceFile
   pub index : Option (List ℕ)

@@ -31,7 +31,9 @@ letter_of Answer = 82  -- R
 
 -- all kinds of lines
 abbrev pub kinds : List LineKind
-kinds = Action ∷ Device ∷ Field Subsystem ∷ Field Driver ∷ Field Node ∷ Field Devnum ∷ Field Attribute ∷ Field Property ∷ Field Tag ∷ Field Link ∷ Constant ∷ Command ∷ Answer ∷ []
+kinds =
+    Action ∷ Device ∷ Field Subsystem ∷ Field Driver ∷ Field Node ∷ Field Devnum ∷ Field Attribute ∷ Field Property ∷ Field Tag ∷ Field Link
+    ∷ Constant ∷ Command ∷ Answer ∷ []
 
 -- a line by its kind, and what follows the space
 abbrev pub Row : Type 0

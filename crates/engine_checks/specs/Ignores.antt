@@ -1,5 +1,6 @@
 -- The codes that comments in a file ask to ignore.
-use Rattle.std.specs.Prelude.{ℕ, ◌+◌, ◌-◌, not, ◌==◌, nat_lt, List, [], ◌∷◌, ◌++◌, length, map, filter, find, flat_map, codes, nat_eq, Bool, Option, Some, None, drop, take, position, unwrap_or}
+use Rattle.std.specs.Prelude.{ℕ, ◌+◌, ◌-◌, not, ◌==◌, nat_lt, List, [], ◌∷◌, ◌++◌, length, map, filter, find, flat_map, codes, nat_eq, Bool, Option}
+use Rattle.std.specs.Prelude.{Some, None, drop, take, position, unwrap_or}
 use Rattle.std.specs.Prelude.{option_to_list}
 use Rattle.std.specs.List.{range_with_len, slice_split, starts_with}
 use Rattle.text_bytes.specs.Lines.{NumberedLine, numbered_lines}

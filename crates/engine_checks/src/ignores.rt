@@ -8,7 +8,8 @@ ghost use Rattle.std.specs.Prelude.{◌≡◌, ◌++◌, ◌+◌, ◌-◌, ◌�
 ghost use Rattle.std.specs.List.{slice_split};
 ghost use Rattle.text_bytes.specs.Lines.{numbered_lines};
 ghost use Rattle.text_bytes.specs.Names.{comma};
-ghost use Rattle.engine_checks.specs.Ignores.{asked_by, before_reason, comment_of, is_reason, reason_place, ignore_at, ignores_among, ignores_at, ignores_of_line, texts_of};
+ghost use Rattle.engine_checks.specs.Ignores.{asked_by, before_reason, comment_of, is_reason, reason_place, ignore_at, ignores_among, ignores_at};
+ghost use Rattle.engine_checks.specs.Ignores.{ignores_of_line, texts_of};
 ghost use Rattle.engine_checks.specs.Files.{ignores_counted};
 ghost use Rattle.rule_core.specs.Lines.{joined_lines};
 

@@ -27,9 +27,9 @@ use text_bytes::SourceFile;
 ///
 /// The files of each side are those passed in for its line, taken and read as `events` does; rules are evaluated by
 /// the profile of the old line, which is that of the new one if a command line made both. Messages about the old
-/// rules go to `error`, each after `[OLD] `, and then those about the new ones, each after `[NEW] `; to `output`, for each block of `input` whose answers differ, what
-/// appears and disappears, written and flushed before the next read. If `index` is passed in, both sides ask it,
-/// and no file of a database is read.
+/// rules go to `error`, each after `[OLD] `, and then those about the new ones, each after `[NEW] `; to `output`, for
+/// each block of `input` whose answers differ, what appears and disappears, written and flushed before the next read.
+/// If `index` is passed in, both sides ask it, and no file of a database is read.
 ///
 /// The status is 0; 1 if anything appears or disappears, if a block is faulty, if the files of a side hold more
 /// than they may, or if the index fails a check; 3 if the input or an output failed, or the input did not end
@@ -69,7 +69,8 @@ fn compare_opened<R: Source, W: Sink, E: Sink>(
     output: &mut W,
     error: &mut E,
 ) -> u8
-    ensures { ComparesBy old_line.now new_line.now (opening old_line.now old_files.items opened.entry) (opening new_line.now new_files.items opened.entry) result
+    ensures { ComparesBy old_line.now new_line.now (opening old_line.now old_files.items opened.entry)
+        (opening new_line.now new_files.items opened.entry) result
         (record { input = R.shown input.old; out = W.shown output.old; err = E.shown error.old })
         (record { input = R.shown input.new; out = W.shown output.new; err = E.shown error.new }) }
 {
@@ -132,7 +133,8 @@ fn compare_rules<L: Lookup + Drop, M: Lookup + Drop, R: Source, W: Sink, E: Sink
     error: &mut E,
 ) -> u8
     ensures { FindsAll (both_messages old.messages.items new.messages.items)
-        (answers_as old_line.now.profile (differences_by old_line.now new_line.now (shown_rules old (L.entries old_lookup)) (shown_rules new (M.entries new_lookup)))) result
+        (answers_as old_line.now.profile (differences_by old_line.now new_line.now (shown_rules old (L.entries old_lookup))
+        (shown_rules new (M.entries new_lookup)))) result
         (record { input = R.shown input.old; out = W.shown output.old; err = E.shown error.old })
         (record { input = R.shown input.new; out = W.shown output.new; err = E.shown error.new }) }
 {

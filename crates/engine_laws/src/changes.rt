@@ -33,7 +33,8 @@ pub fn each_kind_of_note_is_said_in_its_own_words()
         → said_of c s note_kind.NameIgnored word ≡ codes "NAME ignored, no network device" ∷ [] }
     ensures interface { (c : Change) (s : Scene) (word : Text) → is_net s.state.event.device.subsystem ≡ true
         → said_of c s note_kind.NameIgnored word ≡ codes "NAME ignored, no interface (IFINDEX)" ∷ [] }
-    ensures no_number { (c : Change) (s : Scene) (word : Text) → said_of c s note_kind.NoDeviceNumber word ≡ (change_key c ++ codes " ignored, no device number") ∷ [] }
+    ensures no_number { (c : Change) (s : Scene) (word : Text)
+        → said_of c s note_kind.NoDeviceNumber word ≡ (change_key c ++ codes " ignored, no device number") ∷ [] }
     ensures no_value { (c : Change) (s : Scene) (word : Text) → said_of c s note_kind.NoValue word ≡ (change_key c ++ codes " ignored, no value") ∷ [] }
     ensures link { (c : Change) (s : Scene) (word : Text) → said_of c s note_kind.LinkIgnored word ≡ (shown word ++ codes " ignored, no link") ∷ [] }
     ensures mode { (c : Change) (s : Scene) (word : Text) → said_of c s note_kind.ModeIgnored word ≡ (change_key c ++ codes " ignored, no mode") ∷ [] }

@@ -40,7 +40,8 @@ need_noted r name (need ∷ needs) s = noted r BuiltinNeeds (need_word name need
 -- the outcome's own are more than a builtin may set, it sets nothing, which is noted, and it was not done.
 abbrev pub outcome_set : Rule → (name : Text) → OutcomeValue → List Pair → Scene → Scene × Bool
 outcome_set r name outcome properties s =
-    if nat_le (properties_size outcome.properties) most_set then (need_noted r name outcome.needs (with_env (properties_set s.state.env properties) s), outcome.is_done)
+    if nat_le (properties_size outcome.properties) most_set then
+    (need_noted r name outcome.needs (with_env (properties_set s.state.env properties) s), outcome.is_done)
     else (noted r TextTooLong name s, false)
 
 -- the same for the outcome's own properties

@@ -29,7 +29,8 @@ pub record Candidate : Type 0 where
 -- none, and a device without a modalias may have one that is made up.
 abbrev pub candidate_with : Profile → DeviceValue → (devtype modalias : Option Text) → Candidate
 candidate_with Manual device devtype modalias = record { subsystem = device.subsystem; devtype = devtype; modalias = modalias }
-candidate_with Udev device devtype modalias = record { subsystem = device.subsystem; devtype = type_of device; modalias = option_or (filled modalias) (made_up device) }
+candidate_with Udev device devtype modalias =
+    record { subsystem = device.subsystem; devtype = type_of device; modalias = option_or (filled modalias) (made_up device) }
 
 -- a device by these properties
 abbrev pub candidate : Profile → DeviceValue → List Pair → Candidate

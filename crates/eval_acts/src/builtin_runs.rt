@@ -4,7 +4,8 @@ ghost use Rattle.hwdb_lookup.specs.Query.{shown};
 ghost use Rattle.rule_types.specs.Builtins.{builtin_name};
 ghost use Rattle.rule_types.specs.declared.builtins.Builtin.TheVariants.{NetId};
 ghost use Rattle.eval_state.specs.Properties.{properties_set};
-ghost use Rattle.eval_acts.specs.BuiltinRuns.{input_id_run, is_address_name, looked_up, most_set, need_noted, need_word, net_id_run, net_setup_link_run, outcome_set};
+ghost use Rattle.eval_acts.specs.BuiltinRuns.{input_id_run, is_address_name, looked_up, most_set, need_noted, need_word, net_id_run};
+ghost use Rattle.eval_acts.specs.BuiltinRuns.{net_setup_link_run, outcome_set};
 ghost use Rattle.eval_acts.specs.BuiltinRuns.{outcome_taken, path_id_run, properties_size, property_size, usb_id_run, with_maker};
 
 use crate::imports::set_as_udev;

@@ -1,5 +1,6 @@
 -- The words after `hwdb` as udev takes them, one after another: options as getopt_long(3) reads them, and a modalias.
-use Rattle.std.specs.Prelude.{ℕ, Bool, true, not, ◌==◌, ◌&&◌, ◌||◌, nat_eq, List, [], ◌∷◌, drop, find, fold, Option, Some, None, is_none, is_some, codes, false, if◌then◌else◌}
+use Rattle.std.specs.Prelude.{ℕ, Bool, true, not, ◌==◌, ◌&&◌, ◌||◌, nat_eq, List, [], ◌∷◌, drop, find, fold, Option, Some, None, is_none, is_some}
+use Rattle.std.specs.Prelude.{codes, false, if◌then◌else◌}
 use Rattle.std.specs.List.{starts_with}
 use Rattle.std.specs.Option.{option_and_then, option_or, unwrap_or}
 use Rattle.text_bytes.specs.Names.{equals, minus}

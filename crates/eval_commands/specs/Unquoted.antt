@@ -65,7 +65,8 @@ with_option word r = with_cut (split_once equals word) r
 
 -- the same with a modalias, if there is none
 abbrev pub with_modalias : Text → Hwdb → Option Hwdb
-with_modalias word r = if is_some r.modalias then None else Some (record { subsystem = r.subsystem; prefix = r.prefix; filter = r.filter; modalias = Some word })
+with_modalias word r =
+    if is_some r.modalias then None else Some (record { subsystem = r.subsystem; prefix = r.prefix; filter = r.filter; modalias = Some word })
 
 -- the same with one more word
 abbrev pub with_word : Text → Hwdb → Option Hwdb

@@ -8,7 +8,8 @@ ghost use Rattle.std.specs.Option.{option_and_then};
 ghost use Rattle.text_bytes.specs.Names.{equals};
 ghost use Rattle.text_bytes.specs.Texts.{split_once};
 ghost use Rattle.eval_commands.specs.Hwdb.{is_bad_filter, pattern_of};
-ghost use Rattle.eval_commands.specs.UdevHwdb.{asked_by, cut_given, is_of_other, letter_given, letters_given, long_given, named_given, nothing_given, option_given};
+ghost use Rattle.eval_commands.specs.UdevHwdb.{asked_by, cut_given, is_of_other, letter_given, letters_given, long_given, named_given, nothing_given};
+ghost use Rattle.eval_commands.specs.UdevHwdb.{option_given};
 ghost use Rattle.eval_commands.specs.UdevHwdb.{option_letter, option_lettered, option_name, option_named, took, udev_hwdb_of, with_option, with_word};
 
 use crate::hwdb::{Hwdb, pattern_of};

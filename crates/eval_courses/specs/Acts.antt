@@ -1,5 +1,6 @@
 -- What TEST, PROGRAM and IMPORT met, by the scene before them and the scene after.
-use Rattle.std.specs.Prelude.{ℕ, Bool, false, not, ◌&&◌, ◌||◌, if◌then◌else◌, List, [], ◌∷◌, ◌++◌, map, filter, Option, Some, None, is_none, is_some, codes, decimal}
+use Rattle.std.specs.Prelude.{ℕ, Bool, false, not, ◌&&◌, ◌||◌, if◌then◌else◌, List, [], ◌∷◌, ◌++◌, map, filter, Option, Some, None, is_none, is_some}
+use Rattle.std.specs.Prelude.{codes, decimal}
 use Rattle.text_bytes.specs.Names.{equals, slash, space}
 use Rattle.text_bytes.specs.Texts.{begins_with, is_empty}
 use Rattle.text_bytes.specs.Escapes.{escape_text}

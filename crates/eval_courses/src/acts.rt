@@ -203,7 +203,9 @@ fn command_report_before(
     template: &Template,
     state: &State<'_>,
 ) -> Result<ReportBefore, AllocError>
-    ensures { IfOk result (λ o. (env : List Pair) → report_after o env ≡ on_rendered (λ command. printed_report command (value_of state.now.event.programs command) state.now.env env) (import_text most_command_bytes template.now state.now)) }
+    ensures { IfOk result (λ o. (env : List Pair) → report_after o env
+        ≡ on_rendered (λ command. printed_report command (value_of state.now.event.programs command) state.now.env env)
+        (import_text most_command_bytes template.now state.now)) }
 {
     match import_text(alloc, MAX_COMMAND_BYTES, template, state)? {
         Rendered::Text(command) => printed_report_before(alloc, command.as_slice(), state),

@@ -42,7 +42,8 @@ rendered_of Udev r o about template s = within (most_bytes_of about) (render tem
 
 -- the kind of the note that an assignment of a text leaves, if it leaves one: the note after those that there were
 abbrev pub note_of : Rule → AssignOperator → Target → Template → Scene → Option NoteKind
-note_of r o about template s = option_map (λ note. note.kind) (slice_get (set_step r s (record { operator = o; change = change.Text about template })).notes (length s.notes))
+note_of r o about template s =
+    option_map (λ note. note.kind) (slice_get (set_step r s (record { operator = o; change = change.Text about template })).notes (length s.notes))
 
 -- if there are no new notes, none was left
 abbrev pub ReportsNone : Type 0
@@ -51,20 +52,23 @@ ReportsNone = (s t : Scene) → t.notes ≡ s.notes → slice_get t.notes (lengt
 -- an assignment that is skipped is reported as that, unless its key is final
 abbrev pub ReportsSkipped : Type 0
 ReportsSkipped =
-    (r : Rule) (o : AssignOperator) (about : Target) (template : Template) (s : Scene) → is_settled (final_target about) s.finals ≡ false → is_skipped s.state.event.profile about s ≡ true
+    (r : Rule) (o : AssignOperator) (about : Target) (template : Template) (s : Scene) → is_settled (final_target about) s.finals ≡ false
+    → is_skipped s.state.event.profile about s ≡ true
     → note_of r o about template s ≡ Some NoDeviceNumber
 
 -- a text that is too long is reported as that, unless its key is final or it is skipped
 abbrev pub ReportsTooLong : Type 0
 ReportsTooLong =
-    (r : Rule) (o : AssignOperator) (about : Target) (template : Template) (s : Scene) → is_settled (final_target about) s.finals ≡ false → is_skipped s.state.event.profile about s ≡ false
+    (r : Rule) (o : AssignOperator) (about : Target) (template : Template) (s : Scene) → is_settled (final_target about) s.finals ≡ false
+    → is_skipped s.state.event.profile about s ≡ false
     → rendered_of s.state.event.profile r o about template s ≡ rendered.TooLong
     → note_of r o about template s ≡ Some TextTooLong
 
 -- a NAME that is ignored is reported as that, unless its key is final, it is skipped, or its text is too long
 abbrev pub ReportsIgnored : Type 0
 ReportsIgnored =
-    (r : Rule) (o : AssignOperator) (about : Target) (template : Template) (s : Scene) (t : Text) → is_settled (final_target about) s.finals ≡ false → is_skipped s.state.event.profile about s ≡ false
+    (r : Rule) (o : AssignOperator) (about : Target) (template : Template) (s : Scene) (t : Text) → is_settled (final_target about) s.finals ≡ false
+    → is_skipped s.state.event.profile about s ≡ false
     → rendered_of s.state.event.profile r o about template s ≡ rendered.Text t → is_ignored s.state.event.profile about s ≡ true
     → note_of r o about template s ≡ Some NameIgnored
 

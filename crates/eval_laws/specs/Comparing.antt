@@ -87,5 +87,7 @@ pub record IsWithoutItsEnd (text short : Text) : Type 0 where
 -- `==` holds if and only if the choice fits this text, if the choice ends in whitespace, and else if and only if it
 -- fits the text without the whitespace at its end.
 pub record ComparesWithoutItsEnd (subject : Subject) (text : Text) : Type 0 where
-  pub whole : (blind : Bool) (written : Text) (choice : List (List Item)) → EndsInWhitespace choice → holds subject (equal_to blind written choice) ≡ choice_fits choice text
-  pub cut : (blind : Bool) (written : Text) (choice : List (List Item)) → ¬ EndsInWhitespace choice → (short : Text) → IsWithoutItsEnd text short → holds subject (equal_to blind written choice) ≡ choice_fits choice short
+  pub whole : (blind : Bool) (written : Text) (choice : List (List Item)) → EndsInWhitespace choice
+      → holds subject (equal_to blind written choice) ≡ choice_fits choice text
+  pub cut : (blind : Bool) (written : Text) (choice : List (List Item)) → ¬ EndsInWhitespace choice → (short : Text) → IsWithoutItsEnd text short
+      → holds subject (equal_to blind written choice) ≡ choice_fits choice short

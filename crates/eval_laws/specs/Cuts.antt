@@ -22,4 +22,5 @@ newlines_then count text = replicate count newline ++ text
 -- newlines, then the rest.
 abbrev pub IsCutInto : List ℕ → List (List ℕ) → List ℕ → Type 0
 IsCutInto text [] rest = (count : ℕ) × (text ≡ newlines_then count rest) × HasNoEmptyLine rest
-IsCutInto text (run ∷ runs) rest = (count : ℕ) × (later : List ℕ) × (text ≡ newlines_then count (run ++ newline ∷ later)) × IsCompleteRun run × IsCutInto later runs rest
+IsCutInto text (run ∷ runs) rest =
+    (count : ℕ) × (later : List ℕ) × (text ≡ newlines_then count (run ++ newline ∷ later)) × IsCompleteRun run × IsCutInto later runs rest

@@ -37,7 +37,8 @@ abbrev pub is_template_made : Profile → Rule → Target → Template → Scene
 is_template_made Manual r about template s = is_text_made Manual about (render template s.state (mode_of Manual about (escape_of r.sets))) s
 is_template_made Udev r about template s =
     not (lacks_number about s.state.event.device.number)
-    && is_text_made Udev about (within (most_bytes_of about) (render template (emptied AssignFinal about s).state (mode_of Udev about (escape_of r.sets)))) (emptied AssignFinal about s)
+    && is_text_made Udev about (within (most_bytes_of about)
+    (render template (emptied AssignFinal about s).state (mode_of Udev about (escape_of r.sets)))) (emptied AssignFinal about s)
 
 -- whether an assignment by `:=` is made, if its key is not final: an option and a RUN always are
 abbrev pub is_made : Rule → Change → Scene → Bool

@@ -37,7 +37,8 @@ pub fn an_event_begins_with_what_its_block_says()
         → value_of (start event).state.env (codes "DEVNAME") ≡ Some (codes "/dev/" ++ node) }
     ensures number { (event : EventValue) (number : NumberValue) → event.device.number ≡ Some number
         → (value_of (start event).state.env (codes "MAJOR") ≡ Some number.major) × (value_of (start event).state.env (codes "MINOR") ≡ Some number.minor) }
-    ensures properties { (event : EventValue) (before following : List Pair) (name value : Text) → given_properties event.profile event.device.env ≡ before ++ (name, value) ∷ following
+    ensures properties { (event : EventValue) (before following : List Pair) (name value : Text)
+        → given_properties event.profile event.device.env ≡ before ++ (name, value) ∷ following
         → named following name ≡ false → named (reported_by event) name ≡ false → value_of (start event).state.env name ≡ Some value }
 {}
 

@@ -19,7 +19,10 @@ ghost use Rattle.engine_answers.specs.Answers.{answer};
 /// profile, whatever a database and the builtins say, and for every other outcome whose priority, if it has one, is
 /// a number of 32 bits.
 pub fn an_answer_is_no_longer_than_its_weight()
-    ensures files { (read profile : Profile) (files : List SourceFile) (known : Known) (block : Text) (event : EventValue) → block_gives block ≡ Ok event → length (answer (by_profile profile event) (outcome (set_of_as read files).rules known (by_profile profile event))) ≤ 8 * outcome_weight (outcome (set_of_as read files).rules known (by_profile profile event)) + 4 * length block + 64 }
+    ensures files { (read profile : Profile) (files : List SourceFile) (known : Known) (block : Text) (event : EventValue)
+        → block_gives block ≡ Ok event
+        → length (answer (by_profile profile event) (outcome (set_of_as read files).rules known (by_profile profile event)))
+        ≤ 8 * outcome_weight (outcome (set_of_as read files).rules known (by_profile profile event)) + 4 * length block + 64 }
     ensures others { (profile : Profile) (block : Text) (event : EventValue) (other : Outcome) → block_gives block ≡ Ok event
         → IfSome other.priority (λ priority. unsigned_abs priority ≤ 2 ^ 31)
         → length (answer (by_profile profile event) other) ≤ 8 * outcome_weight other + 4 * length block + 64 }

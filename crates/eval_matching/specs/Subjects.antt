@@ -1,5 +1,6 @@
 -- What each match looks at.
-use Rattle.std.specs.Prelude.{ℕ, zero, suc, Bool, false, ◌&&◌, ◌||◌, is_none, if◌then◌else◌, List, [], length, Option, Some, option_map, unwrap_or, position, codes}
+use Rattle.std.specs.Prelude.{ℕ, zero, suc, Bool, false, ◌&&◌, ◌||◌, is_none, if◌then◌else◌, List, [], length, Option, Some, option_map, unwrap_or}
+use Rattle.std.specs.Prelude.{position, codes}
 use Rattle.std.specs.List.{list_all, range_with_len}
 use Rattle.std.specs.Option.{option_and_then}
 use Rattle.text_bytes.specs.declared.profile.Profile.{Profile}

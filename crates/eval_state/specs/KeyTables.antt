@@ -55,7 +55,16 @@ module _ {A : Type 0} where
   coded_kept c =
       code_by (A × (A × (A × (A × (A × (A × (A × A))))))) (coded× c (coded× c (coded× c (coded× c (coded× c (coded× c (coded× c c)))))))
       (λ k. (k.owner, (k.group, (k.mode, (k.name, (k.symlink, (k.run, (k.priority, k.watch))))))))
-      (λ t. record { owner = t.0; group = t.1.0; mode = t.1.1.0; name = t.1.1.1.0; symlink = t.1.1.1.1.0; run = t.1.1.1.1.1.0; priority = t.1.1.1.1.1.1.0; watch = t.1.1.1.1.1.1.1 })
+      (λ t. record {
+        owner = t.0;
+        group = t.1.0;
+        mode = t.1.1.0;
+        name = t.1.1.1.0;
+        symlink = t.1.1.1.1.0;
+        run = t.1.1.1.1.1.0;
+        priority = t.1.1.1.1.1.1.0;
+        watch = t.1.1.1.1.1.1.1;
+      })
       (λ _. refl)
 
   -- a function of the keys is stored as all that it says

@@ -37,4 +37,5 @@ runs_equal_in_part = partial_equiv_from_equiv runs_equal
 -- RUNs that are the same are hashed alike, by their written text
 pub same_runs_fed : (a b : RunValue) → same_run a b ≡ true → fed.slice fed.u8 a.template.written ≡ fed.slice fed.u8 b.template.written
 same_runs_fed a b h =
-    ap (fed.slice fed.u8) ((bytes_decides a.template.written b.template.written).0 (second_so (same_kind (run_kind a.braces) (run_kind b.braces)) (same_text a.template.written b.template.written) h))
+    ap (fed.slice fed.u8) ((bytes_decides a.template.written b.template.written).0
+    (second_so (same_kind (run_kind a.braces) (run_kind b.braces)) (same_text a.template.written b.template.written) h))

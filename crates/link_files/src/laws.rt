@@ -49,9 +49,16 @@ pub fn values_are_split()
 /// counts. The kinds of the files are not looked at.
 #[tactic(auto, unfolding(crate::specs::Files::link_files, crate::specs::Files::link_file, crate::specs::Files::is_drop_in, crate::specs::Files::listed_path, crate::specs::Settings::with_file, crate::specs::Settings::with_line, crate::specs::Settings::section_of, crate::specs::Lines::joined_from, crate::specs::Lines::is_comment, crate::specs::Lines::stripped, text_bytes::specs::Texts::split_once))]
 pub fn files_are_put_together()
-    ensures first { (kind : FileKind) → link_files (at kind 3 (codes "a.link") (codes "#") ∷ at kind 1 (codes "a.link") (codes "#") ∷ []) (at kind 2 (codes "a.link.d/b.conf") [] ∷ [])
-        ≡ record { path = codes "/run/systemd/network/a.link"; drop_ins = codes "/usr/local/lib/systemd/network/a.link.d/b.conf"; is_sound = true; settings = [] } ∷ [] }
-    ensures other { (kind : FileKind) → link_files (at kind 0 (codes "a.link") (codes "#") ∷ []) (at kind 0 (codes "a.link.d/.b.conf") [] ∷ at kind 0 (codes "a-.link.d/b.conf") [] ∷ [])
+    ensures first { (kind : FileKind) → link_files (at kind 3 (codes "a.link") (codes "#") ∷ at kind 1 (codes "a.link") (codes "#") ∷ [])
+        (at kind 2 (codes "a.link.d/b.conf") [] ∷ [])
+        ≡ record {
+          path = codes "/run/systemd/network/a.link";
+          drop_ins = codes "/usr/local/lib/systemd/network/a.link.d/b.conf";
+          is_sound = true;
+          settings = [];
+        } ∷ [] }
+    ensures other { (kind : FileKind) → link_files (at kind 0 (codes "a.link") (codes "#") ∷ [])
+        (at kind 0 (codes "a.link.d/.b.conf") [] ∷ at kind 0 (codes "a-.link.d/b.conf") [] ∷ [])
         ≡ record { path = codes "/etc/systemd/network/a.link"; drop_ins = []; is_sound = true; settings = [] } ∷ [] }
     ensures masked { (kind : FileKind) → link_files (at kind 3 (codes "a.link") (codes "#") ∷ at kind 0 (codes "a.link") [] ∷ []) [] ≡ [] }
 {}
@@ -60,7 +67,8 @@ pub fn files_are_put_together()
 /// a line without `=` adds nothing.
 #[tactic(auto, unfolding(crate::specs::Settings::with_line, crate::specs::Settings::section_of, crate::specs::Lines::stripped, text_bytes::specs::Texts::split_once))]
 pub fn lines_set_keys()
-    ensures setting { (r : ReadingValue) → is_utf8 (codes "Name = e=f") ≡ true → with_line r (codes " Name = e=f\t") ≡ with_setting r (codes "Name") (codes "e=f") }
+    ensures setting { (r : ReadingValue) → is_utf8 (codes "Name = e=f") ≡ true
+        → with_line r (codes " Name = e=f\t") ≡ with_setting r (codes "Name") (codes "e=f") }
     ensures section { (r : ReadingValue) → is_utf8 (codes "[Link]") ≡ true → with_line r (codes "[Link] ") ≡ with_section r (Some (codes "Link")) }
     ensures broken { (r : ReadingValue) → is_utf8 (codes "[Link] a") ≡ true → with_line r (codes "[Link] a") ≡ broken r }
     ensures bare { (r : ReadingValue) → is_utf8 (codes "Name") ≡ true → with_line r (codes "Name") ≡ r }

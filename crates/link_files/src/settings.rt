@@ -4,7 +4,8 @@ ghost use Rattle.std.specs.List.{list_all};
 ghost use Rattle.std.specs.Str.{is_utf8};
 ghost use Rattle.text_tables.specs.Texts.{Text};
 ghost use Rattle.link_files.specs.Lines.{joined_from};
-ghost use Rattle.link_files.specs.Settings.{inside, is_section_byte, section_of, unmarked, unread, with_assignment, with_file, with_line, with_section, with_setting};
+ghost use Rattle.link_files.specs.Settings.{inside, is_section_byte, section_of, unmarked, unread, with_assignment, with_file, with_line};
+ghost use Rattle.link_files.specs.Settings.{with_section, with_setting};
 
 use crate::lines::{bare, is_comment, is_continued, stripped, without_last};
 use std::alloc::{AllocError, Global};

@@ -53,7 +53,8 @@ pub record IsGivenAmong (parts : List WrittenPart) (w : WrittenPart) (name : Lis
 -- By the manual, a token after others is reported at its value as one given twice exactly if one with its key is among
 -- these, and otherwise nothing is said.
 pub record IsReportedWhereAgain (parts : List WrittenPart) (w : WrittenPart) : Type 0 where
-  pub again : (name : List ℕ) → IsGivenAmong parts w name → given_again_after Manual [] (parts ++ w ∷ []) ≡ given_again_after Manual [] parts ++ value_spot GivenTwice name w.token ∷ []
+  pub again : (name : List ℕ) → IsGivenAmong parts w name → given_again_after Manual [] (parts ++ w ∷ [])
+      ≡ given_again_after Manual [] parts ++ value_spot GivenTwice name w.token ∷ []
   pub once : ((name : List ℕ) → IsGivenAmong parts w name → ⊥) → given_again_after Manual [] (parts ++ w ∷ []) ≡ given_again_after Manual [] parts
 
 -- blanks, one comma, and blanks, of which there is at least one

@@ -29,7 +29,8 @@ pub record Piece : Type 0 where
 
 -- a kept line as a piece
 abbrev pub piece_of : NumberedLine → Piece
-piece_of l = record { number = l.number; text = if ends_in backslash l.text then take (length l.text - 1) l.text else l.text; continues = ends_in backslash l.text }
+piece_of l =
+    record { number = l.number; text = if ends_in backslash l.text then take (length l.text - 1) l.text else l.text; continues = ends_in backslash l.text }
 
 -- the longest runs of pieces in which all but the last continue
 abbrev pub runs : List Piece → List (List Piece)
@@ -65,7 +66,9 @@ run_number Udev run = last_number run
 -- the joined lines: of the runs that are not open, those that are not empty
 abbrev pub lines_of_runs : Profile → List (List Piece) → List NumberedLine
 lines_of_runs by [] = []
-lines_of_runs by (r ∷ rs) = if is_open r then lines_of_runs by rs else (if is_empty (run_text r) then lines_of_runs by rs else record { number = capped (run_number by r); text = run_text r } ∷ lines_of_runs by rs)
+lines_of_runs by (r ∷ rs) =
+    if is_open r then lines_of_runs by rs
+    else (if is_empty (run_text r) then lines_of_runs by rs else record { number = capped (run_number by r); text = run_text r } ∷ lines_of_runs by rs)
 
 -- the number with which a run that is open at the end is reported: that of its first line, for udev that of the
 -- file's last

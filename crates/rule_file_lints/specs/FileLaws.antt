@@ -58,4 +58,5 @@ without_place p = (p.kind, p.word)
 -- the lints of rules among all of a file, given those above them, from the nearest on, without their places
 abbrev pub lints_without_places : Profile → List FileRule → List FileRule → List FileRule → List (Lint × Text)
 lints_without_places profile all above [] = []
-lints_without_places profile all above (r ∷ below) = map (λ s. (s.kind, s.word)) (spots_of profile all above r) ++ lints_without_places profile all (r ∷ above) below
+lints_without_places profile all above (r ∷ below) =
+    map (λ s. (s.kind, s.word)) (spots_of profile all above r) ++ lints_without_places profile all (r ∷ above) below

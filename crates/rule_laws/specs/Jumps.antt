@@ -28,4 +28,5 @@ pub record LandsIn (file : ℕ) (name : List ℕ) (below : List (ℕ × Rule)) :
 -- that jumps is the number beside the rule at which it lands.
 pub record JumpsStayInTheirFiles (files : List SourceFile) : Type 0 where
   pub rules : rules_in (numbered_rules 0 files) ≡ (set_of files).rules
-  pub stay : (above : List (ℕ × Rule)) (file : ℕ) (r : Rule) (below : List (ℕ × Rule)) (name : List ℕ) → numbered_rules 0 files ≡ above ++ (file, r) ∷ below → r.goto ≡ Some name → LandsIn file name below
+  pub stay : (above : List (ℕ × Rule)) (file : ℕ) (r : Rule) (below : List (ℕ × Rule)) (name : List ℕ)
+      → numbered_rules 0 files ≡ above ++ (file, r) ∷ below → r.goto ≡ Some name → LandsIn file name below

@@ -54,4 +54,5 @@ pub record IsLanding (before : List Names) (rule : Names) (following : List Name
 -- what becomes of each rule is at its place, and there is no more
 pub record AreLandings (rules : List Names) (found : List Landing) : Type 0 where
   pub one_each : length found ≡ length rules
-  pub each : (before : List Names) (rule : Names) (following : List Names) → rules ≡ before ++ rule ∷ following → (l : Landing) × (slice_get found (length before) ≡ Some l) × IsLanding before rule following l
+  pub each : (before : List Names) (rule : Names) (following : List Names) → rules ≡ before ++ rule ∷ following
+      → (l : Landing) × (slice_get found (length before) ≡ Some l) × IsLanding before rule following l

@@ -53,7 +53,9 @@ IsRendered _ = ⊥
 
 -- none that is rendered comes after one that is known
 abbrev pub KnownComeLast : List Assignment → Type 0
-KnownComeLast sets = (before : List Assignment) (known : Assignment) (following : List Assignment) → sets ≡ before ++ known ∷ following → IsKnown known.change → All (λ other. ¬ IsRendered other.change) following
+KnownComeLast sets =
+    (before : List Assignment) (known : Assignment) (following : List Assignment) → sets ≡ before ++ known ∷ following → IsKnown known.change
+    → All (λ other. ¬ IsRendered other.change) following
 
 -- the keys that assign, in the order in which the assignments of a rule are made by the manual
 abbrev pub keys_in_order : List Key
@@ -76,4 +78,5 @@ key_and_type other = (key_of_act_kind other, None)
 
 -- the assignments of each key, by any test that just these pass, are those that were written, in that order
 abbrev pub EachKeyAsWritten : List Assignment → List Assignment → Type 0
-EachKeyAsWritten written sets = (k : Key) (is_of : Assignment → Bool) → ((a : Assignment) → (is_of a ≡ true) ↔ (key_of_change a.change ≡ k)) → filter is_of sets ≡ filter is_of written
+EachKeyAsWritten written sets =
+    (k : Key) (is_of : Assignment → Bool) → ((a : Assignment) → (is_of a ≡ true) ↔ (key_of_change a.change ≡ k)) → filter is_of sets ≡ filter is_of written

@@ -2,7 +2,8 @@
 ghost use Rattle.std.specs.Prelude.{◌≡◌, ◌≤◌, ◌||◌, length, not, option_map};
 ghost use Rattle.std.specs.List.{prefix_len};
 ghost use Rattle.text_bytes.specs.Names.{is_blank};
-ghost use Rattle.rule_lints.specs.Commands.{asked_command, command_of, first_word, forbidden_command, is_bare_script, is_quote, is_redirected, is_shell_sign, is_shell_word, is_word_end, has_shell_sign};
+ghost use Rattle.rule_lints.specs.Commands.{asked_command, command_of, first_word, forbidden_command, is_bare_script, is_quote, is_redirected};
+ghost use Rattle.rule_lints.specs.Commands.{is_shell_sign, is_shell_word, is_word_end, has_shell_sign};
 ghost use Rattle.rule_lints.specs.Commands.{open_after, program_name, relative_program, run_command, shell_command};
 
 use crate::parts::{change_of, is_among};

@@ -181,8 +181,10 @@ pub fn some_links()
 
 /// A match of TAG, SYMLINK or TAGS is reported as no pattern exactly if its value is `?*`, and only for udev.
 pub fn something_of_members_is_no_pattern()
-    ensures tag { (wanted : Comparison) → is_no_pattern Udev (part.Plain (record { key = plain.Tag; wanted = wanted })) ≡ same_text wanted.written (codes "?*") }
-    ensures symlink { (wanted : Comparison) → is_no_pattern Udev (part.Plain (record { key = plain.Symlink; wanted = wanted })) ≡ same_text wanted.written (codes "?*") }
+    ensures tag { (wanted : Comparison) → is_no_pattern Udev (part.Plain (record { key = plain.Tag; wanted = wanted }))
+        ≡ same_text wanted.written (codes "?*") }
+    ensures symlink { (wanted : Comparison) → is_no_pattern Udev (part.Plain (record { key = plain.Symlink; wanted = wanted }))
+        ≡ same_text wanted.written (codes "?*") }
     ensures tags { (wanted : Comparison) → is_no_pattern Udev (part.Up (record { key = up.Tags; wanted = wanted })) ≡ same_text wanted.written (codes "?*") }
     ensures test { (operator : MatchOperator) (mask : Option (List ℕ)) (path : Template)
         → is_no_pattern Udev (part.Act (record { operator = operator; kind = act_kind.Test mask path })) ≡ same_text path.written (codes "?*") }

@@ -126,7 +126,8 @@ unless_refused (Some found) read = Err found
 
 -- the part of a role with a value; only matches take one that asks for its case to be ignored
 unfoldable pub value_part : Profile → Role → Bool → List ℕ → Result Part Finding
-value_part by r blind text = if blind && not (is_match r) then Err (finding BadValue text) else unless_refused (refusal_by by r text) (part_by by (role_as by r text) blind text)
+value_part by r blind text =
+    if blind && not (is_match r) then Err (finding BadValue text) else unless_refused (refusal_by by r text) (part_by by (role_as by r text) blind text)
 
 -- the part of a rule that a token is, or what is wrong with it: the first of the key, the attribute, the operator and the value
 unfoldable pub part_of : Profile → Placed → Result Part Finding

@@ -10,7 +10,8 @@ use Rattle.rule_places.specs.declared.kept.Place.{Place}
 -- a line after so many bytes of other kept lines: its number, the column of its first byte that is not a blank, and
 -- how many bytes it gives to a joined line
 abbrev pub as_kept : ℕ → NumberedLine → KeptLine
-as_kept start l = record { number = l.number; column = length l.text - length (unindented l).text + 1; start = start; size = length (piece_of (unindented l)).text }
+as_kept start l =
+    record { number = l.number; column = length l.text - length (unindented l).text + 1; start = start; size = length (piece_of (unindented l)).text }
 
 -- the same, unless the line is a comment
 abbrev pub kept_line : ℕ → NumberedLine → Option KeptLine

@@ -28,7 +28,8 @@ pub record Shows (kept : List KeptLine) (text : List ℕ) (ls : List NumberedLin
   pub reaches : at < place.start + place.size
   pub counted : 0 < place.column
   pub ends : place.column - 1 + place.size ≡ length (piece_of line).text
-  pub bytes : take (place.size - (at - place.start)) (drop (place.column - 1 + (at - place.start)) line.text) ≡ take (place.size - (at - place.start)) (drop (at - start) text)
+  pub bytes : take (place.size - (at - place.start)) (drop (place.column - 1 + (at - place.start)) line.text)
+      ≡ take (place.size - (at - place.start)) (drop (at - start) text)
 
 -- the line that is found for a byte of a file's kept lines has that byte at the column that is reported, and after it those that follow
 abbrev pub IsShown : List ℕ → ℕ → Type 0

@@ -135,4 +135,6 @@ pub record IsRead (text : List ℕ) : Type 0 where
 
 -- No text is read in two ways: its pieces are the same, and if it is faulty, so are those before the fault.
 abbrev pub OneAnswer : Type 0
-OneAnswer = (text : List ℕ) (some other : List Piece) (end stop : Option TemplateFault) → Reads text some end → Reads text other stop → (some ≡ other) × (end ≡ stop)
+OneAnswer =
+    (text : List ℕ) (some other : List Piece) (end stop : Option TemplateFault) → Reads text some end → Reads text other stop
+    → (some ≡ other) × (end ≡ stop)

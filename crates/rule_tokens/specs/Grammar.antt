@@ -164,7 +164,8 @@ pub data LexesAt : ℕ → List ℕ → List Placed → Option TokenFault → Ty
   -- a token, and with the gap after it the text ends
   last : {at : ℕ} {text : List ℕ} {t : Placed} (rest gap : List ℕ) → TokenAt at text t rest → Gap rest gap [] → LexesAt at text (t ∷ []) None
   -- a token, and after it and a gap others, or a fault
-  more : {at : ℕ} {text : List ℕ} {t : Placed} {tokens : List Placed} {end : Option TokenFault} (rest gap next : List ℕ) → TokenAt at text t rest → Gap rest gap next
+  more : {at : ℕ} {text : List ℕ} {t : Placed} {tokens : List Placed} {end : Option TokenFault} (rest gap next : List ℕ) → TokenAt at text t rest
+      → Gap rest gap next
       → 0 < length next → LexesAt (t.span.end + length gap) next tokens end → LexesAt at text (t ∷ tokens) end
 
 -- A line, its tokens and its end: None if it is done, or the fault that ends it.

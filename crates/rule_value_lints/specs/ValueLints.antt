@@ -7,7 +7,8 @@ use Rattle.rule_core.specs.Written.{WrittenPart}
 use Rattle.rule_core.specs.declared.spot.Spot.{Spot}
 use Rattle.rule_lints.specs.RuleLints.{spots_with}
 use Rattle.rule_lints.specs.declared.lint.Lint.{Lint}
-use Rattle.rule_lints.specs.declared.lint.Lint.TheVariants.{NeverFits, BlankBesideBar, UnknownName, NotSubstituted, ListReplaced, MeantAsMatch, NameTooLong, WantedWithoutTag}
+use Rattle.rule_lints.specs.declared.lint.Lint.TheVariants.{NeverFits, BlankBesideBar, UnknownName, NotSubstituted, ListReplaced, MeantAsMatch}
+use Rattle.rule_lints.specs.declared.lint.Lint.TheVariants.{NameTooLong, WantedWithoutTag}
 use Rattle.rule_value_lints.specs.Assignments.{changes_device, is_meant_to_match, is_untagged, replaces_list, wants_unit}
 use Rattle.rule_value_lints.specs.Near.{known_instead}
 use Rattle.rule_value_lints.specs.Never.{impossible}

@@ -1,7 +1,8 @@
 //! W20, W21 and W23: lists that are replaced, values that were meant to be compared, and units that are wanted by devices
 //! that systemd does not see.
 ghost use Rattle.std.specs.Prelude.{◌≡◌, map};
-ghost use Rattle.rule_value_lints.specs.Assignments.{changes_device, has_key, is_about_tags, is_assign, is_equal, is_meant_to_match, is_untagged, replaces_list, wants_unit};
+ghost use Rattle.rule_value_lints.specs.Assignments.{changes_device, has_key, is_about_tags, is_assign, is_equal, is_meant_to_match, is_untagged};
+ghost use Rattle.rule_value_lints.specs.Assignments.{replaces_list, wants_unit};
 
 use crate::tables::{
     CHANGING_KEYS, FIXED_ATTRIBUTES, LIST_KEYS, TELLING_PROPERTIES, UNTAGGED_SUBSYSTEMS,

@@ -10,7 +10,8 @@ ghost use Rattle.rule_value_lints.specs.Near.{known_for};
 ghost use Rattle.rule_value_lints.specs.Never.{never_fits};
 ghost use Rattle.rule_value_lints.specs.Values.{is_blank_beside_bar, is_long_name, is_no_substitution};
 ghost use Rattle.rule_value_lints.specs.declared.subjects.Subject.{Subject};
-ghost use Rattle.rule_value_lints.specs.declared.subjects.Subject.TheVariants.{Action, Kernel, Devpath, Subsystem, FourDigits, TwoDigits, Removable, Architecture};
+ghost use Rattle.rule_value_lints.specs.declared.subjects.Subject.TheVariants.{Action, Kernel, Devpath, Subsystem, FourDigits, TwoDigits, Removable};
+ghost use Rattle.rule_value_lints.specs.declared.subjects.Subject.TheVariants.{Architecture};
 
 /// A pattern that is reported fits no text that the kernel writes there.
 #[tactic(auto, using(crate::proofs::NeverLaw::never_written))]

@@ -36,7 +36,9 @@ undetermined prefix p = if slice_index_or prefix 23 0 == 0 then p else drop (min
 -- how a row compares with another: by the first labels, by what these leave open, and for equal patterns by the
 -- numbers
 abbrev pub row_cmp : Row → Row → Ordering
-row_cmp r s = ordering_then (slice_cmp nat_cmp r.prefix s.prefix) (ordering_then (pattern_cmp (undetermined r.prefix r.items.now) (undetermined s.prefix s.items.now)) (nat_cmp r.number s.number))
+row_cmp r s =
+    ordering_then (slice_cmp nat_cmp r.prefix s.prefix)
+    (ordering_then (pattern_cmp (undetermined r.prefix r.items.now) (undetermined s.prefix s.items.now)) (nat_cmp r.number s.number))
 
 -- the patterns of rows
 abbrev pub patterns : List Row → List (List Item)
@@ -56,7 +58,9 @@ IsSorted ps = (x y : ℕ) → x < y → y < length ps → pattern_cmp (pattern_a
 
 -- of rows of one pattern the numbers rise
 abbrev pub SameRise : List Row → Type 0
-SameRise rows = (x y : ℕ) → x < y → y < length rows → pattern_at (patterns rows) x ≡ pattern_at (patterns rows) y → slice_index_or (numbers rows) x 0 < slice_index_or (numbers rows) y 0
+SameRise rows =
+    (x y : ℕ) → x < y → y < length rows → pattern_at (patterns rows) x ≡ pattern_at (patterns rows) y
+    → slice_index_or (numbers rows) x 0 < slice_index_or (numbers rows) y 0
 
 -- two patterns have so many labels in common at their fronts, and no more
 pub record IsCommon (p q : List Item) (n : ℕ) : Type 0 where

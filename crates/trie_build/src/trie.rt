@@ -44,7 +44,8 @@ impl Model for Trie {
 
     ghost view = { λ t. record { entries = t.entries.items; numbers = t.numbers.items; nodes = t.nodes.items } };
 
-    ghost invariant = { λ t. IsHeld (record { entries = t.entries.items; numbers = t.numbers.items; nodes = t.nodes.items }) × (length t.nodes.items ≤ max_nodes) × (length t.numbers.items ≤ max_entries) × KeepsBounds t.entries.items };
+    ghost invariant = { λ t. IsHeld (record { entries = t.entries.items; numbers = t.numbers.items; nodes = t.nodes.items })
+        × (length t.nodes.items ≤ max_nodes) × (length t.numbers.items ≤ max_entries) × KeepsBounds t.entries.items };
 }
 
 /// What is made from entries for their trie.

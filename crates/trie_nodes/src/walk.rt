@@ -153,7 +153,8 @@ fn merge<N: Nodes>(
 ) -> Result<(), AllocError>
     requires shape { Shape (N.nodes nodes.now) }
     requires within { at < length modalias.now }
-    requires taking { taking.now ≡ flat_map (λ i. takers (N.nodes nodes.now) (slice_index modalias.now at) (children (N.nodes nodes.now) i)) (active_after (N.nodes nodes.now) (take at modalias.now)) }
+    requires taking { taking.now ≡ flat_map (λ i. takers (N.nodes nodes.now) (slice_index modalias.now at) (children (N.nodes nodes.now) i))
+        (active_after (N.nodes nodes.now) (take at modalias.now)) }
     requires staying { staying.now ≡ stars (N.nodes nodes.now) (active_after (N.nodes nodes.now) (take at modalias.now)) }
     ensures { OnOk result (next.new.items ≡ active_after (N.nodes nodes.now) (take (at + 1) modalias.now)) }
 {

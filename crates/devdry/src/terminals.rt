@@ -33,7 +33,7 @@ fn shown_line<'a>(mut line: Line<'a>, colors: bool) -> Line<'a>
     line
 }
 
-/// Whether colors are shown, by when they are asked for; without a word on it if they would be anyway.
+/// Whether colors are shown, by when they are asked for, given whether they would be unasked.
 fn has_colors(color: Color, colors: bool) -> bool
     ensures { result ≡ has_colors colors color }
 {

@@ -27,7 +27,7 @@ use Rattle.engine_formats.specs.declared.remark.Severity.{Severity}
 use Rattle.engine_formats.specs.declared.remark.Severity.TheVariants.{Error, Warning}
 use Rattle.engine_formats.proofs.Commands.{property_ends_none, text_ends_no_line}
 use Rattle.engine_formats.proofs.Headings.{advice_lacks, code_lacks, heading_lacks, text_lacks}
-use Rattle.engine_formats.proofs.Meant.{meant_lacks}
+use Rattle.engine_formats.proofs.MeantNames.{meant_lacks}
 use Rattle.engine_formats.proofs.OneLine.{Lacks, decimal_lacks, first_line_is, lacks-append, or_parts}
 
 -- a text is a line: a newline ends it, and none comes before

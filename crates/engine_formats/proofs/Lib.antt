@@ -13,4 +13,4 @@ mod Counted
 mod Masking
 mod Carets
 mod Nearest
-mod Meant
+mod MeantNames

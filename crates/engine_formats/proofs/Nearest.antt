@@ -9,11 +9,12 @@ use Rattle.engine_formats.specs.Near.{distance, farthest, nearest, reach}
 
 -- as far as names may be is no farther than was said
 reach_below : (most : ℕ) (names : List Text) (word : Text) → reach most names word ≤ most
-reach_below most [] word = omega arith
+reach_below most [] word = let same : most ≤ most = omega arith in same
 reach_below most (name ∷ names) word =
     let rest = reach_below (min most (distance name word)) names word in
     let first = min-le_left most (distance name word) in
-    omega (arith, rest, first)
+    let both : reach (min most (distance name word)) names word ≤ most = omega (arith, rest, first) in
+    both
 
 -- and no name is nearer
 reach_nearest : (most : ℕ) (names : List Text) (word : Text) → AllByRecursion (λ name. reach most names word ≤ distance name word) names
@@ -21,22 +22,24 @@ reach_nearest most [] word = tt
 reach_nearest most (name ∷ names) word =
     let rest = reach_below (min most (distance name word)) names word in
     let first = min-le_right most (distance name word) in
-    (omega (arith, rest, first), reach_nearest (min most (distance name word)) names word)
+    let both : reach (min most (distance name word)) names word ≤ distance name word = omega (arith, rest, first) in
+    (both, reach_nearest (min most (distance name word)) names word)
+
+at_left : (a b : ℕ) → min a b < b → (t : Bool) → nat_le a b ≡ t → min a b ≡ a
+at_left a b h true e = min-eq_left (leb-true a b e)
+at_left a b h false e =
+    let over = leb-false a b e in
+    let under : b ≤ a = omega (arith, over) in
+    let same : min a b ≡ b = min-eq_right under in
+    absurd (omega (arith, h, same))
 
 -- if all names are farther, it is what was said
 reach_stays : (most : ℕ) (names : List Text) (word : Text) → AllByRecursion (λ name. reach most names word < distance name word) names → reach most names word ≡ most
 reach_stays most [] word h = refl
 reach_stays most (name ∷ names) word h =
-    let rest = reach_stays (min most (distance name word)) names word h.1 in
-    let less : min most (distance name word) < distance name word = subst (λ n. n < distance name word) rest h.0 in
+    let rest : reach (min most (distance name word)) names word ≡ min most (distance name word) = reach_stays (min most (distance name word)) names word h.1 in
+    let less : min most (distance name word) < distance name word = subst (λ (n : ℕ). n < distance name word) rest h.0 in
     rest ∙ at_left most (distance name word) less (nat_le most (distance name word)) refl
-  where
-    at_left : (a b : ℕ) → min a b < b → (t : Bool) → nat_le a b ≡ t → min a b ≡ a
-    at_left a b h true e = min-eq_left (leb-true a b e)
-    at_left a b h false e =
-        let over = leb-false a b e in
-        let same = min-eq_right {m = a} {n = b} (omega (arith, over)) in
-        absurd (omega (arith, h, same))
 
 -- what passes a test is found, and has what follows from passing
 one_given : (P : Text → Type 0) (test : Text → Bool) (name : Text) (found : Option Text) (b : Bool) → test name ≡ b → (test name ≡ true → P name) → IfSome found P
@@ -58,13 +61,15 @@ found_among P test [] h = tt
 found_among P test (name ∷ names) h = one_among P (test name) name (find test names) h.0 (found_among P test names h.1)
 
 -- if nothing is found, nothing passes
+none_before : (test : Text → Bool) (name : Text) (names : List Text) (b : Bool) → test name ≡ b
+    → (find test names ≡ None → AllByRecursion (λ n. test n ≡ false) names) → cond b (Some name) (find test names) ≡ None
+    → (test name ≡ false) × AllByRecursion (λ n. test n ≡ false) names
+none_before test name names true e rest h = absurd (cc)
+none_before test name names false e rest h = (e, rest h)
+
 none_passes : (test : Text → Bool) (names : List Text) → find test names ≡ None → AllByRecursion (λ name. test name ≡ false) names
 none_passes test [] h = tt
-none_passes test (name ∷ names) h = by (test name) refl h
-  where
-    by : (b : Bool) → test name ≡ b → cond b (Some name) (find test names) ≡ None → (test name ≡ false) × AllByRecursion (λ name. test name ≡ false) names
-    by true e h = absurd (cc)
-    by false e h = (e, none_passes test names h)
+none_passes test (name ∷ names) h = none_before test name names (test name) refl (none_passes test names) h
 
 unless : (P : Text → Type 0) (b : Bool) (found : Option Text) → IfSome found P → IfSome (cond b None found) P
 unless P true found h = tt

@@ -1,5 +1,5 @@
 -- Which known name an unknown one may have been meant as.
-use Rattle.std.specs.Prelude.{ℕ, zero, suc, Bool, true, false, not, ◌&&◌, ◌==◌, if◌then◌else◌, List, [], ◌∷◌, Option, Some, None, codes, drop, filter, is_some, map, nat_eq, take}
+use Rattle.std.specs.Prelude.{Bool, false, not, ◌&&◌, ◌==◌, if◌then◌else◌, List, [], ◌∷◌, Option, Some, None, codes, filter, map, nat_eq, take}
 use Rattle.std.specs.Char.{is_ascii_alphabetic}
 use Rattle.std.specs.List.{list_any, prefix_len, starts_with}
 use Rattle.text_bytes.specs.Names.{dollar, equals}

@@ -49,7 +49,8 @@ fn push_question(text: &mut Vec<u8>, name: &[u8]) -> Result<(), AllocError>
 {
     text.extend_from_slice(b"Did you mean ")?;
     text.extend_from_slice(name)?;
-    text.push(b'?')
+    text.push(b'?')?;
+    Ok(())
 }
 
 /// The sentence on a diagnostic if no known name is near.

@@ -192,7 +192,12 @@ fn letters(text: &[u8]) -> &[u8]
 fn begins_with_any(names: &[&'static [u8]], text: &[u8]) -> bool
     ensures { result ≡ list_any (λ name. starts_with nat_eq text.now name) (map (λ name. name.now) names.now) }
 {
-    names.iter().any(|name| text.starts_with(*name))
+    for name in names {
+        if text.starts_with(*name) {
+            return true;
+        }
+    }
+    false
 }
 
 /// Whether a known name after a `$` begins a text.

@@ -1,7 +1,7 @@
 //! Laws that show the nearest name to be the one that its words say, and names that are found.
 //!
 //! Each function has an empty body, and its contract is a law of the definitions.
-ghost use Rattle.std.specs.Prelude.{◌≡◌, ◌<◌, ◌≤◌, ◌++◌, All, IfSome, List, [], ◌∷◌, None, Some, codes, false, true};
+ghost use Rattle.std.specs.Prelude.{◌≡◌, Bool, ◌<◌, ◌≤◌, ◌++◌, All, IfSome, List, [], ◌∷◌, None, Some, codes, false, true};
 ghost use Rattle.std.specs.List.{list_any};
 ghost use Rattle.text_tables.specs.Texts.{Text, is_among};
 ghost use Rattle.file_messages.specs.declared.message.MessageKind.TheVariants.{BadSubstitution, BadValue, UnknownBuiltin, UnknownKey};
@@ -14,7 +14,8 @@ ghost use Rattle.engine_formats.specs.declared.remark.Remark.TheVariants as abou
 /// none of them is nearer. None is found for a word that is one of them; for any other word none is found only if all
 /// of them are too far from it.
 pub fn the_nearest_name_is_found()
-    ensures one { (P : Text → Type 0) (names : List Text) (word : Text) → All P names → IfSome (nearest names word) P }
+    ensures one { (test : Text → Bool) (names : List Text) (word : Text) → All (λ name. test name ≡ true) names
+        → IfSome (nearest names word) (λ name. test name ≡ true) }
     ensures near { (names : List Text) (word : Text) → IfSome (nearest names word) (λ name. distance name word ≤ farthest word) }
     ensures least { (names : List Text) (word : Text)
         → IfSome (nearest names word) (λ name. All (λ other. distance name word ≤ distance other word) names) }

@@ -1,11 +1,12 @@
-use Rattle.std.proofs.Common.{◌<◌}
+use Rattle.std.proofs.Common.{◌≡◌, ◌<◌, true}
 use Rattle.std.proofs.lemmas.List.Elements.{All-from_recursion, recursion_from_All}
 use Rattle.engine_formats.proofs.Nearest.{least_of_all, nearest_far, nearest_known, nearest_near, nearest_one}
 use Rattle.engine_formats.specs.Near.{distance, farthest}
 use Rattle.engine_formats.proofs.near_laws.the_nearest_name_is_found.Goals as goal
 
 pub returns-clause-one : goal.returns-clause-one
-returns-clause-one c P names word h = nearest_one P names word (recursion_from_All P names h)
+returns-clause-one c test names word h =
+    nearest_one (λ name. test name ≡ true) names word (recursion_from_All (λ name. test name ≡ true) names h)
 
 pub returns-clause-near : goal.returns-clause-near
 returns-clause-near c names word = nearest_near names word

@@ -59,9 +59,9 @@ _devdry() {
         return
     fi
     case $command in
-        verify) suffix=.rules options='-r --root -s --strict --all --format --ignore --no-summary --no-style --lint --udev --users --groups -h --help -V --version' ;;
+        verify) suffix=.rules options='-r --root -s --strict --all --format --color --ignore --no-summary --no-style --lint --udev --users --groups -h --help -V --version' ;;
         query) suffix=.hwdb options='-r --root --all --sources --index -h --help -V --version' ;;
-        update) suffix=.hwdb options='-r --root -s --strict --all --format --ignore --lint -h --help -V --version' ;;
+        update) suffix=.hwdb options='-r --root -s --strict --all --format --color --ignore --lint -h --help -V --version' ;;
         events) suffix=.rules options='-r --root --all --sources --why --questions --index --udev -h --help -V --version' ;;
         files) suffix='' options='-r --root -h --help -V --version' ;;
         compare) suffix='' options='--all --index --udev -h --help -V --version' ;;
@@ -77,6 +77,7 @@ _devdry() {
         --index:* | --users:* | --groups:*) _devdry_any_files ;;
         --why:*) _devdry_files .rules ;;
         --format:*) _devdry_words plain gcc github gitlab json sarif human ;;
+        --color:*) _devdry_words auto always never ;;
         --ignore:*) _devdry_code_list ;;
         *:-*) _devdry_words "$options" ;;
         *) _devdry_arguments ;;

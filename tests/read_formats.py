@@ -22,6 +22,7 @@ from urllib.parse import unquote_to_bytes
 
 from placed_rules import findings
 from tables.kinds.marked import COMMA_AT_THE_END, UNSEEN, masked
+from tables.kinds.near import meant
 
 TOP = Path(__file__).resolve().parent.parent
 
@@ -267,6 +268,11 @@ def wrong_caret(folder, whole, it):
         return f"{whole}: shown: {shown!r}, but the line from byte {begins} on: {line[begins:begins + SHOWN]!r}"
     if caret != marks:
         return f"{whole}: the marks under {shown!r} are {caret!r}, not {marks!r}"
+    word = whole[6].partition(": ")[2]
+    known = meant(code, word.encode("utf-8", "surrogateescape"))
+    # (an escaped byte, and one that is not UTF-8, are several bytes of the word as it is read here)
+    if (known or sentence.startswith("Did you mean")) and not {"\\", "\uFFFD"} & set(word):
+        return "" if sentence == f"Did you mean {known}?" else f"{it}: {known} is near"
     # (of a few messages it tells more than the first sentence of their section)
     more = code in ("V1", "S1") and sentence in [hint.decode() for hint in (COMMA_AT_THE_END, *(hint for _, hint in UNSEEN))]
     return "" if more or sentence == first_sentence(code) else f"{it}: docs/messages.md begins with {first_sentence(code)!r}"

@@ -413,6 +413,8 @@ ROWS = [
     *(Row(
         f"faulty rules as {form}", ["verify", f"--format={form}", "--ignore", "S2", "f.rules"],
         {"f.rules": 'FOO="x"\nKERNEL=="a",TAG+="t" NAME="b"\n'}, output=None, line=None, status=1) for form in ("gcc", "github", "gitlab", "json", "sarif", "human")),
+    Row("an unknown key that is near a known one", ["verify", "--format=human", "--color=never", "f.rules"], {"f.rules": 'SYMLNK+="x"\n'},
+        output=None, line=None, status=1),
     Row("a faulty database file as JSON", ["update", "--format", "json", "--ignore", "H5", "s.hwdb"], {"s.hwdb": "m1\n\nm2\n =x\n"}, output=None, line=None),
     Row(
         "as udev does, with sources and what rules met", ["events", "--udev", "--sources", "--why", "w.rules", "-r", ".", "w.rules"], REPORTED_FILES, REPORTED,

@@ -96,6 +96,13 @@ COLORS = [
     ("human to a pipe, with the output on a terminal", "verify --format=human a.rules", ["stdout"], None, COUNTED, PLAIN),
     ("gcc on a terminal", "verify --format=gcc a.rules", ["stderr"], None, COUNTED, GCC),
     ("human of the database", "update --format=human a.hwdb", ["stderr"], None, None, OF_DATABASE),
+    ("--color=always to a pipe", "verify --format=human --color=always a.rules", [], None, COUNTED, PAINTED),
+    ("--color=always, and NO_COLOR", "verify --format=human --color=always a.rules", [], "1", COUNTED, PAINTED),
+    ("--color=always of the database", "update --format=human --color always a.hwdb", [], None, None, OF_DATABASE),
+    ("--color=always of another format", "verify --format=gcc --color=always a.rules", ["stderr"], None, COUNTED, GCC),
+    ("--color=never on a terminal", "verify --format=human --color=never a.rules", ["stderr"], None, COUNTED, PLAIN),
+    ("--color=auto on a terminal", "verify --format=human --color=auto a.rules", ["stderr"], None, COUNTED, PAINTED),
+    ("--color=auto to a pipe", "verify --format=human --color=auto a.rules", [], None, COUNTED, PLAIN),
     ("a line that is not a message", "verify --format=human none.rules", ["stderr"], None, "", "devdry: cannot read none.rules\n"),
 ]
 

@@ -41,7 +41,7 @@ r.rules:6:15: warning: blank after a comma expected: TAG [S2]
 r.rules:2:1: error: unknown key [V2]
   SUBSYSTEMM=="block", TAG+="disk"
   ^~~~~~~~~~
-  = {sentence("V2").decode()}
+  = Did you mean SUBSYSTEM?
 r.rules:4:22: error: no later label [V7]
   KERNEL=="sd*", GOTO="end"
                        ^~~

@@ -5,10 +5,10 @@ MORE = "\nFor more information, try '--help'.\n"
 
 # of each command its arguments, its flags, and its options with the value that each takes
 COMMANDS = {
-    "update": ("[FILE]...", ["--strict", "--all", "--lint"], {"--root": "<DIR>", "--format": "<FORMAT>", "--ignore": "<CODES>"}),
+    "update": ("[FILE]...", ["--strict", "--all", "--lint"], {"--root": "<DIR>", "--format": "<FORMAT>", "--color": "<WHEN>", "--ignore": "<CODES>"}),
     "query": ("<MODALIAS> [FILE]...", ["--all", "--sources"], {"--root": "<DIR>", "--index": "<FILE>"}),
     "verify": ("[FILE]...", ["--strict", "--all", "--no-summary", "--no-style", "--lint", "--udev"],
-               {"--root": "<DIR>", "--format": "<FORMAT>", "--ignore": "<CODES>", "--users": "<FILE>", "--groups": "<FILE>"}),
+               {"--root": "<DIR>", "--format": "<FORMAT>", "--color": "<WHEN>", "--ignore": "<CODES>", "--users": "<FILE>", "--groups": "<FILE>"}),
     "events": ("[FILE]...", ["--all", "--sources", "--questions", "--udev"], {"--root": "<DIR>", "--why": "<FILE[:LINE]>", "--index": "<FILE>"}),
     "files": ("", [], {"--root": "<DIR>"}),
     "compare": ("<OLD> <NEW>", ["--all", "--udev"], {"--index": "<FILE>"}),

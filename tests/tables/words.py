@@ -57,6 +57,7 @@ Options:
   -s, --strict           Exit with status 1 if there is a message
       --all              Go on where a file can't be read, and fail where there is none
       --format <FORMAT>  How messages are written: plain, gcc, github, gitlab, json, sarif or human
+      --color <WHEN>     When messages for people are in colors: auto, always or never
       --ignore <CODES>   Leave out the messages of these codes, as V6,S; comments: as the files say
       --lint             Also tell of lines that are most likely not the ones that were meant
   -h, --help             Print help
@@ -94,6 +95,7 @@ Options:
   -s, --strict           Make every check: --lint, --udev, --all, users and groups of the root
       --all              Go on where a file can't be read, and fail where there is none
       --format <FORMAT>  How messages are written: plain, gcc, github, gitlab, json, sarif or human
+      --color <WHEN>     When messages for people are in colors: auto, always or never
       --ignore <CODES>   Leave out the messages of these codes, as V6,S; comments: as the files say
       --no-summary       Do not count the good and the bad files
       --no-style         Give no messages about style
@@ -240,6 +242,13 @@ error: invalid value 'xml' for '--format <FORMAT>'
 For more information, try '--help'.
 """
 
+NO_SUCH_COLOR = """\
+error: invalid value 'yes' for '--color <WHEN>'
+  [possible values: auto, always, never]
+
+For more information, try '--help'.
+"""
+
 NO_SUCH_CODE = """\
 error: invalid value 'V27' for '<CODE>'
   [possible values: V1, V2, V3, V4, V5, V6, V7, V8, V9, V10, V11, V12, V13, V14, V15, V16, V17, V18, V19, V20, V21, V22, V23, V24, V25, V26, S1, S2, S3, S4, S5, S6, H1, H2, H3, H4, H5, H6, W1, W2, W3, W4, W5, W6, W7, W8, W9, W10, W11, W12, W13, W14, W15, W16, W17, W18, W19, W20, W21, W22, W23, W24, W25, D1, D2, D3, D4, D5, D6, D7, D8, D9, D10, D11, D12, D13, I1, I2]
@@ -307,6 +316,9 @@ NOT_UNDERSTOOD = [
     ("events --format gcc", "error: unexpected argument '--format' found\n"),
     ("events --ignore V6", "error: unexpected argument '--ignore' found\n"),
     ("update --format=xml a.hwdb", NO_SUCH_FORMAT),
+    ("verify --color=yes a.rules", NO_SUCH_COLOR),
+    ("update --color= a.hwdb", NO_SUCH_COLOR.replace("yes", "")),
+    ("events --color=never", "error: unexpected argument '--color' found\n"),
     ("verify --all --root=", EMPTY_ROOT),
     ("verify --strict --root=", EMPTY_ROOT),
     (["query", "--all", "-r", "", "m"], EMPTY_ROOT),

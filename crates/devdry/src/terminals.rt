@@ -1,16 +1,16 @@
 //! What the program shows differently on a terminal than in a file.
 ghost use Rattle.std.specs.Prelude.{◌≡◌};
-ghost use Rattle.devdry.specs.Terminals.{shown_format, shown_line, shown_request};
+ghost use Rattle.devdry.specs.Terminals.{has_colors, shown_format, shown_line, shown_request};
 
-use engine_ends::{Format, Line, Request};
+use engine_ends::{Color, Format, Line, Request};
 
 /// Which of the program's streams are terminals.
 #[derive(Clone, Copy, PartialEq, Eq)]
 pub(crate) struct Terminals {
     /// Whether the input is a terminal.
     pub(crate) input: bool,
-    /// Whether messages for people are shown in colors: the error output is a terminal, and the
-    /// environment does not refuse colors.
+    /// Whether messages for people are shown in colors if a line does not say: the error output is a
+    /// terminal, and the environment does not refuse colors.
     pub(crate) colors: bool,
 }
 
@@ -29,8 +29,19 @@ pub(crate) fn shown_request<'a>(request: Request<'a>, colors: bool) -> Request<'
 fn shown_line<'a>(mut line: Line<'a>, colors: bool) -> Line<'a>
     ensures { result ≡ shown_line colors line.entry }
 {
-    line.format = shown_format(line.format, colors);
+    line.format = shown_format(line.format, has_colors(line.color, colors));
     line
+}
+
+/// Whether colors are shown, by when they are asked for, given whether they would be unasked.
+fn has_colors(color: Color, colors: bool) -> bool
+    ensures { result ≡ has_colors colors color }
+{
+    match color {
+        Color::Auto => colors,
+        Color::Always => true,
+        Color::Never => false,
+    }
 }
 
 /// The format for people in colors if these are shown, and any other as it is.

@@ -9,12 +9,14 @@ use Rattle.clap.specs.Faults.{fault_of}
 use Rattle.clap.specs.declared.error.kind.ErrorKind.TheVariants as kind
 use Rattle.clap.proofs.OnLiterals.{clap_on_literals}
 use Rattle.devdry_words.specs.Commands.{devdry}
+use Rattle.engine_ends.specs.declared.line.Color.{Color}
+use Rattle.engine_ends.specs.declared.line.Color.TheVariants.{Auto, Always, Never}
 use Rattle.engine_ends.specs.declared.line.Format.{Format}
 use Rattle.engine_ends.specs.declared.line.Format.TheVariants.{Plain, Gcc, Github, Gitlab, Json, Sarif, Human, HumanInColor}
 use Rattle.devdry_words.specs.declared.refusals.Refusal.{Refusal}
-use Rattle.devdry_words.specs.declared.refusals.Refusal.TheVariants.{TwoDatabases, TwoAnswers, EmptyRoot, EmptySide, NoUdev, UnknownFormat, UnknownPart}
+use Rattle.devdry_words.specs.declared.refusals.Refusal.TheVariants.{TwoDatabases, TwoAnswers, EmptyRoot, EmptySide, NoUdev, UnknownFormat, UnknownColor, UnknownPart}
 use Rattle.engine_ends.specs.declared.line.Verb.TheVariants.{Update, Verify, Events}
-use Rattle.devdry_words.specs.Lines.{asks_every, class_codes, codes_with, format_name, format_named, format_of, is_set_or_every, profile_of}
+use Rattle.devdry_words.specs.Lines.{asks_every, class_codes, codes_with, color_name, color_named, color_of, format_name, format_named, format_of, is_set_or_every, profile_of}
 use Rattle.text_bytes.specs.Texts.{split_once}
 use Rattle.text_bytes.specs.declared.profile.Profile.{Profile}
 use Rattle.text_bytes.specs.declared.profile.Profile.TheVariants.{Manual, Udev}
@@ -200,6 +202,22 @@ unknown_format_is_refused : refused (codes "update" ∷ codes "--format=xml" ∷
 unfolding clap_on_literals devdry
 unknown_format_is_refused = refl
 
+unknown_color_is_refused : refused (codes "verify" ∷ codes "--color=yes" ∷ []) ≡ Some (Some UnknownColor)
+unfolding clap_on_literals devdry
+unknown_color_is_refused = refl
+
+color_of_another_format_is_taken : refused (codes "update" ∷ codes "--color=always" ∷ codes "--format=gcc" ∷ []) ≡ Some None
+unfolding clap_on_literals devdry
+color_of_another_format_is_taken = refl
+
+color_is_asked : option_map {U = Option Color} (λ p. color_of p.1) (subcommand_of devdry (codes "verify" ∷ codes "--color" ∷ codes "never" ∷ codes "a.rules" ∷ [])) ≡ Some (Some Never)
+unfolding clap_on_literals devdry
+color_is_asked = refl
+
+color_of_events : fault_of devdry (codes "events" ∷ codes "--color=never" ∷ []) ≡ kind.UnknownArgument ∷ []
+unfolding clap_on_literals devdry
+color_of_events = refl
+
 empty_root_of_files_is_refused : refused (codes "files" ∷ codes "-r" ∷ [] ∷ []) ≡ Some (Some EmptyRoot)
 unfolding clap_on_literals devdry
 empty_root_of_files_is_refused = refl
@@ -286,6 +304,11 @@ each_format_is_found Json = refl
 each_format_is_found Sarif = refl
 each_format_is_found Human = refl
 each_format_is_found HumanInColor = refl
+
+each_color_is_found : (c : Color) → color_named (color_name c) ≡ Some c
+each_color_is_found Auto = refl
+each_color_is_found Always = refl
+each_color_is_found Never = refl
 
 pub each_code_is_listed : codes "V1, V2, V3, V4, V5, V6, V7, V8, V9, V10, V11, V12, V13, V14, V15, V16, V17, V18, V19, V20, V21, V22, V23, V24, V25, V26, S1, S2, S3, S4, S5, S6, H1, H2, H3, H4, H5, H6, W1, W2, W3, W4, W5, W6, W7, W8, W9, W10, W11, W12, W13, W14, W15, W16, W17, W18, W19, W20, W21, W22, W23, W24, W25, D1, D2, D3, D4, D5, D6, D7, D8, D9, D10, D11, D12, D13, I1, I2" ≡ known_codes
 unfolding known_codes listed heading_parts split_once

@@ -36,23 +36,23 @@ files_rule = record (new_rule (codes "FILE")) { action = Some Append }
 abbrev pub with_rules : Text → List Rule → Shape
 with_rules name rules = record (new_shape name) { rules = rules }
 
--- `update [-r DIR] [-s] [--all] [--format FORMAT] [--ignore CODES].. [--lint] [FILE]..`
+-- `update [-r DIR] [-s] [--all] [--format FORMAT] [--color WHEN] [--ignore CODES].. [--lint] [FILE]..`
 abbrev pub update_shape : Shape
 update_shape = with_rules (codes "update")
-    (root_rule ∷ strict_rule ∷ flag_rule (codes "all") ∷ option_rule (codes "format") ∷ repeated_rule (codes "ignore")
-    ∷ flag_rule (codes "lint") ∷ files_rule ∷ [])
+    (root_rule ∷ strict_rule ∷ flag_rule (codes "all") ∷ option_rule (codes "format") ∷ option_rule (codes "color")
+    ∷ repeated_rule (codes "ignore") ∷ flag_rule (codes "lint") ∷ files_rule ∷ [])
 
 -- `query [-r DIR] [--all] [--sources] [--index FILE] MODALIAS [FILE]..`
 abbrev pub query_shape : Shape
 query_shape = with_rules (codes "query")
     (root_rule ∷ flag_rule (codes "all") ∷ flag_rule (codes "sources") ∷ option_rule (codes "index") ∷ required_rule (codes "MODALIAS") ∷ files_rule ∷ [])
 
--- `verify [-r DIR] [-s] [--all] [--format FORMAT] [--ignore CODES].. [--no-summary] [--no-style] [--lint] [--udev] [--users FILE]
--- [--groups FILE] [FILE]..`
+-- `verify [-r DIR] [-s] [--all] [--format FORMAT] [--color WHEN] [--ignore CODES].. [--no-summary] [--no-style] [--lint] [--udev]
+-- [--users FILE] [--groups FILE] [FILE]..`
 abbrev pub verify_shape : Shape
 verify_shape = with_rules (codes "verify")
-    (root_rule ∷ strict_rule ∷ flag_rule (codes "all") ∷ option_rule (codes "format") ∷ repeated_rule (codes "ignore")
-    ∷ flag_rule (codes "no-summary") ∷ flag_rule (codes "no-style") ∷ flag_rule (codes "lint") ∷ flag_rule (codes "udev")
+    (root_rule ∷ strict_rule ∷ flag_rule (codes "all") ∷ option_rule (codes "format") ∷ option_rule (codes "color")
+    ∷ repeated_rule (codes "ignore") ∷ flag_rule (codes "no-summary") ∷ flag_rule (codes "no-style") ∷ flag_rule (codes "lint") ∷ flag_rule (codes "udev")
     ∷ option_rule (codes "users") ∷ option_rule (codes "groups") ∷ files_rule ∷ [])
 
 -- `events [-r DIR] [--all] [--sources] [--why FILE[:LINE]].. [--questions] [--index FILE] [--udev] [FILE]..`

@@ -25,7 +25,7 @@ name_of Query = codes "query"
 name_of Verify = codes "verify"
 name_of Events = codes "events"
 
--- the name of a format; only a terminal adds colors
+-- the name of a format, in colors or without
 abbrev pub format_name : Format → Text
 format_name Plain = codes "plain"
 format_name Gcc = codes "gcc"

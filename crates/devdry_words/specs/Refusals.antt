@@ -6,8 +6,8 @@ use Rattle.clap.specs.Words.{Row, Text, first_of}
 use Rattle.engine_formats.specs.Codes.{remark_of, remarks}
 use Rattle.engine_formats.specs.Remarks.{code_of}
 use Rattle.devdry_words.specs.declared.refusals.Refusal.{Refusal}
-use Rattle.devdry_words.specs.declared.refusals.Refusal.TheVariants.{TwoDatabases, TwoAnswers, EmptyRoot, EmptySide, NoUdev, UnknownFormat, UnknownPart}
-use Rattle.devdry_words.specs.Lines.{class_codes, format_of}
+use Rattle.devdry_words.specs.declared.refusals.Refusal.TheVariants.{TwoDatabases, TwoAnswers, EmptyRoot, EmptySide, NoUdev, UnknownFormat, UnknownColor, UnknownPart}
+use Rattle.devdry_words.specs.Lines.{class_codes, color_of, format_of}
 use Rattle.devdry_words.specs.Values.{cut_at_commas, has_value, is_empty_text, is_set, text_of, texts_of}
 
 -- a query names two databases: files and an index
@@ -51,10 +51,12 @@ first_unknown parts = find (λ part. not (is_ignorable part)) parts
 abbrev pub unknown_part : List Row → Option Text
 unknown_part rows = first_unknown (flat_map cut_at_commas (texts_of (codes "ignore") rows))
 
--- why a value that has to be one of a few is refused, if it is: no format has the name, or a part of `--ignore` names
--- nothing
+-- why a value that has to be one of a few is refused, if it is: no format has the name, colors are asked for in no
+-- known way, or a part of `--ignore` names nothing
 abbrev pub unknown_value : List Row → Option Refusal
-unknown_value rows = if is_none (format_of rows) then Some UnknownFormat else (if is_some (unknown_part rows) then Some UnknownPart else None)
+unknown_value rows = if is_none (format_of rows) then Some UnknownFormat
+    else (if is_none (color_of rows) then Some UnknownColor
+    else (if is_some (unknown_part rows) then Some UnknownPart else None))
 
 -- why the matches of a subcommand are refused, if they are
 abbrev pub refusal_of : Text → List Row → Option Refusal
@@ -71,6 +73,10 @@ invalid_value value following = codes "error: invalid value '" ++ value ++ follo
 -- what is said after the name of an unknown format
 abbrev pub no_such_format : Text
 no_such_format = codes "' for '--format <FORMAT>'\n  [possible values: plain, gcc, github, gitlab, json, sarif, human]\n\nFor more information, try '--help'.\n"
+
+-- what is said after the name of what is no way to ask for colors
+abbrev pub no_such_color : Text
+no_such_color = codes "' for '--color <WHEN>'\n  [possible values: auto, always, never]\n\nFor more information, try '--help'.\n"
 
 -- texts, with a comma and a space between two
 unfoldable pub listed : List Text → Text
@@ -94,4 +100,5 @@ said_of EmptyRoot rows = codes "error: an empty value of '--root <DIR>' names no
 said_of EmptySide rows = codes "error: an empty value of '<OLD>' or '<NEW>' names no folder; '/' is that of the running system\n\nFor more information, try '--help'.\n"
 said_of NoUdev rows = codes "error: the arguments '--users <FILE>' and '--groups <FILE>' need '--udev' or '--strict'\n\nUsage: devdry verify --udev --users <FILE> --groups <FILE> [FILE]...\n\nFor more information, try '--help'.\n"
 said_of UnknownFormat rows = invalid_value (text_of (codes "format") rows) no_such_format
+said_of UnknownColor rows = invalid_value (text_of (codes "color") rows) no_such_color
 said_of UnknownPart rows = invalid_value (unwrap_or (unknown_part rows) []) not_ignorable

@@ -202,6 +202,16 @@ fn format_option<'a>(alloc: Global) -> Arg<'a>
         .help("How messages are written: plain, gcc, github, gitlab, json, sarif or human")
 }
 
+/// `--color WHEN`, when messages for people are in colors.
+fn color_option<'a>(alloc: Global) -> Arg<'a>
+    ensures { (rule_of result ≡ option_rule (codes "color")) × (result.global ≡ false) }
+{
+    Arg::new(alloc, "color")
+        .long("color")
+        .value_name("WHEN")
+        .help("When messages for people are in colors: auto, always or never")
+}
+
 /// `--ignore CODES`, which may be given any number of times.
 fn ignore_option<'a>(alloc: Global) -> Arg<'a>
     ensures { (rule_of result ≡ repeated_rule (codes "ignore")) × (result.global ≡ false) }
@@ -269,6 +279,7 @@ fn update_command<'a>(alloc: Global) -> Result<Command<'a>, AllocError>
         .arg(strict_flag(alloc, MESSAGES_FAIL))?
         .arg(all_flag(alloc))?
         .arg(format_option(alloc))?
+        .arg(color_option(alloc))?
         .arg(ignore_option(alloc))?
         .arg(lint_flag(alloc, LINT_RECORDS))?
         .arg(files_argument(alloc, DATABASE_FILES))
@@ -299,6 +310,7 @@ fn verify_command<'a>(alloc: Global) -> Result<Command<'a>, AllocError>
         .arg(strict_flag(alloc, EVERY_CHECK))?
         .arg(all_flag(alloc))?
         .arg(format_option(alloc))?
+        .arg(color_option(alloc))?
         .arg(ignore_option(alloc))?
         .arg(no_summary_flag(alloc))?
         .arg(no_style_flag(alloc))?

@@ -8,7 +8,7 @@ ghost use Rattle.devdry_words.specs.Named.{IsUsageOf};
 ghost use Rattle.devdry_words.specs.Refusals.{asks_all, asks_both, is_strict, lacks_root, lacks_side, lacks_udev, names_two, refusal_of, said_of, unknown_value};
 
 use crate::ignored::{unknown_part, unknown_text};
-use crate::line_reading::format_of;
+use crate::line_reading::{color_of, format_of};
 use crate::reporting::{usage, usage_on_code, usage_on_value};
 use crate::values::{has_value, is_empty, is_given, text, value};
 use clap::ArgMatches;
@@ -55,6 +55,12 @@ const NO_SUCH_FORMAT: &str = "' for '--format <FORMAT>'
 For more information, try '--help'.
 ";
 
+const NO_SUCH_COLOR: &str = "' for '--color <WHEN>'
+  [possible values: auto, always, never]
+
+For more information, try '--help'.
+";
+
 /// Why words that `clap` takes are refused.
 #[derive(Clone, Copy, PartialEq, Eq)]
 pub(crate) enum Refusal {
@@ -71,6 +77,8 @@ pub(crate) enum Refusal {
     NoUdev,
     /// There is no such format.
     UnknownFormat,
+    /// Colors are asked for in no known way.
+    UnknownColor,
     /// A part of `--ignore` is neither the code of a remark nor the word `comments`.
     UnknownPart,
 }
@@ -131,6 +139,8 @@ fn unknown_value(matches: &ArgMatches<'_>) -> Option<Refusal>
 {
     if format_of(matches).is_none() {
         Some(Refusal::UnknownFormat)
+    } else if color_of(matches).is_none() {
+        Some(Refusal::UnknownColor)
     } else if unknown_part(matches).is_some() {
         Some(Refusal::UnknownPart)
     } else {
@@ -168,6 +178,7 @@ pub(crate) fn usage_of(alloc: Global, refusal: Refusal, matches: &ArgMatches<'_>
         Refusal::EmptySide => usage(alloc, EMPTY_SIDE),
         Refusal::NoUdev => usage(alloc, NO_UDEV),
         Refusal::UnknownFormat => usage_on_value(alloc, text(matches, "format"), NO_SUCH_FORMAT),
+        Refusal::UnknownColor => usage_on_value(alloc, text(matches, "color"), NO_SUCH_COLOR),
         Refusal::UnknownPart => usage_on_code(
             alloc,
             unknown_text(matches),

@@ -1,5 +1,5 @@
 -- How many lines the formats for people have.
-use Rattle.std.proofs.Common.{◌≡◌, ℕ, ◌+◌, ◌-◌, ◌*◌, ◌^◌, ◌<◌, ◌≤◌, Bool, true, false, ◌||◌, ◌==◌, cond, eqb, ltb, List, [], ◌∷◌, ◌++◌, codes, decimal, drop, flat_map, length, map, nat_eq, take, refl, ap, sym, ◌∙◌, arith, append_assoc}
+use Rattle.std.proofs.Common.{◌≡◌, ℕ, ◌+◌, ◌-◌, ◌*◌, ◌^◌, ◌<◌, ◌≤◌, Bool, true, false, ◌||◌, ◌==◌, cond, eqb, ltb, List, [], ◌∷◌, ◌++◌, Option, Some, None, IfSome, codes, decimal, drop, flat_map, length, map, nat_eq, take, refl, ap, sym, ◌∙◌, arith, append_assoc}
 use Rattle.std.specs.List.{AllByRecursion, list_any, starts_with}
 use Rattle.std.proofs.lemmas.Bool.{agree_below_at, le-ltb, ltb-false, ltb-true, ne_eqb, or_from}
 use Rattle.text_bytes.specs.Escapes.{escape_byte, escape_text, is_control}
@@ -10,7 +10,8 @@ use Rattle.engine_ends.specs.Places.{place_of, word_part}
 use Rattle.engine_formats.specs.Advice.{advice_of}
 use Rattle.engine_formats.specs.Diagnostics.{DiagnosticValue}
 use Rattle.engine_formats.specs.Github.{github_line, github_place, github_property, github_text}
-use Rattle.engine_formats.specs.Hints.{advice_by, advice_for, advice_on_comma, byte_order_mark, is_at_end, no_break_space}
+use Rattle.engine_formats.specs.Hints.{advice_by, advice_for, advice_on_comma, advice_with, byte_order_mark, is_at_end, no_break_space}
+use Rattle.engine_formats.specs.Meant.{meant_as}
 use Rattle.engine_formats.specs.Human.{advice_line, continues, human_lines, mark_line, safe_lines, shown_byte, source_line, source_lines, tilde, title_line, under, window, window_start}
 use Rattle.engine_formats.specs.Lines.{code_part, gcc_line, plain_line, spot_of}
 use Rattle.engine_formats.specs.Masked.{safe}
@@ -26,6 +27,7 @@ use Rattle.engine_formats.specs.declared.remark.Severity.{Severity}
 use Rattle.engine_formats.specs.declared.remark.Severity.TheVariants.{Error, Warning}
 use Rattle.engine_formats.proofs.Commands.{property_ends_none, text_ends_no_line}
 use Rattle.engine_formats.proofs.Headings.{advice_lacks, code_lacks, heading_lacks, text_lacks}
+use Rattle.engine_formats.proofs.MeantNames.{meant_lacks}
 use Rattle.engine_formats.proofs.OneLine.{Lacks, decimal_lacks, first_line_is, lacks-append, or_parts}
 
 -- a text is a line: a newline ends it, and none comes before
@@ -231,7 +233,7 @@ comma_hint_lacks : (otherwise : List ℕ) (at_end : Bool) → Lacks newline othe
 comma_hint_lacks otherwise true h = refl
 comma_hint_lacks otherwise false h = h
 
--- the sentence on a diagnostic is that on its remark, or one of the others
+-- the sentence if no known name is near is that on its remark, or one of the others
 hint_lacks : (remark : Remark) (d : DiagnosticValue) → Lacks newline (advice_of d.remark) → Lacks newline (advice_by remark d)
 hint_lacks (about.Message BadSyntax) d h =
     text_hint_lacks (advice_of d.remark) (starts_with nat_eq d.word byte_order_mark) (starts_with nat_eq d.word no_break_space) (begins_with carriage_return d.word) h
@@ -277,9 +279,18 @@ hint_lacks (about.DatabaseLint lint) d h = h
 hint_lacks about.IdleIgnore d h = h
 hint_lacks about.UnknownCode d h = h
 
+-- the sentence is this one, or a question about a name
+advice_with_lacks : (otherwise : List ℕ) (name : Option (List ℕ)) → Lacks newline otherwise → IfSome name (Lacks newline) → Lacks newline (advice_with otherwise name)
+advice_with_lacks otherwise None h none = h
+advice_with_lacks otherwise (Some name) h named =
+    lacks-append newline (codes "Did you mean ") (name ++ codes "?") refl (lacks-append newline name (codes "?") named refl)
+
+advice_for_lacks : (d : DiagnosticValue) → Lacks newline (advice_for d)
+advice_for_lacks d = advice_with_lacks (advice_by d.remark d) (meant_as d.remark d.word) (hint_lacks d.remark d (advice_lacks d.remark)) (meant_lacks d.remark d.word)
+
 advice_is_line : (d : DiagnosticValue) → IsLine (advice_line d)
 unfolding advice_line
-advice_is_line d = whole_line (codes "  = " ++ advice_for d) (lacks-append newline (codes "  = ") (advice_for d) refl (hint_lacks d.remark d (advice_lacks d.remark)))
+advice_is_line d = whole_line (codes "  = " ++ advice_for d) (lacks-append newline (codes "  = ") (advice_for d) refl (advice_for_lacks d))
 
 four_more : (in_color : Bool) (d : DiagnosticValue) (rest : List ℕ) → HasPlace d → length (lines (safe_lines in_color d ++ rest)) ≡ 4 + length (lines rest)
 unfolding safe_lines source_lines

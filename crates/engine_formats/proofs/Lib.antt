@@ -12,3 +12,5 @@ mod Placement
 mod Counted
 mod Masking
 mod Carets
+mod Nearest
+mod MeantNames

@@ -1,5 +1,5 @@
 -- How to fix what a diagnostic is about, where its text tells more than its code.
-use Rattle.std.specs.Prelude.{ℕ, ◌+◌, ◌==◌, Bool, if◌then◌else◌, nat_eq, List, [], ◌∷◌, codes, length}
+use Rattle.std.specs.Prelude.{ℕ, ◌+◌, ◌==◌, Bool, if◌then◌else◌, nat_eq, List, [], ◌∷◌, ◌++◌, Option, Some, None, codes, length}
 use Rattle.std.specs.List.{starts_with}
 use Rattle.text_bytes.specs.Names.{carriage_return}
 use Rattle.text_bytes.specs.Texts.{begins_with}
@@ -7,6 +7,7 @@ use Rattle.file_messages.specs.declared.message.MessageKind.{MessageKind}
 use Rattle.file_messages.specs.declared.message.MessageKind.TheVariants.{BadSyntax, CommaExpected}
 use Rattle.engine_formats.specs.Advice.{advice_of}
 use Rattle.engine_formats.specs.Diagnostics.{DiagnosticValue}
+use Rattle.engine_formats.specs.Meant.{meant_as}
 use Rattle.engine_formats.specs.declared.remark.Remark.{Remark}
 use Rattle.engine_formats.specs.declared.remark.Remark.TheVariants.{Message}
 
@@ -41,10 +42,20 @@ hint_on BadSyntax d = advice_on_text (advice_of d.remark) d.word
 hint_on CommaExpected d = advice_on_comma (advice_of d.remark) (is_at_end d)
 hint_on _ d = advice_of d.remark
 
--- the sentence on a diagnostic
+-- the sentence on a diagnostic if no known name is near
 abbrev pub advice_by : Remark → DiagnosticValue → List ℕ
 advice_by (Message kind) d = hint_on kind d
 advice_by _ d = advice_of d.remark
 
+-- the question whether a name was meant
+abbrev pub question : List ℕ → List ℕ
+question name = codes "Did you mean " ++ name ++ codes "?"
+
+-- the sentence with the name that may have been meant, if there is one
+abbrev pub advice_with : List ℕ → Option (List ℕ) → List ℕ
+advice_with otherwise (Some name) = question name
+advice_with otherwise None = otherwise
+
+-- the sentence on a diagnostic
 abbrev pub advice_for : DiagnosticValue → List ℕ
-advice_for d = advice_by d.remark d
+advice_for d = advice_with (advice_by d.remark d) (meant_as d.remark d.word)

@@ -9,6 +9,8 @@ pub mod Json
 pub mod Advice
 pub mod Paints
 pub mod Masked
+pub mod Near
+pub mod Meant
 pub mod Hints
 pub mod Human
 pub mod Marks

@@ -1,13 +1,16 @@
 //! How to fix what a diagnostic is about, where its text tells more than its code.
 //!
-//! Some characters are not seen in an editor, or look like others. A message that begins with one names it.
-ghost use Rattle.std.specs.Prelude.{◌≡◌};
+//! Some characters are not seen in an editor, or look like others. A message that begins with one names it. An unknown
+//! name may have been meant as a known one; then the sentence asks so.
+ghost use Rattle.std.specs.Prelude.{◌≡◌, ◌++◌, OnOk};
 ghost use Rattle.engine_formats.specs.Diagnostics.{shown};
-ghost use Rattle.engine_formats.specs.Hints.{advice_for, advice_on_comma, advice_on_text, is_at_end};
+ghost use Rattle.engine_formats.specs.Hints.{advice_by, advice_for, advice_on_comma, advice_on_text, is_at_end, question};
 
 use crate::diagnostic::Diagnostic;
+use crate::meant::meant_as;
 use crate::remark::Remark;
 use file_messages::MessageKind;
+use std::alloc::{AllocError, Global};
 use text_bytes::begins_with;
 
 /// U+FEFF in UTF-8.
@@ -26,9 +29,33 @@ const SAVE_WITH_LF: &[u8] = b"The line ends in CR LF, as on Windows: save the fi
 const BACKSLASH_MISSING: &[u8] =
     b"Remove the comma at the end, or write a backslash after it if the rule goes on in the next line.";
 
-/// How to fix what a diagnostic is about, in one sentence.
-pub(crate) fn advice_for(diagnostic: &Diagnostic<'_>) -> &'static [u8]
-    ensures { result.now ≡ advice_for (shown diagnostic.now) }
+/// Appends how to fix what a diagnostic is about, in one sentence: a question if a known name may have been meant.
+pub(crate) fn push_advice_for(
+    alloc: Global,
+    text: &mut Vec<u8>,
+    diagnostic: &Diagnostic<'_>,
+) -> Result<(), AllocError>
+    ensures { OnOk result (text.new.items ≡ text.old.items ++ advice_for (shown diagnostic.now)) }
+{
+    match meant_as(alloc, diagnostic.remark, diagnostic.word.as_slice())? {
+        Some(name) => push_question(text, name),
+        None => text.extend_from_slice(advice_by(diagnostic)),
+    }
+}
+
+/// Appends the question whether a name was meant.
+fn push_question(text: &mut Vec<u8>, name: &[u8]) -> Result<(), AllocError>
+    ensures { OnOk result (text.new.items ≡ text.old.items ++ question name.now) }
+{
+    text.extend_from_slice(b"Did you mean ")?;
+    text.extend_from_slice(name)?;
+    text.push(b'?')?;
+    Ok(())
+}
+
+/// The sentence on a diagnostic if no known name is near.
+fn advice_by(diagnostic: &Diagnostic<'_>) -> &'static [u8]
+    ensures { result.now ≡ advice_by diagnostic.now.remark (shown diagnostic.now) }
 {
     let advice = diagnostic.remark.advice();
     match diagnostic.remark {

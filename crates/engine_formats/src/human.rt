@@ -5,7 +5,7 @@ ghost use Rattle.engine_formats.specs.Human.{advice_line, human_lines, safe_line
 
 use crate::diagnostic::Diagnostic;
 use crate::gcc::{push_code, push_spot};
-use crate::hints::advice_for;
+use crate::hints::push_advice_for;
 use crate::marks::push_source;
 use crate::masked::masked;
 use crate::paint::Paint;
@@ -71,7 +71,7 @@ fn push_safe_lines(
         diagnostic.column as usize,
         diagnostic.end as usize,
     )?;
-    push_advice(text, diagnostic)
+    push_advice(alloc, text, diagnostic)
 }
 
 /// Appends `PATH:LINE:COLUMN: error: bad substitution [V6]` and a newline, in a color up to what is said.
@@ -93,11 +93,15 @@ fn push_title(
 
 /// Appends `  = `, how to fix what a diagnostic is about, and a newline.
 #[tactic(auto, unfolding(crate::specs::Human::advice_line))]
-fn push_advice(text: &mut Vec<u8>, diagnostic: &Diagnostic<'_>) -> Result<(), AllocError>
+fn push_advice(
+    alloc: Global,
+    text: &mut Vec<u8>,
+    diagnostic: &Diagnostic<'_>,
+) -> Result<(), AllocError>
     ensures { OnOk result (text.new.items ≡ text.old.items ++ advice_line (shown diagnostic.now)) }
 {
     text.extend_from_slice(b"  = ")?;
-    text.extend_from_slice(advice_for(diagnostic))?;
+    push_advice_for(alloc, text, diagnostic)?;
     text.push(b'\n')?;
     Ok(())
 }

@@ -20,6 +20,9 @@ mod json_members;
 mod laws;
 mod marks;
 mod masked;
+mod meant;
+mod near;
+mod near_laws;
 mod objects;
 mod paint;
 mod parts;
@@ -38,6 +41,9 @@ pub use laws::{
     a_heading_is_its_code_and_text, commands_are_read_back, commands_end_nowhere_within,
     diagnostics_have_their_lines, marks_are_below_their_places, messages_are_at_their_words,
     messages_are_plain_diagnostics, style_is_a_warning, terminals_are_not_obeyed,
+};
+pub use near_laws::{
+    options_that_are_meant_are_known, some_unknown_names_are_found, the_nearest_name_is_found,
 };
 pub use paths::path_of;
 pub use placing::{TextPlace, file_lines, line_numbered, placed_message};

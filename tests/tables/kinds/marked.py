@@ -12,6 +12,7 @@ from functools import cache
 from pathlib import Path
 from urllib.parse import quote
 
+from tables.kinds.near import meant
 from tables.kinds.row import Read, Row, as_bytes
 
 DOCS = Path(__file__).resolve().parents[3] / "docs"
@@ -233,6 +234,9 @@ def masked(text):
 
 def advice(code, word, at_end):
     """How `human` says that a message is to be fixed, by its code, its word, and whether its place ends its line."""
+    name = meant(code, word)
+    if name:
+        return f"Did you mean {name}?".encode()
     if code == "V1":
         return next((hint for start, hint in UNSEEN if word.startswith(start)), sentence(code))
     return COMMA_AT_THE_END if code == "S1" and at_end else sentence(code)

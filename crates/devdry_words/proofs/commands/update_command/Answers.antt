@@ -12,6 +12,7 @@ returns c =
     let second = one_more _ _ _ _ _ first c.strict_flag.ensures c.in_ok-arg-2.ensures in
     let third = one_more _ _ _ _ _ second c.all_flag.ensures c.in_ok-arg-3.ensures in
     let fourth = one_more _ _ _ _ _ third c.format_option.ensures c.in_ok-arg-4.ensures in
-    let fifth = one_more _ _ _ _ _ fourth c.ignore_option.ensures c.in_ok-arg-5.ensures in
-    let sixth = one_more _ _ _ _ _ fifth c.lint_flag.ensures c.in_ok-arg-6.ensures in
-    IfOk-weaker c.arg-7.result _ _ (λ m h. one_more _ _ _ _ _ sixth c.files_argument.ensures h) c.arg-7.ensures
+    let fifth = one_more _ _ _ _ _ fourth c.color_option.ensures c.in_ok-arg-5.ensures in
+    let sixth = one_more _ _ _ _ _ fifth c.ignore_option.ensures c.in_ok-arg-6.ensures in
+    let seventh = one_more _ _ _ _ _ sixth c.lint_flag.ensures c.in_ok-arg-7.ensures in
+    IfOk-weaker c.arg-8.result _ _ (λ m h. one_more _ _ _ _ _ seventh c.files_argument.ensures h) c.arg-8.ensures

@@ -1,11 +1,15 @@
 use Rattle.std.proofs.Common.{subst}
 use Rattle.devdry_words.specs.Named.{IsUsageOf}
-use Rattle.devdry_words.specs.Refusals.{invalid_value, no_such_format, not_ignorable}
+use Rattle.devdry_words.specs.Refusals.{invalid_value, no_such_color, no_such_format, not_ignorable}
 use Rattle.devdry_words.proofs.refusals.usage_of.Goals as goal
 
 pub returns-in-UnknownFormat : goal.returns-in-UnknownFormat
 returns-in-UnknownFormat c =
     rw c.in-UnknownFormat.is (subst (λ value. IsUsageOf (invalid_value value no_such_format) c.usage_on_value.result) c.text.ensures c.usage_on_value.ensures)
+
+pub returns-in-UnknownColor : goal.returns-in-UnknownColor
+returns-in-UnknownColor c =
+    rw c.in-UnknownColor.is (subst (λ value. IsUsageOf (invalid_value value no_such_color) c.usage_on_value.result) c.text.ensures c.usage_on_value.ensures)
 
 pub returns-in-UnknownPart : goal.returns-in-UnknownPart
 returns-in-UnknownPart c =

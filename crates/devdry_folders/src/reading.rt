@@ -153,15 +153,15 @@ fn read_by<D: Disk>(
     })
 }
 
-/// Reads what can be read of all that a line asks for: the files that it names in the order given, then the
-/// folders.
+/// Reads what can be read of all that a line asks for: the files that it names in the order given, those that it adds,
+/// then the folders.
 ///
 /// If the line names a folder, the files in it whose names end in the suffix of their kind are taken, by name, each
 /// as `FILE/NAME`, with one slash. What can't be read is reported, `devdry: cannot read PATH: REASON`, and the
 /// least status is then 3; nothing is opened that is neither a folder nor a regular file, except the null device.
 /// An absent folder is not a fault. The index is read last. If no file of the kind that the line names was read, nor an
 /// index in place of the database, each of its folders that was looked at is reported, and the least status is 1,
-/// unless it is 3; so is a root that is no folder, if folders are read below it beside files that are named.
+/// unless it is 3; so is a root that is no folder, if folders are read below it beside files that are named or added.
 pub fn read_what_can<D: Disk>(
     alloc: Global,
     disk: &D,

@@ -94,6 +94,8 @@ COMPARE = [
         {f"{LIB}/50-b.rules": says("1"), "drafts/50-b.rules": says("1")}, input=BLOCK),
     Row("a file of the database is added to those of NEW", "compare --with a.hwdb mnt mnt",
         {f"{LIB}/a.rules": 'IMPORT{builtin}="hwdb m"\n', "a.hwdb": "m\n A=1\n"}, input=BLOCK, output="event add /d\n+env A=1\n\n", status=1),
+    Row("a new root that does not exist is told beside an added file", "compare --with a.rules old new",
+        {"old/usr/lib/udev/rules.d/a.rules": says("1"), "a.rules": says("1")}, input=BLOCK, messages="devdry: new: absent\n", status=1),
     Row("an added file that does not exist ends compare", "compare --with none.rules mnt mnt", {f"{LIB}/a.rules": says("1")}, input=BLOCK,
         messages="devdry: cannot read none.rules\n", status=3),
     Row("an added file that does not exist is told once with --all", "compare --all --with none.rules mnt mnt", {f"{LIB}/a.rules": says("1")}, input=BLOCK,

@@ -49,7 +49,7 @@ abbrev pub IsFaultyInOneOf : (Answer → Type 0) → List Folder → List ℕ �
 IsFaultyInOneOf may folders path =
     FirstFaulty (λ folder. (files : List SourceFile) × AreInFolder may folder files) (IsFaultyIn may) folders path
 
--- The first of what stands in the folders, in the order of reading, that the disk may say it can't read or list: the path is that of an
+-- The first of what is wanted and not named, in the order of reading, that the disk may say it can't read or list: the path is that of an
 -- added file, or, when all of those were read, of a folder inside the root, or of a name in one.
 abbrev pub IsFaultyUnnamed : (Answer → Type 0) → Wanted → List ℕ → Type 0
 IsFaultyUnnamed may w path = IsFirstUnread may (map (λ f. f.now) w.added.now) path
@@ -57,7 +57,7 @@ IsFaultyUnnamed may w path = IsFirstUnread may (map (λ f. f.now) w.added.now) p
     × IsFaultyInOneOf (MayInside may w.root.now) w.folders.items path)
 
 -- The first of what is wanted, in the order of reading, that the disk may say it can't read or list: the path is that of a
--- named file, or, when all of those were read, of what stands in the folders.
+-- named file, or, when all of those were read, of what is not named.
 abbrev pub IsFaultyWanted : (Answer → Type 0) → Wanted → List ℕ → Type 0
 IsFaultyWanted may w path = IsFirstUnread may (map (λ f. f.now) w.files.now) path
     ⊎ ((named : List SourceFile) × AreNamed may w.kind (map (λ f. f.now) w.files.now) named × IsFaultyUnnamed may w path)

@@ -1,14 +1,14 @@
 -- The files, the folders and the index that a line asks for.
-use Rattle.std.specs.Prelude.{◌≡◌, ◌++◌, ◌==◌, ◌-◌, ℕ, List, [], ◌∷◌, drop, if◌then◌else◌, length, map, nat_eq, not, string_bytes}
-use Rattle.std.specs.List.{ends_with, flat_map, suffix_len}
+use Rattle.std.specs.Prelude.{◌≡◌, ◌++◌, ℕ, List, [], ◌∷◌, if◌then◌else◌, map, nat_eq, string_bytes}
+use Rattle.std.specs.List.{ends_with, flat_map}
 use Rattle.std.specs.Option.{option_copied}
 use Rattle.engine_ends.specs.Folders.{folder_path}
 use Rattle.engine_ends.specs.Kinds.{kind_named, kinds_read, reads_folders_of}
 use Rattle.engine_ends.specs.declared.line.Line.{Line}
 use Rattle.text_bytes.specs.Kinds.{suffix_of}
-use Rattle.text_bytes.specs.Names.{slash}
 use Rattle.text_bytes.specs.declared.source_file.FileKind.{FileKind}
 use Rattle.text_bytes.specs.declared.source_file.FileKind.TheVariants.{Hwdb, Rules}
+use Rattle.text_links.specs.Kernels.{last_component}
 use Rattle.devdry_files.specs.declared.places.Folder.{Folder}
 use Rattle.devdry_files.specs.declared.places.Wanted.{Wanted}
 
@@ -41,7 +41,7 @@ folders_for line = flat_map (folders_of_kind line) (kinds_read line.verb)
 
 -- the name of a file at a path: what follows the last slash
 abbrev pub name_at : List ℕ → List ℕ
-name_at path = drop (length path - suffix_len (λ b. not (b == slash)) path) path
+name_at path = last_component path
 
 -- what a file that is added to those of the folders holds, by how its path ends: a database, or else rules
 abbrev pub kind_added : List ℕ → FileKind

@@ -1,7 +1,5 @@
 //! The files that stand among those of the folders as if they were in the first of these.
-ghost use Rattle.std.specs.Prelude.{◌≡◌, ◌==◌, ◌≤◌, IfErr, IfOk, length, map, not};
-ghost use Rattle.std.specs.List.{suffix_len};
-ghost use Rattle.text_bytes.specs.Names.{slash};
+ghost use Rattle.std.specs.Prelude.{◌≡◌, IfErr, IfOk, map};
 ghost use Rattle.devdry_files.specs.Faults.{HasPath, IsFirstUnread, IsUnread};
 ghost use Rattle.devdry_files.specs.Found.{AreAdded, IsFileAt};
 ghost use Rattle.devdry_files.specs.Places.{kind_added, name_at};
@@ -11,6 +9,7 @@ use crate::fault::ReadFault;
 use crate::reading::file_at;
 use std::alloc::Global;
 use text_bytes::{Bytes, FileKind, SourceFile};
+use text_links::last_component;
 
 /// What an added file holds, by how its path ends: a database, or else rules.
 pub fn kind_added(path: &str) -> FileKind
@@ -26,20 +25,11 @@ pub fn kind_added(path: &str) -> FileKind
     }
 }
 
-/// How many bytes follow the last slash of a path.
-fn name_len(path: &[u8]) -> usize
-    ensures value { result ≡ suffix_len (λ b. not (b == slash)) path.now }
-    ensures within { result ≤ length path.now }
-{
-    path.iter().rev().take_while(|byte| **byte != b'/').count()
-}
-
 /// The name of the file at a path: what follows the last slash.
 pub fn name_at(path: &str) -> &[u8]
     ensures { result.now ≡ name_at path.now }
 {
-    let path = path.as_bytes();
-    path.split_at(path.len() - name_len(path)).1
+    last_component(path.as_bytes())
 }
 
 /// An added file: of the rank of the first folder, and under its name there.

@@ -2,8 +2,8 @@
 ghost use Rattle.std.specs.Prelude.{◌≡◌, ◌++◌, ◌∷◌, IfErr, IfOk, map, string_bytes};
 ghost use Rattle.text_bytes.specs.Names.{slash};
 ghost use Rattle.devdry_files.specs.Answers.Answer.{Content, NoContent};
-ghost use Rattle.devdry_files.specs.Faults.{HasPath, IsFaultyIn, IsFaultyInOneOf, IsFaultyIndex, IsFaultyWanted, IsFirstUnread, IsUnread};
-ghost use Rattle.devdry_files.specs.Found.{AreInFolder, AreInFolders, AreNamed, AreWanted, IsFileAt, IsIndexWanted, path_in};
+ghost use Rattle.devdry_files.specs.Faults.{HasPath, IsFaultyIn, IsFaultyInOneOf, IsFaultyIndex, IsFaultyUnnamed, IsFaultyWanted, IsFirstUnread, IsUnread};
+ghost use Rattle.devdry_files.specs.Found.{AreInFolder, AreInFolders, AreNamed, AreUnnamed, AreWanted, IsFileAt, IsIndexWanted, path_in};
 
 use crate::adding::added_files;
 use crate::disk::{Disk, DiskFault};
@@ -146,6 +146,22 @@ fn named_files<D: Disk>(
     Ok(files)
 }
 
+/// The files that are wanted and not named: the added ones, and then those of the folders.
+fn unnamed_files<D: Disk>(
+    alloc: Global,
+    disk: &D,
+    wanted: &Wanted<'_, '_>,
+) -> Result<Vec<SourceFile>, ReadFault>
+    ensures files { IfOk result (λ files.
+        AreUnnamed (D.may_answer disk.now) wanted.now files.items) }
+    ensures fault { IfErr result (HasPath (IsFaultyUnnamed (D.may_answer disk.now) wanted.now)) }
+{
+    let mut files = added_files(alloc, disk, wanted.added)?;
+    let inside = RootedDisk::new(disk, wanted.root);
+    files.append(&mut files_of_folders(alloc, &inside, wanted.folders.as_slice())?)?;
+    Ok(files)
+}
+
 /// Reads all that a line asks for: the named files and the added ones in the order given, and then the folders, each
 /// by the names in it, byte by byte.
 ///
@@ -169,9 +185,7 @@ pub fn read_all<D: Disk>(
     ensures fault { IfErr result (HasPath (IsFaultyWanted (D.may_answer disk.now) wanted.now)) }
 {
     let mut files = named_files(alloc, disk, wanted.kind, wanted.files)?;
-    files.append(&mut added_files(alloc, disk, wanted.added)?)?;
-    let inside = RootedDisk::new(disk, wanted.root);
-    files.append(&mut files_of_folders(alloc, &inside, wanted.folders.as_slice())?)?;
+    files.append(&mut unnamed_files(alloc, disk, wanted)?)?;
     Ok(files)
 }
 

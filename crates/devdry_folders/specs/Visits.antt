@@ -153,12 +153,18 @@ pub record AreFolderVisits (may : Answer → Type 0) (places : List Place) (visi
   pub placed_so : map place_of_visit visits ≡ places
   pub each : All (IsFolderVisit may) visits
 
--- visits of all that is wanted: of what is named, of what is added, and then of the folders, inside their root
-pub record AreVisits (may : Answer → Type 0) (w : Wanted) (visits : List Visit) : Type 0 where
-  pub named : List Visit
+-- visits of what is wanted and not named: of what is added, and then of the folders, inside their root
+pub record AreUnnamedVisits (may : Answer → Type 0) (w : Wanted) (visits : List Visit) : Type 0 where
   pub added : List Visit
   pub found : List Visit
-  pub cut : visits ≡ (named ++ added) ++ found
-  pub are_named : AreNamedVisits may w.kind (map (λ f. f.now) w.files.now) named
+  pub cut : visits ≡ added ++ found
   pub are_added : AreAddedVisits may (map (λ f. f.now) w.added.now) added
   pub are_found : AreFolderVisits (MayInside may w.root.now) (map place_of w.folders.items) found
+
+-- visits of all that is wanted: of what is named, and then of the rest
+pub record AreVisits (may : Answer → Type 0) (w : Wanted) (visits : List Visit) : Type 0 where
+  pub named : List Visit
+  pub unnamed : List Visit
+  pub cut : visits ≡ named ++ unnamed
+  pub are_named : AreNamedVisits may w.kind (map (λ f. f.now) w.files.now) named
+  pub are_unnamed : AreUnnamedVisits may w unnamed

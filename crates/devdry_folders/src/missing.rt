@@ -54,7 +54,11 @@ fn root_line(alloc: Global, root: &str, look: Look) -> Result<Vec<u8>, AllocErro
 }
 
 /// The line on the root of a line, if it is looked at and is no folder.
-fn line_on_root<D: Disk>(alloc: Global, disk: &D, line: &Line<'_>) -> Result<Vec<u8>, AllocError>
+pub(crate) fn line_on_root<D: Disk>(
+    alloc: Global,
+    disk: &D,
+    line: &Line<'_>,
+) -> Result<Vec<u8>, AllocError>
     ensures { IfOk result (λ text. IsLineOnRoot (D.may_answer disk.now) line.now text.items) }
 {
     if !looks_at_root(line) {

@@ -5,7 +5,7 @@ ghost use Rattle.std.specs.String.{string_cmp};
 ghost use Rattle.devdry_files.specs.Answers.Answer.{Listing};
 ghost use Rattle.devdry_files.specs.Places.{place_of};
 ghost use Rattle.devdry_folders.specs.Meetings.{IsMet};
-ghost use Rattle.devdry_folders.specs.Visits.{AreAddedVisits, AreFolderVisits, AreNamedVisits, AreSightsAt, AreSightsIn, AreVisits, IsFolderScan, IsFolderVisit, IsListedSo, IsMissingFolder, IsNamedSo};
+ghost use Rattle.devdry_folders.specs.Visits.{AreAddedVisits, AreFolderVisits, AreNamedVisits, AreUnnamedVisits, AreSightsAt, AreSightsIn, AreVisits, IsFolderScan, IsFolderVisit, IsListedSo, IsMissingFolder, IsNamedSo};
 ghost use Rattle.devdry_folders.specs.Visits.{IsAddedScan, IsAddedVisit, IsNamedVisit, IsOneFile, IsScannedBy, IsSightIn, IsUnlisted, below, missing_folder, place_of_visit};
 
 use crate::meetings::{file_met_at, met_at, met_by, target_of};
@@ -340,6 +340,20 @@ fn folder_visits<D: Disk>(
     Ok(visits)
 }
 
+/// Visits of what is wanted and not named: of the added files, and then of the folders, inside their root.
+fn unnamed_visits<D: Disk>(
+    alloc: Global,
+    disk: &D,
+    wanted: &Wanted<'_, '_>,
+) -> Result<Vec<Visit>, AllocError>
+    ensures { IfOk result (λ visits. AreUnnamedVisits (D.may_answer disk.now) wanted.now visits.items) }
+{
+    let mut visits = added_visits(alloc, disk, wanted.added)?;
+    let inside = RootedDisk::new(disk, wanted.root);
+    visits.append(&mut folder_visits(alloc, &inside, wanted.folders.as_slice())?)?;
+    Ok(visits)
+}
+
 /// Visits all that is wanted: what is named in the order given, then the added files, and then the folders, inside
 /// their root.
 ///
@@ -354,8 +368,6 @@ pub(crate) fn visits<D: Disk>(
     ensures { IfOk result (λ visits. AreVisits (D.may_answer disk.now) wanted.now visits.items) }
 {
     let mut visits = named_visits(alloc, disk, wanted.kind, wanted.files)?;
-    visits.append(&mut added_visits(alloc, disk, wanted.added)?)?;
-    let inside = RootedDisk::new(disk, wanted.root);
-    visits.append(&mut folder_visits(alloc, &inside, wanted.folders.as_slice())?)?;
+    visits.append(&mut unnamed_visits(alloc, disk, wanted)?)?;
     Ok(visits)
 }

@@ -21,8 +21,8 @@ abbrev pub root_rule : Rule
 root_rule = record (option_rule (codes "root")) { short = Some 114 }
 
 -- `--with FILE`, any number of times
-abbrev pub with_rule : Rule
-with_rule = repeated_rule (codes "with")
+abbrev pub added_rule : Rule
+added_rule = repeated_rule (codes "with")
 
 -- `-s`, `--strict`; the letter s has the number 115
 abbrev pub strict_rule : Rule
@@ -55,24 +55,24 @@ query_shape = with_rules (codes "query")
 -- [--groups FILE] [FILE]..`
 abbrev pub verify_shape : Shape
 verify_shape = with_rules (codes "verify")
-    (root_rule ∷ with_rule ∷ strict_rule ∷ flag_rule (codes "all") ∷ option_rule (codes "format") ∷ repeated_rule (codes "ignore")
+    (root_rule ∷ added_rule ∷ strict_rule ∷ flag_rule (codes "all") ∷ option_rule (codes "format") ∷ repeated_rule (codes "ignore")
     ∷ flag_rule (codes "no-summary") ∷ flag_rule (codes "no-style") ∷ flag_rule (codes "lint") ∷ flag_rule (codes "udev")
     ∷ option_rule (codes "users") ∷ option_rule (codes "groups") ∷ files_rule ∷ [])
 
 -- `events [-r DIR] [--with FILE].. [--all] [--sources] [--why FILE[:LINE]].. [--questions] [--index FILE] [--udev] [FILE]..`
 abbrev pub events_shape : Shape
 events_shape = with_rules (codes "events")
-    (root_rule ∷ with_rule ∷ flag_rule (codes "all") ∷ flag_rule (codes "sources") ∷ repeated_rule (codes "why") ∷ flag_rule (codes "questions")
+    (root_rule ∷ added_rule ∷ flag_rule (codes "all") ∷ flag_rule (codes "sources") ∷ repeated_rule (codes "why") ∷ flag_rule (codes "questions")
     ∷ option_rule (codes "index") ∷ flag_rule (codes "udev") ∷ files_rule ∷ [])
 
 -- `files [-r DIR] [--with FILE]..`
 abbrev pub files_shape : Shape
-files_shape = with_rules (codes "files") (root_rule ∷ with_rule ∷ [])
+files_shape = with_rules (codes "files") (root_rule ∷ added_rule ∷ [])
 
 -- `compare [--with FILE].. [--all] [--index FILE] [--udev] OLD NEW`
 abbrev pub compare_shape : Shape
 compare_shape = with_rules (codes "compare")
-    (with_rule ∷ flag_rule (codes "all") ∷ option_rule (codes "index") ∷ flag_rule (codes "udev") ∷ required_rule (codes "OLD") ∷ required_rule (codes "NEW") ∷ [])
+    (added_rule ∷ flag_rule (codes "all") ∷ option_rule (codes "index") ∷ flag_rule (codes "udev") ∷ required_rule (codes "OLD") ∷ required_rule (codes "NEW") ∷ [])
 
 -- `explain CODE`
 abbrev pub explain_shape : Shape

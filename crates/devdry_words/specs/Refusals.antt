@@ -1,6 +1,6 @@
 -- Which of the words that clap takes `devdry` itself refuses, and what it says about them.
 use Rattle.std.specs.Prelude.{◌&&◌, ◌||◌, ◌++◌, List, [], ◌∷◌, Bool, Option, Some, None, if◌then◌else◌, find, flat_map, is_some, map, nat_eq, not, unwrap_or, codes, false, true}
-use Rattle.std.specs.List.{ends_with, list_any}
+use Rattle.std.specs.List.{ends_with}
 use Rattle.std.specs.Option.{is_none}
 use Rattle.std.specs.Str.{bytes_eq}
 use Rattle.clap.specs.Words.{Row, Text, first_of}
@@ -29,14 +29,6 @@ is_of_database path = ends_with nat_eq path (suffix_of Hwdb)
 abbrev pub is_of_rules : Text → Bool
 is_of_rules path = ends_with nat_eq path (suffix_of Rules)
 
--- a file is added to those of the database
-abbrev pub adds_to_database : List Row → Bool
-adds_to_database rows = list_any is_of_database (texts_of (codes "with") rows)
-
--- a file is added to those of the database, and an index is named to be read in place of these
-abbrev pub adds_to_index : List Row → Bool
-adds_to_index rows = is_some (first_of (codes "index") rows) && adds_to_database rows
-
 -- a file may be added at a path, by how the path ends: as those of rules do, or, if not only rules are read, as those of
 -- a database
 abbrev pub is_addable : Bool → Text → Bool
@@ -49,6 +41,10 @@ first_unaddable rules_alone paths = find (λ path. not (is_addable rules_alone p
 -- the first path at which a file is added that may not be, if there is one
 abbrev pub unaddable : Bool → List Row → Option Text
 unaddable rules_alone rows = first_unaddable rules_alone (texts_of (codes "with") rows)
+
+-- a file is added that is no rules file, and an index is named to be read in place of all files of the database
+abbrev pub adds_to_index : List Row → Bool
+adds_to_index rows = is_some (first_of (codes "index") rows) && is_some (unaddable true rows)
 
 -- events are to give questions and are to say more of their answers, which are then not given
 abbrev pub asks_both : List Row → Bool
@@ -90,7 +86,7 @@ unknown_part rows = first_unknown (flat_map cut_at_commas (texts_of (codes "igno
 -- why a file may not be added for a subcommand, if one may not: `verify` reads only rules
 abbrev pub wrong_added : Text → List Row → Option Refusal
 wrong_added name rows = if bytes_eq name (codes "verify") && is_some (unaddable true rows) then Some NotRules
-    else (if is_some (unaddable false rows) then Some NotFile else None)
+    else (if is_some (unaddable false rows) then Some NotFile else (if adds_to_index rows then Some AddedToIndex else None))
 
 -- why a value that has to be one of a few is refused, if it is: no format has the name, a part of `--ignore` names
 -- nothing, or a file may not be added
@@ -102,11 +98,10 @@ unknown_value name rows = if is_none (format_of rows) then Some UnknownFormat
 abbrev pub refusal_of : Text → List Row → Option Refusal
 refusal_of name rows = if names_two name rows then Some TwoDatabases
     else (if adds_to_named rows then Some AddedToNamed
-    else (if adds_to_index rows then Some AddedToIndex
     else (if asks_both rows then Some TwoAnswers
     else (if lacks_root name rows then Some EmptyRoot
     else (if lacks_side rows then Some EmptySide
-    else (if lacks_udev name rows then Some NoUdev else unknown_value name rows))))))
+    else (if lacks_udev name rows then Some NoUdev else unknown_value name rows)))))
 
 -- what is said about a value that its argument does not take, by what comes before and after the value
 abbrev pub invalid_value : Text → Text → Text

@@ -1,9 +1,8 @@
 //! `--with`: files that are read among those of the folders.
-ghost use Rattle.std.specs.Prelude.{◌≡◌, [], false, map, option_map, unwrap_or};
-ghost use Rattle.std.specs.List.{list_any};
+ghost use Rattle.std.specs.Prelude.{◌≡◌, [], false, find, map, not, option_map, unwrap_or};
 ghost use Rattle.clap.specs.Words.{found_of, rows_of, rule_of};
-ghost use Rattle.devdry_words.specs.Commands.{with_rule};
-ghost use Rattle.devdry_words.specs.Refusals.{adds_to_database, adds_to_index, adds_to_named, first_unaddable, is_addable, is_of_database, is_of_rules, unaddable};
+ghost use Rattle.devdry_words.specs.Commands.{added_rule};
+ghost use Rattle.devdry_words.specs.Refusals.{adds_to_index, adds_to_named, first_unaddable, is_addable, is_of_database, is_of_rules, unaddable};
 
 use crate::values::{every_value, has_value, value};
 use clap::{Arg, ArgAction, ArgMatches};
@@ -23,7 +22,7 @@ pub(crate) const ADDED_AFTER: &str =
 
 /// `--with FILE`, which may be given any number of times, with the help that its subcommand has for it.
 pub(crate) fn with_option<'a>(alloc: Global, help: &'a str) -> Arg<'a>
-    ensures { (rule_of result ≡ with_rule) × (result.global ≡ false) }
+    ensures { (rule_of result ≡ added_rule) × (result.global ≡ false) }
 {
     Arg::new(alloc, "with")
         .long("with")
@@ -55,30 +54,6 @@ fn is_of_rules(path: &str) -> bool
         .ends_with(FileKind::Rules.suffix().as_bytes())
 }
 
-/// Whether one of these paths ends as those of database files do.
-fn has_database(paths: &[&str]) -> bool
-    ensures { result ≡ list_any is_of_database (map (λ p. p.now) paths.now) }
-{
-    paths.iter().any(|path| is_of_database(path))
-}
-
-/// Whether matches add a file to those of the database.
-fn adds_to_database(matches: &ArgMatches<'_>) -> bool
-    ensures { result ≡ adds_to_database (rows_of (found_of matches.now)) }
-{
-    match every_value(matches, "with") {
-        Some(paths) => has_database(paths),
-        None => false,
-    }
-}
-
-/// Whether matches add a file to those of the database, and name an index to read in place of these.
-pub(crate) fn adds_to_index(matches: &ArgMatches<'_>) -> bool
-    ensures { result ≡ adds_to_index (rows_of (found_of matches.now)) }
-{
-    value(matches, "index").is_some() & adds_to_database(matches)
-}
-
 /// Whether a file may be added, by how its path ends: as rules, or, if not only rules are read, as a database.
 fn is_addable(rules_alone: bool, path: &str) -> bool
     ensures { result ≡ is_addable rules_alone path.now }
@@ -86,14 +61,21 @@ fn is_addable(rules_alone: bool, path: &str) -> bool
     is_of_rules(path) || (!rules_alone && is_of_database(path))
 }
 
-/// The first of these paths at which no file may be added.
-fn first_unaddable<'a>(rules_alone: bool, paths: &[&'a str]) -> Option<&'a str>
-    ensures { option_map (λ p. p.now) result ≡ first_unaddable rules_alone (map (λ p. p.now) paths.now) }
+/// The first of these paths at which no file may be added, as it stands among them.
+fn find_unaddable<'a>(rules_alone: bool, paths: &[&'a str]) -> Option<&'a str>
+    ensures { result ≡ find (λ p. not (is_addable rules_alone p.now)) paths.now }
 {
     paths
         .iter()
         .copied()
         .find(|path| !is_addable(rules_alone, path))
+}
+
+/// The first of these paths at which no file may be added.
+fn first_unaddable<'a>(rules_alone: bool, paths: &[&'a str]) -> Option<&'a str>
+    ensures { option_map (λ p. p.now) result ≡ first_unaddable rules_alone (map (λ p. p.now) paths.now) }
+{
+    find_unaddable(rules_alone, paths)
 }
 
 /// The first path at which matches add a file that may not be added, if there is one.
@@ -114,4 +96,11 @@ pub(crate) fn unaddable_text<'a>(rules_alone: bool, matches: &ArgMatches<'a>) ->
         Some(path) => path,
         None => "",
     }
+}
+
+/// Whether matches add a file that is no rules file, and name an index to read in place of all files of the database.
+pub(crate) fn adds_to_index(matches: &ArgMatches<'_>) -> bool
+    ensures { result ≡ adds_to_index (rows_of (found_of matches.now)) }
+{
+    value(matches, "index").is_some() & unaddable(true, matches).is_some()
 }

@@ -163,6 +163,8 @@ fn wrong_added(name: &str, matches: &ArgMatches<'_>) -> Option<Refusal>
         Some(Refusal::NotRules)
     } else if unaddable(false, matches).is_some() {
         Some(Refusal::NotFile)
+    } else if adds_to_index(matches) {
+        Some(Refusal::AddedToIndex)
     } else {
         None
     }
@@ -189,8 +191,6 @@ pub(crate) fn refusal_of(name: &str, matches: &ArgMatches<'_>) -> Option<Refusal
         Some(Refusal::TwoDatabases)
     } else if adds_to_named(matches) {
         Some(Refusal::AddedToNamed)
-    } else if adds_to_index(matches) {
-        Some(Refusal::AddedToIndex)
     } else if asks_both(matches) {
         Some(Refusal::TwoAnswers)
     } else if lacks_root(name, matches) {

@@ -74,7 +74,7 @@ VERIFY = [
     Row("with --all an added file is enough", "verify --all -r mnt --with a.rules", {"a.rules": "", "mnt": FOLDER}, output=checked(1)),
     Row("with --all a root that does not exist is told beside an added file", "verify --all -r mnt --with a.rules", {"a.rules": ""},
         output=checked(1), messages="devdry: mnt: absent\n", status=1),
-    Row("a strict verify makes every check of an added file", "verify --strict -r mnt --with a.rules", {"a.rules": 'TAG+="a",TAG+="b"\n', "mnt": FOLDER},
+    Row("a strict verify makes every check of an added file", "verify --strict -r mnt --with a.rules", {"a.rules": 'KERNEL=="a",TAG+="t"\n', "mnt": FOLDER},
         output=checked(0, 1), messages="a.rules:1: S2 blank after a comma expected: TAG\n", status=1),
 ]
 

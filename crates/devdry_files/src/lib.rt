@@ -5,7 +5,7 @@
 #![tactic(auto)]
 
 mod account_files;
-mod adding;
+mod additions;
 mod asking;
 mod disk;
 mod fault;
@@ -22,7 +22,7 @@ mod step;
 mod walking;
 
 pub use account_files::read_account_files;
-pub use adding::{kind_added, name_at};
+pub use additions::{kind_added, name_at};
 pub use asking::wanted;
 pub use disk::{Disk, DiskFault, Entry};
 pub use fault::ReadFault;

@@ -5,7 +5,7 @@ ghost use Rattle.devdry_files.specs.Answers.Answer.{Content, NoContent};
 ghost use Rattle.devdry_files.specs.Faults.{HasPath, IsFaultyIn, IsFaultyInOneOf, IsFaultyIndex, IsFaultyUnnamed, IsFaultyWanted, IsFirstUnread, IsUnread};
 ghost use Rattle.devdry_files.specs.Found.{AreInFolder, AreInFolders, AreNamed, AreUnnamed, AreWanted, IsFileAt, IsIndexWanted, path_in};
 
-use crate::adding::added_files;
+use crate::additions::added_files;
 use crate::disk::{Disk, DiskFault};
 use crate::fault::{ReadFault, fault_at};
 use crate::listing::names_in;

@@ -1,6 +1,6 @@
 use Rattle.std.proofs.Common.{map, take}
 use Rattle.devdry_files.specs.Found.{AreAdded}
-use Rattle.devdry_files.proofs.adding.added_files.Given as goal
+use Rattle.devdry_files.proofs.additions.added_files.Given as goal
 
 -- the files so far are those of the paths so far
 abbrev pub invariant-loop-path : goal.invariant-loop-path

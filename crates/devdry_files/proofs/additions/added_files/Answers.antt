@@ -1,7 +1,7 @@
 use Rattle.std.proofs.Common.{map, rules}
 use Rattle.devdry_files.specs.Faults.{IsFirstUnread}
 use Rattle.devdry_files.proofs.Adding.{added_more, at_added, handed_on}
-use Rattle.devdry_files.proofs.adding.added_files.Goals as goal
+use Rattle.devdry_files.proofs.additions.added_files.Goals as goal
 
 pub returns-in_err-added_file-clause-fault : goal.returns-in_err-added_file-clause-fault
 returns-in_err-added_file-clause-fault g c =

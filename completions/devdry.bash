@@ -6,6 +6,14 @@ _devdry_files() {
     mapfile -t COMPREPLY < <(compgen -d -- "$word"; [ -z "$1" ] || compgen -f -X "!*$1" -- "$word")
 }
 
+# _devdry_added: the current word may become a file that is added: rules, or for all but verify a file of the database.
+_devdry_added() {
+    local suffixes='@(.rules|.hwdb)'
+    [ "$command" != verify ] || suffixes=.rules
+    compopt -o filenames 2> /dev/null
+    mapfile -t COMPREPLY < <(compgen -d -- "$word"; shopt -s extglob; compgen -f -X "!*$suffixes" -- "$word")
+}
+
 # _devdry_any_files: the current word may become any file or folder.
 _devdry_any_files() {
     compopt -o filenames 2> /dev/null
@@ -59,12 +67,12 @@ _devdry() {
         return
     fi
     case $command in
-        verify) suffix=.rules options='-r --root -s --strict --all --format --color --ignore --no-summary --no-style --lint --udev --users --groups -h --help -V --version' ;;
+        verify) suffix=.rules options='-r --root --with -s --strict --all --format --color --ignore --no-summary --no-style --lint --udev --users --groups -h --help -V --version' ;;
         query) suffix=.hwdb options='-r --root --all --sources --index -h --help -V --version' ;;
         update) suffix=.hwdb options='-r --root -s --strict --all --format --color --ignore --lint -h --help -V --version' ;;
-        events) suffix=.rules options='-r --root --all --sources --why --questions --index --udev -h --help -V --version' ;;
-        files) suffix='' options='-r --root -h --help -V --version' ;;
-        compare) suffix='' options='--all --index --udev -h --help -V --version' ;;
+        events) suffix=.rules options='-r --root --with --all --sources --why --questions --index --udev -h --help -V --version' ;;
+        files) suffix='' options='-r --root --with -h --help -V --version' ;;
+        compare) suffix='' options='--with --all --index --udev -h --help -V --version' ;;
         explain) suffix='' options='-h --help -V --version' ;;
         help)
             [ "$COMP_CWORD" -gt 2 ] || _devdry_words verify query update events files compare explain help
@@ -76,6 +84,7 @@ _devdry() {
         -r:* | --root:*) _devdry_files '' ;;
         --index:* | --users:* | --groups:*) _devdry_any_files ;;
         --why:*) _devdry_files .rules ;;
+        --with:*) _devdry_added ;;
         --format:*) _devdry_words plain gcc github gitlab json sarif human ;;
         --color:*) _devdry_words auto always never ;;
         --ignore:*) _devdry_code_list ;;

@@ -314,6 +314,9 @@ ROWS = [
         DISK, SOURCED_ANSWER),
     Row("rules of a folder", ["events", "-r", "."], {"run/udev/rules.d/r.rules": DISK_RULE}, DISK, DISK_ANSWER),
     Row(
+        "a file added to a folder", ["events", "-r", ".", "--with", "drafts/r.rules"],
+        {"run/udev/rules.d/r.rules": 'TAG+="x"\n', "drafts/r.rules": DISK_RULE}, DISK, DISK_ANSWER),
+    Row(
         "a text doubled thirty times", ["events", "-r", "none", "d.rules"], {"d.rules": DOUBLING},
         "C: add\nP: /devices/x\nE: X=" + "v" * 1000 + "\n", DOUBLED),
     Row(

@@ -8,15 +8,16 @@ COMMANDS = {
     "update": ("[FILE]...", ["--strict", "--all", "--lint"], {"--root": "<DIR>", "--format": "<FORMAT>", "--color": "<WHEN>", "--ignore": "<CODES>"}),
     "query": ("<MODALIAS> [FILE]...", ["--all", "--sources"], {"--root": "<DIR>", "--index": "<FILE>"}),
     "verify": ("[FILE]...", ["--strict", "--all", "--no-summary", "--no-style", "--lint", "--udev"],
-               {"--root": "<DIR>", "--format": "<FORMAT>", "--color": "<WHEN>", "--ignore": "<CODES>", "--users": "<FILE>", "--groups": "<FILE>"}),
-    "events": ("[FILE]...", ["--all", "--sources", "--questions", "--udev"], {"--root": "<DIR>", "--why": "<FILE[:LINE]>", "--index": "<FILE>"}),
-    "files": ("", [], {"--root": "<DIR>"}),
-    "compare": ("<OLD> <NEW>", ["--all", "--udev"], {"--index": "<FILE>"}),
+               {"--root": "<DIR>", "--format": "<FORMAT>", "--color": "<WHEN>", "--ignore": "<CODES>", "--users": "<FILE>", "--groups": "<FILE>", "--with": "<FILE>"}),
+    "events": ("[FILE]...", ["--all", "--sources", "--questions", "--udev"],
+               {"--root": "<DIR>", "--why": "<FILE[:LINE]>", "--index": "<FILE>", "--with": "<FILE>"}),
+    "files": ("", [], {"--root": "<DIR>", "--with": "<FILE>"}),
+    "compare": ("<OLD> <NEW>", ["--all", "--udev"], {"--index": "<FILE>", "--with": "<FILE>"}),
 }
 # the letter that an option may be written as
 LETTERS = {"--root": "-r", "--strict": "-s"}
 # options that may be used more than once
-MANY = {"--why", "--ignore"}
+MANY = {"--why", "--ignore", "--with"}
 
 
 def usage(command, following):

@@ -92,6 +92,7 @@ Arguments:
 
 Options:
   -r, --root <DIR>       Folder to put before each folder that is read
+      --with <FILE>      Rules file to read among those of the folders, by its name
   -s, --strict           Make every check: --lint, --udev, --all, users and groups of the root
       --all              Go on where a file can't be read, and fail where there is none
       --format <FORMAT>  How messages are written: plain, gcc, github, gitlab, json, sarif or human
@@ -117,6 +118,7 @@ Arguments:
 
 Options:
   -r, --root <DIR>         Folder to put before each folder that is read
+      --with <FILE>        Rules or database file to read among those of the folders, by its name
       --all                Go on where a file can't be read, and fail where there is none
       --sources            Say where each line comes from
       --why <FILE[:LINE]>  Say what the rules of this file, or the one of this line, met
@@ -133,9 +135,10 @@ Lists the files of the folders, and says which of them are read
 Usage: devdry files [OPTIONS]
 
 Options:
-  -r, --root <DIR>  Folder to put before each folder that is read
-  -h, --help        Print help
-  -V, --version     Print version
+  -r, --root <DIR>   Folder to put before each folder that is read
+      --with <FILE>  Rules or database file to read among those of the folders, by its name
+  -h, --help         Print help
+  -V, --version      Print version
 """
 
 COMPARE_HELP = """\
@@ -148,6 +151,7 @@ Arguments:
   <NEW>  Root of the system after
 
 Options:
+      --with <FILE>   Rules or database file to read among those of NEW, by its name
       --all           Go on where a file can't be read, and fail where there is none
       --index <FILE>  Index to read in place of the database's folders
       --udev          Read and evaluate rules as udev itself does
@@ -189,6 +193,18 @@ TWO_DATABASES = """\
 error: the argument '--index <FILE>' cannot be used with '[FILE]...'
 
 Usage: devdry query --index <FILE> <MODALIAS>
+
+For more information, try '--help'.
+"""
+
+ADDED_TO_NAMED = """\
+error: the argument '--with <FILE>' cannot be used with '[FILE]...'
+
+For more information, try '--help'.
+"""
+
+ADDED_TO_INDEX = """\
+error: the argument '--with <FILE>' cannot add to the database with '--index <FILE>'
 
 For more information, try '--help'.
 """
@@ -249,6 +265,11 @@ error: invalid value 'yes' for '--color <WHEN>'
 For more information, try '--help'.
 """
 
+def not_added(path, endings):
+    """What is said about a file that can't be added, by how its name may end."""
+    return f"error: invalid value '{path}' for '--with <FILE>': its name has to end in {endings}\n\nFor more information, try '--help'.\n"
+
+
 NO_SUCH_CODE = """\
 error: invalid value 'V27' for '<CODE>'
   [possible values: V1, V2, V3, V4, V5, V6, V7, V8, V9, V10, V11, V12, V13, V14, V15, V16, V17, V18, V19, V20, V21, V22, V23, V24, V25, V26, S1, S2, S3, S4, S5, S6, H1, H2, H3, H4, H5, H6, W1, W2, W3, W4, W5, W6, W7, W8, W9, W10, W11, W12, W13, W14, W15, W16, W17, W18, W19, W20, W21, W22, W23, W24, W25, D1, D2, D3, D4, D5, D6, D7, D8, D9, D10, D11, D12, D13, I1, I2]
@@ -298,6 +319,19 @@ NOT_UNDERSTOOD = [
     ("update --index a.index", "error: unexpected argument '--index' found\n"),
     ("query --index a.index m a.hwdb", TWO_DATABASES),
     ("query m a.hwdb b.hwdb --index=a.index", TWO_DATABASES),
+    ("verify a.rules --with b.rules", ADDED_TO_NAMED),
+    ("verify --with a.txt b.rules", ADDED_TO_NAMED),
+    ("events --with b.hwdb a.rules", ADDED_TO_NAMED),
+    ("events --index a.index --with b.rules --with b.hwdb", ADDED_TO_INDEX),
+    ("compare --with b.hwdb --index=a.index old new", ADDED_TO_INDEX),
+    ("verify --with a.hwdb", not_added("a.hwdb", ".rules")),
+    ("verify --with a.rules --with b.rules.old --with c", not_added("b.rules.old", ".rules")),
+    ("events --with a.hwdb --with a.rules/", not_added("a.rules/", ".rules or .hwdb")),
+    ("events --with=", not_added("", ".rules or .hwdb")),
+    ("files --with a.RULES", not_added("a.RULES", ".rules or .hwdb")),
+    ("compare --with rules old new", not_added("rules", ".rules or .hwdb")),
+    ("query --with a.hwdb m", "error: unexpected argument '--with' found\n"),
+    ("update --with a.hwdb", "error: unexpected argument '--with' found\n"),
     ("compare a", NO_NEW),
     ("compare a b c", "error: unexpected argument 'c' found\n"),
     ("compare -r a b c", "error: unexpected argument '-r' found\n"),

@@ -9,7 +9,8 @@ use Rattle.text_bytes.specs.declared.source_file.SourceFile.{SourceFile}
 use Rattle.devdry_files.specs.Answers.{Answer}
 use Rattle.devdry_files.specs.Answers.Answer.{Content}
 use Rattle.devdry_files.specs.Faults.{FirstFaulty, HasPath, IsFaultyIn, IsFaultyInOneOf, IsFirstUnread, IsUnread}
-use Rattle.devdry_files.specs.Found.{AreFilesAt, AreInFolder, AreInFolders, AreNamed, AreNamesIn, IsFileAt, path_in}
+use Rattle.devdry_files.specs.Found.{AreAdded, AreFilesAt, AreInFolder, AreInFolders, AreNamed, AreNamesIn, IsFileAt, path_in}
+use Rattle.devdry_files.specs.Places.{kind_added, name_at}
 use Rattle.devdry_files.specs.declared.fault.ReadFault.{ReadFault}
 use Rattle.devdry_files.specs.declared.fault.ReadFault.TheVariants.{Path, Memory}
 use Rattle.devdry_files.specs.declared.places.Folder.{Folder}
@@ -102,6 +103,34 @@ pub named_more : {T : Type 0} (text : T → List ℕ) (may : Answer → Type 0) 
 named_more text may kind items place d files file within were h =
     subst (λ ps. AreNamed may kind (map text ps) (files ++ file ∷ [])) (sym (one_more items place d within))
     (file_more text may kind 0 (λ path. path) (take place items) files (get_or items place d) file were h)
+
+-- the added files were read at their paths
+were_added : (may : Answer → Type 0) (paths : List (List ℕ)) (files : List SourceFile) → AreAdded may paths files → AllByRecursion (IsReadable may) paths
+were_added may [] files h = tt
+were_added may (path ∷ paths) [] h = absurd h
+were_added may (path ∷ paths) (file ∷ files) h = ((file.bytes, h.0.1), were_added may paths files h.1)
+
+-- a fault at the added file of this place, if those before it were read
+pub at_added : {T : Type 0} (text : T → List ℕ) (may : Answer → Type 0) (items : List T) (place : ℕ) (d : T) (files : List SourceFile) (fault : ReadFault)
+    → place < length items → AreAdded may (map text (take place items)) files → HasPath (λ p. (p ≡ text (get_or items place d)) × IsUnread may p) fault → HasPath (IsFirstUnread may (map text items)) fault
+at_added text may items place d files fault within were h =
+    let before = take place items in
+    let one = get_or items place d in
+    let following = drop (suc place) items in
+    at_one (IsReadable may) (λ at p. (p ≡ at) × IsUnread may p) (map text items) (map text before) (text one) (map text following) fault
+    (ap (map text) (split_at items place d within) ∙ map-append text before (one ∷ following))
+    (were_added may (map text before) files were) h
+
+-- the added file of this place is read after those before it
+pub added_more : {T : Type 0} (text : T → List ℕ) (may : Answer → Type 0) (items : List T) (place : ℕ) (d : T) (files : List SourceFile) (file : SourceFile)
+    → place < length items → AreAdded may (map text (take place items)) files → IsFileAt may (kind_added (text (get_or items place d))) 0 (text (get_or items place d)) (name_at (text (get_or items place d))) file
+    → AreAdded may (map text (take (place + 1) items)) (files ++ file ∷ [])
+added_more text may items place d files file within were h =
+    let before = take place items in
+    let one = get_or items place d in
+    subst (λ ps. AreAdded may (map text ps) (files ++ file ∷ [])) (sym (one_more items place d within))
+    (subst (λ names. AreAdded may names (files ++ file ∷ [])) (sym (map-append text before (one ∷ [])))
+    (zip_more _ (map text before) files (text one) file were h))
 
 -- a fault at a file of the folder, if those before it were read
 pub at_file_in : (may : Answer → Type 0) (folder : Folder) (names before : List (String Global)) (name : String Global) (following : List (String Global)) (files : List SourceFile) (fault : ReadFault) → AreNamesIn may folder names → names ≡ before ++ name ∷ following

@@ -5,7 +5,7 @@ use Rattle.std.specs.declared.alloc.Global.{Global}
 use Rattle.text_bytes.specs.declared.source_file.SourceFile.{SourceFile}
 use Rattle.devdry_files.specs.Answers.{Answer}
 use Rattle.devdry_files.specs.Answers.Answer.{Content, NoContent, NoListing}
-use Rattle.devdry_files.specs.Found.{AreInFolder, AreNamed, AreNamesIn, path_in}
+use Rattle.devdry_files.specs.Found.{AreAdded, AreInFolder, AreNamed, AreNamesIn, path_in}
 use Rattle.devdry_files.specs.Inside.{MayInside}
 use Rattle.devdry_files.specs.declared.disk.DiskFault.TheVariants.{Absent, Unreadable, NotUtf8}
 use Rattle.devdry_files.specs.declared.fault.ReadFault.{ReadFault}
@@ -49,12 +49,18 @@ abbrev pub IsFaultyInOneOf : (Answer → Type 0) → List Folder → List ℕ �
 IsFaultyInOneOf may folders path =
     FirstFaulty (λ folder. (files : List SourceFile) × AreInFolder may folder files) (IsFaultyIn may) folders path
 
+-- The first of what is wanted and not named, in the order of reading, that the disk may say it can't read or list: the path is that of an
+-- added file, or, when all of those were read, of a folder inside the root, or of a name in one.
+abbrev pub IsFaultyUnnamed : (Answer → Type 0) → Wanted → List ℕ → Type 0
+IsFaultyUnnamed may w path = IsFirstUnread may (map (λ f. f.now) w.added.now) path
+    ⊎ ((added : List SourceFile) × AreAdded may (map (λ f. f.now) w.added.now) added
+    × IsFaultyInOneOf (MayInside may w.root.now) w.folders.items path)
+
 -- The first of what is wanted, in the order of reading, that the disk may say it can't read or list: the path is that of a
--- named file, or, when all of those were read, of a folder inside the root, or of a name in one.
+-- named file, or, when all of those were read, of what is not named.
 abbrev pub IsFaultyWanted : (Answer → Type 0) → Wanted → List ℕ → Type 0
 IsFaultyWanted may w path = IsFirstUnread may (map (λ f. f.now) w.files.now) path
-    ⊎ ((named : List SourceFile) × AreNamed may w.kind (map (λ f. f.now) w.files.now) named
-    × IsFaultyInOneOf (MayInside may w.root.now) w.folders.items path)
+    ⊎ ((named : List SourceFile) × AreNamed may w.kind (map (λ f. f.now) w.files.now) named × IsFaultyUnnamed may w path)
 
 -- the path is that of the index that is wanted, which the disk may say that it can't read
 abbrev pub IsFaultyIndex : (Answer → Type 0) → Wanted → List ℕ → Type 0

@@ -12,6 +12,7 @@ use Rattle.text_bytes.specs.declared.source_file.SourceFile.{SourceFile}
 use Rattle.devdry_files.specs.Answers.{Answer}
 use Rattle.devdry_files.specs.Answers.Answer.{Content, Listing, NoListing}
 use Rattle.devdry_files.specs.Inside.{MayInside}
+use Rattle.devdry_files.specs.Places.{kind_added, name_at}
 use Rattle.devdry_files.specs.declared.disk.DiskFault.TheVariants.{Absent}
 use Rattle.devdry_files.specs.declared.disk.Entry.{Entry}
 use Rattle.devdry_files.specs.declared.places.Folder.{Folder}
@@ -59,10 +60,20 @@ AreInFolders may folders files =
 abbrev pub AreNamed : (Answer → Type 0) → FileKind → List (List ℕ) → List SourceFile → Type 0
 AreNamed may kind paths files = AreFilesAt may kind 0 (λ path. path) paths files
 
--- the files that are wanted: those that are named, and then those of the folders, inside their root
+-- the files that are added, in their order: each of the kind that its path shows, of the rank of the first folder, under the name that its
+-- path ends in, and with the bytes at the path
+abbrev pub AreAdded : (Answer → Type 0) → List (List ℕ) → List SourceFile → Type 0
+AreAdded may paths files = AllZip (λ path. IsFileAt may (kind_added path) 0 path (name_at path)) paths files
+
+-- the files that are wanted and not named: those that are added, and then those of the folders, inside their root
+abbrev pub AreUnnamed : (Answer → Type 0) → Wanted → List SourceFile → Type 0
+AreUnnamed may w files = (added found : List SourceFile) × AreAdded may (map (λ f. f.now) w.added.now) added
+    × AreInFolders (MayInside may w.root.now) w.folders.items found × (files ≡ added ++ found)
+
+-- the files that are wanted: those that are named, and then the others
 abbrev pub AreWanted : (Answer → Type 0) → Wanted → List SourceFile → Type 0
-AreWanted may w files = (named found : List SourceFile) × AreNamed may w.kind (map (λ f. f.now) w.files.now) named
-    × AreInFolders (MayInside may w.root.now) w.folders.items found × (files ≡ named ++ found)
+AreWanted may w files = (named unnamed : List SourceFile) × AreNamed may w.kind (map (λ f. f.now) w.files.now) named
+    × AreUnnamed may w unnamed × (files ≡ named ++ unnamed)
 
 -- the bytes of the index that is wanted, as the disk may say they are at its path, and none if none is wanted
 abbrev pub IsIndexWanted : (Answer → Type 0) → Wanted → Option (List ℕ) → Type 0

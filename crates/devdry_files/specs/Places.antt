@@ -1,12 +1,14 @@
 -- The files, the folders and the index that a line asks for.
-use Rattle.std.specs.Prelude.{◌≡◌, ◌++◌, ℕ, List, [], ◌∷◌, if◌then◌else◌, map, string_bytes}
-use Rattle.std.specs.List.{flat_map}
+use Rattle.std.specs.Prelude.{◌≡◌, ◌++◌, ℕ, List, [], ◌∷◌, if◌then◌else◌, map, nat_eq, string_bytes}
+use Rattle.std.specs.List.{ends_with, flat_map}
 use Rattle.std.specs.Option.{option_copied}
 use Rattle.engine_ends.specs.Folders.{folder_path}
 use Rattle.engine_ends.specs.Kinds.{kind_named, kinds_read, reads_folders_of}
 use Rattle.engine_ends.specs.declared.line.Line.{Line}
+use Rattle.text_bytes.specs.Kinds.{suffix_of}
 use Rattle.text_bytes.specs.declared.source_file.FileKind.{FileKind}
 use Rattle.text_bytes.specs.declared.source_file.FileKind.TheVariants.{Hwdb, Rules}
+use Rattle.text_links.specs.Kernels.{last_component}
 use Rattle.devdry_files.specs.declared.places.Folder.{Folder}
 use Rattle.devdry_files.specs.declared.places.Wanted.{Wanted}
 
@@ -37,10 +39,20 @@ folders_of_kind line kind = if reads_folders_of line kind then folders_of kind l
 abbrev pub folders_for : Line → List Place
 folders_for line = flat_map (folders_of_kind line) (kinds_read line.verb)
 
--- what the line asks for: the files that it names, in their order, what they hold, the folders, their root, and the index that it names
+-- the name of a file at a path: what follows the last slash
+abbrev pub name_at : List ℕ → List ℕ
+name_at path = last_component path
+
+-- what a file that is added to those of the folders holds, by how its path ends: a database, or else rules
+abbrev pub kind_added : List ℕ → FileKind
+kind_added path = if ends_with nat_eq path (suffix_of Hwdb) then Hwdb else Rules
+
+-- what the line asks for: the files that it names, in their order, what they hold, the files that it adds, in their order, the folders, their
+-- root, and the index that it names
 pub record Wants (line : Line) (w : Wanted) : Type 0 where
   pub files : map (λ f. f.now) w.files.now ≡ map (λ f. f.now) line.files.items
   pub kind : w.kind ≡ kind_named line.verb
+  pub added : map (λ f. f.now) w.added.now ≡ map (λ f. f.now) line.added.items
   pub folders : map place_of w.folders.items ≡ folders_for line
   pub root : w.root.now ≡ line.root.now
   pub index : option_copied w.index ≡ option_copied line.index

@@ -74,13 +74,14 @@ fn asked_folders(alloc: Global, line: &Line<'_>) -> Result<Vec<Folder>, AllocErr
 /// `/etc/udev/hwdb.d` with rank 0 and `/usr/lib/udev/hwdb.d` with rank 1. `verify` asks for files of rules, and its
 /// folders are those of udev(7): `/etc/udev/rules.d` with rank 0, `/run/udev/rules.d` with 1,
 /// `/usr/local/lib/udev/rules.d` with 2 and `/usr/lib/udev/rules.d` with 3. Each is prefixed with the line's root,
-/// unchanged.
+/// unchanged. Added files keep their paths.
 pub fn wanted<'b, 'a>(alloc: Global, line: &'b Line<'a>) -> Result<Wanted<'b, 'a>, AllocError>
     ensures { IfOk result (Wants line.now) }
 {
     Ok(Wanted {
         kind: line.verb.kind_named(),
         files: line.files.as_slice(),
+        added: line.added.as_slice(),
         folders: asked_folders(alloc, line)?,
         root: line.root,
         index: line.index,

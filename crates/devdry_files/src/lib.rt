@@ -5,6 +5,7 @@
 #![tactic(auto)]
 
 mod account_files;
+mod additions;
 mod asking;
 mod disk;
 mod fault;
@@ -21,6 +22,7 @@ mod step;
 mod walking;
 
 pub use account_files::read_account_files;
+pub use additions::{kind_added, name_at};
 pub use asking::wanted;
 pub use disk::{Disk, DiskFault, Entry};
 pub use fault::ReadFault;

@@ -20,6 +20,8 @@ pub struct Wanted<'b, 'a> {
     pub kind: FileKind,
     /// The named files, in the order given.
     pub files: &'b [&'a str],
+    /// The files that stand among those of the folders as if they were in the first of these, in the order given.
+    pub added: &'b [&'a str],
     /// The folders, in the order in which they are read.
     pub folders: Vec<Folder>,
     /// The root that the folders are in. Their paths begin with it.

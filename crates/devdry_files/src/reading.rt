@@ -2,9 +2,10 @@
 ghost use Rattle.std.specs.Prelude.{◌≡◌, ◌++◌, ◌∷◌, IfErr, IfOk, map, string_bytes};
 ghost use Rattle.text_bytes.specs.Names.{slash};
 ghost use Rattle.devdry_files.specs.Answers.Answer.{Content, NoContent};
-ghost use Rattle.devdry_files.specs.Faults.{HasPath, IsFaultyIn, IsFaultyInOneOf, IsFaultyIndex, IsFaultyWanted, IsFirstUnread, IsUnread};
-ghost use Rattle.devdry_files.specs.Found.{AreInFolder, AreInFolders, AreNamed, AreWanted, IsFileAt, IsIndexWanted, path_in};
+ghost use Rattle.devdry_files.specs.Faults.{HasPath, IsFaultyIn, IsFaultyInOneOf, IsFaultyIndex, IsFaultyUnnamed, IsFaultyWanted, IsFirstUnread, IsUnread};
+ghost use Rattle.devdry_files.specs.Found.{AreInFolder, AreInFolders, AreNamed, AreUnnamed, AreWanted, IsFileAt, IsIndexWanted, path_in};
 
+use crate::additions::added_files;
 use crate::disk::{Disk, DiskFault};
 use crate::fault::{ReadFault, fault_at};
 use crate::listing::names_in;
@@ -29,7 +30,7 @@ pub(crate) fn bytes_at<D: Disk>(alloc: Global, disk: &D, path: String) -> Result
 }
 
 /// The file at a path, with a name by which it is reported.
-fn file_at<D: Disk>(
+pub(crate) fn file_at<D: Disk>(
     alloc: Global,
     disk: &D,
     path: String,
@@ -145,10 +146,27 @@ fn named_files<D: Disk>(
     Ok(files)
 }
 
-/// Reads all that a line asks for: the named files in the order given, and then the folders, each by the names in
-/// it, byte by byte.
+/// The files that are wanted and not named: the added ones, and then those of the folders.
+fn unnamed_files<D: Disk>(
+    alloc: Global,
+    disk: &D,
+    wanted: &Wanted<'_, '_>,
+) -> Result<Vec<SourceFile>, ReadFault>
+    ensures files { IfOk result (λ files.
+        AreUnnamed (D.may_answer disk.now) wanted.now files.items) }
+    ensures fault { IfErr result (HasPath (IsFaultyUnnamed (D.may_answer disk.now) wanted.now)) }
+{
+    let mut files = added_files(alloc, disk, wanted.added)?;
+    let inside = RootedDisk::new(disk, wanted.root);
+    files.append(&mut files_of_folders(alloc, &inside, wanted.folders.as_slice())?)?;
+    Ok(files)
+}
+
+/// Reads all that a line asks for: the named files and the added ones in the order given, and then the folders, each
+/// by the names in it, byte by byte.
 ///
-/// Named files are read whatever their suffix, and have rank 0 and their names as given. In a folder only files
+/// Named files are read whatever their suffix, and have rank 0 and their names as given. An added file is opened at its
+/// path as well, and has rank 0 and the name that its path ends in, as a file of the first folder has. In a folder only files
 /// whose names end in the suffix of their kind are opened, `.hwdb` as hwdb(7) says or `.rules` as udev(7) does,
 /// each under its name without the folder; folders in it are skipped, a symlink is followed inside the root of the
 /// folders, and an absent folder is empty.
@@ -167,8 +185,7 @@ pub fn read_all<D: Disk>(
     ensures fault { IfErr result (HasPath (IsFaultyWanted (D.may_answer disk.now) wanted.now)) }
 {
     let mut files = named_files(alloc, disk, wanted.kind, wanted.files)?;
-    let inside = RootedDisk::new(disk, wanted.root);
-    files.append(&mut files_of_folders(alloc, &inside, wanted.folders.as_slice())?)?;
+    files.append(&mut unnamed_files(alloc, disk, wanted)?)?;
     Ok(files)
 }
 

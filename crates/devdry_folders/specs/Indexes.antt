@@ -3,25 +3,15 @@ use Rattle.std.specs.Prelude.{◌≡◌, ℕ, Bool, false, List, Option, None, S
 use Rattle.std.specs.List.{AllZip}
 use Rattle.std.specs.Option.{option_map_or, option_to_list}
 use Rattle.devdry_files.specs.Answers.{Answer}
-use Rattle.devdry_folders.specs.Meetings.{IsMet}
+use Rattle.devdry_folders.specs.Meetings.{IsFileMet}
 use Rattle.devdry_folders.specs.Unread.{is_file}
-use Rattle.devdry_folders.specs.declared.reasons.Reason.TheVariants as reasons
 use Rattle.devdry_folders.specs.declared.sights.Met.{Met}
 use Rattle.devdry_folders.specs.declared.sights.Met.TheVariants as met
 use Rattle.devdry_folders.specs.declared.sights.Sight.{Sight}
 
--- what is met where an index is named: a folder there can't be read
-abbrev pub as_index : Met → Met
-as_index met.Folder = met.Unread reasons.NotRegular
-as_index it = it
-
--- it is met at the path of an index
-abbrev pub IsIndexMet : (Answer → Type 0) → List ℕ → Met → Type 0
-IsIndexMet may path it = (found : Met) × IsMet may path found × (it ≡ as_index found)
-
 -- the index at its path, as it is met, if one is named
 abbrev pub IsIndexSight : (Answer → Type 0) → Option (List ℕ) → Option Sight → Type 0
-IsIndexSight may named index = AllZip (λ path s. (s.path ≡ path) × IsIndexMet may path s.met) (option_to_list named) (option_to_list index)
+IsIndexSight may named index = AllZip (λ path s. (s.path ≡ path) × IsFileMet may path s.met) (option_to_list named) (option_to_list index)
 
 -- whether an index was read
 abbrev pub is_index_read : Option Sight → Bool

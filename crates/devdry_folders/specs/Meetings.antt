@@ -49,3 +49,12 @@ pub record IsMet (may : Answer → Type 0) (path : List ℕ) (it : Met) : Type 0
   pub look : Look
   pub looked : may (Looked path look)
   pub met_so : IsMetBy may path look it
+
+-- what is met where only a file is taken: a folder there can't be read
+abbrev pub as_file : Met → Met
+as_file met.Folder = met.Unread reasons.NotRegular
+as_file it = it
+
+-- it is met at a path where only a file is taken
+abbrev pub IsFileMet : (Answer → Type 0) → List ℕ → Met → Type 0
+IsFileMet may path it = (found : Met) × IsMet may path found × (it ≡ as_file found)

@@ -21,9 +21,13 @@ use Rattle.devdry_folders.specs.declared.sights.Visit.{Visit}
 abbrev pub has_needed : List FileKind → Survey → Bool
 has_needed kinds survey = has_files kinds survey.visits.items || (is_one_of kinds Hwdb && is_index_read survey.index)
 
--- whether folders are read below a root that a line gives, beside files that it names
+-- whether a line names or adds files
+abbrev pub has_own_files : Line → Bool
+has_own_files line = not (vec_len line.files == 0) || not (vec_len line.added == 0)
+
+-- whether folders are read below a root that a line gives, beside files that it names or adds
 abbrev pub looks_at_root : Line → Bool
-looks_at_root line = (not (length line.root.now == 0) && not (vec_len line.files == 0)) && list_any (reads_folders_of line) (kinds_read line.verb)
+looks_at_root line = (not (length line.root.now == 0) && has_own_files line) && list_any (reads_folders_of line) (kinds_read line.verb)
 
 -- the line on a root that is no folder, by a look at it
 abbrev pub root_line : List ℕ → Look → List ℕ

@@ -11,7 +11,7 @@ use Rattle.devdry_files.specs.Answers.{Answer}
 use Rattle.devdry_files.specs.Places.{Wants}
 use Rattle.devdry_files.specs.declared.places.Wanted.{Wanted}
 use Rattle.devdry_folders.specs.Indexes.{IsIndexSight, index_bytes}
-use Rattle.devdry_folders.specs.Missing.{AreMissing}
+use Rattle.devdry_folders.specs.Missing.{AreMissing, IsLineOnRoot}
 use Rattle.devdry_folders.specs.SightStatus.{AreListed}
 use Rattle.devdry_folders.specs.Unread.{files_of, is_one_of, least_status, line_on_met, unread_lines}
 use Rattle.devdry_folders.specs.Visits.{AreVisits}
@@ -88,7 +88,12 @@ pub record IsReportOn (may : Answer → Type 0) (line : Line) (report : Report) 
   pub is_survey : IsFilesSurveyFor may line survey
   pub reported : IsReported may line (kinds_needed line.verb) survey report
 
--- what is reported on files that were read for a line: nothing if one of them is of a kind that it needs
+-- What is reported on the root of a line: a line if it is looked at and is no folder, and the least status, which follows from that.
+pub record IsRootReport (may : Answer → Type 0) (line : Line) (report : Report) : Type 0 where
+  pub on_root : IsLineOnRoot may line report.lines.items
+  pub least : report.least ≡ least_status [] report.lines.items
+
+-- what is reported on files that were read for a line: if one of them is of a kind that it needs, only what its root is
 abbrev pub IsReportOnFiles : (Answer → Type 0) → Line → List SourceFile → Report → Type 0
 IsReportOnFiles may line files report =
-    MatchBool (has_file_needed line files) ((report.lines.items ≡ []) × (report.least ≡ 0)) (IsReportOn may line report)
+    MatchBool (has_file_needed line files) (IsRootReport may line report) (IsReportOn may line report)

@@ -11,14 +11,14 @@ use Rattle.text_bytes.specs.declared.source_file.FileKind.{FileKind}
 use Rattle.devdry_files.specs.Answers.{Answer}
 use Rattle.devdry_files.specs.Answers.Answer.{Listing, Looked, NoListing, Stepped}
 use Rattle.devdry_files.specs.Inside.{MayInside}
-use Rattle.devdry_files.specs.Places.{Place, place_of}
+use Rattle.devdry_files.specs.Places.{Place, kind_added, name_at, place_of}
 use Rattle.devdry_files.specs.declared.disk.DiskFault.TheVariants as disk
 use Rattle.devdry_files.specs.declared.disk.Entry.{Entry}
 use Rattle.devdry_files.specs.declared.look.Look.{Look}
 use Rattle.devdry_files.specs.declared.look.Look.TheVariants as looks
 use Rattle.devdry_files.specs.declared.places.Wanted.{Wanted}
 use Rattle.devdry_files.specs.declared.step.Step.{Step}
-use Rattle.devdry_folders.specs.Meetings.{IsMet, IsMetBy, target_of}
+use Rattle.devdry_folders.specs.Meetings.{IsFileMet, IsMet, IsMetBy, target_of}
 use Rattle.devdry_folders.specs.declared.reasons.Reason.TheVariants as reasons
 use Rattle.devdry_folders.specs.declared.sights.Met.{Met}
 use Rattle.devdry_folders.specs.declared.sights.Met.TheVariants as met
@@ -120,6 +120,20 @@ pub record IsNamedVisit (may : Answer → Type 0) (kind : FileKind) (v : Visit) 
   pub looked : may (Looked v.path look)
   pub scanned : IsNamedSo may kind v.path look v.scan
 
+-- the outcome for a file that is added: what is met at its path, under the name that the path ends in
+pub record IsAddedScan (may : Answer → Type 0) (path : List ℕ) (scan : Scan) : Type 0 where
+  pub at_file : scan.spot ≡ spot.File
+  pub it : Met
+  pub alone : scan.sights.items ≡ record { name = name_at path; path = path; met = it } ∷ []
+  pub met_so : IsFileMet may path it
+
+-- a visit of a file that is added: it is of the kind that its path shows, has the rank of the first folder, and is not named
+pub record IsAddedVisit (may : Answer → Type 0) (v : Visit) : Type 0 where
+  pub kind_is : v.kind ≡ kind_added v.path
+  pub rank_is : v.rank ≡ 0
+  pub unnamed : v.is_named ≡ false
+  pub scan : IsAddedScan may v.path v.scan
+
 -- a visit as a place: the kind of the files, the rank and the path
 abbrev pub place_of_visit : Visit → Place
 place_of_visit v = record { kind = v.kind; rank = v.rank; path = v.path }
@@ -129,15 +143,28 @@ pub record AreNamedVisits (may : Answer → Type 0) (kind : FileKind) (paths : L
   pub named_so : map (λ v. v.path) visits ≡ paths
   pub each : All (IsNamedVisit may kind) visits
 
+-- visits of files that are added, in their order
+pub record AreAddedVisits (may : Answer → Type 0) (paths : List (List ℕ)) (visits : List Visit) : Type 0 where
+  pub added_so : map (λ v. v.path) visits ≡ paths
+  pub each : All (IsAddedVisit may) visits
+
 -- visits of folders, in their order
 pub record AreFolderVisits (may : Answer → Type 0) (places : List Place) (visits : List Visit) : Type 0 where
   pub placed_so : map place_of_visit visits ≡ places
   pub each : All (IsFolderVisit may) visits
 
--- visits of all that is wanted: of what is named, and then of the folders, inside their root
+-- visits of what is wanted and not named: of what is added, and then of the folders, inside their root
+pub record AreUnnamedVisits (may : Answer → Type 0) (w : Wanted) (visits : List Visit) : Type 0 where
+  pub added : List Visit
+  pub found : List Visit
+  pub cut : visits ≡ added ++ found
+  pub are_added : AreAddedVisits may (map (λ f. f.now) w.added.now) added
+  pub are_found : AreFolderVisits (MayInside may w.root.now) (map place_of w.folders.items) found
+
+-- visits of all that is wanted: of what is named, and then of the rest
 pub record AreVisits (may : Answer → Type 0) (w : Wanted) (visits : List Visit) : Type 0 where
   pub named : List Visit
-  pub found : List Visit
-  pub cut : visits ≡ named ++ found
+  pub unnamed : List Visit
+  pub cut : visits ≡ named ++ unnamed
   pub are_named : AreNamedVisits may w.kind (map (λ f. f.now) w.files.now) named
-  pub are_found : AreFolderVisits (MayInside may w.root.now) (map place_of w.folders.items) found
+  pub are_unnamed : AreUnnamedVisits may w unnamed

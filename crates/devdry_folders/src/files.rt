@@ -48,7 +48,8 @@ fn push_files(files: &mut Vec<SourceFile>, visit: Visit) -> Result<(), AllocErro
 
 /// The files of visits, in their order. Their bytes are not copied.
 ///
-/// A file of a folder of the system has its name there and the folder's rank; one that is named, or that is in a
+/// A file of a folder of the system has its name there and the folder's rank, and an added one the name that its path
+/// ends in and the rank of the first folder; one that is named, or that is in a
 /// named folder, has its path as its name, and rank 0.
 pub(crate) fn files_of(alloc: Global, visits: Vec<Visit>) -> Result<Vec<SourceFile>, AllocError>
     ensures { IfOk result (λ files. files.items ≡ files_of visits.items) }

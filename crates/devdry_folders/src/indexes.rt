@@ -1,11 +1,11 @@
 //! The index that a line names, and what is met at its path.
 ghost use Rattle.std.specs.Option.{option_copied, option_to_list};
 ghost use Rattle.std.specs.Prelude.{◌≡◌, ◌++◌, IfOk, OnOk, flat_map};
-ghost use Rattle.devdry_folders.specs.Indexes.{IsIndexMet, IsIndexSight, as_index, bytes_of, index_bytes, is_index_read};
+ghost use Rattle.devdry_folders.specs.Indexes.{IsIndexSight, bytes_of, index_bytes, is_index_read};
+ghost use Rattle.devdry_folders.specs.Meetings.{IsFileMet};
 ghost use Rattle.devdry_folders.specs.Unread.{line_on_met};
 
-use crate::meetings::met_at;
-use crate::reasons::Reason;
+use crate::meetings::file_met_at;
 use crate::sights::{Met, Sight};
 use crate::unread::{is_file, push_on_met};
 use devdry_files::Disk;
@@ -13,30 +13,13 @@ use engine_ends::Line;
 use std::alloc::{AllocError, Global};
 use text_bytes::Bytes;
 
-/// What is met at the path of an index: a folder there can't be read.
-fn as_index(met: Met) -> Met
-    ensures { result ≡ as_index met }
-{
-    match met {
-        Met::Folder => Met::Unread(Reason::NotRegular),
-        Met::File(_) | Met::OtherName | Met::Unread(_) => met,
-    }
-}
-
-/// What is met at the path of an index.
-fn index_met<D: Disk>(alloc: Global, disk: &D, path: &str) -> Result<Met, AllocError>
-    ensures { IfOk result (IsIndexMet (D.may_answer disk.now) path.now) }
-{
-    Ok(as_index(met_at(alloc, disk, path)?))
-}
-
 /// The index at a path, as it is met.
 fn sight_at<D: Disk>(alloc: Global, disk: &D, path: &str) -> Result<Sight, AllocError>
     ensures path { IfOk result (λ s. s.path ≡ path.now) }
-    ensures met { IfOk result (λ s. IsIndexMet (D.may_answer disk.now) path.now s.met) }
+    ensures met { IfOk result (λ s. IsFileMet (D.may_answer disk.now) path.now s.met) }
 {
     Ok(Sight {
-        met: index_met(alloc, disk, path)?,
+        met: file_met_at(alloc, disk, path)?,
         name: Bytes::copy_of(alloc, path.as_bytes())?,
         path: Bytes::copy_of(alloc, path.as_bytes())?,
     })

@@ -1,6 +1,6 @@
 //! What is met at the path of a file.
 ghost use Rattle.std.specs.Prelude.{◌≡◌, IfOk};
-ghost use Rattle.devdry_folders.specs.Meetings.{IsMet, IsMetBy, IsMissing, IsReadSo, target_of};
+ghost use Rattle.devdry_folders.specs.Meetings.{IsFileMet, IsMet, IsMetBy, IsMissing, IsReadSo, as_file, target_of};
 
 use crate::reasons::Reason;
 use crate::sights::Met;
@@ -68,4 +68,21 @@ pub(crate) fn met_at<D: Disk>(alloc: Global, disk: &D, path: &str) -> Result<Met
 {
     let look = disk.look(alloc, path)?;
     met_by(alloc, disk, path, look)
+}
+
+/// What is met where only a file is taken: a folder there can't be read.
+fn as_file(met: Met) -> Met
+    ensures { result ≡ as_file met }
+{
+    match met {
+        Met::Folder => Met::Unread(Reason::NotRegular),
+        Met::File(_) | Met::OtherName | Met::Unread(_) => met,
+    }
+}
+
+/// What is met at a path where only a file is taken.
+pub(crate) fn file_met_at<D: Disk>(alloc: Global, disk: &D, path: &str) -> Result<Met, AllocError>
+    ensures { IfOk result (IsFileMet (D.may_answer disk.now) path.now) }
+{
+    Ok(as_file(met_at(alloc, disk, path)?))
 }

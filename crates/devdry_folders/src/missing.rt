@@ -1,6 +1,6 @@
 //! What is reported where no file was found that a run needs.
 ghost use Rattle.std.specs.Prelude.{◌≡◌, IfOk, MatchBool};
-ghost use Rattle.devdry_folders.specs.Missing.{AreMissing, IsLineOnRoot, IsNothing, has_needed, looks_at_root, root_line};
+ghost use Rattle.devdry_folders.specs.Missing.{AreMissing, IsLineOnRoot, IsNothing, has_needed, has_own_files, looks_at_root, root_line};
 
 use crate::elsewhere::files_elsewhere;
 use crate::indexes::is_index_read;
@@ -20,14 +20,21 @@ fn has_needed(kinds: &[FileKind], survey: &Survey) -> bool
         || (is_one_of(kinds, FileKind::Hwdb) && is_index_read(&survey.index))
 }
 
-/// Whether folders are read below a root that a line gives, beside files that it names: then a root that is no folder
+/// Whether a line names or adds files.
+fn has_own_files(line: &Line<'_>) -> bool
+    ensures { result ≡ has_own_files line.now }
+{
+    !line.files.is_empty() || !line.added.is_empty()
+}
+
+/// Whether folders are read below a root that a line gives, beside files that it names or adds: then a root that is no folder
 /// is not noticed by what is missing.
 fn looks_at_root(line: &Line<'_>) -> bool
     ensures { result ≡ looks_at_root line.now }
 {
     let kinds = line.verb.kinds_read();
     !line.root.is_empty()
-        && !line.files.is_empty()
+        && has_own_files(line)
         && kinds.iter().any(|kind| line.reads_folders_of(*kind))
 }
 
@@ -47,7 +54,11 @@ fn root_line(alloc: Global, root: &str, look: Look) -> Result<Vec<u8>, AllocErro
 }
 
 /// The line on the root of a line, if it is looked at and is no folder.
-fn line_on_root<D: Disk>(alloc: Global, disk: &D, line: &Line<'_>) -> Result<Vec<u8>, AllocError>
+pub(crate) fn line_on_root<D: Disk>(
+    alloc: Global,
+    disk: &D,
+    line: &Line<'_>,
+) -> Result<Vec<u8>, AllocError>
     ensures { IfOk result (λ text. IsLineOnRoot (D.may_answer disk.now) line.now text.items) }
 {
     if !looks_at_root(line) {

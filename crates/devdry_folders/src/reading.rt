@@ -1,13 +1,13 @@
 //! The outcome of a line whose reading goes on after what can't be read.
 ghost use Rattle.std.specs.Option.{option_to_list};
 ghost use Rattle.std.specs.Prelude.{◌≡◌, ◌≤◌, IfOk};
-ghost use Rattle.devdry_folders.specs.Surveys.{AreFilesReadSome, AreVisitsFor, IsFilesSurveyFor, IsListed, IsReadBy, IsReadSome, IsReportOn, IsReportOnFiles, IsReported, IsSurveyFor};
+ghost use Rattle.devdry_folders.specs.Surveys.{AreFilesReadSome, AreVisitsFor, IsFilesSurveyFor, IsListed, IsReadBy, IsReadSome, IsReportOn, IsReportOnFiles, IsReported, IsRootReport, IsSurveyFor};
 ghost use Rattle.devdry_folders.specs.Surveys.{all_unread, has_file_needed, kinds_needed};
 ghost use Rattle.devdry_folders.specs.Unread.{least_status};
 
 use crate::files::files_of;
 use crate::indexes::{index_bytes, index_sight, push_on_index};
-use crate::missing::missing_lines;
+use crate::missing::{line_on_root, missing_lines};
 use crate::sight_status::status_lines;
 use crate::sights::{Survey, Visit};
 use crate::unread::{is_one_of, unread_lines};
@@ -153,15 +153,15 @@ fn read_by<D: Disk>(
     })
 }
 
-/// Reads what can be read of all that a line asks for: the files that it names in the order given, then the
-/// folders.
+/// Reads what can be read of all that a line asks for: the files that it names in the order given, those that it adds,
+/// then the folders.
 ///
 /// If the line names a folder, the files in it whose names end in the suffix of their kind are taken, by name, each
 /// as `FILE/NAME`, with one slash. What can't be read is reported, `devdry: cannot read PATH: REASON`, and the
 /// least status is then 3; nothing is opened that is neither a folder nor a regular file, except the null device.
 /// An absent folder is not a fault. The index is read last. If no file of the kind that the line names was read, nor an
 /// index in place of the database, each of its folders that was looked at is reported, and the least status is 1,
-/// unless it is 3; so is a root that is no folder, if folders are read below it beside files that are named.
+/// unless it is 3; so is a root that is no folder, if folders are read below it beside files that are named or added.
 pub fn read_what_can<D: Disk>(
     alloc: Global,
     disk: &D,
@@ -211,8 +211,18 @@ fn report_on<D: Disk>(alloc: Global, disk: &D, line: &Line<'_>) -> Result<Report
     reported_for(alloc, disk, line, kinds_needed(line.verb), &survey)
 }
 
-/// What is reported on files that were read for a line: nothing, with status 0, if one of them is of the kind that the
-/// line names; otherwise all that it asks for but an index is visited, and reported as with `read_what_can`.
+/// What is reported on the root of a line: a line and status 1 if it is looked at and is no folder.
+fn report_on_root<D: Disk>(alloc: Global, disk: &D, line: &Line<'_>) -> Result<Report, AllocError>
+    ensures report { IfOk result (IsRootReport (D.may_answer disk.now) line.now) }
+    ensures least { IfOk result (λ report. report.least ≤ 3) }
+{
+    let lines = line_on_root(alloc, disk, line)?;
+    let least = least_status(b"", &lines);
+    Ok(Report { lines, least })
+}
+
+/// What is reported on files that were read for a line. If one of them is of the kind that the line names, that is nothing,
+/// with status 0, but where files are added below a root that is no folder; otherwise all that it asks for but an index is visited, and reported as with `read_what_can`.
 pub fn report_on_files<D: Disk>(
     alloc: Global,
     disk: &D,
@@ -223,10 +233,7 @@ pub fn report_on_files<D: Disk>(
     ensures least { IfOk result (λ report. report.least ≤ 3) }
 {
     if has_file_needed(line, files) {
-        return Ok(Report {
-            lines: Vec::new(alloc),
-            least: 0,
-        });
+        return report_on_root(alloc, disk, line);
     }
     report_on(alloc, disk, line)
 }

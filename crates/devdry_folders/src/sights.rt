@@ -19,7 +19,7 @@ pub enum Met {
 /// A name, its path, and what is met there.
 #[derive(Drop)]
 pub struct Sight {
-    /// The name without its folder; for a named file the path.
+    /// The name without its folder, as it is in a folder and of an added file; for a named file the path.
     pub name: Bytes,
     /// The path.
     pub path: Bytes,
@@ -54,9 +54,9 @@ pub struct Scan {
 pub(crate) struct Visit {
     /// What files there hold.
     pub kind: FileKind,
-    /// The place among the folders of the kind; 0 if the line names it.
+    /// The place among the folders of the kind; 0 if the line names or adds it.
     pub rank: u8,
-    /// Whether the line names it.
+    /// Whether the line names it, in place of the folders.
     pub is_named: bool,
     /// Its path.
     pub path: Bytes,

@@ -5,13 +5,13 @@ ghost use Rattle.std.specs.String.{string_cmp};
 ghost use Rattle.devdry_files.specs.Answers.Answer.{Listing};
 ghost use Rattle.devdry_files.specs.Places.{place_of};
 ghost use Rattle.devdry_folders.specs.Meetings.{IsMet};
-ghost use Rattle.devdry_folders.specs.Visits.{AreFolderVisits, AreNamedVisits, AreSightsAt, AreSightsIn, AreVisits, IsFolderScan, IsFolderVisit, IsListedSo, IsMissingFolder, IsNamedSo};
-ghost use Rattle.devdry_folders.specs.Visits.{IsNamedVisit, IsOneFile, IsScannedBy, IsSightIn, IsUnlisted, below, missing_folder, place_of_visit};
+ghost use Rattle.devdry_folders.specs.Visits.{AreAddedVisits, AreFolderVisits, AreNamedVisits, AreUnnamedVisits, AreSightsAt, AreSightsIn, AreVisits, IsFolderScan, IsFolderVisit, IsListedSo, IsMissingFolder, IsNamedSo};
+ghost use Rattle.devdry_folders.specs.Visits.{IsAddedScan, IsAddedVisit, IsNamedVisit, IsOneFile, IsScannedBy, IsSightIn, IsUnlisted, below, missing_folder, place_of_visit};
 
-use crate::meetings::{met_at, met_by, target_of};
+use crate::meetings::{file_met_at, met_at, met_by, target_of};
 use crate::reasons::Reason;
 use crate::sights::{Met, Scan, Sight, Spot, Visit};
-use devdry_files::{Disk, DiskFault, Entry, Folder, Look, RootedDisk, Wanted};
+use devdry_files::{Disk, DiskFault, Entry, Folder, Look, RootedDisk, Wanted, kind_added, name_at};
 use std::alloc::{AllocError, Global};
 use text_bytes::{Bytes, FileKind};
 
@@ -281,6 +281,49 @@ fn named_visits<D: Disk>(
     Ok(visits)
 }
 
+/// The outcome for an added file: what is met at its path, under the name that the path ends in.
+fn scan_added<D: Disk>(alloc: Global, disk: &D, path: &str) -> Result<Scan, AllocError>
+    ensures { IfOk result (IsAddedScan (D.may_answer disk.now) path.now) }
+{
+    let mut sights = Vec::new(alloc);
+    sights.push(Sight {
+        met: file_met_at(alloc, disk, path)?,
+        name: Bytes::copy_of(alloc, name_at(path))?,
+        path: Bytes::copy_of(alloc, path.as_bytes())?,
+    })?;
+    Ok(Scan {
+        spot: Spot::File,
+        sights,
+    })
+}
+
+/// A visit of an added file.
+fn visit_added<D: Disk>(alloc: Global, disk: &D, path: &str) -> Result<Visit, AllocError>
+    ensures path { IfOk result (λ v. v.path ≡ path.now) }
+    ensures visit { IfOk result (IsAddedVisit (D.may_answer disk.now)) }
+{
+    let scan = scan_added(alloc, disk, path)?;
+    Ok(Visit {
+        kind: kind_added(path),
+        rank: 0,
+        is_named: false,
+        path: Bytes::copy_of(alloc, path.as_bytes())?,
+        scan,
+    })
+}
+
+/// Visits of added files, in their order.
+fn added_visits<D: Disk>(alloc: Global, disk: &D, paths: &[&str]) -> Result<Vec<Visit>, AllocError>
+    ensures { IfOk result (λ visits.
+        AreAddedVisits (D.may_answer disk.now) (map (λ p. p.now) paths.now) visits.items) }
+{
+    let mut visits = Vec::new(alloc);
+    for path in paths {
+        visits.push(visit_added(alloc, disk, path)?)?;
+    }
+    Ok(visits)
+}
+
 /// Visits of folders, in their order.
 fn folder_visits<D: Disk>(
     alloc: Global,
@@ -297,9 +340,24 @@ fn folder_visits<D: Disk>(
     Ok(visits)
 }
 
-/// Visits all that is wanted: what is named in the order given, and then the folders, inside their root.
+/// Visits of what is wanted and not named: of the added files, and then of the folders, inside their root.
+fn unnamed_visits<D: Disk>(
+    alloc: Global,
+    disk: &D,
+    wanted: &Wanted<'_, '_>,
+) -> Result<Vec<Visit>, AllocError>
+    ensures { IfOk result (λ visits. AreUnnamedVisits (D.may_answer disk.now) wanted.now visits.items) }
+{
+    let mut visits = added_visits(alloc, disk, wanted.added)?;
+    let inside = RootedDisk::new(disk, wanted.root);
+    visits.append(&mut folder_visits(alloc, &inside, wanted.folders.as_slice())?)?;
+    Ok(visits)
+}
+
+/// Visits all that is wanted: what is named in the order given, then the added files, and then the folders, inside
+/// their root.
 ///
-/// A named file is read whatever its name; in a named folder, and in the folders, the files whose names end in the
+/// A named file is read whatever its name, and so is an added one, which is seen under that name; in a named folder, and in the folders, the files whose names end in the
 /// suffix of their kind are read, by name. What can't be read is kept with its reason, and the next is visited. An
 /// absent folder is not a fault, but a symlink to nothing is.
 pub(crate) fn visits<D: Disk>(
@@ -310,7 +368,6 @@ pub(crate) fn visits<D: Disk>(
     ensures { IfOk result (λ visits. AreVisits (D.may_answer disk.now) wanted.now visits.items) }
 {
     let mut visits = named_visits(alloc, disk, wanted.kind, wanted.files)?;
-    let inside = RootedDisk::new(disk, wanted.root);
-    visits.append(&mut folder_visits(alloc, &inside, wanted.folders.as_slice())?)?;
+    visits.append(&mut unnamed_visits(alloc, disk, wanted)?)?;
     Ok(visits)
 }

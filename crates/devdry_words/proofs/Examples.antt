@@ -14,7 +14,7 @@ use Rattle.engine_ends.specs.declared.line.Color.TheVariants.{Auto, Always, Neve
 use Rattle.engine_ends.specs.declared.line.Format.{Format}
 use Rattle.engine_ends.specs.declared.line.Format.TheVariants.{Plain, Gcc, Github, Gitlab, Json, Sarif, Human, HumanInColor}
 use Rattle.devdry_words.specs.declared.refusals.Refusal.{Refusal}
-use Rattle.devdry_words.specs.declared.refusals.Refusal.TheVariants.{TwoDatabases, TwoAnswers, EmptyRoot, EmptySide, NoUdev, UnknownFormat, UnknownColor, UnknownPart}
+use Rattle.devdry_words.specs.declared.refusals.Refusal.TheVariants.{TwoDatabases, AddedToNamed, AddedToIndex, TwoAnswers, EmptyRoot, EmptySide, NoUdev, UnknownFormat, UnknownColor, UnknownPart, NotRules, NotFile}
 use Rattle.engine_ends.specs.declared.line.Verb.TheVariants.{Update, Verify, Events}
 use Rattle.devdry_words.specs.Lines.{asks_every, class_codes, codes_with, color_name, color_named, color_of, format_name, format_named, format_of, is_set_or_every, profile_of}
 use Rattle.text_bytes.specs.Texts.{split_once}
@@ -23,6 +23,7 @@ use Rattle.text_bytes.specs.declared.profile.Profile.TheVariants.{Manual, Udev}
 use Rattle.engine_formats.specs.Codes.{remark_of, remarks}
 use Rattle.engine_formats.specs.Remarks.{code_of, heading_parts}
 use Rattle.devdry_words.specs.Refusals.{known_codes, listed, refusal_of, unknown_part}
+use Rattle.devdry_words.specs.Requests.{added_of}
 use Rattle.devdry_words.specs.Values.{cut_at_commas, is_set, texts_of, text_of}
 
 abbrev query_words : List Text
@@ -237,6 +238,35 @@ empty_new_root_is_refused = refl
 two_roots_are_taken : refused (codes "compare" ∷ codes "/old" ∷ codes "/new" ∷ []) ≡ Some None
 unfolding clap_on_literals devdry
 two_roots_are_taken = refl
+
+added_to_named_files_is_refused : refused (codes "events" ∷ codes "--with=a.hwdb" ∷ codes "b.rules" ∷ []) ≡ Some (Some AddedToNamed)
+unfolding clap_on_literals devdry
+added_to_named_files_is_refused = refl
+
+added_to_an_index_is_refused : refused (codes "compare" ∷ codes "--with=a.rules" ∷ codes "--with=a.hwdb" ∷ codes "--index=i" ∷ codes "/old" ∷ codes "/new" ∷ []) ≡ Some (Some AddedToIndex)
+unfolding clap_on_literals devdry
+added_to_an_index_is_refused = refl
+
+rules_beside_an_index_are_taken : refused (codes "events" ∷ codes "--index=i" ∷ codes "--with" ∷ codes "a.rules" ∷ []) ≡ Some None
+unfolding clap_on_literals devdry
+rules_beside_an_index_are_taken = refl
+
+a_database_for_verify_is_refused : refused (codes "verify" ∷ codes "--with=a.rules" ∷ codes "--with=a.hwdb" ∷ []) ≡ Some (Some NotRules)
+unfolding clap_on_literals devdry
+a_database_for_verify_is_refused = refl
+
+another_file_is_refused : refused (codes "files" ∷ codes "--with=a.hwdb" ∷ codes "--with=a.rules.old" ∷ []) ≡ Some (Some NotFile)
+unfolding clap_on_literals devdry
+another_file_is_refused = refl
+
+with_of_query : fault_of devdry (codes "query" ∷ codes "--with=a.hwdb" ∷ codes "usb:v1" ∷ []) ≡ kind.UnknownArgument ∷ []
+unfolding clap_on_literals devdry
+with_of_query = refl
+
+added_files_are_asked : option_map {U = List Text × Option Refusal} (λ p. (added_of p.1, refusal_of p.0 p.1)) (subcommand_of devdry (codes "compare" ∷ codes "--with" ∷ codes "a.rules" ∷ codes "/old" ∷ codes "--with=b.hwdb" ∷ codes "/new" ∷ []))
+    ≡ Some (codes "a.rules" ∷ codes "b.hwdb" ∷ [], None)
+unfolding clap_on_literals devdry
+added_files_are_asked = refl
 
 abbrev unknown : List Text → Option (Option Text)
 unknown words = option_map (λ p. unknown_part p.1) (subcommand_of devdry words)

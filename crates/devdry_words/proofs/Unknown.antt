@@ -1,5 +1,5 @@
--- The first part of texts that `--ignore` does not take, text by text.
-use Rattle.std.proofs.Common.{◌≡◌, ℕ, ◌+◌, ◌<◌, ◌≤◌, not, List, ◌∷◌, Option, Some, None, map, flat_map, drop, get_or, length, ap, refl, sym, ◌∙◌, add-one, drop-cons, drop_of_length-le}
+-- The first text, or part of one, that an option does not take.
+use Rattle.std.proofs.Common.{◌≡◌, ℕ, Bool, true, false, cond, find, option_map, ◌+◌, ◌<◌, ◌≤◌, not, List, [], ◌∷◌, Option, Some, None, map, flat_map, drop, get_or, length, ap, refl, sym, ◌∙◌, add-one, drop-cons, drop_of_length-le}
 use Rattle.std.specs.Option.{option_or}
 use Rattle.std.proofs.lemmas.List.Folds.{find-append}
 use Rattle.clap.specs.Walk.{Text}
@@ -32,3 +32,12 @@ found_here f texts at text whole part h left some = sym (ap (λ found. option_or
 
 pub none_left : {A : Type 0} (f : A → Text) (texts : List A) (at : ℕ) (whole : Option Text) → length texts ≤ at → unknown_in (map f (drop at texts)) ≡ whole → None ≡ whole
 none_left f texts at whole h left = sym (ap (λ rest. unknown_in (map f rest)) (drop_of_length-le texts h)) ∙ left
+
+-- what is found among texts as they are seen is what is found among them, seen
+pub find_seen : {A B : Type 0} (P : B → Bool) (f : A → B) (xs : List A) → find P (map f xs) ≡ option_map f (find (λ x. P (f x)) xs)
+find_seen P f [] = refl
+find_seen P f (x ∷ xs) = by (P (f x))
+  where
+    by : (b : Bool) → cond b (Some (f x)) (find P (map f xs)) ≡ option_map f (cond b (Some x) (find (λ x. P (f x)) xs))
+    by true = refl
+    by false = find_seen P f xs

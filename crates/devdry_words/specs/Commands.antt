@@ -20,6 +20,10 @@ repeated_rule name = record (option_rule name) { action = Some Append }
 abbrev pub root_rule : Rule
 root_rule = record (option_rule (codes "root")) { short = Some 114 }
 
+-- `--with FILE`, any number of times
+abbrev pub added_rule : Rule
+added_rule = repeated_rule (codes "with")
+
 -- `-s`, `--strict`; the letter s has the number 115
 abbrev pub strict_rule : Rule
 strict_rule = record (flag_rule (codes "strict")) { short = Some 115 }
@@ -47,28 +51,28 @@ abbrev pub query_shape : Shape
 query_shape = with_rules (codes "query")
     (root_rule ∷ flag_rule (codes "all") ∷ flag_rule (codes "sources") ∷ option_rule (codes "index") ∷ required_rule (codes "MODALIAS") ∷ files_rule ∷ [])
 
--- `verify [-r DIR] [-s] [--all] [--format FORMAT] [--color WHEN] [--ignore CODES].. [--no-summary] [--no-style] [--lint] [--udev]
--- [--users FILE] [--groups FILE] [FILE]..`
+-- `verify [-r DIR] [--with FILE].. [-s] [--all] [--format FORMAT] [--color WHEN] [--ignore CODES].. [--no-summary] [--no-style] [--lint]
+-- [--udev] [--users FILE] [--groups FILE] [FILE]..`
 abbrev pub verify_shape : Shape
 verify_shape = with_rules (codes "verify")
-    (root_rule ∷ strict_rule ∷ flag_rule (codes "all") ∷ option_rule (codes "format") ∷ option_rule (codes "color")
+    (root_rule ∷ added_rule ∷ strict_rule ∷ flag_rule (codes "all") ∷ option_rule (codes "format") ∷ option_rule (codes "color")
     ∷ repeated_rule (codes "ignore") ∷ flag_rule (codes "no-summary") ∷ flag_rule (codes "no-style") ∷ flag_rule (codes "lint") ∷ flag_rule (codes "udev")
     ∷ option_rule (codes "users") ∷ option_rule (codes "groups") ∷ files_rule ∷ [])
 
--- `events [-r DIR] [--all] [--sources] [--why FILE[:LINE]].. [--questions] [--index FILE] [--udev] [FILE]..`
+-- `events [-r DIR] [--with FILE].. [--all] [--sources] [--why FILE[:LINE]].. [--questions] [--index FILE] [--udev] [FILE]..`
 abbrev pub events_shape : Shape
 events_shape = with_rules (codes "events")
-    (root_rule ∷ flag_rule (codes "all") ∷ flag_rule (codes "sources") ∷ repeated_rule (codes "why") ∷ flag_rule (codes "questions")
+    (root_rule ∷ added_rule ∷ flag_rule (codes "all") ∷ flag_rule (codes "sources") ∷ repeated_rule (codes "why") ∷ flag_rule (codes "questions")
     ∷ option_rule (codes "index") ∷ flag_rule (codes "udev") ∷ files_rule ∷ [])
 
--- `files [-r DIR]`
+-- `files [-r DIR] [--with FILE]..`
 abbrev pub files_shape : Shape
-files_shape = with_rules (codes "files") (root_rule ∷ [])
+files_shape = with_rules (codes "files") (root_rule ∷ added_rule ∷ [])
 
--- `compare [--all] [--index FILE] [--udev] OLD NEW`
+-- `compare [--with FILE].. [--all] [--index FILE] [--udev] OLD NEW`
 abbrev pub compare_shape : Shape
 compare_shape = with_rules (codes "compare")
-    (flag_rule (codes "all") ∷ option_rule (codes "index") ∷ flag_rule (codes "udev") ∷ required_rule (codes "OLD") ∷ required_rule (codes "NEW") ∷ [])
+    (added_rule ∷ flag_rule (codes "all") ∷ option_rule (codes "index") ∷ flag_rule (codes "udev") ∷ required_rule (codes "OLD") ∷ required_rule (codes "NEW") ∷ [])
 
 -- `explain CODE`
 abbrev pub explain_shape : Shape

@@ -106,12 +106,12 @@ class_codes letter = option_map codes_with (find (λ l. bytes_eq letter l) class
 abbrev pub codes_named : Text → List Text
 codes_named part = unwrap_or (class_codes part) (part ∷ [])
 
--- the line is that of the verb, below the root, and its other fields are the values of the matches
-pub record Reads (verb : Verb) (root : Text) (rows : List Row) (line : Line) : Type 0 where
+-- the line is that of the verb, below the root, with the added files, and its other fields are the values of the matches
+pub record Reads (verb : Verb) (root : Text) (added : List Text) (rows : List Row) (line : Line) : Type 0 where
   pub verb_is : line.verb ≡ verb
   pub root_is : line.root.now ≡ root
   pub files : map (λ f. f.now) line.files.items ≡ texts_of (codes "FILE") rows
-  pub added : map (λ f. f.now) line.added.items ≡ texts_of (codes "with") rows
+  pub added_are : map (λ f. f.now) line.added.items ≡ added
   pub input_name : line.input_name.now ≡ input_name_of rows
   pub index : option_map (λ i. i.now) line.index ≡ first_of (codes "index") rows
   pub strict : line.strict ≡ is_set (codes "strict") rows

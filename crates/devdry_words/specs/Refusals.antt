@@ -1,18 +1,50 @@
 -- Which of the words that clap takes `devdry` itself refuses, and what it says about them.
-use Rattle.std.specs.Prelude.{◌&&◌, ◌||◌, ◌++◌, List, [], ◌∷◌, Bool, Option, Some, None, if◌then◌else◌, find, flat_map, is_some, map, not, unwrap_or, codes}
+use Rattle.std.specs.Prelude.{◌&&◌, ◌||◌, ◌++◌, List, [], ◌∷◌, Bool, Option, Some, None, if◌then◌else◌, find, flat_map, is_some, map, nat_eq, not, unwrap_or, codes, false, true}
+use Rattle.std.specs.List.{ends_with}
 use Rattle.std.specs.Option.{is_none}
 use Rattle.std.specs.Str.{bytes_eq}
 use Rattle.clap.specs.Words.{Row, Text, first_of}
+use Rattle.text_bytes.specs.Kinds.{suffix_of}
+use Rattle.text_bytes.specs.declared.source_file.FileKind.TheVariants.{Hwdb, Rules}
 use Rattle.engine_formats.specs.Codes.{remark_of, remarks}
 use Rattle.engine_formats.specs.Remarks.{code_of}
 use Rattle.devdry_words.specs.declared.refusals.Refusal.{Refusal}
-use Rattle.devdry_words.specs.declared.refusals.Refusal.TheVariants.{TwoDatabases, TwoAnswers, EmptyRoot, EmptySide, NoUdev, UnknownFormat, UnknownColor, UnknownPart}
+use Rattle.devdry_words.specs.declared.refusals.Refusal.TheVariants.{TwoDatabases, AddedToNamed, AddedToIndex, TwoAnswers, EmptyRoot, EmptySide, NoUdev, UnknownFormat, UnknownColor, UnknownPart, NotRules, NotFile}
 use Rattle.devdry_words.specs.Lines.{class_codes, color_of, format_of}
 use Rattle.devdry_words.specs.Values.{cut_at_commas, has_value, is_empty_text, is_set, text_of, texts_of}
 
 -- a query names two databases: files and an index
 abbrev pub names_two : Text → List Row → Bool
 names_two name rows = bytes_eq name (codes "query") && (is_some (first_of (codes "index") rows) && has_value (codes "FILE") rows)
+
+-- a file is added to those of the folders, and others are named to be read in place of these
+abbrev pub adds_to_named : List Row → Bool
+adds_to_named rows = has_value (codes "with") rows && has_value (codes "FILE") rows
+
+-- a path ends as those of database files do
+abbrev pub is_of_database : Text → Bool
+is_of_database path = ends_with nat_eq path (suffix_of Hwdb)
+
+-- a path ends as those of rules files do
+abbrev pub is_of_rules : Text → Bool
+is_of_rules path = ends_with nat_eq path (suffix_of Rules)
+
+-- a file may be added at a path, by how the path ends: as those of rules do, or, if not only rules are read, as those of
+-- a database
+abbrev pub is_addable : Bool → Text → Bool
+is_addable rules_alone path = is_of_rules path || (not rules_alone && is_of_database path)
+
+-- the first of these paths at which none may be added
+abbrev pub first_unaddable : Bool → List Text → Option Text
+first_unaddable rules_alone paths = find (λ path. not (is_addable rules_alone path)) paths
+
+-- the first path at which a file is added that may not be, if there is one
+abbrev pub unaddable : Bool → List Row → Option Text
+unaddable rules_alone rows = first_unaddable rules_alone (texts_of (codes "with") rows)
+
+-- a file is added that is no rules file, and an index is named to be read in place of all files of the database
+abbrev pub adds_to_index : List Row → Bool
+adds_to_index rows = is_some (first_of (codes "index") rows) && is_some (unaddable true rows)
 
 -- events are to give questions and are to say more of their answers, which are then not given
 abbrev pub asks_both : List Row → Bool
@@ -51,20 +83,26 @@ first_unknown parts = find (λ part. not (is_ignorable part)) parts
 abbrev pub unknown_part : List Row → Option Text
 unknown_part rows = first_unknown (flat_map cut_at_commas (texts_of (codes "ignore") rows))
 
+-- why a file may not be added for a subcommand, if one may not: `verify` reads only rules
+abbrev pub wrong_added : Text → List Row → Option Refusal
+wrong_added name rows = if bytes_eq name (codes "verify") && is_some (unaddable true rows) then Some NotRules
+    else (if is_some (unaddable false rows) then Some NotFile else (if adds_to_index rows then Some AddedToIndex else None))
+
 -- why a value that has to be one of a few is refused, if it is: no format has the name, colors are asked for in no
--- known way, or a part of `--ignore` names nothing
-abbrev pub unknown_value : List Row → Option Refusal
-unknown_value rows = if is_none (format_of rows) then Some UnknownFormat
+-- known way, a part of `--ignore` names nothing, or a file may not be added
+abbrev pub unknown_value : Text → List Row → Option Refusal
+unknown_value name rows = if is_none (format_of rows) then Some UnknownFormat
     else (if is_none (color_of rows) then Some UnknownColor
-    else (if is_some (unknown_part rows) then Some UnknownPart else None))
+    else (if is_some (unknown_part rows) then Some UnknownPart else wrong_added name rows))
 
 -- why the matches of a subcommand are refused, if they are
 abbrev pub refusal_of : Text → List Row → Option Refusal
 refusal_of name rows = if names_two name rows then Some TwoDatabases
+    else (if adds_to_named rows then Some AddedToNamed
     else (if asks_both rows then Some TwoAnswers
     else (if lacks_root name rows then Some EmptyRoot
     else (if lacks_side rows then Some EmptySide
-    else (if lacks_udev name rows then Some NoUdev else unknown_value rows))))
+    else (if lacks_udev name rows then Some NoUdev else unknown_value name rows)))))
 
 -- what is said about a value that its argument does not take, by what comes before and after the value
 abbrev pub invalid_value : Text → Text → Text
@@ -92,9 +130,19 @@ known_codes = listed (map code_of remarks)
 abbrev pub not_ignorable : Text
 not_ignorable = codes "' for '--ignore <CODES>'\n  [possible values: " ++ known_codes ++ codes ", V, S, H, W, D, I, comments]\n\nFor more information, try '--help'.\n"
 
+-- what is said after the path of a file that `verify` may not add
+abbrev pub not_rules : Text
+not_rules = codes "' for '--with <FILE>': its name has to end in .rules\n\nFor more information, try '--help'.\n"
+
+-- what is said after the path of a file that no subcommand may add
+abbrev pub not_a_file : Text
+not_a_file = codes "' for '--with <FILE>': its name has to end in .rules or .hwdb\n\nFor more information, try '--help'.\n"
+
 -- what is said about matches that are refused
 abbrev pub said_of : Refusal → List Row → Text
 said_of TwoDatabases rows = codes "error: the argument '--index <FILE>' cannot be used with '[FILE]...'\n\nUsage: devdry query --index <FILE> <MODALIAS>\n\nFor more information, try '--help'.\n"
+said_of AddedToNamed rows = codes "error: the argument '--with <FILE>' cannot be used with '[FILE]...'\n\nFor more information, try '--help'.\n"
+said_of AddedToIndex rows = codes "error: the argument '--with <FILE>' cannot add to the database with '--index <FILE>'\n\nFor more information, try '--help'.\n"
 said_of TwoAnswers rows = codes "error: the argument '--questions' cannot be used with '--sources' or '--why <FILE[:LINE]>'\n\nUsage: devdry events --questions [FILE]...\n\nFor more information, try '--help'.\n"
 said_of EmptyRoot rows = codes "error: an empty value of '--root <DIR>' names no folder\n\nFor more information, try '--help'.\n"
 said_of EmptySide rows = codes "error: an empty value of '<OLD>' or '<NEW>' names no folder; '/' is that of the running system\n\nFor more information, try '--help'.\n"
@@ -102,3 +150,5 @@ said_of NoUdev rows = codes "error: the arguments '--users <FILE>' and '--groups
 said_of UnknownFormat rows = invalid_value (text_of (codes "format") rows) no_such_format
 said_of UnknownColor rows = invalid_value (text_of (codes "color") rows) no_such_color
 said_of UnknownPart rows = invalid_value (unwrap_or (unknown_part rows) []) not_ignorable
+said_of NotRules rows = invalid_value (unwrap_or (unaddable true rows) []) not_rules
+said_of NotFile rows = invalid_value (unwrap_or (unaddable false rows) []) not_a_file

@@ -9,6 +9,7 @@ ghost use Rattle.devdry_words.specs.Commands.{compare_shape, devdry, events_shap
 ghost use Rattle.devdry_words.specs.Commands.{files_shape, flag_rule, option_rule, program as program_app, query_shape};
 ghost use Rattle.devdry_words.specs.Commands.{repeated_rule, required_rule, root_rule, strict_rule, update_shape, verify_shape};
 
+use crate::added::{ADDED_AFTER, ADDED_FILES, ADDED_RULES, with_option};
 use clap::{Arg, ArgAction, Command};
 use std::alloc::{AllocError, Global};
 
@@ -307,6 +308,7 @@ fn verify_command<'a>(alloc: Global) -> Result<Command<'a>, AllocError>
     Command::new(alloc, "verify")
         .about("Checks rules files")
         .arg(root_option(alloc))?
+        .arg(with_option(alloc, ADDED_RULES))?
         .arg(strict_flag(alloc, EVERY_CHECK))?
         .arg(all_flag(alloc))?
         .arg(format_option(alloc))?
@@ -328,6 +330,7 @@ fn events_command<'a>(alloc: Global) -> Result<Command<'a>, AllocError>
     Command::new(alloc, "events")
         .about("Answers the event blocks of the standard input")
         .arg(root_option(alloc))?
+        .arg(with_option(alloc, ADDED_FILES))?
         .arg(all_flag(alloc))?
         .arg(sources_flag(alloc))?
         .arg(why_option(alloc))?
@@ -343,7 +346,8 @@ fn files_command<'a>(alloc: Global) -> Result<Command<'a>, AllocError>
 {
     Command::new(alloc, "files")
         .about("Lists the files of the folders, and says which of them are read")
-        .arg(root_option(alloc))
+        .arg(root_option(alloc))?
+        .arg(with_option(alloc, ADDED_FILES))
 }
 
 /// The subcommand `compare`.
@@ -352,6 +356,7 @@ fn compare_command<'a>(alloc: Global) -> Result<Command<'a>, AllocError>
 {
     Command::new(alloc, "compare")
         .about("Tells where two systems answer the event blocks of the standard input differently")
+        .arg(with_option(alloc, ADDED_AFTER))?
         .arg(all_flag(alloc))?
         .arg(index_option(alloc))?
         .arg(udev_flag(alloc, EVALUATE_AS_UDEV))?

@@ -4,6 +4,7 @@
 //! become are in `engine_ends`, and only the program needs this crate.
 #![tactic(auto)]
 
+mod added;
 mod commands;
 mod ignored;
 mod line_reading;

@@ -1,5 +1,5 @@
 //! The line that the matches of a parse mean.
-ghost use Rattle.std.specs.Prelude.{◌≡◌, [], IfOk};
+ghost use Rattle.std.specs.Prelude.{◌≡◌, [], IfOk, map};
 ghost use Rattle.clap.specs.Words.{first_of, found_of, rows_of};
 ghost use Rattle.devdry_words.specs.Lines.{IsUnreadFile, Reads, account_path, asks_every, color_named, color_of, format_named, format_of, input_name_of, is_set_or_every, profile_of};
 
@@ -128,20 +128,21 @@ fn account_file<'a>(
     }
 }
 
-/// The line of a verb below a root, with these matches.
+/// The line of a verb below a root, with these added files, and otherwise with these matches.
 pub(crate) fn line_with<'a>(
     alloc: Global,
     verb: Verb,
     root: &'a str,
+    added: Vec<&'a str>,
     matches: &ArgMatches<'a>,
 ) -> Result<Line<'a>, AllocError>
-    ensures { IfOk result (Reads verb root.entry.now (rows_of (found_of matches.now))) }
+    ensures { IfOk result (Reads verb root.entry.now (map (λ f. f.now) added.entry.items) (rows_of (found_of matches.now))) }
 {
     Ok(Line {
         verb,
         root,
         files: texts(alloc, matches, "FILE")?,
-        added: texts(alloc, matches, "with")?,
+        added,
         input_name: input_name_of(matches),
         index: value(matches, "index"),
         strict: is_given(matches, "strict"),

@@ -5,8 +5,9 @@
 ghost use Rattle.std.specs.Prelude.{◌≡◌};
 ghost use Rattle.clap.specs.Words.{found_of, rows_of};
 ghost use Rattle.devdry_words.specs.Named.{IsUsageOf};
-ghost use Rattle.devdry_words.specs.Refusals.{asks_all, asks_both, is_strict, lacks_root, lacks_side, lacks_udev, names_two, refusal_of, said_of, unknown_value};
+ghost use Rattle.devdry_words.specs.Refusals.{asks_all, asks_both, is_strict, lacks_root, lacks_side, lacks_udev, names_two, refusal_of, said_of, unknown_value, wrong_added};
 
+use crate::added::{adds_to_index, adds_to_named, unaddable, unaddable_text};
 use crate::ignored::{unknown_part, unknown_text};
 use crate::line_reading::{color_of, format_of};
 use crate::reporting::{usage, usage_on_code, usage_on_value};
@@ -18,6 +19,27 @@ use std::alloc::Global;
 const TWO_DATABASES: &str = "error: the argument '--index <FILE>' cannot be used with '[FILE]...'
 
 Usage: devdry query --index <FILE> <MODALIAS>
+
+For more information, try '--help'.
+";
+
+const ADDED_TO_NAMED: &str = "error: the argument '--with <FILE>' cannot be used with '[FILE]...'
+
+For more information, try '--help'.
+";
+
+const ADDED_TO_INDEX: &str =
+    "error: the argument '--with <FILE>' cannot add to the database with '--index <FILE>'
+
+For more information, try '--help'.
+";
+
+const NOT_RULES: &str = "' for '--with <FILE>': its name has to end in .rules
+
+For more information, try '--help'.
+";
+
+const NOT_A_FILE: &str = "' for '--with <FILE>': its name has to end in .rules or .hwdb
 
 For more information, try '--help'.
 ";
@@ -66,6 +88,10 @@ For more information, try '--help'.
 pub(crate) enum Refusal {
     /// A query names two databases: files and an index.
     TwoDatabases,
+    /// A file is added to those of the folders, and others are named to be read in place of these.
+    AddedToNamed,
+    /// A file is added to those of the database, and an index is named to be read in place of these.
+    AddedToIndex,
     /// Events are to give questions in place of answers, and are to say more of their answers.
     TwoAnswers,
     /// All is asked for, or which files count, below a root that is given and empty: so a variable without a value,
@@ -81,6 +107,10 @@ pub(crate) enum Refusal {
     UnknownColor,
     /// A part of `--ignore` is neither the code of a remark nor the word `comments`.
     UnknownPart,
+    /// The name of a file that `verify` adds does not end as those of rules do.
+    NotRules,
+    /// The name of a file that is added ends neither as those of rules nor as those of the database.
+    NotFile,
 }
 
 /// Whether the matches of a subcommand name two databases.
@@ -133,9 +163,24 @@ fn lacks_udev(name: &str, matches: &ArgMatches<'_>) -> bool
         & !(is_given(matches, "udev") | is_strict(name, matches))
 }
 
-/// Why a value of matches that has to be one of a few is refused, if it is.
-fn unknown_value(matches: &ArgMatches<'_>) -> Option<Refusal>
-    ensures { result ≡ unknown_value (rows_of (found_of matches.now)) }
+/// Why a file may not be added for a subcommand, if one may not.
+fn wrong_added(name: &str, matches: &ArgMatches<'_>) -> Option<Refusal>
+    ensures { result ≡ wrong_added name.now (rows_of (found_of matches.now)) }
+{
+    if (name == "verify") & unaddable(true, matches).is_some() {
+        Some(Refusal::NotRules)
+    } else if unaddable(false, matches).is_some() {
+        Some(Refusal::NotFile)
+    } else if adds_to_index(matches) {
+        Some(Refusal::AddedToIndex)
+    } else {
+        None
+    }
+}
+
+/// Why a value of the matches of a subcommand that has to be one of a few is refused, if it is.
+fn unknown_value(name: &str, matches: &ArgMatches<'_>) -> Option<Refusal>
+    ensures { result ≡ unknown_value name.now (rows_of (found_of matches.now)) }
 {
     if format_of(matches).is_none() {
         Some(Refusal::UnknownFormat)
@@ -144,7 +189,7 @@ fn unknown_value(matches: &ArgMatches<'_>) -> Option<Refusal>
     } else if unknown_part(matches).is_some() {
         Some(Refusal::UnknownPart)
     } else {
-        None
+        wrong_added(name, matches)
     }
 }
 
@@ -154,6 +199,8 @@ pub(crate) fn refusal_of(name: &str, matches: &ArgMatches<'_>) -> Option<Refusal
 {
     if names_two(name, matches) {
         Some(Refusal::TwoDatabases)
+    } else if adds_to_named(matches) {
+        Some(Refusal::AddedToNamed)
     } else if asks_both(matches) {
         Some(Refusal::TwoAnswers)
     } else if lacks_root(name, matches) {
@@ -163,7 +210,7 @@ pub(crate) fn refusal_of(name: &str, matches: &ArgMatches<'_>) -> Option<Refusal
     } else if lacks_udev(name, matches) {
         Some(Refusal::NoUdev)
     } else {
-        unknown_value(matches)
+        unknown_value(name, matches)
     }
 }
 
@@ -173,6 +220,8 @@ pub(crate) fn usage_of(alloc: Global, refusal: Refusal, matches: &ArgMatches<'_>
 {
     match refusal {
         Refusal::TwoDatabases => usage(alloc, TWO_DATABASES),
+        Refusal::AddedToNamed => usage(alloc, ADDED_TO_NAMED),
+        Refusal::AddedToIndex => usage(alloc, ADDED_TO_INDEX),
         Refusal::TwoAnswers => usage(alloc, TWO_ANSWERS),
         Refusal::EmptyRoot => usage(alloc, EMPTY_ROOT),
         Refusal::EmptySide => usage(alloc, EMPTY_SIDE),
@@ -185,5 +234,7 @@ pub(crate) fn usage_of(alloc: Global, refusal: Refusal, matches: &ArgMatches<'_>
             "' for '--ignore <CODES>'\n  [possible values: ",
             ", V, S, H, W, D, I, comments]\n\nFor more information, try '--help'.\n",
         ),
+        Refusal::NotRules => usage_on_value(alloc, unaddable_text(true, matches), NOT_RULES),
+        Refusal::NotFile => usage_on_value(alloc, unaddable_text(false, matches), NOT_A_FILE),
     }
 }

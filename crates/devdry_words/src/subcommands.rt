@@ -6,7 +6,7 @@ ghost use Rattle.devdry_words.specs.Named.{IsSubcommandName};
 ghost use Rattle.devdry_words.specs.Requests.{AsksFor, subcommand_name};
 
 use crate::line_reading::line_with;
-use crate::values::text;
+use crate::values::{text, texts};
 use clap::ArgMatches;
 use engine_ends::{Request, Verb};
 use std::alloc::{AllocError, Global};
@@ -49,7 +49,8 @@ pub(crate) fn run_request<'a>(
     ensures { IfOk result (AsksFor (name_of verb) (rows_of (found_of matches.now))) }
 {
     let root = text(matches, "root");
-    Ok(Request::Run(line_with(alloc, verb, root, matches)?))
+    let added = texts(alloc, matches, "with")?;
+    Ok(Request::Run(line_with(alloc, verb, root, added, matches)?))
 }
 
 /// What `files` asks for with these matches.
@@ -60,17 +61,21 @@ pub(crate) fn files_request<'a>(
     ensures { IfOk result (AsksFor (codes "files") (rows_of (found_of matches.now))) }
 {
     let root = text(matches, "root");
-    Ok(Request::Files(line_with(alloc, Verb::Events, root, matches)?))
+    let added = texts(alloc, matches, "with")?;
+    let line = line_with(alloc, Verb::Events, root, added, matches)?;
+    Ok(Request::Files(line))
 }
 
-/// What `compare` asks for with these matches.
+/// What `compare` asks for with these matches: files are added to those of the new root alone.
 pub(crate) fn compare_request<'a>(
     alloc: Global,
     matches: &ArgMatches<'a>,
 ) -> Result<Request<'a>, AllocError>
     ensures { IfOk result (AsksFor (codes "compare") (rows_of (found_of matches.now))) }
 {
-    let old = line_with(alloc, Verb::Events, text(matches, "OLD"), matches)?;
-    let new = line_with(alloc, Verb::Events, text(matches, "NEW"), matches)?;
-    Ok(Request::Compare(old, new))
+    let (old, new) = (text(matches, "OLD"), text(matches, "NEW"));
+    let added = texts(alloc, matches, "with")?;
+    let before = line_with(alloc, Verb::Events, old, Vec::new(alloc), matches)?;
+    let after = line_with(alloc, Verb::Events, new, added, matches)?;
+    Ok(Request::Compare(before, after))
 }

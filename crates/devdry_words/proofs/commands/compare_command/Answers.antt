@@ -8,8 +8,9 @@ use Rattle.devdry_words.proofs.commands.compare_command.Goals as goal
 pub returns : goal.returns
 returns c =
     let start : IsCommand (new_shape (codes "compare")) c.about.result = search rules in
-    let first = one_more _ _ _ _ _ start c.all_flag.ensures c.in_ok-arg.ensures in
-    let second = one_more _ _ _ _ _ first c.index_option.ensures c.in_ok-arg-2.ensures in
-    let third = one_more _ _ _ _ _ second c.udev_flag.ensures c.in_ok-arg-3.ensures in
-    let fourth = one_more _ _ _ _ _ third c.old_argument.ensures c.in_ok-arg-4.ensures in
-    IfOk-weaker c.arg-5.result _ _ (λ m h. one_more _ _ _ _ _ fourth c.new_argument.ensures h) c.arg-5.ensures
+    let first = one_more _ _ _ _ _ start c.with_option.ensures c.in_ok-arg.ensures in
+    let second = one_more _ _ _ _ _ first c.all_flag.ensures c.in_ok-arg-2.ensures in
+    let third = one_more _ _ _ _ _ second c.index_option.ensures c.in_ok-arg-3.ensures in
+    let fourth = one_more _ _ _ _ _ third c.udev_flag.ensures c.in_ok-arg-4.ensures in
+    let fifth = one_more _ _ _ _ _ fourth c.old_argument.ensures c.in_ok-arg-5.ensures in
+    IfOk-weaker c.arg-6.result _ _ (λ m h. one_more _ _ _ _ _ fifth c.new_argument.ensures h) c.arg-6.ensures

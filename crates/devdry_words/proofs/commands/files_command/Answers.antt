@@ -8,4 +8,5 @@ use Rattle.devdry_words.proofs.commands.files_command.Goals as goal
 pub returns : goal.returns
 returns c =
     let start : IsCommand (new_shape (codes "files")) c.about.result = search rules in
-    IfOk-weaker c.arg.result _ _ (λ m h. one_more _ _ _ _ _ start c.root_option.ensures h) c.arg.ensures
+    let first = one_more _ _ _ _ _ start c.root_option.ensures c.in_ok-arg.ensures in
+    IfOk-weaker c.arg-2.result _ _ (λ m h. one_more _ _ _ _ _ first c.with_option.ensures h) c.arg-2.ensures

@@ -12,15 +12,16 @@ returns c =
       is_local = ap (λ f. f.has_globals) c.about.ensures ∙ c.new.ensures.local;
     } in
     let first = one_more _ _ _ _ _ start c.root_option.ensures c.in_ok-arg.ensures in
-    let second = one_more _ _ _ _ _ first c.strict_flag.ensures c.in_ok-arg-2.ensures in
-    let third = one_more _ _ _ _ _ second c.all_flag.ensures c.in_ok-arg-3.ensures in
-    let fourth = one_more _ _ _ _ _ third c.format_option.ensures c.in_ok-arg-4.ensures in
-    let fifth = one_more _ _ _ _ _ fourth c.color_option.ensures c.in_ok-arg-5.ensures in
-    let sixth = one_more _ _ _ _ _ fifth c.ignore_option.ensures c.in_ok-arg-6.ensures in
-    let seventh = one_more _ _ _ _ _ sixth c.no_summary_flag.ensures c.in_ok-arg-7.ensures in
-    let eighth = one_more _ _ _ _ _ seventh c.no_style_flag.ensures c.in_ok-arg-8.ensures in
-    let ninth = one_more _ _ _ _ _ eighth c.lint_flag.ensures c.in_ok-arg-9.ensures in
-    let tenth = one_more _ _ _ _ _ ninth c.udev_flag.ensures c.in_ok-arg-10.ensures in
-    let eleventh = one_more _ _ _ _ _ tenth c.users_option.ensures c.in_ok-arg-11.ensures in
-    let twelfth = one_more _ _ _ _ _ eleventh c.groups_option.ensures c.in_ok-arg-12.ensures in
-    IfOk-weaker c.arg-13.result _ _ (λ m h. one_more _ _ _ _ _ twelfth c.files_argument.ensures h) c.arg-13.ensures
+    let second = one_more _ _ _ _ _ first c.with_option.ensures c.in_ok-arg-2.ensures in
+    let third = one_more _ _ _ _ _ second c.strict_flag.ensures c.in_ok-arg-3.ensures in
+    let fourth = one_more _ _ _ _ _ third c.all_flag.ensures c.in_ok-arg-4.ensures in
+    let fifth = one_more _ _ _ _ _ fourth c.format_option.ensures c.in_ok-arg-5.ensures in
+    let sixth = one_more _ _ _ _ _ fifth c.color_option.ensures c.in_ok-arg-6.ensures in
+    let seventh = one_more _ _ _ _ _ sixth c.ignore_option.ensures c.in_ok-arg-7.ensures in
+    let eighth = one_more _ _ _ _ _ seventh c.no_summary_flag.ensures c.in_ok-arg-8.ensures in
+    let ninth = one_more _ _ _ _ _ eighth c.no_style_flag.ensures c.in_ok-arg-9.ensures in
+    let tenth = one_more _ _ _ _ _ ninth c.lint_flag.ensures c.in_ok-arg-10.ensures in
+    let eleventh = one_more _ _ _ _ _ tenth c.udev_flag.ensures c.in_ok-arg-11.ensures in
+    let twelfth = one_more _ _ _ _ _ eleventh c.users_option.ensures c.in_ok-arg-12.ensures in
+    let thirteenth = one_more _ _ _ _ _ twelfth c.groups_option.ensures c.in_ok-arg-13.ensures in
+    IfOk-weaker c.arg-14.result _ _ (λ m h. one_more _ _ _ _ _ thirteenth c.files_argument.ensures h) c.arg-14.ensures

@@ -1,6 +1,6 @@
 use Rattle.std.proofs.Common.{subst}
 use Rattle.devdry_words.specs.Named.{IsUsageOf}
-use Rattle.devdry_words.specs.Refusals.{invalid_value, no_such_color, no_such_format, not_ignorable}
+use Rattle.devdry_words.specs.Refusals.{invalid_value, no_such_color, no_such_format, not_a_file, not_ignorable, not_rules}
 use Rattle.devdry_words.proofs.refusals.usage_of.Goals as goal
 
 pub returns-in-UnknownFormat : goal.returns-in-UnknownFormat
@@ -15,3 +15,11 @@ pub returns-in-UnknownPart : goal.returns-in-UnknownPart
 returns-in-UnknownPart c =
     rw c.in-UnknownPart.is
     (subst (λ value. IsUsageOf (invalid_value value not_ignorable) c.usage_on_code.result) c.unknown_text.ensures c.usage_on_code.ensures)
+
+pub returns-in-NotRules : goal.returns-in-NotRules
+returns-in-NotRules c =
+    rw c.in-NotRules.is (subst (λ value. IsUsageOf (invalid_value value not_rules) c.usage_on_value-2.result) c.unaddable_text.ensures c.usage_on_value-2.ensures)
+
+pub returns-in-NotFile : goal.returns-in-NotFile
+returns-in-NotFile c =
+    rw c.in-NotFile.is (subst (λ value. IsUsageOf (invalid_value value not_a_file) c.usage_on_value-3.result) c.unaddable_text-2.ensures c.usage_on_value-3.ensures)

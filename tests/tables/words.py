@@ -265,6 +265,7 @@ error: invalid value 'yes' for '--color <WHEN>'
 For more information, try '--help'.
 """
 
+
 def not_added(path, endings):
     """What is said about a file that can't be added, by how its name may end."""
     return f"error: invalid value '{path}' for '--with <FILE>': its name has to end in {endings}\n\nFor more information, try '--help'.\n"

@@ -1,5 +1,6 @@
 -- Where a path leads inside a folder, the root, by what the disk says of each name on the way.
-use Rattle.std.specs.Prelude.{◌≡◌, ◌≢◌, ◌++◌, ◌∷◌, ◌⊎◌, ◌==◌, ◌||◌, ◌-◌, ℕ, Bool, true, false, List, [], codes, flat_map, if◌then◌else◌, length, string_bytes, suc, take, zero}
+use Rattle.std.specs.Prelude.{◌≡◌, ◌≢◌, ◌++◌, ◌∷◌, ◌⊎◌, ◌==◌, ◌||◌, ◌-◌, ℕ, Bool, true, false, List, [], codes, flat_map, if◌then◌else◌, length}
+use Rattle.std.specs.Prelude.{string_bytes, suc, take, zero}
 use Rattle.std.specs.List.{slice_split}
 use Rattle.std.specs.Str.{bytes_eq}
 use Rattle.text_bytes.specs.Names.{slash}

@@ -4,7 +4,8 @@
 ghost use Rattle.std.specs.Fs.{IsDir, IsFile, file_type};
 ghost use Rattle.std.specs.IoError.{error_kind};
 ghost use Rattle.std.specs.Path.{path_buf_bytes};
-ghost use Rattle.std.specs.Prelude.{◌≡◌, ◌⊎◌, Err, IfErr, IfOk, IfSome, IsOk, IsOkAnd, MatchResult, Ok, alloc_error, false, if◌then◌else◌, ok_or, option_map, string_bytes, true};
+ghost use Rattle.std.specs.Prelude.{◌≡◌, ◌⊎◌, Err, IfErr, IfOk, IfSome, IsOk, IsOkAnd, MatchResult, Ok, alloc_error, false, if◌then◌else◌, ok_or};
+ghost use Rattle.std.specs.Prelude.{option_map, string_bytes, true};
 ghost use Rattle.devdry_files.specs.Errors.{fault_from, look_from, read_fault_from, step_unread};
 ghost use Rattle.devdry_files.specs.Inside.{same_identity};
 ghost use Rattle.devdry_files.specs.Memory.{LinksTo};

@@ -2,7 +2,8 @@
 ghost use Rattle.std.specs.Prelude.{◌≡◌, ◌≢◌, ◌++◌, ◌∷◌, [], ℕ, List, IfErr, IfOk, MatchOption, false, map, string_bytes};
 ghost use Rattle.std.specs.List.{AllZip};
 ghost use Rattle.devdry_files.specs.Answers.Answer.{Content, NoContent, NoListing, NoOwnContent, OwnContent, Looked, Stepped};
-ghost use Rattle.devdry_files.specs.Inside.{IsEntryIn, ListsIn, MayBy, MayInside, StepsAt, StepsBelow, StepsPast, is_file_with, is_folder, is_own_root, unreadable};
+ghost use Rattle.devdry_files.specs.Inside.{IsEntryIn, ListsIn, MayBy, MayInside, StepsAt, StepsBelow, StepsPast, is_file_with, is_folder};
+ghost use Rattle.devdry_files.specs.Inside.{is_own_root, unreadable};
 ghost use Rattle.devdry_files.specs.Walks.{Comes, LeadsOn};
 
 use crate::disk::{Disk, DiskFault, Entry};

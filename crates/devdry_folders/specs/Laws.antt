@@ -1,5 +1,6 @@
 -- What can't be read, and which files count: as `files` reports it, and as a run reads them.
-use Rattle.std.specs.Prelude.{◌≡◌, ◌≤◌, ◌||◌, ◌&&◌, ◌==◌, ℕ, Bool, true, false, List, [], ◌∷◌, Contains, Option, Some, None, MatchBool, ⊤, filter, is_some, length, not}
+use Rattle.std.specs.Prelude.{◌≡◌, ◌≤◌, ◌||◌, ◌&&◌, ◌==◌, ℕ, Bool, true, false, List, [], ◌∷◌, Contains, Option, Some, None, MatchBool, ⊤, filter}
+use Rattle.std.specs.Prelude.{is_some, length, not}
 use Rattle.std.specs.List.{list_any}
 use Rattle.std.specs.Option.{option_to_list}
 use Rattle.text_bytes.specs.declared.source_file.FileKind.{FileKind}

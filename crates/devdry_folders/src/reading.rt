@@ -1,7 +1,8 @@
 //! The outcome of a line whose reading goes on after what can't be read.
 ghost use Rattle.std.specs.Option.{option_to_list};
 ghost use Rattle.std.specs.Prelude.{◌≡◌, ◌≤◌, IfOk};
-ghost use Rattle.devdry_folders.specs.Surveys.{AreFilesReadSome, AreVisitsFor, IsFilesSurveyFor, IsListed, IsReadBy, IsReadSome, IsReportOn, IsReportOnFiles, IsReported, IsRootReport, IsSurveyFor};
+ghost use Rattle.devdry_folders.specs.Surveys.{AreFilesReadSome, AreVisitsFor, IsFilesSurveyFor, IsListed, IsReadBy, IsReadSome, IsReportOn};
+ghost use Rattle.devdry_folders.specs.Surveys.{IsReportOnFiles, IsReported, IsRootReport, IsSurveyFor};
 ghost use Rattle.devdry_folders.specs.Surveys.{all_unread, has_file_needed, kinds_needed};
 ghost use Rattle.devdry_folders.specs.Unread.{least_status};
 
@@ -74,8 +75,8 @@ fn files_survey_for<D: Disk>(alloc: Global, disk: &D, line: &Line<'_>) -> Result
     })
 }
 
-/// The least status of a run, by the lines on what can't be read and those on where no file was found: 3 if something can't be
-/// read, else 1 if files are missing.
+/// The least status of a run, by the lines on what can't be read and those on where no file was found: 3 if something
+/// can't be read, else 1 if files are missing.
 pub fn least_status(unread: &[u8], missing: &[u8]) -> u8
     ensures status { result ≡ least_status unread.now missing.now }
     ensures least { result ≤ 3 }
@@ -221,8 +222,9 @@ fn report_on_root<D: Disk>(alloc: Global, disk: &D, line: &Line<'_>) -> Result<R
     Ok(Report { lines, least })
 }
 
-/// What is reported on files that were read for a line. If one of them is of the kind that the line names, that is nothing,
-/// with status 0, but where files are added below a root that is no folder; otherwise all that it asks for but an index is visited, and reported as with `read_what_can`.
+/// What is reported on files that were read for a line. If one of them is of the kind that the line names, that is
+/// nothing, with status 0, but where files are added below a root that is no folder; otherwise all that it asks for but
+/// an index is visited, and reported as with `read_what_can`.
 pub fn report_on_files<D: Disk>(
     alloc: Global,
     disk: &D,

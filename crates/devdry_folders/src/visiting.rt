@@ -5,8 +5,10 @@ ghost use Rattle.std.specs.String.{string_cmp};
 ghost use Rattle.devdry_files.specs.Answers.Answer.{Listing};
 ghost use Rattle.devdry_files.specs.Places.{place_of};
 ghost use Rattle.devdry_folders.specs.Meetings.{IsMet};
-ghost use Rattle.devdry_folders.specs.Visits.{AreAddedVisits, AreFolderVisits, AreNamedVisits, AreUnnamedVisits, AreSightsAt, AreSightsIn, AreVisits, IsFolderScan, IsFolderVisit, IsListedSo, IsMissingFolder, IsNamedSo};
-ghost use Rattle.devdry_folders.specs.Visits.{IsAddedScan, IsAddedVisit, IsNamedVisit, IsOneFile, IsScannedBy, IsSightIn, IsUnlisted, below, missing_folder, place_of_visit};
+ghost use Rattle.devdry_folders.specs.Visits.{AreAddedVisits, AreFolderVisits, AreNamedVisits, AreUnnamedVisits, AreSightsAt, AreSightsIn, AreVisits};
+ghost use Rattle.devdry_folders.specs.Visits.{IsFolderScan, IsFolderVisit, IsListedSo, IsMissingFolder, IsNamedSo};
+ghost use Rattle.devdry_folders.specs.Visits.{IsAddedScan, IsAddedVisit, IsNamedVisit, IsOneFile, IsScannedBy, IsSightIn, IsUnlisted, below};
+ghost use Rattle.devdry_folders.specs.Visits.{missing_folder, place_of_visit};
 
 use crate::meetings::{file_met_at, met_at, met_by, target_of};
 use crate::reasons::Reason;
@@ -357,9 +359,9 @@ fn unnamed_visits<D: Disk>(
 /// Visits all that is wanted: what is named in the order given, then the added files, and then the folders, inside
 /// their root.
 ///
-/// A named file is read whatever its name, and so is an added one, which is seen under that name; in a named folder, and in the folders, the files whose names end in the
-/// suffix of their kind are read, by name. What can't be read is kept with its reason, and the next is visited. An
-/// absent folder is not a fault, but a symlink to nothing is.
+/// A named file is read whatever its name, and so is an added one, which is seen under that name; in a named folder,
+/// and in the folders, the files whose names end in the suffix of their kind are read, by name. What can't be read is
+/// kept with its reason, and the next is visited. An absent folder is not a fault, but a symlink to nothing is.
 pub(crate) fn visits<D: Disk>(
     alloc: Global,
     disk: &D,

@@ -72,7 +72,8 @@ files_shape = with_rules (codes "files") (root_rule ∷ added_rule ∷ [])
 -- `compare [--with FILE].. [--all] [--index FILE] [--udev] OLD NEW`
 abbrev pub compare_shape : Shape
 compare_shape = with_rules (codes "compare")
-    (added_rule ∷ flag_rule (codes "all") ∷ option_rule (codes "index") ∷ flag_rule (codes "udev") ∷ required_rule (codes "OLD") ∷ required_rule (codes "NEW") ∷ [])
+    (added_rule ∷ flag_rule (codes "all") ∷ option_rule (codes "index") ∷ flag_rule (codes "udev")
+    ∷ required_rule (codes "OLD") ∷ required_rule (codes "NEW") ∷ [])
 
 -- `explain CODE`
 abbrev pub explain_shape : Shape

@@ -1,5 +1,6 @@
 -- The line that the matches of a subcommand mean.
-use Rattle.std.specs.Prelude.{◌≡◌, ◌∷◌, ◌&&◌, ◌||◌, Bool, true, false, IfSome, if◌then◌else◌, List, [], Option, Some, None, filter, find, flat_map, map, nat_eq, not, unwrap_or, codes}
+use Rattle.std.specs.Prelude.{◌≡◌, ◌∷◌, ◌&&◌, ◌||◌, Bool, true, false, IfSome, if◌then◌else◌, List, [], Option, Some, None, filter, find, flat_map}
+use Rattle.std.specs.Prelude.{map, nat_eq, not, unwrap_or, codes}
 use Rattle.std.specs.List.{starts_with}
 use Rattle.std.specs.Option.{option_map, option_map_or}
 use Rattle.std.specs.Str.{bytes_eq}

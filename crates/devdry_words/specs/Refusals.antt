@@ -1,5 +1,6 @@
 -- Which of the words that clap takes `devdry` itself refuses, and what it says about them.
-use Rattle.std.specs.Prelude.{◌&&◌, ◌||◌, ◌++◌, List, [], ◌∷◌, Bool, Option, Some, None, if◌then◌else◌, find, flat_map, is_some, map, nat_eq, not, unwrap_or, codes, false, true}
+use Rattle.std.specs.Prelude.{◌&&◌, ◌||◌, ◌++◌, List, [], ◌∷◌, Bool, Option, Some, None, if◌then◌else◌, find, flat_map, is_some, map, nat_eq, not}
+use Rattle.std.specs.Prelude.{unwrap_or, codes, false, true}
 use Rattle.std.specs.List.{ends_with}
 use Rattle.std.specs.Option.{is_none}
 use Rattle.std.specs.Str.{bytes_eq}
@@ -9,7 +10,8 @@ use Rattle.text_bytes.specs.declared.source_file.FileKind.TheVariants.{Hwdb, Rul
 use Rattle.engine_formats.specs.Codes.{remark_of, remarks}
 use Rattle.engine_formats.specs.Remarks.{code_of}
 use Rattle.devdry_words.specs.declared.refusals.Refusal.{Refusal}
-use Rattle.devdry_words.specs.declared.refusals.Refusal.TheVariants.{TwoDatabases, AddedToNamed, AddedToIndex, TwoAnswers, EmptyRoot, EmptySide, NoUdev, UnknownFormat, UnknownColor, UnknownPart, NotRules, NotFile}
+use Rattle.devdry_words.specs.declared.refusals.Refusal.TheVariants.{TwoDatabases, AddedToNamed, AddedToIndex, TwoAnswers, EmptyRoot, EmptySide}
+use Rattle.devdry_words.specs.declared.refusals.Refusal.TheVariants.{NoUdev, UnknownFormat, UnknownColor, UnknownPart, NotRules, NotFile}
 use Rattle.devdry_words.specs.Lines.{class_codes, color_of, format_of}
 use Rattle.devdry_words.specs.Values.{cut_at_commas, has_value, is_empty_text, is_set, text_of, texts_of}
 

@@ -1,7 +1,8 @@
 //! The line that the matches of a parse mean.
 ghost use Rattle.std.specs.Prelude.{◌≡◌, [], IfOk, map};
 ghost use Rattle.clap.specs.Words.{first_of, found_of, rows_of};
-ghost use Rattle.devdry_words.specs.Lines.{IsUnreadFile, Reads, account_path, asks_every, color_named, color_of, format_named, format_of, input_name_of, is_set_or_every, profile_of};
+ghost use Rattle.devdry_words.specs.Lines.{IsUnreadFile, Reads, account_path, asks_every, color_named, color_of, format_named, format_of};
+ghost use Rattle.devdry_words.specs.Lines.{input_name_of, is_set_or_every, profile_of};
 
 use crate::ignored::ignored_codes;
 use crate::values::{is_given, text, texts, value};

@@ -5,7 +5,8 @@
 ghost use Rattle.std.specs.Prelude.{◌≡◌};
 ghost use Rattle.clap.specs.Words.{found_of, rows_of};
 ghost use Rattle.devdry_words.specs.Named.{IsUsageOf};
-ghost use Rattle.devdry_words.specs.Refusals.{asks_all, asks_both, is_strict, lacks_root, lacks_side, lacks_udev, names_two, refusal_of, said_of, unknown_value, wrong_added};
+ghost use Rattle.devdry_words.specs.Refusals.{asks_all, asks_both, is_strict, lacks_root, lacks_side, lacks_udev, names_two, refusal_of, said_of};
+ghost use Rattle.devdry_words.specs.Refusals.{unknown_value, wrong_added};
 
 use crate::added::{adds_to_index, adds_to_named, unaddable, unaddable_text};
 use crate::ignored::{unknown_part, unknown_text};

@@ -39,7 +39,9 @@ lints = ModeNotOctal ∷ SignOfShell ∷ RelativeProgram ∷ LetterCase ∷ NoSu
 
 -- each remark
 abbrev pub remarks : List Remark
-remarks = map (λ kind. Message kind) kinds ++ map (λ lint. about.Lint lint) lints ++ map (λ lint. about.DatabaseLint lint) database_lints ++ IdleIgnore ∷ UnknownCode ∷ []
+remarks =
+    map (λ kind. Message kind) kinds ++ map (λ lint. about.Lint lint) lints ++ map (λ lint. about.DatabaseLint lint) database_lints
+    ++ IdleIgnore ∷ UnknownCode ∷ []
 
 -- the remark with a code, if there is one
 unfoldable pub remark_of : List ℕ → Option Remark

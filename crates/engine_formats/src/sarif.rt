@@ -9,7 +9,8 @@ ghost use Rattle.engine_formats.specs.Fingerprints.{shown_given};
 ghost use Rattle.engine_formats.specs.Human.{continues};
 ghost use Rattle.engine_formats.specs.Json.{array_of, object_of};
 ghost use Rattle.engine_formats.specs.Remarks.{text_of};
-ghost use Rattle.engine_formats.specs.Sarif.{character_column, log_object, message_byte, message_object, message_text, place_object, region_object, result_object, rule_object, run_object, sarif_log, tool_object};
+ghost use Rattle.engine_formats.specs.Sarif.{character_column, log_object, message_byte, message_object, message_text, place_object, region_object};
+ghost use Rattle.engine_formats.specs.Sarif.{result_object, rule_object, run_object, sarif_log, tool_object};
 ghost use Rattle.engine_formats.specs.Tokens.{result_tokens, rule_tokens};
 
 use crate::diagnostic::Diagnostic;

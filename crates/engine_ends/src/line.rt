@@ -76,7 +76,7 @@ pub struct Line<'a> {
     /// The files that are named, in the order given.
     pub files: Vec<&'a str>,
     /// The files that stand among those of the folders as if they were in the first of these, by their names, in the
-    /// order given. No run looks at them yet.
+    /// order given.
     pub added: Vec<&'a str>,
     /// The name of the standard input as a file, `-` if none was given. No run looks at it yet.
     pub input_name: &'a str,
@@ -100,7 +100,7 @@ pub struct Line<'a> {
     pub lint: bool,
     /// How `verify` and `update` write messages; plain for the other subcommands.
     pub format: Format,
-    /// When messages for people are in colors. No run looks at it yet.
+    /// When messages for people are in colors.
     pub color: Color,
     /// Whether the run goes on after what can't be read, and fails if there is no file.
     pub all: bool,

@@ -33,11 +33,15 @@ found_here f texts at text whole part h left some = sym (ap (λ found. option_or
 pub none_left : {A : Type 0} (f : A → Text) (texts : List A) (at : ℕ) (whole : Option Text) → length texts ≤ at → unknown_in (map f (drop at texts)) ≡ whole → None ≡ whole
 none_left f texts at whole h left = sym (ap (λ rest. unknown_in (map f rest)) (drop_of_length-le texts h)) ∙ left
 
--- what is found among texts as they are seen is what is found among them, seen
-pub find_seen : {A B : Type 0} (P : B → Bool) (f : A → B) (xs : List A) → find P (map f xs) ≡ option_map f (find (λ x. P (f x)) xs)
+-- to find among texts as they are seen is to find among them, and to see that
+find_seen : {A B : Type 0} (P : B → Bool) (f : A → B) (xs : List A) → find P (map f xs) ≡ option_map f (find (λ x. P (f x)) xs)
 find_seen P f [] = refl
 find_seen P f (x ∷ xs) = by (P (f x))
   where
     by : (b : Bool) → cond b (Some (f x)) (find P (map f xs)) ≡ option_map f (cond b (Some x) (find (λ x. P (f x)) xs))
     by true = refl
     by false = find_seen P f xs
+
+-- what is found among texts, as it is seen, is what is found among the texts as they are seen
+pub found_seen : {A B : Type 0} (P : B → Bool) (f : A → B) (xs : List A) (found : Option A) → found ≡ find (λ x. P (f x)) xs → option_map f found ≡ find P (map f xs)
+found_seen P f xs found is = ap (option_map f) is ∙ sym (find_seen P f xs)

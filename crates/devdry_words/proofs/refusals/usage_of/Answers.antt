@@ -18,8 +18,8 @@ returns-in-UnknownPart c =
 
 pub returns-in-NotRules : goal.returns-in-NotRules
 returns-in-NotRules c =
-    rw c.in-NotRules.is (subst (λ value. IsUsageOf (invalid_value value not_rules) c.usage_on_value-2.result) c.unaddable_text.ensures c.usage_on_value-2.ensures)
+    rw c.in-NotRules.is (subst (λ value. IsUsageOf (invalid_value value not_rules) c.usage_on_value.result) c.unaddable_text.ensures c.usage_on_value.ensures)
 
 pub returns-in-NotFile : goal.returns-in-NotFile
 returns-in-NotFile c =
-    rw c.in-NotFile.is (subst (λ value. IsUsageOf (invalid_value value not_a_file) c.usage_on_value-3.result) c.unaddable_text-2.ensures c.usage_on_value-3.ensures)
+    rw c.in-NotFile.is (subst (λ value. IsUsageOf (invalid_value value not_a_file) c.usage_on_value.result) c.unaddable_text.ensures c.usage_on_value.ensures)

@@ -32,6 +32,7 @@ pub fn options_that_are_meant_are_known()
 
 /// Unknown names for which a known one is found, and one that is near none.
 pub fn some_unknown_names_are_found()
+    ensures letter { meant_as (about.Message UnknownKey) (codes "SYMLNK") ≡ Some (codes "SYMLINK") }
     ensures key { meant_as (about.Message UnknownKey) (codes "ATTRZ") ≡ Some (codes "ATTRS") }
     ensures case { meant_as (about.Message UnknownKey) (codes "env") ≡ Some (codes "ENV") }
     ensures none { meant_as (about.Message UnknownKey) (codes "FOO") ≡ None }

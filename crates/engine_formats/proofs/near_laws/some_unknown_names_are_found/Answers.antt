@@ -5,6 +5,10 @@ use Rattle.engine_formats.specs.Meant.{unknown_after}
 use Rattle.engine_formats.specs.Near.{distance, nearest}
 use Rattle.engine_formats.proofs.near_laws.some_unknown_names_are_found.Goals as goal
 
+pub returns-clause-letter : goal.returns-clause-letter
+unfolding nearest distance rows next_row cost_at
+returns-clause-letter c = refl
+
 pub returns-clause-key : goal.returns-clause-key
 unfolding nearest distance rows next_row cost_at
 returns-clause-key c = refl

@@ -39,7 +39,7 @@ pub enum Format {
     Sarif,
     /// For people: the line with its place marked, and how to mend it.
     Human,
-    /// The same in colors, for a terminal. No word names it.
+    /// The same in colors. No word names it.
     HumanInColor,
 }
 

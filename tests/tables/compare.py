@@ -105,7 +105,7 @@ ROOTS = [
     Row("a root with a database alone", ["compare", OLD, NEW], {placed(OLD): "", "new/etc/udev/hwdb.d/a.hwdb": ""}, block(D),
         messages=no_rules(NEW), status=1),
     Row("where files were looked for comes before messages and differences", ["compare", OLD, NEW], {placed(NEW): 'FOO="1"\nTAG+="t"\n'}, block(D),
-        no_rules(OLD) + "r.rules:1: V2 unknown key: FOO\n" + START + "+tag t\n\n", status=1, together=True),
+        no_rules(OLD) + "[NEW] r.rules:1: V2 unknown key: FOO\n" + START + "+tag t\n\n", status=1, together=True),
     Row("--all goes on after a link to nothing", ["compare", "--all", OLD, NEW], {placed(OLD): 'TAG+="t"\n', placed(NEW): 'TAG+="u"\n',
         placed(NEW, "s.rules"): Link("none")}, block(D), START + "-tag t\n+tag u\n\n",
         "devdry: cannot read new/usr/lib/udev/rules.d/s.rules: link to nothing: none\n", 3),
@@ -144,9 +144,9 @@ ROOTS = [
 # Both outputs in one stream: the messages come before any difference, and what ended the run after all of them.
 TOGETHER = [
     Row("messages come before the differences in one stream", ["compare", OLD, NEW], {placed(OLD): 'FOO="1"\n', placed(NEW): 'BAR="1"\nTAG+="t"\n'}, block(D),
-        "r.rules:1: V2 unknown key: FOO\nr.rules:1: V2 unknown key: BAR\n" + START + "+tag t\n\n", status=1, together=True),
+        "[OLD] r.rules:1: V2 unknown key: FOO\n[NEW] r.rules:1: V2 unknown key: BAR\n" + START + "+tag t\n\n", status=1, together=True),
     Row("a faulty block comes after the differences in one stream", ["compare", OLD, NEW], {placed(OLD): "", placed(NEW): 'FOO="1"\nTAG+="t"\n'}, block(D) + b"C: add\n",
-        "r.rules:1: V2 unknown key: FOO\n" + START + "+tag t\n\nblock 2, line 1: no device\n", status=1, together=True),
+        "[NEW] r.rules:1: V2 unknown key: FOO\n" + START + "+tag t\n\nblock 2, line 1: no device\n", status=1, together=True),
 ]
 
 ROWS = [

@@ -2,3 +2,4 @@ pub mod Counting
 pub mod HandedOn
 pub mod Staying
 pub mod OneFile
+pub mod Adding

@@ -9,7 +9,8 @@ returns-in-UnknownFormat c =
 
 pub returns-in-UnknownColor : goal.returns-in-UnknownColor
 returns-in-UnknownColor c =
-    rw c.in-UnknownColor.is (subst (λ value. IsUsageOf (invalid_value value no_such_color) c.usage_on_value.result) c.text.ensures c.usage_on_value.ensures)
+    rw c.in-UnknownColor.is (subst (λ value. IsUsageOf (invalid_value value no_such_color) c.usage_on_value-in-UnknownColor.result)
+    c.text-in-UnknownColor.ensures c.usage_on_value-in-UnknownColor.ensures)
 
 pub returns-in-UnknownPart : goal.returns-in-UnknownPart
 returns-in-UnknownPart c =
@@ -18,8 +19,10 @@ returns-in-UnknownPart c =
 
 pub returns-in-NotRules : goal.returns-in-NotRules
 returns-in-NotRules c =
-    rw c.in-NotRules.is (subst (λ value. IsUsageOf (invalid_value value not_rules) c.usage_on_value.result) c.unaddable_text.ensures c.usage_on_value.ensures)
+    rw c.in-NotRules.is (subst (λ value. IsUsageOf (invalid_value value not_rules) c.usage_on_value-in-NotRules.result)
+    c.unaddable_text.ensures c.usage_on_value-in-NotRules.ensures)
 
 pub returns-in-NotFile : goal.returns-in-NotFile
 returns-in-NotFile c =
-    rw c.in-NotFile.is (subst (λ value. IsUsageOf (invalid_value value not_a_file) c.usage_on_value.result) c.unaddable_text.ensures c.usage_on_value.ensures)
+    rw c.in-NotFile.is (subst (λ value. IsUsageOf (invalid_value value not_a_file) c.usage_on_value-in-NotFile.result)
+    c.unaddable_text-in-NotFile.ensures c.usage_on_value-in-NotFile.ensures)

@@ -377,7 +377,7 @@ ROWS = [
     Row(
         "two roots compared", ["compare", "old", "new"],
         {f"old/{RULES}": 'FOO="1"\nTAG+="a", SYMLINK+="s"\n', f"new/{RULES}": 'TAG+="b", SYMLINK+="s"\n'},
-        "C: add\nP: /a\n\nC: add\nP: /b\n", COMPARED, "r.rules:1: V2 unknown key: FOO\n", status=1, each_byte=True),
+        "C: add\nP: /a\n\nC: add\nP: /b\n", COMPARED, "[OLD] r.rules:1: V2 unknown key: FOO\n", status=1, each_byte=True),
     Row(
         "two roots compared as udev does, with an index", ["compare", "--udev", "--index", "a.index", "old", "new"],
         {"a.index": INDEX, f"old/{RULES}": "", f"new/{RULES}": 'IMPORT{builtin}="hwdb abc"\n'}, "C: add\nP: /a\n", "event add /a\n+env K=V\n\n", status=1),

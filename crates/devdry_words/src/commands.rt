@@ -38,15 +38,11 @@ const DATABASE_FILES: &str = "Database files to read in place of the folders";
 
 const RULES_FILES: &str = "Rules files to read in place of the folders";
 
-const MESSAGES_FAIL: &str = "Exit with status 1 if there is a message";
-
 const EVERY_CHECK: &str = "Make every check: --lint, --udev, --all, users and groups of the root";
 
 const LINT_RULES: &str = "Also tell of rules that are most likely not the ones that were meant";
 
 const LINT_RECORDS: &str = "Also tell of lines that are most likely not the ones that were meant";
-
-const READ_AS_UDEV: &str = "Read rules as udev itself reads them";
 
 const EVALUATE_AS_UDEV: &str = "Read and evaluate rules as udev itself does";
 
@@ -277,7 +273,7 @@ fn update_command<'a>(alloc: Global) -> Result<Command<'a>, AllocError>
     Command::new(alloc, "update")
         .about("Checks the files of the hardware database and writes its index")
         .arg(root_option(alloc))?
-        .arg(strict_flag(alloc, MESSAGES_FAIL))?
+        .arg(strict_flag(alloc, "Exit with status 1 if there is a message"))?
         .arg(all_flag(alloc))?
         .arg(format_option(alloc))?
         .arg(color_option(alloc))?
@@ -317,7 +313,7 @@ fn verify_command<'a>(alloc: Global) -> Result<Command<'a>, AllocError>
         .arg(no_summary_flag(alloc))?
         .arg(no_style_flag(alloc))?
         .arg(lint_flag(alloc, LINT_RULES))?
-        .arg(udev_flag(alloc, READ_AS_UDEV))?
+        .arg(udev_flag(alloc, "Read rules as udev itself reads them"))?
         .arg(users_option(alloc))?
         .arg(groups_option(alloc))?
         .arg(files_argument(alloc, RULES_FILES))

@@ -14,7 +14,7 @@ use Rattle.device_core.specs.Blocks.{is_kind, texts, pairs, answers, programs, g
 use Rattle.device_core.specs.Faults.{device_above, follows_command, is_wrong_number, is_half_field, has_field, has_name, first_of, row_fault, has_nul, line_fault, fault_unless, unless_faulty, given_with, given_below, given_by}
 use Rattle.device_core.specs.Steps.{if_ok, once_step, number_step, number_once, pair_step, with_pair, member_step, field_step, Sofar, bare_device, begun, unasked, path_step, device_step, above_step, command_step, answer_step, with_answer, row_step, plain_row, known_row, line_step, then_row, first_step, action_in, action_by, nothing_read, then_steps, steps, finished_event, with_devices, then_finished, after_first, read_lines}
 use Rattle.device_core.specs.declared.lines.DeviceField.{DeviceField}
-use Rattle.device_core.specs.declared.lines.DeviceField.TheVariants.{Subsystem, Driver, Node, Devnum, Attribute, Property, Tag, Link}
+use Rattle.device_core.specs.declared.lines.DeviceField.TheVariants.{Subsystem, Driver, Node, Devnum, Attribute, Property, Stored, Tag, Link}
 use Rattle.device_core.specs.declared.lines.LineKind.{LineKind}
 use Rattle.device_core.specs.declared.lines.LineKind.TheVariants.{Action, Device, Field, Constant, Command, Answer}
 use Rattle.device_core.specs.declared.faults.BlockFaultKind.{BlockFaultKind}
@@ -67,6 +67,7 @@ field_agrees above d Node rest = once_agrees (λ o. record d { node = o }) (is_e
 field_agrees above d Devnum rest = number_agrees (λ o. record d { number = o }) d.number (number_of rest)
 field_agrees above d Attribute rest = pair_agrees (λ ps. record d { attrs = ps }) d.attrs (pair_of rest)
 field_agrees above d Property rest = pair_agrees (λ ps. record d { env = ps }) d.env (pair_of rest)
+field_agrees above d Stored rest = pair_agrees (λ ps. record d { stored = ps }) d.stored (pair_of rest)
 field_agrees above d Tag rest = member_agrees (λ ts. record d { tags = ts }) d.tags rest (is_empty rest) (is_among d.tags rest)
 field_agrees above d Link rest = member_agrees (λ ts. record d { links = ts }) d.links rest (is_empty rest) (is_among d.links rest)
 
@@ -77,6 +78,7 @@ field_quiet Node rest = record { no_action = refl; no_constant = refl; no_comman
 field_quiet Devnum rest = record { no_action = refl; no_constant = refl; no_command = refl; no_answer = refl }
 field_quiet Attribute rest = record { no_action = refl; no_constant = refl; no_command = refl; no_answer = refl }
 field_quiet Property rest = record { no_action = refl; no_constant = refl; no_command = refl; no_answer = refl }
+field_quiet Stored rest = record { no_action = refl; no_constant = refl; no_command = refl; no_answer = refl }
 field_quiet Tag rest = record { no_action = refl; no_constant = refl; no_command = refl; no_answer = refl }
 field_quiet Link rest = record { no_action = refl; no_constant = refl; no_command = refl; no_answer = refl }
 
@@ -87,6 +89,7 @@ field_no_device Node rest = refl
 field_no_device Devnum rest = refl
 field_no_device Attribute rest = refl
 field_no_device Property rest = refl
+field_no_device Stored rest = refl
 field_no_device Tag rest = refl
 field_no_device Link rest = refl
 

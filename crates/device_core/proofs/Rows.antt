@@ -11,7 +11,7 @@ use Rattle.device_core.specs.Parts.{pair_of, number_of, answer_of}
 use Rattle.device_core.specs.Values.{DeviceValue}
 use Rattle.device_core.specs.Blocks.{is_kind, text_in, texts, pairs, numbers, answers, before_device, groups, device, devices}
 use Rattle.device_core.specs.Steps.{bare_device}
-use Rattle.device_core.specs.declared.lines.DeviceField.TheVariants.{Subsystem, Driver, Node, Devnum, Attribute, Property, Tag, Link}
+use Rattle.device_core.specs.declared.lines.DeviceField.TheVariants.{Subsystem, Driver, Node, Devnum, Attribute, Property, Stored, Tag, Link}
 use Rattle.device_core.specs.declared.lines.LineKind.{LineKind}
 use Rattle.device_core.specs.declared.lines.LineKind.TheVariants.{Device, Field, Answer}
 
@@ -72,6 +72,7 @@ with_row d row = record {
   number = kept d.number (option_and_then number_of (text_in (Field Devnum) row));
   attrs = added d.attrs (option_and_then pair_of (text_in (Field Attribute) row));
   env = added d.env (option_and_then pair_of (text_in (Field Property) row));
+  stored = added d.stored (option_and_then pair_of (text_in (Field Stored) row));
   tags = added d.tags (text_in (Field Tag) row);
   links = added d.links (text_in (Field Link) row);
 }
@@ -89,6 +90,7 @@ device_more group row h = λ i. record {
   number = (ap first (numbers_more group row) ∙ first_more (numbers group) (option_and_then number_of (text_in (Field Devnum) row))) i;
   attrs = pairs_more group row (Field Attribute) i;
   env = pairs_more group row (Field Property) i;
+  stored = pairs_more group row (Field Stored) i;
   tags = texts_more group row (Field Tag) i;
   links = texts_more group row (Field Link) i;
 }

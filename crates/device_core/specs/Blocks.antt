@@ -9,7 +9,7 @@ use Rattle.text_tables.specs.Pairs.{Pair}
 use Rattle.device_core.specs.Lines.{Row, letter_of}
 use Rattle.device_core.specs.Parts.{pair_of, number_of, answer_of}
 use Rattle.device_core.specs.Values.{NumberValue, DeviceValue, AnswerValue, EventValue}
-use Rattle.device_core.specs.declared.lines.DeviceField.TheVariants.{Subsystem, Driver, Node, Devnum, Attribute, Property, Tag, Link}
+use Rattle.device_core.specs.declared.lines.DeviceField.TheVariants.{Subsystem, Driver, Node, Devnum, Attribute, Property, Stored, Tag, Link}
 use Rattle.device_core.specs.declared.lines.LineKind.{LineKind}
 use Rattle.device_core.specs.declared.lines.LineKind.TheVariants.{Action, Device, Field, Constant, Command, Answer}
 
@@ -57,6 +57,7 @@ device group = record {
   number = first (numbers group);
   attrs = pairs (Field Attribute) group;
   env = pairs (Field Property) group;
+  stored = pairs (Field Stored) group;
   tags = texts (Field Tag) group;
   links = texts (Field Link) group;
 }

@@ -13,7 +13,7 @@ use Rattle.device_core.specs.Parts.{pair_of, number_of, answer_of, is_device_pat
 use Rattle.device_core.specs.Values.{DeviceValue, EventValue, most_devices}
 use Rattle.device_core.specs.Blocks.{is_kind, texts, pairs, devices, event}
 use Rattle.device_core.specs.declared.lines.DeviceField.{DeviceField}
-use Rattle.device_core.specs.declared.lines.DeviceField.TheVariants.{Subsystem, Driver, Node, Devnum, Attribute, Property, Tag, Link}
+use Rattle.device_core.specs.declared.lines.DeviceField.TheVariants.{Subsystem, Driver, Node, Devnum, Attribute, Property, Stored, Tag, Link}
 use Rattle.device_core.specs.declared.lines.LineKind.{LineKind}
 use Rattle.device_core.specs.declared.lines.LineKind.TheVariants.{Action, Device, Field, Constant, Command, Answer}
 use Rattle.device_core.specs.declared.faults.BlockFault.{BlockFault}
@@ -70,6 +70,7 @@ abbrev pub is_half_field : DeviceField → Text → Bool
 is_half_field Devnum rest = false
 is_half_field Attribute rest = is_none (pair_of rest)
 is_half_field Property rest = is_none (pair_of rest)
+is_half_field Stored rest = is_none (pair_of rest)
 is_half_field _ rest = is_empty rest
 
 -- a part is missing: a name or a value, a text, the answer below a command or the command above an answer
@@ -94,6 +95,7 @@ has_field device Node rest = is_some device.node
 has_field device Devnum rest = is_some device.number
 has_field device Attribute rest = has_name device.attrs (pair_of rest)
 has_field device Property rest = has_name device.env (pair_of rest)
+has_field device Stored rest = has_name device.stored (pair_of rest)
 has_field device Tag rest = is_among device.tags rest
 has_field device Link rest = is_among device.links rest
 

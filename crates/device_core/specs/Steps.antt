@@ -13,7 +13,7 @@ use Rattle.device_core.specs.Parts.{pair_of, number_of, answer_of, is_device_pat
 use Rattle.device_core.specs.Values.{NumberValue, DeviceValue, AnswerValue, EventValue}
 use Rattle.device_core.specs.Faults.{has_nul}
 use Rattle.device_core.specs.declared.lines.DeviceField.{DeviceField}
-use Rattle.device_core.specs.declared.lines.DeviceField.TheVariants.{Subsystem, Driver, Node, Devnum, Attribute, Property, Tag, Link}
+use Rattle.device_core.specs.declared.lines.DeviceField.TheVariants.{Subsystem, Driver, Node, Devnum, Attribute, Property, Stored, Tag, Link}
 use Rattle.device_core.specs.declared.lines.LineKind.{LineKind}
 use Rattle.device_core.specs.declared.lines.LineKind.TheVariants.{Action, Device, Field, Constant, Command, Answer}
 use Rattle.device_core.specs.declared.draft.Draft.{Draft}
@@ -79,6 +79,7 @@ field_step d Node rest = if_ok (λ t. record d { node = Some t }) (once_step d.n
 field_step d Devnum rest = if_ok (λ n. record d { number = Some n }) (number_step d.number rest)
 field_step d Attribute rest = if_ok (λ ps. record d { attrs = ps }) (pair_step d.attrs rest)
 field_step d Property rest = if_ok (λ ps. record d { env = ps }) (pair_step d.env rest)
+field_step d Stored rest = if_ok (λ ps. record d { stored = ps }) (pair_step d.stored rest)
 field_step d Tag rest = if_ok (λ ts. record d { tags = ts }) (member_step d.tags rest)
 field_step d Link rest = if_ok (λ ts. record d { links = ts }) (member_step d.links rest)
 
@@ -96,7 +97,7 @@ sofar d = record { closed = d.closed.items; last = d.last; programs = d.programs
 
 -- a device of which only the path is known
 abbrev pub bare_device : Text → DeviceValue
-bare_device path = record { path = path; subsystem = None; driver = None; node = None; number = None; attrs = []; env = []; tags = []; links = [] }
+bare_device path = record { path = path; subsystem = None; driver = None; node = None; number = None; attrs = []; env = []; stored = []; tags = []; links = [] }
 
 -- a device begins
 abbrev pub begun : Sofar → Text → Sofar

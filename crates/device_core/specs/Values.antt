@@ -13,7 +13,7 @@ pub record NumberValue : Type 0 where
   pub major : Text
   pub minor : Text
 
--- a device of the chain
+-- a device of the chain; stored properties are those that udev had stored about it before the event
 pub record DeviceValue : Type 0 where
   pub path : Text
   pub subsystem : Option Text
@@ -22,6 +22,7 @@ pub record DeviceValue : Type 0 where
   pub number : Option NumberValue
   pub attrs : List Pair
   pub env : List Pair
+  pub stored : List Pair
   pub tags : List Text
   pub links : List Text
 
@@ -35,6 +36,7 @@ described path subsystem attrs = record {
   number = None;
   attrs = attrs;
   env = [];
+  stored = [];
   tags = [];
   links = [];
 }

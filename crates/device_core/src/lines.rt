@@ -23,6 +23,8 @@ pub enum DeviceField {
     Attribute,
     /// `E`: a property.
     Property,
+    /// `B`: a property that udev had stored before the event.
+    Stored,
     /// `G`: a tag.
     Tag,
     /// `S`: a link.
@@ -71,6 +73,7 @@ fn kind_of(letter: u8) -> Option<LineKind>
         b'D' => Some(LineKind::Field(DeviceField::Devnum)),
         b'A' => Some(LineKind::Field(DeviceField::Attribute)),
         b'E' => Some(LineKind::Field(DeviceField::Property)),
+        b'B' => Some(LineKind::Field(DeviceField::Stored)),
         b'G' => Some(LineKind::Field(DeviceField::Tag)),
         b'S' => Some(LineKind::Field(DeviceField::Link)),
         b'K' => Some(LineKind::Constant),

@@ -13,6 +13,7 @@ use crate::imports::{
     import_cmdline, import_named, import_parent, import_printed, not_run, run_builtin,
 };
 use crate::questions::{ask, clear_result, look_for};
+use crate::stored::import_stored;
 use builtin_devices::Knowledge;
 use eval_matching::agrees;
 use eval_rendering::{MAX_COMMAND_BYTES, MAX_PATH_BYTES, Rendered};
@@ -174,7 +175,7 @@ fn import_udev<K: Knowledge>(
         Import::Program(template) => program_answered(alloc, rule, template, scene),
         Import::File(template) => file_named(alloc, rule, template, scene),
         Import::Cmdline(name) => Ok(Some(import_cmdline(alloc, rule, name.as_slice(), scene)?)),
-        other => Ok(Some(not_run(alloc, rule, other.import_type(), scene)?)),
+        Import::Db(name) => Ok(Some(import_stored(alloc, rule, name.as_slice(), scene)?)),
     }
 }
 

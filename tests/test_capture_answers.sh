@@ -171,6 +171,21 @@ R: 0 ID_SCSI=1 CR ID_SERIAL=35" "$(answers /devices/pci0/host9/target9:0:0/9:0:0
 same "a device that no rule asks about" "" "$(answers /devices/pci0/host9/target9:0:0/9:0:0:0)"
 same "without the option there are no answers" "" "$("$capture" --from "$work/record" | grep '^[QR]:')"
 
+# What udev has stored about the device itself, for IMPORT{db}.
+stored() { "$capture" "${@:2}" --answers --from "$work/record" "$1" | grep '^B:'; }
+same "what is stored about a partition" "B: USEC_INITIALIZED=6
+B: ID_ATA=1
+B: ID_SERIAL=Disk_7
+B: ID_FS_UUID=7-8
+B: ID_FS_TYPE=btrfs
+B: ID_FS_LABEL= my disk
+B: ID_FS_LABEL_ENC=\"my\"
+B: ID_PART_ENTRY_NUMBER=1
+B: ID_BTRFS_READY=1" "$(stored $ata/sda1 --kernel)"
+same "the same beside the properties" "$(stored $ata/sda1 --kernel)" "$(stored $ata/sda1)"
+same "nothing is stored about a device that udev does not know" "" "$(stored /devices/pci0/host9/target9:0:0/9:0:0:0)"
+same "without the option nothing stored is printed" "" "$("$capture" --from "$work/record" | grep '^B:')"
+
 # Rules take the answers as what the builtins and programs set.
 cat > "$work/r.rules" << 'END'
 SUBSYSTEM=="block", IMPORT{builtin}="blkid", SYMLINK+="disk/by-uuid/$env{ID_FS_UUID}"

@@ -390,6 +390,15 @@ function answered(path,    i, of, kernel_name, command, out) {
     return out
 }
 
+# The lines of what udev has stored about the event device, for IMPORT{db}.
+function stored(path,    i, key, out) {
+    for (i = 1; i <= count[path]; i++) {
+        key = keys[path, i]
+        if (lines[key] ~ /^E: / && lines[key] != kernels[key]) out = out "B: " substr(lines[key], 4) "\n"
+    }
+    return out
+}
+
 # The lines of a device, each with its newline. With `first` it is the event device.
 function device(path, first,    of, i, line, letter) {
     for (i = 1; i <= count[path]; i++) {
@@ -399,6 +408,7 @@ function device(path, first,    of, i, line, letter) {
         of[letter] = of[letter] (walk ? as_key(line, first ? "" : "S") : line == "" ? "" : line "\n")
     }
     if (first) of["A"] = of["A"] elsewhere
+    if (first && answers) of["E"] = of["E"] stored(path)
     return of["P"] of["U"] of["V"] of["N"] of["D"] of["A"] of["E"] of["G"] of["S"] of["K"]
 }
 

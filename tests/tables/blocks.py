@@ -28,6 +28,7 @@ FIRST_LINES = [
     fault("C: add\nK: arch=x\n", 2, "no device"),
     fault("C: add\nU: x\n", 2, "no device"),
     fault("C: add\nE: a=1\nP: /d\n", 2, "no device"),
+    fault("C: add\nB: a=1\nP: /d\n", 2, "no device"),
     fault("R: 0\n", 1, "pair"),
     fault("X: \0\n", 1, "nul byte"),
 ]
@@ -53,6 +54,8 @@ BELOW = [
     below(b"E: =x\n", 3, "pair"),
     below(b"E: x\n", 3, "pair"),
     below(b"A: x\n", 3, "pair"),
+    below(b"B: x\n", 3, "pair"),
+    below(b"B: =x\n", 3, "pair"),
     below(b"K: =\n", 3, "pair"),
     below(b"C: \n", 3, "pair"),
     below(b"U: \n", 3, "pair"),
@@ -81,7 +84,7 @@ TWICE = [
     below(b"C: add\n", 3, "given twice"),
     *(
         below(line + b"\n" + line + b"\n", 4, "given twice")
-        for line in [b"U: x", b"V: x", b"N: x", b"D: 1:2", b"A: x=1", b"E: x=1", b"G: x", b"S: x", b"K: x=1"]
+        for line in [b"U: x", b"V: x", b"N: x", b"D: 1:2", b"A: x=1", b"E: x=1", b"B: x=1", b"G: x", b"S: x", b"K: x=1"]
     ),
     below(b"A: x=1\nA: x=2\n", 4, "given twice"),
     below(b"U: x\nU: y\n", 4, "given twice"),

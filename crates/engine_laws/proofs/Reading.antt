@@ -18,7 +18,7 @@ use Rattle.device_core.specs.Values.{AnswerValue, DeviceValue, EventValue}
 use Rattle.device_core.specs.declared.faults.BlockFault.{BlockFault}
 use Rattle.device_core.specs.declared.faults.BlockFaultKind.{BlockFaultKind}
 use Rattle.device_core.specs.declared.faults.BlockFaultKind.TheVariants.{NoAction, NoDevice, Nul, Number, Pair, Path, TooDeep, TooLong}
-use Rattle.device_core.specs.declared.lines.DeviceField.TheVariants.{Subsystem, Driver, Node, Devnum, Attribute, Property, Tag, Link}
+use Rattle.device_core.specs.declared.lines.DeviceField.TheVariants.{Subsystem, Driver, Node, Devnum, Attribute, Property, Stored, Tag, Link}
 use Rattle.device_core.specs.declared.lines.LineKind.{LineKind}
 use Rattle.device_core.specs.declared.lines.LineKind.TheVariants.{Action, Device, Field, Constant, Command, Answer}
 use Rattle.engine_laws.specs.Filled.{filled, filled_event}
@@ -167,6 +167,7 @@ kind_fine above (Field Node) rest below s h = refl
 kind_fine above (Field Devnum) rest below s h = refl
 kind_fine above (Field Attribute) rest below s h = refl
 kind_fine above (Field Property) rest below s h = refl
+kind_fine above (Field Stored) rest below s h = refl
 kind_fine above (Field Tag) rest below s h = refl
 kind_fine above (Field Link) rest below s h = refl
 kind_fine above Constant rest below s h = refl

@@ -54,6 +54,7 @@ use Rattle.eval_state.specs.Properties.{given_properties, properties_set, proper
 use Rattle.eval_acts.specs.ActTexts.{import_text, names_text, program_text, test_text}
 use Rattle.eval_acts.specs.Acts.{act_step, from_parent_by, imported, on_text, performed}
 use Rattle.eval_acts.specs.Inner.{left}
+use Rattle.eval_acts.specs.Stored.{from_stored, is_stored_known, stored_value}
 use Rattle.eval_acts.specs.Imports.{builtin_run, from_answer_or_noted, from_cmdline, from_line, from_parent, from_program, line_for, name_given, names_fitting}
 use Rattle.eval_acts.specs.Imports.{not_run, run_builtin, with_found}
 use Rattle.eval_acts.specs.Printed.{printed_properties}
@@ -64,6 +65,7 @@ use Rattle.eval_laws.proofs.Tables.{with_value_light, with_values_light, without
 use Rattle.eval_laws.proofs.Sums.{filter_light, fold_light}
 use Rattle.eval_laws.proofs.Found.{found_light, query_light}
 use Rattle.eval_laws.proofs.PrintedWeights.{answered_weight, answers_light, printed_light}
+use Rattle.eval_laws.proofs.StoredWeights.{stored_light}
 use Rattle.eval_laws.proofs.CmdlineWeights.{cmdline_light, line_light, line_weight, set_weight}
 use Rattle.eval_laws.proofs.Scenes.{more, noted_within}
 use Rattle.eval_laws.proofs.Starts.{properties_light}
@@ -307,6 +309,16 @@ module _ (event : EventValue) where
         let b = ap (λ e. line_weight (line_for name e)) h.same in
         line_within name (line_for name s.state.event) (omega (arith, a, b, short))
 
+    stored_within : (name : Text) → event_weight event ≤ most → Within event (n + most) (from_stored r name s).0
+    stored_within name short = by (is_stored_known s.state.event)
+      where
+        by : (b : Bool) → Within event (n + most) (if b then name_given name (stored_value name s.state.event) s else not_run r import_of.Db s).0
+        by true =
+            let a = stored_light name event in
+            let b = ap (λ e. set_weight name (stored_value name e)) h.same in
+            given_within name (stored_value name s.state.event) (omega (arith, a, b, short))
+        by false = not_run_within import_of.Db
+
     second_within : (names : List (List Item)) → event_weight event ≤ most → Within event (n + most) (from_parent names (device_at s.state.event 1) s).0
     second_within names short =
         let a = parent_light event in
@@ -335,7 +347,7 @@ module _ (event : EventValue) where
     import_within Manual d known (import.Cmdline name) light short = not_run_within import_of.Cmdline
     import_within Udev d known (import.Cmdline name) light short = cmdline_within name short
     import_within Manual d known (import.Db name) light short = not_run_within import_of.Db
-    import_within Udev d known (import.Db name) light short = not_run_within import_of.Db
+    import_within Udev d known (import.Db name) light short = stored_within name short
 
   emptied : (n : ℕ) (s : Scene) → Within event n s → Within event n (with_result [] s)
   unfolding scene_weight

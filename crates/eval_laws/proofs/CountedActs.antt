@@ -46,6 +46,7 @@ use Rattle.eval_commands.specs.declared.builtin.Builtin.TheVariants as asked_for
 use Rattle.eval_acts.specs.ActTexts.{import_text, names_text, program_text, test_text}
 use Rattle.eval_acts.specs.Acts.{act_step, from_parent_by, imported, on_text, performed}
 use Rattle.eval_acts.specs.Inner.{left}
+use Rattle.eval_acts.specs.Stored.{from_stored, is_stored_known, stored_value}
 use Rattle.eval_acts.specs.Imports.{builtin_run, from_answer_or_noted, from_line, from_parent, from_program, line_for, name_given, not_run, run_builtin}
 use Rattle.eval_acts.specs.Printed.{printed_properties}
 use Rattle.eval_acts.specs.Questions.{answered_by_block, answered_or_noted, result_of, tested, tested_at, tested_by, tested_by_udev, with_result}
@@ -157,6 +158,13 @@ module _ (w : Note → ℕ) (v : RunValue → ℕ) (c : Rule → ℕ) (light : (
     line_counts name None = not_run_counts import_of.Cmdline
     line_counts name (Some line) = given_counts name (cmdline_value name line)
 
+    stored_counts : (name : Text) → counted (from_stored r name s).0 ≤ counted s + c r
+    stored_counts name = by (is_stored_known s.state.event)
+      where
+        by : (b : Bool) → counted (if b then name_given name (stored_value name s.state.event) s else not_run r import_of.Db s).0 ≤ counted s + c r
+        by true = given_counts name (stored_value name s.state.event)
+        by false = not_run_counts import_of.Db
+
     built_counts : (d : ActKind) (known : Known) (given : Rendered) → counted (left r d (on_text (run_builtin known r) given s)) ≤ counted s + c r
     built_counts d known given = on_text_counts d (run_builtin known r) given (λ command. builtin_counts known command (builtin s.state.event.profile command))
 
@@ -174,7 +182,7 @@ module _ (w : Note → ℕ) (v : RunValue → ℕ) (c : Rule → ℕ) (light : (
     import_counts Manual d known (import.Cmdline name) = not_run_counts import_of.Cmdline
     import_counts Udev d known (import.Cmdline name) = line_counts name (line_for name s.state.event)
     import_counts Manual d known (import.Db name) = not_run_counts import_of.Db
-    import_counts Udev d known (import.Db name) = not_run_counts import_of.Db
+    import_counts Udev d known (import.Db name) = stored_counts name
 
   act_kind_counts : (known : Known) (r : Rule) (s : Scene) (d : ActKind) → counted (left r d (performed known r d s)) ≤ counted s + c r
   act_kind_counts known r s (act_kind.Test mask template) = on_text_counts r s (act_kind.Test mask template) (tested r mask) (test_text template s.state) (tested_counts r s mask)

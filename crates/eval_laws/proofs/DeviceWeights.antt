@@ -18,7 +18,7 @@ use Rattle.device_core.specs.RunBlocks.{is_too_long}
 use Rattle.device_core.specs.Faults.{given_by, block_gives}
 use Rattle.eval_laws.specs.DeviceWeights.{text_weight, given_weight, pair_weight, number_weight, device_weight, devices_weight, answer_weight, event_weight}
 use Rattle.eval_laws.specs.DeviceLaws.{rows_of, has_device}
-use Rattle.device_core.specs.declared.lines.DeviceField.TheVariants.{Subsystem, Driver, Node, Devnum, Attribute, Property, Tag, Link}
+use Rattle.device_core.specs.declared.lines.DeviceField.TheVariants.{Subsystem, Driver, Node, Devnum, Attribute, Property, Stored, Tag, Link}
 use Rattle.device_core.specs.declared.lines.LineKind.{LineKind}
 use Rattle.device_core.specs.declared.lines.LineKind.TheVariants.{Action, Device, Field, Constant, Command, Answer}
 use Rattle.device_core.specs.declared.faults.BlockFault.{BlockFault}
@@ -125,14 +125,14 @@ module _ (row : Row) (rows : List Row) where
 
 -- what rows say of a device
 unfoldable device_rows : List Row → ℕ
-device_rows rows = texts_by Device rows + texts_by (Field Subsystem) rows + texts_by (Field Driver) rows + texts_by (Field Node) rows + sum_by number_own (numbers rows) + pairs_by (Field Attribute) rows + pairs_by (Field Property) rows + texts_by (Field Tag) rows + texts_by (Field Link) rows
+device_rows rows = texts_by Device rows + texts_by (Field Subsystem) rows + texts_by (Field Driver) rows + texts_by (Field Node) rows + sum_by number_own (numbers rows) + pairs_by (Field Attribute) rows + pairs_by (Field Property) rows + pairs_by (Field Stored) rows + texts_by (Field Tag) rows + texts_by (Field Link) rows
 
 -- and what they say besides
 unfoldable other_rows : List Row → ℕ
 other_rows rows = texts_by Action rows + texts_by Command rows + sum_by answer_own (answers rows) + pairs_by Constant rows
 
 unfoldable device_own : Row → ℕ
-device_own row = option_weight text_weight (text_in Device row) + option_weight text_weight (text_in (Field Subsystem) row) + option_weight text_weight (text_in (Field Driver) row) + option_weight text_weight (text_in (Field Node) row) + option_weight number_own (option_and_then number_of (text_in (Field Devnum) row)) + option_weight pair_weight (option_and_then pair_of (text_in (Field Attribute) row)) + option_weight pair_weight (option_and_then pair_of (text_in (Field Property) row)) + option_weight text_weight (text_in (Field Tag) row) + option_weight text_weight (text_in (Field Link) row)
+device_own row = option_weight text_weight (text_in Device row) + option_weight text_weight (text_in (Field Subsystem) row) + option_weight text_weight (text_in (Field Driver) row) + option_weight text_weight (text_in (Field Node) row) + option_weight number_own (option_and_then number_of (text_in (Field Devnum) row)) + option_weight pair_weight (option_and_then pair_of (text_in (Field Attribute) row)) + option_weight pair_weight (option_and_then pair_of (text_in (Field Property) row)) + option_weight pair_weight (option_and_then pair_of (text_in (Field Stored) row)) + option_weight text_weight (text_in (Field Tag) row) + option_weight text_weight (text_in (Field Link) row)
 
 unfoldable other_own : Row → ℕ
 other_own row = option_weight text_weight (text_in Action row) + option_weight text_weight (text_in Command row) + option_weight answer_own (option_and_then answer_of (text_in Answer row)) + option_weight pair_weight (option_and_then pair_of (text_in Constant row))
@@ -147,9 +147,10 @@ device_rows_one row rows =
     let e = numbers_one row rows in
     let f = pairs_one row rows (Field Attribute) in
     let g = pairs_one row rows (Field Property) in
+    let s = pairs_one row rows (Field Stored) in
     let h = texts_one row rows (Field Tag) in
     let k = texts_one row rows (Field Link) in
-    omega (arith, a, b, c, d, e, f, g, h, k)
+    omega (arith, a, b, c, d, e, f, g, s, h, k)
 
 other_rows_one : (row : Row) (rows : List Row) → other_rows (row ∷ rows) ≡ other_own row + other_rows rows
 unfolding other_rows other_own
@@ -175,6 +176,7 @@ own_light (Field Node, rest) = omega arith
 own_light (Field Devnum, rest) = let light = number_light rest in omega (arith, light)
 own_light (Field Attribute, rest) = let light = pair_light rest in omega (arith, light)
 own_light (Field Property, rest) = let light = pair_light rest in omega (arith, light)
+own_light (Field Stored, rest) = let light = pair_light rest in omega (arith, light)
 own_light (Field Tag, rest) = omega arith
 own_light (Field Link, rest) = omega arith
 own_light (Constant, rest) = let light = pair_light rest in omega (arith, light)
@@ -191,6 +193,7 @@ path_light (Field Node, rest) h = cc
 path_light (Field Devnum, rest) h = cc
 path_light (Field Attribute, rest) h = cc
 path_light (Field Property, rest) h = cc
+path_light (Field Stored, rest) h = cc
 path_light (Field Tag, rest) h = cc
 path_light (Field Link, rest) h = cc
 path_light (Constant, rest) h = cc

@@ -19,6 +19,7 @@ pub mod programs;
 pub mod rendering;
 pub mod safe_texts;
 pub mod sketches;
+pub mod stored;
 pub mod turns;
 pub mod weight;
 pub mod words;

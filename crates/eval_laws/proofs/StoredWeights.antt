@@ -1,13 +1,13 @@
 -- What an IMPORT{db} sets is a part of the event's block.
 use Rattle.std.proofs.Common.{◌≡◌, ◌+◌, ◌≤◌, Bool, true, false, List, [], ◌∷◌, length, Option, Some, None, refl, ap, if◌then◌else◌, arith}
 use Rattle.std.proofs.lemmas.List.Sums.{sum_by-cons}
+use Rattle.std.specs.Cmp.Lexicographic.{bytes_decides}
 use Rattle.text_tables.specs.Texts.{Text, same_text}
 use Rattle.text_tables.specs.Pairs.{Pair, value_of}
 use Rattle.device_core.specs.Values.{DeviceValue, EventValue}
 use Rattle.eval_state.specs.Texts.{filled}
 use Rattle.eval_acts.specs.Stored.{is_removal, stored_value}
 use Rattle.eval_laws.specs.DeviceWeights.{pair_weight, pairs_weight, device_weight, event_weight}
-use Rattle.eval_laws.proofs.Changing.{is_same}
 use Rattle.eval_laws.proofs.CmdlineWeights.{set_weight}
 
 value_light : (pairs : List Pair) (name : Text) → set_weight name (value_of pairs name) ≤ pairs_weight pairs
@@ -16,7 +16,7 @@ value_light (pair ∷ pairs) name = by (same_text name pair.0) refl (value_light
   where
     by : (b : Bool) → same_text name pair.0 ≡ b → set_weight name (value_of pairs name) ≤ pairs_weight pairs
         → set_weight name (if b then Some pair.1 else value_of pairs name) ≤ pairs_weight (pair ∷ pairs)
-    by true e rest = let long : length name ≡ length pair.0 = ap length (is_same name pair.0 e) in let a = sum_by-cons pair_weight pair pairs in omega (arith, a, long)
+    by true e rest = let long : length name ≡ length pair.0 = ap length ((bytes_decides name pair.0).0 e) in let a = sum_by-cons pair_weight pair pairs in omega (arith, a, long)
     by false e rest = let a = sum_by-cons pair_weight pair pairs in omega (arith, a, rest)
 
 filled_light : (name : Text) (value : Option Text) → set_weight name (filled value) ≤ set_weight name value

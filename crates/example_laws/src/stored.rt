@@ -21,7 +21,7 @@ pub fn a_block_gives_what_udev_had_stored()
 
 /// For udev each line of an answer may set a property, whether it is in a line of its own or behind a carriage return.
 pub fn an_answer_may_have_several_lines()
-    ensures { answered_as_udev (codes "IMPORT{program}=\"p\"") (codes "C: add\nP: /d\nQ: p\nR: 0 A=1\nO: B=2\rC=3\nO: \nO: D=4")
+    ensures { answered_as_udev (codes "IMPORT{program}=\"/p\"") (codes "C: add\nP: /d\nQ: /p\nR: 0 A=1\nO: B=2\rC=3\nO: \nO: D=4")
         ≡ text (
         codes "event add /d" ∷ codes "env A=1" ∷ codes "env ACTION=add" ∷ codes "env B=2" ∷ codes "env C=3" ∷ codes "env D=4"
         ∷ codes "env DEVPATH=/d" ∷ codes "" ∷ []) }

@@ -358,7 +358,7 @@ function rendered(path, command,    out, at, n, text) {
     return out command
 }
 
-# The stored properties that the pattern matches, as a program prints them, with a carriage return between two lines. A value
+# The stored properties that the pattern matches, as a program prints them, as lines of an answer. A value
 # that begins with a quote, or has a blank at an end, is put between quotes.
 function printed_by(path, pattern,    i, part, out) {
     for (i = 1; i <= count[path]; i++) {
@@ -367,9 +367,9 @@ function printed_by(path, pattern,    i, part, out) {
         cut(substr(lines[keys[path, i]], 4))
         if (value == "" || value ~ /[\r]/) continue
         if (value ~ /^["' \t]|[ \t]$/) value = "\"" value "\""
-        out = out "\r" name "=" value
+        out = out "\nO: " name "=" value
     }
-    return substr(out, 2)
+    return substr(out, 5)
 }
 
 # The lines of a block that answer a command.

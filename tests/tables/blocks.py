@@ -30,6 +30,7 @@ FIRST_LINES = [
     fault("C: add\nE: a=1\nP: /d\n", 2, "no device"),
     fault("C: add\nB: a=1\nP: /d\n", 2, "no device"),
     fault("R: 0\n", 1, "pair"),
+    fault("O: a\n", 1, "no action"),
     fault("X: \0\n", 1, "nul byte"),
 ]
 
@@ -68,6 +69,12 @@ BELOW = [
     below(b"Q: a\nE: k=v\n", 3, "pair"),
     below(b"Q: a\nR: 0\nQ: a\n", 5, "pair"),
     below(b"R: 0\n", 3, "pair"),
+    below(b"Q: a\nR: 0\nR: 0\n", 5, "pair"),
+    below(b"O: a\n", 3, "pair"),
+    below(b"Q: a\nO: a\n", 3, "pair"),
+    below(b"Q: a\nR: 0\nE: a=1\nO: a\n", 6, "pair"),
+    below(b"Q: a\nR: 0 b\nO: c\nR: 0\n", 6, "pair"),
+    below(b"Q: a\nR: 0 b\nO: c\nQ: a\nR: 0\n", 6, "given twice"),
     below(b"R: 999\n", 3, "pair"),
     below(b"Q: a\nR: 256\n", 4, "number"),
     below(b"Q: a\nR: 0000\n", 4, "number"),

@@ -32,7 +32,7 @@ CASES = [
     ('what is stored about a parent does not count', BOTH, storing(above="B: ID_A=1\n"),
      ['env NO=1', 'note r.rules:1: import not run: db', 'note r.rules:2: import not run: db']),
     ('without stored properties', BOTH, storing(), ['env NO=1', 'note r.rules:1: import not run: db', 'note r.rules:2: import not run: db']),
-    ('IMPORT{parent} takes none', 'IMPORT{parent}="*"\n', storing(above="B: ID_A=1\n"), []),
+    ('IMPORT{parent} takes none', 'IMPORT{parent}="ID_A", ENV{X}="1"\n', storing(above="B: ID_A=1\n"), ['env X=1']),
 ]
 
 

@@ -7,7 +7,7 @@ use Rattle.text_tables.specs.Texts.{Text}
 use Rattle.device_core.specs.declared.lines.DeviceField.{DeviceField}
 use Rattle.device_core.specs.declared.lines.DeviceField.TheVariants.{Subsystem, Driver, Node, Devnum, Attribute, Property, Stored, Tag, Link}
 use Rattle.device_core.specs.declared.lines.LineKind.{LineKind}
-use Rattle.device_core.specs.declared.lines.LineKind.TheVariants.{Action, Device, Field, Constant, Command, Answer}
+use Rattle.device_core.specs.declared.lines.LineKind.TheVariants.{Action, Device, Field, Constant, Command, Answer, Output}
 
 -- the letter that a line about the device above begins with
 abbrev pub field_letter : DeviceField → ℕ
@@ -29,12 +29,13 @@ letter_of (Field field) = field_letter field
 letter_of Constant = 75  -- K
 letter_of Command = 81  -- Q
 letter_of Answer = 82  -- R
+letter_of Output = 79  -- O
 
 -- all kinds of lines
 abbrev pub kinds : List LineKind
 kinds =
     Action ∷ Device ∷ Field Subsystem ∷ Field Driver ∷ Field Node ∷ Field Devnum ∷ Field Attribute ∷ Field Property ∷ Field Stored ∷ Field Tag
-    ∷ Field Link ∷ Constant ∷ Command ∷ Answer ∷ []
+    ∷ Field Link ∷ Constant ∷ Command ∷ Answer ∷ Output ∷ []
 
 -- a line by its kind, and what follows the space
 abbrev pub Row : Type 0

@@ -46,6 +46,8 @@ pub enum LineKind {
     Command,
     /// `R`: the answer to the command above.
     Answer,
+    /// `O`: one more line of what the program of the answer above wrote.
+    Output,
 }
 
 /// The letter and the rest of a line that has the form.
@@ -79,6 +81,7 @@ fn kind_of(letter: u8) -> Option<LineKind>
         b'K' => Some(LineKind::Constant),
         b'Q' => Some(LineKind::Command),
         b'R' => Some(LineKind::Answer),
+        b'O' => Some(LineKind::Output),
         _ => None,
     }
 }

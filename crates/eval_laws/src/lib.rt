@@ -14,6 +14,7 @@ pub mod lengths;
 pub mod lookups;
 pub mod matching;
 pub mod naming;
+pub mod outputs;
 pub mod printed;
 pub mod programs;
 pub mod rendering;

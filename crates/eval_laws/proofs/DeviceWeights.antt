@@ -165,7 +165,9 @@ fold_answers given (row ∷ rows) =
 -- the answers weigh no more than the lines add
 answers_light : (rows : List Row) → sum_by answer_own (answers rows) ≤ sum_by answer_by_row rows
 unfolding answers
-answers_light rows = fold_answers [] rows
+answers_light rows =
+    let all : sum_by answer_own (answers rows) ≤ 0 + sum_by answer_by_row rows = fold_answers [] rows in
+    omega (arith, all)
 
 -- what rows say of a device
 unfoldable device_rows : List Row → ℕ

@@ -12,6 +12,7 @@ mod printed;
 mod questions;
 mod reaching;
 mod seen;
+mod unread;
 mod usb_modalias;
 
 pub use act_texts::{import_text, names_text, program_text, test_text};

@@ -9,3 +9,4 @@ pub mod ActTexts
 pub mod Printed
 pub mod UsbModalias
 pub mod Inner
+pub mod Unread

@@ -4,9 +4,10 @@ ghost use Rattle.rule_types.specs.declared.types.ImportType.TheVariants.{File};
 ghost use Rattle.eval_rendering.specs.Bounds.{most_command_bytes, most_path_bytes};
 ghost use Rattle.eval_state.specs.Scenes.{blank};
 ghost use Rattle.eval_acts.specs.ActTexts.{import_text, names_text, program_text, test_text};
-ghost use Rattle.eval_acts.specs.Acts.{act_step, from_parent_by, imported, on_text, performed, proceeds, too_long_noted};
+ghost use Rattle.eval_acts.specs.Acts.{act_step, from_parent_by, import_reached, imported, on_text, performed, proceeds, too_long_noted};
 ghost use Rattle.eval_acts.specs.Imports.{from_program, not_run, run_builtin};
 ghost use Rattle.eval_acts.specs.Questions.{answered_by_block, tested, with_result};
+ghost use Rattle.eval_acts.specs.Unread.{unread_noted};
 
 use crate::act_texts::{import_text, names_text, plain_command, program_text, test_text};
 use crate::imports::{
@@ -14,6 +15,7 @@ use crate::imports::{
 };
 use crate::questions::{ask, clear_result, look_for};
 use crate::stored::import_stored;
+use crate::unread::note_unread;
 use builtin_devices::Knowledge;
 use eval_matching::agrees;
 use eval_rendering::{MAX_COMMAND_BYTES, MAX_PATH_BYTES, Rendered};
@@ -86,6 +88,23 @@ fn builtin<K: Knowledge>(
         }
         Rendered::TooLong => Ok(None),
     }
+}
+
+/// IMPORT{builtin} for udev: an attribute that it would read for the command, and a dry run does not, leaves a note.
+fn builtin_noted<K: Knowledge>(
+    alloc: Global,
+    rule: &Rule,
+    template: &Template,
+    knowledge: &K,
+    scene: &mut Scene<'_>,
+) -> Result<Option<bool>, AllocError>
+    ensures scene { IfOk result (λ done. (scene.new, done)
+        ≡ on_text (run_builtin (K.known knowledge.now) rule.now) (import_text most_command_bytes template.now scene.old.state)
+        (unread_noted rule.now template.now scene.old)) }
+    ensures refused { OnErr result (scene.new.state.event ≡ scene.old.state.event) }
+{
+    note_unread(alloc, rule, template, scene)?;
+    builtin(alloc, rule, template, knowledge, scene)
 }
 
 /// IMPORT{parent} for udev.
@@ -166,11 +185,12 @@ fn import_udev<K: Knowledge>(
     knowledge: &K,
     scene: &mut Scene<'_>,
 ) -> Result<Option<bool>, AllocError>
-    ensures scene { IfOk result (λ done. (scene.new, done) ≡ imported Profile.Udev (K.known knowledge.now) rule.now from.now scene.old) }
+    ensures scene { IfOk result (λ done. (scene.new, done)
+        ≡ imported Profile.Udev (K.known knowledge.now) rule.now from.now (import_reached Profile.Udev rule.now from.now scene.old)) }
     ensures refused { OnErr result (scene.new.state.event ≡ scene.old.state.event) }
 {
     match from {
-        Import::Builtin(template) => builtin(alloc, rule, template, knowledge, scene),
+        Import::Builtin(template) => builtin_noted(alloc, rule, template, knowledge, scene),
         Import::Parent(_, text) => parent_named(alloc, text.as_slice(), scene),
         Import::Program(template) => program_answered(alloc, rule, template, scene),
         Import::File(template) => file_named(alloc, rule, template, scene),
@@ -187,7 +207,8 @@ fn import<K: Knowledge>(
     knowledge: &K,
     scene: &mut Scene<'_>,
 ) -> Result<Option<bool>, AllocError>
-    ensures scene { IfOk result (λ done. (scene.new, done) ≡ imported scene.old.state.event.profile (K.known knowledge.now) rule.now from.now scene.old) }
+    ensures scene { IfOk result (λ done. (scene.new, done) ≡ imported scene.old.state.event.profile (K.known knowledge.now) rule.now from.now
+        (import_reached scene.old.state.event.profile rule.now from.now scene.old)) }
     ensures refused { OnErr result (scene.new.state.event ≡ scene.old.state.event) }
 {
     match scene.state.event.event().profile() {
@@ -281,9 +302,10 @@ fn act_noted<K: Knowledge>(
 /// and sets the properties that the answer gives, one for each line; without an answer it leaves the note `no answer for
 /// program`. The beginning of `hwdb` may be written for it; an empty value that it finds removes the property.
 /// IMPORT{db} is done if the block says that udev had stored the property, which it sets, and fails on `remove`; if the
-/// block says of no property that it was stored, it leaves the note `import not run`. A text over 1,023 bytes of TEST,
-/// IMPORT{parent} and IMPORT{file}, or over 16,383 bytes of PROGRAM and other types of IMPORT, leaves the note `text too
-/// long`, and stops the rule with either operator; so does a TEST whose path has over 1,023 bytes with `/sys`, the path
+/// block says of no property that it was stored, it leaves the note `import not run`. An attribute in the command of a
+/// builtin that udev would read, and a dry run does not, leaves the note `attribute not read`. A text over 1,023 bytes of
+/// TEST, IMPORT{parent} and IMPORT{file}, or over 16,383 bytes of PROGRAM and other types of IMPORT, leaves the note `text
+/// too long`, and stops the rule with either operator; so does a TEST whose path has over 1,023 bytes with `/sys`, the path
 /// of the event device and a slash before it.
 ///
 /// If memory runs out, nothing is left of the scene but its event.

@@ -13,6 +13,7 @@ mod questions;
 mod reaching;
 mod seen;
 mod stored;
+mod unread;
 mod usb_modalias;
 
 pub use act_texts::{import_text, names_text, program_text, test_text};

@@ -12,6 +12,7 @@ use Rattle.text_core.specs.declared.item.Item.{Item}
 use Rattle.text_core.specs.declared.reading.Reading.TheVariants.{Exact}
 use Rattle.builtin_devices.specs.Knowledge.{Known}
 use Rattle.device_core.specs.Values.{AnswerValue, DeviceValue}
+use Rattle.rule_templates.specs.Template.{Parts}
 use Rattle.rule_types.specs.declared.roles.PlainKey.{PlainKey}
 use Rattle.rule_types.specs.declared.roles.PlainKey.TheVariants as plain
 use Rattle.rule_types.specs.declared.part.Act.{Act}
@@ -48,7 +49,7 @@ use Rattle.eval_state.specs.declared.scene.Scene.{Scene}
 use Rattle.eval_matching.specs.Attributes.{is_not_read}
 use Rattle.eval_matching.specs.Subjects.{is_not_given}
 use Rattle.eval_acts.specs.ActTexts.{import_text, names_text, program_text}
-use Rattle.eval_acts.specs.Acts.{act_step, from_parent_by, imported, on_text, performed, too_long_noted}
+use Rattle.eval_acts.specs.Acts.{act_step, command_reached, from_parent_by, import_reached, imported, on_text, performed, too_long_noted}
 use Rattle.eval_acts.specs.BuiltinRuns.{looked_up, most_set, need_noted, outcome_set, outcome_taken, path_id_run, properties_size, usb_id_run, with_maker}
 use Rattle.eval_acts.specs.Stored.{from_stored, is_stored_known, stored_value}
 use Rattle.eval_acts.specs.Imports.{builtin_run, from_answer_or_noted, from_line, from_parent, from_program, line_for, name_given, not_run, run_builtin}
@@ -202,13 +203,23 @@ imported_same Udev known r (import.Cmdline name) s = line_same r name (line_for 
 imported_same Manual known r (import.Db name) s = refl
 imported_same Udev known r (import.Db name) s = stored_same r name s
 
+command_same : (p : Profile) (r : Rule) (t : Parts) (s : Scene) → Same s (command_reached p r t s)
+command_same Manual r t s = refl
+command_same Udev r t s = refl
+
+import_reached_same : (p : Profile) (r : Rule) (i : Import) (s : Scene) → Same s (import_reached p r i s)
+import_reached_same p r (import.Builtin t) s = command_same p r t s
+import_reached_same p r i s = refl
+
 performed_same : (known : Known) (r : Rule) (d : ActKind) (s : Scene) → Same s (performed known r d s).0
 performed_same known r (act_kind.Test mask t) s = on_text_same (tested r mask) (tested_same r mask) _ s
 performed_same known r (act_kind.Program t) s =
     let text : Rendered = program_text t s.state in
     through s (with_result [] s) (on_text (answered_by_block r) text (with_result [] s)).0 refl
     (on_text_same (answered_by_block r) (λ c u. answered_same r c (value_of u.state.event.programs c) u) text (with_result [] s))
-performed_same known r (act_kind.Import i) s = imported_same s.state.event.profile known r i s
+performed_same known r (act_kind.Import i) s =
+    let reached : Scene = import_reached s.state.event.profile r i s in
+    through s reached (imported s.state.event.profile known r i reached).0 (import_reached_same s.state.event.profile r i s) (imported_same s.state.event.profile known r i reached)
 
 late_same : (r : Rule) (d : ActKind) (done : Option Bool) (s t : Scene) → Same s t → Same s (too_long_noted r d done t)
 late_same r d None s t h = through s t (too_long_noted r d None t) h refl

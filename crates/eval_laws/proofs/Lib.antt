@@ -66,3 +66,4 @@ pub mod PrintedReading
 pub mod PrintedGiven
 pub mod PrintedActs
 pub mod UsbModaliases
+pub mod Unread

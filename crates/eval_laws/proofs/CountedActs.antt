@@ -40,7 +40,7 @@ use Rattle.eval_state.specs.declared.scene.Scene.{Scene}
 use Rattle.rule_types.specs.Builtins.{builtin_name}
 use Rattle.rule_types.specs.declared.builtins.Builtin.TheVariants.{InputId, NetId, NetSetupLink, PathId, UsbId}
 use Rattle.builtin_devices.specs.Outcomes.{OutcomeValue}
-use Rattle.eval_acts.specs.BuiltinRuns.{looked_up, most_set, need_noted, need_word, outcome_set, outcome_taken, path_id_run, properties_size, usb_id_run, with_maker}
+use Rattle.eval_acts.specs.BuiltinRuns.{looked_up, most_set, needs_noted, needs_word, outcome_set, outcome_taken, path_id_run, properties_size, usb_id_run, with_maker}
 use Rattle.eval_commands.specs.Builtins.{builtin, builtin_question}
 use Rattle.eval_commands.specs.Cmdline.{cmdline_value}
 use Rattle.eval_commands.specs.declared.builtin.Builtin.{Builtin}
@@ -59,9 +59,9 @@ module _ (w : Note → ℕ) (v : RunValue → ℕ) (c : Rule → ℕ) (light : (
   abbrev counted : Scene → ℕ
   counted s = measured w v s
 
-  need_counts : (r : Rule) (name : Text) (needs : List Text) (s : Scene) → counted (need_noted r name needs s) ≤ counted s + c r
+  need_counts : (r : Rule) (name : Text) (needs : List Text) (s : Scene) → counted (needs_noted r name needs s) ≤ counted s + c r
   need_counts r name [] s = omega arith
-  need_counts r name (need ∷ needs) s = noted_more w v c light r s BuiltinNeeds (need_word name need)
+  need_counts r name (need ∷ needs) s = noted_more w v c light r s BuiltinNeeds (needs_word name need needs)
 
   outcome_counts : (r : Rule) (name : Text) (outcome : OutcomeValue) (properties : List Pair) (s : Scene) → counted (outcome_set r name outcome properties s).0 ≤ counted s + c r
   outcome_counts r name outcome properties s = by (nat_le (properties_size outcome.properties) most_set)
@@ -69,7 +69,7 @@ module _ (w : Note → ℕ) (v : RunValue → ℕ) (c : Rule → ℕ) (light : (
       set : Scene
       set = with_env (properties_set s.state.env properties) s
 
-      by : (b : Bool) → counted (if◌then◌else◌ {A = Scene × Bool} b (need_noted r name outcome.needs set, outcome.is_done) (noted r TextTooLong name s, false)).0 ≤ counted s + c r
+      by : (b : Bool) → counted (if◌then◌else◌ {A = Scene × Bool} b (needs_noted r name outcome.needs set, outcome.is_done) (noted r TextTooLong name s, false)).0 ≤ counted s + c r
       by true = need_counts r name outcome.needs set
       by false = noted_more w v c light r s TextTooLong name
 

@@ -50,7 +50,7 @@ use Rattle.eval_matching.specs.Attributes.{is_not_read}
 use Rattle.eval_matching.specs.Subjects.{is_not_given}
 use Rattle.eval_acts.specs.ActTexts.{import_text, names_text, program_text}
 use Rattle.eval_acts.specs.Acts.{act_step, command_reached, from_parent_by, import_reached, imported, on_text, performed, too_long_noted}
-use Rattle.eval_acts.specs.BuiltinRuns.{looked_up, most_set, need_noted, outcome_set, outcome_taken, path_id_run, properties_size, usb_id_run, with_maker}
+use Rattle.eval_acts.specs.BuiltinRuns.{looked_up, most_set, outcome_set, outcome_taken, path_id_run, properties_size, usb_id_run, with_maker, needs_noted}
 use Rattle.eval_acts.specs.Stored.{from_stored, is_stored_known, stored_value}
 use Rattle.eval_acts.specs.Imports.{builtin_run, from_answer_or_noted, from_line, from_parent, from_program, line_for, name_given, not_run, run_builtin}
 use Rattle.eval_acts.specs.Printed.{printed_properties}
@@ -121,7 +121,7 @@ answered_same : (r : Rule) (t : Text) (a : Option AnswerValue) (s : Scene) → S
 answered_same r t None s = refl
 answered_same r t (Some a) s = chosen s (with_result (result_of s.state.event.profile a.text) s) s true false _ refl refl
 
-need_same : (r : Rule) (name : Text) (needs : List Text) (s : Scene) → Same s (need_noted r name needs s)
+need_same : (r : Rule) (name : Text) (needs : List Text) (s : Scene) → Same s (needs_noted r name needs s)
 need_same r name [] s = refl
 need_same r name (need ∷ needs) s = refl
 
@@ -131,7 +131,7 @@ outcome_same r name o properties s = by (nat_le (properties_size o.properties) m
     set : Scene
     set = with_env (properties_set s.state.env properties) s
 
-    by : (b : Bool) → Same s (cond {A = Scene × Bool} b (need_noted r name o.needs set, o.is_done) (noted r TextTooLong name s, false)).0
+    by : (b : Bool) → Same s (cond {A = Scene × Bool} b (needs_noted r name o.needs set, o.is_done) (noted r TextTooLong name s, false)).0
     by true = need_same r name o.needs set
     by false = refl
 

@@ -45,7 +45,7 @@ use Rattle.eval_state.specs.declared.note_kind.NoteKind.{NoteKind}
 use Rattle.eval_state.specs.declared.note_kind.NoteKind.TheVariants.{AttributeNotRead, BuiltinNotRun, ConstantNotGiven, NoAnswer, TestNotMade, TextTooLong}
 use Rattle.eval_state.specs.declared.scene.Scene.{Scene}
 use Rattle.eval_acts.specs.Acts.{act_step, command_reached, from_parent_by, import_reached, imported, on_text, performed, too_long_noted}
-use Rattle.eval_acts.specs.BuiltinRuns.{looked_up, most_set, need_noted, outcome_set, outcome_taken, path_id_run, properties_size, usb_id_run, with_maker}
+use Rattle.eval_acts.specs.BuiltinRuns.{looked_up, most_set, outcome_set, outcome_taken, path_id_run, properties_size, usb_id_run, with_maker, needs_noted}
 use Rattle.eval_acts.specs.Stored.{from_stored, is_stored_known, stored_value}
 use Rattle.eval_acts.specs.Imports.{builtin_run, from_answer_or_noted, from_line, from_parent, from_program, line_for, name_given, not_run, run_builtin}
 use Rattle.eval_acts.specs.Printed.{printed_properties}
@@ -85,14 +85,14 @@ answered_stays : (r : Rule) (t : Text) (a : Option AnswerValue) (s : Scene) → 
 answered_stays r t None s = refl
 answered_stays r t (Some a) s = either s (a.status == 0) (with_result (result_of s.state.event.profile a.text) s, true) (s, false) refl refl
 
-need_stays : (r : Rule) (name : Text) (needs : List Text) (s : Scene) → Stays s (need_noted r name needs s)
+need_stays : (r : Rule) (name : Text) (needs : List Text) (s : Scene) → Stays s (needs_noted r name needs s)
 need_stays r name [] s = refl
 need_stays r name (need ∷ needs) s = refl
 
 outcome_stays : (r : Rule) (name : Text) (o : OutcomeValue) (properties : List Pair) (s : Scene) → Stays s (outcome_set r name o properties s).0
 outcome_stays r name o properties s =
     let set : Scene = with_env (properties_set s.state.env properties) s in
-    either s (nat_le (properties_size o.properties) most_set) (need_noted r name o.needs set, o.is_done) (noted r TextTooLong name s, false) (need_stays r name o.needs set) refl
+    either s (nat_le (properties_size o.properties) most_set) (needs_noted r name o.needs set, o.is_done) (noted r TextTooLong name s, false) (need_stays r name o.needs set) refl
 
 taken_stays : (r : Rule) (name : Text) (o : OutcomeValue) (s : Scene) → Stays s (outcome_taken r name o s).0
 taken_stays r name o s = outcome_stays r name o o.properties s

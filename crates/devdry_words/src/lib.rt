@@ -5,6 +5,7 @@
 #![tactic(auto)]
 
 mod added;
+mod arguments;
 mod commands;
 mod ignored;
 mod line_reading;

@@ -62,6 +62,19 @@ Options:
       --lint             Also tell of lines that are most likely not the ones that were meant
   -h, --help             Print help
   -V, --version          Print version
+
+Status:
+  0  the index was written
+  1  there is a message and --strict was given, or there are
+     too many entries, or --all found no file
+  2  the command line is wrong
+  3  a file, a folder or an output failed
+  4  out of memory
+
+Example:
+  devdry update 20-usb.hwdb > hwdb.index
+
+devdry-update(1) says more.
 """
 
 QUERY_HELP = """\
@@ -80,6 +93,19 @@ Options:
       --index <FILE>  Index to read in place of the database's folders
   -h, --help          Print help
   -V, --version       Print version
+
+Status:
+  0  the properties were printed, if there are any
+  1  a line of query - is too long, or there are too many entries,
+     or the index is refused, or --all found no file
+  2  the command line is wrong
+  3  a file, a folder, the input or an output failed
+  4  out of memory
+
+Example:
+  devdry query --sources usb:v1D6Bp0002
+
+devdry-query(1) says more.
 """
 
 VERIFY_HELP = """\
@@ -107,6 +133,18 @@ Options:
       --groups <FILE>    With --udev: groups that GROUP may name, as in /etc/group
   -h, --help             Print help
   -V, --version          Print version
+
+Status:
+  0  no file is bad
+  1  a file is bad, or there are too many rules, or --all found no file
+  2  the command line is wrong
+  3  a file, a folder or an output failed
+  4  out of memory
+
+Example:
+  devdry verify 60-mine.rules
+
+devdry-verify(1) says more.
 """
 
 EVENTS_HELP = """\
@@ -131,6 +169,19 @@ Options:
       --udev               Read and evaluate rules as udev itself does
   -h, --help               Print help
   -V, --version            Print version
+
+Status:
+  0  all blocks were answered
+  1  a block is faulty, or there are too many rules or entries,
+     or the index is refused, or --all found no rules file
+  2  the command line is wrong, or --why names what no rule has
+  3  a file, a folder, the input or an output failed
+  4  out of memory
+
+Example:
+  devdry events 60-mine.rules < disk.block
+
+devdry-events(1) says more.
 """
 
 FILES_HELP = """\
@@ -143,6 +194,18 @@ Options:
       --with <FILE>  Rules or database file to read among those of the folders, by its name
   -h, --help         Print help
   -V, --version      Print version
+
+Status:
+  0  the files were listed
+  1  there is no file
+  2  the command line is wrong
+  3  a file, a folder or an output failed
+  4  out of memory
+
+Example:
+  devdry files -r /mnt
+
+devdry-files(1) says more.
 """
 
 COMPARE_HELP = """\
@@ -164,6 +227,20 @@ Options:
       --udev             Read and evaluate rules as udev itself does
   -h, --help             Print help
   -V, --version          Print version
+
+Status:
+  0  no answer differs
+  1  an answer differs, or a block is faulty, or a root has no
+     rules, or there are too many rules or entries, or the index
+     is refused
+  2  the command line is wrong
+  3  a file, a folder, the input or an output failed
+  4  out of memory
+
+Example:
+  devdry compare /mnt/old /mnt/new < disk.block
+
+devdry-compare(1) says more.
 """
 
 EXPLAIN_HELP = """\
@@ -177,6 +254,17 @@ Arguments:
 Options:
   -h, --help     Print help
   -V, --version  Print version
+
+Status:
+  0  the message was explained
+  2  the command line is wrong, or no message has the code
+  3  an output failed
+  4  out of memory
+
+Example:
+  devdry explain V6
+
+devdry-explain(1) says more.
 """
 
 # what is said about S2; tests/test_explain.sh has the others

@@ -14,6 +14,7 @@ use crate::arguments::{
     no_style_flag, no_summary_flag, old_argument, questions_flag, root_option, sources_flag,
     strict_flag, udev_flag, unused_flag, users_option, why_option,
 };
+use crate::endings;
 use clap::Command;
 use std::alloc::{AllocError, Global};
 
@@ -64,6 +65,7 @@ fn update_command<'a>(alloc: Global) -> Result<Command<'a>, AllocError>
 {
     Command::new(alloc, "update")
         .about("Checks the files of the hardware database and writes its index")
+        .after_help(endings::UPDATE)
         .arg(root_option(alloc))?
         .arg(strict_flag(alloc, "Exit with status 1 if there is a message"))?
         .arg(all_flag(alloc))?
@@ -80,6 +82,7 @@ fn query_command<'a>(alloc: Global) -> Result<Command<'a>, AllocError>
 {
     Command::new(alloc, "query")
         .about("Prints the properties that the hardware database has for a device")
+        .after_help(endings::QUERY)
         .override_usage("devdry query [OPTIONS] <MODALIAS> [FILE]...")
         .arg(root_option(alloc))?
         .arg(all_flag(alloc))?
@@ -95,6 +98,7 @@ fn verify_command<'a>(alloc: Global) -> Result<Command<'a>, AllocError>
 {
     Command::new(alloc, "verify")
         .about("Checks rules files")
+        .after_help(endings::VERIFY)
         .arg(root_option(alloc))?
         .arg(with_option(alloc, ADDED_RULES))?
         .arg(strict_flag(alloc, EVERY_CHECK))?
@@ -118,6 +122,7 @@ fn events_command<'a>(alloc: Global) -> Result<Command<'a>, AllocError>
 {
     Command::new(alloc, "events")
         .about("Answers the event blocks of the standard input")
+        .after_help(endings::EVENTS)
         .arg(root_option(alloc))?
         .arg(with_option(alloc, ADDED_FILES))?
         .arg(all_flag(alloc))?
@@ -138,6 +143,7 @@ fn files_command<'a>(alloc: Global) -> Result<Command<'a>, AllocError>
 {
     Command::new(alloc, "files")
         .about("Lists the files of the folders, and says which of them are read")
+        .after_help(endings::FILES)
         .arg(root_option(alloc))?
         .arg(with_option(alloc, ADDED_FILES))
 }
@@ -148,6 +154,7 @@ fn compare_command<'a>(alloc: Global) -> Result<Command<'a>, AllocError>
 {
     Command::new(alloc, "compare")
         .about("Tells where two systems answer the event blocks of the standard input differently")
+        .after_help(endings::COMPARE)
         .arg(with_option(alloc, ADDED_AFTER))?
         .arg(all_flag(alloc))?
         .arg(format_option(alloc, ANSWER_FORMATS))?
@@ -165,6 +172,7 @@ fn explain_command<'a>(alloc: Global) -> Result<Command<'a>, AllocError>
 {
     Command::new(alloc, "explain")
         .about("Explains a message by its code, with a faulty file and the fixed one")
+        .after_help(endings::EXPLAIN)
         .arg(code_argument(alloc))
 }
 

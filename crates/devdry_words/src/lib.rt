@@ -7,6 +7,7 @@
 mod added;
 mod arguments;
 mod commands;
+mod endings;
 mod ignored;
 mod line_reading;
 mod parse;

@@ -1,5 +1,5 @@
 """`verify --lint`: values and names that are most likely not meant (W16 to W19, W22), what rules assign (W20, W21, W23, W24), and
-rules among those of their file (W15, W25, and W6 within a rule).
+rules among those of their file (W15, W25, and W6 within a rule); and links of network devices (W26).
 
 What is wanted was written by hand, from the tables of docs/behaviour.md.
 """
@@ -132,9 +132,16 @@ W6 = [
     all_linted("no W6 of other comparisons", 'IMPORT{program}="/bin/a", ENV{MY_SIDE}!="left"', 'IMPORT{program}="/bin/a", ENV{MY_SIDE}=="|left"'),
 ]
 
+W26 = [
+    all_linted("W26", *reported(26, *((f'{match}, SYMLINK+="lan"', "lan") for match in ['SUBSYSTEM=="net"', 'KERNEL=="eth0"', 'KERNEL=="wlan*"', 'ACTION=="add", SUBSYSTEM=="net"']),
+        ('SUBSYSTEM=="net", SYMLINK:="a b"', "a b"))),
+    all_linted("no W26", *(f'{match}, SYMLINK+="lan"' for match in ['SUBSYSTEM=="usb"', 'SUBSYSTEM!="net"', 'SUBSYSTEM=="net|usb"', 'SUBSYSTEMS=="net"', 'KERNEL=="net0"', 'KERNEL!="eth0"', 'KERNEL=="et*"']),
+        'SUBSYSTEM=="net", NAME="lan"', 'SUBSYSTEM=="net", SYMLINK=="lan", TAG+="a"'),
+]
+
 ORDER = [
     all_linted("the order of lints", ('RUN="~/a.sh", ATTR{removable}="1", SUBSYSTEM=="NET", ATTRS{idvendor}=="04 | 05"', lint(2, "~/a.sh"), lint(20, "RUN"), lint(21, "ATTR"), lint(16, "NET"),
         lint(17, "04 | 05"), lint(18, "idVendor"))),
 ]
 
-ROWS = [*W15, *W16, *W17, *W18, *W19, *W20, *W21, *W22, *W23, *W24, *W25, *W6, *ORDER]
+ROWS = [*W15, *W16, *W17, *W18, *W19, *W20, *W21, *W22, *W23, *W24, *W25, *W6, *W26, *ORDER]

@@ -12,7 +12,7 @@ use Rattle.file_messages.specs.declared.message.MessageKind.TheVariants.{BlankEx
 use Rattle.rule_lints.specs.declared.lint.Lint.{Lint}
 use Rattle.rule_lints.specs.declared.lint.Lint.TheVariants.{ModeNotOctal, SignOfShell, RelativeProgram, LetterCase, NoSuchDevice, ImportedBelow, MeantToCompare}
 use Rattle.rule_lints.specs.declared.lint.Lint.TheVariants.{NoMatch, NeverFits, BlankBesideBar, UnknownName, NotSubstituted, ListReplaced, MeantAsMatch}
-use Rattle.rule_lints.specs.declared.lint.Lint.TheVariants.{NameTooLong, WantedWithoutTag, ForbiddenCommand, NoResultYet}
+use Rattle.rule_lints.specs.declared.lint.Lint.TheVariants.{NameTooLong, WantedWithoutTag, ForbiddenCommand, NoResultYet, LinkOfNet}
 use Rattle.rule_lints.specs.declared.lint.Lint.TheVariants.{NameOutsideNet, LinkWithDev, QuotedName, NotAPattern, AlwaysHolds, NeverReached, NoPatternForUdev}
 use Rattle.engine_formats.specs.DatabaseLints.{database_advice}
 use Rattle.engine_formats.specs.declared.remark.Remark.{Remark}
@@ -87,6 +87,7 @@ advice_on_lint NameTooLong = codes "Choose a name of at most 15 bytes."
 advice_on_lint WantedWithoutTag = codes "Add TAG+=\"systemd\" to the rule."
 advice_on_lint ForbiddenCommand = codes "Start a service by SYSTEMD_WANTS, or run systemd-mount."
 advice_on_lint NoResultYet = codes "Move PROGRAM to this rule, or to one above."
+advice_on_lint LinkOfNet = codes "Give the interface a NAME: it has no node, and so no links."
 
 -- the sentence on a remark
 abbrev pub advice_of : Remark → List ℕ

@@ -152,6 +152,8 @@ const FORBIDDEN_COMMAND: &[u8] = b"Start a service by SYSTEMD_WANTS, or run syst
 
 const NO_RESULT_YET: &[u8] = b"Move PROGRAM to this rule, or to one above.";
 
+const LINK_OF_NET: &[u8] = b"Give the interface a NAME: it has no node, and so no links.";
+
 const IDLE_IGNORE: &[u8] = b"Remove the code from the comment, which silences nothing.";
 
 const UNKNOWN_CODE: &[u8] =
@@ -247,5 +249,6 @@ fn advice_on_lint(lint: Lint) -> &'static [u8]
         Lint::WantedWithoutTag => WANTED_WITHOUT_TAG,
         Lint::ForbiddenCommand => FORBIDDEN_COMMAND,
         Lint::NoResultYet => NO_RESULT_YET,
+        Lint::LinkOfNet => LINK_OF_NET,
     }
 }

@@ -109,7 +109,7 @@ EACH = {
     "a long value": ['RUN+="<W3|rm ' + "long/" * 12 + '>"'],
 }
 
-# The same for W15 to W26, each in a rule that has no other.
+# The same for W15 to W27, each in a rule that has no other.
 LATER = {
     "W15": ['<W15|MODE>="0660"'],
     "W16": ['KERNEL=="<W16|/dev/sda>"', 'ATTRS{idVendor} == "<W16|421>"'],
@@ -123,6 +123,7 @@ LATER = {
     "W24": ['KERNEL=="a", RUN+="<W24|/bin/mount /dev/a /mnt>"'],
     "W25": ['<W25|RESULT>=="a"'],
     "W26": ['SUBSYSTEM=="net", SYMLINK+="<W26|lan>"'],
+    "W27": ['KERNEL=="a", <W27|TAG>+="uaccess"'],
 }
 
 ROWS = [

@@ -91,6 +91,7 @@ fn section_on_lint(lint: Lint) -> &'static str
         Lint::ForbiddenCommand => effects::W24,
         Lint::NoResultYet => values::W25,
         Lint::LinkOfNet => effects::W26,
+        Lint::TagTooLate => effects::W27,
     }
 }
 

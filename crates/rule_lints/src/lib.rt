@@ -29,4 +29,4 @@ pub use letter_case::{begin_with, is_many};
 pub use lint::Lint;
 pub use lints::{add_word, lints_of_rule};
 pub use parts::{comparison_of, is_among};
-pub use texts::has_byte;
+pub use texts::{has_byte, rest_after_last};

@@ -57,4 +57,6 @@ pub enum Lint {
     NoResultYet,
     /// W26: a link is given to a network device, which has no node.
     LinkOfNet,
+    /// W27: the tag `uaccess` is given after the file that reads it.
+    TagTooLate,
 }

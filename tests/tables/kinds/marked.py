@@ -83,6 +83,7 @@ TEXTS = {
     "W24": "command that cannot work",
     "W25": "result before its program",
     "W26": "link of a network device",
+    "W27": "tag uaccess in a late file",
     "I1": "nothing to ignore",
     "I2": "unknown code",
 }

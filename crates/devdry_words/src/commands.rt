@@ -10,9 +10,9 @@ ghost use Rattle.devdry_words.specs.Commands.{update_shape, verify_shape};
 use crate::added::{ADDED_AFTER, ADDED_FILES, ADDED_RULES, with_option};
 use crate::arguments::{
     all_flag, code_argument, color_option, files_argument, format_option, groups_option,
-    ignore_option, index_option, links_flag, lint_flag, modalias_argument, new_argument,
-    no_style_flag, no_summary_flag, old_argument, questions_flag, root_option, sources_flag,
-    strict_flag, udev_flag, unused_flag, users_option, why_option,
+    ignore_option, index_option, lint_flag, modalias_argument, new_argument, no_style_flag,
+    no_summary_flag, old_argument, questions_flag, root_option, sources_flag, strict_flag,
+    udev_flag, users_option, why_option,
 };
 use crate::endings;
 use clap::Command;
@@ -43,9 +43,6 @@ const DATABASE_FILES: &str = "Database files to read in place of the folders";
 
 const RULES_FILES: &str = "Rules files to read in place of the folders";
 
-const CHECKED_FILES: &str =
-    "Rules files, or with --links .link files, to read in place of the folders";
-
 const EVERY_CHECK: &str = "Make every check: --lint, --udev, --all, users and groups of the root";
 
 const LINT_RULES: &str = "Also tell of rules that are most likely not the ones that were meant";
@@ -54,8 +51,6 @@ const LINT_RECORDS: &str = "Also tell of lines that are most likely not the ones
 
 const MESSAGE_FORMATS: &str =
     "How messages are written: plain, gcc, github, gitlab, json, sarif or human";
-
-const ANSWER_FORMATS: &str = "How answers and messages are written: plain, json or human";
 
 const EVALUATE_AS_UDEV: &str = "Read and evaluate rules as udev itself does";
 
@@ -109,11 +104,10 @@ fn verify_command<'a>(alloc: Global) -> Result<Command<'a>, AllocError>
         .arg(no_summary_flag(alloc))?
         .arg(no_style_flag(alloc))?
         .arg(lint_flag(alloc, LINT_RULES))?
-        .arg(links_flag(alloc))?
         .arg(udev_flag(alloc, "Read rules as udev itself reads them"))?
         .arg(users_option(alloc))?
         .arg(groups_option(alloc))?
-        .arg(files_argument(alloc, CHECKED_FILES))
+        .arg(files_argument(alloc, RULES_FILES))
 }
 
 /// The subcommand `events`.
@@ -126,11 +120,8 @@ fn events_command<'a>(alloc: Global) -> Result<Command<'a>, AllocError>
         .arg(root_option(alloc))?
         .arg(with_option(alloc, ADDED_FILES))?
         .arg(all_flag(alloc))?
-        .arg(format_option(alloc, ANSWER_FORMATS))?
-        .arg(color_option(alloc))?
         .arg(sources_flag(alloc))?
         .arg(why_option(alloc))?
-        .arg(unused_flag(alloc))?
         .arg(questions_flag(alloc))?
         .arg(index_option(alloc))?
         .arg(udev_flag(alloc, EVALUATE_AS_UDEV))?
@@ -157,9 +148,6 @@ fn compare_command<'a>(alloc: Global) -> Result<Command<'a>, AllocError>
         .after_help(endings::COMPARE)
         .arg(with_option(alloc, ADDED_AFTER))?
         .arg(all_flag(alloc))?
-        .arg(format_option(alloc, ANSWER_FORMATS))?
-        .arg(color_option(alloc))?
-        .arg(sources_flag(alloc))?
         .arg(index_option(alloc))?
         .arg(udev_flag(alloc, EVALUATE_AS_UDEV))?
         .arg(old_argument(alloc))?

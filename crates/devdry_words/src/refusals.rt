@@ -5,8 +5,8 @@
 ghost use Rattle.std.specs.Prelude.{◌≡◌};
 ghost use Rattle.clap.specs.Words.{found_of, rows_of};
 ghost use Rattle.devdry_words.specs.Named.{IsUsageOf};
-ghost use Rattle.devdry_words.specs.Refusals.{answers_blocks, asks_all, asks_both, is_for_answers, is_strict, lacks_answer_format, lacks_root, lacks_side};
-ghost use Rattle.devdry_words.specs.Refusals.{lacks_udev, links_as_rules, names_two, refusal_of, said_of, unknown_value, wrong_added};
+ghost use Rattle.devdry_words.specs.Refusals.{asks_all, asks_both, is_strict, lacks_root, lacks_side, lacks_udev, names_two, refusal_of, said_of};
+ghost use Rattle.devdry_words.specs.Refusals.{unknown_value, wrong_added};
 
 use crate::added::{adds_to_index, adds_to_named, unaddable, unaddable_text};
 use crate::ignored::{unknown_part, unknown_text};
@@ -14,20 +14,12 @@ use crate::line_reading::{color_of, format_of};
 use crate::reporting::{usage, usage_on_code, usage_on_value};
 use crate::values::{has_value, is_empty, is_given, text, value};
 use clap::ArgMatches;
-use engine_ends::{Format, LineFault};
+use engine_ends::LineFault;
 use std::alloc::Global;
 
 const TWO_DATABASES: &str = "error: the argument '--index <FILE>' cannot be used with '[FILE]...'
 
 Usage: devdry query --index <FILE> <MODALIAS>
-
-For more information, try '--help'.
-";
-
-const LINKS_AS_RULES: &str =
-    "error: the argument '--links' cannot be used with '--with <FILE>', '--udev', '--users <FILE>', '--groups <FILE>' or '--strict'
-
-Usage: devdry verify --links [FILE]...
 
 For more information, try '--help'.
 ";
@@ -54,7 +46,7 @@ For more information, try '--help'.
 ";
 
 const TWO_ANSWERS: &str =
-    "error: the argument '--questions' cannot be used with '--sources', '--why <FILE[:LINE]>' or '--unused'
+    "error: the argument '--questions' cannot be used with '--sources' or '--why <FILE[:LINE]>'
 
 Usage: devdry events --questions [FILE]...
 
@@ -86,12 +78,6 @@ const NO_SUCH_FORMAT: &str = "' for '--format <FORMAT>'
 For more information, try '--help'.
 ";
 
-const NO_ANSWER_FORMAT: &str = "' for '--format <FORMAT>'
-  [possible values: plain, json, human]
-
-For more information, try '--help'.
-";
-
 const NO_SUCH_COLOR: &str = "' for '--color <WHEN>'
   [possible values: auto, always, never]
 
@@ -103,8 +89,6 @@ For more information, try '--help'.
 pub(crate) enum Refusal {
     /// A query names two databases: files and an index.
     TwoDatabases,
-    /// `.link` files are to be checked in place of rules, and what is asked beside it is about rules alone.
-    LinksAsRules,
     /// A file is added to those of the folders, and others are named to be read in place of these.
     AddedToNamed,
     /// A file is added to those of the database, and an index is named to be read in place of these.
@@ -120,8 +104,6 @@ pub(crate) enum Refusal {
     NoUdev,
     /// There is no such format.
     UnknownFormat,
-    /// Answers can't be written in the format, or there is no such format.
-    NoAnswerFormat,
     /// Colors are asked for in no known way.
     UnknownColor,
     /// A part of `--ignore` is neither the code of a remark nor the word `comments`.
@@ -139,24 +121,11 @@ fn names_two(name: &str, matches: &ArgMatches<'_>) -> bool
     (name == "query") & value(matches, "index").is_some() & has_value(matches, "FILE")
 }
 
-/// Whether matches ask to check `.link` files in place of rules, and for something that is about rules alone.
-fn links_as_rules(matches: &ArgMatches<'_>) -> bool
-    ensures { result ≡ links_as_rules (rows_of (found_of matches.now)) }
-{
-    is_given(matches, "links")
-        & (has_value(matches, "with")
-            | is_given(matches, "udev")
-            | is_given(matches, "strict")
-            | value(matches, "users").is_some()
-            | value(matches, "groups").is_some())
-}
-
 /// Whether matches ask for questions in place of answers, and for more about the answers.
 fn asks_both(matches: &ArgMatches<'_>) -> bool
     ensures { result ≡ asks_both (rows_of (found_of matches.now)) }
 {
-    is_given(matches, "questions")
-        & (is_given(matches, "sources") | has_value(matches, "why") | is_given(matches, "unused"))
+    is_given(matches, "questions") & (is_given(matches, "sources") | has_value(matches, "why"))
 }
 
 /// Whether the matches of a subcommand are those of a strict `verify`, and so ask for every check.
@@ -195,34 +164,6 @@ fn lacks_udev(name: &str, matches: &ArgMatches<'_>) -> bool
         & !(is_given(matches, "udev") | is_strict(name, matches))
 }
 
-/// Whether a subcommand answers event blocks.
-fn answers_blocks(name: &str) -> bool
-    ensures { result ≡ answers_blocks name.now }
-{
-    (name == "events") | (name == "compare")
-}
-
-/// Whether answers can be written in a format.
-fn is_for_answers(format: Format) -> bool
-    ensures { result ≡ is_for_answers format }
-{
-    match format {
-        Format::Plain | Format::Json | Format::Human | Format::HumanInColor => true,
-        Format::Gcc | Format::Github | Format::Gitlab | Format::Sarif => false,
-    }
-}
-
-/// Whether matches ask for answers in a format in which they can't be written, or in one that there is not.
-fn lacks_answer_format(name: &str, matches: &ArgMatches<'_>) -> bool
-    ensures { result ≡ lacks_answer_format name.now (rows_of (found_of matches.now)) }
-{
-    answers_blocks(name)
-        && match format_of(matches) {
-            Some(format) => !is_for_answers(format),
-            None => true,
-        }
-}
-
 /// Why a file may not be added for a subcommand, if one may not.
 fn wrong_added(name: &str, matches: &ArgMatches<'_>) -> Option<Refusal>
     ensures { result ≡ wrong_added name.now (rows_of (found_of matches.now)) }
@@ -242,9 +183,7 @@ fn wrong_added(name: &str, matches: &ArgMatches<'_>) -> Option<Refusal>
 fn unknown_value(name: &str, matches: &ArgMatches<'_>) -> Option<Refusal>
     ensures { result ≡ unknown_value name.now (rows_of (found_of matches.now)) }
 {
-    if lacks_answer_format(name, matches) {
-        Some(Refusal::NoAnswerFormat)
-    } else if format_of(matches).is_none() {
+    if format_of(matches).is_none() {
         Some(Refusal::UnknownFormat)
     } else if color_of(matches).is_none() {
         Some(Refusal::UnknownColor)
@@ -261,8 +200,6 @@ pub(crate) fn refusal_of(name: &str, matches: &ArgMatches<'_>) -> Option<Refusal
 {
     if names_two(name, matches) {
         Some(Refusal::TwoDatabases)
-    } else if links_as_rules(matches) {
-        Some(Refusal::LinksAsRules)
     } else if adds_to_named(matches) {
         Some(Refusal::AddedToNamed)
     } else if asks_both(matches) {
@@ -284,7 +221,6 @@ pub(crate) fn usage_of(alloc: Global, refusal: Refusal, matches: &ArgMatches<'_>
 {
     match refusal {
         Refusal::TwoDatabases => usage(alloc, TWO_DATABASES),
-        Refusal::LinksAsRules => usage(alloc, LINKS_AS_RULES),
         Refusal::AddedToNamed => usage(alloc, ADDED_TO_NAMED),
         Refusal::AddedToIndex => usage(alloc, ADDED_TO_INDEX),
         Refusal::TwoAnswers => usage(alloc, TWO_ANSWERS),
@@ -292,9 +228,6 @@ pub(crate) fn usage_of(alloc: Global, refusal: Refusal, matches: &ArgMatches<'_>
         Refusal::EmptySide => usage(alloc, EMPTY_SIDE),
         Refusal::NoUdev => usage(alloc, NO_UDEV),
         Refusal::UnknownFormat => usage_on_value(alloc, text(matches, "format"), NO_SUCH_FORMAT),
-        Refusal::NoAnswerFormat => {
-            usage_on_value(alloc, text(matches, "format"), NO_ANSWER_FORMAT)
-        }
         Refusal::UnknownColor => usage_on_value(alloc, text(matches, "color"), NO_SUCH_COLOR),
         Refusal::UnknownPart => usage_on_code(
             alloc,

@@ -13,10 +13,7 @@ returns c =
     } in
     let first = one_more _ _ _ _ _ start c.with_option.ensures c.in_ok-arg.ensures in
     let second = one_more _ _ _ _ _ first c.all_flag.ensures c.in_ok-arg-2.ensures in
-    let third = one_more _ _ _ _ _ second c.format_option.ensures c.in_ok-arg-3.ensures in
-    let fourth = one_more _ _ _ _ _ third c.color_option.ensures c.in_ok-arg-4.ensures in
-    let fifth = one_more _ _ _ _ _ fourth c.sources_flag.ensures c.in_ok-arg-5.ensures in
-    let sixth = one_more _ _ _ _ _ fifth c.index_option.ensures c.in_ok-arg-6.ensures in
-    let seventh = one_more _ _ _ _ _ sixth c.udev_flag.ensures c.in_ok-arg-7.ensures in
-    let eighth = one_more _ _ _ _ _ seventh c.old_argument.ensures c.in_ok-arg-8.ensures in
-    IfOk-weaker c.arg-9.result _ _ (λ m h. one_more _ _ _ _ _ eighth c.new_argument.ensures h) c.arg-9.ensures
+    let third = one_more _ _ _ _ _ second c.index_option.ensures c.in_ok-arg-3.ensures in
+    let fourth = one_more _ _ _ _ _ third c.udev_flag.ensures c.in_ok-arg-4.ensures in
+    let fifth = one_more _ _ _ _ _ fourth c.old_argument.ensures c.in_ok-arg-5.ensures in
+    IfOk-weaker c.arg-6.result _ _ (λ m h. one_more _ _ _ _ _ fifth c.new_argument.ensures h) c.arg-6.ensures

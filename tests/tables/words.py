@@ -442,6 +442,7 @@ NOT_UNDERSTOOD = [
     ("update --format=xml a.hwdb", NO_SUCH_FORMAT),
     ("verify --color=yes a.rules", NO_SUCH_COLOR),
     ("update --color= a.hwdb", NO_SUCH_COLOR.replace("yes", "")),
+    ("events --color=never", "error: unexpected argument '--color' found\n"),
     ("query --color=never m", "error: unexpected argument '--color' found\n"),
     ("verify --all --root=", EMPTY_ROOT),
     ("verify --strict --root=", EMPTY_ROOT),

@@ -223,10 +223,6 @@ color_of_query : fault_of devdry (codes "query" ∷ codes "--color=never" ∷ co
 unfolding clap_on_literals devdry
 color_of_query = refl
 
-unknown_color_of_events_is_refused : refused (codes "events" ∷ codes "--color=yes" ∷ []) ≡ Some (Some UnknownColor)
-unfolding clap_on_literals devdry
-unknown_color_of_events_is_refused = refl
-
 empty_root_of_files_is_refused : refused (codes "files" ∷ codes "-r" ∷ [] ∷ []) ≡ Some (Some EmptyRoot)
 unfolding clap_on_literals devdry
 empty_root_of_files_is_refused = refl

@@ -35,12 +35,12 @@ _devdry_code_list() {
 }
 
 # Whether query takes a database file as the current word: after a modalias, a word that is neither an option nor the
-# folder of one, and not if there is an index.
+# value of one, and not if there is an index.
 _devdry_takes_database() {
     local at takes=1
     for ((at = 2; at < COMP_CWORD; at++)); do
         case ${COMP_WORDS[at]} in
-            -r | --root) at=$((at + 1)) ;;
+            -r | --root | --options) at=$((at + 1)) ;;
             --index) return 1 ;;
             -*) ;;
             *) takes=0 ;;
@@ -67,12 +67,12 @@ _devdry() {
         return
     fi
     case $command in
-        verify) suffix=.rules options='-r --root --with -s --strict --all --format --color --ignore --no-summary --no-style --lint --udev --users --groups -h --help -V --version' ;;
-        query) suffix=.hwdb options='-r --root --all --sources --index -h --help -V --version' ;;
-        update) suffix=.hwdb options='-r --root -s --strict --all --format --color --ignore --lint -h --help -V --version' ;;
-        events) suffix=.rules options='-r --root --with --all --sources --why --questions --index --udev -h --help -V --version' ;;
-        files) suffix='' options='-r --root --with -h --help -V --version' ;;
-        compare) suffix='' options='--with --all --index --udev -h --help -V --version' ;;
+        verify) suffix=.rules options='--options -r --root --with -s --strict --all --format --color --ignore --no-summary --no-style --lint --udev --users --groups -h --help -V --version' ;;
+        query) suffix=.hwdb options='--options -r --root --all --sources --index -h --help -V --version' ;;
+        update) suffix=.hwdb options='--options -r --root -s --strict --all --format --color --ignore --lint -h --help -V --version' ;;
+        events) suffix=.rules options='--options -r --root --with --all --sources --why --questions --index --udev -h --help -V --version' ;;
+        files) suffix='' options='--options -r --root --with -h --help -V --version' ;;
+        compare) suffix='' options='--options --with --all --index --udev -h --help -V --version' ;;
         explain) suffix='' options='-h --help -V --version' ;;
         help)
             [ "$COMP_CWORD" -gt 2 ] || _devdry_words verify query update events files compare explain help
@@ -82,7 +82,7 @@ _devdry() {
     esac
     case $before:$word in
         -r:* | --root:*) _devdry_files '' ;;
-        --index:* | --users:* | --groups:*) _devdry_any_files ;;
+        --options:* | --index:* | --users:* | --groups:*) _devdry_any_files ;;
         --why:*) _devdry_files .rules ;;
         --with:*) _devdry_added ;;
         --format:*) _devdry_words plain gcc github gitlab json sarif human ;;

@@ -14,6 +14,7 @@ complete -c devdry -n __fish_use_subcommand -a explain -d 'Explain a message by 
 complete -c devdry -n __fish_use_subcommand -a help -d 'Print help'
 complete -c devdry -n '__fish_seen_subcommand_from help' -a 'verify query update events files compare explain help'
 
+complete -c devdry -n '__fish_seen_subcommand_from verify query update events files compare' -l options -r -F -d 'File of options to put before these, one a line'
 complete -c devdry -n '__fish_seen_subcommand_from verify query update events files' -s r -l root -r -a '(__fish_complete_directories)' -d 'Folder to put before each folder that is read'
 
 complete -c devdry -n '__fish_seen_subcommand_from verify' -l with -r -k -a '(__fish_complete_suffix .rules)' -d 'Rules file to read among those of the folders, by its name'

@@ -317,6 +317,12 @@ ROWS = [
         "a file added to a folder", ["events", "-r", ".", "--with", "drafts/r.rules"],
         {"run/udev/rules.d/r.rules": 'TAG+="x"\n', "drafts/r.rules": DISK_RULE}, DISK, DISK_ANSWER),
     Row(
+        "options of a file", ["events", "--options", "ours", "--root=none", "r.rules"],
+        {"r.rules": DISK_RULE + 'RUN+="/bin/a"\n', "ours": "# ours\n--sources\n--root=.\n"}, DISK, SOURCED_ANSWER),
+    Row(
+        "a bad line in a file of options", ["events", "--options", "ours"], {"ours": "sources\n"},
+        line="error: ours:1: not one option, as --lint or --format=gcc: sources\n\nFor more information, try '--help'.\n", status=2),
+    Row(
         "a text doubled thirty times", ["events", "-r", "none", "d.rules"], {"d.rules": DOUBLING},
         "C: add\nP: /devices/x\nE: X=" + "v" * 1000 + "\n", DOUBLED),
     Row(

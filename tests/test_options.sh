@@ -76,6 +76,7 @@ done
     same "bash offers no file for a modalias" "" "$(bash_offers devdry query '' | paste -s -d " " -)"
     same "bash offers database files after a modalias" "b.hwdb folder" "$(bash_offers devdry query -r folder m '' | paste -s -d " " -)"
     same "bash offers all files after --index" "a.rules b.hwdb c.txt folder" "$(bash_offers devdry query --index '' | paste -s -d " " -)"
+    same "bash offers all files after --options" "a.rules b.hwdb c.txt folder" "$(bash_offers devdry files --options '' | paste -s -d " " -)"
     same "bash offers rules files after --why" "a.rules folder" "$(bash_offers devdry events --why '' | paste -s -d " " -)"
     same "bash offers codes to explain" "V1 V10 V11 V12 V13 V14 V15 V16 V17 V18 V19" "$(bash_offers devdry explain V1 | paste -s -d " " -)"
     same "bash offers folders to compare" "folder" "$(bash_offers devdry compare folder '' | paste -s -d " " -)"

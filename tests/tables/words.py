@@ -53,6 +53,7 @@ Arguments:
   [FILE]...  Database files to read in place of the folders
 
 Options:
+      --options <FILE>   File of options to put before these, one a line, as --lint or --ignore=S2
   -r, --root <DIR>       Folder to put before each folder that is read
   -s, --strict           Exit with status 1 if there is a message
       --all              Go on where a file can't be read, and fail where there is none
@@ -87,12 +88,13 @@ Arguments:
   [FILE]...   Database files to read in place of the folders
 
 Options:
-  -r, --root <DIR>    Folder to put before each folder that is read
-      --all           Go on where a file can't be read, and fail where there is none
-      --sources       Say where each line comes from
-      --index <FILE>  Index to read in place of the database's folders
-  -h, --help          Print help
-  -V, --version       Print version
+      --options <FILE>  File of options to put before these, one a line, as --lint or --ignore=S2
+  -r, --root <DIR>      Folder to put before each folder that is read
+      --all             Go on where a file can't be read, and fail where there is none
+      --sources         Say where each line comes from
+      --index <FILE>    Index to read in place of the database's folders
+  -h, --help            Print help
+  -V, --version         Print version
 
 Status:
   0  the properties were printed, if there are any
@@ -117,6 +119,7 @@ Arguments:
   [FILE]...  Rules files to read in place of the folders
 
 Options:
+      --options <FILE>   File of options to put before these, one a line, as --lint or --ignore=S2
   -r, --root <DIR>       Folder to put before each folder that is read
       --with <FILE>      Rules file to read among those of the folders, by its name
   -s, --strict           Make every check: --lint, --udev, --all, users and groups of the root
@@ -155,6 +158,7 @@ Arguments:
   [FILE]...  Rules files to read in place of the folders
 
 Options:
+      --options <FILE>     File of options to put before these, one a line, as --lint or --ignore=S2
   -r, --root <DIR>         Folder to put before each folder that is read
       --with <FILE>        Rules or database file to read among those of the folders, by its name
       --all                Go on where a file can't be read, and fail where there is none
@@ -186,10 +190,11 @@ Lists the files of the folders, and says which of them are read
 Usage: devdry files [OPTIONS]
 
 Options:
-  -r, --root <DIR>   Folder to put before each folder that is read
-      --with <FILE>  Rules or database file to read among those of the folders, by its name
-  -h, --help         Print help
-  -V, --version      Print version
+      --options <FILE>  File of options to put before these, one a line, as --lint or --ignore=S2
+  -r, --root <DIR>      Folder to put before each folder that is read
+      --with <FILE>     Rules or database file to read among those of the folders, by its name
+  -h, --help            Print help
+  -V, --version         Print version
 
 Status:
   0  the files were listed
@@ -214,12 +219,13 @@ Arguments:
   <NEW>  Root of the system after
 
 Options:
-      --with <FILE>   Rules or database file to read among those of NEW, by its name
-      --all           Go on where a file can't be read, and fail where there is none
-      --index <FILE>  Index to read in place of the database's folders
-      --udev          Read and evaluate rules as udev itself does
-  -h, --help          Print help
-  -V, --version       Print version
+      --options <FILE>  File of options to put before these, one a line, as --lint or --ignore=S2
+      --with <FILE>     Rules or database file to read among those of NEW, by its name
+      --all             Go on where a file can't be read, and fail where there is none
+      --index <FILE>    Index to read in place of the database's folders
+      --udev            Read and evaluate rules as udev itself does
+  -h, --help            Print help
+  -V, --version         Print version
 
 Status:
   0  no answer differs

@@ -4,5 +4,6 @@ pub mod Knowing
 pub mod Comparing
 pub mod Terminals
 pub mod Linking
+pub mod Options
 pub mod Runs
 pub mod Reporting

@@ -9,6 +9,8 @@ use Rattle.engine_ends.specs.Streams.{Outputs}
 use Rattle.engine_ends.specs.Delivery.{Delivers, ReportsFailure, out_of_memory}
 use Rattle.devdry_files.specs.declared.fault.ReadFault.{ReadFault}
 use Rattle.devdry_files.specs.declared.fault.ReadFault.TheVariants as read
+use Rattle.devdry_options.specs.declared.files.OptionsFault.{OptionsFault}
+use Rattle.devdry_options.specs.declared.files.OptionsFault.TheVariants as options
 
 -- the line on a file or a folder that could not be read, with its path escaped
 abbrev pub cannot_read : List ℕ → List ℕ
@@ -32,3 +34,8 @@ ReportsLineFault Memory status before now =
 abbrev pub ReportsReadFault : ReadFault → ℕ → SinkState → SinkState → Type 0
 ReportsReadFault (read.Path path) status err err_now = ReportsFailure (cannot_read (string_bytes path)) 3 status err err_now
 ReportsReadFault read.Memory status err err_now = ReportsFailure out_of_memory 4 status err err_now
+
+-- a file of options is bad: what is said about it is reported with status 2
+abbrev pub ReportsOptionsFault : OptionsFault → ℕ → SinkState → SinkState → Type 0
+ReportsOptionsFault (options.BadLine said) status err err_now = ReportsFailure said 2 status err err_now
+ReportsOptionsFault options.Memory status err err_now = ReportsFailure out_of_memory 4 status err err_now

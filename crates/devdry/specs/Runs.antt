@@ -1,5 +1,5 @@
 -- What a run of the program does with its words, with a disk that may give these answers.
-use Rattle.std.specs.Prelude.{◌≡◌, ◌&&◌, ℕ, ◌⊎◌, Bool, List, [], Option, codes, true, false}
+use Rattle.std.specs.Prelude.{◌≡◌, ◌&&◌, ℕ, ◌⊎◌, Bool, List, [], MatchOption, Option, codes, true, false}
 use Rattle.clap.specs.Words.{fault_of, subcommand_of}
 use Rattle.text_bytes.specs.declared.source_file.SourceFile.{SourceFile}
 use Rattle.engine_ends.specs.declared.line.Line.{Line}
@@ -9,12 +9,15 @@ use Rattle.engine_ends.specs.declared.line.Request.TheVariants.{Run, Files, Comp
 use Rattle.engine_ends.specs.Streams.{Streams, outputs}
 use Rattle.engine_core.specs.Runs.{RunsOver}
 use Rattle.devdry_files.specs.Answers.{Answer}
+use Rattle.devdry_files.specs.Answers.Answer.{Content}
 use Rattle.devdry_folders.specs.declared.reading.Report.{Report}
 use Rattle.devdry_words.specs.Commands.{devdry}
 use Rattle.devdry_words.specs.Answers.{AnswersWords}
+use Rattle.devdry_words.specs.Options.{options_in, with_options}
 use Rattle.devdry_words.specs.Requests.{IsRequestOf}
 use Rattle.devdry.specs.Comparing.{ComparesLines}
 use Rattle.devdry.specs.Linking.{ReadsRequest, RunsReported, is_events}
+use Rattle.devdry.specs.Options.{DoesByFile, IsFaultAt}
 use Rattle.devdry.specs.PartialRuns.{IsRefusedToRead, ListsFiles, RunsAfter, RunsSome}
 use Rattle.devdry.specs.Knowing.{IsFaultOfAccounts, KnowsAccounts}
 use Rattle.devdry.specs.Reading.{AreReadFor, FailsAt, IsFaultOf}
@@ -100,7 +103,25 @@ pub record RefusesWords (words : List (List ℕ)) (status : ℕ) (before now : S
   pub reports : ReportsLineFault fault status (outputs before) (outputs now)
   pub unread : now.input ≡ before.input
 
--- what words do, given which streams are terminals
+-- what words do by themselves, given which streams are terminals
+abbrev pub RunsAlone : Terminals → (Answer → Type 0) → List (List ℕ) → ℕ → Streams → Streams → Type 0
+RunsAlone terminals may words status before now =
+    RunsWords terminals may words status before now ⊎ RefusesWords words status before now
+
+-- The file of options at the path was read, and the words do what they do with those of the file.
+pub record RunsByFile (terminals : Terminals) (may : Answer → Type 0) (path : List ℕ) (words : List (List ℕ)) (status : ℕ) (before now : Streams) : Type 0 where
+  pub bytes : List ℕ
+  pub is_content : may (Content path bytes)
+  pub does : DoesByFile (λ added. RunsAlone terminals may (with_options added words) status before now) path bytes status before now
+
+-- what words do that name a file of options at the path
+abbrev pub RunsWithFile : Terminals → (Answer → Type 0) → (path : List ℕ) → List (List ℕ) → ℕ → Streams → Streams → Type 0
+RunsWithFile terminals may path words status before now =
+    RunsByFile terminals may path words status before now ⊎ FailsAt (IsFaultAt may path) status before now
+
+-- what words do, given which streams are terminals: by themselves, or with those of the file of options that they name;
+-- memory may run out in place of that
 abbrev pub Runs : Terminals → (Answer → Type 0) → List (List ℕ) → ℕ → Streams → Streams → Type 0
 Runs terminals may words status before now =
-    RunsWords terminals may words status before now ⊎ RefusesWords words status before now
+    MatchOption (options_in words) (RunsAlone terminals may words status before now) (λ path. RunsWithFile terminals may path words status before now)
+    ⊎ IsRefusedToRead status before now

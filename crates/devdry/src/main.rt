@@ -10,13 +10,14 @@ ghost use Rattle.std.specs.Prelude.{◌≡◌, drop};
 mod comparing;
 mod knowing;
 mod linking;
+mod options;
 mod partial_runs;
 mod reporting;
 mod running;
 mod terminals;
 
+use crate::options::run_words;
 use crate::reporting::report_arguments_fault;
-use crate::running::run_words;
 use crate::terminals::Terminals;
 use devdry_files::RealDisk;
 use engine_ends::{SinkOver, SourceOver};

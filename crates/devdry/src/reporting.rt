@@ -4,9 +4,10 @@
 ghost use Rattle.std.specs.IoError.{error_kind};
 ghost use Rattle.std.specs.Prelude.{◌≡◌};
 ghost use Rattle.engine_ends.specs.Delivery.{ReportsFailure, out_of_memory};
-ghost use Rattle.devdry.specs.Reporting.{ReportsLineFault, ReportsReadFault, cannot_read, not_text};
+ghost use Rattle.devdry.specs.Reporting.{ReportsLineFault, ReportsOptionsFault, ReportsReadFault, cannot_read, not_text};
 
 use devdry_files::ReadFault;
+use devdry_options::OptionsFault;
 use engine_ends::{LineFault, Sink, deliver, report_failure, report_out_of_memory, report_word};
 use std::io::{self, ErrorKind};
 
@@ -49,6 +50,16 @@ pub(crate) fn report_line_fault<W: Sink, E: Sink>(
         LineFault::Help(text) => deliver(b"", text.as_bytes(), WELL, output, error),
         LineFault::Usage(text) => report_failure(error, text.as_bytes(), USAGE),
         LineFault::Memory => report_out_of_memory(error),
+    }
+}
+
+/// Reports what is wrong with a file of options, or that memory ran out.
+pub(crate) fn report_options_fault<E: Sink>(fault: &OptionsFault, error: &mut E) -> u8
+    ensures { ReportsOptionsFault fault.now result (E.shown error.old) (E.shown error.new) }
+{
+    match fault {
+        OptionsFault::BadLine(said) => report_failure(error, said.as_slice(), USAGE),
+        OptionsFault::Memory => report_out_of_memory(error),
     }
 }
 

@@ -1,7 +1,7 @@
 //! The way from words to a status.
 ghost use Rattle.std.specs.Prelude.{◌≡◌, ◌&&◌, IfErr, IfOk, map, string_bytes};
 ghost use Rattle.devdry.specs.Reading.{AreReadFor, IsFaultOf};
-ghost use Rattle.devdry.specs.Runs.{DoesAfter, DoesRequest, Runs, RunsLine, RunsWanted, takes_blocks};
+ghost use Rattle.devdry.specs.Runs.{DoesAfter, DoesRequest, RunsAlone, RunsLine, RunsWanted, takes_blocks};
 
 use crate::comparing::run_compare;
 use crate::knowing::run_knowing;
@@ -28,11 +28,11 @@ pub(crate) struct Inputs {
     pub(crate) index: Option<Bytes>,
 }
 
-/// Runs the words that follow the program's name, and returns the status to exit with.
+/// Runs words that name no file of options, or all words with those of one, and returns the status to exit with.
 ///
 /// Words that ask for something are run over the files that this takes. Otherwise help goes to `output` with status
 /// 0, or what is wrong with the words to `error` with status 2.
-pub(crate) fn run_words<D: Disk, I: Source, W: Sink, E: Sink>(
+pub(crate) fn run_alone<D: Disk, I: Source, W: Sink, E: Sink>(
     alloc: Global,
     disk: &D,
     words: &[String],
@@ -41,7 +41,7 @@ pub(crate) fn run_words<D: Disk, I: Source, W: Sink, E: Sink>(
     output: &mut W,
     error: &mut E,
 ) -> u8
-    ensures { Runs terminals (D.may_answer disk.now) (map string_bytes words.now) result
+    ensures { RunsAlone terminals (D.may_answer disk.now) (map string_bytes words.now) result
         (record { input = I.shown input.old; out = W.shown output.old; err = E.shown error.old })
         (record { input = I.shown input.new; out = W.shown output.new; err = E.shown error.new }) }
 {

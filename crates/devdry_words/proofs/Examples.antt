@@ -1,8 +1,12 @@
 -- What the definitions say of words that are written out.
-use Rattle.std.proofs.Common.{◌≡◌, ◌++◌, Bool, refl, true, false, List, [], ◌∷◌, Option, Some, None, codes, map, option_map}
-use Rattle.std.specs.List.{flat_map}
+use Rattle.std.proofs.Common.{◌≡◌, ◌++◌, ◌||◌, Bool, refl, true, false, List, [], ◌∷◌, Option, Some, None, codes, map, option_map}
+use Rattle.std.specs.List.{filter_map, flat_map, list_all, list_any}
+use Rattle.std.specs.Option.{option_map_or}
+use Rattle.std.specs.Str.{bytes_eq}
 use Rattle.clap.specs.Walk.{Text}
-use Rattle.clap.specs.Words.{first_of}
+use Rattle.clap.specs.Words.{Rule, first_of}
+use Rattle.clap.specs.declared.builder.action.ArgAction.{ArgAction}
+use Rattle.clap.specs.declared.builder.action.ArgAction.TheVariants.{Append, SetTrue}
 use Rattle.clap.specs.Simple.{subcommand_of}
 use Rattle.clap.specs.Takes.{takes}
 use Rattle.clap.specs.Faults.{fault_of}
@@ -23,6 +27,8 @@ use Rattle.text_bytes.specs.declared.profile.Profile.TheVariants.{Manual, Udev}
 use Rattle.engine_formats.specs.Codes.{remark_of, remarks}
 use Rattle.engine_formats.specs.Remarks.{code_of, heading_parts}
 use Rattle.devdry_words.specs.Refusals.{known_codes, listed, refusal_of, unknown_part}
+use Rattle.devdry_options.specs.Names.{flag_names, repeated_names, valued_names}
+use Rattle.devdry_words.specs.Options.{options_in, with_options}
 use Rattle.devdry_words.specs.Requests.{added_of}
 use Rattle.devdry_words.specs.Values.{cut_at_commas, is_set, texts_of, text_of}
 
@@ -323,6 +329,46 @@ no_class_is_refused = refl
 events_go_on : option_map {U = Bool} (λ p. is_set_or_every Events (codes "all") p.1) (subcommand_of devdry (codes "events" ∷ codes "--all" ∷ [])) ≡ Some true
 unfolding clap_on_literals devdry
 events_go_on = refl
+
+-- the names of the options that a file may give as an argument of this action has them
+abbrev names_for : Option ArgAction → List Text
+names_for (Some SetTrue) = flag_names
+names_for (Some Append) = repeated_names
+names_for _ = valued_names
+
+-- an argument is no option, or the one that names a file of options, or a file may give it as clap reads it
+abbrev may_be_in_a_file : Rule → Bool
+may_be_in_a_file rule = option_map_or (λ name. bytes_eq name (codes "options") || list_any (bytes_eq name) (names_for rule.action)) rule.long true
+
+each_option_may_be_in_a_file : list_all may_be_in_a_file (flat_map (λ s. s.rules) devdry.subs) ≡ true
+unfolding devdry flag_names repeated_names valued_names
+each_option_may_be_in_a_file = refl
+
+-- the long names of all options
+abbrev long_names : List Text
+long_names = filter_map (λ rule. rule.long) (flat_map (λ s. s.rules) devdry.subs)
+
+each_name_is_an_option : list_all (λ name. list_any (bytes_eq name) long_names) (flag_names ++ (valued_names ++ repeated_names)) ≡ true
+unfolding devdry flag_names repeated_names valued_names
+each_name_is_an_option = refl
+
+a_file_of_options_is_named : options_in (codes "verify" ∷ codes "--lint" ∷ codes "--options" ∷ codes "ours" ∷ codes "a.rules" ∷ []) ≡ Some (codes "ours")
+unfolding clap_on_literals devdry
+a_file_of_options_is_named = refl
+
+no_file_of_options_is_named : options_in (codes "explain" ∷ codes "V6" ∷ []) ≡ None
+unfolding clap_on_literals devdry
+no_file_of_options_is_named = refl
+
+words_at_fault_name_no_file : options_in (codes "query" ∷ codes "--options=ours" ∷ []) ≡ None
+unfolding clap_on_literals devdry
+words_at_fault_name_no_file = refl
+
+options_stand_behind_the_name : with_options (codes "--lint" ∷ codes "--format=gcc" ∷ codes "--ignore=S2" ∷ codes "--strict" ∷ [])
+    (codes "verify" ∷ codes "--options=ours" ∷ codes "--format" ∷ codes "json" ∷ codes "-s" ∷ codes "--ignore=S1" ∷ codes "a.rules" ∷ [])
+    ≡ codes "verify" ∷ codes "--lint" ∷ codes "--ignore=S2" ∷ codes "--options=ours" ∷ codes "--format" ∷ codes "json" ∷ codes "-s" ∷ codes "--ignore=S1" ∷ codes "a.rules" ∷ []
+unfolding clap_on_literals devdry flag_names valued_names split_once
+options_stand_behind_the_name = refl
 
 -- the format that words name it by
 abbrev uncolored : Format → Format

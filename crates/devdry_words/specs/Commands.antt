@@ -40,39 +40,39 @@ files_rule = record (new_rule (codes "FILE")) { action = Some Append }
 abbrev pub with_rules : Text → List Rule → Shape
 with_rules name rules = record (new_shape name) { rules = rules }
 
--- `update [-r DIR] [-s] [--all] [--format FORMAT] [--color WHEN] [--ignore CODES].. [--lint] [FILE]..`
+-- `update [--options FILE] [-r DIR] [-s] [--all] [--format FORMAT] [--color WHEN] [--ignore CODES].. [--lint] [FILE]..`
 abbrev pub update_shape : Shape
 update_shape = with_rules (codes "update")
-    (root_rule ∷ strict_rule ∷ flag_rule (codes "all") ∷ option_rule (codes "format") ∷ option_rule (codes "color")
+    (option_rule (codes "options") ∷ root_rule ∷ strict_rule ∷ flag_rule (codes "all") ∷ option_rule (codes "format") ∷ option_rule (codes "color")
     ∷ repeated_rule (codes "ignore") ∷ flag_rule (codes "lint") ∷ files_rule ∷ [])
 
--- `query [-r DIR] [--all] [--sources] [--index FILE] MODALIAS [FILE]..`
+-- `query [--options FILE] [-r DIR] [--all] [--sources] [--index FILE] MODALIAS [FILE]..`
 abbrev pub query_shape : Shape
 query_shape = with_rules (codes "query")
-    (root_rule ∷ flag_rule (codes "all") ∷ flag_rule (codes "sources") ∷ option_rule (codes "index") ∷ required_rule (codes "MODALIAS") ∷ files_rule ∷ [])
+    (option_rule (codes "options") ∷ root_rule ∷ flag_rule (codes "all") ∷ flag_rule (codes "sources") ∷ option_rule (codes "index") ∷ required_rule (codes "MODALIAS") ∷ files_rule ∷ [])
 
--- `verify [-r DIR] [--with FILE].. [-s] [--all] [--format FORMAT] [--color WHEN] [--ignore CODES].. [--no-summary] [--no-style] [--lint]
+-- `verify [--options FILE] [-r DIR] [--with FILE].. [-s] [--all] [--format FORMAT] [--color WHEN] [--ignore CODES].. [--no-summary] [--no-style] [--lint]
 -- [--udev] [--users FILE] [--groups FILE] [FILE]..`
 abbrev pub verify_shape : Shape
 verify_shape = with_rules (codes "verify")
-    (root_rule ∷ added_rule ∷ strict_rule ∷ flag_rule (codes "all") ∷ option_rule (codes "format") ∷ option_rule (codes "color")
+    (option_rule (codes "options") ∷ root_rule ∷ added_rule ∷ strict_rule ∷ flag_rule (codes "all") ∷ option_rule (codes "format") ∷ option_rule (codes "color")
     ∷ repeated_rule (codes "ignore") ∷ flag_rule (codes "no-summary") ∷ flag_rule (codes "no-style") ∷ flag_rule (codes "lint")
     ∷ flag_rule (codes "udev") ∷ option_rule (codes "users") ∷ option_rule (codes "groups") ∷ files_rule ∷ [])
 
--- `events [-r DIR] [--with FILE].. [--all] [--sources] [--why FILE[:LINE]].. [--questions] [--index FILE] [--udev] [FILE]..`
+-- `events [--options FILE] [-r DIR] [--with FILE].. [--all] [--sources] [--why FILE[:LINE]].. [--questions] [--index FILE] [--udev] [FILE]..`
 abbrev pub events_shape : Shape
 events_shape = with_rules (codes "events")
-    (root_rule ∷ added_rule ∷ flag_rule (codes "all") ∷ flag_rule (codes "sources") ∷ repeated_rule (codes "why")
+    (option_rule (codes "options") ∷ root_rule ∷ added_rule ∷ flag_rule (codes "all") ∷ flag_rule (codes "sources") ∷ repeated_rule (codes "why")
     ∷ flag_rule (codes "questions") ∷ option_rule (codes "index") ∷ flag_rule (codes "udev") ∷ files_rule ∷ [])
 
--- `files [-r DIR] [--with FILE]..`
+-- `files [--options FILE] [-r DIR] [--with FILE]..`
 abbrev pub files_shape : Shape
-files_shape = with_rules (codes "files") (root_rule ∷ added_rule ∷ [])
+files_shape = with_rules (codes "files") (option_rule (codes "options") ∷ root_rule ∷ added_rule ∷ [])
 
--- `compare [--with FILE].. [--all] [--index FILE] [--udev] OLD NEW`
+-- `compare [--options FILE] [--with FILE].. [--all] [--index FILE] [--udev] OLD NEW`
 abbrev pub compare_shape : Shape
 compare_shape = with_rules (codes "compare")
-    (added_rule ∷ flag_rule (codes "all") ∷ option_rule (codes "index") ∷ flag_rule (codes "udev")
+    (option_rule (codes "options") ∷ added_rule ∷ flag_rule (codes "all") ∷ option_rule (codes "index") ∷ flag_rule (codes "udev")
     ∷ required_rule (codes "OLD") ∷ required_rule (codes "NEW") ∷ [])
 
 -- `explain CODE`

@@ -19,6 +19,16 @@ pub(crate) fn root_option<'a>(alloc: Global) -> Arg<'a>
         .help("Folder to put before each folder that is read")
 }
 
+/// `--options FILE`, the file whose options stand before those of the command line.
+pub(crate) fn options_option<'a>(alloc: Global) -> Arg<'a>
+    ensures { (rule_of result ≡ option_rule (codes "options")) × (result.global ≡ false) }
+{
+    Arg::new(alloc, "options")
+        .long("options")
+        .value_name("FILE")
+        .help("File of options to put before these, one a line, as --lint or --ignore=S2")
+}
+
 /// An option without a value, by its name.
 fn flag<'a>(alloc: Global, name: &'a str, help: &'a str) -> Arg<'a>
     ensures { (rule_of result ≡ flag_rule name.entry.now) × (result.global ≡ false) }

@@ -11,8 +11,8 @@ use crate::added::{ADDED_AFTER, ADDED_FILES, ADDED_RULES, with_option};
 use crate::arguments::{
     all_flag, code_argument, color_option, files_argument, format_option, groups_option,
     ignore_option, index_option, lint_flag, modalias_argument, new_argument, no_style_flag,
-    no_summary_flag, old_argument, questions_flag, root_option, sources_flag, strict_flag,
-    udev_flag, users_option, why_option,
+    no_summary_flag, old_argument, options_option, questions_flag, root_option, sources_flag,
+    strict_flag, udev_flag, users_option, why_option,
 };
 use crate::endings;
 use clap::Command;
@@ -61,6 +61,7 @@ fn update_command<'a>(alloc: Global) -> Result<Command<'a>, AllocError>
     Command::new(alloc, "update")
         .about("Checks the files of the hardware database and writes its index")
         .after_help(endings::UPDATE)
+        .arg(options_option(alloc))?
         .arg(root_option(alloc))?
         .arg(strict_flag(alloc, "Exit with status 1 if there is a message"))?
         .arg(all_flag(alloc))?
@@ -79,6 +80,7 @@ fn query_command<'a>(alloc: Global) -> Result<Command<'a>, AllocError>
         .about("Prints the properties that the hardware database has for a device")
         .after_help(endings::QUERY)
         .override_usage("devdry query [OPTIONS] <MODALIAS> [FILE]...")
+        .arg(options_option(alloc))?
         .arg(root_option(alloc))?
         .arg(all_flag(alloc))?
         .arg(sources_flag(alloc))?
@@ -94,6 +96,7 @@ fn verify_command<'a>(alloc: Global) -> Result<Command<'a>, AllocError>
     Command::new(alloc, "verify")
         .about("Checks rules files")
         .after_help(endings::VERIFY)
+        .arg(options_option(alloc))?
         .arg(root_option(alloc))?
         .arg(with_option(alloc, ADDED_RULES))?
         .arg(strict_flag(alloc, EVERY_CHECK))?
@@ -117,6 +120,7 @@ fn events_command<'a>(alloc: Global) -> Result<Command<'a>, AllocError>
     Command::new(alloc, "events")
         .about("Answers the event blocks of the standard input")
         .after_help(endings::EVENTS)
+        .arg(options_option(alloc))?
         .arg(root_option(alloc))?
         .arg(with_option(alloc, ADDED_FILES))?
         .arg(all_flag(alloc))?
@@ -135,6 +139,7 @@ fn files_command<'a>(alloc: Global) -> Result<Command<'a>, AllocError>
     Command::new(alloc, "files")
         .about("Lists the files of the folders, and says which of them are read")
         .after_help(endings::FILES)
+        .arg(options_option(alloc))?
         .arg(root_option(alloc))?
         .arg(with_option(alloc, ADDED_FILES))
 }
@@ -146,6 +151,7 @@ fn compare_command<'a>(alloc: Global) -> Result<Command<'a>, AllocError>
     Command::new(alloc, "compare")
         .about("Tells where two systems answer the event blocks of the standard input differently")
         .after_help(endings::COMPARE)
+        .arg(options_option(alloc))?
         .arg(with_option(alloc, ADDED_AFTER))?
         .arg(all_flag(alloc))?
         .arg(index_option(alloc))?

@@ -10,10 +10,12 @@ mod commands;
 mod endings;
 mod ignored;
 mod line_reading;
+mod options;
 mod parse;
 mod refusals;
 mod reporting;
 mod subcommands;
 mod values;
 
+pub use options::{options_in, with_options};
 pub use parse::parse_line;

@@ -100,7 +100,8 @@ fn request_of<'a>(alloc: Global, matches: &ArgMatches<'a>) -> Result<Request<'a>
 /// `update [-r DIR] [-s] [--all] [--format FORMAT] [--color WHEN] [--ignore CODES].. [FILE]..`,
 /// `events [-r DIR] [--with FILE].. [--all] [--sources] [--why FILE[:LINE]].. [--questions] [--index FILE]
 /// [--udev] [FILE]..`, `files [-r DIR] [--with FILE]..`, `compare [--with FILE].. [--all] [--index FILE] [--udev] OLD NEW`
-/// and `explain CODE`.
+/// and `explain CODE`. Each but the last also takes `--options FILE`, of which nothing comes here: `options_in` finds the file,
+/// and `with_options` puts its words before the others.
 ///
 /// `LineFault::Help` comes for `--help`, `-h`, `help`, `--version` and `-V`, also after a
 /// subcommand, and for `explain` with a code, whose text is then the section on its message.

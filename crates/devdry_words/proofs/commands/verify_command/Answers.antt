@@ -11,17 +11,18 @@ returns c =
       shape_is = ap shape_of_fields c.after_help.ensures ∙ ap shape_of_fields c.about.ensures ∙ ap (λ (x : App). x.top) c.new.ensures.app;
       is_local = ap (λ f. f.has_globals) c.after_help.ensures ∙ ap (λ f. f.has_globals) c.about.ensures ∙ c.new.ensures.local;
     } in
-    let first = one_more _ _ _ _ _ start c.root_option.ensures c.in_ok-arg.ensures in
-    let second = one_more _ _ _ _ _ first c.with_option.ensures c.in_ok-arg-2.ensures in
-    let third = one_more _ _ _ _ _ second c.strict_flag.ensures c.in_ok-arg-3.ensures in
-    let fourth = one_more _ _ _ _ _ third c.all_flag.ensures c.in_ok-arg-4.ensures in
-    let fifth = one_more _ _ _ _ _ fourth c.format_option.ensures c.in_ok-arg-5.ensures in
-    let sixth = one_more _ _ _ _ _ fifth c.color_option.ensures c.in_ok-arg-6.ensures in
-    let seventh = one_more _ _ _ _ _ sixth c.ignore_option.ensures c.in_ok-arg-7.ensures in
-    let eighth = one_more _ _ _ _ _ seventh c.no_summary_flag.ensures c.in_ok-arg-8.ensures in
-    let ninth = one_more _ _ _ _ _ eighth c.no_style_flag.ensures c.in_ok-arg-9.ensures in
-    let tenth = one_more _ _ _ _ _ ninth c.lint_flag.ensures c.in_ok-arg-10.ensures in
-    let eleventh = one_more _ _ _ _ _ tenth c.udev_flag.ensures c.in_ok-arg-11.ensures in
-    let twelfth = one_more _ _ _ _ _ eleventh c.users_option.ensures c.in_ok-arg-12.ensures in
-    let thirteenth = one_more _ _ _ _ _ twelfth c.groups_option.ensures c.in_ok-arg-13.ensures in
-    IfOk-weaker c.arg-14.result _ _ (λ m h. one_more _ _ _ _ _ thirteenth c.files_argument.ensures h) c.arg-14.ensures
+    let first = one_more _ _ _ _ _ start c.options_option.ensures c.in_ok-arg.ensures in
+    let second = one_more _ _ _ _ _ first c.root_option.ensures c.in_ok-arg-2.ensures in
+    let third = one_more _ _ _ _ _ second c.with_option.ensures c.in_ok-arg-3.ensures in
+    let fourth = one_more _ _ _ _ _ third c.strict_flag.ensures c.in_ok-arg-4.ensures in
+    let fifth = one_more _ _ _ _ _ fourth c.all_flag.ensures c.in_ok-arg-5.ensures in
+    let sixth = one_more _ _ _ _ _ fifth c.format_option.ensures c.in_ok-arg-6.ensures in
+    let seventh = one_more _ _ _ _ _ sixth c.color_option.ensures c.in_ok-arg-7.ensures in
+    let eighth = one_more _ _ _ _ _ seventh c.ignore_option.ensures c.in_ok-arg-8.ensures in
+    let ninth = one_more _ _ _ _ _ eighth c.no_summary_flag.ensures c.in_ok-arg-9.ensures in
+    let tenth = one_more _ _ _ _ _ ninth c.no_style_flag.ensures c.in_ok-arg-10.ensures in
+    let eleventh = one_more _ _ _ _ _ tenth c.lint_flag.ensures c.in_ok-arg-11.ensures in
+    let twelfth = one_more _ _ _ _ _ eleventh c.udev_flag.ensures c.in_ok-arg-12.ensures in
+    let thirteenth = one_more _ _ _ _ _ twelfth c.users_option.ensures c.in_ok-arg-13.ensures in
+    let fourteenth = one_more _ _ _ _ _ thirteenth c.groups_option.ensures c.in_ok-arg-14.ensures in
+    IfOk-weaker c.arg-15.result _ _ (λ m h. one_more _ _ _ _ _ fourteenth c.files_argument.ensures h) c.arg-15.ensures

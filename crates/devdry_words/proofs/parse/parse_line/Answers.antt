@@ -2,8 +2,7 @@ use Rattle.std.proofs.Common.{◌≡◌, ◌∙◌, ◌⊎◌, inl, inr, List, [
 use Rattle.std.specs.Prelude.{IsSomeAnd, MatchOption}
 use Rattle.std.specs.declared.alloc.Global.{Global}
 use Rattle.std.proofs.lemmas.Result.{IfErr-weaker}
-use Rattle.clap.specs.Words.{App, IsAmong, HasMatchesOf, Kinds, Row, Text, fault_of, is_simple, is_simple_and_free, subcommand_of, subcommand_rows_of, takes}
-use Rattle.clap.specs.declared.parser.matches.ArgMatches.{ArgMatches}
+use Rattle.clap.specs.Words.{App, IsAmong, Kinds, Row, Text, fault_of, is_simple_and_free, subcommand_of, takes}
 use Rattle.clap.specs.declared.error.kind.ErrorKind.{ErrorKind}
 use Rattle.clap.specs.declared.error.kind.ErrorKind.TheVariants as kind
 use Rattle.engine_formats.specs.declared.remark.Remark.{Remark}
@@ -19,14 +18,9 @@ use Rattle.devdry_words.specs.Refusals.{invalid_value, refusal_of, said_of}
 use Rattle.devdry_words.specs.Requests.{IsRequestOf}
 use Rattle.devdry_words.specs.Values.{text_of}
 use Rattle.devdry_words.specs.declared.refusals.Refusal.{Refusal}
-use Rattle.devdry_words.proofs.Asked.{devdry_is_simple, devdry_is_simple_and_free, names_a_subcommand}
+use Rattle.devdry_words.proofs.Asked.{devdry_is_simple_and_free, names_a_subcommand}
+use Rattle.devdry_words.proofs.Taken.{asked_is, faultless}
 use Rattle.devdry_words.proofs.parse.parse_line.Goals as goal
-
-asked_is : (a : App) (words : List Text) (m : ArgMatches) → a ≡ devdry → HasMatchesOf a words m → subcommand_rows_of m ≡ subcommand_of devdry words
-asked_is a words m is matches = (matches (ap is_simple is ∙ devdry_is_simple)).1 ∙ ap (λ x. subcommand_of x words) is
-
-faultless : (a : App) (words : List Text) → a ≡ devdry → (is_simple_and_free a ≡ true → fault_of a words ≡ []) → fault_of devdry words ≡ []
-faultless a words is free = sym (ap (λ x. fault_of x words) is) ∙ free (ap is_simple_and_free is ∙ devdry_is_simple_and_free)
 
 always : {T E : Type 0} {P : Type 0} (r : Result T E) → P → IfOk r (λ _. P)
 always (Ok x) p = p

@@ -1,6 +1,6 @@
 use Rattle.std.proofs.Common.{inl, inr, refl, subst}
 use Rattle.devdry.specs.Runs.{RunsKnowing}
-use Rattle.devdry.proofs.running.run_words.Goals as goal
+use Rattle.devdry.proofs.running.run_alone.Goals as goal
 
 pub returns-in-Ok : goal.returns-in-Ok
 returns-in-Ok g c = inl (record {

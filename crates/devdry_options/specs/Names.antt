@@ -1,0 +1,16 @@
+-- The options that a file may give, by what they have after their name.
+use Rattle.std.specs.Prelude.{List, [], ◌∷◌, codes}
+use Rattle.text_tables.specs.Texts.{Text}
+
+-- options without a value
+unfoldable pub flag_names : List Text
+flag_names = codes "all" ∷ codes "lint" ∷ codes "no-style" ∷ codes "no-summary" ∷ codes "questions" ∷ codes "sources"
+    ∷ codes "strict" ∷ codes "udev" ∷ []
+
+-- options with a value, each of which can be given once
+unfoldable pub valued_names : List Text
+valued_names = codes "color" ∷ codes "format" ∷ codes "groups" ∷ codes "index" ∷ codes "root" ∷ codes "users" ∷ []
+
+-- options with a value, each of which can be given any number of times
+unfoldable pub repeated_names : List Text
+repeated_names = codes "ignore" ∷ codes "why" ∷ codes "with" ∷ []

@@ -358,7 +358,7 @@ module _ (event : EventValue) where
 
   -- a command that is reached, with a note or none
   unread_within : (n : ℕ) (r : Rule) (s : Scene) → Within event n s → (name : Option Text)
-      → Within event (n + (length r.file + 56)) (record s { notes = s.notes ++ unread_notes r name })
+      → Within event (n + (length r.file + 280)) (record s { notes = s.notes ++ unread_notes r name })
   unfolding scene_weight
   unread_within n r s h None =
       let a = h.light in
@@ -367,14 +367,14 @@ module _ (event : EventValue) where
   unread_within n r s h (Some name) = noted_within event n r AttributeNotRead name s h
 
   command_within : (n : ℕ) (r : Rule) (s : Scene) → Within event n s → (profile : Profile) (template : Template)
-      → Within event (n + (length r.file + 56)) (command_reached profile r template s)
-  command_within n r s h Manual template = more event n (n + (length r.file + 56)) s (omega arith) h
+      → Within event (n + (length r.file + 280)) (command_reached profile r template s)
+  command_within n r s h Manual template = more event n (n + (length r.file + 280)) s (omega arith) h
   command_within n r s h Udev template = unread_within n r s h (first_unread s.state.event template.pieces)
 
   reached_within : (n : ℕ) (r : Rule) (s : Scene) → Within event n s → (profile : Profile) (from : Import)
-      → Within event (n + (length r.file + 56)) (import_reached profile r from s)
+      → Within event (n + (length r.file + 280)) (import_reached profile r from s)
   reached_within n r s h profile (import.Builtin template) = command_within n r s h profile template
-  reached_within n r s h profile from = more event n (n + (length r.file + 56)) s (omega arith) h
+  reached_within n r s h profile from = more event n (n + (length r.file + 280)) s (omega arith) h
 
   module _ (len : ℕ) (short : event_weight event ≤ len) (known : Known) where
     act_kind_within : (n : ℕ) (r : Rule) (s : Scene) → Within event n s → (d : ActKind) → Within event (n + act_kind_allowance event.profile len known.entries r d) (left r d (performed known r d s))
@@ -386,7 +386,7 @@ module _ (event : EventValue) where
         on_text_within n r (with_result [] s) (emptied n s h) most (omega arith) (act_kind.Program template) (answered_by_block r) (program_text template s.state)
         (asked_within n r (with_result [] s) (emptied n s h) most (omega arith))
     act_kind_within n r s h (act_kind.Import from) =
-        let note : ℕ = length r.file + 56 in
+        let note : ℕ = length r.file + 280 in
         let most : ℕ = note + import_allowance event.profile len known.entries (act_kind.Import from) in
         let reached : Scene = import_reached s.state.event.profile r from s in
         let inside = reached_within n r s h s.state.event.profile from in

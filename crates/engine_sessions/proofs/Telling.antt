@@ -1,5 +1,5 @@
 -- What a listener was told, piece after piece.
-use Rattle.std.proofs.Common.{◌≡◌, ◌≢◌, ◌↔◌, ℕ, ◌+◌, ◌≤◌, Bool, IsTrue, true, false, List, [], ◌∷◌, ◌++◌, length, take, drop, map, filter_map, append_assoc, append-nil, refl, ap, sym, ◌∙◌}
+use Rattle.std.proofs.Common.{◌≡◌, ◌≢◌, ◌↔◌, ℕ, ◌+◌, ◌≤◌, Bool, IsTrue, true, false, List, [], ◌∷◌, ◌++◌, length, take, drop, map, filter_map, Ok, append_assoc, append-nil, refl, ap, sym, ◌∙◌}
 use Rattle.std.proofs.lemmas.List.{map-append, take_all}
 use Rattle.std.proofs.lemmas.List.Elements.{filter_map-append}
 use Rattle.text_bytes.specs.declared.profile.Profile.{Profile}
@@ -17,6 +17,10 @@ pub events_in-append : (profile : Profile) (first second : List Text) → events
 events_in-append profile first second =
     ap (map (by_profile profile)) (filter_map-append (λ block. event_given (block_gives block)) first second)
     ∙ map-append (by_profile profile) (filter_map (λ block. event_given (block_gives block)) first) (filter_map (λ block. event_given (block_gives block)) second)
+
+-- the event of a block is the only one of an input that is this block
+pub events_given : (profile : Profile) (block : Text) (event : EventValue) → block_gives block ≡ Ok event → events_in profile (block ∷ []) ≡ by_profile profile event ∷ []
+events_given profile block event e = ap (λ given. map (by_profile profile) (filter_map event_given (given ∷ []))) e
 
 -- the events of an input, those of its first blocks first
 pub events_of-append : (profile : Profile) (s t : Text) → events_of profile (s ++ t) ≡ events_in profile (complete_runs s) ++ events_of profile (rest_of s ++ t)

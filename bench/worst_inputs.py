@@ -180,6 +180,8 @@ UDEV = [
 ]
 
 BLOCKS = [
+    Case("rules that no block met", 10_000, lambda n: told("--unused", each('ENV{A}=="1", ENV{B#}=="#", RESULT=="#", NAME="n"\n', n))),
+    Case("blocks that meet no rule", 5_000, lambda n: (["events", "-r", "none", "--unused", "r.rules"], {"r.rules": each('ENV{B#}=="#", NAME="n"\n', 20)}, (DEVICE + "\n") * n)),
     Case("questions", 3_000, lambda n: (["events", "-r", "none", "--questions", "r.rules"], {"r.rules": each('PROGRAM!="p#"\n', n)}, DEVICE)),
     *(Case(f"blocks full of {template[0]} lines", 10, lambda n, template=template: events("", full(template) * n))
       for template in ["E: #=1\n", "A: #=1\n", "G: #\n", "S: #\n", "B: #=1\n", "K: #=1\n", "Q: #\nR: 0\n"]),

@@ -70,7 +70,7 @@ _devdry() {
         verify) suffix=.rules options='-r --root --with -s --strict --all --format --color --ignore --no-summary --no-style --lint --udev --users --groups -h --help -V --version' ;;
         query) suffix=.hwdb options='-r --root --all --sources --index -h --help -V --version' ;;
         update) suffix=.hwdb options='-r --root -s --strict --all --format --color --ignore --lint -h --help -V --version' ;;
-        events) suffix=.rules options='-r --root --with --all --sources --why --questions --index --udev -h --help -V --version' ;;
+        events) suffix=.rules options='-r --root --with --all --sources --why --unused --questions --index --udev -h --help -V --version' ;;
         files) suffix='' options='-r --root --with -h --help -V --version' ;;
         compare) suffix='' options='--with --all --index --udev -h --help -V --version' ;;
         explain) suffix='' options='-h --help -V --version' ;;

@@ -41,6 +41,7 @@ complete -c devdry -n '__fish_seen_subcommand_from verify events' -k -a '(__fish
 
 complete -c devdry -n '__fish_seen_subcommand_from query events' -l sources -d 'Say where each line comes from'
 complete -c devdry -n '__fish_seen_subcommand_from events' -l why -r -k -a '(__fish_complete_suffix .rules)' -d 'Say what the rules of this file, or the one of this line, met'
+complete -c devdry -n '__fish_seen_subcommand_from events' -l unused -d 'Report, after the last answer, the rules that no block reached or met'
 complete -c devdry -n '__fish_seen_subcommand_from events' -l questions -d 'Print the commands that the blocks do not answer, in place of answers'
 complete -c devdry -n '__fish_seen_subcommand_from update' -s s -l strict -d 'Exit with status 1 if there is a message'
 complete -c devdry -n '__fish_seen_subcommand_from update' -l lint -d 'Also tell of lines that are most likely not the ones that were meant'

@@ -160,6 +160,7 @@ Options:
       --all                Go on where a file can't be read, and fail where there is none
       --sources            Say where each line comes from
       --why <FILE[:LINE]>  Say what the rules of this file, or the one of this line, met
+      --unused             Report, after the last answer, the rules that no block reached or met
       --questions          Print the commands that the blocks do not answer, in place of answers
       --index <FILE>       Index to read in place of the database's folders
       --udev               Read and evaluate rules as udev itself does
@@ -298,7 +299,7 @@ For more information, try '--help'.
 """
 
 TWO_ANSWERS = """\
-error: the argument '--questions' cannot be used with '--sources' or '--why <FILE[:LINE]>'
+error: the argument '--questions' cannot be used with '--sources', '--why <FILE[:LINE]>' or '--unused'
 
 Usage: devdry events --questions [FILE]...
 
@@ -404,6 +405,9 @@ NOT_UNDERSTOOD = [
     ("compare --questions a b", "error: unexpected argument '--questions' found\n"),
     ("events --questions --sources", TWO_ANSWERS),
     ("events a.rules --why a.rules --udev --questions", TWO_ANSWERS),
+    ("events --questions --unused", TWO_ANSWERS),
+    ("compare --unused a b", "error: unexpected argument '--unused' found\n"),
+    ("verify --unused a.rules", "error: unexpected argument '--unused' found\n"),
     ("query m --strict", "error: unexpected argument '--strict' found\n"),
     ("update --index a.index", "error: unexpected argument '--index' found\n"),
     ("query --index a.index m a.hwdb", TWO_DATABASES),

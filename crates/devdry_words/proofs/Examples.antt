@@ -162,6 +162,11 @@ format_of_query : fault_of devdry (codes "query" ∷ codes "--format" ∷ codes 
 unfolding clap_on_literals devdry
 format_of_query = refl
 
+unused_rules_are_asked : option_map {U = Bool × (Bool × Option Refusal)} (λ p. (is_set (codes "unused") p.1, (is_set (codes "sources") p.1, refusal_of p.0 p.1))) (subcommand_of devdry (codes "events" ∷ codes "--unused" ∷ codes "--why=a.rules" ∷ codes "--sources" ∷ []))
+    ≡ Some (true, (true, None))
+unfolding clap_on_literals devdry
+unused_rules_are_asked = refl
+
 questions_are_asked : option_map {U = Bool × (Profile × List Text)} (λ p. (is_set (codes "questions") p.1, (profile_of Events p.1, texts_of (codes "FILE") p.1))) (subcommand_of devdry (codes "events" ∷ codes "--questions" ∷ codes "--udev" ∷ codes "a.rules" ∷ []))
     ≡ Some (true, (Udev, codes "a.rules" ∷ []))
 unfolding clap_on_literals devdry
@@ -186,6 +191,10 @@ questions_with_sources_are_refused = refl
 questions_with_a_reason_are_refused : refused (codes "events" ∷ codes "--why=a.rules" ∷ codes "--questions" ∷ []) ≡ Some (Some TwoAnswers)
 unfolding clap_on_literals devdry
 questions_with_a_reason_are_refused = refl
+
+questions_with_unused_rules_are_refused : refused (codes "events" ∷ codes "--unused" ∷ codes "--questions" ∷ []) ≡ Some (Some TwoAnswers)
+unfolding clap_on_literals devdry
+questions_with_unused_rules_are_refused = refl
 
 questions_alone_are_taken : refused (codes "events" ∷ codes "--questions" ∷ codes "--udev" ∷ []) ≡ Some None
 unfolding clap_on_literals devdry

@@ -119,6 +119,7 @@ pub record Reads (verb : Verb) (root : Text) (added : List Text) (rows : List Ro
   pub sources : line.sources ≡ is_set (codes "sources") rows
   pub why : map (λ w. w.now) line.why.items ≡ texts_of (codes "why") rows
   pub questions : line.questions ≡ is_set (codes "questions") rows
+  pub unused : line.unused ≡ is_set (codes "unused") rows
   pub modalias : line.modalias.now ≡ text_of (codes "MODALIAS") rows
   pub summary : line.summary ≡ not (is_set (codes "no-summary") rows)
   pub style : line.style ≡ not (is_set (codes "no-style") rows)

@@ -50,7 +50,7 @@ adds_to_index rows = is_some (first_of (codes "index") rows) && is_some (unaddab
 
 -- events are to give questions and are to say more of their answers, which are then not given
 abbrev pub asks_both : List Row → Bool
-asks_both rows = is_set (codes "questions") rows && (is_set (codes "sources") rows || has_value (codes "why") rows)
+asks_both rows = is_set (codes "questions") rows && (is_set (codes "sources") rows || (has_value (codes "why") rows || is_set (codes "unused") rows))
 
 -- `verify` is strict, and so asks for every check
 abbrev pub is_strict : Text → List Row → Bool
@@ -145,7 +145,7 @@ abbrev pub said_of : Refusal → List Row → Text
 said_of TwoDatabases rows = codes "error: the argument '--index <FILE>' cannot be used with '[FILE]...'\n\nUsage: devdry query --index <FILE> <MODALIAS>\n\nFor more information, try '--help'.\n"
 said_of AddedToNamed rows = codes "error: the argument '--with <FILE>' cannot be used with '[FILE]...'\n\nFor more information, try '--help'.\n"
 said_of AddedToIndex rows = codes "error: the argument '--with <FILE>' cannot add to the database with '--index <FILE>'\n\nFor more information, try '--help'.\n"
-said_of TwoAnswers rows = codes "error: the argument '--questions' cannot be used with '--sources' or '--why <FILE[:LINE]>'\n\nUsage: devdry events --questions [FILE]...\n\nFor more information, try '--help'.\n"
+said_of TwoAnswers rows = codes "error: the argument '--questions' cannot be used with '--sources', '--why <FILE[:LINE]>' or '--unused'\n\nUsage: devdry events --questions [FILE]...\n\nFor more information, try '--help'.\n"
 said_of EmptyRoot rows = codes "error: an empty value of '--root <DIR>' names no folder\n\nFor more information, try '--help'.\n"
 said_of EmptySide rows = codes "error: an empty value of '<OLD>' or '<NEW>' names no folder; '/' is that of the running system\n\nFor more information, try '--help'.\n"
 said_of NoUdev rows = codes "error: the arguments '--users <FILE>' and '--groups <FILE>' need '--udev' or '--strict'\n\nUsage: devdry verify --udev --users <FILE> --groups <FILE> [FILE]...\n\nFor more information, try '--help'.\n"

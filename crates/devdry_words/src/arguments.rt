@@ -55,6 +55,17 @@ pub(crate) fn why_option<'a>(alloc: Global) -> Arg<'a>
         .help("Say what the rules of this file, or the one of this line, met")
 }
 
+/// `--unused`: the rules of which the blocks say nothing, after the last answer.
+pub(crate) fn unused_flag<'a>(alloc: Global) -> Arg<'a>
+    ensures { (rule_of result ≡ flag_rule (codes "unused")) × (result.global ≡ false) }
+{
+    flag(
+        alloc,
+        "unused",
+        "Report, after the last answer, the rules that no block reached or met",
+    )
+}
+
 /// `--questions`: the commands that the blocks do not answer, in place of answers.
 pub(crate) fn questions_flag<'a>(alloc: Global) -> Arg<'a>
     ensures { (rule_of result ≡ flag_rule (codes "questions")) × (result.global ≡ false) }

@@ -12,7 +12,7 @@ use crate::arguments::{
     all_flag, code_argument, color_option, files_argument, format_option, groups_option,
     ignore_option, index_option, lint_flag, modalias_argument, new_argument, no_style_flag,
     no_summary_flag, old_argument, questions_flag, root_option, sources_flag, strict_flag,
-    udev_flag, users_option, why_option,
+    udev_flag, unused_flag, users_option, why_option,
 };
 use crate::endings;
 use clap::Command;
@@ -122,6 +122,7 @@ fn events_command<'a>(alloc: Global) -> Result<Command<'a>, AllocError>
         .arg(all_flag(alloc))?
         .arg(sources_flag(alloc))?
         .arg(why_option(alloc))?
+        .arg(unused_flag(alloc))?
         .arg(questions_flag(alloc))?
         .arg(index_option(alloc))?
         .arg(udev_flag(alloc, EVALUATE_AS_UDEV))?

@@ -150,6 +150,7 @@ pub(crate) fn line_with<'a>(
         sources: is_given(matches, "sources"),
         why: texts(alloc, matches, "why")?,
         questions: is_given(matches, "questions"),
+        unused: is_given(matches, "unused"),
         modalias: text(matches, "MODALIAS"),
         summary: !is_given(matches, "no-summary"),
         style: !is_given(matches, "no-style"),

@@ -46,7 +46,7 @@ For more information, try '--help'.
 ";
 
 const TWO_ANSWERS: &str =
-    "error: the argument '--questions' cannot be used with '--sources' or '--why <FILE[:LINE]>'
+    "error: the argument '--questions' cannot be used with '--sources', '--why <FILE[:LINE]>' or '--unused'
 
 Usage: devdry events --questions [FILE]...
 
@@ -125,7 +125,8 @@ fn names_two(name: &str, matches: &ArgMatches<'_>) -> bool
 fn asks_both(matches: &ArgMatches<'_>) -> bool
     ensures { result ≡ asks_both (rows_of (found_of matches.now)) }
 {
-    is_given(matches, "questions") & (is_given(matches, "sources") | has_value(matches, "why"))
+    is_given(matches, "questions")
+        & (is_given(matches, "sources") | has_value(matches, "why") | is_given(matches, "unused"))
 }
 
 /// Whether the matches of a subcommand are those of a strict `verify`, and so ask for every check.

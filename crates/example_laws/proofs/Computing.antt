@@ -114,8 +114,11 @@ use Rattle.engine_answers.specs.Answers.{lines_with}
 use Rattle.engine_answers.specs.Items.{node_lines, item_lines}
 use Rattle.engine_answers.specs.Lines.{text_line, pair_line, run_line, note_line}
 use Rattle.engine_ends.specs.EventLine.{event_line}
+use Rattle.eval_courses.specs.Fates.{fate, fates_from, keys_reached}
+use Rattle.engine_unused.specs.Rows.{counted, with_fates}
+use Rattle.engine_unused.specs.Unused.{greatest, line_on, lines_by, unmet_text, unused_lines}
 use Rattle.example_laws.specs.Answered.{answered_by}
-use Rattle.example_laws.specs.Reported.{sourced, sourced_as_udev, explained, explained_as_udev, asked, asked_in_vain}
+use Rattle.example_laws.specs.Reported.{sourced, sourced_as_udev, explained, explained_as_udev, asked, asked_in_vain, unused_by}
 
 -- the words by which the text of a rules file is read
 unfoldable reading_rules : ⊤
@@ -161,7 +164,7 @@ unfoldable reporting : ⊤
 unfolding run_text effect ending node_items items whole_or_cut shown size_note stages_from source_of Reports property_report
     act_report walk_reports key_reports course wanted_text plain_report result_report device_report up_report
     partial_report search_reports skipped_text message_line alike unread unknown_line unknown least why_line unread_text reported_from
-    why_lines question_answer rule_asks rules_ask
+    why_lines question_answer rule_asks rules_ask fate fates_from keys_reached counted with_fates greatest line_on lines_by unmet_text unused_lines
 reporting = tt
 
 -- those by which an answer is written
@@ -178,5 +181,5 @@ checking = tt
 
 -- all of these
 unfoldable pub computed : ⊤
-unfolding digits answered_by sourced sourced_as_udev explained explained_as_udev asked asked_in_vain checking reading_rules reading_blocks reading_databases reading_texts evaluating reporting writing
+unfolding digits answered_by sourced sourced_as_udev explained explained_as_udev asked asked_in_vain unused_by checking reading_rules reading_blocks reading_databases reading_texts evaluating reporting writing
 computed = tt

@@ -82,6 +82,7 @@ pub(crate) fn line<'a>(alloc: Global, verb: Verb, modalias: &'a str) -> Line<'a>
         sources: false,
         why: Vec::new(alloc),
         questions: false,
+        unused: false,
         index: None,
         modalias,
         summary: true,

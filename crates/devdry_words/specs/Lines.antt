@@ -97,7 +97,7 @@ codes_with letter = filter (λ code. starts_with nat_eq code letter) (map code_o
 
 -- the letters of the classes of codes
 abbrev pub class_letters : List Text
-class_letters = codes "V" ∷ codes "S" ∷ codes "H" ∷ codes "W" ∷ codes "D" ∷ codes "I" ∷ []
+class_letters = codes "V" ∷ codes "S" ∷ codes "H" ∷ codes "W" ∷ codes "D" ∷ codes "L" ∷ codes "I" ∷ []
 
 -- the codes of a class, if there is one with this letter
 abbrev pub class_codes : Text → Option (List Text)

@@ -130,7 +130,7 @@ known_codes = listed (map code_of remarks)
 
 -- what is said after a part of `--ignore` that is neither a code nor a class nor the word `comments`
 abbrev pub not_ignorable : Text
-not_ignorable = codes "' for '--ignore <CODES>'\n  [possible values: " ++ known_codes ++ codes ", V, S, H, W, D, I, comments]\n\nFor more information, try '--help'.\n"
+not_ignorable = codes "' for '--ignore <CODES>'\n  [possible values: " ++ known_codes ++ codes ", V, S, H, W, D, L, I, comments]\n\nFor more information, try '--help'.\n"
 
 -- what is said after the path of a file that `verify` may not add
 abbrev pub not_rules : Text

@@ -233,7 +233,7 @@ pub(crate) fn usage_of(alloc: Global, refusal: Refusal, matches: &ArgMatches<'_>
             alloc,
             unknown_text(matches),
             "' for '--ignore <CODES>'\n  [possible values: ",
-            ", V, S, H, W, D, I, comments]\n\nFor more information, try '--help'.\n",
+            ", V, S, H, W, D, L, I, comments]\n\nFor more information, try '--help'.\n",
         ),
         Refusal::NotRules => usage_on_value(alloc, unaddable_text(true, matches), NOT_RULES),
         Refusal::NotFile => usage_on_value(alloc, unaddable_text(false, matches), NOT_A_FILE),

@@ -4,6 +4,7 @@ pub mod Reported
 pub mod Files
 pub mod Outcomes
 pub mod Tables
+pub mod Links
 pub mod LinesFound
 pub mod Laws
 pub mod Steps

@@ -17,6 +17,7 @@ use Rattle.engine_formats.specs.declared.remark.Remark.TheVariants as about
 use Rattle.engine_formats.specs.declared.remark.Remark.TheVariants.{Message, IdleIgnore, UnknownCode}
 use Rattle.engine_formats.specs.declared.remark.Severity.TheVariants.{Error, Warning}
 use Rattle.engine_formats.proofs.DatabaseHeadings.{database_code_has_no_colon, database_in_one_line, database_in_two_parts}
+use Rattle.engine_formats.proofs.LinkHeadings.{link_code_has_no_colon, link_in_one_line, link_in_two_parts}
 use Rattle.engine_formats.proofs.OneLine.{Lacks, lacks-append}
 
 -- the two parts of each heading, of which the first has no space
@@ -86,6 +87,7 @@ in_two_parts (about.Lint WantedWithoutTag) = (refl, refl)
 in_two_parts (about.Lint ForbiddenCommand) = (refl, refl)
 in_two_parts (about.Lint NoResultYet) = (refl, refl)
 in_two_parts (about.DatabaseLint lint) = database_in_two_parts lint
+in_two_parts (about.LinkFault fault) = link_in_two_parts fault
 in_two_parts IdleIgnore = (refl, refl)
 in_two_parts UnknownCode = (refl, refl)
 
@@ -225,6 +227,7 @@ in_one_line (about.Lint WantedWithoutTag) = (refl, refl, refl)
 in_one_line (about.Lint ForbiddenCommand) = (refl, refl, refl)
 in_one_line (about.Lint NoResultYet) = (refl, refl, refl)
 in_one_line (about.DatabaseLint lint) = database_in_one_line lint
+in_one_line (about.LinkFault fault) = link_in_one_line fault
 in_one_line IdleIgnore = (refl, refl, refl)
 in_one_line UnknownCode = (refl, refl, refl)
 
@@ -308,5 +311,6 @@ code_has_no_colon (about.Lint WantedWithoutTag) = refl
 code_has_no_colon (about.Lint ForbiddenCommand) = refl
 code_has_no_colon (about.Lint NoResultYet) = refl
 code_has_no_colon (about.DatabaseLint lint) = database_code_has_no_colon lint
+code_has_no_colon (about.LinkFault fault) = link_code_has_no_colon fault
 code_has_no_colon IdleIgnore = refl
 code_has_no_colon UnknownCode = refl

@@ -10,7 +10,7 @@ use link_lints::LinkFault;
 use rule_lints::Lint;
 
 /// Each remark.
-const REMARKS: [Remark; 83] = [
+const REMARKS: [Remark; 85] = [
     Remark::Message(MessageKind::BadSyntax),
     Remark::Message(MessageKind::UnknownKey),
     Remark::Message(MessageKind::OperatorNotAllowed),
@@ -74,6 +74,8 @@ const REMARKS: [Remark; 83] = [
     Remark::Lint(Lint::WantedWithoutTag),
     Remark::Lint(Lint::ForbiddenCommand),
     Remark::Lint(Lint::NoResultYet),
+    Remark::Lint(Lint::LinkOfNet),
+    Remark::Lint(Lint::TagTooLate),
     Remark::DatabaseLint(DatabaseLint::DigitCase),
     Remark::DatabaseLint(DatabaseLint::NoModalias),
     Remark::DatabaseLint(DatabaseLint::EndMissing),

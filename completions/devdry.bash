@@ -49,11 +49,20 @@ _devdry_takes_database() {
     return $takes
 }
 
+# _devdry_checked: the suffix of the files that verify checks, by the options before the current word.
+_devdry_checked() {
+    case " ${COMP_WORDS[*]:0:COMP_CWORD} " in
+        *' --links '*) echo .link ;;
+        *) echo .rules ;;
+    esac
+}
+
 # _devdry_arguments: the current word is neither an option of the command nor the value of one.
 _devdry_arguments() {
     case $command in
         files) ;;
         explain) _devdry_words "$_devdry_codes I1 I2" ;;
+        verify) _devdry_files "$(_devdry_checked)" ;;
         *) if [ "$command" != query ] || _devdry_takes_database; then _devdry_files "$suffix"; fi ;;
     esac
 }
@@ -67,7 +76,7 @@ _devdry() {
         return
     fi
     case $command in
-        verify) suffix=.rules options='-r --root --with -s --strict --all --format --color --ignore --no-summary --no-style --lint --udev --users --groups -h --help -V --version' ;;
+        verify) suffix=.rules options='-r --root --with -s --strict --all --format --color --ignore --no-summary --no-style --lint --links --udev --users --groups -h --help -V --version' ;;
         query) suffix=.hwdb options='-r --root --all --sources --index -h --help -V --version' ;;
         update) suffix=.hwdb options='-r --root -s --strict --all --format --color --ignore --lint -h --help -V --version' ;;
         events) suffix=.rules options='-r --root --with --all --sources --why --questions --index --udev -h --help -V --version' ;;

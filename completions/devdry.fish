@@ -33,6 +33,8 @@ complete -c devdry -n '__fish_seen_subcommand_from verify' -s s -l strict -d 'Ma
 complete -c devdry -n '__fish_seen_subcommand_from verify' -l no-summary -d 'Do not count the good and the bad files'
 complete -c devdry -n '__fish_seen_subcommand_from verify' -l no-style -d 'Give no messages about style'
 complete -c devdry -n '__fish_seen_subcommand_from verify' -l lint -d 'Also tell of rules that are most likely not the ones that were meant'
+complete -c devdry -n '__fish_seen_subcommand_from verify' -l links -d 'Check .link files in place of rules'
+complete -c devdry -n '__fish_seen_subcommand_from verify; and __fish_contains_opt links' -k -a '(__fish_complete_suffix .link)'
 complete -c devdry -n '__fish_seen_subcommand_from verify' -l udev -d 'Read rules as udev itself reads them'
 complete -c devdry -n '__fish_seen_subcommand_from verify' -l users -r -F -d 'With --udev: users that OWNER may name, as in /etc/passwd'
 complete -c devdry -n '__fish_seen_subcommand_from verify' -l groups -r -F -d 'With --udev: groups that GROUP may name, as in /etc/group'

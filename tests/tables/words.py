@@ -114,7 +114,7 @@ Checks rules files
 Usage: devdry verify [OPTIONS] [FILE]...
 
 Arguments:
-  [FILE]...  Rules files to read in place of the folders
+  [FILE]...  Rules files, or with --links .link files, to read in place of the folders
 
 Options:
   -r, --root <DIR>       Folder to put before each folder that is read
@@ -127,6 +127,7 @@ Options:
       --no-summary       Do not count the good and the bad files
       --no-style         Give no messages about style
       --lint             Also tell of rules that are most likely not the ones that were meant
+      --links            Check .link files in place of rules
       --udev             Read rules as udev itself reads them
       --users <FILE>     With --udev: users that OWNER may name, as in /etc/passwd
       --groups <FILE>    With --udev: groups that GROUP may name, as in /etc/group
@@ -285,6 +286,14 @@ Usage: devdry query --index <FILE> <MODALIAS>
 For more information, try '--help'.
 """
 
+LINKS_AS_RULES = """\
+error: the argument '--links' cannot be used with '--with <FILE>', '--udev', '--users <FILE>', '--groups <FILE>' or '--strict'
+
+Usage: devdry verify --links [FILE]...
+
+For more information, try '--help'.
+"""
+
 ADDED_TO_NAMED = """\
 error: the argument '--with <FILE>' cannot be used with '[FILE]...'
 
@@ -404,6 +413,12 @@ NOT_UNDERSTOOD = [
     ("compare --questions a b", "error: unexpected argument '--questions' found\n"),
     ("events --questions --sources", TWO_ANSWERS),
     ("events a.rules --why a.rules --udev --questions", TWO_ANSWERS),
+    ("events --links", "error: unexpected argument '--links' found\n"),
+    ("verify --links --strict", LINKS_AS_RULES),
+    ("verify --links --udev a.link", LINKS_AS_RULES),
+    ("verify --with a.link --links b.link", LINKS_AS_RULES),
+    ("verify --users passwd --links", LINKS_AS_RULES),
+    ("verify --links --groups= a.link", LINKS_AS_RULES),
     ("query m --strict", "error: unexpected argument '--strict' found\n"),
     ("update --index a.index", "error: unexpected argument '--index' found\n"),
     ("query --index a.index m a.hwdb", TWO_DATABASES),

@@ -14,7 +14,7 @@ use Rattle.engine_ends.specs.declared.line.Color.TheVariants.{Auto, Always, Neve
 use Rattle.engine_ends.specs.declared.line.Format.{Format}
 use Rattle.engine_ends.specs.declared.line.Format.TheVariants.{Plain, Gcc, Github, Gitlab, Json, Sarif, Human, HumanInColor}
 use Rattle.devdry_words.specs.declared.refusals.Refusal.{Refusal}
-use Rattle.devdry_words.specs.declared.refusals.Refusal.TheVariants.{TwoDatabases, AddedToNamed, AddedToIndex, TwoAnswers, EmptyRoot, EmptySide, NoUdev, UnknownFormat, UnknownColor, UnknownPart, NotRules, NotFile}
+use Rattle.devdry_words.specs.declared.refusals.Refusal.TheVariants.{TwoDatabases, LinksAsRules, AddedToNamed, AddedToIndex, TwoAnswers, EmptyRoot, EmptySide, NoUdev, UnknownFormat, UnknownColor, UnknownPart, NotRules, NotFile}
 use Rattle.engine_ends.specs.declared.line.Verb.TheVariants.{Update, Verify, Events}
 use Rattle.devdry_words.specs.Lines.{asks_every, class_codes, codes_with, color_name, color_named, color_of, format_name, format_named, format_of, is_set_or_every, profile_of}
 use Rattle.text_bytes.specs.Texts.{split_once}
@@ -162,6 +162,11 @@ format_of_query : fault_of devdry (codes "query" ∷ codes "--format" ∷ codes 
 unfolding clap_on_literals devdry
 format_of_query = refl
 
+links_are_asked : option_map {U = Bool × (Bool × Option Refusal)} (λ p. (is_set (codes "links") p.1, (is_set (codes "lint") p.1, refusal_of p.0 p.1))) (subcommand_of devdry (codes "verify" ∷ codes "--links" ∷ codes "--lint" ∷ codes "a.link" ∷ []))
+    ≡ Some (true, (true, None))
+unfolding clap_on_literals devdry
+links_are_asked = refl
+
 questions_are_asked : option_map {U = Bool × (Profile × List Text)} (λ p. (is_set (codes "questions") p.1, (profile_of Events p.1, texts_of (codes "FILE") p.1))) (subcommand_of devdry (codes "events" ∷ codes "--questions" ∷ codes "--udev" ∷ codes "a.rules" ∷ []))
     ≡ Some (true, (Udev, codes "a.rules" ∷ []))
 unfolding clap_on_literals devdry
@@ -186,6 +191,14 @@ questions_with_sources_are_refused = refl
 questions_with_a_reason_are_refused : refused (codes "events" ∷ codes "--why=a.rules" ∷ codes "--questions" ∷ []) ≡ Some (Some TwoAnswers)
 unfolding clap_on_literals devdry
 questions_with_a_reason_are_refused = refl
+
+links_of_a_strict_run_are_refused : refused (codes "verify" ∷ codes "--strict" ∷ codes "--links" ∷ []) ≡ Some (Some LinksAsRules)
+unfolding clap_on_literals devdry
+links_of_a_strict_run_are_refused = refl
+
+links_with_groups_are_refused : refused (codes "verify" ∷ codes "--links" ∷ codes "--groups=group" ∷ []) ≡ Some (Some LinksAsRules)
+unfolding clap_on_literals devdry
+links_with_groups_are_refused = refl
 
 questions_alone_are_taken : refused (codes "events" ∷ codes "--questions" ∷ codes "--udev" ∷ []) ≡ Some None
 unfolding clap_on_literals devdry

@@ -123,6 +123,7 @@ pub record Reads (verb : Verb) (root : Text) (added : List Text) (rows : List Ro
   pub summary : line.summary ≡ not (is_set (codes "no-summary") rows)
   pub style : line.style ≡ not (is_set (codes "no-style") rows)
   pub lint : line.lint ≡ is_set_or_every verb (codes "lint") rows
+  pub checks_links : line.checks_links ≡ is_set (codes "links") rows
   pub format : line.format ≡ unwrap_or (format_of rows) Plain
   pub color : line.color ≡ unwrap_or (color_of rows) Auto
   pub all : line.all ≡ is_set_or_every verb (codes "all") rows

@@ -22,9 +22,9 @@ use Rattle.engine_formats.specs.declared.remark.Remark.{Remark}
 use Rattle.engine_checks.specs.Codes.{comments_word, has_comments}
 use Rattle.engine_checks.specs.Files.{accounts_by, asked_by, database_found, database_found_with, database_reported, file_text, findings_of, found_with, ignored_by, ignores_counted, lints_counted, reported_for, rules_found, rules_reported}
 use Rattle.engine_checks.specs.Ignores.{Ignore, ignores_in}
-use Rattle.engine_checks.specs.Links.{link_read_by, link_text, links_found, links_reported, links_reported_by}
+use Rattle.engine_checks.specs.Links.{link_text, links_found, links_reported}
 use Rattle.engine_checks.specs.Outcomes.{checks_said, database_checks, rules_checks, entries_said}
-use Rattle.engine_checks.specs.Tables.{database_found_by, database_reported_by, read_by, rules_found_by, rules_reported_by}
+use Rattle.engine_checks.specs.Tables.{database_found_by, database_reported_by, link_read_by, links_reported_by, read_by, rules_found_by, rules_reported_by}
 use Rattle.engine_checks.specs.Reported.{Asked, FileText, merged, comment_diagnostics, file_reported, is_about_style, is_asked, is_lint, is_reported, is_silenced}
 
 same_filter : {X : Type 0} (p q : X → Bool) (xs : List X) → ((x : X) → p x ≡ q x) → filter p xs ≡ filter q xs

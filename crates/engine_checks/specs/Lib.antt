@@ -3,8 +3,8 @@ pub mod Ignores
 pub mod Reported
 pub mod Files
 pub mod Outcomes
-pub mod Tables
 pub mod Links
+pub mod Tables
 pub mod LinesFound
 pub mod Laws
 pub mod Steps

@@ -14,8 +14,7 @@ use Rattle.engine_formats.specs.Diagnostics.{DiagnosticValue}
 use Rattle.engine_formats.specs.declared.remark.Remark.TheVariants as about
 use Rattle.engine_checks.specs.Files.{asked_by, ignores_counted}
 use Rattle.engine_checks.specs.Outcomes.{checks_said}
-use Rattle.engine_checks.specs.Reported.{Asked, FileText, diagnostic_in, file_reported}
-use Rattle.engine_checks.specs.Tables.{FileRead}
+use Rattle.engine_checks.specs.Reported.{FileText, diagnostic_in, file_reported}
 
 -- the path of a .link file or of a drop-in: its name if the line names files, and else that in its folder, after the root
 abbrev pub link_path : Line → SourceFile → Text
@@ -41,11 +40,3 @@ links_reported line files file =
 -- what `verify --links` says about these files
 unfoldable pub links_outcome : Line → List SourceFile → RunOutcome
 links_outcome line files = checks_said line files (flat_map (links_reported line files) files)
-
--- a file that a command line reads
-abbrev pub link_read_by : Line → SourceFile → FileRead
-link_read_by line file = record { file = file; text = link_text line file }
-
--- what is reported for a file that is read, by what the line asks for
-abbrev pub links_reported_by : Asked → List SourceFile → FileRead → List DiagnosticValue
-links_reported_by asked files read = file_reported asked read.text (ignores_counted asked read.file) (links_found read.text files read.file)

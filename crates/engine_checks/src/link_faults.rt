@@ -1,7 +1,8 @@
 //! What is found in `.link` files, as diagnostics.
 ghost use Rattle.std.specs.Prelude.{◌≡◌, flat_map, map, IfOk};
 ghost use Rattle.engine_formats.specs.Diagnostics.{shown};
-ghost use Rattle.engine_checks.specs.Links.{link_diagnostic, links_found, links_reported_by};
+ghost use Rattle.engine_checks.specs.Links.{link_diagnostic, links_found};
+ghost use Rattle.engine_checks.specs.Tables.{links_reported_by};
 
 use crate::file_text::FileText;
 use crate::ignores::ignores_counted;

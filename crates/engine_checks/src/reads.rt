@@ -1,7 +1,6 @@
 //! Files that are read for their checks.
 ghost use Rattle.std.specs.Prelude.{◌≡◌, map, IfOk};
-ghost use Rattle.engine_checks.specs.Links.{link_read_by};
-ghost use Rattle.engine_checks.specs.Tables.{read_by};
+ghost use Rattle.engine_checks.specs.Tables.{link_read_by, read_by};
 
 use crate::file_text::FileText;
 use engine_ends::Line;

@@ -1,7 +1,8 @@
 use Rattle.std.proofs.Common.{◌≡◌, map, ap, ◌∙◌}
 use Rattle.std.specs.List.{flat_map}
 use Rattle.engine_formats.specs.Diagnostics.{shown}
-use Rattle.engine_checks.specs.Links.{links_outcome, links_reported, links_reported_by}
+use Rattle.engine_checks.specs.Links.{links_outcome, links_reported}
+use Rattle.engine_checks.specs.Tables.{links_reported_by}
 use Rattle.engine_checks.specs.Outcomes.{checks_said}
 use Rattle.engine_checks.proofs.Checking.{links_by}
 use Rattle.engine_checks.proofs.link_checks.report_on_links.Goals as goal

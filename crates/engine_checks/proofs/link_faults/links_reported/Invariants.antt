@@ -1,7 +1,7 @@
 use Rattle.std.proofs.Common.{◌≡◌, map, take}
 use Rattle.std.specs.List.{flat_map}
 use Rattle.engine_formats.specs.Diagnostics.{shown}
-use Rattle.engine_checks.specs.Links.{links_reported_by}
+use Rattle.engine_checks.specs.Tables.{links_reported_by}
 use Rattle.engine_checks.proofs.link_faults.links_reported.Given as goal
 
 abbrev pub invariant-loop-read : goal.invariant-loop-read

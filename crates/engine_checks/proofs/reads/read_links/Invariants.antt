@@ -1,5 +1,5 @@
 use Rattle.std.proofs.Common.{◌≡◌, map, take}
-use Rattle.engine_checks.specs.Links.{link_read_by}
+use Rattle.engine_checks.specs.Tables.{link_read_by}
 use Rattle.engine_checks.proofs.reads.read_links.Given as goal
 
 abbrev pub invariant-loop-file : goal.invariant-loop-file

@@ -141,4 +141,16 @@ FOLDERS = [
         messages=unread(f"{LIB}/a.link", "permission denied"), status=3, plain=True),
 ]
 
-ROWS = SECTIONS + KEYS + LINES + VALUES + MATCHES + RUNS + FOLDERS
+# The files that systemd 257 ships, and those of the examples in systemd.link(5).
+SHIPPED = [
+    lines("99-default.link", "# SPDX-License-Identifier: MIT-0\n#\n[Match]\nOriginalName=*\n\n[Link]\nNamePolicy=keep kernel database onboard slot path\n"
+                             "AlternativeNamesPolicy=database onboard slot path mac\nMACAddressPolicy=persistent\n"),
+    lines("73-usb-net-by-mac.link", "[Match]\nPath=*-usb-*\n\n[Link]\nNamePolicy=mac\n"),
+    lines("10-dmz.link", "[Match]\nMACAddress=00:a0:de:63:7a:e6\n\n[Link]\nName=dmz0\n"),
+    lines("10-internet.link", "[Match]\nPath=pci-0000:00:1a.0-*\n\n[Link]\nName=internet0\n"),
+    lines("25-wireless.link", "[Match]\nMACAddress=12:34:56:78:9a:bc\nDriver=brcmsmac\nPath=pci-0000:02:00.0-*\nType=wlan\nVirtualization=no\n"
+                              "Host=my-laptop\nArchitecture=x86-64\n\n[Link]\nName=wireless0\nMTUBytes=1450\nBitsPerSecond=10M\nWakeOnLan=magic\n"
+                              "MACAddress=cb:a9:87:65:43:21\n"),
+]
+
+ROWS = SECTIONS + KEYS + LINES + VALUES + MATCHES + RUNS + FOLDERS + SHIPPED

@@ -28,7 +28,7 @@ fn counts(file: &SourceFile) -> bool
 
 /// Those files that count.
 fn counting(mut files: Vec<SourceFile>) -> Vec<SourceFile>
-    ensures { result.items ≡ filter counts files.entry.items }
+    ensures { result.items ≡ filter counts files.items }
 {
     files.retain(|file| counts(file));
     files
@@ -53,7 +53,7 @@ fn counts_as_drop_in(file: &SourceFile) -> bool
 
 /// Those drop-ins that count.
 fn counting_drop_ins(mut files: Vec<SourceFile>) -> Vec<SourceFile>
-    ensures { result.items ≡ filter counts_as_drop_in files.entry.items }
+    ensures { result.items ≡ filter counts_as_drop_in files.items }
 {
     files.retain(|file| counts_as_drop_in(file));
     files

@@ -45,10 +45,10 @@ CASES = [
      ['done']),
     ('a block without capabilities', event(device('/devices/platform/pad/input/input5/mouse0', 'input'), device('/devices/platform/pad/input/input5', 'input', 'A: name=x'),
                                        device('/devices/platform/pad', 'platform')),
-     ['done', 'note builtin needs: input_id: capabilities/ev']),
+     ['done', 'note builtin needs: input_id: capabilities/ev of input5']),
     ('a block with only the capability ev', event(device('/devices/platform/pad/input/input5/mouse0', 'input'), device('/devices/platform/pad/input/input5', 'input', 'A: capabilities/ev=3'),
                                           device('/devices/platform/pad', 'platform')),
-     ['done', 'ID_INPUT=1', 'note builtin needs: input_id: id/bustype', 'note builtin needs: input_id: capabilities/abs', 'note builtin needs: input_id: capabilities/rel', 'note builtin needs: input_id: capabilities/key', 'note builtin needs: input_id: properties']),
+     ['done', 'ID_INPUT=1', 'note builtin needs: input_id: id/bustype of input5', 'note builtin needs: input_id: capabilities/abs of input5', 'note builtin needs: input_id: capabilities/rel of input5', 'note builtin needs: input_id: capabilities/key of input5', 'note builtin needs: input_id: properties of input5']),
     # keys
     ('a keyboard', can(keys=range(1, 100), ev=(0, 1, 4, 17, 20)),
      ['done', 'ID_INPUT=1', 'ID_INPUT_KEY=1', 'ID_INPUT_KEYBOARD=1']),

@@ -1,8 +1,9 @@
 -- The outcome of a builtin, and what the block would have to report for it.
-use Rattle.std.specs.Prelude.{Bool, true, false, List, [], ◌∷◌, is_some, if◌then◌else◌}
-use Rattle.text_tables.specs.Texts.{Text, with_texts}
+use Rattle.std.specs.Prelude.{Bool, true, false, List, [], ◌∷◌, ◌++◌, is_some, if◌then◌else◌, codes}
+use Rattle.text_tables.specs.Texts.{Text, same_text, with_texts}
 use Rattle.text_tables.specs.Pairs.{Pair}
-use Rattle.device_core.specs.Values.{DeviceValue}
+use Rattle.text_links.specs.Kernels.{last_component}
+use Rattle.device_core.specs.Values.{DeviceValue, EventValue}
 use Rattle.builtin_devices.specs.Devices.{attribute}
 
 -- Whether a builtin succeeds, the properties in the order in which it sets them, where an empty value removes one,
@@ -27,6 +28,10 @@ needs_of words = with_texts [] words
 -- the word for an attribute, if a device lacks it
 abbrev pub lacking : DeviceValue → (name word : Text) → List Text
 lacking device name word = if is_some (attribute device name) then [] else word ∷ []
+
+-- a word for something of a device: with ` of ` and the device's name, unless it is the event device
+abbrev pub word_about : EventValue → DeviceValue → (word : Text) → Text
+word_about event device word = if same_text device.path event.device.path then word else word ++ codes " of " ++ last_component device.path
 
 -- an outcome with other words before its own for what is needed, each once
 abbrev pub needing_first : List Text → OutcomeValue → OutcomeValue

@@ -16,4 +16,4 @@ pub use devices::{Devices, attribute, is_of, is_text, type_of};
 pub use files::{file_at, files_below};
 pub use knowledge::Knowledge;
 pub use numbers::{Base, bytes_of, digits_in, is_below_zero, is_number, name_number, number_in};
-pub use outcomes::{BuiltinOutcome, NetNames, add_property, need_attribute};
+pub use outcomes::{BuiltinOutcome, NetNames, add_property, need_attribute, word_about};

@@ -1,12 +1,13 @@
 //! The outcome of a builtin.
 ghost use Rattle.std.specs.Prelude.{◌≡◌, ◌++◌, ◌∷◌, [], IfOk, OnOk};
 ghost use Rattle.text_tables.specs.Texts.{with_texts};
-ghost use Rattle.builtin_devices.specs.Outcomes.{failing, lacking, needing_first, succeeding};
+ghost use Rattle.builtin_devices.specs.Outcomes.{failing, lacking, needing_first, succeeding, word_about};
 
-use device_core::Device;
+use device_core::{Device, Event};
 use std::alloc::{AllocError, Global};
 use std::marker::Model;
 use text_bytes::Bytes;
+use text_links::last_component;
 use text_tables::OwnedTexts;
 
 /// The outcome of a builtin of udev: whether it succeeds, the properties in the order in which it sets them, where
@@ -124,4 +125,21 @@ pub fn need_attribute(
         return Ok(());
     }
     needs.add(alloc, word)
+}
+
+/// A word for something of a device: with ` of ` and the last component of its path, unless it is the event device.
+pub fn word_about(
+    alloc: Global,
+    event: &Event<'_>,
+    device: &Device<'_>,
+    word: &[u8],
+) -> Result<Vec<u8>, AllocError>
+    ensures { IfOk result (λ text. text.items ≡ word_about event.now device.now word.now) }
+{
+    let mut text = Vec::from_slice(alloc, word)?;
+    if device.path() != event.device().path() {
+        text.extend_from_slice(b" of ")?;
+        text.extend_from_slice(last_component(device.path()))?;
+    }
+    Ok(text)
 }

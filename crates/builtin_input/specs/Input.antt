@@ -1,6 +1,6 @@
 -- The outcome of input_id.
 use Rattle.std.specs.Prelude.{Bool, ◌&&◌, not, if◌then◌else◌, ◌-◌, List, [], ◌∷◌, ◌++◌, Option, Some, None, is_some, length, map, take, nat_eq, codes}
-use Rattle.std.specs.List.{ends_with, find, flat_map, list_any, starts_with}
+use Rattle.std.specs.List.{ends_with, find, flat_map, starts_with}
 use Rattle.text_bytes.specs.Numbers.{is_digit}
 use Rattle.text_bytes.specs.Texts.{is_empty}
 use Rattle.text_tables.specs.Texts.{Text}
@@ -8,7 +8,7 @@ use Rattle.text_tables.specs.Pairs.{Pair, value_of}
 use Rattle.device_core.specs.Values.{DeviceValue, EventValue, chain}
 use Rattle.text_links.specs.Kernels.{longest_end}
 use Rattle.builtin_devices.specs.Devices.{is_text, kernel_of}
-use Rattle.builtin_devices.specs.Outcomes.{OutcomeValue, lacking, needs_of, succeeding}
+use Rattle.builtin_devices.specs.Outcomes.{OutcomeValue, lacking, needs_of, succeeding, word_about}
 use Rattle.builtin_input.specs.Capabilities.{CapabilitiesValue, capabilities}
 use Rattle.builtin_input.specs.Signs.{has_position}
 use Rattle.builtin_input.specs.Kinds.{kinds, property_of}
@@ -47,12 +47,12 @@ abbrev pub size_needs : EventValue → CapabilitiesValue → List Text
 size_needs event c = if asks_size event c then codes "absolute axes" ∷ [] else []
 
 -- the attributes that a device would have to report
-abbrev pub attribute_needs : DeviceValue → List Text → List Text
-attribute_needs device names = flat_map (λ name. lacking device name name) names
+abbrev pub attribute_needs : EventValue → DeviceValue → List Text → List Text
+attribute_needs event device names = flat_map (λ name. lacking device name (word_about event device name)) names
 
 -- what the block would have to report about a device and its node
 unfoldable pub device_needs : EventValue → DeviceValue → List Text
-device_needs event device = attribute_needs device expected ++ size_needs event (capabilities device)
+device_needs event device = attribute_needs event device expected ++ size_needs event (capabilities device)
 
 -- whether the last component of a path is `input` and a number
 abbrev pub is_input_path : Text → Bool
@@ -64,9 +64,14 @@ is_input_path path =
 abbrev pub is_input_device : DeviceValue → Bool
 is_input_device device = is_input device && is_input_path device.path
 
--- what is needed if no device reports about itself: for an input device its kinds of events
+-- the word for the kinds of events of an input device, if there is one
+abbrev pub kinds_word : EventValue → Option DeviceValue → List Text
+kinds_word event None = []
+kinds_word event (Some device) = word_about event device (codes "capabilities/ev") ∷ []
+
+-- what is needed if no device reports about itself: for the nearest input device its kinds of events
 unfoldable pub chain_needs : EventValue → List Text
-chain_needs event = if list_any is_input_device (chain event) then codes "capabilities/ev" ∷ [] else []
+chain_needs event = kinds_word event (find is_input_device (chain event))
 
 -- the outcome for the device that reports about itself, if there is one
 abbrev pub outcome_of : EventValue → Option DeviceValue → OutcomeValue

@@ -1,6 +1,6 @@
 //! The outcome of input_id.
 ghost use Rattle.std.specs.Prelude.{◌≡◌, ◌&&◌, ◌++◌, IfOk, OnOk, map, option_copied, Some};
-ghost use Rattle.std.specs.List.{find, list_any};
+ghost use Rattle.std.specs.List.{find};
 ghost use Rattle.text_tables.specs.Texts.{with_texts};
 ghost use Rattle.device_core.specs.Values.{chain};
 ghost use Rattle.builtin_devices.specs.Outcomes.{needs_of};
@@ -11,7 +11,7 @@ ghost use Rattle.builtin_input.specs.Capabilities.{capabilities};
 
 use crate::capabilities::Capabilities;
 use crate::kinds::Kind;
-use builtin_devices::{BuiltinOutcome, add_property, is_text, need_attribute};
+use builtin_devices::{BuiltinOutcome, add_property, is_text, need_attribute, word_about};
 use device_core::{Device, Event};
 use std::alloc::{AllocError, Global};
 use text_bytes::Bytes;
@@ -106,14 +106,16 @@ fn add_size(
 /// Adds those of these attributes that a device lacks to what is needed.
 fn add_lacking(
     alloc: Global,
+    event: &Event<'_>,
     device: &Device<'_>,
     names: &[&[u8]],
     needs: &mut OwnedTexts,
 ) -> Result<(), AllocError>
-    ensures { OnOk result (needs.new ≡ with_texts needs.old (attribute_needs device.now (map (λ name. name.now) names.now))) }
+    ensures { OnOk result (needs.new ≡ with_texts needs.old (attribute_needs event.now device.now (map (λ name. name.now) names.now))) }
 {
     for name in names {
-        need_attribute(alloc, device, name, name, needs)?;
+        let word = word_about(alloc, event, device, name)?;
+        need_attribute(alloc, device, name, &word, needs)?;
     }
     Ok(())
 }
@@ -130,7 +132,7 @@ fn device_needs(
     ensures { IfOk result (λ needs. needs ≡ needs_of (device_needs event.now device.now)) }
 {
     let mut needs = OwnedTexts::new(alloc);
-    add_lacking(alloc, device, &EXPECTED, &mut needs)?;
+    add_lacking(alloc, event, device, &EXPECTED, &mut needs)?;
     add_size(alloc, event, reported, &mut needs)?;
     Ok(needs)
 }
@@ -151,18 +153,21 @@ fn is_input_device(device: &Device<'_>) -> bool
     is_input(device) && is_input_path(device.path())
 }
 
-/// Whether one of these devices is an input device.
-fn some_input_device(devices: &[Device<'_>]) -> bool
-    ensures { result ≡ list_any is_input_device devices.now }
+/// The nearest of these devices that is an input device.
+fn first_input_device<'d, 'a>(devices: &'d [Device<'a>]) -> Option<&'d Device<'a>>
+    ensures { option_copied result ≡ find is_input_device devices.now }
 {
-    devices.iter().any(|device| is_input_device(device))
+    devices.iter().find(|device| is_input_device(device))
 }
 
-/// Whether a device of the chain is an input device.
-fn has_input_device(event: &Event<'_>) -> bool
-    ensures { result ≡ list_any is_input_device (chain event.now) }
+/// The nearest device of the chain that is an input device.
+fn input_device_of_chain<'d, 'a>(event: &'d Event<'a>) -> Option<&'d Device<'a>>
+    ensures { option_copied result ≡ find is_input_device (chain event.now) }
 {
-    is_input_device(event.device()) || some_input_device(event.parents())
+    if is_input_device(event.device()) {
+        return Some(event.device());
+    }
+    first_input_device(event.parents())
 }
 
 /// What is needed if no device reports about itself.
@@ -171,8 +176,9 @@ fn chain_needs(alloc: Global, event: &Event<'_>) -> Result<OwnedTexts, AllocErro
     ensures { IfOk result (λ needs. needs ≡ needs_of (chain_needs event.now)) }
 {
     let mut needs = OwnedTexts::new(alloc);
-    if has_input_device(event) {
-        needs.add(alloc, b"capabilities/ev")?;
+    if let Some(device) = input_device_of_chain(event) {
+        let word = word_about(alloc, event, device, b"capabilities/ev")?;
+        needs.add(alloc, &word)?;
     }
     Ok(needs)
 }

@@ -52,7 +52,7 @@ use Rattle.eval_state.specs.declared.note_kind.NoteKind.TheVariants.{AttributeNo
 use Rattle.eval_state.specs.declared.scene.Scene.{Scene}
 use Rattle.eval_acts.specs.Acts.{imported, on_text}
 use Rattle.eval_acts.specs.Inner.{left}
-use Rattle.eval_acts.specs.BuiltinRuns.{looked_up, most_set, need_noted, need_word, outcome_set, outcome_taken, path_id_run, properties_size, usb_id_run, with_maker}
+use Rattle.eval_acts.specs.BuiltinRuns.{looked_up, most_set, needs_noted, needs_word, outcome_set, outcome_taken, path_id_run, properties_size, usb_id_run, with_maker}
 use Rattle.eval_acts.specs.Imports.{builtin_run, from_answer_or_noted, from_parent, run_builtin}
 use Rattle.eval_acts.specs.Printed.{printed_properties}
 use Rattle.eval_commands.specs.Builtins.{builtin_question}
@@ -109,14 +109,14 @@ pub tested_quiet : (r : Rule) (mask : Option Text) (t : Text) (s : Scene) → Qu
 tested_quiet r mask t s =
     either s (is_some mask || begins_with slash t) (noted r TestNotMade t s, false) (tested_by s.state.event.profile r t s) (note_quiet r TestNotMade t s refl) (tested_by_quiet s.state.event.profile r t s)
 
-need_quiet : (r : Rule) (name : Text) (needs : List Text) (s : Scene) → Quiet s (need_noted r name needs s)
+need_quiet : (r : Rule) (name : Text) (needs : List Text) (s : Scene) → Quiet s (needs_noted r name needs s)
 need_quiet r name [] s = refl
-need_quiet r name (need ∷ needs) s = note_quiet r BuiltinNeeds (need_word name need) s refl
+need_quiet r name (need ∷ needs) s = note_quiet r BuiltinNeeds (needs_word name need needs) s refl
 
 outcome_quiet : (r : Rule) (name : Text) (o : OutcomeValue) (properties : List Pair) (s : Scene) → Quiet s (outcome_set r name o properties s).0
 outcome_quiet r name o properties s =
     let set : Scene = with_env (properties_set s.state.env properties) s in
-    either s (nat_le (properties_size o.properties) most_set) (need_noted r name o.needs set, o.is_done) (noted r TextTooLong name s, false) (need_quiet r name o.needs set) (note_quiet r TextTooLong name s refl)
+    either s (nat_le (properties_size o.properties) most_set) (needs_noted r name o.needs set, o.is_done) (noted r TextTooLong name s, false) (need_quiet r name o.needs set) (note_quiet r TextTooLong name s refl)
 
 taken_quiet : (r : Rule) (name : Text) (o : OutcomeValue) (s : Scene) → Quiet s (outcome_taken r name o s).0
 taken_quiet r name o s = outcome_quiet r name o o.properties s

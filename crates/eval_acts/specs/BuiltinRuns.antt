@@ -1,6 +1,6 @@
 -- What the builtins of udev do that look at the devices of an event. Each returns the scene after it, and whether it
 -- was done.
-use Rattle.std.specs.Prelude.{ℕ, ◌+◌, nat_le, Bool, false, List, [], ◌∷◌, ◌++◌, length, Option, Some, None, is_some, codes, if◌then◌else◌}
+use Rattle.std.specs.Prelude.{ℕ, ◌+◌, nat_le, Bool, false, List, [], ◌∷◌, ◌++◌, flat_map, length, Option, Some, None, is_some, codes, if◌then◌else◌}
 use Rattle.std.specs.List.{sum_by}
 use Rattle.text_tables.specs.Texts.{Text, same_text}
 use Rattle.text_tables.specs.Pairs.{Pair, value_of}
@@ -15,9 +15,13 @@ use Rattle.eval_state.specs.Scenes.{noted, with_env}
 use Rattle.eval_state.specs.declared.note_kind.NoteKind.TheVariants.{BuiltinNeeds, TextTooLong}
 use Rattle.eval_state.specs.declared.scene.Scene.{Scene}
 
--- the word of a note on what a builtin needs: its name, a colon, a space and what it needs
-abbrev pub need_word : (name need : Text) → Text
-need_word name need = name ++ codes ": " ++ need
+-- the names of what is needed after the first, each after a comma and a space
+abbrev pub further_needs : List Text → Text
+further_needs needs = flat_map (λ need. codes ", " ++ need) needs
+
+-- the word of a note on what a builtin needs: its name, a colon, a space and what it needs, one name or more
+abbrev pub needs_word : (name first : Text) → (further : List Text) → Text
+needs_word name first further = name ++ codes ": " ++ first ++ further_needs further
 
 -- the most that a builtin may set: its names and values, each counted with one byte more, as many bytes as a block may have
 abbrev pub most_set : ℕ
@@ -31,17 +35,17 @@ property_size property = (length property.0 + 1) + (length property.1 + 1)
 abbrev pub properties_size : List Pair → ℕ
 properties_size properties = sum_by property_size properties
 
--- a note on the first thing that is needed from the block
-abbrev pub need_noted : Rule → (name : Text) → List Text → Scene → Scene
-need_noted r name [] s = s
-need_noted r name (need ∷ needs) s = noted r BuiltinNeeds (need_word name need) s
+-- a note on all that is needed from the block, if anything is
+abbrev pub needs_noted : Rule → (name : Text) → List Text → Scene → Scene
+needs_noted r name [] s = s
+needs_noted r name (first ∷ further) s = noted r BuiltinNeeds (needs_word name first further) s
 
--- Properties are set for a builtin's outcome, and the first thing that it needs is noted; it was done if it succeeds. If
+-- Properties are set for a builtin's outcome, and what it needs is noted; it was done if it succeeds. If
 -- the outcome's own are more than a builtin may set, it sets nothing, which is noted, and it was not done.
 abbrev pub outcome_set : Rule → (name : Text) → OutcomeValue → List Pair → Scene → Scene × Bool
 outcome_set r name outcome properties s =
     if nat_le (properties_size outcome.properties) most_set then
-    (need_noted r name outcome.needs (with_env (properties_set s.state.env properties) s), outcome.is_done)
+    (needs_noted r name outcome.needs (with_env (properties_set s.state.env properties) s), outcome.is_done)
     else (noted r TextTooLong name s, false)
 
 -- the same for the outcome's own properties

@@ -14,6 +14,7 @@ use crate::imports::{
     import_cmdline, import_named, import_parent, import_printed, not_run, run_builtin,
 };
 use crate::questions::{ask, clear_result, look_for};
+use crate::stored::import_stored;
 use crate::unread::note_unread;
 use builtin_devices::Knowledge;
 use eval_matching::agrees;
@@ -194,7 +195,7 @@ fn import_udev<K: Knowledge>(
         Import::Program(template) => program_answered(alloc, rule, template, scene),
         Import::File(template) => file_named(alloc, rule, template, scene),
         Import::Cmdline(name) => Ok(Some(import_cmdline(alloc, rule, name.as_slice(), scene)?)),
-        other => Ok(Some(not_run(alloc, rule, other.import_type(), scene)?)),
+        Import::Db(name) => Ok(Some(import_stored(alloc, rule, name.as_slice(), scene)?)),
     }
 }
 
@@ -294,16 +295,18 @@ fn act_noted<K: Knowledge>(
 /// done.
 ///
 /// In an event of udev's (systemd 257) TEST is done if the name of an attribute is the path or begins with it and a
-/// slash, and for the empty path; the first `*/` in it stands for a folder, and `[SUBSYSTEM/KERNEL]` in front for a device
-/// of the chain, without which the test is not made. PROGRAM empties the result before its command is rendered, and the
-/// result has `_` for bytes that do not belong in an attribute. The value of IMPORT{parent} is rendered, and is one
-/// pattern of fnmatch(3). IMPORT{program} is done if the event's block answers the rendered command with status 0, and
-/// sets the properties that the answer gives, one for each line; without an answer it leaves the note `no answer for
-/// program`. The beginning of `hwdb` may be written for it; an empty value that it finds removes the property. An attribute
-/// in the command of a builtin that udev would read, and a dry run does not, leaves the note `attribute not read`. A text over
-/// 1,023 bytes of TEST, IMPORT{parent} and IMPORT{file}, or over 16,383 bytes of PROGRAM and other types of IMPORT, leaves
-/// the note `text too long`, and stops the rule with either operator; so does a TEST whose path has over 1,023 bytes with
-/// `/sys`, the path of the event device and a slash before it.
+/// slash, and for the empty path; the first `*/` in it stands for a folder, and `[SUBSYSTEM/KERNEL]` in front for a
+/// device of the chain, without which the test is not made. PROGRAM empties the result before its command is rendered,
+/// and the result has `_` for bytes that do not belong in an attribute. The value of IMPORT{parent} is rendered, and is
+/// one pattern of fnmatch(3). IMPORT{program} is done if the event's block answers the rendered command with status 0,
+/// and sets the properties that the answer gives, one for each line; without an answer it leaves the note `no answer for
+/// program`. The beginning of `hwdb` may be written for it; an empty value that it finds removes the property.
+/// IMPORT{db} is done if the block says that udev had stored the property, which it sets, and fails on `remove`; if the
+/// block says of no property that it was stored, it leaves the note `import not run`. An attribute in the command of a
+/// builtin that udev would read, and a dry run does not, leaves the note `attribute not read`. A text over 1,023 bytes of
+/// TEST, IMPORT{parent} and IMPORT{file}, or over 16,383 bytes of PROGRAM and other types of IMPORT, leaves the note `text
+/// too long`, and stops the rule with either operator; so does a TEST whose path has over 1,023 bytes with `/sys`, the path
+/// of the event device and a slash before it.
 ///
 /// If memory runs out, nothing is left of the scene but its event.
 #[tactic(auto, unfolding(crate::specs::Acts::act_step))]

@@ -4,7 +4,7 @@ ghost use Rattle.hwdb_lookup.specs.Query.{shown};
 ghost use Rattle.rule_types.specs.Builtins.{builtin_name};
 ghost use Rattle.rule_types.specs.declared.builtins.Builtin.TheVariants.{NetId};
 ghost use Rattle.eval_state.specs.Properties.{properties_set};
-ghost use Rattle.eval_acts.specs.BuiltinRuns.{input_id_run, is_address_name, looked_up, most_set, need_noted, need_word, net_id_run};
+ghost use Rattle.eval_acts.specs.BuiltinRuns.{input_id_run, is_address_name, looked_up, most_set, needs_noted, needs_word, net_id_run};
 ghost use Rattle.eval_acts.specs.BuiltinRuns.{net_setup_link_run, outcome_set};
 ghost use Rattle.eval_acts.specs.BuiltinRuns.{outcome_taken, path_id_run, properties_size, property_size, usb_id_run, with_maker};
 
@@ -20,29 +20,38 @@ use text_tables::CowPairs;
 const MAX_SET: usize = 65536;
 
 /// The word of a note on what a builtin needs.
-fn need_word(alloc: Global, name: &[u8], need: &[u8]) -> Result<Vec<u8>, AllocError>
-    ensures { IfOk result (λ word. word.items ≡ need_word name.now need.now) }
+fn needs_word(
+    alloc: Global,
+    name: &[u8],
+    first: &[u8],
+    further: &[Vec<u8>],
+) -> Result<Vec<u8>, AllocError>
+    ensures { IfOk result (λ word. word.items ≡ needs_word name.now first.now (map (λ need. need.items) further.now)) }
 {
     let mut word = Vec::from_slice(alloc, name)?;
     word.extend_from_slice(b": ")?;
-    word.extend_from_slice(need)?;
+    word.extend_from_slice(first)?;
+    for need in further {
+        word.extend_from_slice(b", ")?;
+        word.extend_from_slice(need)?;
+    }
     Ok(word)
 }
 
-/// Notes the first thing that a builtin needs from the block, if there is one.
-fn note_need(
+/// Notes all that a builtin needs from the block, if it needs anything.
+fn note_needs(
     alloc: Global,
     rule: &Rule,
     name: &[u8],
     needs: &[Vec<u8>],
     scene: &mut Scene<'_>,
 ) -> Result<(), AllocError>
-    ensures scene { OnOk result (scene.new ≡ need_noted rule.now name.now (map (λ need. need.items) needs.now) scene.old) }
+    ensures scene { OnOk result (scene.new ≡ needs_noted rule.now name.now (map (λ need. need.items) needs.now) scene.old) }
     ensures refused { OnErr result (scene.new.state.event ≡ scene.old.state.event) }
 {
     match needs.split_first() {
-        Some((need, _)) => {
-            let word = need_word(alloc, name, need)?;
+        Some((first, further)) => {
+            let word = needs_word(alloc, name, first, further)?;
             scene.note(alloc, rule, NoteKind::BuiltinNeeds, &word)
         }
         None => Ok(()),
@@ -102,7 +111,7 @@ fn take_outcome(
         return Ok(false);
     }
     set_properties(alloc, outcome.properties(), &mut scene.state.env)?;
-    note_need(
+    note_needs(
         alloc,
         rule,
         builtin.name(),
@@ -226,7 +235,7 @@ fn take_names(
     }
     set_names(alloc, names.properties(), found, &mut scene.state.env)?;
     let needs = names.needs().as_slice();
-    note_need(alloc, rule, Builtin::NetId.name(), needs, scene)?;
+    note_needs(alloc, rule, Builtin::NetId.name(), needs, scene)?;
     Ok(names.is_done())
 }
 

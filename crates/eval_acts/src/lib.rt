@@ -12,6 +12,7 @@ mod printed;
 mod questions;
 mod reaching;
 mod seen;
+mod stored;
 mod unread;
 mod usb_modalias;
 
@@ -20,3 +21,4 @@ pub use acting::act_step;
 pub use imports::line_for;
 pub use lookups::look_up;
 pub use reaching::match_reached;
+pub use stored::{is_removal, is_stored_known};

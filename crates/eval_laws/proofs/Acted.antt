@@ -40,7 +40,7 @@ use Rattle.hwdb_lookup.specs.Query.{query}
 use Rattle.rule_types.specs.Builtins.{builtin_name}
 use Rattle.rule_types.specs.declared.builtins.Builtin.TheVariants.{InputId, NetId, NetSetupLink, PathId, UsbId}
 use Rattle.builtin_devices.specs.Outcomes.{OutcomeValue}
-use Rattle.eval_acts.specs.BuiltinRuns.{is_address_name, looked_up, most_set, need_noted, need_word, net_id_run, outcome_set, outcome_taken, path_id_run, properties_size, property_size, usb_id_run, with_maker}
+use Rattle.eval_acts.specs.BuiltinRuns.{is_address_name, looked_up, most_set, needs_noted, needs_word, net_id_run, outcome_set, outcome_taken, path_id_run, properties_size, property_size, usb_id_run, with_maker}
 use Rattle.eval_commands.specs.Builtins.{builtin, builtin_of, builtin_question, hwdb_asked}
 use Rattle.eval_commands.specs.Cmdline.{cmdline_value}
 use Rattle.eval_commands.specs.Hwdb.{hwdb_of}
@@ -55,6 +55,7 @@ use Rattle.eval_state.specs.Properties.{given_properties, properties_set, proper
 use Rattle.eval_acts.specs.ActTexts.{import_text, names_text, program_text, test_text}
 use Rattle.eval_acts.specs.Acts.{act_step, command_reached, from_parent_by, import_reached, imported, on_text, performed}
 use Rattle.eval_acts.specs.Inner.{left}
+use Rattle.eval_acts.specs.Stored.{from_stored, is_stored_known, stored_value}
 use Rattle.eval_acts.specs.Imports.{builtin_run, from_answer_or_noted, from_cmdline, from_line, from_parent, from_program, line_for, name_given, names_fitting}
 use Rattle.eval_acts.specs.Imports.{not_run, run_builtin, with_found}
 use Rattle.eval_acts.specs.Printed.{printed_properties}
@@ -67,6 +68,7 @@ use Rattle.eval_laws.proofs.Tables.{with_value_light, with_values_light, without
 use Rattle.eval_laws.proofs.Sums.{filter_light, fold_light}
 use Rattle.eval_laws.proofs.Found.{found_light, query_light}
 use Rattle.eval_laws.proofs.PrintedWeights.{answered_weight, answers_light, printed_light}
+use Rattle.eval_laws.proofs.StoredWeights.{stored_light}
 use Rattle.eval_laws.proofs.CmdlineWeights.{cmdline_light, line_light, line_weight, set_weight}
 use Rattle.eval_laws.proofs.Scenes.{more, noted_within}
 use Rattle.eval_laws.proofs.Starts.{properties_light}
@@ -136,32 +138,32 @@ module _ (event : EventValue) where
       let b : pairs_weight (properties_set s.state.env properties) ≤ pairs_weight s.state.env + properties_size properties = found_more Udev s.state.env properties in
       record { same = h.same; light = omega (arith, a, b) }
 
-  need_within : (n : ℕ) (r : Rule) (name : Text) (needs : List Text) (s : Scene) → Within event n s → Within event (n + (length r.file + 56)) (need_noted r name needs s)
-  need_within n r name [] s h = more event n (n + (length r.file + 56)) s (omega arith) h
-  need_within n r name (need ∷ needs) s h = noted_within event n r BuiltinNeeds (need_word name need) s h
+  need_within : (n : ℕ) (r : Rule) (name : Text) (needs : List Text) (s : Scene) → Within event n s → Within event (n + (length r.file + 280)) (needs_noted r name needs s)
+  need_within n r name [] s h = more event n (n + (length r.file + 280)) s (omega arith) h
+  need_within n r name (need ∷ needs) s h = noted_within event n r BuiltinNeeds (needs_word name need needs) s h
 
   outcome_within : (n extra : ℕ) (r : Rule) (name : Text) (outcome : OutcomeValue) (properties : List Pair) (s : Scene) → properties_size properties ≤ extra + properties_size outcome.properties → Within event n s
-      → Within event (n + (extra + (most_set + (length r.file + 56)))) (outcome_set r name outcome properties s).0
+      → Within event (n + (extra + (most_set + (length r.file + 280)))) (outcome_set r name outcome properties s).0
   outcome_within n extra r name outcome properties s few h = by (nat_le (properties_size outcome.properties) most_set) refl
     where
       set : Scene
       set = with_env (properties_set s.state.env properties) s
 
       by : (b : Bool) → nat_le (properties_size outcome.properties) most_set ≡ b
-          → Within event (n + (extra + (most_set + (length r.file + 56)))) (if◌then◌else◌ {A = Scene × Bool} b (need_noted r name outcome.needs set, outcome.is_done) (noted r TextTooLong name s, false)).0
+          → Within event (n + (extra + (most_set + (length r.file + 280)))) (if◌then◌else◌ {A = Scene × Bool} b (needs_noted r name outcome.needs set, outcome.is_done) (noted r TextTooLong name s, false)).0
       by true fits =
           let a = leb-true (properties_size outcome.properties) most_set fits in
-          more event (n + properties_size properties + (length r.file + 56)) (n + (extra + (most_set + (length r.file + 56)))) _ (omega (arith, a, few))
+          more event (n + properties_size properties + (length r.file + 280)) (n + (extra + (most_set + (length r.file + 280)))) _ (omega (arith, a, few))
           (need_within (n + properties_size properties) r name outcome.needs set (set_within n properties s h))
-      by false over = more event (n + (length r.file + 56)) (n + (extra + (most_set + (length r.file + 56)))) _ (omega arith) (noted_within event n r TextTooLong name s h)
+      by false over = more event (n + (length r.file + 280)) (n + (extra + (most_set + (length r.file + 280)))) _ (omega arith) (noted_within event n r TextTooLong name s h)
 
 module _ (event : EventValue) where
-  module _ (n : ℕ) (r : Rule) (s : Scene) (h : Within event n s) (most : ℕ) (room : length r.file + 56 ≤ most) where
+  module _ (n : ℕ) (r : Rule) (s : Scene) (h : Within event n s) (most : ℕ) (room : length r.file + 280 ≤ most) where
     stays : Within event (n + most) s
     stays = more event n (n + most) s (omega arith) h
 
     notes : (kind : NoteKind) (text : Text) → Within event (n + most) (noted r kind text s)
-    notes kind text = more event (n + (length r.file + 56)) (n + most) _ (omega (arith, room)) (noted_within event n r kind text s h)
+    notes kind text = more event (n + (length r.file + 280)) (n + most) _ (omega (arith, room)) (noted_within event n r kind text s h)
 
     on_text_within : (d : ActKind) (act : Text → Scene → Scene × Bool) (given : Rendered) → ((text : Text) → Within event (n + most) (act text s).0)
         → Within event (n + most) (left r d (on_text act given s))
@@ -233,29 +235,29 @@ module _ (event : EventValue) where
         by true = hwdb_within known command (hwdb_of words) light
         by false = notes BuiltinNotRun name
 
-    taken_within : (name : Text) (outcome : OutcomeValue) → most_set + (length r.file + 56) ≤ most → Within event (n + most) (outcome_taken r name outcome s).0
+    taken_within : (name : Text) (outcome : OutcomeValue) → most_set + (length r.file + 280) ≤ most → Within event (n + most) (outcome_taken r name outcome s).0
     taken_within name outcome light =
-        more event (n + (0 + (most_set + (length r.file + 56)))) (n + most) _ (omega (arith, light)) (outcome_within event n 0 r name outcome outcome.properties s (omega arith) h)
+        more event (n + (0 + (most_set + (length r.file + 280)))) (n + most) _ (omega (arith, light)) (outcome_within event n 0 r name outcome outcome.properties s (omega arith) h)
 
-    usb_within : (known : Known) (ran : Option Bool) → most_set + (length r.file + 56) ≤ most → Within event (n + most) (usb_id_run known ran r s).0
+    usb_within : (known : Known) (ran : Option Bool) → most_set + (length r.file + 280) ≤ most → Within event (n + most) (usb_id_run known ran r s).0
     unfolding scene_weight
     usb_within known (Some done) light = stays
     usb_within known None light =
         let after = taken_within (builtin_name UsbId) (known.usb_id s.state.event (is_some (value_of s.state.env (codes "ID_BUS")))) light in
         record { same = after.same; light = after.light }
 
-    path_within : (known : Known) (ran : Option Bool) → most_set + (length r.file + 56) ≤ most → Within event (n + most) (path_id_run known ran r s).0
+    path_within : (known : Known) (ran : Option Bool) → most_set + (length r.file + 280) ≤ most → Within event (n + most) (path_id_run known ran r s).0
     unfolding scene_weight
     path_within known (Some done) light = stays
     path_within known None light = let after = taken_within (builtin_name PathId) (known.path_id s.state.event) light in record { same = after.same; light = after.light }
 
-    net_within : (known : Known) → entries_weight known.entries + (most_set + (length r.file + 56)) ≤ most → Within event (n + most) (net_id_run known r s).0
+    net_within : (known : Known) → entries_weight known.entries + (most_set + (length r.file + 280)) ≤ most → Within event (n + most) (net_id_run known r s).0
     net_within known light =
         let names : OutcomeValue = known.net_id s.state.event s.state.env in
         let found : List Pair = looked_up known (known.net_lookup s.state.event s.state.env) in
         let a = with_maker_light found names.properties in
         let b = looked_up_light known (known.net_lookup s.state.event s.state.env) in
-        more event (n + (entries_weight known.entries + (most_set + (length r.file + 56)))) (n + most) _ (omega (arith, light))
+        more event (n + (entries_weight known.entries + (most_set + (length r.file + 280)))) (n + most) _ (omega (arith, light))
         (outcome_within event n (entries_weight known.entries) r (builtin_name NetId) names (with_maker found names.properties) s (omega (arith, a, b)) h)
 
     printed_within : (kind : NoteKind) (word : Text) (answer : Option AnswerValue) → answered_weight answer ≤ most → Within event (n + most) (from_answer_or_noted r kind word answer s).0
@@ -272,7 +274,7 @@ module _ (event : EventValue) where
         let b = ap (λ e. answered_weight (value_of e.programs question)) h.same in
         printed_within kind word (value_of s.state.event.programs question) (omega (arith, a, b, short))
 
-    meant_within : (known : Known) (command : Text) (wanted : Builtin) → entries_weight known.entries + (most_set + (length r.file + 56)) ≤ most → event_weight event ≤ most → Within event (n + most) (builtin_run known r command wanted s).0
+    meant_within : (known : Known) (command : Text) (wanted : Builtin) → entries_weight known.entries + (most_set + (length r.file + 280)) ≤ most → event_weight event ≤ most → Within event (n + most) (builtin_run known r command wanted s).0
     meant_within known command (asked_for.Hwdb hwdb) light short = hwdb_within known command (Some hwdb) (omega (arith, light))
     meant_within known command asked_for.InputId light short = taken_within (builtin_name InputId) (known.input_id s.state.event) (omega (arith, light))
     meant_within known command asked_for.NetId light short = net_within known light
@@ -285,7 +287,7 @@ module _ (event : EventValue) where
     meant_within known command (asked_for.Other name) light short = notes BuiltinNotRun name
     meant_within known command asked_for.BadArguments light short = notes BadHwdbArguments command
 
-    builtin_within : (profile : Profile) (known : Known) (command : Text) → entries_weight known.entries + (builtin_allowance profile + (length r.file + 56)) ≤ most → event_weight event ≤ most
+    builtin_within : (profile : Profile) (known : Known) (command : Text) → entries_weight known.entries + (builtin_allowance profile + (length r.file + 280)) ≤ most → event_weight event ≤ most
         → Within event (n + most) (builtin_run known r command (builtin profile command) s).0
     builtin_within Manual known command light short = manual_within known command (command_words command) (omega (arith, light))
     builtin_within Udev known command light short = meant_within known command (builtin Udev command) light short
@@ -310,19 +312,29 @@ module _ (event : EventValue) where
         let b = ap (λ e. line_weight (line_for name e)) h.same in
         line_within name (line_for name s.state.event) (omega (arith, a, b, short))
 
+    stored_within : (name : Text) → event_weight event ≤ most → Within event (n + most) (from_stored r name s).0
+    stored_within name short = by (is_stored_known s.state.event)
+      where
+        by : (b : Bool) → Within event (n + most) (if b then name_given name (stored_value name s.state.event) s else not_run r import_of.Db s).0
+        by true =
+            let a = stored_light name event in
+            let b = ap (λ e. set_weight name (stored_value name e)) h.same in
+            given_within name (stored_value name s.state.event) (omega (arith, a, b, short))
+        by false = not_run_within import_of.Db
+
     second_within : (names : List (List Item)) → event_weight event ≤ most → Within event (n + most) (from_parent names (device_at s.state.event 1) s).0
     second_within names short =
         let a = parent_light event in
         let b = ap (λ e. pairs_weight (env_of (device_at e 1))) h.same in
         parent_within names (device_at s.state.event 1) (omega (arith, a, b, short))
 
-    built_within : (d : ActKind) (known : Known) (given : Rendered) → entries_weight known.entries + (builtin_allowance event.profile + (length r.file + 56)) ≤ most
+    built_within : (d : ActKind) (known : Known) (given : Rendered) → entries_weight known.entries + (builtin_allowance event.profile + (length r.file + 280)) ≤ most
         → event_weight event ≤ most → Within event (n + most) (left r d (on_text (run_builtin known r) given s))
     built_within d known given light short =
         on_text_within d (run_builtin known r) given
         (λ command. builtin_within s.state.event.profile known command (let same = ap (λ e. builtin_allowance e.profile) h.same in omega (arith, same, light)) short)
 
-    import_within : (profile : Profile) (d : ActKind) (known : Known) (from : Import) → entries_weight known.entries + (builtin_allowance event.profile + (length r.file + 56)) ≤ most → event_weight event ≤ most
+    import_within : (profile : Profile) (d : ActKind) (known : Known) (from : Import) → entries_weight known.entries + (builtin_allowance event.profile + (length r.file + 280)) ≤ most → event_weight event ≤ most
         → Within event (n + most) (left r d (imported profile known r from s))
     import_within Manual d known (import.Builtin template) light short = built_within d known _ light short
     import_within Udev d known (import.Builtin template) light short = built_within d known _ light short
@@ -338,7 +350,7 @@ module _ (event : EventValue) where
     import_within Manual d known (import.Cmdline name) light short = not_run_within import_of.Cmdline
     import_within Udev d known (import.Cmdline name) light short = cmdline_within name short
     import_within Manual d known (import.Db name) light short = not_run_within import_of.Db
-    import_within Udev d known (import.Db name) light short = not_run_within import_of.Db
+    import_within Udev d known (import.Db name) light short = stored_within name short
 
   emptied : (n : ℕ) (s : Scene) → Within event n s → Within event n (with_result [] s)
   unfolding scene_weight
@@ -346,7 +358,7 @@ module _ (event : EventValue) where
 
   -- a command that is reached, with a note or none
   unread_within : (n : ℕ) (r : Rule) (s : Scene) → Within event n s → (name : Option Text)
-      → Within event (n + (length r.file + 56)) (record s { notes = s.notes ++ unread_notes r name })
+      → Within event (n + (length r.file + 280)) (record s { notes = s.notes ++ unread_notes r name })
   unfolding scene_weight
   unread_within n r s h None =
       let a = h.light in
@@ -355,14 +367,14 @@ module _ (event : EventValue) where
   unread_within n r s h (Some name) = noted_within event n r AttributeNotRead name s h
 
   command_within : (n : ℕ) (r : Rule) (s : Scene) → Within event n s → (profile : Profile) (template : Template)
-      → Within event (n + (length r.file + 56)) (command_reached profile r template s)
-  command_within n r s h Manual template = more event n (n + (length r.file + 56)) s (omega arith) h
+      → Within event (n + (length r.file + 280)) (command_reached profile r template s)
+  command_within n r s h Manual template = more event n (n + (length r.file + 280)) s (omega arith) h
   command_within n r s h Udev template = unread_within n r s h (first_unread s.state.event template.pieces)
 
   reached_within : (n : ℕ) (r : Rule) (s : Scene) → Within event n s → (profile : Profile) (from : Import)
-      → Within event (n + (length r.file + 56)) (import_reached profile r from s)
+      → Within event (n + (length r.file + 280)) (import_reached profile r from s)
   reached_within n r s h profile (import.Builtin template) = command_within n r s h profile template
-  reached_within n r s h profile from = more event n (n + (length r.file + 56)) s (omega arith) h
+  reached_within n r s h profile from = more event n (n + (length r.file + 280)) s (omega arith) h
 
   module _ (len : ℕ) (short : event_weight event ≤ len) (known : Known) where
     act_kind_within : (n : ℕ) (r : Rule) (s : Scene) → Within event n s → (d : ActKind) → Within event (n + act_kind_allowance event.profile len known.entries r d) (left r d (performed known r d s))
@@ -374,7 +386,7 @@ module _ (event : EventValue) where
         on_text_within n r (with_result [] s) (emptied n s h) most (omega arith) (act_kind.Program template) (answered_by_block r) (program_text template s.state)
         (asked_within n r (with_result [] s) (emptied n s h) most (omega arith))
     act_kind_within n r s h (act_kind.Import from) =
-        let note : ℕ = length r.file + 56 in
+        let note : ℕ = length r.file + 280 in
         let most : ℕ = note + import_allowance event.profile len known.entries (act_kind.Import from) in
         let reached : Scene = import_reached s.state.event.profile r from s in
         let inside = reached_within n r s h s.state.event.profile from in

@@ -176,7 +176,7 @@ module _ (event : EventValue) (n : ℕ) (r : Rule) (s : Scene) (h : Within event
 
   -- ---- what udev makes of the others
 
-  module _ (k : ℕ) (room : length r.file + 16641 ≤ k) where
+  module _ (k : ℕ) (room : length r.file + 16665 ≤ k) where
     notes : (kind : NoteKind) (text : Text) → Within event (n + k) (noted r kind text s)
     notes kind text = note_within event n k r s h (omega (arith, room)) kind text
 
@@ -245,12 +245,12 @@ module _ (event : EventValue) (n : ℕ) (r : Rule) (s : Scene) (h : Within event
       record { same = h.same; light = omega (arith, a, b, c) }
 
 -- a note about a link that is refused
-link_within : (event : EventValue) (n k : ℕ) (r : Rule) (s : Scene) → Within event n s → length r.file + 56 ≤ k → (path : Option Text) → Within event (n + k) (link_noted r path s)
+link_within : (event : EventValue) (n k : ℕ) (r : Rule) (s : Scene) → Within event n s → length r.file + 280 ≤ k → (path : Option Text) → Within event (n + k) (link_noted r path s)
 link_within event n k r s h room None = more event n (n + k) s (omega arith) h
 link_within event n k r s h room (Some path) = note_within event n k r s h room LinkIgnored path
 
 module _ (event : EventValue) (n : ℕ) (r : Rule) (s : Scene) (h : Within event n s) (len : ℕ) (fits : event_weight event ≤ len) where
-  module _ (k : ℕ) (room : length r.file + 16641 ≤ k) where
+  module _ (k : ℕ) (room : length r.file + 16665 ≤ k) where
     tags_within : (o : AssignOperator) (t : Text) → length t ≤ 16384 → Within event (n + k) (tag_changed r o t s)
     tags_within Remove t short = gone_within event n r s h k _
     tags_within Add t short = tag_within event n r s h k room t short
@@ -259,8 +259,8 @@ module _ (event : EventValue) (n : ℕ) (r : Rule) (s : Scene) (h : Within event
 
     links_within : (o : AssignOperator) (t : Text) → length t ≤ 16384 → Within event (n + k) (links_changed r o t s)
     links_within o t short =
-        more event (n + (length t + 1) + (length r.file + 56)) (n + k) _ (omega (arith, room, short))
-        (link_within event (n + (length t + 1)) (length r.file + 56) r _ (linked_within event n r s h o t) (omega arith) (first_refused (words t)))
+        more event (n + (length t + 1) + (length r.file + 280)) (n + k) _ (omega (arith, room, short))
+        (link_within event (n + (length t + 1)) (length r.file + 280) r _ (linked_within event n r s h o t) (omega arith) (first_refused (words t)))
 
   module _ (name t : Text) (short : length t ≤ 16384) where
     abbrev most : ℕ

@@ -40,7 +40,7 @@ use Rattle.eval_state.specs.declared.scene.Scene.{Scene}
 use Rattle.rule_types.specs.Builtins.{builtin_name}
 use Rattle.rule_types.specs.declared.builtins.Builtin.TheVariants.{InputId, NetId, NetSetupLink, PathId, UsbId}
 use Rattle.builtin_devices.specs.Outcomes.{OutcomeValue}
-use Rattle.eval_acts.specs.BuiltinRuns.{looked_up, most_set, need_noted, need_word, outcome_set, outcome_taken, path_id_run, properties_size, usb_id_run, with_maker}
+use Rattle.eval_acts.specs.BuiltinRuns.{looked_up, most_set, needs_noted, needs_word, outcome_set, outcome_taken, path_id_run, properties_size, usb_id_run, with_maker}
 use Rattle.eval_commands.specs.Builtins.{builtin, builtin_question}
 use Rattle.eval_commands.specs.Cmdline.{cmdline_value}
 use Rattle.eval_commands.specs.declared.builtin.Builtin.{Builtin}
@@ -48,6 +48,7 @@ use Rattle.eval_commands.specs.declared.builtin.Builtin.TheVariants as asked_for
 use Rattle.eval_acts.specs.ActTexts.{import_text, names_text, program_text, test_text}
 use Rattle.eval_acts.specs.Acts.{act_step, command_reached, from_parent_by, import_reached, imported, on_text, performed}
 use Rattle.eval_acts.specs.Inner.{left}
+use Rattle.eval_acts.specs.Stored.{from_stored, is_stored_known, stored_value}
 use Rattle.eval_acts.specs.Imports.{builtin_run, from_answer_or_noted, from_line, from_parent, from_program, line_for, name_given, not_run, run_builtin}
 use Rattle.eval_acts.specs.Printed.{printed_properties}
 use Rattle.eval_acts.specs.Questions.{answered_by_block, answered_or_noted, result_of, tested, tested_at, tested_by, tested_by_udev, with_result}
@@ -58,9 +59,9 @@ module _ (w : Note → ℕ) (v : RunValue → ℕ) (c : Rule → ℕ) (light : (
   abbrev counted : Scene → ℕ
   counted s = measured w v s
 
-  need_counts : (r : Rule) (name : Text) (needs : List Text) (s : Scene) → counted (need_noted r name needs s) ≤ counted s + c r
+  need_counts : (r : Rule) (name : Text) (needs : List Text) (s : Scene) → counted (needs_noted r name needs s) ≤ counted s + c r
   need_counts r name [] s = omega arith
-  need_counts r name (need ∷ needs) s = noted_more w v c light r s BuiltinNeeds (need_word name need)
+  need_counts r name (need ∷ needs) s = noted_more w v c light r s BuiltinNeeds (needs_word name need needs)
 
   outcome_counts : (r : Rule) (name : Text) (outcome : OutcomeValue) (properties : List Pair) (s : Scene) → counted (outcome_set r name outcome properties s).0 ≤ counted s + c r
   outcome_counts r name outcome properties s = by (nat_le (properties_size outcome.properties) most_set)
@@ -68,7 +69,7 @@ module _ (w : Note → ℕ) (v : RunValue → ℕ) (c : Rule → ℕ) (light : (
       set : Scene
       set = with_env (properties_set s.state.env properties) s
 
-      by : (b : Bool) → counted (if◌then◌else◌ {A = Scene × Bool} b (need_noted r name outcome.needs set, outcome.is_done) (noted r TextTooLong name s, false)).0 ≤ counted s + c r
+      by : (b : Bool) → counted (if◌then◌else◌ {A = Scene × Bool} b (needs_noted r name outcome.needs set, outcome.is_done) (noted r TextTooLong name s, false)).0 ≤ counted s + c r
       by true = need_counts r name outcome.needs set
       by false = noted_more w v c light r s TextTooLong name
 
@@ -160,6 +161,13 @@ module _ (w : Note → ℕ) (v : RunValue → ℕ) (c : Rule → ℕ) (light : (
     line_counts name None = not_run_counts import_of.Cmdline
     line_counts name (Some line) = given_counts name (cmdline_value name line)
 
+    stored_counts : (name : Text) → counted (from_stored r name s).0 ≤ counted s + c r
+    stored_counts name = by (is_stored_known s.state.event)
+      where
+        by : (b : Bool) → counted (if b then name_given name (stored_value name s.state.event) s else not_run r import_of.Db s).0 ≤ counted s + c r
+        by true = given_counts name (stored_value name s.state.event)
+        by false = not_run_counts import_of.Db
+
     built_counts : (d : ActKind) (known : Known) (given : Rendered) → counted (left r d (on_text (run_builtin known r) given s)) ≤ counted s + c r
     built_counts d known given = on_text_counts d (run_builtin known r) given (λ command. builtin_counts known command (builtin s.state.event.profile command))
 
@@ -177,7 +185,7 @@ module _ (w : Note → ℕ) (v : RunValue → ℕ) (c : Rule → ℕ) (light : (
     import_counts Manual d known (import.Cmdline name) = not_run_counts import_of.Cmdline
     import_counts Udev d known (import.Cmdline name) = line_counts name (line_for name s.state.event)
     import_counts Manual d known (import.Db name) = not_run_counts import_of.Db
-    import_counts Udev d known (import.Db name) = not_run_counts import_of.Db
+    import_counts Udev d known (import.Db name) = stored_counts name
 
   -- a command that is reached, with a note or none
   unread_counts : (r : Rule) (name : Option Text) (s : Scene) → counted (record s { notes = s.notes ++ unread_notes r name }) ≤ counted s + c r

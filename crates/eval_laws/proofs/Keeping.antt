@@ -23,7 +23,7 @@ use Rattle.rule_types.specs.declared.part.Import.{Import}
 use Rattle.rule_types.specs.declared.part.Import.TheVariants as import
 use Rattle.rule_types.specs.declared.part.PlainMatch.{PlainMatch}
 use Rattle.rule_types.specs.declared.part.UpMatch.{UpMatch}
-use Rattle.rule_types.specs.declared.types.ImportType.TheVariants.{File}
+use Rattle.rule_types.specs.declared.types.ImportType.TheVariants.{Db, File}
 use Rattle.rule_types.specs.Rules.{Rule}
 use Rattle.eval_state.specs.Chains.{device_at}
 use Rattle.eval_state.specs.Places.{is_there, place_of}
@@ -50,7 +50,8 @@ use Rattle.eval_matching.specs.Attributes.{is_not_read}
 use Rattle.eval_matching.specs.Subjects.{is_not_given}
 use Rattle.eval_acts.specs.ActTexts.{import_text, names_text, program_text}
 use Rattle.eval_acts.specs.Acts.{act_step, command_reached, from_parent_by, import_reached, imported, on_text, performed, too_long_noted}
-use Rattle.eval_acts.specs.BuiltinRuns.{looked_up, most_set, need_noted, outcome_set, outcome_taken, path_id_run, properties_size, usb_id_run, with_maker}
+use Rattle.eval_acts.specs.BuiltinRuns.{looked_up, most_set, outcome_set, outcome_taken, path_id_run, properties_size, usb_id_run, with_maker, needs_noted}
+use Rattle.eval_acts.specs.Stored.{from_stored, is_stored_known, stored_value}
 use Rattle.eval_acts.specs.Imports.{builtin_run, from_answer_or_noted, from_line, from_parent, from_program, line_for, name_given, not_run, run_builtin}
 use Rattle.eval_acts.specs.Printed.{printed_properties}
 use Rattle.eval_acts.specs.Questions.{answered_by_block, answered_or_noted, result_of, tested, tested_at, tested_by, tested_by_udev, with_result}
@@ -120,7 +121,7 @@ answered_same : (r : Rule) (t : Text) (a : Option AnswerValue) (s : Scene) → S
 answered_same r t None s = refl
 answered_same r t (Some a) s = chosen s (with_result (result_of s.state.event.profile a.text) s) s true false _ refl refl
 
-need_same : (r : Rule) (name : Text) (needs : List Text) (s : Scene) → Same s (need_noted r name needs s)
+need_same : (r : Rule) (name : Text) (needs : List Text) (s : Scene) → Same s (needs_noted r name needs s)
 need_same r name [] s = refl
 need_same r name (need ∷ needs) s = refl
 
@@ -130,7 +131,7 @@ outcome_same r name o properties s = by (nat_le (properties_size o.properties) m
     set : Scene
     set = with_env (properties_set s.state.env properties) s
 
-    by : (b : Bool) → Same s (cond {A = Scene × Bool} b (need_noted r name o.needs set, o.is_done) (noted r TextTooLong name s, false)).0
+    by : (b : Bool) → Same s (cond {A = Scene × Bool} b (needs_noted r name o.needs set, o.is_done) (noted r TextTooLong name s, false)).0
     by true = need_same r name o.needs set
     by false = refl
 
@@ -176,6 +177,13 @@ line_same : (r : Rule) (name : Text) (line : Option Text) (s : Scene) → Same s
 line_same r name None s = refl
 line_same r name (Some line) s = given_same name (cmdline_value name line) s
 
+stored_same : (r : Rule) (name : Text) (s : Scene) → Same s (from_stored r name s).0
+stored_same r name s = by (is_stored_known s.state.event)
+  where
+    by : (b : Bool) → Same s (cond b (name_given name (stored_value name s.state.event) s) (not_run r Db s)).0
+    by true = given_same name (stored_value name s.state.event) s
+    by false = refl
+
 built_same : (known : Known) (r : Rule) (text : Rendered) (s : Scene) → Same s (on_text (run_builtin known r) text s).0
 built_same known r text s = on_text_same (run_builtin known r) (λ c u. builtin_same known r c _ u) text s
 
@@ -193,7 +201,7 @@ imported_same Udev known r (import.File t) s = on_text_same (λ path. not_run r 
 imported_same Manual known r (import.Cmdline name) s = refl
 imported_same Udev known r (import.Cmdline name) s = line_same r name (line_for name s.state.event) s
 imported_same Manual known r (import.Db name) s = refl
-imported_same Udev known r (import.Db name) s = refl
+imported_same Udev known r (import.Db name) s = stored_same r name s
 
 command_same : (p : Profile) (r : Rule) (t : Parts) (s : Scene) → Same s (command_reached p r t s)
 command_same Manual r t s = refl

@@ -60,6 +60,8 @@ pub mod Bracketed
 pub mod Attributes
 pub mod PrintedWeights
 pub mod CmdlineWeights
+pub mod StoredWeights
+pub mod StoredImports
 pub mod PrintedReading
 pub mod PrintedGiven
 pub mod PrintedActs

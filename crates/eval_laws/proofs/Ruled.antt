@@ -55,31 +55,31 @@ module _ (event : EventValue) where
         (if_proceeding_within (walk step ps) (sum_by own ps) (n + own p) (step p s) (each p n s h) (λ t within. walk_within ps (n + own p) t within))
 
   module _ (r : Rule) where
-    reached_within : (key : PlainKey) (n : ℕ) (s : Scene) → Within event n s → Within event (n + (length r.file + 56)) (match_reached r key s)
+    reached_within : (key : PlainKey) (n : ℕ) (s : Scene) → Within event n s → Within event (n + (length r.file + 280)) (match_reached r key s)
     reached_within (plain.Sysctl name) n s h = noted_within event n r SysctlNotRead name s h
-    reached_within plain.Action n s h = more event n (n + (length r.file + 56)) s (omega arith) h
-    reached_within plain.Devpath n s h = more event n (n + (length r.file + 56)) s (omega arith) h
-    reached_within plain.Kernel n s h = more event n (n + (length r.file + 56)) s (omega arith) h
-    reached_within plain.Subsystem n s h = more event n (n + (length r.file + 56)) s (omega arith) h
-    reached_within plain.Driver n s h = more event n (n + (length r.file + 56)) s (omega arith) h
-    reached_within plain.Name n s h = more event n (n + (length r.file + 56)) s (omega arith) h
-    reached_within plain.Symlink n s h = more event n (n + (length r.file + 56)) s (omega arith) h
-    reached_within plain.Tag n s h = more event n (n + (length r.file + 56)) s (omega arith) h
+    reached_within plain.Action n s h = more event n (n + (length r.file + 280)) s (omega arith) h
+    reached_within plain.Devpath n s h = more event n (n + (length r.file + 280)) s (omega arith) h
+    reached_within plain.Kernel n s h = more event n (n + (length r.file + 280)) s (omega arith) h
+    reached_within plain.Subsystem n s h = more event n (n + (length r.file + 280)) s (omega arith) h
+    reached_within plain.Driver n s h = more event n (n + (length r.file + 280)) s (omega arith) h
+    reached_within plain.Name n s h = more event n (n + (length r.file + 280)) s (omega arith) h
+    reached_within plain.Symlink n s h = more event n (n + (length r.file + 280)) s (omega arith) h
+    reached_within plain.Tag n s h = more event n (n + (length r.file + 280)) s (omega arith) h
     reached_within (plain.Attr name) n s h = by (is_not_read name s.state.event)
       where
-        by : (b : Bool) → Within event (n + (length r.file + 56)) (if b then noted r AttributeNotRead name s else s)
+        by : (b : Bool) → Within event (n + (length r.file + 280)) (if b then noted r AttributeNotRead name s else s)
         by true = noted_within event n r AttributeNotRead name s h
-        by false = more event n (n + (length r.file + 56)) s (omega arith) h
-    reached_within (plain.Env name) n s h = more event n (n + (length r.file + 56)) s (omega arith) h
+        by false = more event n (n + (length r.file + 280)) s (omega arith) h
+    reached_within (plain.Env name) n s h = more event n (n + (length r.file + 280)) s (omega arith) h
     reached_within (plain.Const name) n s h = by (is_not_given name s.state.event)
       where
-        by : (b : Bool) → Within event (n + (length r.file + 56)) (if b then noted r ConstantNotGiven name s else s)
+        by : (b : Bool) → Within event (n + (length r.file + 280)) (if b then noted r ConstantNotGiven name s else s)
         by true = noted_within event n r ConstantNotGiven name s h
-        by false = more event n (n + (length r.file + 56)) s (omega arith) h
+        by false = more event n (n + (length r.file + 280)) s (omega arith) h
 
     plain_within : (m : PlainMatch) (n : ℕ) (s : Scene) → Within event n s → Within event (n + part_allowance r (attribute_of_plain m.key)) (plain_step r m s).0
     unfolding plain_step
-    plain_within m n s h = more event (n + (length r.file + 56)) (n + part_allowance r (attribute_of_plain m.key)) _ (omega arith) (reached_within m.key n s h)
+    plain_within m n s h = more event (n + (length r.file + 280)) (n + part_allowance r (attribute_of_plain m.key)) _ (omega arith) (reached_within m.key n s h)
 
     result_within : (c : Comparison) (n : ℕ) (s : Scene) → Within event n s → Within event (n + part_allowance r None) (result_step c s).0
     unfolding result_step
@@ -121,10 +121,10 @@ module _ (event : EventValue) where
         more event b (n + rule_allowance event.profile len known.entries r) _ (omega arith) after_sets
 
     -- what the notes of all parts weigh
-    notes_fit : (r : Rule) → parts_most (length r.file + 56) r ≤ rule_allowance event.profile len known.entries r
+    notes_fit : (r : Rule) → parts_most (length r.file + 280) r ≤ rule_allowance event.profile len known.entries r
     unfolding rule_allowance
     notes_fit r =
-        let most : ℕ = length r.file + 56 in
+        let most : ℕ = length r.file + 280 in
         let a = sum_less (λ (m : PlainMatch). most) (λ m. part_allowance r (attribute_of_plain m.key)) (λ m. omega arith) r.plain in
         let b = sum_less (λ (m : Act). most + most) (λ act. act_kind_allowance event.profile len known.entries r act.kind) (λ act. omega arith) r.acts in
         let c = sum_less (λ (m : Comparison). most) (λ m. part_allowance r None) (λ m. omega arith) r.results in
@@ -136,7 +136,7 @@ module _ (event : EventValue) where
     unfolding scene_weight
     passed_within r n s h =
         let a = h.light in
-        let b = noted_counts note_weight (λ q. length q.file + 56) note_light known r s in
+        let b = noted_counts note_weight (λ q. length q.file + 280) note_light known r s in
         let c = notes_fit r in
         record { same = h.same; light = omega (arith, a, b, c) }
 

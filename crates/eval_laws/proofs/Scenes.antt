@@ -7,7 +7,7 @@ use Rattle.text_tables.specs.Texts.{Text}
 use Rattle.rule_types.specs.Rules.{Rule}
 use Rattle.device_core.specs.Values.{EventValue}
 use Rattle.eval_laws.specs.DeviceWeights.{text_weight}
-use Rattle.eval_state.specs.Notes.{note_about, text_of}
+use Rattle.eval_state.specs.Notes.{kept_word, note_about, text_of}
 use Rattle.eval_state.specs.Scenes.{noted}
 use Rattle.eval_state.specs.declared.note_kind.NoteKind.{NoteKind}
 use Rattle.eval_state.specs.declared.note_kind.NoteKind.TheVariants.{ImportNotRun, BuiltinNotRun, BadHwdbArguments, NoAnswer, TestNotMade, SysctlNotRead, TextTooLong, NameIgnored, NoDeviceNumber, NoValue, LinkIgnored, ModeIgnored, TagIgnored, AttributeNotRead, AttributeNotFound, BuiltinNeeds, ConstantNotGiven}
@@ -38,14 +38,34 @@ kind_light AttributeNotFound = omega arith
 kind_light BuiltinNeeds = omega arith
 kind_light ConstantNotGiven = omega arith
 
-word_light : (text : Text) → length (take 32 text) ≤ 32
-word_light text = let a = length-take 32 text in let b = min-le_left 32 (length text) in omega (arith, a, b)
+-- the first bytes of a text
+first_light : (most : ℕ) (text : Text) → most ≤ 256 → length (take most text) ≤ 256
+first_light most text few = let a = length-take most text in let b = min-le_left most (length text) in omega (arith, a, b, few)
+
+word_light : (kind : NoteKind) (text : Text) → length (kept_word kind text) ≤ 256
+word_light ImportNotRun text = first_light 32 text (omega arith)
+word_light BuiltinNotRun text = first_light 32 text (omega arith)
+word_light BadHwdbArguments text = first_light 32 text (omega arith)
+word_light NoAnswer text = first_light 32 text (omega arith)
+word_light TestNotMade text = first_light 32 text (omega arith)
+word_light SysctlNotRead text = first_light 32 text (omega arith)
+word_light TextTooLong text = first_light 32 text (omega arith)
+word_light NameIgnored text = first_light 32 text (omega arith)
+word_light NoDeviceNumber text = first_light 32 text (omega arith)
+word_light NoValue text = first_light 32 text (omega arith)
+word_light LinkIgnored text = first_light 32 text (omega arith)
+word_light ModeIgnored text = first_light 32 text (omega arith)
+word_light TagIgnored text = first_light 32 text (omega arith)
+word_light AttributeNotRead text = first_light 32 text (omega arith)
+word_light AttributeNotFound text = first_light 32 text (omega arith)
+word_light BuiltinNeeds text = first_light 256 text (omega arith)
+word_light ConstantNotGiven text = first_light 32 text (omega arith)
 
 -- a note about a rule
-pub note_light : (r : Rule) (kind : NoteKind) (text : Text) → note_weight (note_about r kind text) ≤ length r.file + 56
-note_light r kind text = let a = kind_light kind in let b = word_light text in omega (arith, a, b)
+pub note_light : (r : Rule) (kind : NoteKind) (text : Text) → note_weight (note_about r kind text) ≤ length r.file + 280
+note_light r kind text = let a = kind_light kind in let b = word_light kind text in omega (arith, a, b)
 
-pub noted_within : (event : EventValue) (n : ℕ) (r : Rule) (kind : NoteKind) (text : Text) (s : Scene) → Within event n s → Within event (n + (length r.file + 56)) (noted r kind text s)
+pub noted_within : (event : EventValue) (n : ℕ) (r : Rule) (kind : NoteKind) (text : Text) (s : Scene) → Within event n s → Within event (n + (length r.file + 280)) (noted r kind text s)
 unfolding scene_weight
 noted_within event n r kind text s h =
     let a = h.light in
@@ -54,5 +74,5 @@ noted_within event n r kind text s h =
     record { same = h.same; light = omega (arith, a, b, c) }
 
 -- the same within a greater bound
-pub note_within : (event : EventValue) (n k : ℕ) (r : Rule) (s : Scene) → Within event n s → length r.file + 56 ≤ k → (kind : NoteKind) (text : Text) → Within event (n + k) (noted r kind text s)
-note_within event n k r s h room kind text = more event (n + (length r.file + 56)) (n + k) (noted r kind text s) (omega (arith, room)) (noted_within event n r kind text s h)
+pub note_within : (event : EventValue) (n k : ℕ) (r : Rule) (s : Scene) → Within event n s → length r.file + 280 ≤ k → (kind : NoteKind) (text : Text) → Within event (n + k) (noted r kind text s)
+note_within event n k r s h room kind text = more event (n + (length r.file + 280)) (n + k) (noted r kind text s) (omega (arith, room)) (noted_within event n r kind text s h)

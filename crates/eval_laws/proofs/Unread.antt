@@ -1,5 +1,5 @@
 -- What the command of a builtin leaves by being reached.
-use Rattle.std.proofs.Common.{◌≡◌, Bool, true, false, cond, ◌&&◌, is_none, List, [], ◌∷◌, ◌++◌, Option, Some, None, append-nil, absurd, refl, ap, ◌∙◌}
+use Rattle.std.proofs.Common.{◌≡◌, Bool, true, false, cond, ◌&&◌, is_none, List, [], ◌∷◌, ◌++◌, Option, Some, None, append-nil, refl, ap, ◌∙◌}
 use Rattle.std.specs.List.{list_all}
 use Rattle.std.specs.Option.{option_or}
 use Rattle.text_bytes.specs.declared.profile.Profile.TheVariants.{Manual}
@@ -30,20 +30,22 @@ first_at : (event : EventValue) (before following : List Piece) (name : Text) �
     → first_unread event (before ++ piece.Attr name ∷ following) ≡ Some name
 unfolding first_unread
 first_at event [] following name read is = ap (λ b. option_or (cond b (Some name) None) (first_unread event following)) is
-first_at event (p ∷ before) following name read is = by (unread_in event p) read
+first_at event (p ∷ before) following name read is = by (unread_in event p) (λ h. first_at event before following name h is) read
   where
-    by : (o : Option Text) → (is_none o && are_read event before) ≡ true → option_or o (first_unread event (before ++ piece.Attr name ∷ following)) ≡ Some name
-    by None h = first_at event before following name h is
-    by (Some t) h = absurd (cc)
+    by : (o : Option Text) → (are_read event before ≡ true → first_unread event (before ++ piece.Attr name ∷ following) ≡ Some name)
+        → (is_none o && are_read event before) ≡ true → option_or o (first_unread event (before ++ piece.Attr name ∷ following)) ≡ Some name
+    by None later h = later h
+    by (Some t) later h = absurd (cc)
 
 none_at : (event : EventValue) (pieces : List Piece) → are_read event pieces ≡ true → first_unread event pieces ≡ None
 unfolding first_unread
 none_at event [] read = refl
-none_at event (p ∷ pieces) read = by (unread_in event p) read
+none_at event (p ∷ pieces) read = by (unread_in event p) (none_at event pieces) read
   where
-    by : (o : Option Text) → (is_none o && are_read event pieces) ≡ true → option_or o (first_unread event pieces) ≡ None
-    by None h = none_at event pieces h
-    by (Some t) h = absurd (cc)
+    by : (o : Option Text) → (are_read event pieces ≡ true → first_unread event pieces ≡ None)
+        → (is_none o && are_read event pieces) ≡ true → option_or o (first_unread event pieces) ≡ None
+    by None later h = later h
+    by (Some t) later h = absurd (cc)
 
 pub noted_first : (r : Rule) (template : Template) (s : Scene) (before following : List Piece) (name : Text) → template.pieces ≡ before ++ piece.Attr name ∷ following
     → list_all (λ p. is_none (unread_in s.state.event p)) before ≡ true → is_not_read name s.state.event ≡ true

@@ -1,5 +1,5 @@
 //! What is true of acts, whatever the rules are. Each function here is empty: its contract is the law.
-ghost use Rattle.std.specs.Prelude.{◌≡◌, ◌==◌, ◌&&◌, ◌||◌, ◌++◌, ◌∷◌, [], not, true, false, filter, is_none, is_some, length, List, None, Option, Some};
+ghost use Rattle.std.specs.Prelude.{◌≡◌, ◌==◌, ◌&&◌, ◌||◌, ◌++◌, ◌∷◌, [], not, true, false, filter, is_none, is_some, length, List, None, Option, Some, codes};
 ghost use Rattle.std.specs.List.{list_all};
 ghost use Rattle.text_bytes.specs.Names.{slash};
 ghost use Rattle.text_bytes.specs.Texts.{begins_with};
@@ -9,6 +9,7 @@ ghost use Rattle.text_tables.specs.Texts.{Text};
 ghost use Rattle.text_core.specs.Choices.{choice_fits};
 ghost use Rattle.text_core.specs.declared.item.Item.{Item};
 ghost use Rattle.builtin_devices.specs.Knowledge.{Known};
+ghost use Rattle.builtin_devices.specs.Outcomes.{failing, succeeding};
 ghost use Rattle.device_core.specs.Values.{DeviceValue};
 ghost use Rattle.rule_templates.specs.Template as templates;
 ghost use Rattle.rule_templates.specs.declared.piece.Piece.{Piece};
@@ -20,7 +21,7 @@ ghost use Rattle.rule_types.specs.Rules.{Rule};
 ghost use Rattle.eval_state.specs.Chains.{device_at};
 ghost use Rattle.eval_state.specs.Notes.{note_about};
 ghost use Rattle.eval_state.specs.Scenes.{noted, with_env};
-ghost use Rattle.eval_state.specs.declared.note_kind.NoteKind.TheVariants.{AttributeNotRead, TestNotMade};
+ghost use Rattle.eval_state.specs.declared.note_kind.NoteKind.TheVariants.{AttributeNotRead, TestNotMade, BuiltinNeeds};
 ghost use Rattle.eval_state.specs.declared.scene.Scene.{Scene};
 ghost use Rattle.eval_rendering.specs.Rendering.{render};
 ghost use Rattle.eval_rendering.specs.declared.rendered.Mode.TheVariants.{Plain};
@@ -30,6 +31,7 @@ ghost use Rattle.eval_commands.specs.declared.builtin.Builtin.TheVariants as ask
 ghost use Rattle.eval_commands.specs.declared.hwdb.Hwdb.{Hwdb};
 ghost use Rattle.eval_matching.specs.Attributes.{is_not_read};
 ghost use Rattle.eval_acts.specs.Acts.{act_step, import_reached};
+ghost use Rattle.eval_acts.specs.BuiltinRuns.{outcome_taken};
 ghost use Rattle.eval_acts.specs.LookUps.{found};
 ghost use Rattle.eval_acts.specs.Unread.{unread_in, unread_noted};
 ghost use Rattle.eval_laws.specs.Acting.{builtin_import, parent_import, test};
@@ -88,4 +90,15 @@ pub fn a_command_notes_its_first_unread_attribute()
         → is_not_read name scene.state.event ≡ true → (unread_noted rule template scene).notes ≡ scene.notes ++ note_about rule AttributeNotRead name ∷ [] }
     ensures read { (rule : Rule) (template : templates.Parts) (scene : Scene)
         → list_all (λ p. is_none (unread_in scene.state.event p)) template.pieces ≡ true → unread_noted rule template scene ≡ scene }
+{}
+
+/// All that a builtin needs is told in one note, with commas between; without needs there is none.
+pub fn all_that_a_builtin_needs_is_noted()
+    ensures none { (rule : Rule) (scene : Scene) → (outcome_taken rule (codes "net_id") (succeeding [] []) scene).0.notes ≡ scene.notes }
+    ensures one { (rule : Rule) (scene : Scene)
+        → (outcome_taken rule (codes "net_id") (failing (codes "type" ∷ [])) scene).0.notes
+        ≡ scene.notes ++ record { file = rule.file; line = rule.line; kind = BuiltinNeeds; word = codes "net_id: type" } ∷ [] }
+    ensures three { (rule : Rule) (scene : Scene)
+        → (outcome_taken rule (codes "net_id") (succeeding [] (codes "type" ∷ codes "config" ∷ codes "slots" ∷ [])) scene).0.notes
+        ≡ scene.notes ++ record { file = rule.file; line = rule.line; kind = BuiltinNeeds; word = codes "net_id: type, config, slots" } ∷ [] }
 {}

@@ -23,7 +23,7 @@ use Rattle.rule_types.specs.declared.part.Import.{Import}
 use Rattle.rule_types.specs.declared.part.Import.TheVariants as import
 use Rattle.rule_types.specs.declared.part.PlainMatch.{PlainMatch}
 use Rattle.rule_types.specs.declared.part.UpMatch.{UpMatch}
-use Rattle.rule_types.specs.declared.types.ImportType.TheVariants.{File}
+use Rattle.rule_types.specs.declared.types.ImportType.TheVariants.{Db, File}
 use Rattle.rule_types.specs.Rules.{Rule}
 use Rattle.eval_rendering.specs.declared.rendered.Rendered.{Rendered}
 use Rattle.eval_rendering.specs.declared.rendered.Rendered.TheVariants as rendered
@@ -45,7 +45,8 @@ use Rattle.eval_state.specs.declared.note_kind.NoteKind.{NoteKind}
 use Rattle.eval_state.specs.declared.note_kind.NoteKind.TheVariants.{AttributeNotRead, BuiltinNotRun, ConstantNotGiven, NoAnswer, TestNotMade, TextTooLong}
 use Rattle.eval_state.specs.declared.scene.Scene.{Scene}
 use Rattle.eval_acts.specs.Acts.{act_step, command_reached, from_parent_by, import_reached, imported, on_text, performed, too_long_noted}
-use Rattle.eval_acts.specs.BuiltinRuns.{looked_up, most_set, need_noted, outcome_set, outcome_taken, path_id_run, properties_size, usb_id_run, with_maker}
+use Rattle.eval_acts.specs.BuiltinRuns.{looked_up, most_set, outcome_set, outcome_taken, path_id_run, properties_size, usb_id_run, with_maker, needs_noted}
+use Rattle.eval_acts.specs.Stored.{from_stored, is_stored_known, stored_value}
 use Rattle.eval_acts.specs.Imports.{builtin_run, from_answer_or_noted, from_line, from_parent, from_program, line_for, name_given, not_run, run_builtin}
 use Rattle.eval_acts.specs.Printed.{printed_properties}
 use Rattle.eval_acts.specs.Questions.{answered_by_block, answered_or_noted, result_of, tested, tested_at, tested_by, tested_by_udev, with_result}
@@ -84,14 +85,14 @@ answered_stays : (r : Rule) (t : Text) (a : Option AnswerValue) (s : Scene) → 
 answered_stays r t None s = refl
 answered_stays r t (Some a) s = either s (a.status == 0) (with_result (result_of s.state.event.profile a.text) s, true) (s, false) refl refl
 
-need_stays : (r : Rule) (name : Text) (needs : List Text) (s : Scene) → Stays s (need_noted r name needs s)
+need_stays : (r : Rule) (name : Text) (needs : List Text) (s : Scene) → Stays s (needs_noted r name needs s)
 need_stays r name [] s = refl
 need_stays r name (need ∷ needs) s = refl
 
 outcome_stays : (r : Rule) (name : Text) (o : OutcomeValue) (properties : List Pair) (s : Scene) → Stays s (outcome_set r name o properties s).0
 outcome_stays r name o properties s =
     let set : Scene = with_env (properties_set s.state.env properties) s in
-    either s (nat_le (properties_size o.properties) most_set) (need_noted r name o.needs set, o.is_done) (noted r TextTooLong name s, false) (need_stays r name o.needs set) refl
+    either s (nat_le (properties_size o.properties) most_set) (needs_noted r name o.needs set, o.is_done) (noted r TextTooLong name s, false) (need_stays r name o.needs set) refl
 
 taken_stays : (r : Rule) (name : Text) (o : OutcomeValue) (s : Scene) → Stays s (outcome_taken r name o s).0
 taken_stays r name o s = outcome_stays r name o o.properties s
@@ -138,6 +139,13 @@ line_stays : (r : Rule) (name : Text) (line : Option Text) (s : Scene) → Stays
 line_stays r name None s = refl
 line_stays r name (Some line) s = given_stays name (cmdline_value name line) s
 
+stored_stays : (r : Rule) (name : Text) (s : Scene) → Stays s (from_stored r name s).0
+stored_stays r name s = by (is_stored_known s.state.event)
+  where
+    by : (b : Bool) → Stays s (cond b (name_given name (stored_value name s.state.event) s) (not_run r Db s)).0
+    by true = given_stays name (stored_value name s.state.event) s
+    by false = refl
+
 imported_stays : (p : Profile) (known : Known) (r : Rule) (i : Import) (s : Scene) → Stays s (imported p known r i s).0
 imported_stays Manual known r (import.Builtin t) s = built_stays known r _ s
 imported_stays Udev known r (import.Builtin t) s = built_stays known r _ s
@@ -150,7 +158,7 @@ imported_stays Udev known r (import.File t) s = text_stays (λ path. not_run r F
 imported_stays Manual known r (import.Cmdline name) s = refl
 imported_stays Udev known r (import.Cmdline name) s = line_stays r name (line_for name s.state.event) s
 imported_stays Manual known r (import.Db name) s = refl
-imported_stays Udev known r (import.Db name) s = refl
+imported_stays Udev known r (import.Db name) s = stored_stays r name s
 
 command_stays : (p : Profile) (r : Rule) (t : Parts) (s : Scene) → Stays s (command_reached p r t s)
 command_stays Manual r t s = refl

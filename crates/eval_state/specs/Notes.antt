@@ -1,5 +1,5 @@
 -- Notes: what rules asked for that a dry run does not do.
-use Rattle.std.specs.Prelude.{codes, [], ◌∷◌, ◌++◌, Option, Some, None}
+use Rattle.std.specs.Prelude.{codes, take, [], ◌∷◌, ◌++◌, Option, Some, None}
 use Rattle.text_bytes.specs.Names.{open_brace, close_brace}
 use Rattle.text_tables.specs.Texts.{Text}
 use Rattle.text_bytes.specs.Texts.{word_of}
@@ -32,9 +32,14 @@ text_of AttributeNotFound = codes "attribute not found"
 text_of BuiltinNeeds = codes "builtin needs"
 text_of ConstantNotGiven = codes "constant not given"
 
--- the note that something in a rule was not done: the rule's file and line, and the first 32 bytes of a text
+-- what a note keeps of a text: the first 256 bytes of what a builtin needs, which may be several names, else the first 32
+abbrev pub kept_word : NoteKind → Text → Text
+kept_word BuiltinNeeds text = take 256 text
+kept_word kind text = word_of text
+
+-- the note that something in a rule was not done: the rule's file and line, and what is kept of a text
 abbrev pub note_about : Rule → NoteKind → Text → Note
-note_about r kind text = record { file = r.file; line = r.line; kind = kind; word = word_of text }
+note_about r kind text = record { file = r.file; line = r.line; kind = kind; word = kept_word kind text }
 
 -- a key as a note names it: with its attribute in braces, if it has one
 abbrev pub word_of_key : Key → Option Text → Text

@@ -1,7 +1,7 @@
 //! What is true of names that udev looks up below a device, and of paths.
 //!
 //! Each function here is empty: its contract is the law.
-ghost use Rattle.std.specs.Prelude.{◌≡◌, ◌∷◌, ◌++◌, ℕ, List, [], Some, codes, true, false};
+ghost use Rattle.std.specs.Prelude.{◌≡◌, ◌≤◌, ◌∷◌, ◌++◌, ℕ, List, [], Some, codes, length, take, true, false};
 ghost use Rattle.text_bytes.specs.Names.{slash};
 ghost use Rattle.text_bytes.specs.declared.profile.Profile.TheVariants.{Manual, Udev};
 ghost use Rattle.text_tables.specs.Pairs.{Pair};
@@ -9,8 +9,10 @@ ghost use Rattle.text_tables.specs.Texts.{Text, same_text};
 ghost use Rattle.device_core.specs.Values.{DeviceValue, EventValue};
 ghost use Rattle.eval_state.specs.Files.{has_name, star_place, starred};
 ghost use Rattle.eval_state.specs.Laws.{leads};
+ghost use Rattle.eval_state.specs.Notes.{kept_word};
 ghost use Rattle.eval_state.specs.Properties.{given_properties};
 ghost use Rattle.eval_state.specs.Places.{PlaceValue, gone, has, is_there, path_to, stays};
+ghost use Rattle.eval_state.specs.declared.note_kind.NoteKind.TheVariants.{BuiltinNeeds, NoAnswer};
 
 /// What a name with a folder `*` stands for is a file or a folder of the device.
 pub fn starred_names_are_there()
@@ -62,4 +64,11 @@ pub fn an_empty_property_is_none_for_udev()
     ensures filled { (before following : List Pair) (name text : Text) (byte : ℕ)
         → given_properties Udev (before ++ (name, byte ∷ text) ∷ following)
         ≡ given_properties Udev before ++ (name, byte ∷ text) ∷ given_properties Udev following }
+{}
+
+/// What a builtin needs is told in up to 256 bytes, and what another note is about in up to 32.
+pub fn a_note_keeps_the_first_bytes()
+    ensures needs { (text : Text) → length text ≤ 256 → kept_word BuiltinNeeds text ≡ text }
+    ensures more { (text following : Text) → length text ≡ 256 → kept_word BuiltinNeeds (text ++ following) ≡ text }
+    ensures other { (text : Text) → kept_word NoAnswer text ≡ take 32 text }
 {}

@@ -23,8 +23,9 @@ pub use files::starred;
 pub use finals::{FinalKey, Finals};
 pub use labels::{Label, Labels};
 pub use laws::{
-    a_path_leads_where_its_components_do, an_empty_property_is_none_for_udev, some_paths,
-    starred_names_are_there, what_the_device_has_is_there,
+    a_note_keeps_the_first_bytes, a_path_leads_where_its_components_do,
+    an_empty_property_is_none_for_udev, some_paths, starred_names_are_there,
+    what_the_device_has_is_there,
 };
 pub use made_runs::{MadeRun, MadeRuns};
 pub use named::Named;

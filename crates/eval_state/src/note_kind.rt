@@ -42,7 +42,7 @@ pub enum NoteKind {
     /// is the attribute's name.
     AttributeNotFound,
     /// For udev alone: a builtin asked for what the kernel reports about each such device, and the block does not
-    /// have it; the word is the builtin's name, a colon, a space and what it asked for.
+    /// have it; the word is the builtin's name, a colon, a space and all that it asked for, with commas between.
     BuiltinNeeds,
     /// For udev alone: a match of a constant that the block does not give; the word is the constant's name.
     ConstantNotGiven,

@@ -2,13 +2,16 @@
 //!
 //! A note is kept as what it says and not as text: texts are made once, where they are written.
 ghost use Rattle.std.specs.Prelude.{◌≡◌, ◌++◌, ◌∷◌, [], OnOk, OnErr, IfOk, option_map};
-ghost use Rattle.eval_state.specs.Notes.{note_about, word_of_key};
+ghost use Rattle.eval_state.specs.Notes.{kept_word, note_about, word_of_key};
 
 use crate::note_kind::NoteKind;
 use rule_types::{Key, Rule};
 use std::alloc::{AllocError, Global};
 use std::marker::Model;
 use text_bytes::{Bytes, word_of};
+
+/// How many bytes a note keeps of what a builtin needs.
+const MAX_NEEDS: usize = 256;
 
 /// A note about a rule.
 #[derive(Drop)]
@@ -19,8 +22,19 @@ pub struct Note {
     pub line: u32,
     /// What was not done.
     pub kind: NoteKind,
-    /// The first 32 bytes of the text that it is about, before escaping.
+    /// The first 32 bytes of the text that it is about, before escaping; 256 of what a builtin needs.
     pub word: Bytes,
+}
+
+/// What a note keeps of a text.
+#[tactic(auto, using(std::proofs::lemmas::List::take_min))]
+fn kept_word(kind: NoteKind, text: &[u8]) -> &[u8]
+    ensures { result.now ≡ kept_word kind text.now }
+{
+    match kind {
+        NoteKind::BuiltinNeeds => &text[..MAX_NEEDS.min(text.len())],
+        _ => word_of(text),
+    }
 }
 
 impl Note {
@@ -37,7 +51,7 @@ impl Note {
             file: Bytes::copy_of(alloc, rule.file())?,
             line: rule.line(),
             kind,
-            word: Bytes::copy_of(alloc, word_of(text))?,
+            word: Bytes::copy_of(alloc, kept_word(kind, text))?,
         })
     }
 }

@@ -2,7 +2,7 @@
 
 A case has a name, the block and the answer of the builtin: `done` or `failed`, then `NAME=VALUE` for each property that it
 sets, in the order in which it does, with an empty value if it removes the property, and among them `hwdb TEXT` if a text is
-looked up in the database; then `note TEXT` for each thing that the block should contain, of which devdry notes the first.
+looked up in the database; then `note TEXT` for each thing that the block should contain, which devdry tells in one note.
 Everything except for the texts that are looked up and the notes is what `udevadm test-builtin` of systemd 257.13 in Debian
 trixie printed; bench/builtins.py asks for it again. If devdry gives another answer, that comes after udevadm's.
 
@@ -30,12 +30,20 @@ def set_by(lines):
     return properties
 
 
+def told(notes):
+    """The note that devdry leaves about all that the block should contain, if there is anything."""
+    if not notes:
+        return []
+    needed = [note.split(": ", 2) for note in notes]
+    return [f"note r.rules:1: builtin needs: {needed[0][1]}: {', '.join(word for _, _, word in needed)}"]
+
+
 def devdry_lines(answer):
     """The lines that devdry's answer has for that of a builtin, in addition to those of the block alone."""
     done, *lines = (line for line in answer if not line.startswith("note "))
     notes = [line for line in answer if line.startswith("note ")]
     properties = set_by(lines) | {"DONE": int(done == "done")}
-    return [f"env {name}={value}" for name, value in properties.items()] + [note.replace("note ", "note r.rules:1: ", 1) for note in notes[:1]]
+    return [f"env {name}={value}" for name, value in properties.items()] + told(notes)
 
 
 def without_empty(block, lines):

@@ -70,6 +70,7 @@ class Event:
                 case "K": self.constants[name] = value
                 case "Q": asked = text
                 case "R": self.programs[asked] = (int(text.split(" ")[0]), text.partition(" ")[2])
+                case "O": self.programs[asked] = (self.programs[asked][0], self.programs[asked][1] + "\r" + text)
         device = self.chain[0]
         said = {"ACTION": self.action, "DEVPATH": device.path, "SUBSYSTEM": device.subsystem, "DEVNAME": device.node and "/dev/" + device.node}
         if device.number:

@@ -182,7 +182,8 @@ UDEV = [
 BLOCKS = [
     Case("questions", 3_000, lambda n: (["events", "-r", "none", "--questions", "r.rules"], {"r.rules": each('PROGRAM!="p#"\n', n)}, DEVICE)),
     *(Case(f"blocks full of {template[0]} lines", 10, lambda n, template=template: events("", full(template) * n))
-      for template in ["E: #=1\n", "A: #=1\n", "G: #\n", "S: #\n", "K: #=1\n", "Q: #\nR: 0\n"]),
+      for template in ["E: #=1\n", "A: #=1\n", "G: #\n", "S: #\n", "B: #=1\n", "K: #=1\n", "Q: #\nR: 0\n"]),
+    Case("blocks full of O lines", 10, lambda n: events("", ("C: a\nP: /a\nQ: p\nR: 0\n" + each("O: #\n", 6_000) + "\n") * n)),
     Case("blocks of 64 devices", 100, lambda n: events("", (chain(each("A: #=1\n", 100)) + "\n") * n)),
     Case("small blocks", 10_000, lambda n: events("", "C: a\nP: /a\n\n" * n)),
     Case("empty lines", 1_000_000, lambda n: events("", "\n" * n)),

@@ -32,7 +32,7 @@ PLAIN = re.compile(r"^(.*):(\d+): ([VSHIW]\d+) (.*)$")
 CARET = re.compile(r"^ *\^~*$")
 
 # The lints whose place is a value, and those whose place is a key and whose word is the name in braces after it.
-LINTS_OF_VALUES = ("W1", "W2", "W3", "W4", "W8", "W9", "W11", "W16", "W17", "W19", "W22", "W24")
+LINTS_OF_VALUES = ("W1", "W2", "W3", "W4", "W8", "W9", "W11", "W16", "W17", "W19", "W22", "W24", "W26")
 LINTS_OF_NAMES = ("W5", "W6", "W7", "W10")
 
 # How much of a line `human` shows, and how much of it before a place at most, unless the line ends there.

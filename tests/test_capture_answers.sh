@@ -6,10 +6,10 @@ set -uo pipefail
 # shellcheck source=sys_tree.sh
 . "$(dirname "$0")/sys_tree.sh"
 
-# A record in the form of `udevadm info --export-db`; CR stands for the carriage return between two lines of an answer.
+# A record in the form of `udevadm info --export-db`.
 record() { cat > "$work/record"; }
 # answers PATH: the questions and answers of a device's block by the record
-answers() { "$capture" --kernel --answers --from "$work/record" "$1" | grep '^[QR]:' | sed 's/\r/ CR /g'; }
+answers() { "$capture" --kernel --answers --from "$work/record" "$1" | grep '^[QRO]:'; }
 ata=/devices/pci0/ata1/host0/target0:0:0/0:0:0:0/block/sda
 record << END
 P: $ata
@@ -127,49 +127,91 @@ E: ID_SCSI=1
 E: ID_SERIAL=35
 END
 same "an ATA disk" "Q: builtin blkid
-R: 0 ID_PART_TABLE_TYPE=gpt CR ID_PART_TABLE_UUID=12-34
+R: 0 ID_PART_TABLE_TYPE=gpt
+O: ID_PART_TABLE_UUID=12-34
 Q: ata_id --export /dev/sda
-R: 0 ID_ATA=1 CR ID_TYPE=disk CR ID_BUS=ata CR ID_MODEL=Disk CR ID_MODEL_ENC=Disk\x207 CR ID_SERIAL=Disk_7 CR ID_ATA_SATA=1 CR ID_WWN=0x5" \
+R: 0 ID_ATA=1
+O: ID_TYPE=disk
+O: ID_BUS=ata
+O: ID_MODEL=Disk
+O: ID_MODEL_ENC=Disk\x207
+O: ID_SERIAL=Disk_7
+O: ID_ATA_SATA=1
+O: ID_WWN=0x5" \
     "$(answers $ata)"
 same "a partition with a file system" "Q: builtin blkid
-R: 0 ID_FS_UUID=7-8 CR ID_FS_TYPE=btrfs CR ID_FS_LABEL=\" my disk\" CR ID_FS_LABEL_ENC=\"\"my\"\" CR ID_PART_ENTRY_NUMBER=1
+R: 0 ID_FS_UUID=7-8
+O: ID_FS_TYPE=btrfs
+O: ID_FS_LABEL=\" my disk\"
+O: ID_FS_LABEL_ENC=\"\"my\"\"
+O: ID_PART_ENTRY_NUMBER=1
 Q: builtin btrfs ready /dev/sda1
 R: 0 ID_BTRFS_READY=1" "$(answers $ata/sda1)"
 same "a disk in which udev has found nothing" "Q: builtin blkid
 R: 0" "$(answers /devices/virtual/block/loop0)"
 same "a disk of which udev has stored nothing" "" "$(answers /devices/virtual/block/loop1)"
 same "a volume of LVM" "Q: builtin blkid
-R: 0 ID_LOOP_BACKING_INODE=7 CR ID_FS_TYPE=ext4
+R: 0 ID_LOOP_BACKING_INODE=7
+O: ID_FS_TYPE=ext4
 Q: /sbin/dmsetup info -j 254 -m 1 -c --nameprefixes --noheadings --rows -o name,uuid,suspended
-R: 0 DM_NAME=vg-home CR DM_UUID=LVM-abc CR DM_SUSPENDED=0
+R: 0 DM_NAME=vg-home
+O: DM_UUID=LVM-abc
+O: DM_SUSPENDED=0
 Q: /sbin/dmsetup info -j 254 -m 1 -c --nameprefixes --noheadings --rows -o suspended
 R: 0 DM_SUSPENDED=0
 Q: /sbin/dmsetup splitname --nameprefixes --noheadings --rows vg-home
-R: 0 DM_VG_NAME=vg CR DM_LV_NAME=home" "$(answers /devices/virtual/block/dm-1 | sed '/^Q: \/usr/,+1d')"
+R: 0 DM_VG_NAME=vg
+O: DM_LV_NAME=home" "$(answers /devices/virtual/block/dm-1 | awk '/^Q:/ { usr = /^Q: .usr/ } !usr')"
 same "by its new path" "Q: /usr/sbin/dmsetup splitname --nameprefixes --noheadings --rows vg-home
-R: 0 DM_VG_NAME=vg CR DM_LV_NAME=home" "$(answers /devices/virtual/block/dm-1 | grep -A 1 '/usr/.*splitname')"
+R: 0 DM_VG_NAME=vg
+O: DM_LV_NAME=home" "$(answers /devices/virtual/block/dm-1 | grep -A 2 '/usr/.*splitname')"
 same "a network interface" "Q: builtin net_driver
 R: 0 ID_NET_DRIVER=e1000e" "$(answers /devices/pci0/net/eth0)"
 same "a camera" "Q: v4l_id /dev/video0
-R: 0 ID_V4L_VERSION=2 CR ID_V4L_PRODUCT=My camera: \"front\" CR ID_V4L_CAPABILITIES=:capture:" \
+R: 0 ID_V4L_VERSION=2
+O: ID_V4L_PRODUCT=My camera: \"front\"
+O: ID_V4L_CAPABILITIES=:capture:" \
     "$(answers /devices/pci0/usb1/1-1/1-1:1.0/video4linux/video0)"
 same "an optical drive" "Q: builtin blkid --hint=session_offset=2048
 R: 0 ID_FS_TYPE=iso9660
 Q: builtin blkid --noraid
 R: 0 ID_FS_TYPE=iso9660
 Q: scsi_id --export --whitelisted -d /dev/sr0
-R: 0 ID_SCSI=1 CR ID_VENDOR=HL CR ID_SCSI_SERIAL=9
+R: 0 ID_SCSI=1
+O: ID_VENDOR=HL
+O: ID_SCSI_SERIAL=9
 Q: scsi_id --export --allowlisted -d /dev/sr0
-R: 0 ID_SCSI=1 CR ID_VENDOR=HL CR ID_SCSI_SERIAL=9
+R: 0 ID_SCSI=1
+O: ID_VENDOR=HL
+O: ID_SCSI_SERIAL=9
 Q: cdrom_id --lock-media /dev/sr0
-R: 0 ID_CDROM=1 CR ID_CDROM_DVD=1 CR ID_CDROM_MEDIA_SESSION_LAST_OFFSET=2048" \
+R: 0 ID_CDROM=1
+O: ID_CDROM_DVD=1
+O: ID_CDROM_MEDIA_SESSION_LAST_OFFSET=2048" \
     "$(answers /devices/pci0/host9/target9:0:0/9:0:0:0/block/sr0)"
 same "a tape" "Q: scsi_id --whitelisted --export --device=/dev/bsg/9:0:0:0
-R: 0 ID_SCSI=1 CR ID_SERIAL=35
+R: 0 ID_SCSI=1
+O: ID_SERIAL=35
 Q: scsi_id --allowlisted --export --device=/dev/bsg/9:0:0:0
-R: 0 ID_SCSI=1 CR ID_SERIAL=35" "$(answers /devices/pci0/host9/target9:0:0/9:0:0:0/scsi_tape/nst0)"
+R: 0 ID_SCSI=1
+O: ID_SERIAL=35" "$(answers /devices/pci0/host9/target9:0:0/9:0:0:0/scsi_tape/nst0)"
 same "a device that no rule asks about" "" "$(answers /devices/pci0/host9/target9:0:0/9:0:0:0)"
 same "without the option there are no answers" "" "$("$capture" --from "$work/record" | grep '^[QR]:')"
+
+# What udev has stored about the device itself, for IMPORT{db}.
+stored() { "$capture" "${@:2}" --answers --from "$work/record" "$1" | grep '^B:'; }
+same "what is stored about a partition" "B: USEC_INITIALIZED=6
+B: ID_ATA=1
+B: ID_SERIAL=Disk_7
+B: ID_FS_UUID=7-8
+B: ID_FS_TYPE=btrfs
+B: ID_FS_LABEL= my disk
+B: ID_FS_LABEL_ENC=\"my\"
+B: ID_PART_ENTRY_NUMBER=1
+B: ID_BTRFS_READY=1" "$(stored $ata/sda1 --kernel)"
+same "the same beside the properties" "$(stored $ata/sda1 --kernel)" "$(stored $ata/sda1)"
+same "nothing is stored about a device that udev does not know" "" "$(stored /devices/pci0/host9/target9:0:0/9:0:0:0)"
+same "without the option nothing stored is printed" "" "$("$capture" --from "$work/record" | grep '^B:')"
 
 # Rules take the answers as what the builtins and programs set.
 cat > "$work/r.rules" << 'END'

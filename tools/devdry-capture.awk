@@ -358,7 +358,7 @@ function rendered(path, command,    out, at, n, text) {
     return out command
 }
 
-# The stored properties that the pattern matches, as a program prints them, with a carriage return between two lines. A value
+# The stored properties that the pattern matches, as a program prints them, as lines of an answer. A value
 # that begins with a quote, or has a blank at an end, is put between quotes.
 function printed_by(path, pattern,    i, part, out) {
     for (i = 1; i <= count[path]; i++) {
@@ -367,9 +367,9 @@ function printed_by(path, pattern,    i, part, out) {
         cut(substr(lines[keys[path, i]], 4))
         if (value == "" || value ~ /[\r]/) continue
         if (value ~ /^["' \t]|[ \t]$/) value = "\"" value "\""
-        out = out "\r" name "=" value
+        out = out "\nO: " name "=" value
     }
-    return substr(out, 2)
+    return substr(out, 5)
 }
 
 # The lines of a block that answer a command.
@@ -390,6 +390,15 @@ function answered(path,    i, of, kernel_name, command, out) {
     return out
 }
 
+# The lines of what udev has stored about the event device, for IMPORT{db}.
+function stored(path,    i, key, out) {
+    for (i = 1; i <= count[path]; i++) {
+        key = keys[path, i]
+        if (lines[key] ~ /^E: / && lines[key] != kernels[key]) out = out "B: " substr(lines[key], 4) "\n"
+    }
+    return out
+}
+
 # The lines of a device, each with its newline. With `first` it is the event device.
 function device(path, first,    of, i, line, letter) {
     for (i = 1; i <= count[path]; i++) {
@@ -399,6 +408,7 @@ function device(path, first,    of, i, line, letter) {
         of[letter] = of[letter] (walk ? as_key(line, first ? "" : "S") : line == "" ? "" : line "\n")
     }
     if (first) of["A"] = of["A"] elsewhere
+    if (first && answers) of["E"] = of["E"] stored(path)
     return of["P"] of["U"] of["V"] of["N"] of["D"] of["A"] of["E"] of["G"] of["S"] of["K"]
 }
 

@@ -28,7 +28,9 @@ FIRST_LINES = [
     fault("C: add\nK: arch=x\n", 2, "no device"),
     fault("C: add\nU: x\n", 2, "no device"),
     fault("C: add\nE: a=1\nP: /d\n", 2, "no device"),
+    fault("C: add\nB: a=1\nP: /d\n", 2, "no device"),
     fault("R: 0\n", 1, "pair"),
+    fault("O: a\n", 1, "no action"),
     fault("X: \0\n", 1, "nul byte"),
 ]
 
@@ -53,6 +55,8 @@ BELOW = [
     below(b"E: =x\n", 3, "pair"),
     below(b"E: x\n", 3, "pair"),
     below(b"A: x\n", 3, "pair"),
+    below(b"B: x\n", 3, "pair"),
+    below(b"B: =x\n", 3, "pair"),
     below(b"K: =\n", 3, "pair"),
     below(b"C: \n", 3, "pair"),
     below(b"U: \n", 3, "pair"),
@@ -65,6 +69,12 @@ BELOW = [
     below(b"Q: a\nE: k=v\n", 3, "pair"),
     below(b"Q: a\nR: 0\nQ: a\n", 5, "pair"),
     below(b"R: 0\n", 3, "pair"),
+    below(b"Q: a\nR: 0\nR: 0\n", 5, "pair"),
+    below(b"O: a\n", 3, "pair"),
+    below(b"Q: a\nO: a\n", 3, "pair"),
+    below(b"Q: a\nR: 0\nE: a=1\nO: a\n", 6, "pair"),
+    below(b"Q: a\nR: 0 b\nO: c\nR: 0\n", 6, "pair"),
+    below(b"Q: a\nR: 0 b\nO: c\nQ: a\nR: 0\n", 6, "given twice"),
     below(b"R: 999\n", 3, "pair"),
     below(b"Q: a\nR: 256\n", 4, "number"),
     below(b"Q: a\nR: 0000\n", 4, "number"),
@@ -81,7 +91,7 @@ TWICE = [
     below(b"C: add\n", 3, "given twice"),
     *(
         below(line + b"\n" + line + b"\n", 4, "given twice")
-        for line in [b"U: x", b"V: x", b"N: x", b"D: 1:2", b"A: x=1", b"E: x=1", b"G: x", b"S: x", b"K: x=1"]
+        for line in [b"U: x", b"V: x", b"N: x", b"D: 1:2", b"A: x=1", b"E: x=1", b"B: x=1", b"G: x", b"S: x", b"K: x=1"]
     ),
     below(b"A: x=1\nA: x=2\n", 4, "given twice"),
     below(b"U: x\nU: y\n", 4, "given twice"),

@@ -83,7 +83,7 @@ IGNORED = [
         words="verify --ignore comments"),
     linted("a comment that ignores nothing", ("# devdry: ignore W2", "I1 nothing to ignore: W2"), TWO, words="verify --lint --ignore comments"),
     linted("a comment that ignores nothing, without --lint", ("# devdry: ignore W2", "I1 nothing to ignore: W2"), TWO[0], words="verify --ignore comments"),
-    linted("an unknown code", ("# devdry: ignore W26", "I2 unknown code: W26"), TWO, words="verify --lint --ignore comments"),
+    linted("an unknown code", ("# devdry: ignore W28", "I2 unknown code: W28"), TWO, words="verify --lint --ignore comments"),
 ]
 
 # For each lint files that cause it, with its places.
@@ -109,7 +109,7 @@ EACH = {
     "a long value": ['RUN+="<W3|rm ' + "long/" * 12 + '>"'],
 }
 
-# The same for W15 to W25, each in a rule that has no other.
+# The same for W15 to W27, each in a rule that has no other.
 LATER = {
     "W15": ['<W15|MODE>="0660"'],
     "W16": ['KERNEL=="<W16|/dev/sda>"', 'ATTRS{idVendor} == "<W16|421>"'],
@@ -122,6 +122,8 @@ LATER = {
     "W23": ['SUBSYSTEM=="usb", <W23|ENV>{SYSTEMD_WANTS}+="a.service"'],
     "W24": ['KERNEL=="a", RUN+="<W24|/bin/mount /dev/a /mnt>"'],
     "W25": ['<W25|RESULT>=="a"'],
+    "W26": ['SUBSYSTEM=="net", SYMLINK+="<W26|lan>"'],
+    "W27": ['KERNEL=="a", <W27|TAG>+="uaccess"'],
 }
 
 ROWS = [

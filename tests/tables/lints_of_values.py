@@ -1,8 +1,11 @@
 """`verify --lint`: values and names that are most likely not meant (W16 to W19, W22), what rules assign (W20, W21, W23, W24), and
-rules among those of their file (W15, W25, and W6 within a rule).
+rules among those of their file (W15, W25, and W6 within a rule); links of network devices (W26), and what the name of a file says
+about other files (W27, and W6 of what those import).
 
 What is wanted was written by hand, from the tables of docs/behaviour.md.
 """
+from dataclasses import replace
+
 from tables.kinds.linted import all_linted, lint, reported
 
 
@@ -132,9 +135,45 @@ W6 = [
     all_linted("no W6 of other comparisons", 'IMPORT{program}="/bin/a", ENV{MY_SIDE}!="left"', 'IMPORT{program}="/bin/a", ENV{MY_SIDE}=="|left"'),
 ]
 
+W26 = [
+    all_linted("W26", *reported(26, *((f'{match}, SYMLINK+="lan"', "lan") for match in ['SUBSYSTEM=="net"', 'KERNEL=="eth0"', 'KERNEL=="wlan*"', 'ACTION=="add", SUBSYSTEM=="net"']),
+        ('SUBSYSTEM=="net", SYMLINK:="a b"', "a b"))),
+    all_linted("no W26", *(f'{match}, SYMLINK+="lan"' for match in ['SUBSYSTEM=="usb"', 'SUBSYSTEM!="net"', 'SUBSYSTEM=="net|usb"', 'SUBSYSTEMS=="net"', 'KERNEL=="net0"', 'KERNEL!="eth0"', 'KERNEL=="et*"']),
+        'SUBSYSTEM=="net", NAME="lan"', 'SUBSYSTEM=="net", SYMLINK=="lan", TAG+="a"'),
+]
+
+TAG = 'KERNEL=="a", TAG+="uaccess"'
+
+
+def named(title, name, *lines):
+    """A run over a file with this name, of lines as `all_linted` takes them."""
+    row = all_linted(title, *lines)
+    folder = {name: row.files["r.rules"]}
+    return replace(row, words=f"verify --lint {name}", files=folder, messages=row.messages.replace(b"r.rules:", name.encode() + b":"))
+
+
+W27 = [
+    *(named(f"W27 in {name}", name, (TAG, lint(27, "TAG"))) for name in ["99-mine.rules", "mine.rules", "73-usb.rules", "73-seat-late2.rules", "73.rules", "8.rules", "70/99.rules"]),
+    *(named(f"no W27 in {name}", name, TAG) for name in ["70-mine.rules", "73-seat-late.rules", "73-a.rules", "60-z.rules", "99-mine.txt", "99/70-a.rules", "100-a.rules"]),
+    named("W27 of the first tag", "99-mine.rules", 'KERNEL=="b", TAG+="seat"', ('KERNEL=="a", TAG+="uaccess", TAG+="uaccess"', lint(27, "TAG")), TAG),
+    named("no W27 of other tags", "99-mine.rules", 'KERNEL=="a", TAG+="seat"', 'KERNEL=="a", TAG-="uaccess"', 'TAG=="uaccess", MODE="0660"'),
+    named("no W27 in a file that runs the builtin", "99-mine.rules", TAG, 'TAG=="uaccess", RUN{builtin}+="uaccess"'),
+]
+
+LATER_FILES = [
+    *(named(f"W6 of {key} in {name}", name, (f'ENV{{{key}}}=="a", TAG+="t"', lint(6, key))) for name, key in [
+        ("10-mine.rules", "ID_FS_LABEL"), ("10-mine.rules", "ID_PART_ENTRY_NAME"), ("11-a.rules", "ID_FS_TYPE"), ("49-z.rules", "ID_USB_DRIVER"), ("49-z.rules", "ID_PATH"),
+        ("49-z.rules", "ID_PATH_TAG"), ("59-z.rules", "ID_INPUT"), ("60-a.rules", "ID_INPUT_KEY"), ("74-a.rules", "ID_NET_NAME_PATH")]),
+    *(named(f"no W6 of {key} in {name}", name, f'ENV{{{key}}}=="a", TAG+="t"') for name, key in [
+        ("11-e.rules", "ID_FS_LABEL"), ("99-mine.rules", "ID_FS_LABEL"), ("mine.rules", "ID_FS_LABEL"), ("10-mine.txt", "ID_FS_LABEL"), ("50-v.rules", "ID_USB_DRIVER"), ("50-v.rules", "ID_PATH"),
+        ("60-j.rules", "ID_INPUT"), ("76-a.rules", "ID_NET_NAME_PATH"), ("10-mine.rules", "ID_BUS"), ("10-mine.rules", "ID_FS")]),
+    named("no W6 of what a rule above imports from a later file", "10-mine.rules", 'KERNEL=="sd*", IMPORT{builtin}="blkid"', 'ENV{ID_FS_LABEL}=="a", TAG+="t"'),
+    named("no W6 of other comparisons in a file that comes early", "10-mine.rules", 'ENV{ID_FS_LABEL}!="a", TAG+="t"', 'ENV{ID_FS_LABEL}=="", TAG+="t"', 'ENV{ID_FS_LABEL}="a", TAG+="t"'),
+]
+
 ORDER = [
     all_linted("the order of lints", ('RUN="~/a.sh", ATTR{removable}="1", SUBSYSTEM=="NET", ATTRS{idvendor}=="04 | 05"', lint(2, "~/a.sh"), lint(20, "RUN"), lint(21, "ATTR"), lint(16, "NET"),
         lint(17, "04 | 05"), lint(18, "idVendor"))),
 ]
 
-ROWS = [*W15, *W16, *W17, *W18, *W19, *W20, *W21, *W22, *W23, *W24, *W25, *W6, *ORDER]
+ROWS = [*W15, *W16, *W17, *W18, *W19, *W20, *W21, *W22, *W23, *W24, *W25, *W6, *W26, *W27, *LATER_FILES, *ORDER]

@@ -114,6 +114,16 @@ LINTED = [
     told("a name of 28 letters", ('SUBSYSTEM=="net", ATTR{address}=="00:1a:2b:3c:4d:5e", NAME="interface-of-the-first-floor"', lint(22, "interface-of-the-first-floor"))),
     told("a unit that is wanted without the tag", (f'{USB}, ATTR{{idVendor}}=="0421", ENV{{SYSTEMD_WANTS}}+="phone.service"', lint(23, "ENV"))),
     told("a letter left out of SYSTEMD_WANTS", (f'{USB}, TAG+="systemd", ENV{{SYSTEMD_WANT}}+="phone.service"', lint(18, "SYSTEMD_WANTS"))),
+    told("a link of a network card", ('SUBSYSTEM=="net", ATTR{address}=="00:1a:2b:3c:4d:5e", SYMLINK+="lan"', lint(26, "lan"))),
+    told("the tag uaccess in a file that comes late", (f'{USB}, ATTR{{idVendor}}=="0421", TAG+="uaccess"', lint(27, "TAG"))),
+    Row(
+        "a label of a file system in a file that comes early",
+        "verify --lint --udev 10-mine.rules",
+        {"10-mine.rules": b'SUBSYSTEM=="block", ENV{ID_FS_LABEL}=="DATA", SYMLINK+="data"\n'},
+        output="1 files checked, 0 good, 1 bad\n",
+        messages=b"10-mine.rules:1: " + lint(6, "ID_FS_LABEL").encode() + b"\n",
+        status=1,
+    ),
     told("a link with /dev/, which udev leaves out", 'KERNEL=="ttyUSB0", SYMLINK+="/dev/modem"'),
     told("a name outside net", ('SUBSYSTEM=="tty", NAME="modem"', lint(8, "modem"))),
 ]
@@ -124,9 +134,6 @@ SILENT = [
     told("the pattern of a whole disk for its partitions", 'KERNEL=="sd[a-z]", SUBSYSTEM=="block", SYMLINK+="part"'),
     told("a blank in a link, which makes two", 'KERNEL=="ttyUSB0", SYMLINK+="my port"'),
     told("a blank at the end of a value", 'KERNEL=="sda", ATTR{queue/scheduler}="none "'),
-    told("a label of a file system in a file that comes early", 'SUBSYSTEM=="block", ENV{ID_FS_LABEL}=="DATA", SYMLINK+="data"'),
-    told("the tag uaccess in a file that comes late", f'{USB}, ATTR{{idVendor}}=="0421", TAG+="uaccess"'),
-    told("a link of a network card", 'SUBSYSTEM=="net", ATTR{address}=="00:1a:2b:3c:4d:5e", SYMLINK+="lan"'),
     told("a file that is tested by its path", 'KERNEL=="sda", TEST=="/etc/mine", SYMLINK+="mine"'),
 ]
 

@@ -223,6 +223,11 @@ CASES = [
       'IMPORT{builtin}!="hwdb usb:v9", ENV{B}="1"\n'),
      THING,
      ['env B=1']),
+    ('an attribute of a device that the block does not have, in a command of hwdb',
+     ('IMPORT{builtin}!="hwdb \'pci:$attr{[dmi/id]modalias}%s{[dmi/id]x}\'", ENV{A}="1"\n' +
+      'IMPORT{builtin}="hwdb usb:v1$attr{[usb/usb1]none}%s{none}", ENV{B}="1"\n'),
+     THING,
+     ['env A=1', 'env B=1', 'env ID_X=1', 'note r.rules:1: attribute not read: [dmi/id]modalias']),
     ("a prefix of a builtin's name",
      'IMPORT{builtin}="h usb:v1", ENV{A}="1"\n',
      THING,

@@ -74,6 +74,13 @@ NOTED = [
     ('an answer of a builtin',
      'IMPORT{builtin}=="blkid --noraid", ENV{A}="1"\nIMPORT{builtin}!="blkid --noraid", ENV{B}="1"\n',
      DISK + "Q: builtin blkid --noraid\nR: 0 ID_FS_TYPE=ext4\rID_FS_UUID=7-8\r\n", ['env A=1', 'env ID_FS_TYPE=ext4', 'env ID_FS_UUID=7-8']),
+    ('an answer of which each line has its own',
+     'IMPORT{builtin}=="blkid", ENV{A}="1"\n',
+     DISK + "Q: builtin blkid\nR: 0 ID_FS_TYPE=ext4\nO: ID_FS_UUID=7-8\rID_B=2\nO: \nO: # x=1\nO: LABEL=a b\n",
+     ['env A=1', 'env ID_B=2', 'env ID_FS_TYPE=ext4', 'env ID_FS_UUID=7-8', 'env LABEL=a b']),
+    ('a result of several lines', 'PROGRAM=="p", ENV{A}="$result"\n', THING + "Q: p\nR: 0 a\nO: b\nO: \nO: c\n", ['env A=a b  c']),
+    ('the first line of an answer may be empty', 'IMPORT{program}=="/p"\n', THING + "Q: /p\nR: 0\nO: A=1\n", ['env A=1']),
+    ('lines of an answer that failed', 'IMPORT{program}!="/p", ENV{B}="1"\n', THING + "Q: /p\nR: 1 A=1\nO: B=2\n", ['env B=1']),
     ('an answer of a builtin that fails', 'IMPORT{builtin}=="btrfs ready $devnode", ENV{A}="1"\nIMPORT{builtin}!="btrfs ready $devnode", ENV{B}="1"\n',
      DISK + "Q: builtin btrfs ready /dev/sda\nR: 1 ID_BTRFS_READY=0\n", ['env B=1']),
     ('an answer of a builtin that IMPORT{program} names, by the beginning of its name', 'IMPORT{program}=="net_d", ENV{A}="1"\n',
@@ -85,6 +92,8 @@ NOTED = [
      ['env A=1', 'note r.rules:1: builtin not run: blkid', 'note r.rules:2: builtin not run: net_driver']),
     ('files of a device that is not in the chain', 'TEST=="[dmi/id]none", ENV{A}="1"\nTEST=="[dmi/id]", ENV{B}="1"\nATTR{[dmi/id]none}!="x", ENV{C}="1"\n', ELSEWHERE,
      ['note r.rules:1: test not made: [dmi/id]none', 'note r.rules:2: test not made: [dmi/id]', 'note r.rules:3: attribute not read: [dmi/id]none']),
+    ('an attribute that the event device has for another, in a command of hwdb', 'IMPORT{builtin}="hwdb usb:v$attr{[dmi/id]x}", ENV{A}="1"\n',
+     THING.replace("E: ID_SOME=1\n", "E: ID_SOME=1\nA: [dmi/id]x=1\n"), ['env A=1', 'env ID_X=1']),
     ('a device of the chain goes before what the event device has', 'ATTR{[usb/usb1]serial}=="7", ENV{A}="1"\nENV{B}="$attr{[usb/usb1]serial}"\nENV{C}="$attr{[usb/usb1]none}|"\n',
      DISK.replace("A: size=2048\n", "A: size=2048\nA: [usb/usb1]serial=8\nA: [usb/usb1]none=8\n"), ['env A=1', 'env B=7', 'env C=|']),
 ]
@@ -97,8 +106,11 @@ def by_the_manual(name, rules, block, *lines):
 
 MANUAL = [
     by_the_manual("by the manual a constant that is not given leaves no note", 'CONST{virt}!="kvm", ENV{A}="1"\n', THING, 'env A=1'),
+    by_the_manual("by the manual no attribute in a command is of another device", 'IMPORT{builtin}!="hwdb x$attr{[dmi/id]y}", ENV{A}="1"\n', THING,
+                  'env A=1'),
     by_the_manual("by the manual no command line is looked at", 'IMPORT{cmdline}!="nomodeset", ENV{A}="1"\n', asked_line("nomodeset"), 'env A=1',
                   'note r.rules:1: import not run: cmdline'),
+    by_the_manual("by the manual a result has carriage returns between its lines", 'PROGRAM=="p", ENV{A}="$result"\n', THING + "Q: p\nR: 0 a\nO: b\n", 'env A=a\rb'),
     by_the_manual("by the manual no builtin is answered", 'IMPORT{builtin}!="blkid", ENV{A}="1"\nIMPORT{builtin}!="keyboard", ENV{B}="1"\n',
                   THING + "Q: builtin blkid\nR: 0 A=2\n", 'env A=1', 'env B=1', 'note r.rules:1: builtin not run: blkid', 'note r.rules:2: builtin not run: keyboard'),
 ]

@@ -62,6 +62,19 @@ Options:
       --lint             Also tell of lines that are most likely not the ones that were meant
   -h, --help             Print help
   -V, --version          Print version
+
+Status:
+  0  the index was written
+  1  there is a message and --strict was given, or there are
+     too many entries, or --all found no file
+  2  the command line is wrong
+  3  a file, a folder or an output failed
+  4  out of memory
+
+Example:
+  devdry update 20-usb.hwdb > hwdb.index
+
+devdry-update(1) says more.
 """
 
 QUERY_HELP = """\
@@ -80,6 +93,19 @@ Options:
       --index <FILE>  Index to read in place of the database's folders
   -h, --help          Print help
   -V, --version       Print version
+
+Status:
+  0  the properties were printed, if there are any
+  1  a line of query - is too long, or there are too many entries,
+     or the index is refused, or --all found no file
+  2  the command line is wrong
+  3  a file, a folder, the input or an output failed
+  4  out of memory
+
+Example:
+  devdry query --sources usb:v1D6Bp0002
+
+devdry-query(1) says more.
 """
 
 VERIFY_HELP = """\
@@ -106,6 +132,18 @@ Options:
       --groups <FILE>    With --udev: groups that GROUP may name, as in /etc/group
   -h, --help             Print help
   -V, --version          Print version
+
+Status:
+  0  no file is bad
+  1  a file is bad, or there are too many rules, or --all found no file
+  2  the command line is wrong
+  3  a file, a folder or an output failed
+  4  out of memory
+
+Example:
+  devdry verify 60-mine.rules
+
+devdry-verify(1) says more.
 """
 
 EVENTS_HELP = """\
@@ -127,6 +165,19 @@ Options:
       --udev               Read and evaluate rules as udev itself does
   -h, --help               Print help
   -V, --version            Print version
+
+Status:
+  0  all blocks were answered
+  1  a block is faulty, or there are too many rules or entries,
+     or the index is refused, or --all found no rules file
+  2  the command line is wrong, or --why names what no rule has
+  3  a file, a folder, the input or an output failed
+  4  out of memory
+
+Example:
+  devdry events 60-mine.rules < disk.block
+
+devdry-events(1) says more.
 """
 
 FILES_HELP = """\
@@ -139,6 +190,18 @@ Options:
       --with <FILE>  Rules or database file to read among those of the folders, by its name
   -h, --help         Print help
   -V, --version      Print version
+
+Status:
+  0  the files were listed
+  1  there is no file
+  2  the command line is wrong
+  3  a file, a folder or an output failed
+  4  out of memory
+
+Example:
+  devdry files -r /mnt
+
+devdry-files(1) says more.
 """
 
 COMPARE_HELP = """\
@@ -157,6 +220,20 @@ Options:
       --udev          Read and evaluate rules as udev itself does
   -h, --help          Print help
   -V, --version       Print version
+
+Status:
+  0  no answer differs
+  1  an answer differs, or a block is faulty, or a root has no
+     rules, or there are too many rules or entries, or the index
+     is refused
+  2  the command line is wrong
+  3  a file, a folder, the input or an output failed
+  4  out of memory
+
+Example:
+  devdry compare /mnt/old /mnt/new < disk.block
+
+devdry-compare(1) says more.
 """
 
 EXPLAIN_HELP = """\
@@ -170,6 +247,17 @@ Arguments:
 Options:
   -h, --help     Print help
   -V, --version  Print version
+
+Status:
+  0  the message was explained
+  2  the command line is wrong, or no message has the code
+  3  an output failed
+  4  out of memory
+
+Example:
+  devdry explain V6
+
+devdry-explain(1) says more.
 """
 
 # what is said about S2; tests/test_explain.sh has the others
@@ -273,7 +361,7 @@ def not_added(path, endings):
 
 NO_SUCH_CODE = """\
 error: invalid value 'V27' for '<CODE>'
-  [possible values: V1, V2, V3, V4, V5, V6, V7, V8, V9, V10, V11, V12, V13, V14, V15, V16, V17, V18, V19, V20, V21, V22, V23, V24, V25, V26, S1, S2, S3, S4, S5, S6, H1, H2, H3, H4, H5, H6, W1, W2, W3, W4, W5, W6, W7, W8, W9, W10, W11, W12, W13, W14, W15, W16, W17, W18, W19, W20, W21, W22, W23, W24, W25, D1, D2, D3, D4, D5, D6, D7, D8, D9, D10, D11, D12, D13, I1, I2]
+  [possible values: V1, V2, V3, V4, V5, V6, V7, V8, V9, V10, V11, V12, V13, V14, V15, V16, V17, V18, V19, V20, V21, V22, V23, V24, V25, V26, S1, S2, S3, S4, S5, S6, H1, H2, H3, H4, H5, H6, W1, W2, W3, W4, W5, W6, W7, W8, W9, W10, W11, W12, W13, W14, W15, W16, W17, W18, W19, W20, W21, W22, W23, W24, W25, W26, W27, D1, D2, D3, D4, D5, D6, D7, D8, D9, D10, D11, D12, D13, I1, I2]
 
 For more information, try '--help'.
 """
@@ -349,11 +437,13 @@ NOT_UNDERSTOOD = [
     ("events --users passwd", "error: unexpected argument '--users' found\n"),
     ("update --groups group", "error: unexpected argument '--groups' found\n"),
     ("events --format gcc", "error: unexpected argument '--format' found\n"),
+    ("query --format json m", "error: unexpected argument '--format' found\n"),
     ("events --ignore V6", "error: unexpected argument '--ignore' found\n"),
     ("update --format=xml a.hwdb", NO_SUCH_FORMAT),
     ("verify --color=yes a.rules", NO_SUCH_COLOR),
     ("update --color= a.hwdb", NO_SUCH_COLOR.replace("yes", "")),
     ("events --color=never", "error: unexpected argument '--color' found\n"),
+    ("query --color=never m", "error: unexpected argument '--color' found\n"),
     ("verify --all --root=", EMPTY_ROOT),
     ("verify --strict --root=", EMPTY_ROOT),
     (["query", "--all", "-r", "", "m"], EMPTY_ROOT),

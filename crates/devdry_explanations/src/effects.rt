@@ -68,3 +68,34 @@ Start a service by SYSTEMD_WANTS, or run `systemd-mount`. udev runs commands in 
     $ devdry verify --lint w24-fixed.rules
     1 files checked, 1 good, 0 bad
 "#;
+
+/// Link of a network device.
+pub(crate) const W26: &str = r#"W26 link of a network device
+
+Give the interface a NAME: it has no node, and so no links. udev makes links in `/dev` to nodes, and an interface of the network is no file there. A `.link` file can give it a name, too, and other names that `ip` knows.
+
+    $ cat w26.rules
+    SUBSYSTEM=="net", ATTR{address}=="02:00:00:00:00:01", SYMLINK+="lan"
+    $ devdry verify --lint w26.rules
+    w26.rules:1: W26 link of a network device: lan
+    1 files checked, 0 good, 1 bad
+    $ cat w26-fixed.rules
+    SUBSYSTEM=="net", ATTR{address}=="02:00:00:00:00:01", NAME="lan"
+    $ devdry verify --lint w26-fixed.rules
+    1 files checked, 1 good, 0 bad
+"#;
+
+/// Tag uaccess in a late file.
+pub(crate) const W27: &str = r#"W27 tag uaccess in a late file
+
+Give the file a name before 73-seat-late.rules, such as 70-mine.rules. udev evaluates rules files in the order of their names, and that one gives users at the machine access to devices that have the tag by then. The first rule of the file that gives it is reported. A file with a rule that runs the builtin `uaccess` itself is not reported, nor one whose name does not end in `.rules`.
+
+    $ cat 99-mine.rules
+    SUBSYSTEM=="usb", ATTR{idVendor}=="0421", TAG+="uaccess"
+    $ devdry verify --lint 99-mine.rules
+    99-mine.rules:1: W27 tag uaccess in a late file: TAG
+    1 files checked, 0 good, 1 bad
+    $ mv 99-mine.rules 70-mine.rules
+    $ devdry verify --lint 70-mine.rules
+    1 files checked, 1 good, 0 bad
+"#;

@@ -95,7 +95,7 @@ All ATTRS of a rule are compared with one device: use a rule for each device. In
 /// Property imported further down.
 pub(crate) const W6: &str = r#"W6 property imported further down
 
-Move the import of the property to a rule above this one. The matches of a rule are compared before its imports, so an import in this rule comes too late as well. What an earlier file imports is not known: ignore W6 there.
+Put the rule below the import of the property, in this file or in a later one. The matches of a rule are compared before its imports, so an import in this rule comes too late as well. The file is compared by its name with those of systemd and of multipath-tools that first import some properties, too: in `10-mine.rules` no `ID_FS_LABEL` is there yet. What other earlier files import is not known: ignore W6 there.
 
     $ cat w6.rules
     SUBSYSTEM=="block", ENV{ID_FS_TYPE}=="ext4", TAG+="disk"

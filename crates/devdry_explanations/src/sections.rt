@@ -90,6 +90,8 @@ fn section_on_lint(lint: Lint) -> &'static str
         Lint::WantedWithoutTag => effects::W23,
         Lint::ForbiddenCommand => effects::W24,
         Lint::NoResultYet => values::W25,
+        Lint::LinkOfNet => effects::W26,
+        Lint::TagTooLate => effects::W27,
     }
 }
 

@@ -16,7 +16,7 @@ pub h_codes : (codes "H1" ∷ codes "H2" ∷ codes "H3" ∷ codes "H4" ∷ codes
 unfolding codes_with heading_parts split_once
 h_codes = refl
 
-pub w_codes : (codes "W1" ∷ codes "W2" ∷ codes "W3" ∷ codes "W4" ∷ codes "W5" ∷ codes "W6" ∷ codes "W7" ∷ codes "W8" ∷ codes "W9" ∷ codes "W10" ∷ codes "W11" ∷ codes "W12" ∷ codes "W13" ∷ codes "W14" ∷ codes "W15" ∷ codes "W16" ∷ codes "W17" ∷ codes "W18" ∷ codes "W19" ∷ codes "W20" ∷ codes "W21" ∷ codes "W22" ∷ codes "W23" ∷ codes "W24" ∷ codes "W25" ∷ []) ≡ codes_with (codes "W")
+pub w_codes : (codes "W1" ∷ codes "W2" ∷ codes "W3" ∷ codes "W4" ∷ codes "W5" ∷ codes "W6" ∷ codes "W7" ∷ codes "W8" ∷ codes "W9" ∷ codes "W10" ∷ codes "W11" ∷ codes "W12" ∷ codes "W13" ∷ codes "W14" ∷ codes "W15" ∷ codes "W16" ∷ codes "W17" ∷ codes "W18" ∷ codes "W19" ∷ codes "W20" ∷ codes "W21" ∷ codes "W22" ∷ codes "W23" ∷ codes "W24" ∷ codes "W25" ∷ codes "W26" ∷ codes "W27" ∷ []) ≡ codes_with (codes "W")
 unfolding codes_with heading_parts split_once
 w_codes = refl
 

@@ -158,6 +158,10 @@ format_of_events : fault_of devdry (codes "events" ∷ codes "--format" ∷ code
 unfolding clap_on_literals devdry
 format_of_events = refl
 
+format_of_query : fault_of devdry (codes "query" ∷ codes "--format" ∷ codes "json" ∷ codes "usb:v1" ∷ []) ≡ kind.UnknownArgument ∷ []
+unfolding clap_on_literals devdry
+format_of_query = refl
+
 questions_are_asked : option_map {U = Bool × (Profile × List Text)} (λ p. (is_set (codes "questions") p.1, (profile_of Events p.1, texts_of (codes "FILE") p.1))) (subcommand_of devdry (codes "events" ∷ codes "--questions" ∷ codes "--udev" ∷ codes "a.rules" ∷ []))
     ≡ Some (true, (Udev, codes "a.rules" ∷ []))
 unfolding clap_on_literals devdry
@@ -215,9 +219,9 @@ color_is_asked : option_map {U = Option Color} (λ p. color_of p.1) (subcommand_
 unfolding clap_on_literals devdry
 color_is_asked = refl
 
-color_of_events : fault_of devdry (codes "events" ∷ codes "--color=never" ∷ []) ≡ kind.UnknownArgument ∷ []
+color_of_query : fault_of devdry (codes "query" ∷ codes "--color=never" ∷ codes "usb:v1" ∷ []) ≡ kind.UnknownArgument ∷ []
 unfolding clap_on_literals devdry
-color_of_events = refl
+color_of_query = refl
 
 empty_root_of_files_is_refused : refused (codes "files" ∷ codes "-r" ∷ [] ∷ []) ≡ Some (Some EmptyRoot)
 unfolding clap_on_literals devdry
@@ -340,6 +344,6 @@ each_color_is_found Auto = refl
 each_color_is_found Always = refl
 each_color_is_found Never = refl
 
-pub each_code_is_listed : codes "V1, V2, V3, V4, V5, V6, V7, V8, V9, V10, V11, V12, V13, V14, V15, V16, V17, V18, V19, V20, V21, V22, V23, V24, V25, V26, S1, S2, S3, S4, S5, S6, H1, H2, H3, H4, H5, H6, W1, W2, W3, W4, W5, W6, W7, W8, W9, W10, W11, W12, W13, W14, W15, W16, W17, W18, W19, W20, W21, W22, W23, W24, W25, D1, D2, D3, D4, D5, D6, D7, D8, D9, D10, D11, D12, D13, I1, I2" ≡ known_codes
+pub each_code_is_listed : codes "V1, V2, V3, V4, V5, V6, V7, V8, V9, V10, V11, V12, V13, V14, V15, V16, V17, V18, V19, V20, V21, V22, V23, V24, V25, V26, S1, S2, S3, S4, S5, S6, H1, H2, H3, H4, H5, H6, W1, W2, W3, W4, W5, W6, W7, W8, W9, W10, W11, W12, W13, W14, W15, W16, W17, W18, W19, W20, W21, W22, W23, W24, W25, W26, W27, D1, D2, D3, D4, D5, D6, D7, D8, D9, D10, D11, D12, D13, I1, I2" ≡ known_codes
 unfolding known_codes listed heading_parts split_once
 each_code_is_listed = refl

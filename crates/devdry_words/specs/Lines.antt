@@ -119,12 +119,10 @@ pub record Reads (verb : Verb) (root : Text) (added : List Text) (rows : List Ro
   pub sources : line.sources ≡ is_set (codes "sources") rows
   pub why : map (λ w. w.now) line.why.items ≡ texts_of (codes "why") rows
   pub questions : line.questions ≡ is_set (codes "questions") rows
-  pub unused : line.unused ≡ is_set (codes "unused") rows
   pub modalias : line.modalias.now ≡ text_of (codes "MODALIAS") rows
   pub summary : line.summary ≡ not (is_set (codes "no-summary") rows)
   pub style : line.style ≡ not (is_set (codes "no-style") rows)
   pub lint : line.lint ≡ is_set_or_every verb (codes "lint") rows
-  pub checks_links : line.checks_links ≡ is_set (codes "links") rows
   pub format : line.format ≡ unwrap_or (format_of rows) Plain
   pub color : line.color ≡ unwrap_or (color_of rows) Auto
   pub all : line.all ≡ is_set_or_every verb (codes "all") rows

@@ -25,7 +25,7 @@ const H_CODES: &[&str] = &["H1", "H2", "H3", "H4", "H5", "H6"];
 /// The codes of lints.
 const W_CODES: &[&str] = &[
     "W1", "W2", "W3", "W4", "W5", "W6", "W7", "W8", "W9", "W10", "W11", "W12", "W13", "W14", "W15",
-    "W16", "W17", "W18", "W19", "W20", "W21", "W22", "W23", "W24", "W25",
+    "W16", "W17", "W18", "W19", "W20", "W21", "W22", "W23", "W24", "W25", "W26", "W27",
 ];
 
 /// The codes of lints of the database.

@@ -5,7 +5,9 @@
 #![tactic(auto)]
 
 mod added;
+mod arguments;
 mod commands;
+mod endings;
 mod ignored;
 mod line_reading;
 mod parse;

@@ -3,9 +3,8 @@ use Rattle.std.proofs.Common.{◌≡◌, Bool, true, false, not, List, [], ◌�
 use Rattle.text_tables.specs.Texts.{Text}
 use Rattle.text_tables.specs.Pairs.{Pair, named, with_value}
 use Rattle.text_tables.proofs.Found.{set_after}
-use Rattle.device_core.specs.Values.{AnswerValue}
-use Rattle.device_core.specs.Parts.{pair_of, answer_of}
-use Rattle.device_core.specs.Steps.{pair_step, answer_step}
+use Rattle.device_core.specs.Parts.{pair_of}
+use Rattle.device_core.specs.Steps.{pair_step}
 
 new_is : (new known : Bool) → new ≡ not known → new ≡ true → known ≡ false
 new_is new true h e = cc
@@ -21,7 +20,3 @@ module _ {V : Type 0} (known after : List (Text × V)) (name : Text) (value : V)
 pub pair_added : (known after : List Pair) (name value rest : Text) (new : Bool) → pair_of rest ≡ Some (name, value) → new ≡ not (named known name) → new ≡ true → after ≡ with_value known name value → pair_step known rest ≡ Ok after
 unfolding pair_step
 pair_added known after name value rest new e says is kept = rw (e, fresh known after name value new says is kept) (ap Ok (sym (following known after name value new says is kept)))
-
-pub answer_added : (known after : List (Text × AnswerValue)) (command rest : Text) (answer : AnswerValue) (new : Bool) → answer_of rest ≡ Some answer → new ≡ not (named known command) → new ≡ true → after ≡ with_value known command answer → answer_step known (Some command) rest ≡ Ok after
-unfolding answer_step
-answer_added known after command rest answer new e says is kept = rw (e, fresh known after command answer new says is kept) (ap Ok (sym (following known after command answer new says is kept)))

@@ -7,9 +7,9 @@ use Rattle.device_core.specs.Values.{DeviceValue, most_devices}
 use Rattle.device_core.specs.Lines.{Row}
 use Rattle.device_core.specs.Parts.{is_parent_path, is_device_path}
 use Rattle.text_bytes.specs.Texts.{is_empty}
-use Rattle.device_core.specs.Steps.{Sofar, if_ok, begun, unasked, path_step, device_step, above_step, pair_step, command_step, answer_step, row_step, plain_row, then_row, line_step}
+use Rattle.device_core.specs.Steps.{Sofar, if_ok, begun, unasked, settled, path_step, device_step, above_step, pair_step, command_step, answer_step, output_step, row_step, plain_row, then_row, line_step}
 use Rattle.device_core.specs.declared.lines.LineKind.{LineKind}
-use Rattle.device_core.specs.declared.lines.LineKind.TheVariants.{Action, Device, Field, Constant, Command, Answer}
+use Rattle.device_core.specs.declared.lines.LineKind.TheVariants.{Action, Device, Field, Constant, Command, Answer, Output}
 use Rattle.device_core.specs.declared.faults.BlockFaultKind.{BlockFaultKind}
 use Rattle.device_core.specs.declared.faults.BlockFaultKind.TheVariants.{Twice, Path, Pair, TooDeep}
 
@@ -45,11 +45,12 @@ few_device s rest (Some d) is few = by (nat_le 63 (length s.closed)) refl
 few_row : (s : Sofar) (kind : LineKind) (rest : Text) (answered : Bool) → IsFew s → IfOk (row_step s kind rest answered) IsFew
 unfolding row_step device_step
 few_row s Action rest answered few = few_again (is_empty rest)
-few_row s Device rest answered few = few_device s rest s.last refl few
-few_row s (Field field) rest answered few = few_if (λ d. record s { last = Some d; asked = None }) (λ _. few) (above_step s.last field rest)
-few_row s Constant rest answered few = few_if (λ ps. record s { constants = ps; asked = None }) (λ _. few) (pair_step s.constants rest)
-few_row s Command rest answered few = few_if (λ c. record s { asked = Some c }) (λ _. few) (command_step s.programs rest answered)
-few_row s Answer rest answered few = few_if (λ ps. record s { programs = ps; asked = None }) (λ _. few) (answer_step s.programs s.asked rest)
+few_row s Device rest answered few = few_device (settled s) rest s.last refl few
+few_row s (Field field) rest answered few = few_if (λ d. record (settled s) { last = Some d; asked = None }) (λ _. few) (above_step s.last field rest)
+few_row s Constant rest answered few = few_if (λ ps. record (settled s) { constants = ps; asked = None }) (λ _. few) (pair_step s.constants rest)
+few_row s Command rest answered few = few_if (λ c. record (settled s) { asked = Some c }) (λ _. few) (command_step (settled s).programs rest answered)
+few_row s Answer rest answered few = few_if (λ p. record (settled s) { pending = Some p; asked = None }) (λ _. few) (answer_step s.asked rest)
+few_row s Output rest answered few = few_if (λ p. record s { pending = Some p; asked = None }) (λ _. few) (output_step s.pending rest)
 
 few_line : (s : Sofar) (answered : Bool) (row : Result Row BlockFaultKind) → IsFew s → IfOk (then_row s answered row) IsFew
 few_line s answered (Err kind) few = tt

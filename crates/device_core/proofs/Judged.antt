@@ -10,17 +10,17 @@ use Rattle.text_tables.specs.Pairs.{Pair as NameAndValue, named}
 use Rattle.device_core.specs.Lines.{Row, row_of, kind_of, begins_answer}
 use Rattle.device_core.specs.Parts.{pair_of, number_of, answer_of, is_device_path, is_parent_path}
 use Rattle.device_core.specs.Values.{NumberValue, DeviceValue, AnswerValue}
-use Rattle.device_core.specs.Blocks.{is_kind, texts, pairs, answers, programs, groups, devices, event}
-use Rattle.device_core.specs.Faults.{device_above, follows_command, is_wrong_number, is_half_field, has_field, has_name, first_of, row_fault, has_nul, line_fault, fault_unless, unless_faulty, given_with, given_below, given_by}
-use Rattle.device_core.specs.Steps.{if_ok, once_step, number_step, number_once, pair_step, with_pair, member_step, field_step, Sofar, bare_device, begun, unasked, path_step, device_step, above_step, command_step, answer_step, with_answer, row_step, plain_row, known_row, line_step, then_row, first_step, action_in, action_by, nothing_read, then_steps, steps, finished_event, with_devices, then_finished, after_first, read_lines}
+use Rattle.device_core.specs.Blocks.{is_kind, texts, pairs, answers, change_last, programs, groups, devices, event}
+use Rattle.device_core.specs.Faults.{device_above, follows_command, follows_answer, is_wrong_number, is_half_field, has_field, has_name, first_of, row_fault, has_nul, line_fault, fault_unless, unless_faulty, given_with, given_below, given_by}
+use Rattle.device_core.specs.Steps.{if_ok, once_step, number_step, number_once, pair_step, with_pair, member_step, field_step, Sofar, bare_device, begun, unasked, settled, path_step, device_step, above_step, command_step, answer_step, output_step, with_answer, row_step, plain_row, known_row, line_step, then_row, first_step, action_in, action_by, nothing_read, then_steps, steps, finished_event, with_devices, then_finished, after_first, read_lines}
 use Rattle.device_core.specs.declared.lines.DeviceField.{DeviceField}
-use Rattle.device_core.specs.declared.lines.DeviceField.TheVariants.{Subsystem, Driver, Node, Devnum, Attribute, Property, Tag, Link}
+use Rattle.device_core.specs.declared.lines.DeviceField.TheVariants.{Subsystem, Driver, Node, Devnum, Attribute, Property, Stored, Tag, Link}
 use Rattle.device_core.specs.declared.lines.LineKind.{LineKind}
-use Rattle.device_core.specs.declared.lines.LineKind.TheVariants.{Action, Device, Field, Constant, Command, Answer}
+use Rattle.device_core.specs.declared.lines.LineKind.TheVariants.{Action, Device, Field, Constant, Command, Answer, Output}
 use Rattle.device_core.specs.declared.faults.BlockFaultKind.{BlockFaultKind}
 use Rattle.device_core.specs.declared.faults.BlockFaultKind.TheVariants.{NoAction, NoDevice, Twice, Path, Number, Pair, Nul, TooDeep}
-use Rattle.device_core.proofs.Rows.{added, kept, with_row, change_last, devices_more, devices_begins, change_end}
-use Rattle.device_core.proofs.Holding.{above_is, IsFresh, IsNext, Holds, Agrees, IsQuiet, named_zip, still, constant_on, command_on, answer_on}
+use Rattle.device_core.proofs.Rows.{added, kept, with_row, devices_more, devices_begins, change_end}
+use Rattle.device_core.proofs.Holding.{above_is, IsFresh, IsNext, Holds, Agrees, IsQuiet, named_zip, still, constant_on, command_on, answer_on, output_on}
 
 -- ---- a line about the device above
 
@@ -67,18 +67,20 @@ field_agrees above d Node rest = once_agrees (λ o. record d { node = o }) (is_e
 field_agrees above d Devnum rest = number_agrees (λ o. record d { number = o }) d.number (number_of rest)
 field_agrees above d Attribute rest = pair_agrees (λ ps. record d { attrs = ps }) d.attrs (pair_of rest)
 field_agrees above d Property rest = pair_agrees (λ ps. record d { env = ps }) d.env (pair_of rest)
+field_agrees above d Stored rest = pair_agrees (λ ps. record d { stored = ps }) d.stored (pair_of rest)
 field_agrees above d Tag rest = member_agrees (λ ts. record d { tags = ts }) d.tags rest (is_empty rest) (is_among d.tags rest)
 field_agrees above d Link rest = member_agrees (λ ts. record d { links = ts }) d.links rest (is_empty rest) (is_among d.links rest)
 
 field_quiet : (field : DeviceField) (rest : Text) → IsQuiet (Field field, rest)
-field_quiet Subsystem rest = record { no_action = refl; no_constant = refl; no_command = refl; no_answer = refl }
-field_quiet Driver rest = record { no_action = refl; no_constant = refl; no_command = refl; no_answer = refl }
-field_quiet Node rest = record { no_action = refl; no_constant = refl; no_command = refl; no_answer = refl }
-field_quiet Devnum rest = record { no_action = refl; no_constant = refl; no_command = refl; no_answer = refl }
-field_quiet Attribute rest = record { no_action = refl; no_constant = refl; no_command = refl; no_answer = refl }
-field_quiet Property rest = record { no_action = refl; no_constant = refl; no_command = refl; no_answer = refl }
-field_quiet Tag rest = record { no_action = refl; no_constant = refl; no_command = refl; no_answer = refl }
-field_quiet Link rest = record { no_action = refl; no_constant = refl; no_command = refl; no_answer = refl }
+field_quiet Subsystem rest = record { no_action = refl; no_constant = refl; no_command = refl; no_answer = λ given. refl; no_output = refl }
+field_quiet Driver rest = record { no_action = refl; no_constant = refl; no_command = refl; no_answer = λ given. refl; no_output = refl }
+field_quiet Node rest = record { no_action = refl; no_constant = refl; no_command = refl; no_answer = λ given. refl; no_output = refl }
+field_quiet Devnum rest = record { no_action = refl; no_constant = refl; no_command = refl; no_answer = λ given. refl; no_output = refl }
+field_quiet Attribute rest = record { no_action = refl; no_constant = refl; no_command = refl; no_answer = λ given. refl; no_output = refl }
+field_quiet Property rest = record { no_action = refl; no_constant = refl; no_command = refl; no_answer = λ given. refl; no_output = refl }
+field_quiet Stored rest = record { no_action = refl; no_constant = refl; no_command = refl; no_answer = λ given. refl; no_output = refl }
+field_quiet Tag rest = record { no_action = refl; no_constant = refl; no_command = refl; no_answer = λ given. refl; no_output = refl }
+field_quiet Link rest = record { no_action = refl; no_constant = refl; no_command = refl; no_answer = λ given. refl; no_output = refl }
 
 field_no_device : (field : DeviceField) (rest : Text) → is_kind Device (Field field, rest) ≡ false
 field_no_device Subsystem rest = refl
@@ -87,6 +89,7 @@ field_no_device Node rest = refl
 field_no_device Devnum rest = refl
 field_no_device Attribute rest = refl
 field_no_device Property rest = refl
+field_no_device Stored rest = refl
 field_no_device Tag rest = refl
 field_no_device Link rest = refl
 
@@ -100,7 +103,7 @@ field_fault_none above field rest below begun is = rw (begun, is) refl
 
 module _ (above : List Row) (action : Text) (s : Sofar) (below : List Text) (h : Holds above action s) where
   field_step_on : (field : DeviceField) (rest : Text) (d : DeviceValue) → s.last ≡ Some d → s.asked ≡ None → (r : Result DeviceValue BlockFaultKind) → FieldAgrees (with_row d (Field field, rest)) (field_fault above d field rest) r
-      → Agrees (above ++ (Field field, rest) ∷ []) action below (row_fault above (Field field) rest below) (if_ok (λ e. record s { last = Some e; asked = None }) r)
+      → Agrees (above ++ (Field field, rest) ∷ []) action below (row_fault above (Field field) rest below) (if_ok (λ e. record (settled s) { last = Some e; asked = None }) r)
   field_step_on field rest d is idle (Err kind) agrees = field_fault_is above field rest below d h.begun_are (above_is above action s h ∙ is) ∙ agrees
   field_step_on field rest d is idle (Ok e) agrees =
       let row : Row = (Field field, rest) in
@@ -108,7 +111,7 @@ module _ (above : List Row) (action : Text) (s : Sofar) (below : List Text) (h :
       (field_fault_is above field rest below d h.begun_are (above_is above action s h ∙ is) ∙ agrees.0, still above action s h row (field_quiet field rest) idle s.closed e are, tt)
 
   field_row : (field : DeviceField) (rest : Text) → s.asked ≡ None → (o : Option DeviceValue) → s.last ≡ o
-      → Agrees (above ++ (Field field, rest) ∷ []) action below (row_fault above (Field field) rest below) (if_ok (λ e. record s { last = Some e; asked = None }) (above_step o field rest))
+      → Agrees (above ++ (Field field, rest) ∷ []) action below (row_fault above (Field field) rest below) (if_ok (λ e. record (settled s) { last = Some e; asked = None }) (above_step o field rest))
   unfolding above_step
   field_row field rest idle None is = field_fault_none above field rest below h.begun_are (above_is above action s h ∙ is)
   field_row field rest idle (Some d) is = field_step_on field rest d is idle (field_step d field rest) (field_agrees above d field rest)
@@ -130,22 +133,22 @@ module _ (above : List Row) (action : Text) (s : Sofar) (below : List Text) (h :
       let are : devices above ≡ s.closed ++ d ∷ [] = h.devices_are ∙ ap (λ o. s.closed ++ option_to_list o) is in
       rw (h.begun_are, are, deep_is s.closed d, above_is above action s h ∙ is) refl
 
-  begun_on : (rest : Text) → s.asked ≡ None → Holds (above ++ (Device, rest) ∷ []) action (begun (unasked s) rest)
-  begun_on rest idle = still above action s h (Device, rest) (record { no_action = refl; no_constant = refl; no_command = refl; no_answer = refl }) idle (s.closed ++ option_to_list s.last) (bare_device rest) (devices_begins above rest ∙ ap (λ ds. ds ++ bare_device rest ∷ []) h.devices_are)
+  begun_on : (rest : Text) → s.asked ≡ None → Holds (above ++ (Device, rest) ∷ []) action (begun (unasked (settled s)) rest)
+  begun_on rest idle = still above action s h (Device, rest) (record { no_action = refl; no_constant = refl; no_command = refl; no_answer = λ given. refl; no_output = refl }) idle (s.closed ++ option_to_list s.last) (bare_device rest) (devices_begins above rest ∙ ap (λ ds. ds ++ bare_device rest ∷ []) h.devices_are)
 
   device_row : (rest : Text) → s.asked ≡ None → (o : Option DeviceValue) → s.last ≡ o
-      → Agrees (above ++ (Device, rest) ∷ []) action below (row_fault above Device rest below) (if_ok (λ _. begun (unasked s) rest) (path_step (length s.closed) o rest))
+      → Agrees (above ++ (Device, rest) ∷ []) action below (row_fault above Device rest below) (if_ok (λ _. begun (unasked (settled s)) rest) (path_step (length s.closed) o rest))
   unfolding path_step
   device_row rest idle None is = by (is_device_path rest) (device_fault_first rest is) (begun_on rest idle)
     where
-      by : (t : Bool) → row_fault above Device rest below ≡ (if not t then Some Path else None) → Holds (above ++ (Device, rest) ∷ []) action (begun (unasked s) rest)
-          → Agrees (above ++ (Device, rest) ∷ []) action below (row_fault above Device rest below) (if_ok {X = Unit {0}} (λ _. begun (unasked s) rest) (if t then Ok tt else Err Path))
+      by : (t : Bool) → row_fault above Device rest below ≡ (if not t then Some Path else None) → Holds (above ++ (Device, rest) ∷ []) action (begun (unasked (settled s)) rest)
+          → Agrees (above ++ (Device, rest) ∷ []) action below (row_fault above Device rest below) (if_ok {X = Unit {0}} (λ _. begun (unasked (settled s)) rest) (if t then Ok tt else Err Path))
       by true e on = (e, on, tt)
       by false e on = e
   device_row rest idle (Some d) is = by (nat_le 63 (length s.closed)) (is_parent_path d.path rest) (device_fault_more rest d is) (begun_on rest idle)
     where
-      by : (u t : Bool) → row_fault above Device rest below ≡ (if u then Some TooDeep else (if not t then Some Path else None)) → Holds (above ++ (Device, rest) ∷ []) action (begun (unasked s) rest)
-          → Agrees (above ++ (Device, rest) ∷ []) action below (row_fault above Device rest below) (if_ok {X = Unit {0}} (λ _. begun (unasked s) rest) (if u then Err TooDeep else (if t then Ok tt else Err Path)))
+      by : (u t : Bool) → row_fault above Device rest below ≡ (if u then Some TooDeep else (if not t then Some Path else None)) → Holds (above ++ (Device, rest) ∷ []) action (begun (unasked (settled s)) rest)
+          → Agrees (above ++ (Device, rest) ∷ []) action below (row_fault above Device rest below) (if_ok {X = Unit {0}} (λ _. begun (unasked (settled s)) rest) (if u then Err TooDeep else (if t then Ok tt else Err Path)))
       by true t e on = e
       by false true e on = (e, on, tt)
       by false false e on = e
@@ -172,26 +175,26 @@ module _ (above : List Row) (action : Text) (s : Sofar) (below : List Text) (h :
   constant_fault rest = rw (h.begun_are, h.constants_are) refl
 
   constant_named : (rest : Text) (pair : NameAndValue) → pair_of rest ≡ Some pair → s.asked ≡ None → (t : Bool) → row_fault above Constant rest below ≡ (if t then Some Twice else None)
-      → Agrees (above ++ (Constant, rest) ∷ []) action below (row_fault above Constant rest below) (if_ok (λ ps. record s { constants = ps; asked = None }) (if t then Err Twice else Ok (s.constants ++ pair ∷ [])))
+      → Agrees (above ++ (Constant, rest) ∷ []) action below (row_fault above Constant rest below) (if_ok (λ ps. record (settled s) { constants = ps; asked = None }) (if t then Err Twice else Ok (s.constants ++ pair ∷ [])))
   constant_named rest pair is idle true e = e
   constant_named rest pair is idle false e = (e, constant_on above action s h rest pair is idle, tt)
 
   constant_row : (rest : Text) → s.asked ≡ None → (o : Option NameAndValue) → pair_of rest ≡ o
       → row_fault above Constant rest below ≡ (if is_none o then Some Pair else (if has_name s.constants o then Some Twice else None))
-      → Agrees (above ++ (Constant, rest) ∷ []) action below (row_fault above Constant rest below) (if_ok (λ ps. record s { constants = ps; asked = None }) (with_pair s.constants o))
+      → Agrees (above ++ (Constant, rest) ∷ []) action below (row_fault above Constant rest below) (if_ok (λ ps. record (settled s) { constants = ps; asked = None }) (with_pair s.constants o))
   constant_row rest idle None is e = e
   constant_row rest idle (Some pair) is e = constant_named rest pair is idle (named s.constants pair.0) e
 
-  command_fault : (rest : Text) → s.asked ≡ None → row_fault above Command rest below ≡ (if is_empty rest || not (begins_answer below) then Some Pair else (if named s.programs rest then Some Twice else None))
+  command_fault : (rest : Text) → s.asked ≡ None → row_fault above Command rest below ≡ (if is_empty rest || not (begins_answer below) then Some Pair else (if named (settled s).programs rest then Some Twice else None))
   unfolding row_fault
   command_fault rest idle =
       let are : texts Command above ≡ h.answered = h.asked_are ∙ ap (λ o. h.answered ++ option_to_list o) idle ∙ append-nil h.answered in
-      let same : is_among (texts Command above) rest ≡ named s.programs rest = ap (λ ts. is_among ts rest) are ∙ sym (named_zip h.answered (answers above) rest h.as_many) ∙ ap (λ ps. named ps rest) h.programs_are in
+      let same : is_among (texts Command above) rest ≡ named (settled s).programs rest = ap (λ ts. is_among ts rest) are ∙ sym (named_zip h.answered (answers above) rest h.as_many) ∙ ap (λ ps. named ps rest) h.programs_are in
       rw (h.begun_are, same) refl
 
-  command_row : (rest : Text) → s.asked ≡ None → (empty next again : Bool) → begins_answer below ≡ next → named s.programs rest ≡ again
+  command_row : (rest : Text) → s.asked ≡ None → (empty next again : Bool) → begins_answer below ≡ next → named (settled s).programs rest ≡ again
       → row_fault above Command rest below ≡ (if empty || not next then Some Pair else (if again then Some Twice else None))
-      → Agrees (above ++ (Command, rest) ∷ []) action below (row_fault above Command rest below) (if_ok (λ c. record s { asked = Some c }) (if empty || not next then Err Pair else (if again then Err Twice else Ok rest)))
+      → Agrees (above ++ (Command, rest) ∷ []) action below (row_fault above Command rest below) (if_ok (λ c. record (settled s) { asked = Some c }) (if empty || not next then Err Pair else (if again then Err Twice else Ok rest)))
   command_row rest idle true next again n a e = e
   command_row rest idle false false again n a e = e
   command_row rest idle false true true n a e = e
@@ -201,21 +204,32 @@ module _ (above : List Row) (action : Text) (s : Sofar) (below : List Text) (h :
   unfolding row_fault
   answer_fault rest = rw h.follows refl
 
-  answer_known : (rest command : Text) (o : Option AnswerValue) → s.asked ≡ Some command → named s.programs command ≡ false → answer_of rest ≡ o
+  answer_known : (rest command : Text) (o : Option AnswerValue) → s.asked ≡ Some command → answer_of rest ≡ o
       → row_fault above Answer rest below ≡ (if is_none o then Some Number else None)
-      → Agrees (above ++ (Answer, rest) ∷ []) action below (row_fault above Answer rest below) (if_ok (λ ps. record s { programs = ps; asked = None }) (with_answer s.programs command o))
-  answer_known rest command None waits new is e = e
-  answer_known rest command (Some answer) waits new is e = rw new (e, answer_on above action s h rest command answer is waits, tt)
+      → Agrees (above ++ (Answer, rest) ∷ []) action below (row_fault above Answer rest below) (if_ok (λ p. record (settled s) { pending = Some p; asked = None }) (with_answer command o))
+  answer_known rest command None waits is e = e
+  answer_known rest command (Some answer) waits is e = (e, answer_on above action s h rest command answer is waits, tt)
 
-  answer_row : (rest : Text) (o : Option Text) → s.asked ≡ o → IsFresh o s.programs
+  answer_row : (rest : Text) (o : Option Text) → s.asked ≡ o
       → row_fault above Answer rest below ≡ (if is_some o && is_none (answer_of rest) then Some Number else (if not (is_some o) then Some Pair else None))
-      → Agrees (above ++ (Answer, rest) ∷ []) action below (row_fault above Answer rest below) (if_ok (λ ps. record s { programs = ps; asked = None }) (answer_step s.programs o rest))
+      → Agrees (above ++ (Answer, rest) ∷ []) action below (row_fault above Answer rest below) (if_ok (λ p. record (settled s) { pending = Some p; asked = None }) (answer_step o rest))
   unfolding answer_step
-  answer_row rest None waits fresh e = e
-  answer_row rest (Some command) waits fresh e = answer_known rest command (answer_of rest) waits fresh refl (e ∙ both (is_none (answer_of rest)))
+  answer_row rest None waits e = e
+  answer_row rest (Some command) waits e = answer_known rest command (answer_of rest) waits refl (e ∙ both (is_none (answer_of rest)))
     where
       both : (t : Bool) → (if t then Some Number else None) ≡ (if t then Some Number else None)
       both t = refl
+
+  output_fault : (rest : Text) → row_fault above Output rest below ≡ (if not (is_some s.pending) then Some Pair else None)
+  unfolding row_fault
+  output_fault rest = rw (h.begun_are, h.prints) refl
+
+  output_row : (rest : Text) → s.asked ≡ None → (o : Option (Text × AnswerValue)) → s.pending ≡ o
+      → row_fault above Output rest below ≡ (if not (is_some o) then Some Pair else None)
+      → Agrees (above ++ (Output, rest) ∷ []) action below (row_fault above Output rest below) (if_ok (λ p. record s { pending = Some p; asked = None }) (output_step o rest))
+  unfolding output_step
+  output_row rest idle None is e = e
+  output_row rest idle (Some p) is e = (e, output_on above action s h rest p is idle, tt)
 
 -- ---- a line
 
@@ -231,8 +245,9 @@ row_agrees above action s Action rest below h idle = action_row above action s b
 row_agrees above action s Device rest below h idle = device_row above action s below h rest idle s.last refl
 row_agrees above action s (Field field) rest below h idle = field_row above action s below h field rest idle s.last refl
 row_agrees above action s Constant rest below h idle = constant_row above action s below h rest idle (pair_of rest) refl (constant_fault above action s below h rest)
-row_agrees above action s Command rest below h idle = command_row above action s below h rest idle (is_empty rest) (begins_answer below) (named s.programs rest) refl refl (command_fault above action s below h rest idle)
-row_agrees above action s Answer rest below h idle = answer_row above action s below h rest s.asked refl h.fresh (answer_fault above action s below h rest)
+row_agrees above action s Command rest below h idle = command_row above action s below h rest idle (is_empty rest) (begins_answer below) (named (settled s).programs rest) refl refl (command_fault above action s below h rest idle)
+row_agrees above action s Answer rest below h idle = answer_row above action s below h rest s.asked refl (answer_fault above action s below h rest)
+row_agrees above action s Output rest below h idle = output_row above action s below h rest idle s.pending refl (output_fault above action s below h rest)
 
 none_waits : (kind : LineKind) → NoneWaits None kind
 none_waits Action = refl
@@ -241,6 +256,7 @@ none_waits (Field field) = refl
 none_waits Constant = refl
 none_waits Command = refl
 none_waits Answer = tt
+none_waits Output = refl
 
 both_true : (a b : Bool) → (a && b) ≡ true → (a ≡ true) × (b ≡ true)
 both_true true b h = (refl, h)
@@ -301,7 +317,7 @@ counted above line below e = counted_by above below (has_nul line) (row_of line)
 -- ---- the end
 
 module _ (above : List Row) (action : Text) (s : Sofar) (h : Holds above action s) where
-  event_is : s.asked ≡ None → (device : DeviceValue) (parents : List DeviceValue) → event above device parents ≡ record { action = action; device = device; parents = parents; programs = s.programs; constants = s.constants; profile = Manual }
+  event_is : s.asked ≡ None → (device : DeviceValue) (parents : List DeviceValue) → event above device parents ≡ record { action = action; device = device; parents = parents; programs = (settled s).programs; constants = s.constants; profile = Manual }
   unfolding event programs
   event_is idle device parents =
       let commands : texts Command above ≡ h.answered = h.asked_are ∙ ap (λ o. h.answered ++ option_to_list o) idle ∙ append-nil h.answered in
@@ -314,13 +330,13 @@ module _ (above : List Row) (action : Text) (s : Sofar) (h : Holds above action 
         profile = Manual;
       }
 
-  end_with : s.asked ≡ None → (ds : List DeviceValue) → with_devices action s (length above) ds ≡ given_with above ds
+  end_with : s.asked ≡ None → (ds : List DeviceValue) → with_devices action (settled s) (length above) ds ≡ given_with above ds
   end_with idle [] = refl
   end_with idle (device ∷ parents) = ap Ok (sym (event_is idle device parents))
 
-  end_agrees : (n : ℕ) → n ≡ length above → s.asked ≡ None → with_devices action s n (s.closed ++ option_to_list s.last) ≡ given_below above []
+  end_agrees : (n : ℕ) → n ≡ length above → s.asked ≡ None → with_devices action (settled s) n (s.closed ++ option_to_list s.last) ≡ given_below above []
   unfolding given_below
-  end_agrees n e idle = ap (λ m. with_devices action s m (s.closed ++ option_to_list s.last)) e ∙ end_with idle (s.closed ++ option_to_list s.last) ∙ ap (given_with above) (sym h.devices_are)
+  end_agrees n e idle = ap (λ m. with_devices action (settled s) m (s.closed ++ option_to_list s.last)) e ∙ end_with idle (s.closed ++ option_to_list s.last) ∙ ap (given_with above) (sym h.devices_are)
 
 idle_end : (asked : Option Text) → IsNext asked [] → asked ≡ None
 unfolding begins_answer
@@ -352,7 +368,7 @@ FirstAgrees rows fault (Err kind) = fault ≡ Some kind
 FirstAgrees rows fault (Ok action) = (fault ≡ None) × Holds rows action nothing_read × (length rows ≡ 1)
 
 first_holds : (rest : Text) → Holds ((Action, rest) ∷ []) rest nothing_read
-unfolding texts pairs answers devices groups follows_command
+unfolding texts pairs answers devices groups follows_command follows_answer
 first_holds rest = record {
   begun_are = refl;
   acted = refl;
@@ -365,6 +381,8 @@ first_holds rest = record {
   programs_are = refl;
   follows = refl;
   fresh = tt;
+  prints = refl;
+  apart = tt;
 }
 
 first_action : (rest : Text) (empty : Bool) → FirstAgrees ((Action, rest) ∷ []) (first_of ((empty, NoAction) ∷ (false, NoDevice) ∷ (false, TooDeep) ∷ (false, Path) ∷ (false, Number) ∷ (empty, Pair) ∷ (false, Twice) ∷ [])) (if empty then Err NoAction else Ok rest)
@@ -372,13 +390,14 @@ first_action rest true = refl
 first_action rest false = (refl, first_holds rest, refl)
 
 first_row : (kind : LineKind) (rest : Text) (below : List Text) → FirstAgrees ((kind, rest) ∷ []) (row_fault [] kind rest below) (action_by kind rest)
-unfolding row_fault texts follows_command
+unfolding row_fault texts follows_command follows_answer
 first_row Action rest below = first_action rest (is_empty rest)
 first_row Device rest below = refl
 first_row (Field field) rest below = refl
 first_row Constant rest below = refl
 first_row Command rest below = refl
 first_row Answer rest below = refl
+first_row Output rest below = refl
 
 first_by : (below : List Text) (t : Bool) (o : Option Row) → FirstAgrees (option_to_list o) (if t then Some Nul else fault_unless [] o below) (action_in (if t then Err Nul else known_row o))
 first_by below true o = refl

@@ -2,18 +2,19 @@
 use Rattle.std.proofs.Common.{◌≡◌, Bool, true, false, List, [], ◌∷◌, ◌++◌, Option, Some, None, unwrap_or, map, refl, ap, ◌∙◌, if◌then◌else◌}
 use Rattle.std.proofs.lemmas.List.{append-nil, map-append}
 use Rattle.std.proofs.lemmas.List.Elements.{filter_map-append}
+use Rattle.std.proofs.lemmas.List.Sums.{fold-append}
 use Rattle.std.specs.Option.{option_and_then}
 use Rattle.std.specs.List.{filter_map, cons_option}
 use Rattle.text_bytes.specs.Texts.{first, is_empty, last}
 use Rattle.text_tables.specs.Texts.{Text}
 use Rattle.device_core.specs.Lines.{Row}
-use Rattle.device_core.specs.Parts.{pair_of, number_of, answer_of}
-use Rattle.device_core.specs.Values.{DeviceValue}
-use Rattle.device_core.specs.Blocks.{is_kind, text_in, texts, pairs, numbers, answers, before_device, groups, device, devices}
+use Rattle.device_core.specs.Parts.{pair_of, number_of}
+use Rattle.device_core.specs.Values.{DeviceValue, AnswerValue}
+use Rattle.device_core.specs.Blocks.{is_kind, text_in, texts, pairs, numbers, answers, answers_after, before_device, change_last, groups, device, devices}
 use Rattle.device_core.specs.Steps.{bare_device}
-use Rattle.device_core.specs.declared.lines.DeviceField.TheVariants.{Subsystem, Driver, Node, Devnum, Attribute, Property, Tag, Link}
+use Rattle.device_core.specs.declared.lines.DeviceField.TheVariants.{Subsystem, Driver, Node, Devnum, Attribute, Property, Stored, Tag, Link}
 use Rattle.device_core.specs.declared.lines.LineKind.{LineKind}
-use Rattle.device_core.specs.declared.lines.LineKind.TheVariants.{Device, Field, Answer}
+use Rattle.device_core.specs.declared.lines.LineKind.TheVariants.{Device, Field}
 
 -- one more, if there is one
 abbrev pub added : {X : Type 0} → List X → Option X → List X
@@ -50,9 +51,9 @@ module _ (rows : List Row) (row : Row) where
   unfolding numbers
   numbers_more = ap (filter_map number_of) (texts_more (Field Devnum)) ∙ through number_of (texts (Field Devnum) rows) (text_in (Field Devnum) row)
 
-  pub answers_more : answers (rows ++ row ∷ []) ≡ added (answers rows) (option_and_then answer_of (text_in Answer row))
+  pub answers_more : answers (rows ++ row ∷ []) ≡ answers_after (answers rows) row.0 row.1
   unfolding answers
-  answers_more = ap (filter_map answer_of) (texts_more Answer) ∙ through answer_of (texts Answer rows) (text_in Answer row)
+  answers_more = fold-append (λ (given : List AnswerValue) (r : Row). answers_after given r.0 r.1) [] rows (row ∷ [])
 
 pub first_more : {X : Type 0} (xs : List X) (o : Option X) → first (added xs o) ≡ kept (first xs) o
 first_more xs None = refl
@@ -72,6 +73,7 @@ with_row d row = record {
   number = kept d.number (option_and_then number_of (text_in (Field Devnum) row));
   attrs = added d.attrs (option_and_then pair_of (text_in (Field Attribute) row));
   env = added d.env (option_and_then pair_of (text_in (Field Property) row));
+  stored = added d.stored (option_and_then pair_of (text_in (Field Stored) row));
   tags = added d.tags (text_in (Field Tag) row);
   links = added d.links (text_in (Field Link) row);
 }
@@ -89,15 +91,10 @@ device_more group row h = λ i. record {
   number = (ap first (numbers_more group row) ∙ first_more (numbers group) (option_and_then number_of (text_in (Field Devnum) row))) i;
   attrs = pairs_more group row (Field Attribute) i;
   env = pairs_more group row (Field Property) i;
+  stored = pairs_more group row (Field Stored) i;
   tags = texts_more group row (Field Tag) i;
   links = texts_more group row (Field Link) i;
 }
-
--- the last of these, changed
-abbrev pub change_last : {X : Type 0} → (X → X) → List X → List X
-change_last f [] = []
-change_last f (x ∷ []) = f x ∷ []
-change_last f (x ∷ y ∷ ys) = x ∷ change_last f (y ∷ ys)
 
 abbrev pub longer : Row → List Row → List Row
 longer row group = group ++ row ∷ []

@@ -1,6 +1,7 @@
 -- What the lines of a block say. A line belongs to the last `P:` at or above it: the lines are cut
 -- before each `P:`, and each group that begins with one describes a device.
-use Rattle.std.specs.Prelude.{Bool, List, [], ◌∷◌, ◌==◌, Option, Some, None, unwrap_or, map, if◌then◌else◌}
+use Rattle.std.specs.Prelude.{Bool, List, [], ◌∷◌, ◌++◌, ◌==◌, Option, Some, None, unwrap_or, map, fold, if◌then◌else◌}
+use Rattle.std.specs.Option.{option_to_list}
 use Rattle.std.specs.List.{filter_map, zip}
 use Rattle.text_bytes.specs.Texts.{first}
 use Rattle.text_bytes.specs.declared.profile.Profile.TheVariants.{Manual}
@@ -8,10 +9,10 @@ use Rattle.text_tables.specs.Texts.{Text}
 use Rattle.text_tables.specs.Pairs.{Pair}
 use Rattle.device_core.specs.Lines.{Row, letter_of}
 use Rattle.device_core.specs.Parts.{pair_of, number_of, answer_of}
-use Rattle.device_core.specs.Values.{NumberValue, DeviceValue, AnswerValue, EventValue}
-use Rattle.device_core.specs.declared.lines.DeviceField.TheVariants.{Subsystem, Driver, Node, Devnum, Attribute, Property, Tag, Link}
+use Rattle.device_core.specs.Values.{NumberValue, DeviceValue, AnswerValue, EventValue, with_line}
+use Rattle.device_core.specs.declared.lines.DeviceField.TheVariants.{Subsystem, Driver, Node, Devnum, Attribute, Property, Stored, Tag, Link}
 use Rattle.device_core.specs.declared.lines.LineKind.{LineKind}
-use Rattle.device_core.specs.declared.lines.LineKind.TheVariants.{Action, Device, Field, Constant, Command, Answer}
+use Rattle.device_core.specs.declared.lines.LineKind.TheVariants.{Action, Device, Field, Constant, Command, Answer, Output}
 
 -- whether a line is of a kind
 abbrev pub is_kind : LineKind → Row → Bool
@@ -33,9 +34,21 @@ pairs kind rows = filter_map pair_of (texts kind rows)
 unfoldable pub numbers : List Row → List NumberValue
 numbers rows = filter_map number_of (texts (Field Devnum) rows)
 
+-- the last of these, changed
+abbrev pub change_last : {X : Type 0} → (X → X) → List X → List X
+change_last f [] = []
+change_last f (x ∷ []) = f x ∷ []
+change_last f (x ∷ y ∷ ys) = x ∷ change_last f (y ∷ ys)
+
+-- answers after one more line of a kind: an `R:` gives one more, and an `O:` gives the last one more line
+abbrev pub answers_after : List AnswerValue → LineKind → Text → List AnswerValue
+answers_after given Answer rest = given ++ option_to_list (answer_of rest)
+answers_after given Output rest = change_last (with_line rest) given
+answers_after given _ rest = given
+
 -- the answers that lines give, in order
 unfoldable pub answers : List Row → List AnswerValue
-answers rows = filter_map answer_of (texts Answer rows)
+answers rows = fold (λ given row. answers_after given row.0 row.1) [] rows
 
 -- the lines up to the next `P:`
 unfoldable pub before_device : List Row → List Row
@@ -57,6 +70,7 @@ device group = record {
   number = first (numbers group);
   attrs = pairs (Field Attribute) group;
   env = pairs (Field Property) group;
+  stored = pairs (Field Stored) group;
   tags = texts (Field Tag) group;
   links = texts (Field Link) group;
 }

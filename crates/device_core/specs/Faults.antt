@@ -13,9 +13,9 @@ use Rattle.device_core.specs.Parts.{pair_of, number_of, answer_of, is_device_pat
 use Rattle.device_core.specs.Values.{DeviceValue, EventValue, most_devices}
 use Rattle.device_core.specs.Blocks.{is_kind, texts, pairs, devices, event}
 use Rattle.device_core.specs.declared.lines.DeviceField.{DeviceField}
-use Rattle.device_core.specs.declared.lines.DeviceField.TheVariants.{Subsystem, Driver, Node, Devnum, Attribute, Property, Tag, Link}
+use Rattle.device_core.specs.declared.lines.DeviceField.TheVariants.{Subsystem, Driver, Node, Devnum, Attribute, Property, Stored, Tag, Link}
 use Rattle.device_core.specs.declared.lines.LineKind.{LineKind}
-use Rattle.device_core.specs.declared.lines.LineKind.TheVariants.{Action, Device, Field, Constant, Command, Answer}
+use Rattle.device_core.specs.declared.lines.LineKind.TheVariants.{Action, Device, Field, Constant, Command, Answer, Output}
 use Rattle.device_core.specs.declared.faults.BlockFault.{BlockFault}
 use Rattle.device_core.specs.declared.faults.BlockFaultKind.{BlockFaultKind}
 use Rattle.device_core.specs.declared.faults.BlockFaultKind.TheVariants.{NoAction, NoDevice, Letter, Twice, Path, Number, Pair, Nul, TooLong, TooDeep}
@@ -32,6 +32,15 @@ is_command (Some row) = is_kind Command row
 -- whether the line right above is a command
 unfoldable pub follows_command : List Row → Bool
 follows_command above = is_command (last above)
+
+-- whether there is a line and it is an answer or one more line of one
+abbrev pub is_of_answer : Option Row → Bool
+is_of_answer None = false
+is_of_answer (Some row) = is_kind Answer row || is_kind Output row
+
+-- whether the line right above is an answer or one more line of one
+unfoldable pub follows_answer : List Row → Bool
+follows_answer above = is_of_answer (last above)
 
 -- the first line is not a `C:`, or its action is empty; an answer there is rather one without a command
 abbrev pub lacks_action : List Row → LineKind → Text → Bool
@@ -70,9 +79,11 @@ abbrev pub is_half_field : DeviceField → Text → Bool
 is_half_field Devnum rest = false
 is_half_field Attribute rest = is_none (pair_of rest)
 is_half_field Property rest = is_none (pair_of rest)
+is_half_field Stored rest = is_none (pair_of rest)
 is_half_field _ rest = is_empty rest
 
--- a part is missing: a name or a value, a text, the answer below a command or the command above an answer
+-- a part is missing: a name or a value, a text, the answer below a command, the command above an answer, or the answer
+-- above one more line of it
 abbrev pub is_half : List Row → LineKind → Text → List Text → Bool
 is_half above Action rest below = is_empty rest
 is_half above Device rest below = false
@@ -80,6 +91,7 @@ is_half above (Field field) rest below = is_half_field field rest
 is_half above Constant rest below = is_none (pair_of rest)
 is_half above Command rest below = is_empty rest || not (begins_answer below)
 is_half above Answer rest below = not (follows_command above)
+is_half above Output rest below = not (follows_answer above)
 
 -- whether the name of a pair is among these
 abbrev pub has_name : List NameAndValue → Option NameAndValue → Bool
@@ -94,6 +106,7 @@ has_field device Node rest = is_some device.node
 has_field device Devnum rest = is_some device.number
 has_field device Attribute rest = has_name device.attrs (pair_of rest)
 has_field device Property rest = has_name device.env (pair_of rest)
+has_field device Stored rest = has_name device.stored (pair_of rest)
 has_field device Tag rest = is_among device.tags rest
 has_field device Link rest = is_among device.links rest
 
@@ -110,6 +123,7 @@ is_again above (Field field) rest = some_has_field (device_above above) field re
 is_again above Constant rest = has_name (pairs Constant above) (pair_of rest)
 is_again above Command rest = is_among (texts Command above) rest
 is_again above Answer rest = false
+is_again above Output rest = false
 
 -- the first fault whose condition holds
 abbrev pub first_of : List (Bool × BlockFaultKind) → Option BlockFaultKind

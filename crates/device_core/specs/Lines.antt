@@ -5,9 +5,9 @@ use Rattle.std.specs.List.{find, starts_with}
 use Rattle.text_bytes.specs.Names.{colon, space}
 use Rattle.text_tables.specs.Texts.{Text}
 use Rattle.device_core.specs.declared.lines.DeviceField.{DeviceField}
-use Rattle.device_core.specs.declared.lines.DeviceField.TheVariants.{Subsystem, Driver, Node, Devnum, Attribute, Property, Tag, Link}
+use Rattle.device_core.specs.declared.lines.DeviceField.TheVariants.{Subsystem, Driver, Node, Devnum, Attribute, Property, Stored, Tag, Link}
 use Rattle.device_core.specs.declared.lines.LineKind.{LineKind}
-use Rattle.device_core.specs.declared.lines.LineKind.TheVariants.{Action, Device, Field, Constant, Command, Answer}
+use Rattle.device_core.specs.declared.lines.LineKind.TheVariants.{Action, Device, Field, Constant, Command, Answer, Output}
 
 -- the letter that a line about the device above begins with
 abbrev pub field_letter : DeviceField → ℕ
@@ -17,6 +17,7 @@ field_letter Node = 78  -- N
 field_letter Devnum = 68  -- D
 field_letter Attribute = 65  -- A
 field_letter Property = 69  -- E
+field_letter Stored = 66  -- B
 field_letter Tag = 71  -- G
 field_letter Link = 83  -- S
 
@@ -28,12 +29,13 @@ letter_of (Field field) = field_letter field
 letter_of Constant = 75  -- K
 letter_of Command = 81  -- Q
 letter_of Answer = 82  -- R
+letter_of Output = 79  -- O
 
 -- all kinds of lines
 abbrev pub kinds : List LineKind
 kinds =
-    Action ∷ Device ∷ Field Subsystem ∷ Field Driver ∷ Field Node ∷ Field Devnum ∷ Field Attribute ∷ Field Property ∷ Field Tag ∷ Field Link
-    ∷ Constant ∷ Command ∷ Answer ∷ []
+    Action ∷ Device ∷ Field Subsystem ∷ Field Driver ∷ Field Node ∷ Field Devnum ∷ Field Attribute ∷ Field Property ∷ Field Stored ∷ Field Tag
+    ∷ Field Link ∷ Constant ∷ Command ∷ Answer ∷ Output ∷ []
 
 -- a line by its kind, and what follows the space
 abbrev pub Row : Type 0

@@ -7,15 +7,15 @@ use Rattle.std.specs.Option.{option_to_list}
 use Rattle.text_bytes.specs.Texts.{is_empty}
 use Rattle.text_bytes.specs.declared.profile.Profile.TheVariants.{Manual}
 use Rattle.text_tables.specs.Texts.{Text, is_among}
-use Rattle.text_tables.specs.Pairs.{Pair as NameAndValue, named}
+use Rattle.text_tables.specs.Pairs.{Pair as NameAndValue, named, with_value}
 use Rattle.device_core.specs.Lines.{Row, row_of, begins_answer}
 use Rattle.device_core.specs.Parts.{pair_of, number_of, answer_of, is_device_path, is_parent_path}
-use Rattle.device_core.specs.Values.{NumberValue, DeviceValue, AnswerValue, EventValue}
+use Rattle.device_core.specs.Values.{NumberValue, DeviceValue, AnswerValue, EventValue, with_line}
 use Rattle.device_core.specs.Faults.{has_nul}
 use Rattle.device_core.specs.declared.lines.DeviceField.{DeviceField}
-use Rattle.device_core.specs.declared.lines.DeviceField.TheVariants.{Subsystem, Driver, Node, Devnum, Attribute, Property, Tag, Link}
+use Rattle.device_core.specs.declared.lines.DeviceField.TheVariants.{Subsystem, Driver, Node, Devnum, Attribute, Property, Stored, Tag, Link}
 use Rattle.device_core.specs.declared.lines.LineKind.{LineKind}
-use Rattle.device_core.specs.declared.lines.LineKind.TheVariants.{Action, Device, Field, Constant, Command, Answer}
+use Rattle.device_core.specs.declared.lines.LineKind.TheVariants.{Action, Device, Field, Constant, Command, Answer, Output}
 use Rattle.device_core.specs.declared.draft.Draft.{Draft}
 use Rattle.device_core.specs.declared.faults.BlockFault.{BlockFault}
 use Rattle.device_core.specs.declared.faults.BlockFaultKind.{BlockFaultKind}
@@ -79,24 +79,42 @@ field_step d Node rest = if_ok (λ t. record d { node = Some t }) (once_step d.n
 field_step d Devnum rest = if_ok (λ n. record d { number = Some n }) (number_step d.number rest)
 field_step d Attribute rest = if_ok (λ ps. record d { attrs = ps }) (pair_step d.attrs rest)
 field_step d Property rest = if_ok (λ ps. record d { env = ps }) (pair_step d.env rest)
+field_step d Stored rest = if_ok (λ ps. record d { stored = ps }) (pair_step d.stored rest)
 field_step d Tag rest = if_ok (λ ts. record d { tags = ts }) (member_step d.tags rest)
 field_step d Link rest = if_ok (λ ts. record d { links = ts }) (member_step d.links rest)
 
--- the lines so far
+-- the lines so far; the last answer is apart while lines may be added to it
 pub record Sofar : Type 0 where
   pub closed : List DeviceValue
   pub last : Option DeviceValue
   pub programs : List (Text × AnswerValue)
+  pub pending : Option (Text × AnswerValue)
   pub asked : Option Text
   pub constants : List NameAndValue
 
 -- what a contract sees of a draft
 abbrev pub sofar : Draft → Sofar
-sofar d = record { closed = d.closed.items; last = d.last; programs = d.programs; asked = option_map (λ t. t.now) d.asked; constants = d.constants }
+sofar d = record {
+  closed = d.closed.items;
+  last = d.last;
+  programs = d.programs;
+  pending = option_map (λ p. (p.0.now, p.1)) d.pending;
+  asked = option_map (λ t. t.now) d.asked;
+  constants = d.constants;
+}
+
+-- answers with one that was apart, if there is one
+abbrev pub with_pending : List (Text × AnswerValue) → Option (Text × AnswerValue) → List (Text × AnswerValue)
+with_pending programs None = programs
+with_pending programs (Some program) = with_value programs program.0 program.1
+
+-- the lines so far, with the last answer among the others
+abbrev pub settled : Sofar → Sofar
+settled s = record s { programs = with_pending s.programs s.pending; pending = None }
 
 -- a device of which only the path is known
 abbrev pub bare_device : Text → DeviceValue
-bare_device path = record { path = path; subsystem = None; driver = None; node = None; number = None; attrs = []; env = []; tags = []; links = [] }
+bare_device path = record { path = path; subsystem = None; driver = None; node = None; number = None; attrs = []; env = []; stored = []; tags = []; links = [] }
 
 -- a device begins
 abbrev pub begun : Sofar → Text → Sofar
@@ -120,15 +138,20 @@ above_step (Some d) field rest = field_step d field rest
 unfoldable pub command_step : List (Text × AnswerValue) → Text → Bool → Result Text BlockFaultKind
 command_step programs rest answered = if is_empty rest || not answered then Err Pair else (if named programs rest then Err Twice else Ok rest)
 
--- a command with its answer after those known, if the command is new
-abbrev pub with_answer : List (Text × AnswerValue) → Text → Option AnswerValue → Result (List (Text × AnswerValue)) BlockFaultKind
-with_answer programs command None = Err Number
-with_answer programs command (Some answer) = if named programs command then Err Twice else Ok (programs ++ (command, answer) ∷ [])
+-- a command with its answer
+abbrev pub with_answer : Text → Option AnswerValue → Result (Text × AnswerValue) BlockFaultKind
+with_answer command None = Err Number
+with_answer command (Some answer) = Ok (command, answer)
 
 -- an answer to the command that was asked for right above
-unfoldable pub answer_step : List (Text × AnswerValue) → Option Text → Text → Result (List (Text × AnswerValue)) BlockFaultKind
-answer_step programs None rest = Err Pair
-answer_step programs (Some command) rest = with_answer programs command (answer_of rest)
+unfoldable pub answer_step : Option Text → Text → Result (Text × AnswerValue) BlockFaultKind
+answer_step None rest = Err Pair
+answer_step (Some command) rest = with_answer command (answer_of rest)
+
+-- one more line of the answer right above
+unfoldable pub output_step : Option (Text × AnswerValue) → Text → Result (Text × AnswerValue) BlockFaultKind
+output_step None rest = Err Pair
+output_step (Some program) rest = Ok (program.0, with_line rest program.1)
 
 -- the lines so far, with no command waiting for its answer
 abbrev pub unasked : Sofar → Sofar
@@ -137,11 +160,12 @@ unasked s = record s { asked = None }
 -- a line that is not the first
 unfoldable pub row_step : Sofar → LineKind → Text → Bool → Result Sofar BlockFaultKind
 row_step s Action rest answered = if is_empty rest then Err Pair else Err Twice
-row_step s Device rest answered = device_step (unasked s) rest
-row_step s (Field field) rest answered = if_ok (λ d. record s { last = Some d; asked = None }) (above_step s.last field rest)
-row_step s Constant rest answered = if_ok (λ ps. record s { constants = ps; asked = None }) (pair_step s.constants rest)
-row_step s Command rest answered = if_ok (λ c. record s { asked = Some c }) (command_step s.programs rest answered)
-row_step s Answer rest answered = if_ok (λ ps. record s { programs = ps; asked = None }) (answer_step s.programs s.asked rest)
+row_step s Device rest answered = device_step (unasked (settled s)) rest
+row_step s (Field field) rest answered = if_ok (λ d. record (settled s) { last = Some d; asked = None }) (above_step s.last field rest)
+row_step s Constant rest answered = if_ok (λ ps. record (settled s) { constants = ps; asked = None }) (pair_step s.constants rest)
+row_step s Command rest answered = if_ok (λ c. record (settled s) { asked = Some c }) (command_step (settled s).programs rest answered)
+row_step s Answer rest answered = if_ok (λ p. record (settled s) { pending = Some p; asked = None }) (answer_step s.asked rest)
+row_step s Output rest answered = if_ok (λ p. record s { pending = Some p; asked = None }) (output_step s.pending rest)
 
 -- none of these lines has a NUL byte
 abbrev pub HaveNoNul : List Text → Type 0
@@ -182,7 +206,7 @@ first_step line = action_in (plain_row line)
 
 -- nothing has been read after the first line
 abbrev pub nothing_read : Sofar
-nothing_read = record { closed = []; last = None; programs = []; asked = None; constants = [] }
+nothing_read = record { closed = []; last = None; programs = []; pending = None; asked = None; constants = [] }
 
 -- as `Fails` and `Gives`, with a line
 abbrev pub unless_memory : BlockFaultKind → Type 0 → Type 0
@@ -217,7 +241,7 @@ with_devices action s count (device ∷ parents) =
 
 -- the event of all lines
 unfoldable pub finished_event : Text → Sofar → ℕ → Result EventValue BlockFault
-finished_event action s count = with_devices action s count (s.closed ++ option_to_list s.last)
+finished_event action s count = with_devices action (settled s) count (s.closed ++ option_to_list s.last)
 
 -- the event of the lines that were read, or their fault
 abbrev pub then_finished : Text → Result (Sofar × ℕ) BlockFault → Result EventValue BlockFault

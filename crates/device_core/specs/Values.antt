@@ -1,7 +1,7 @@
 -- An event, regardless of where its texts are in memory.
-use Rattle.std.specs.Prelude.{ℕ, ◌^◌, Bool, true, false, not, ◌==◌, ◌&&◌, if◌then◌else◌, List, [], ◌∷◌, Option, Some, None, is_some}
+use Rattle.std.specs.Prelude.{ℕ, ◌^◌, Bool, true, false, not, ◌==◌, ◌&&◌, if◌then◌else◌, List, [], ◌∷◌, ◌++◌, Option, Some, None, is_some}
 use Rattle.std.specs.List.{list_all}
-use Rattle.text_bytes.specs.Names.{digit_zero}
+use Rattle.text_bytes.specs.Names.{carriage_return, digit_zero}
 use Rattle.text_bytes.specs.Numbers.{decimal_below}
 use Rattle.text_tables.specs.Texts.{Text}
 use Rattle.text_tables.specs.Pairs.{Pair}
@@ -13,7 +13,7 @@ pub record NumberValue : Type 0 where
   pub major : Text
   pub minor : Text
 
--- a device of the chain
+-- a device of the chain; stored properties are those that udev had stored about it before the event
 pub record DeviceValue : Type 0 where
   pub path : Text
   pub subsystem : Option Text
@@ -22,6 +22,7 @@ pub record DeviceValue : Type 0 where
   pub number : Option NumberValue
   pub attrs : List Pair
   pub env : List Pair
+  pub stored : List Pair
   pub tags : List Text
   pub links : List Text
 
@@ -35,14 +36,19 @@ described path subsystem attrs = record {
   number = None;
   attrs = attrs;
   env = [];
+  stored = [];
   tags = [];
   links = [];
 }
 
--- what a program answered
+-- what a program answered; a carriage return is between two lines of its text
 pub record AnswerValue : Type 0 where
   pub status : ℕ
   pub text : Text
+
+-- an answer whose text has one more line
+abbrev pub with_line : Text → AnswerValue → AnswerValue
+with_line line answer = record answer { text = answer.text ++ carriage_return ∷ line }
 
 -- an event: its action, its device, the parents of that from the nearest on, the answers of programs under their
 -- commands, the constants, and the profile by which rules are evaluated over it

@@ -76,6 +76,7 @@ pub struct Device<'a> {
     pub(crate) number: Option<DeviceNumber<'a>>,
     pub(crate) attrs: Pairs<'a>,
     pub(crate) env: Pairs<'a>,
+    pub(crate) stored: Pairs<'a>,
     pub(crate) tags: Texts<'a>,
     pub(crate) links: Texts<'a>,
 }
@@ -94,6 +95,7 @@ impl<'a> Model for Device<'a> {
       number = d.number;
       attrs = d.attrs;
       env = d.env;
+      stored = d.stored;
       tags = d.tags;
       links = d.links;
     } };
@@ -117,6 +119,7 @@ impl<'a> Device<'a> {
             number: None,
             attrs,
             env: Pairs::new(alloc),
+            stored: Pairs::new(alloc),
             tags: Texts::new(alloc),
             links: Texts::new(alloc),
         }
@@ -189,6 +192,13 @@ impl<'a> Device<'a> {
         ensures { result.now ≡ self.now.env }
     {
         &self.env
+    }
+
+    /// `B:`, the properties that udev had stored about it before the event.
+    pub fn stored(&self) -> &Pairs<'a>
+        ensures { result.now ≡ self.now.stored }
+    {
+        &self.stored
     }
 
     /// `G:`, its tags.

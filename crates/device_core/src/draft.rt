@@ -1,10 +1,11 @@
 //! The lines so far, and what one more line does to them.
 //!
 //! The device that lines are added to is kept apart from those above it, so that it changes in place. A command
-//! waits for its answer, which is the next line.
-ghost use Rattle.std.specs.Prelude.{◌≡◌, ◌++◌, option_map, length, Some, Ok};
+//! waits for its answer, which is the next line. The last answer is kept apart as well, as lines may be added to it.
+ghost use Rattle.std.specs.Prelude.{◌≡◌, ◌++◌, option_map, length, OnOk, Some, Ok};
 ghost use Rattle.std.specs.Option.{option_to_list};
-ghost use Rattle.device_core.specs.Steps.{Gives, if_ok, above_step, path_step, device_step, command_step, answer_step, row_step, sofar, nothing_read};
+ghost use Rattle.device_core.specs.Steps.{Gives, if_ok, above_step, path_step, device_step, command_step, answer_step, output_step};
+ghost use Rattle.device_core.specs.Steps.{row_step, sofar, nothing_read, with_pending};
 
 use crate::devices::Device;
 use crate::faults::BlockFaultKind;
@@ -12,7 +13,7 @@ use crate::fields::{add_field, add_pair, bare_device};
 use crate::lines::{DeviceField, LineKind};
 use crate::parts::{answer_of, is_device_path, is_parent_path};
 use crate::programs::ProgramAnswer;
-use std::alloc::Global;
+use std::alloc::{AllocError, Global};
 use text_tables::{Pairs, Table};
 
 /// The most devices that may be above the last: 64 in all.
@@ -24,6 +25,7 @@ pub(crate) struct Draft<'a> {
     pub(crate) closed: Vec<Device<'a>>,
     pub(crate) last: Option<Device<'a>>,
     pub(crate) programs: Table<'a, ProgramAnswer<'a>>,
+    pub(crate) pending: Option<(&'a [u8], ProgramAnswer<'a>)>,
     pub(crate) asked: Option<&'a [u8]>,
     pub(crate) constants: Pairs<'a>,
 }
@@ -36,6 +38,7 @@ pub(crate) fn new_draft<'a>(alloc: Global) -> Draft<'a>
         closed: Vec::new(alloc),
         last: None,
         programs: Table::new(alloc),
+        pending: None,
         asked: None,
         constants: Pairs::new(alloc),
     }
@@ -124,14 +127,26 @@ fn check_command<'a>(
     Ok(rest)
 }
 
-/// The answer to a command.
-#[tactic(auto, unfolding(crate::specs::Steps::answer_step))]
-fn add_answer<'a>(
+/// An answer joins the others.
+pub(crate) fn settle<'a>(
     programs: &mut Table<'a, ProgramAnswer<'a>>,
+    pending: Option<(&'a [u8], ProgramAnswer<'a>)>,
+) -> Result<(), AllocError>
+    ensures { OnOk result (programs.new ≡ with_pending programs.old (option_map (λ p. (p.0.now, p.1)) pending.entry)) }
+{
+    if let Some((command, answer)) = pending {
+        programs.add(command, answer)?;
+    }
+    Ok(())
+}
+
+/// The answer to a command, with it.
+#[tactic(auto, unfolding(crate::specs::Steps::answer_step))]
+fn answered<'a>(
     asked: Option<&'a [u8]>,
     rest: &'a [u8],
-) -> Result<(), BlockFaultKind>
-    ensures { Gives (λ _. programs.new) result (answer_step programs.old (option_map (λ t. t.now) asked.entry) rest.now) }
+) -> Result<(&'a [u8], ProgramAnswer<'a>), BlockFaultKind>
+    ensures { Gives (λ p. (p.0.now, p.1)) result (answer_step (option_map (λ t. t.now) asked.entry) rest.now) }
 {
     let Some(command) = asked else {
         return Err(BlockFaultKind::Pair);
@@ -139,24 +154,40 @@ fn add_answer<'a>(
     let Some(answer) = answer_of(rest) else {
         return Err(BlockFaultKind::Number);
     };
-    if !programs.add(command, answer)? {
-        return Err(BlockFaultKind::Twice);
-    }
-    Ok(())
+    Ok((command, answer))
 }
 
-/// A line that is not the first; `answered` says whether an answer follows it.
+/// One more line of the answer above, with its command.
+#[tactic(auto, unfolding(crate::specs::Steps::output_step))]
+fn continued<'a>(
+    alloc: Global,
+    pending: Option<(&'a [u8], ProgramAnswer<'a>)>,
+    rest: &[u8],
+) -> Result<(&'a [u8], ProgramAnswer<'a>), BlockFaultKind>
+    ensures { Gives (λ p. (p.0.now, p.1)) result (output_step (option_map (λ p. (p.0.now, p.1)) pending.entry) rest.now) }
+{
+    let Some((command, answer)) = pending else {
+        return Err(BlockFaultKind::Pair);
+    };
+    let answer = answer.with_line(alloc, rest)?;
+    Ok((command, answer))
+}
+
+/// A line that is not the first; `is_answered` says whether an answer follows it.
 #[tactic(auto, unfolding(crate::specs::Steps::row_step))]
 pub(crate) fn add_row<'a>(
     alloc: Global,
     draft: &mut Draft<'a>,
     kind: LineKind,
     rest: &'a [u8],
-    answered: bool,
+    is_answered: bool,
 ) -> Result<(), BlockFaultKind>
-    ensures { Gives (λ _. sofar draft.new) result (row_step (sofar draft.old) kind rest.now answered) }
+    ensures { Gives (λ _. sofar draft.new) result (row_step (sofar draft.old) kind rest.now is_answered) }
 {
     let asked = draft.asked.take();
+    if !matches!(kind, LineKind::Output) {
+        settle(&mut draft.programs, draft.pending.take())?;
+    }
     match kind {
         LineKind::Action if rest.is_empty() => Err(BlockFaultKind::Pair),
         LineKind::Action => Err(BlockFaultKind::Twice),
@@ -164,9 +195,16 @@ pub(crate) fn add_row<'a>(
         LineKind::Field(field) => add_to_last(&mut draft.last, field, rest),
         LineKind::Constant => add_pair(&mut draft.constants, rest),
         LineKind::Command => {
-            draft.asked = Some(check_command(&draft.programs, rest, answered)?);
+            draft.asked = Some(check_command(&draft.programs, rest, is_answered)?);
             Ok(())
         }
-        LineKind::Answer => add_answer(&mut draft.programs, asked, rest),
+        LineKind::Answer => {
+            draft.pending = Some(answered(asked, rest)?);
+            Ok(())
+        }
+        LineKind::Output => {
+            draft.pending = Some(continued(alloc, draft.pending.take(), rest)?);
+            Ok(())
+        }
     }
 }

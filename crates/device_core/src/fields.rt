@@ -21,6 +21,7 @@ pub(crate) fn bare_device<'a>(alloc: Global, path: &'a [u8]) -> Device<'a>
         number: None,
         attrs: Pairs::new(alloc),
         env: Pairs::new(alloc),
+        stored: Pairs::new(alloc),
         tags: Texts::new(alloc),
         links: Texts::new(alloc),
     }
@@ -103,6 +104,7 @@ pub(crate) fn add_field<'a>(
         DeviceField::Devnum => set_number(&mut device.number, rest),
         DeviceField::Attribute => add_pair(&mut device.attrs, rest),
         DeviceField::Property => add_pair(&mut device.env, rest),
+        DeviceField::Stored => add_pair(&mut device.stored, rest),
         DeviceField::Tag => add_text(&mut device.tags, rest),
         DeviceField::Link => add_text(&mut device.links, rest),
     }

@@ -23,6 +23,8 @@ pub enum DeviceField {
     Attribute,
     /// `E`: a property.
     Property,
+    /// `B`: a property that udev had stored before the event.
+    Stored,
     /// `G`: a tag.
     Tag,
     /// `S`: a link.
@@ -44,6 +46,8 @@ pub enum LineKind {
     Command,
     /// `R`: the answer to the command above.
     Answer,
+    /// `O`: one more line of what the program of the answer above wrote.
+    Output,
 }
 
 /// The letter and the rest of a line that has the form.
@@ -71,11 +75,13 @@ fn kind_of(letter: u8) -> Option<LineKind>
         b'D' => Some(LineKind::Field(DeviceField::Devnum)),
         b'A' => Some(LineKind::Field(DeviceField::Attribute)),
         b'E' => Some(LineKind::Field(DeviceField::Property)),
+        b'B' => Some(LineKind::Field(DeviceField::Stored)),
         b'G' => Some(LineKind::Field(DeviceField::Tag)),
         b'S' => Some(LineKind::Field(DeviceField::Link)),
         b'K' => Some(LineKind::Constant),
         b'Q' => Some(LineKind::Command),
         b'R' => Some(LineKind::Answer),
+        b'O' => Some(LineKind::Output),
         _ => None,
     }
 }

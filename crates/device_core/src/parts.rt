@@ -4,6 +4,7 @@ ghost use Rattle.device_core.specs.Parts.{pair_of, number_of, answer_of, number_
 
 use crate::devices::DeviceNumber;
 use crate::programs::ProgramAnswer;
+use std::borrow::CowSlice;
 use text_bytes::{begins_with, decimal_below, split_once};
 
 /// A name that is not empty, and its value.
@@ -65,7 +66,7 @@ pub(crate) fn answer_of(rest: &[u8]) -> Option<ProgramAnswer<'_>>
     let status = number_below(status, 3, 256)?;
     Some(ProgramAnswer {
         status: status as u8,
-        text,
+        text: CowSlice::Borrowed(text),
     })
 }
 

@@ -10,7 +10,7 @@ ghost use Rattle.device_core.specs.Steps.{Gives, GivesAt, HaveNoNul, sofar, noth
 ghost use Rattle.device_core.specs.Steps.{line_step, steps, some_devices, finished_event, read_lines};
 
 use crate::devices::Device;
-use crate::draft::{Draft, add_row, close_last, new_draft};
+use crate::draft::{Draft, add_row, close_last, new_draft, settle};
 use crate::events::Event;
 use crate::faults::{BlockFault, BlockFaultKind};
 use crate::lines::{LineKind, has_nul, plain_row};
@@ -120,10 +120,17 @@ fn finish<'a>(action: &'a [u8], draft: Draft<'a>, count: usize) -> Result<Event<
     let Draft {
         closed,
         last,
-        programs,
+        mut programs,
+        pending,
         constants,
         asked: _,
     } = draft;
+    if settle(&mut programs, pending).is_err() {
+        return Err(BlockFault {
+            line: count,
+            kind: BlockFaultKind::Memory,
+        });
+    }
     let mut devices = closed;
     match take_first(&mut devices, last) {
         Ok(device) => Ok(Event {

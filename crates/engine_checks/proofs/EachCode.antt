@@ -5,7 +5,7 @@ use Rattle.std.specs.Cmp.Lexicographic.{bytes_decides}
 use Rattle.text_bytes.specs.Texts.{split_once}
 use Rattle.file_messages.specs.declared.message.MessageKind.TheVariants.{PropertyWithoutMatch, MatchWithoutProperty, UnindentedLine, NoEquals, EmptyKey, PatternNotSupported, BadSyntax, UnknownKey, OperatorNotAllowed, WrongAttribute, BadValue, BadSubstitution, NoLaterLabel, GivenTwice, LineTooLong, BadPrefix, SetNotSupported, OpenAtEnd, ReservedProperty, NameWithoutEffect, UnknownBuiltin, MatchesExclude, SaidTwice, RuleWithoutEffect, ResultBeforeProgram, EmptyValue, BadAttributeSubstitution, AttributeElsewhere, OldSubsystemName, AssignExpected, UnknownAccount, FileAbandoned, CommaExpected, BlankExpected, ReadAsAssign, LabelUnused, LeadingComma, BlankBeforeComma}
 use Rattle.rule_lints.specs.declared.lint.Lint.TheVariants.{NoMatch, NeverFits, BlankBesideBar, UnknownName, NotSubstituted, ListReplaced, MeantAsMatch}
-use Rattle.rule_lints.specs.declared.lint.Lint.TheVariants.{NameTooLong, WantedWithoutTag, ForbiddenCommand, NoResultYet}
+use Rattle.rule_lints.specs.declared.lint.Lint.TheVariants.{NameTooLong, WantedWithoutTag, ForbiddenCommand, NoResultYet, LinkOfNet, TagTooLate}
 use Rattle.rule_lints.specs.declared.lint.Lint.TheVariants.{ModeNotOctal, SignOfShell, RelativeProgram, LetterCase, NoSuchDevice, ImportedBelow, MeantToCompare, NameOutsideNet, LinkWithDev, QuotedName, NotAPattern, AlwaysHolds, NeverReached, NoPatternForUdev}
 use Rattle.hwdb_lints.specs.declared.lint.DatabaseLint.TheVariants.{DigitCase, NoModalias, EndMissing, UnknownPrefix, MatchTwice, PropertyTwice, BlankAtEquals}
 use Rattle.hwdb_lints.specs.declared.lint.DatabaseLint.TheVariants.{OddName, BlankAtEnd, ByteOrderMark, CutWord, OpenSet, WrongValue}
@@ -82,6 +82,8 @@ each_found (Lint NameTooLong) = refl
 each_found (Lint WantedWithoutTag) = refl
 each_found (Lint ForbiddenCommand) = refl
 each_found (Lint NoResultYet) = refl
+each_found (Lint LinkOfNet) = refl
+each_found (Lint TagTooLate) = refl
 each_found (DatabaseLint DigitCase) = refl
 each_found (DatabaseLint NoModalias) = refl
 each_found (DatabaseLint EndMissing) = refl

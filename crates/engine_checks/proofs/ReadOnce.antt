@@ -6,6 +6,7 @@ use Rattle.text_bytes.specs.declared.source_file.SourceFile.{SourceFile}
 use Rattle.file_messages.specs.declared.message.MessageKind.{MessageKind}
 use Rattle.rule_types.specs.Rules.{tokens_in}
 use Rattle.rule_lints.specs.declared.lint.Lint.{Lint}
+use Rattle.text_tables.specs.Texts.{Text}
 use Rattle.rule_core.specs.Counts.{token_count}
 use Rattle.rule_core.specs.Ends.{abandoned}
 use Rattle.rule_core.specs.Lines.{Joined, joined_lines}
@@ -41,12 +42,12 @@ module _ (by : Profile) (f : SourceFile) (bytes : List ℕ) (joined : Joined) (b
       ∙ ap (findings_unless by bytes) (sym o)
       ∙ ap (λ (x : List ℕ). findings_unless by x (abandoned by x)) b
 
-  lints_once : lints_of by (kept_lines bytes) (in_file.rules_from 0 (landed (map (reading_of by) joined.lines))) ≡ placed_lints by f
+  lints_once : lints_of by f.name (kept_lines bytes) (in_file.rules_from 0 (landed (map (reading_of by) joined.lines))) ≡ placed_lints by f
   unfolding placed_lints
   lints_once =
-      ap (λ (x : Joined). lints_of by (kept_lines bytes) (in_file.rules_from 0 (landed (map (reading_of by) x.lines)))) lines_joined
-      ∙ ap (λ (x : Option ℕ). lints_of by (kept_lines bytes) (in_file.rules_unless by bytes x)) (sym o)
-      ∙ ap (λ (x : List ℕ). lints_of by (kept_lines x) (in_file.file_rules by x)) b
+      ap (λ (x : Joined). lints_of by f.name (kept_lines bytes) (in_file.rules_from 0 (landed (map (reading_of by) x.lines)))) lines_joined
+      ∙ ap (λ (x : Option ℕ). lints_of by f.name (kept_lines bytes) (in_file.rules_unless by bytes x)) (sym o)
+      ∙ ap (λ (x : List ℕ). lints_of by f.name (kept_lines x) (in_file.file_rules by x)) b
 
   pub tokens_once : tokens_in (file_rules by f) ≡ token_count (landed (map (reading_of by) joined.lines))
   tokens_once =
@@ -70,10 +71,11 @@ all_once Manual accounts f bytes joined b j o =
 all_once Udev accounts f bytes joined b j o =
     ap₂ (by_line (λ p. p.begins)) (findings_once Udev f bytes joined b j o) (remarks_once accounts f bytes joined b (lines_joined Udev f bytes joined b j o) o)
 
-pub found_once : (asked : Asked) (read : FileRead) (file : FileText) (bytes : List ℕ) (joined : Joined) → file ≡ read.text → bytes ≡ read.file.bytes → joined ≡ joined_lines asked.profile read.file.bytes → abandoned asked.profile bytes ≡ None
-    → read_found asked file (kept_lines bytes) (landed (map (reading_of asked.profile) joined.lines)) joined.open_at ≡ rules_found_by asked read
-found_once asked read file bytes joined t b j o =
-    ap (λ (x : FileText). read_found asked x (kept_lines bytes) (landed (map (reading_of asked.profile) joined.lines)) joined.open_at) t
+pub found_once : (asked : Asked) (read : FileRead) (name : Text) (file : FileText) (bytes : List ℕ) (joined : Joined) → file ≡ read.text → name ≡ read.file.name → bytes ≡ read.file.bytes → joined ≡ joined_lines asked.profile read.file.bytes → abandoned asked.profile bytes ≡ None
+    → read_found asked name file (kept_lines bytes) (landed (map (reading_of asked.profile) joined.lines)) joined.open_at ≡ rules_found_by asked read
+found_once asked read name file bytes joined t m b j o =
+    ap (λ (x : FileText). read_found asked name x (kept_lines bytes) (landed (map (reading_of asked.profile) joined.lines)) joined.open_at) t
+    ∙ ap (λ (x : Text). read_found asked x read.text (kept_lines bytes) (landed (map (reading_of asked.profile) joined.lines)) joined.open_at) m
     ∙ ap₂ (found_with read.text) (all_once asked.profile asked.accounts read.file bytes joined b j o)
     (ap (λ (x : List (PlacedFinding Lint)). cond (asked.lint || has_comments asked.ignored) x []) (lints_once asked.profile read.file bytes joined b j o))
 
@@ -88,7 +90,7 @@ abandoned_once Udev accounts f bytes number b o =
 
 no_lints : (by : Profile) (f : SourceFile) (bytes : List ℕ) (number : ℕ) → bytes ≡ f.bytes → abandoned by bytes ≡ Some number → placed_lints by f ≡ []
 unfolding placed_lints
-no_lints by f bytes number b o = ap (λ (x : Option ℕ). lints_of by (kept_lines f.bytes) (in_file.rules_unless by f.bytes x)) (ap (abandoned by) (sym b) ∙ o)
+no_lints by f bytes number b o = ap (λ (x : Option ℕ). lints_of by f.name (kept_lines f.bytes) (in_file.rules_unless by f.bytes x)) (ap (abandoned by) (sym b) ∙ o)
 
 none_counted : (b : Bool) (lints : List (PlacedFinding Lint)) → lints ≡ [] → cond b lints [] ≡ []
 none_counted true lints e = e

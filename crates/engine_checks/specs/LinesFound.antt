@@ -2,6 +2,7 @@
 use Rattle.std.specs.Prelude.{ℕ, ◌||◌, if◌then◌else◌, List, [], Option}
 use Rattle.text_bytes.specs.declared.profile.Profile.{Profile}
 use Rattle.text_bytes.specs.declared.profile.Profile.TheVariants.{Manual, Udev}
+use Rattle.text_tables.specs.Texts.{Text}
 use Rattle.file_messages.specs.declared.message.MessageKind.{MessageKind}
 use Rattle.rule_lints.specs.declared.lint.Lint.{Lint}
 use Rattle.rule_jumps.specs.declared.jumps.Landing.{Landing}
@@ -28,10 +29,10 @@ abbrev pub read_findings : Profile → Accounts → List KeptLine → List (Read
 read_findings profile accounts kept lines open_at = by_line (λ p. p.begins) (placed_lines kept lines open_at) (read_remarks profile accounts kept lines)
 
 -- the lints, if they are asked for or comments count
-abbrev pub read_lints : Asked → List KeptLine → List (Reading × Landing) → List (PlacedFinding Lint)
-read_lints asked kept lines = if asked.lint || has_comments asked.ignored then lints_of_lines asked.profile kept lines else []
+abbrev pub read_lints : Asked → Text → List KeptLine → List (Reading × Landing) → List (PlacedFinding Lint)
+read_lints asked name kept lines = if asked.lint || has_comments asked.ignored then lints_of_lines asked.profile name kept lines else []
 
--- all that is found in lines, of which one may be open at the end
-abbrev pub read_found : Asked → FileText → List KeptLine → List (Reading × Landing) → Option ℕ → List DiagnosticValue
-read_found asked file kept lines open_at =
-    found_with file (read_findings asked.profile asked.accounts kept lines open_at) (read_lints asked kept lines)
+-- all that is found in the lines of a file with a name, of which one may be open at the end
+abbrev pub read_found : Asked → Text → FileText → List KeptLine → List (Reading × Landing) → Option ℕ → List DiagnosticValue
+read_found asked name file kept lines open_at =
+    found_with file (read_findings asked.profile asked.accounts kept lines open_at) (read_lints asked name kept lines)

@@ -18,20 +18,21 @@ use rule_remarks::remarks_of_lines;
 use std::alloc::{AllocError, Global};
 use text_bytes::Profile;
 
-/// All that is found in the lines of a file, of which one may be open at its end: the findings about each rule, and
+/// All that is found in the lines of a file with a name, of which one may be open at its end: the findings about each rule, and
 /// after those its lints. The kept lines are those of the same file.
 pub(crate) fn lines_found<'r>(
     alloc: Global,
     asked: &Asked<'_>,
+    name: &[u8],
     file: &'r FileText<'_>,
     kept: &KeptLines,
     lines: Vec<LandedReading<'_>>,
     open_at: Option<u32>,
 ) -> Result<Vec<Diagnostic<'r>>, AllocError>
     ensures { IfOk result (λ found. map shown found.items
-        ≡ read_found asked.now file.now kept.now lines.entry.items open_at) }
+        ≡ read_found asked.now name.now file.now kept.now lines.entry.items open_at) }
 {
-    let lints = lints_counted(alloc, asked, kept, &lines)?;
+    let lints = lints_counted(alloc, asked, name, kept, &lines)?;
     let remarks = remarks_counted(alloc, asked, kept, &lines)?;
     let findings = placed_lines(alloc, kept, lines, open_at)?;
     let messages = messages_found(alloc, file, findings, remarks)?;

@@ -14,18 +14,19 @@ use rule_lints::Lint;
 use rule_places::{KeptLines, PlacedFinding};
 use std::alloc::{AllocError, Global};
 
-/// The lints of the lines of a rules file; none is looked for if none is asked for and comments, which may silence
+/// The lints of the lines of a rules file with a name; none is looked for if none is asked for and comments, which may silence
 /// lints, don't count.
 pub(crate) fn lints_counted(
     alloc: Global,
     asked: &Asked<'_>,
+    name: &[u8],
     kept: &KeptLines,
     lines: &[LandedReading<'_>],
 ) -> Result<Vec<PlacedFinding<Lint>>, AllocError>
-    ensures { IfOk result (λ lints. lints.items ≡ read_lints asked.now kept.now lines.now) }
+    ensures { IfOk result (λ lints. lints.items ≡ read_lints asked.now name.now kept.now lines.now) }
 {
     if asked.lint || has_comments(&asked.ignored) {
-        lints_of_lines(alloc, asked.profile, kept, lines)
+        lints_of_lines(alloc, asked.profile, name, kept, lines)
     } else {
         Ok(Vec::new(alloc))
     }

@@ -36,10 +36,11 @@ pub(crate) fn rules_found<'r>(
 {
     let file = read.file();
     let text = read.text();
+    let name = file.name.as_slice();
     let bytes = file.bytes.as_slice();
     match abandoned_at(asked.profile, bytes) {
         Some(number) => found_abandoned(alloc, text, bytes, number),
-        None => found_in_lines(alloc, asked, text, bytes, joined),
+        None => found_in_lines(alloc, asked, name, text, bytes, joined),
     }
 }
 
@@ -60,16 +61,17 @@ fn found_abandoned<'r>(
     })
 }
 
-/// What is found in the joined lines of a file with these bytes, which are read here and nowhere else.
+/// What is found in the joined lines of a file with a name and these bytes, which are read here and nowhere else.
 fn found_in_lines<'r>(
     alloc: Global,
     asked: &Asked<'_>,
+    name: &[u8],
     file: &'r FileText<'_>,
     bytes: &[u8],
     joined: &JoinedLines<'_>,
 ) -> Result<Counted<'r>, AllocError>
     ensures found { IfOk result (λ c. map shown c.diagnostics.items
-        ≡ read_found asked.now file.now (kept_lines bytes.now)
+        ≡ read_found asked.now name.now file.now (kept_lines bytes.now)
         (landed (map (reading_of asked.now.profile) joined.now.lines)) joined.now.open_at) }
     ensures tokens { IfOk result (λ c. c.tokens ≡ token_count (landed (map (reading_of asked.now.profile) joined.now.lines))) }
 {
@@ -77,7 +79,7 @@ fn found_in_lines<'r>(
     let lines = read_lines(alloc, asked.profile, joined.lines())?;
     let tokens = token_count(&lines)?;
     Ok(Counted {
-        diagnostics: lines_found(alloc, asked, file, &kept, lines, joined.open_at())?,
+        diagnostics: lines_found(alloc, asked, name, file, &kept, lines, joined.open_at())?,
         tokens,
     })
 }

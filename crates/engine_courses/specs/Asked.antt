@@ -7,11 +7,16 @@ use Rattle.text_bytes.specs.Names.{colon, newline}
 use Rattle.file_messages.specs.declared.message.Message.{Message}
 use Rattle.text_tables.specs.Texts.{Text, same_text}
 use Rattle.rule_types.specs.Rules.{Rule}
+use Rattle.engine_courses.specs.Named.{alike}
 use Rattle.engine_courses.specs.Nearest.{Place, nearest}
 
--- whether a text asks for a place: it is the file's name, or `FILE:LINE`
+-- whether a text is the name of a place's file, or `FILE:LINE`
+abbrev pub is_place : Text → Place → Bool
+is_place text place = same_text text place.0 || same_text text (place.0 ++ colon ∷ decimal place.1)
+
+-- whether a text asks for a place, by its file's name as the two are compared
 abbrev pub asks : Text → Place → Bool
-asks text place = same_text text place.0 || same_text text (place.0 ++ colon ∷ decimal place.1)
+asks text place = let both = alike text place.0 in is_place both.0 (both.1, place.1)
 
 -- whether one of the texts of `--why` asks for a line of a file
 abbrev pub is_asked : List Text → Text → ℕ → Bool

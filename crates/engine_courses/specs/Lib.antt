@@ -1,3 +1,4 @@
+pub mod Named
 pub mod Nearest
 pub mod Asked
 pub mod WhyLines

@@ -8,6 +8,7 @@ use Rattle.text_bytes.specs.Numbers.{capped}
 use Rattle.text_bytes.specs.Names.{colon}
 use Rattle.text_bytes.specs.Numbers.{decimal, is_decimal}
 use Rattle.text_tables.specs.Texts.{Text}
+use Rattle.engine_courses.specs.Named.{alike}
 
 -- a place: a file's name, and a line of it
 abbrev pub Place : Type 0
@@ -21,13 +22,17 @@ line_number digits = if is_decimal digits then Some (capped (decimal digits)) el
 abbrev pub line_in : Text → Text → Option ℕ
 line_in file text = option_and_then line_number (option_and_then (following (colon ∷ [])) (following file text))
 
+-- the line of a place's file that a text asks for, by the file's name as the two are compared
+abbrev pub line_asked : Text → Place → Option ℕ
+line_asked text place = let both = alike text place.0 in line_in both.1 both.0
+
 -- how far the line of a place is from another one, and the place
 abbrev pub Candidate : Type 0
 Candidate = ℕ × Place
 
 -- how far a place is from the line of its file that a text asks for, and the place
 abbrev pub candidate_of : Text → Place → Option Candidate
-candidate_of text place = option_map (λ line. (abs_diff line place.1, place)) (line_in place.0 text)
+candidate_of text place = option_map (λ line. (abs_diff line place.1, place)) (line_asked text place)
 
 -- whether one place is nearer than another: it is less far, or as far and on a smaller line
 abbrev pub is_nearer : Candidate → Candidate → Bool

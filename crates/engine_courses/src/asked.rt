@@ -2,8 +2,9 @@
 ghost use Rattle.std.specs.Prelude.{◌≡◌, ◌∷◌, decimal, map};
 ghost use Rattle.text_bytes.specs.Names.{colon};
 ghost use Rattle.text_tables.specs.Texts.{same_text};
-ghost use Rattle.engine_courses.specs.Asked.{asks, is_asked, is_known};
+ghost use Rattle.engine_courses.specs.Asked.{asks, is_asked, is_known, is_place};
 
+use crate::named::alike;
 use crate::places::Place;
 use itoa::Buffer;
 use text_bytes::following;
@@ -18,14 +19,22 @@ fn is_line(text: &[u8], line: u32) -> bool
     }
 }
 
-/// Whether a text asks for a line of a file.
-fn asks(text: &[u8], file: &[u8], line: u32) -> bool
-    ensures { result ≡ asks text.now (file.now, line) }
+/// Whether a text is the name of a file, or that and a line of it.
+fn is_place(text: &[u8], file: &[u8], line: u32) -> bool
+    ensures { result ≡ is_place text.now (file.now, line) }
 {
     match following(file, text) {
         None => false,
         Some(rest) => rest.is_empty() || is_line(rest, line),
     }
+}
+
+/// Whether a text asks for a line of a file.
+fn asks(text: &[u8], file: &[u8], line: u32) -> bool
+    ensures { result ≡ asks text.now (file.now, line) }
+{
+    let both = alike(text, file);
+    is_place(both.text, both.file, line)
 }
 
 /// Whether one of the texts of `--why` asks for a line of a file.

@@ -13,6 +13,7 @@ mod answers;
 mod asked;
 mod laws;
 mod lines;
+mod named;
 mod nearest;
 mod places;
 mod questions;

@@ -4,6 +4,7 @@ ghost use Rattle.text_bytes.specs.Numbers.{is_decimal};
 ghost use Rattle.engine_courses.specs.Inner.{nearer};
 ghost use Rattle.engine_courses.specs.Nearest.{candidate_of, is_nearer, least, line_in, line_number, nearest};
 
+use crate::named::alike;
 use crate::places::Place;
 use std::marker::Model;
 use text_bytes::{decimal_below, following, is_digit};
@@ -63,7 +64,8 @@ fn line_in(file: &[u8], text: &[u8]) -> Option<u32>
 fn candidate_of<'a>(text: &[u8], place: &'a Place<'a>) -> Option<Candidate<'a>>
     ensures { result ≡ candidate_of text.now place.now }
 {
-    let line = line_in(place.file(), text)?;
+    let both = alike(text, place.file());
+    let line = line_in(both.file, both.text)?;
     Some(Candidate {
         distance: line.abs_diff(place.line()),
         place,

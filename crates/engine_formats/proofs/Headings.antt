@@ -7,7 +7,7 @@ use Rattle.file_messages.specs.declared.message.MessageKind.{MessageKind}
 use Rattle.file_messages.specs.declared.message.MessageKind.TheVariants.{PropertyWithoutMatch, MatchWithoutProperty, UnindentedLine, NoEquals, EmptyKey, PatternNotSupported, BadSyntax, UnknownKey, OperatorNotAllowed, WrongAttribute, BadValue, BadSubstitution, NoLaterLabel, GivenTwice, LineTooLong, BadPrefix, SetNotSupported, OpenAtEnd, ReservedProperty, NameWithoutEffect, UnknownBuiltin, MatchesExclude, SaidTwice, RuleWithoutEffect, ResultBeforeProgram, EmptyValue, BadAttributeSubstitution, AttributeElsewhere, OldSubsystemName, AssignExpected, UnknownAccount, FileAbandoned, CommaExpected, BlankExpected, ReadAsAssign, LabelUnused, LeadingComma, BlankBeforeComma}
 use Rattle.rule_lints.specs.declared.lint.Lint.{Lint}
 use Rattle.rule_lints.specs.declared.lint.Lint.TheVariants.{NoMatch, NeverFits, BlankBesideBar, UnknownName, NotSubstituted, ListReplaced, MeantAsMatch}
-use Rattle.rule_lints.specs.declared.lint.Lint.TheVariants.{NameTooLong, WantedWithoutTag, ForbiddenCommand, NoResultYet}
+use Rattle.rule_lints.specs.declared.lint.Lint.TheVariants.{NameTooLong, WantedWithoutTag, ForbiddenCommand, NoResultYet, LinkOfNet, TagTooLate}
 use Rattle.rule_lints.specs.declared.lint.Lint.TheVariants.{ModeNotOctal, SignOfShell, RelativeProgram, LetterCase, NoSuchDevice, ImportedBelow, MeantToCompare, NameOutsideNet, LinkWithDev, QuotedName, NotAPattern, AlwaysHolds, NeverReached, NoPatternForUdev}
 use Rattle.engine_reports.specs.Checks.{is_style}
 use Rattle.engine_formats.specs.Advice.{advice_of}
@@ -85,6 +85,8 @@ in_two_parts (about.Lint NameTooLong) = (refl, refl)
 in_two_parts (about.Lint WantedWithoutTag) = (refl, refl)
 in_two_parts (about.Lint ForbiddenCommand) = (refl, refl)
 in_two_parts (about.Lint NoResultYet) = (refl, refl)
+in_two_parts (about.Lint LinkOfNet) = (refl, refl)
+in_two_parts (about.Lint TagTooLate) = (refl, refl)
 in_two_parts (about.DatabaseLint lint) = database_in_two_parts lint
 in_two_parts IdleIgnore = (refl, refl)
 in_two_parts UnknownCode = (refl, refl)
@@ -157,6 +159,8 @@ lint_warns NameTooLong = refl
 lint_warns WantedWithoutTag = refl
 lint_warns ForbiddenCommand = refl
 lint_warns NoResultYet = refl
+lint_warns LinkOfNet = refl
+lint_warns TagTooLate = refl
 
 -- the words on each remark stay on their line
 in_one_line : (remark : Remark) → Lacks newline (code_of remark) × Lacks newline (text_of remark) × Lacks newline (advice_of remark)
@@ -224,6 +228,8 @@ in_one_line (about.Lint NameTooLong) = (refl, refl, refl)
 in_one_line (about.Lint WantedWithoutTag) = (refl, refl, refl)
 in_one_line (about.Lint ForbiddenCommand) = (refl, refl, refl)
 in_one_line (about.Lint NoResultYet) = (refl, refl, refl)
+in_one_line (about.Lint LinkOfNet) = (refl, refl, refl)
+in_one_line (about.Lint TagTooLate) = (refl, refl, refl)
 in_one_line (about.DatabaseLint lint) = database_in_one_line lint
 in_one_line IdleIgnore = (refl, refl, refl)
 in_one_line UnknownCode = (refl, refl, refl)
@@ -307,6 +313,8 @@ code_has_no_colon (about.Lint NameTooLong) = refl
 code_has_no_colon (about.Lint WantedWithoutTag) = refl
 code_has_no_colon (about.Lint ForbiddenCommand) = refl
 code_has_no_colon (about.Lint NoResultYet) = refl
+code_has_no_colon (about.Lint LinkOfNet) = refl
+code_has_no_colon (about.Lint TagTooLate) = refl
 code_has_no_colon (about.DatabaseLint lint) = database_code_has_no_colon lint
 code_has_no_colon IdleIgnore = refl
 code_has_no_colon UnknownCode = refl

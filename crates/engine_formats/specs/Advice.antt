@@ -12,7 +12,7 @@ use Rattle.file_messages.specs.declared.message.MessageKind.TheVariants.{BlankEx
 use Rattle.rule_lints.specs.declared.lint.Lint.{Lint}
 use Rattle.rule_lints.specs.declared.lint.Lint.TheVariants.{ModeNotOctal, SignOfShell, RelativeProgram, LetterCase, NoSuchDevice, ImportedBelow, MeantToCompare}
 use Rattle.rule_lints.specs.declared.lint.Lint.TheVariants.{NoMatch, NeverFits, BlankBesideBar, UnknownName, NotSubstituted, ListReplaced, MeantAsMatch}
-use Rattle.rule_lints.specs.declared.lint.Lint.TheVariants.{NameTooLong, WantedWithoutTag, ForbiddenCommand, NoResultYet}
+use Rattle.rule_lints.specs.declared.lint.Lint.TheVariants.{NameTooLong, WantedWithoutTag, ForbiddenCommand, NoResultYet, LinkOfNet, TagTooLate}
 use Rattle.rule_lints.specs.declared.lint.Lint.TheVariants.{NameOutsideNet, LinkWithDev, QuotedName, NotAPattern, AlwaysHolds, NeverReached, NoPatternForUdev}
 use Rattle.engine_formats.specs.DatabaseLints.{database_advice}
 use Rattle.engine_formats.specs.declared.remark.Remark.{Remark}
@@ -67,7 +67,7 @@ advice_on_lint SignOfShell = codes "No shell runs the command: put /bin/sh -c be
 advice_on_lint RelativeProgram = codes "Write the full path of the program."
 advice_on_lint LetterCase = codes "Write lower case in these attributes, and upper case in the numbers of a modalias."
 advice_on_lint NoSuchDevice = codes "All ATTRS of a rule are compared with one device: use a rule for each device."
-advice_on_lint ImportedBelow = codes "Move the import of the property to a rule above this one."
+advice_on_lint ImportedBelow = codes "Put the rule below the import of the property, in this file or in a later one."
 advice_on_lint MeantToCompare = codes "Write == to compare the value, or put the assignment after the matches."
 advice_on_lint NameOutsideNet = codes "Only network devices can be renamed: give other devices a SYMLINK."
 advice_on_lint LinkWithDev = codes "Remove /dev/: a link is made there without it."
@@ -87,6 +87,8 @@ advice_on_lint NameTooLong = codes "Choose a name of at most 15 bytes."
 advice_on_lint WantedWithoutTag = codes "Add TAG+=\"systemd\" to the rule."
 advice_on_lint ForbiddenCommand = codes "Start a service by SYSTEMD_WANTS, or run systemd-mount."
 advice_on_lint NoResultYet = codes "Move PROGRAM to this rule, or to one above."
+advice_on_lint LinkOfNet = codes "Give the interface a NAME: it has no node, and so no links."
+advice_on_lint TagTooLate = codes "Give the file a name before 73-seat-late.rules, such as 70-mine.rules."
 
 -- the sentence on a remark
 abbrev pub advice_of : Remark → List ℕ

@@ -16,7 +16,7 @@ use Rattle.rule_lints.specs.declared.lint.Lint.{Lint}
 use Rattle.rule_lints.specs.declared.lint.Lint.TheVariants.{ModeNotOctal, SignOfShell, RelativeProgram, LetterCase, NoSuchDevice, ImportedBelow, MeantToCompare}
 use Rattle.rule_lints.specs.declared.lint.Lint.TheVariants.{NameOutsideNet, LinkWithDev, QuotedName, NotAPattern, AlwaysHolds, NeverReached, NoPatternForUdev}
 use Rattle.rule_lints.specs.declared.lint.Lint.TheVariants.{NoMatch, NeverFits, BlankBesideBar, UnknownName, NotSubstituted, ListReplaced, MeantAsMatch}
-use Rattle.rule_lints.specs.declared.lint.Lint.TheVariants.{NameTooLong, WantedWithoutTag, ForbiddenCommand, NoResultYet}
+use Rattle.rule_lints.specs.declared.lint.Lint.TheVariants.{NameTooLong, WantedWithoutTag, ForbiddenCommand, NoResultYet, LinkOfNet, TagTooLate}
 use Rattle.engine_formats.specs.declared.remark.Remark.{Remark}
 use Rattle.engine_formats.specs.declared.remark.Remark.TheVariants as about
 use Rattle.engine_formats.specs.declared.remark.Remark.TheVariants.{Message, IdleIgnore, UnknownCode}
@@ -35,7 +35,8 @@ abbrev pub lints : List Lint
 lints = ModeNotOctal ∷ SignOfShell ∷ RelativeProgram ∷ LetterCase ∷ NoSuchDevice ∷ ImportedBelow ∷ MeantToCompare
     ∷ NameOutsideNet ∷ LinkWithDev ∷ QuotedName ∷ NotAPattern ∷ AlwaysHolds ∷ NeverReached ∷ NoPatternForUdev
     ∷ NoMatch ∷ NeverFits ∷ BlankBesideBar ∷ UnknownName ∷ NotSubstituted ∷ ListReplaced
-    ∷ MeantAsMatch ∷ NameTooLong ∷ WantedWithoutTag ∷ ForbiddenCommand ∷ NoResultYet ∷ []
+    ∷ MeantAsMatch ∷ NameTooLong ∷ WantedWithoutTag ∷ ForbiddenCommand ∷ NoResultYet ∷ LinkOfNet
+    ∷ TagTooLate ∷ []
 
 -- each remark
 abbrev pub remarks : List Remark

@@ -7,7 +7,7 @@ use Rattle.rule_lints.specs.declared.lint.Lint.{Lint}
 use Rattle.rule_lints.specs.declared.lint.Lint.TheVariants.{ModeNotOctal, SignOfShell, RelativeProgram, LetterCase, NoSuchDevice, ImportedBelow, MeantToCompare}
 use Rattle.rule_lints.specs.declared.lint.Lint.TheVariants.{NameOutsideNet, LinkWithDev, QuotedName, NotAPattern, AlwaysHolds, NeverReached, NoPatternForUdev}
 use Rattle.rule_lints.specs.declared.lint.Lint.TheVariants.{NoMatch, NeverFits, BlankBesideBar, UnknownName, NotSubstituted, ListReplaced, MeantAsMatch}
-use Rattle.rule_lints.specs.declared.lint.Lint.TheVariants.{NameTooLong, WantedWithoutTag, ForbiddenCommand, NoResultYet}
+use Rattle.rule_lints.specs.declared.lint.Lint.TheVariants.{NameTooLong, WantedWithoutTag, ForbiddenCommand, NoResultYet, LinkOfNet, TagTooLate}
 use Rattle.engine_reports.specs.Messages.{heading_of}
 use Rattle.engine_formats.specs.DatabaseLints.{database_heading}
 use Rattle.engine_formats.specs.declared.remark.Remark.{Remark}
@@ -43,6 +43,8 @@ lint_heading NameTooLong = codes "W22 name of a network device too long"
 lint_heading WantedWithoutTag = codes "W23 unit wanted without a tag"
 lint_heading ForbiddenCommand = codes "W24 command that cannot work"
 lint_heading NoResultYet = codes "W25 result before its program"
+lint_heading LinkOfNet = codes "W26 link of a network device"
+lint_heading TagTooLate = codes "W27 tag uaccess in a late file"
 
 -- the code of a remark, and what it says
 abbrev pub remark_heading : Remark → List ℕ

@@ -108,7 +108,8 @@ const LETTER_CASE: &[u8] =
 const NO_SUCH_DEVICE: &[u8] =
     b"All ATTRS of a rule are compared with one device: use a rule for each device.";
 
-const IMPORTED_BELOW: &[u8] = b"Move the import of the property to a rule above this one.";
+const IMPORTED_BELOW: &[u8] =
+    b"Put the rule below the import of the property, in this file or in a later one.";
 
 const MEANT_TO_COMPARE: &[u8] =
     b"Write == to compare the value, or put the assignment after the matches.";
@@ -151,6 +152,11 @@ const WANTED_WITHOUT_TAG: &[u8] = b"Add TAG+=\"systemd\" to the rule.";
 const FORBIDDEN_COMMAND: &[u8] = b"Start a service by SYSTEMD_WANTS, or run systemd-mount.";
 
 const NO_RESULT_YET: &[u8] = b"Move PROGRAM to this rule, or to one above.";
+
+const LINK_OF_NET: &[u8] = b"Give the interface a NAME: it has no node, and so no links.";
+
+const TAG_TOO_LATE: &[u8] =
+    b"Give the file a name before 73-seat-late.rules, such as 70-mine.rules.";
 
 const IDLE_IGNORE: &[u8] = b"Remove the code from the comment, which silences nothing.";
 
@@ -247,5 +253,7 @@ fn advice_on_lint(lint: Lint) -> &'static [u8]
         Lint::WantedWithoutTag => WANTED_WITHOUT_TAG,
         Lint::ForbiddenCommand => FORBIDDEN_COMMAND,
         Lint::NoResultYet => NO_RESULT_YET,
+        Lint::LinkOfNet => LINK_OF_NET,
+        Lint::TagTooLate => TAG_TOO_LATE,
     }
 }

@@ -9,7 +9,7 @@ use hwdb_lints::DatabaseLint;
 use rule_lints::Lint;
 
 /// Each remark.
-const REMARKS: [Remark; 78] = [
+const REMARKS: [Remark; 80] = [
     Remark::Message(MessageKind::BadSyntax),
     Remark::Message(MessageKind::UnknownKey),
     Remark::Message(MessageKind::OperatorNotAllowed),
@@ -73,6 +73,8 @@ const REMARKS: [Remark; 78] = [
     Remark::Lint(Lint::WantedWithoutTag),
     Remark::Lint(Lint::ForbiddenCommand),
     Remark::Lint(Lint::NoResultYet),
+    Remark::Lint(Lint::LinkOfNet),
+    Remark::Lint(Lint::TagTooLate),
     Remark::DatabaseLint(DatabaseLint::DigitCase),
     Remark::DatabaseLint(DatabaseLint::NoModalias),
     Remark::DatabaseLint(DatabaseLint::EndMissing),

@@ -14,7 +14,7 @@ use text_bytes::{begins_with, split_once};
 pub enum Remark {
     /// A message about a file.
     Message(MessageKind),
-    /// W1 to W25: a rule is most likely not the one that was meant.
+    /// W1 to W27: a rule is most likely not the one that was meant.
     Lint(Lint),
     /// D1 to D13: a line of a database is most likely not the one that was meant.
     DatabaseLint(DatabaseLint),
@@ -123,6 +123,8 @@ fn lint_heading(lint: Lint) -> &'static [u8]
         Lint::WantedWithoutTag => b"W23 unit wanted without a tag",
         Lint::ForbiddenCommand => b"W24 command that cannot work",
         Lint::NoResultYet => b"W25 result before its program",
+        Lint::LinkOfNet => b"W26 link of a network device",
+        Lint::TagTooLate => b"W27 tag uaccess in a late file",
     }
 }
 

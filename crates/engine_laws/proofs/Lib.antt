@@ -13,4 +13,5 @@ pub mod Appearing
 pub mod ItemLines
 pub mod Told
 pub mod Nearest
+pub mod Paths
 pub mod Sides

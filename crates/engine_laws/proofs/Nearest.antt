@@ -4,7 +4,7 @@ use Rattle.std.proofs.lemmas.Bool.Decides.{nat_tests}
 use Rattle.std.specs.Int.{abs_diff}
 use Rattle.std.specs.List.{cons_option, list_any}
 use Rattle.text_tables.specs.Texts.{Text}
-use Rattle.engine_courses.specs.Nearest.{Candidate, Place, candidate_of, is_nearer, least, line_in, nearest}
+use Rattle.engine_courses.specs.Nearest.{Candidate, Place, candidate_of, is_nearer, least, line_asked, nearest}
 
 -- what is found passes the test
 passes : {X : Type 0} (p : X → Bool) (xs : List X) (x : X) → find p xs ≡ Some x → p x ≡ true
@@ -54,7 +54,7 @@ own text p (place ∷ places) found h = by (candidate_of text place) refl h (own
     one c e false h k = k h
     one c e true h k =
         let same : c ≡ found = cc in
-        ap (candidate_of text) (ap (λ (d : Candidate). d.1) (sym same) ∙ line_of c (line_in place.0 text) e) ∙ e ∙ h
+        ap (candidate_of text) (ap (λ (d : Candidate). d.1) (sym same) ∙ line_of c (line_asked text place) e) ∙ e ∙ h
 
     by : (o : Option Candidate) → candidate_of text place ≡ o → find p (cons_option o (filter_map (candidate_of text) places)) ≡ Some found
         → (find p (filter_map (candidate_of text) places) ≡ Some found → candidate_of text found.1 ≡ Some found) → candidate_of text found.1 ≡ Some found

@@ -18,9 +18,9 @@ use Rattle.device_core.specs.Values.{AnswerValue, DeviceValue, EventValue}
 use Rattle.device_core.specs.declared.faults.BlockFault.{BlockFault}
 use Rattle.device_core.specs.declared.faults.BlockFaultKind.{BlockFaultKind}
 use Rattle.device_core.specs.declared.faults.BlockFaultKind.TheVariants.{NoAction, NoDevice, Nul, Number, Pair, Path, TooDeep, TooLong}
-use Rattle.device_core.specs.declared.lines.DeviceField.TheVariants.{Subsystem, Driver, Node, Devnum, Attribute, Property, Tag, Link}
+use Rattle.device_core.specs.declared.lines.DeviceField.TheVariants.{Subsystem, Driver, Node, Devnum, Attribute, Property, Stored, Tag, Link}
 use Rattle.device_core.specs.declared.lines.LineKind.{LineKind}
-use Rattle.device_core.specs.declared.lines.LineKind.TheVariants.{Action, Device, Field, Constant, Command, Answer}
+use Rattle.device_core.specs.declared.lines.LineKind.TheVariants.{Action, Device, Field, Constant, Command, Answer, Output}
 use Rattle.engine_laws.specs.Filled.{filled, filled_event}
 use Rattle.eval_courses.specs.Questions.{can_be_asked, fits_in_line}
 
@@ -167,11 +167,13 @@ kind_fine above (Field Node) rest below s h = refl
 kind_fine above (Field Devnum) rest below s h = refl
 kind_fine above (Field Attribute) rest below s h = refl
 kind_fine above (Field Property) rest below s h = refl
+kind_fine above (Field Stored) rest below s h = refl
 kind_fine above (Field Tag) rest below s h = refl
 kind_fine above (Field Link) rest below s h = refl
 kind_fine above Constant rest below s h = refl
 kind_fine above Command rest below s h = ap (λ b. not b && list_all fits_in_line rest) (neither_first (is_empty rest) _ h) ∙ s
 kind_fine above Answer rest below s h = refl
+kind_fine above Output rest below s h = refl
 
 row_fine : (above : List Row) (line : Text) (row : Row) (below : List Text) → row_of line ≡ Some row → row_fault above row.0 row.1 below ≡ None → list_all fits_in_line line ≡ true → fine_row row ≡ true
 unfolding row_of

@@ -4,13 +4,16 @@ use Rattle.std.specs.List.{filter}
 use Rattle.std.proofs.lemmas.List.{map-append}
 use Rattle.std.proofs.lemmas.List.Elements.{filter-append}
 use Rattle.text_bytes.specs.Texts.{word_of}
-use Rattle.text_bytes.specs.declared.profile.Profile.TheVariants.{Manual}
+use Rattle.text_bytes.specs.declared.profile.Profile.{Profile}
+use Rattle.text_bytes.specs.declared.profile.Profile.TheVariants.{Manual, Udev}
 use Rattle.text_tables.specs.Texts.{Text}
 use Rattle.builtin_devices.specs.Knowledge.{Known}
 use Rattle.device_core.specs.Values.{EventValue}
 use Rattle.rule_types.specs.declared.part.Act.{Act}
 use Rattle.rule_types.specs.declared.part.ActKind.{ActKind}
 use Rattle.rule_types.specs.declared.part.ActKind.TheVariants as act_kind
+use Rattle.rule_types.specs.declared.part.Import.{Import}
+use Rattle.rule_types.specs.declared.part.Import.TheVariants as import
 use Rattle.rule_types.specs.Rules.{Rule}
 use Rattle.eval_rendering.specs.declared.rendered.Rendered.{Rendered}
 use Rattle.eval_rendering.specs.declared.rendered.Rendered.TheVariants as rendered
@@ -22,7 +25,7 @@ use Rattle.eval_state.specs.declared.notes.Note.{Note}
 use Rattle.eval_state.specs.declared.scene.Scene.{Scene}
 use Rattle.eval_state.specs.declared.state.State.{State}
 use Rattle.eval_acts.specs.ActTexts.{program_text, test_text}
-use Rattle.eval_acts.specs.Acts.{act_step, imported, on_text, performed}
+use Rattle.eval_acts.specs.Acts.{act_step, import_reached, imported, on_text, performed}
 use Rattle.eval_acts.specs.Inner.{left}
 use Rattle.eval_acts.specs.Questions.{tested}
 use Rattle.eval_rules.specs.Idle.{is_idle_by}
@@ -69,6 +72,12 @@ words_are : (r : Rule) (asked : List Text) → map word (map (note_about r NoAns
 words_are r [] = refl
 words_are r (command ∷ asked) = ap (λ words. word_of command ∷ words) (words_are r asked)
 
+-- by the manual an IMPORT leaves nothing by being reached
+none_reached : (p : Profile) (r : Rule) (i : Import) (s : Scene) → p ≡ Manual → import_reached p r i s ≡ s
+none_reached Manual r (import.Builtin t) s m = refl
+none_reached Manual r i s m = refl
+none_reached Udev r i s m = absurd (cc)
+
 act_kind_says : (known : Known) (r : Rule) (d : ActKind) (s : Scene) → s.state.event.profile ≡ Manual → Says s (act_asks d s.state) (left r d (performed known r d s))
 act_kind_says known r (act_kind.Test mask t) s m = quiet_says s (left r (act_kind.Test mask t) (on_text (tested r mask) (test_text t s.state) s)) (text_quiet r (act_kind.Test mask t) (tested r mask) (tested_quiet r mask) (test_text t s.state) s)
 act_kind_says known r (act_kind.Program t) s m =
@@ -76,7 +85,9 @@ act_kind_says known r (act_kind.Program t) s m =
     ∙ map-append word (filter is_no_answer s.notes) (map (note_about r NoAnswer) (act_asks (act_kind.Program t) s.state))
     ∙ ap (λ words. no_answers s ++ words) (words_are r (act_asks (act_kind.Program t) s.state))
 act_kind_says known r (act_kind.Import i) s m =
-    quiet_says s (left r (act_kind.Import i) (imported s.state.event.profile known r i s)) (imported_quiet s.state.event.profile known r (act_kind.Import i) i s m)
+    quiet_says s (left r (act_kind.Import i) (imported s.state.event.profile known r i (import_reached s.state.event.profile r i s)))
+    (ap (λ (t : Scene). filter is_no_answer (left r (act_kind.Import i) (imported s.state.event.profile known r i t)).notes) (none_reached s.state.event.profile r i s m)
+    ∙ imported_quiet s.state.event.profile known r (act_kind.Import i) i s m)
     ∙ ap (λ asked. no_answers s ++ map word_of asked) (sym (ap (λ p. import_asks p i s.state) m))
 
 act_says : (known : Known) (r : Rule) (act : Act) (s : Scene) → s.state.event.profile ≡ Manual → Says s (act_asks act.kind s.state) (act_step known r act s).0

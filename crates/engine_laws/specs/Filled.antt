@@ -19,6 +19,7 @@ device = record {
   number = None;
   attrs = [];
   env = [];
+  stored = [];
   tags = [];
   links = [];
 }

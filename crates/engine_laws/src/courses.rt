@@ -1,7 +1,7 @@
 //! What is true of the lines of `--why` on rules.
 //!
 //! Each function here is empty: its contract is the law.
-ghost use Rattle.std.specs.Prelude.{◌≡◌, ◌≤◌, ◌+◌, ◌++◌, ◌∷◌, [], Contains, List, None, Some, if◌then◌else◌, length};
+ghost use Rattle.std.specs.Prelude.{◌≡◌, ◌≤◌, ◌+◌, ◌++◌, ◌∷◌, [], Contains, List, None, Some, codes, false, if◌then◌else◌, length, true};
 ghost use Rattle.text_tables.specs.Texts.{Text};
 ghost use Rattle.builtin_devices.specs.Knowledge.{Known};
 ghost use Rattle.rule_types.specs.Rules.{Rule};
@@ -11,6 +11,7 @@ ghost use Rattle.eval_state.specs.Scenes.{start};
 ghost use Rattle.eval_state.specs.declared.scene.Scene.{Scene};
 ghost use Rattle.eval_effects.specs.Since.{Since, no_since};
 ghost use Rattle.eval_courses.specs.Courses.{course};
+ghost use Rattle.engine_courses.specs.Asked.{asks};
 ghost use Rattle.engine_courses.specs.Nearest.{Candidate, Place, candidate_of, nearest};
 ghost use Rattle.engine_courses.specs.WhyLines.{passed_texts, reported_for, reported_if_asked, sought_by};
 ghost use Rattle.engine_laws.specs.Told.{jumping_over, lines_reached, since_through};
@@ -34,4 +35,13 @@ pub fn a_course_is_as_long_as_the_keys_that_it_reaches()
 pub fn no_place_is_nearer_than_the_nearest()
     ensures { (text : Text) (places : List Place) (place other : Place) (near far : Candidate) → nearest text places ≡ Some place
         → Contains places other → candidate_of text place ≡ Some near → candidate_of text other ≡ Some far → near.0 ≤ far.0 }
+{}
+
+/// A path asks for the file that is read under the name that it ends in, and a name alone for the file that was named by
+/// a path; of files that were named by paths, a path asks for its own alone.
+#[tactic(auto, using(crate::proofs::Paths::by_path, crate::proofs::Paths::by_name, crate::proofs::Paths::other_path))]
+pub fn a_path_asks_for_the_file_of_its_name()
+    ensures path { asks (codes "d/r.rules") (codes "r.rules", 2) ≡ true }
+    ensures name { asks (codes "r.rules") (codes "d/r.rules", 1) ≡ true }
+    ensures other { asks (codes "e/r.rules") (codes "d/r.rules", 1) ≡ false }
 {}

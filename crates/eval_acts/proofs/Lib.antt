@@ -5,3 +5,4 @@ pub mod Plain
 pub mod Runs
 pub mod Seeing
 pub mod Setting
+pub mod Nothing

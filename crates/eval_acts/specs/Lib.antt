@@ -2,6 +2,7 @@ pub mod LookUps
 pub mod LookUpNeeds
 pub mod BuiltinRuns
 pub mod Imports
+pub mod Stored
 pub mod Reaching
 pub mod Acts
 pub mod Questions
@@ -9,3 +10,4 @@ pub mod ActTexts
 pub mod Printed
 pub mod UsbModalias
 pub mod Inner
+pub mod Unread

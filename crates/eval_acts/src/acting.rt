@@ -4,15 +4,18 @@ ghost use Rattle.rule_types.specs.declared.types.ImportType.TheVariants.{File};
 ghost use Rattle.eval_rendering.specs.Bounds.{most_command_bytes, most_path_bytes};
 ghost use Rattle.eval_state.specs.Scenes.{blank};
 ghost use Rattle.eval_acts.specs.ActTexts.{import_text, names_text, program_text, test_text};
-ghost use Rattle.eval_acts.specs.Acts.{act_step, from_parent_by, imported, on_text, performed, proceeds, too_long_noted};
+ghost use Rattle.eval_acts.specs.Acts.{act_step, from_parent_by, import_reached, imported, on_text, performed, proceeds, too_long_noted};
 ghost use Rattle.eval_acts.specs.Imports.{from_program, not_run, run_builtin};
 ghost use Rattle.eval_acts.specs.Questions.{answered_by_block, tested, with_result};
+ghost use Rattle.eval_acts.specs.Unread.{unread_noted};
 
 use crate::act_texts::{import_text, names_text, plain_command, program_text, test_text};
 use crate::imports::{
     import_cmdline, import_named, import_parent, import_printed, not_run, run_builtin,
 };
 use crate::questions::{ask, clear_result, look_for};
+use crate::stored::import_stored;
+use crate::unread::note_unread;
 use builtin_devices::Knowledge;
 use eval_matching::agrees;
 use eval_rendering::{MAX_COMMAND_BYTES, MAX_PATH_BYTES, Rendered};
@@ -85,6 +88,23 @@ fn builtin<K: Knowledge>(
         }
         Rendered::TooLong => Ok(None),
     }
+}
+
+/// IMPORT{builtin} for udev: an attribute that it would read for the command, and a dry run does not, leaves a note.
+fn builtin_noted<K: Knowledge>(
+    alloc: Global,
+    rule: &Rule,
+    template: &Template,
+    knowledge: &K,
+    scene: &mut Scene<'_>,
+) -> Result<Option<bool>, AllocError>
+    ensures scene { IfOk result (λ done. (scene.new, done)
+        ≡ on_text (run_builtin (K.known knowledge.now) rule.now) (import_text most_command_bytes template.now scene.old.state)
+        (unread_noted rule.now template.now scene.old)) }
+    ensures refused { OnErr result (scene.new.state.event ≡ scene.old.state.event) }
+{
+    note_unread(alloc, rule, template, scene)?;
+    builtin(alloc, rule, template, knowledge, scene)
 }
 
 /// IMPORT{parent} for udev.
@@ -165,16 +185,17 @@ fn import_udev<K: Knowledge>(
     knowledge: &K,
     scene: &mut Scene<'_>,
 ) -> Result<Option<bool>, AllocError>
-    ensures scene { IfOk result (λ done. (scene.new, done) ≡ imported Profile.Udev (K.known knowledge.now) rule.now from.now scene.old) }
+    ensures scene { IfOk result (λ done. (scene.new, done)
+        ≡ imported Profile.Udev (K.known knowledge.now) rule.now from.now (import_reached Profile.Udev rule.now from.now scene.old)) }
     ensures refused { OnErr result (scene.new.state.event ≡ scene.old.state.event) }
 {
     match from {
-        Import::Builtin(template) => builtin(alloc, rule, template, knowledge, scene),
+        Import::Builtin(template) => builtin_noted(alloc, rule, template, knowledge, scene),
         Import::Parent(_, text) => parent_named(alloc, text.as_slice(), scene),
         Import::Program(template) => program_answered(alloc, rule, template, scene),
         Import::File(template) => file_named(alloc, rule, template, scene),
         Import::Cmdline(name) => Ok(Some(import_cmdline(alloc, rule, name.as_slice(), scene)?)),
-        other => Ok(Some(not_run(alloc, rule, other.import_type(), scene)?)),
+        Import::Db(name) => Ok(Some(import_stored(alloc, rule, name.as_slice(), scene)?)),
     }
 }
 
@@ -186,7 +207,8 @@ fn import<K: Knowledge>(
     knowledge: &K,
     scene: &mut Scene<'_>,
 ) -> Result<Option<bool>, AllocError>
-    ensures scene { IfOk result (λ done. (scene.new, done) ≡ imported scene.old.state.event.profile (K.known knowledge.now) rule.now from.now scene.old) }
+    ensures scene { IfOk result (λ done. (scene.new, done) ≡ imported scene.old.state.event.profile (K.known knowledge.now) rule.now from.now
+        (import_reached scene.old.state.event.profile rule.now from.now scene.old)) }
     ensures refused { OnErr result (scene.new.state.event ≡ scene.old.state.event) }
 {
     match scene.state.event.event().profile() {
@@ -273,15 +295,18 @@ fn act_noted<K: Knowledge>(
 /// done.
 ///
 /// In an event of udev's (systemd 257) TEST is done if the name of an attribute is the path or begins with it and a
-/// slash, and for the empty path; the first `*/` in it stands for a folder, and `[SUBSYSTEM/KERNEL]` in front for a device
-/// of the chain, without which the test is not made. PROGRAM empties the result before its command is rendered, and the
-/// result has `_` for bytes that do not belong in an attribute. The value of IMPORT{parent} is rendered, and is one
-/// pattern of fnmatch(3). IMPORT{program} is done if the event's block answers the rendered command with status 0, and
-/// sets the properties that the answer gives, one for each line; without an answer it leaves the note `no answer for
-/// program`. The beginning of `hwdb` may be written for it; an empty value that it finds removes the property. A text over
-/// 1,023 bytes of TEST, IMPORT{parent} and IMPORT{file}, or over 16,383 bytes of PROGRAM and other types of IMPORT, leaves
-/// the note `text too long`, and stops the rule with either operator; so does a TEST whose path has over 1,023 bytes with
-/// `/sys`, the path of the event device and a slash before it.
+/// slash, and for the empty path; the first `*/` in it stands for a folder, and `[SUBSYSTEM/KERNEL]` in front for a
+/// device of the chain, without which the test is not made. PROGRAM empties the result before its command is rendered,
+/// and the result has `_` for bytes that do not belong in an attribute. The value of IMPORT{parent} is rendered, and is
+/// one pattern of fnmatch(3). IMPORT{program} is done if the event's block answers the rendered command with status 0,
+/// and sets the properties that the answer gives, one for each line; without an answer it leaves the note `no answer for
+/// program`. The beginning of `hwdb` may be written for it; an empty value that it finds removes the property.
+/// IMPORT{db} is done if the block says that udev had stored the property, which it sets, and fails on `remove`; if the
+/// block says of no property that it was stored, it leaves the note `import not run`. An attribute in the command of a
+/// builtin that udev would read, and a dry run does not, leaves the note `attribute not read`. A text over 1,023 bytes of
+/// TEST, IMPORT{parent} and IMPORT{file}, or over 16,383 bytes of PROGRAM and other types of IMPORT, leaves the note `text
+/// too long`, and stops the rule with either operator; so does a TEST whose path has over 1,023 bytes with `/sys`, the path
+/// of the event device and a slash before it.
 ///
 /// If memory runs out, nothing is left of the scene but its event.
 #[tactic(auto, unfolding(crate::specs::Acts::act_step))]

@@ -14,6 +14,8 @@ mod printed;
 mod questions;
 mod reaching;
 mod seen;
+mod stored;
+mod unread;
 mod usb_modalias;
 
 pub use act_texts::{import_text, names_text, program_text, test_text};
@@ -21,3 +23,4 @@ pub use acting::act_step;
 pub use imports::line_for;
 pub use lookups::look_up;
 pub use reaching::match_reached;
+pub use stored::{is_removal, is_stored_known};

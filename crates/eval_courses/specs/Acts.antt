@@ -27,6 +27,7 @@ use Rattle.eval_state.specs.declared.state.State.{State}
 use Rattle.eval_acts.specs.ActTexts.{import_text, names_text, program_text, test_text}
 use Rattle.eval_acts.specs.Acts.{act_step}
 use Rattle.eval_acts.specs.Imports.{line_for}
+use Rattle.eval_acts.specs.Stored.{is_stored_known}
 use Rattle.eval_effects.specs.Items.{is_present}
 use Rattle.eval_effects.specs.Shown.{joined, shown}
 use Rattle.eval_courses.specs.Keys.{act_key}
@@ -127,6 +128,11 @@ abbrev pub cmdline_report : Profile → (name : Text) → State → List Pair �
 cmdline_report profile.Manual name s env = codes "not run"
 cmdline_report profile.Udev name s env = line_report (line_for name s.event) s env
 
+-- what an IMPORT{db} met, by the properties after it; by the manual it is not run, nor if it is not known what was stored
+abbrev pub stored_report : Profile → State → List Pair → Text
+stored_report profile.Manual s env = codes "not run"
+stored_report profile.Udev s env = if is_stored_known s.event then taken_report s.env env else codes "not run"
+
 -- what an IMPORT met, by the properties after it
 abbrev pub import_report : Import → State → List Pair → Text
 import_report (import.Builtin template) s env =
@@ -135,7 +141,7 @@ import_report (import.Parent names value) s env = parent_report s.event.profile 
 import_report (import.Program template) s env = program_import_report s.event.profile template s env
 import_report (import.File template) s env = unrun_report s.event.profile most_path_bytes template s
 import_report (import.Cmdline name) s env = cmdline_report s.event.profile name s env
-import_report (import.Db name) s env = codes "not run"
+import_report (import.Db name) s env = stored_report s.event.profile s env
 
 -- what an act met, by the properties after it
 abbrev pub act_kind_report : ActKind → State → List Pair → Text

@@ -12,7 +12,7 @@ ghost use Rattle.text_bytes.specs.Names.{space};
 ghost use Rattle.eval_effects.specs.Shown.{shown};
 ghost use Rattle.eval_courses.specs.Acts.{act_kind_report, act_report, answer_report, asks_elsewhere, cmdline_report};
 ghost use Rattle.eval_courses.specs.Acts.{import_report, is_elsewhere, on_rendered, parent_report};
-ghost use Rattle.eval_courses.specs.Acts.{path_report, printed_report, program_import_report, taken_report, unrun_report};
+ghost use Rattle.eval_courses.specs.Acts.{path_report, printed_report, program_import_report, stored_report, taken_report, unrun_report};
 ghost use Rattle.eval_courses.specs.Inner.{done_report, report_after};
 ghost use Rattle.eval_courses.specs.Keys.{act_key};
 ghost use Rattle.eval_courses.specs.Looks.{met};
@@ -23,7 +23,9 @@ use crate::keys::push_act_key;
 use crate::plain::push_met;
 use crate::properties::{copied, newly_set, push_changed, removed};
 use builtin_devices::Knowledge;
-use eval_acts::{act_step, import_text, line_for, names_text, program_text, test_text};
+use eval_acts::{
+    act_step, import_text, is_stored_known, line_for, names_text, program_text, test_text,
+};
 use eval_effects::push_shown;
 use eval_rendering::{MAX_COMMAND_BYTES, MAX_PATH_BYTES, Rendered};
 use eval_state::{Chain, Named, Place, Scene, State};
@@ -267,6 +269,17 @@ fn cmdline_report_before(
     }
 }
 
+/// What is known of the report on an IMPORT{db} before it is done.
+fn stored_report_before(alloc: Global, state: &State<'_>) -> Result<ReportBefore, AllocError>
+    ensures { IfOk result (λ o. (env : List Pair) → report_after o env ≡ stored_report state.now.event.profile state.now env) }
+{
+    let event = state.event.event();
+    match event.profile() {
+        Profile::Udev if is_stored_known(event) => taking(alloc, state),
+        _ => Ok(ReportBefore::Whole(Bytes::copy_of(alloc, b"not run")?)),
+    }
+}
+
 /// What is known of the report on an IMPORT before it is done.
 fn import_report_before(
     alloc: Global,
@@ -286,7 +299,7 @@ fn import_report_before(
             state,
         )?)),
         Import::Cmdline(name) => cmdline_report_before(alloc, name.as_slice(), state),
-        Import::Db(_) => Ok(ReportBefore::Whole(Bytes::copy_of(alloc, b"not run")?)),
+        Import::Db(_) => stored_report_before(alloc, state),
     }
 }
 

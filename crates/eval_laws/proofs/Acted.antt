@@ -14,6 +14,7 @@ use Rattle.text_core.specs.Fnmatch.{fnmatch_items}
 use Rattle.text_core.specs.declared.item.Item.{Item}
 use Rattle.text_core.specs.declared.reading.Reading.TheVariants.{Exact}
 use Rattle.builtin_devices.specs.Knowledge.{Known}
+use Rattle.rule_templates.specs.Template.{Parts as Template}
 use Rattle.rule_types.specs.Names.{import_name}
 use Rattle.rule_types.specs.WrittenParts.{attribute_of_act_kind, key_of_act_kind}
 use Rattle.rule_types.specs.declared.part.Act.{Act}
@@ -33,7 +34,7 @@ use Rattle.eval_rendering.specs.declared.rendered.Rendered.TheVariants as render
 use Rattle.eval_state.specs.Notes.{word_of_key}
 use Rattle.eval_state.specs.Scenes.{noted, with_env}
 use Rattle.eval_state.specs.declared.note_kind.NoteKind.{NoteKind}
-use Rattle.eval_state.specs.declared.note_kind.NoteKind.TheVariants.{BadHwdbArguments, BuiltinNeeds, BuiltinNotRun, ImportNotRun, NoAnswer, TestNotMade, TextTooLong}
+use Rattle.eval_state.specs.declared.note_kind.NoteKind.TheVariants.{AttributeNotRead, BadHwdbArguments, BuiltinNeeds, BuiltinNotRun, ImportNotRun, NoAnswer, TestNotMade, TextTooLong}
 use Rattle.eval_state.specs.declared.scene.Scene.{Scene}
 use Rattle.hwdb_lookup.specs.Query.{query}
 use Rattle.rule_types.specs.Builtins.{builtin_name}
@@ -52,19 +53,23 @@ use Rattle.eval_state.specs.Places.{is_there, place_of}
 use Rattle.eval_state.specs.Named.{NamedValue, named, named_place}
 use Rattle.eval_state.specs.Properties.{given_properties, properties_set, property_set}
 use Rattle.eval_acts.specs.ActTexts.{import_text, names_text, program_text, test_text}
-use Rattle.eval_acts.specs.Acts.{act_step, from_parent_by, imported, on_text, performed}
+use Rattle.eval_acts.specs.Acts.{act_step, command_reached, from_parent_by, import_reached, imported, on_text, performed}
 use Rattle.eval_acts.specs.Inner.{left}
+use Rattle.eval_acts.specs.Stored.{from_stored, is_stored_known, stored_value}
 use Rattle.eval_acts.specs.LookUpNeeds.{lookup_needs}
 use Rattle.eval_acts.specs.Imports.{builtin_run, from_answer_or_noted, from_cmdline, from_line, from_parent, from_program, line_for, name_given, names_fitting}
 use Rattle.eval_acts.specs.Imports.{not_run, run_builtin, taken, with_found}
 use Rattle.eval_acts.specs.Printed.{printed_properties}
 use Rattle.eval_acts.specs.Questions.{answered_by_block, answered_or_noted, result_of, tested, tested_at, tested_by, tested_by_udev, with_result}
-use Rattle.eval_laws.specs.Allowances.{act_kind_allowance, builtin_allowance, entries_weight}
+use Rattle.eval_acts.specs.Unread.{first_unread, unread_notes}
+use Rattle.eval_laws.specs.Allowances.{act_kind_allowance, builtin_allowance, entries_weight, import_allowance}
 use Rattle.eval_laws.specs.Inner.{Within, scene_weight}
+use Rattle.eval_laws.specs.Weights.{note_weight}
 use Rattle.eval_laws.proofs.Tables.{with_value_light, with_values_light, without_name_light}
 use Rattle.eval_laws.proofs.Sums.{filter_light, fold_light}
 use Rattle.eval_laws.proofs.Found.{found_light, query_light}
 use Rattle.eval_laws.proofs.PrintedWeights.{answered_weight, answers_light, printed_light}
+use Rattle.eval_laws.proofs.StoredWeights.{stored_light}
 use Rattle.eval_laws.proofs.CmdlineWeights.{cmdline_light, line_light, line_weight, set_weight}
 use Rattle.eval_laws.proofs.Scenes.{more, noted_within}
 use Rattle.eval_laws.proofs.Starts.{properties_light}
@@ -319,6 +324,16 @@ module _ (event : EventValue) where
         let b = ap (λ e. line_weight (line_for name e)) h.same in
         line_within name (line_for name s.state.event) (omega (arith, a, b, short))
 
+    stored_within : (name : Text) → event_weight event ≤ most → Within event (n + most) (from_stored r name s).0
+    stored_within name short = by (is_stored_known s.state.event)
+      where
+        by : (b : Bool) → Within event (n + most) (if b then name_given name (stored_value name s.state.event) s else not_run r import_of.Db s).0
+        by true =
+            let a = stored_light name event in
+            let b = ap (λ e. set_weight name (stored_value name e)) h.same in
+            given_within name (stored_value name s.state.event) (omega (arith, a, b, short))
+        by false = not_run_within import_of.Db
+
     second_within : (names : List (List Item)) → event_weight event ≤ most → Within event (n + most) (from_parent names (device_at s.state.event 1) s).0
     second_within names short =
         let a = parent_light event in
@@ -347,11 +362,31 @@ module _ (event : EventValue) where
     import_within Manual d known (import.Cmdline name) light short = not_run_within import_of.Cmdline
     import_within Udev d known (import.Cmdline name) light short = cmdline_within name short
     import_within Manual d known (import.Db name) light short = not_run_within import_of.Db
-    import_within Udev d known (import.Db name) light short = not_run_within import_of.Db
+    import_within Udev d known (import.Db name) light short = stored_within name short
 
   emptied : (n : ℕ) (s : Scene) → Within event n s → Within event n (with_result [] s)
   unfolding scene_weight
   emptied n s h = record { same = h.same; light = h.light }
+
+  -- a command that is reached, with a note or none
+  unread_within : (n : ℕ) (r : Rule) (s : Scene) → Within event n s → (name : Option Text)
+      → Within event (n + (length r.file + 280)) (record s { notes = s.notes ++ unread_notes r name })
+  unfolding scene_weight
+  unread_within n r s h None =
+      let a = h.light in
+      let b = sum_by-append note_weight s.notes [] in
+      record { same = h.same; light = omega (arith, a, b) }
+  unread_within n r s h (Some name) = noted_within event n r AttributeNotRead name s h
+
+  command_within : (n : ℕ) (r : Rule) (s : Scene) → Within event n s → (profile : Profile) (template : Template)
+      → Within event (n + (length r.file + 280)) (command_reached profile r template s)
+  command_within n r s h Manual template = more event n (n + (length r.file + 280)) s (omega arith) h
+  command_within n r s h Udev template = unread_within n r s h (first_unread s.state.event template.pieces)
+
+  reached_within : (n : ℕ) (r : Rule) (s : Scene) → Within event n s → (profile : Profile) (from : Import)
+      → Within event (n + (length r.file + 280)) (import_reached profile r from s)
+  reached_within n r s h profile (import.Builtin template) = command_within n r s h profile template
+  reached_within n r s h profile from = more event n (n + (length r.file + 280)) s (omega arith) h
 
   module _ (len : ℕ) (short : event_weight event ≤ len) (known : Known) where
     act_kind_within : (n : ℕ) (r : Rule) (s : Scene) → Within event n s → (d : ActKind) → Within event (n + act_kind_allowance event.profile len known.entries r d) (left r d (performed known r d s))
@@ -363,7 +398,12 @@ module _ (event : EventValue) where
         on_text_within n r (with_result [] s) (emptied n s h) most (omega arith) (act_kind.Program template) (answered_by_block r) (program_text template s.state)
         (asked_within n r (with_result [] s) (emptied n s h) most (omega arith))
     act_kind_within n r s h (act_kind.Import from) =
-        import_within n r s h (act_kind_allowance event.profile len known.entries r (act_kind.Import from)) (omega arith) s.state.event.profile (act_kind.Import from) known from (omega arith) (omega (arith, short))
+        let note : ℕ = length r.file + 280 in
+        let most : ℕ = note + import_allowance event.profile len known.entries (act_kind.Import from) in
+        let reached : Scene = import_reached s.state.event.profile r from s in
+        let inside = reached_within n r s h s.state.event.profile from in
+        more event ((n + note) + most) (n + act_kind_allowance event.profile len known.entries r (act_kind.Import from)) _ (omega arith)
+        (import_within (n + note) r reached inside most (omega arith) s.state.event.profile (act_kind.Import from) known from (omega arith) (omega (arith, short)))
 
     -- an act
     pub act_within : (r : Rule) (act : Act) (n : ℕ) (s : Scene) → Within event n s → Within event (n + act_kind_allowance event.profile len known.entries r act.kind) (act_step known r act s).0

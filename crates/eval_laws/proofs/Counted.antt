@@ -1,5 +1,5 @@
 -- How many notes a scene has, and how many commands that may leave one: each part of a rule adds at most one.
-use Rattle.std.proofs.Common.{◌≡◌, ℕ, ◌+◌, ◌≤◌, Bool, true, false, List, [], ◌∷◌, length, fold, Option, None, if◌then◌else◌, refl, arith}
+use Rattle.std.proofs.Common.{◌≡◌, ℕ, ◌+◌, ◌*◌, ◌≤◌, Bool, true, false, List, [], ◌∷◌, length, fold, Option, None, if◌then◌else◌, refl, arith}
 use Rattle.std.proofs.lemmas.List.{length-append}
 use Rattle.std.proofs.lemmas.List.Sums.{sum_by-cons}
 use Rattle.std.specs.List.{sum_by}
@@ -33,16 +33,16 @@ use Rattle.eval_rules.specs.Jumps.{is_passed, run, sought_after}
 use Rattle.eval_rules.specs.Outcomes.{late_note, late_notes, outcome, outcome_of, run_text}
 use Rattle.eval_rules.specs.Idle.{change_applies, is_idle, note_all, note_step}
 use Rattle.eval_rules.specs.Steps.{Went, apply, before_sets, if_proceeding, only_noted, plain_step, result_step, search, steps, walk}
-use Rattle.eval_laws.specs.Counts.{part_count}
+use Rattle.eval_laws.specs.Counts.{most_notes}
 use Rattle.eval_laws.proofs.Sums.{sum_less}
 use Rattle.eval_laws.proofs.CountedActs.{act_counts}
 use Rattle.eval_laws.proofs.CountedSets.{set_counts}
 use Rattle.eval_laws.proofs.Measured.{measured, noted_more}
 
--- what the parts of a rule add at most, if each adds so much
+-- what the parts of a rule add at most, if each note and each command adds so much: an act adds two
 abbrev pub parts_most : ℕ → Rule → ℕ
 parts_most most r =
-    sum_by (λ (p : PlainMatch). most) r.plain + sum_by (λ (p : Act). most) r.acts + sum_by (λ (p : Comparison). most) r.results + sum_by (λ (p : Assignment). most) r.sets
+    sum_by (λ (p : PlainMatch). most) r.plain + sum_by (λ (p : Act). most + most) r.acts + sum_by (λ (p : Comparison). most) r.results + sum_by (λ (p : Assignment). most) r.sets
 
 ones : {X : Type 0} (xs : List X) → sum_by (λ (x : X). 1) xs ≡ length xs
 ones [] = refl
@@ -122,7 +122,7 @@ module _ (w : Note → ℕ) (v : RunValue → ℕ) (c : Rule → ℕ) (light : (
   went_counts known r step each s =
       let most : ℕ = c r in
       let p : ℕ = counted s + sum_by (λ (x : PlainMatch). most) r.plain in
-      let a : ℕ = p + sum_by (λ (x : Act). most) r.acts in
+      let a : ℕ = p + sum_by (λ (x : Act). most + most) r.acts in
       let b : ℕ = a + sum_by (λ (x : Comparison). most) r.results in
       let plainly : Went = walk (plain_step r) r.plain s in
       let found : Went = if_proceeding (search r.up) plainly in
@@ -130,7 +130,7 @@ module _ (w : Note → ℕ) (v : RunValue → ℕ) (c : Rule → ℕ) (light : (
       let after_plain = walk_counts most (plain_step r) (plain_counts r) r.plain s in
       let after_up = if_proceeding_counts (search r.up) 0 p plainly after_plain (search_counts r r.up) in
       let after_acts =
-      if_proceeding_counts (walk (act_step known r) r.acts) (sum_by (λ (x : Act). most) r.acts) p found (omega (arith, after_up)) (walk_counts most (act_step known r) (act_counts w v c light known r) r.acts) in
+      if_proceeding_counts (walk (act_step known r) r.acts) (sum_by (λ (x : Act). most + most) r.acts) p found (omega (arith, after_up)) (walk_counts (most + most) (act_step known r) (act_counts w v c light known r) r.acts) in
       let after_results = if_proceeding_counts (walk result_step r.results) (sum_by (λ (x : Comparison). most) r.results) a acted after_acts (walk_counts most result_step (result_counts r) r.results) in
       let after_sets = if_proceeding_counts (λ (t : Scene). (fold step t r.sets, true)) (sum_by (λ (x : Assignment). most) r.sets) b (before_sets known r s) after_results (sets_count r step each r.sets) in
       omega (arith, after_sets)
@@ -208,16 +208,20 @@ lates_count state (kept ∷ runs) =
     let c = lates_count state runs in
     omega (arith, a, b, c)
 
--- if each part counts one
-parts_count : (r : Rule) → parts_most 1 r ≤ part_count r
+twos : {X : Type 0} (xs : List X) → sum_by (λ (x : X). 2) xs ≡ 2 * length xs
+twos [] = refl
+twos (x ∷ xs) = let a = sum_by-cons (λ y. 2) x xs in let b = twos xs in omega (arith, a, b)
+
+-- if each note counts one
+parts_count : (r : Rule) → parts_most 1 r ≤ most_notes r
 parts_count r =
     let a = ones r.plain in
-    let b = ones r.acts in
+    let b = twos r.acts in
     let c = ones r.results in
     let d = ones r.sets in
     omega (arith, a, b, c, d)
 
-pub notes_counted : (rules : List Rule) (known : Known) (event : EventValue) → length (outcome rules known event).notes ≤ sum_by part_count rules
+pub notes_counted : (rules : List Rule) (known : Known) (event : EventValue) → length (outcome rules known event).notes ≤ sum_by most_notes rules
 unfolding outcome_of
 notes_counted rules known event =
     let s : Scene = run known None rules (start event) in
@@ -226,5 +230,5 @@ notes_counted rules known event =
     let c = length-append s.notes (late_notes s.state s.runs) in
     let d = ones s.notes in
     let e = ones s.runs in
-    let f = sum_less (λ r. parts_most 1 r) part_count parts_count rules in
+    let f = sum_less (λ r. parts_most 1 r) most_notes parts_count rules in
     omega (arith, a, b, c, d, e, f)

@@ -1,5 +1,6 @@
 -- How much an act of a rule adds to what is counted.
-use Rattle.std.proofs.Common.{ℕ, ◌+◌, ◌≤◌, nat_le, Bool, true, false, ◌==◌, List, [], ◌∷◌, Option, Some, None, is_some, ◌||◌, codes, if◌then◌else◌, arith}
+use Rattle.std.proofs.Common.{ℕ, ◌+◌, ◌≤◌, nat_le, Bool, true, false, ◌==◌, List, [], ◌∷◌, ◌++◌, Option, Some, None, is_some, ◌||◌, codes, if◌then◌else◌, arith}
+use Rattle.std.proofs.lemmas.List.Sums.{sum_by-append}
 use Rattle.text_bytes.specs.Names.{slash}
 use Rattle.text_bytes.specs.Texts.{begins_with}
 use Rattle.text_bytes.specs.declared.profile.Profile.{Profile}
@@ -10,6 +11,7 @@ use Rattle.text_core.specs.Fnmatch.{fnmatch_items}
 use Rattle.text_core.specs.declared.item.Item.{Item}
 use Rattle.text_core.specs.declared.reading.Reading.TheVariants.{Exact}
 use Rattle.builtin_devices.specs.Knowledge.{Known}
+use Rattle.rule_templates.specs.Template.{Parts as Template}
 use Rattle.rule_types.specs.Names.{import_name}
 use Rattle.rule_types.specs.WrittenParts.{attribute_of_act_kind, key_of_act_kind}
 use Rattle.rule_types.specs.declared.part.Act.{Act}
@@ -33,7 +35,7 @@ use Rattle.eval_state.specs.Properties.{properties_set}
 use Rattle.eval_state.specs.Scenes.{noted, with_env}
 use Rattle.eval_state.specs.declared.notes.Note.{Note}
 use Rattle.eval_state.specs.declared.note_kind.NoteKind.{NoteKind}
-use Rattle.eval_state.specs.declared.note_kind.NoteKind.TheVariants.{BadHwdbArguments, BuiltinNeeds, BuiltinNotRun, ImportNotRun, NoAnswer, TestNotMade, TextTooLong}
+use Rattle.eval_state.specs.declared.note_kind.NoteKind.TheVariants.{AttributeNotRead, BadHwdbArguments, BuiltinNeeds, BuiltinNotRun, ImportNotRun, NoAnswer, TestNotMade, TextTooLong}
 use Rattle.eval_state.specs.declared.scene.Scene.{Scene}
 use Rattle.rule_types.specs.Builtins.{builtin_name}
 use Rattle.rule_types.specs.declared.builtins.Builtin.TheVariants.{InputId, NetId, NetSetupLink, PathId, UsbId}
@@ -44,13 +46,15 @@ use Rattle.eval_commands.specs.Cmdline.{cmdline_value}
 use Rattle.eval_commands.specs.declared.builtin.Builtin.{Builtin}
 use Rattle.eval_commands.specs.declared.builtin.Builtin.TheVariants as asked_for
 use Rattle.eval_acts.specs.ActTexts.{import_text, names_text, program_text, test_text}
-use Rattle.eval_acts.specs.Acts.{act_step, from_parent_by, imported, on_text, performed}
+use Rattle.eval_acts.specs.Acts.{act_step, command_reached, from_parent_by, import_reached, imported, on_text, performed}
 use Rattle.eval_acts.specs.Inner.{left}
+use Rattle.eval_acts.specs.Stored.{from_stored, is_stored_known, stored_value}
+use Rattle.eval_acts.specs.Imports.{builtin_run, from_answer_or_noted, from_line, from_parent, from_program, line_for, name_given, not_run, run_builtin, taken}
 use Rattle.eval_acts.specs.LookUpNeeds.{lookup_needs}
 use Rattle.eval_acts.specs.LookUps.{found}
-use Rattle.eval_acts.specs.Imports.{builtin_run, from_answer_or_noted, from_line, from_parent, from_program, line_for, name_given, not_run, run_builtin, taken}
 use Rattle.eval_acts.specs.Printed.{printed_properties}
 use Rattle.eval_acts.specs.Questions.{answered_by_block, answered_or_noted, result_of, tested, tested_at, tested_by, tested_by_udev, with_result}
+use Rattle.eval_acts.specs.Unread.{first_unread, unread_notes}
 use Rattle.eval_laws.proofs.Measured.{measured, noted_more}
 
 module _ (w : Note → ℕ) (v : RunValue → ℕ) (c : Rule → ℕ) (light : (r : Rule) (kind : NoteKind) (text : Text) → w (note_about r kind text) ≤ c r) where
@@ -161,6 +165,13 @@ module _ (w : Note → ℕ) (v : RunValue → ℕ) (c : Rule → ℕ) (light : (
     line_counts name None = not_run_counts import_of.Cmdline
     line_counts name (Some line) = given_counts name (cmdline_value name line)
 
+    stored_counts : (name : Text) → counted (from_stored r name s).0 ≤ counted s + c r
+    stored_counts name = by (is_stored_known s.state.event)
+      where
+        by : (b : Bool) → counted (if b then name_given name (stored_value name s.state.event) s else not_run r import_of.Db s).0 ≤ counted s + c r
+        by true = given_counts name (stored_value name s.state.event)
+        by false = not_run_counts import_of.Db
+
     built_counts : (d : ActKind) (known : Known) (given : Rendered) → counted (left r d (on_text (run_builtin known r) given s)) ≤ counted s + c r
     built_counts d known given = on_text_counts d (run_builtin known r) given (λ command. builtin_counts known command (builtin s.state.event.profile command))
 
@@ -178,16 +189,37 @@ module _ (w : Note → ℕ) (v : RunValue → ℕ) (c : Rule → ℕ) (light : (
     import_counts Manual d known (import.Cmdline name) = not_run_counts import_of.Cmdline
     import_counts Udev d known (import.Cmdline name) = line_counts name (line_for name s.state.event)
     import_counts Manual d known (import.Db name) = not_run_counts import_of.Db
-    import_counts Udev d known (import.Db name) = not_run_counts import_of.Db
+    import_counts Udev d known (import.Db name) = stored_counts name
 
-  act_kind_counts : (known : Known) (r : Rule) (s : Scene) (d : ActKind) → counted (left r d (performed known r d s)) ≤ counted s + c r
-  act_kind_counts known r s (act_kind.Test mask template) = on_text_counts r s (act_kind.Test mask template) (tested r mask) (test_text template s.state) (tested_counts r s mask)
+  -- a command that is reached, with a note or none
+  unread_counts : (r : Rule) (name : Option Text) (s : Scene) → counted (record s { notes = s.notes ++ unread_notes r name }) ≤ counted s + c r
+  unread_counts r None s = let a = sum_by-append w s.notes [] in omega (arith, a)
+  unread_counts r (Some name) s = noted_more w v c light r s AttributeNotRead name
+
+  command_counts : (profile : Profile) (r : Rule) (template : Template) (s : Scene) → counted (command_reached profile r template s) ≤ counted s + c r
+  command_counts Manual r template s = omega arith
+  command_counts Udev r template s = unread_counts r (first_unread s.state.event template.pieces) s
+
+  reached_counts : (profile : Profile) (r : Rule) (from : Import) (s : Scene) → counted (import_reached profile r from s) ≤ counted s + c r
+  reached_counts profile r (import.Builtin template) s = command_counts profile r template s
+  reached_counts profile r from s = omega arith
+
+  act_kind_counts : (known : Known) (r : Rule) (s : Scene) (d : ActKind) → counted (left r d (performed known r d s)) ≤ counted s + (c r + c r)
+  act_kind_counts known r s (act_kind.Test mask template) =
+      let a = on_text_counts r s (act_kind.Test mask template) (tested r mask) (test_text template s.state) (tested_counts r s mask) in
+      omega (arith, a)
   act_kind_counts known r s (act_kind.Program template) =
+      let a =
       on_text_counts r (with_result [] s) (act_kind.Program template) (answered_by_block r) (program_text template s.state)
-      (λ command. answered_counts r (with_result [] s) command (value_of s.state.event.programs command))
-  act_kind_counts known r s (act_kind.Import from) = import_counts r s s.state.event.profile (act_kind.Import from) known from
+      (λ command. answered_counts r (with_result [] s) command (value_of s.state.event.programs command)) in
+      omega (arith, a)
+  act_kind_counts known r s (act_kind.Import from) =
+      let reached : Scene = import_reached s.state.event.profile r from s in
+      let a = reached_counts s.state.event.profile r from s in
+      let b = import_counts r reached s.state.event.profile (act_kind.Import from) known from in
+      omega (arith, a, b)
 
-  -- an act of a rule
-  pub act_counts : (known : Known) (r : Rule) (act : Act) (s : Scene) → counted (act_step known r act s).0 ≤ counted s + c r
+  -- an act of a rule, which leaves at most two notes
+  pub act_counts : (known : Known) (r : Rule) (act : Act) (s : Scene) → counted (act_step known r act s).0 ≤ counted s + (c r + c r)
   unfolding act_step
   act_counts known r act s = act_kind_counts known r s act.kind

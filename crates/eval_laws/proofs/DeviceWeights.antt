@@ -1,26 +1,26 @@
 -- The texts of an event are parts of its lines, and those of its block.
-use Rattle.std.proofs.Common.{◌≡◌, ℕ, ◌+◌, ◌≤◌, Bool, true, false, ◌&&◌, ◌||◌, ◌==◌, List, [], ◌∷◌, length, take, drop, map, Option, Some, None, Result, Ok, Err, unwrap_or, refl, ap, sym, ◌∙◌, if◌then◌else◌, option_map, arith}
-use Rattle.std.proofs.lemmas.List.{length-take, length-drop}
-use Rattle.std.proofs.lemmas.List.Sums.{sum_by-cons}
+use Rattle.std.proofs.Common.{◌≡◌, ℕ, ◌+◌, ◌≤◌, Bool, true, false, ◌&&◌, ◌||◌, ◌==◌, List, [], ◌∷◌, ◌++◌, length, take, drop, map, Option, Some, None, Result, Ok, Err, unwrap_or, refl, ap, sym, ◌∙◌, if◌then◌else◌, option_map, arith}
+use Rattle.std.proofs.lemmas.List.{length-append, length-take, length-drop}
+use Rattle.std.proofs.lemmas.List.Sums.{sum_by-append, sum_by-cons}
 use Rattle.std.proofs.lemmas.List.Quantifiers.{position-Some}
-use Rattle.std.specs.Option.{option_and_then}
-use Rattle.std.specs.List.{sum_by, filter_map, cons_option, zip, position, onto_first}
-use Rattle.text_bytes.specs.Names.{newline, colon, space, equals}
+use Rattle.std.specs.Option.{option_and_then, option_to_list}
+use Rattle.std.specs.List.{fold, sum_by, filter_map, cons_option, zip, position, onto_first}
+use Rattle.text_bytes.specs.Names.{carriage_return, newline, colon, space, equals}
 use Rattle.text_bytes.specs.Texts.{first, is_empty, split_once}
 use Rattle.text_bytes.specs.Lines.{lines}
 use Rattle.text_tables.specs.Texts.{Text}
 use Rattle.text_tables.specs.Pairs.{Pair}
-use Rattle.device_core.specs.Values.{NumberValue, DeviceValue, AnswerValue, EventValue}
+use Rattle.device_core.specs.Values.{NumberValue, DeviceValue, AnswerValue, EventValue, with_line}
 use Rattle.device_core.specs.Lines.{Row, kind_of, row_from, row_of}
 use Rattle.device_core.specs.Parts.{with_name, pair_of, is_part, with_parts, number_of, number_below, answer_parts, with_status, answer_of}
-use Rattle.device_core.specs.Blocks.{is_kind, text_in, texts, pairs, numbers, answers, before_device, groups, device, devices, programs, event}
+use Rattle.device_core.specs.Blocks.{is_kind, text_in, texts, pairs, numbers, answers, answers_after, change_last, before_device, groups, device, devices, programs, event}
 use Rattle.device_core.specs.RunBlocks.{is_too_long}
 use Rattle.device_core.specs.Faults.{given_by, block_gives}
 use Rattle.eval_laws.specs.DeviceWeights.{text_weight, given_weight, pair_weight, number_weight, device_weight, devices_weight, answer_weight, event_weight}
 use Rattle.eval_laws.specs.DeviceLaws.{rows_of, has_device}
-use Rattle.device_core.specs.declared.lines.DeviceField.TheVariants.{Subsystem, Driver, Node, Devnum, Attribute, Property, Tag, Link}
+use Rattle.device_core.specs.declared.lines.DeviceField.TheVariants.{Subsystem, Driver, Node, Devnum, Attribute, Property, Stored, Tag, Link}
 use Rattle.device_core.specs.declared.lines.LineKind.{LineKind}
-use Rattle.device_core.specs.declared.lines.LineKind.TheVariants.{Action, Device, Field, Constant, Command, Answer}
+use Rattle.device_core.specs.declared.lines.LineKind.TheVariants.{Action, Device, Field, Constant, Command, Answer, Output}
 use Rattle.device_core.specs.declared.faults.BlockFault.{BlockFault}
 use Rattle.eval_laws.proofs.LeastFault.{event_says, is_there, devices_there}
 
@@ -119,23 +119,69 @@ module _ (row : Row) (rows : List Row) where
   unfolding numbers texts
   numbers_one = through number_own number_of (text_in (Field Devnum) row) (filter_map (text_in (Field Devnum)) rows)
 
-  answers_one : sum_by answer_own (answers (row ∷ rows)) ≡ option_weight answer_own (option_and_then answer_of (text_in Answer row)) + sum_by answer_own (answers rows)
-  unfolding answers texts
-  answers_one = through answer_own answer_of (text_in Answer row) (filter_map (text_in Answer) rows)
+-- what a line adds to the answers
+abbrev answer_added : LineKind → Text → ℕ
+answer_added Answer rest = option_weight answer_own (answer_of rest)
+answer_added Output rest = length rest + 1
+answer_added _ rest = 0
+
+longer : (rest : Text) (given : List AnswerValue) → sum_by answer_own (change_last (with_line rest) given) ≤ sum_by answer_own given + (length rest + 1)
+longer rest [] = omega arith
+longer rest (a ∷ []) =
+    let x = sum_by-cons answer_own a [] in
+    let y = sum_by-cons answer_own (with_line rest a) [] in
+    let z = length-append a.text (carriage_return ∷ rest) in
+    omega (arith, x, y, z)
+longer rest (a ∷ b ∷ given) =
+    let x = sum_by-cons answer_own a (b ∷ given) in
+    let y = sum_by-cons answer_own a (change_last (with_line rest) (b ∷ given)) in
+    let more = longer rest (b ∷ given) in
+    omega (arith, x, y, more)
+
+one_answer : (given : List AnswerValue) (o : Option AnswerValue) → sum_by answer_own (given ++ option_to_list o) ≤ sum_by answer_own given + option_weight answer_own o
+one_answer given None = let x = sum_by-append answer_own given [] in omega (arith, x)
+one_answer given (Some a) = let x = sum_by-append answer_own given (a ∷ []) in let y = sum_by-cons answer_own a [] in omega (arith, x, y)
+
+answered_light : (kind : LineKind) (given : List AnswerValue) (rest : Text) → sum_by answer_own (answers_after given kind rest) ≤ sum_by answer_own given + answer_added kind rest
+answered_light Action given rest = omega arith
+answered_light Device given rest = omega arith
+answered_light (Field field) given rest = omega arith
+answered_light Constant given rest = omega arith
+answered_light Command given rest = omega arith
+answered_light Answer given rest = one_answer given (answer_of rest)
+answered_light Output given rest = longer rest given
+
+abbrev answer_by_row : Row → ℕ
+answer_by_row row = answer_added row.0 row.1
+
+fold_answers : (given : List AnswerValue) (rows : List Row) → sum_by answer_own (fold (λ g row. answers_after g row.0 row.1) given rows) ≤ sum_by answer_own given + sum_by answer_by_row rows
+fold_answers given [] = omega arith
+fold_answers given (row ∷ rows) =
+    let here = answered_light row.0 given row.1 in
+    let more = fold_answers (answers_after given row.0 row.1) rows in
+    let x = sum_by-cons answer_by_row row rows in
+    omega (arith, here, more, x)
+
+-- the answers weigh no more than the lines add
+answers_light : (rows : List Row) → sum_by answer_own (answers rows) ≤ sum_by answer_by_row rows
+unfolding answers
+answers_light rows =
+    let all : sum_by answer_own (answers rows) ≤ 0 + sum_by answer_by_row rows = fold_answers [] rows in
+    omega (arith, all)
 
 -- what rows say of a device
 unfoldable device_rows : List Row → ℕ
-device_rows rows = texts_by Device rows + texts_by (Field Subsystem) rows + texts_by (Field Driver) rows + texts_by (Field Node) rows + sum_by number_own (numbers rows) + pairs_by (Field Attribute) rows + pairs_by (Field Property) rows + texts_by (Field Tag) rows + texts_by (Field Link) rows
+device_rows rows = texts_by Device rows + texts_by (Field Subsystem) rows + texts_by (Field Driver) rows + texts_by (Field Node) rows + sum_by number_own (numbers rows) + pairs_by (Field Attribute) rows + pairs_by (Field Property) rows + pairs_by (Field Stored) rows + texts_by (Field Tag) rows + texts_by (Field Link) rows
 
 -- and what they say besides
 unfoldable other_rows : List Row → ℕ
-other_rows rows = texts_by Action rows + texts_by Command rows + sum_by answer_own (answers rows) + pairs_by Constant rows
+other_rows rows = texts_by Action rows + texts_by Command rows + sum_by answer_by_row rows + pairs_by Constant rows
 
 unfoldable device_own : Row → ℕ
-device_own row = option_weight text_weight (text_in Device row) + option_weight text_weight (text_in (Field Subsystem) row) + option_weight text_weight (text_in (Field Driver) row) + option_weight text_weight (text_in (Field Node) row) + option_weight number_own (option_and_then number_of (text_in (Field Devnum) row)) + option_weight pair_weight (option_and_then pair_of (text_in (Field Attribute) row)) + option_weight pair_weight (option_and_then pair_of (text_in (Field Property) row)) + option_weight text_weight (text_in (Field Tag) row) + option_weight text_weight (text_in (Field Link) row)
+device_own row = option_weight text_weight (text_in Device row) + option_weight text_weight (text_in (Field Subsystem) row) + option_weight text_weight (text_in (Field Driver) row) + option_weight text_weight (text_in (Field Node) row) + option_weight number_own (option_and_then number_of (text_in (Field Devnum) row)) + option_weight pair_weight (option_and_then pair_of (text_in (Field Attribute) row)) + option_weight pair_weight (option_and_then pair_of (text_in (Field Property) row)) + option_weight pair_weight (option_and_then pair_of (text_in (Field Stored) row)) + option_weight text_weight (text_in (Field Tag) row) + option_weight text_weight (text_in (Field Link) row)
 
 unfoldable other_own : Row → ℕ
-other_own row = option_weight text_weight (text_in Action row) + option_weight text_weight (text_in Command row) + option_weight answer_own (option_and_then answer_of (text_in Answer row)) + option_weight pair_weight (option_and_then pair_of (text_in Constant row))
+other_own row = option_weight text_weight (text_in Action row) + option_weight text_weight (text_in Command row) + answer_by_row row + option_weight pair_weight (option_and_then pair_of (text_in Constant row))
 
 device_rows_one : (row : Row) (rows : List Row) → device_rows (row ∷ rows) ≡ device_own row + device_rows rows
 unfolding device_rows device_own
@@ -147,16 +193,17 @@ device_rows_one row rows =
     let e = numbers_one row rows in
     let f = pairs_one row rows (Field Attribute) in
     let g = pairs_one row rows (Field Property) in
+    let s = pairs_one row rows (Field Stored) in
     let h = texts_one row rows (Field Tag) in
     let k = texts_one row rows (Field Link) in
-    omega (arith, a, b, c, d, e, f, g, h, k)
+    omega (arith, a, b, c, d, e, f, g, s, h, k)
 
 other_rows_one : (row : Row) (rows : List Row) → other_rows (row ∷ rows) ≡ other_own row + other_rows rows
 unfolding other_rows other_own
 other_rows_one row rows =
     let a = texts_one row rows Action in
     let b = texts_one row rows Command in
-    let c = answers_one row rows in
+    let c = sum_by-cons answer_by_row row rows in
     let d = pairs_one row rows Constant in
     omega (arith, a, b, c, d)
 
@@ -175,11 +222,13 @@ own_light (Field Node, rest) = omega arith
 own_light (Field Devnum, rest) = let light = number_light rest in omega (arith, light)
 own_light (Field Attribute, rest) = let light = pair_light rest in omega (arith, light)
 own_light (Field Property, rest) = let light = pair_light rest in omega (arith, light)
+own_light (Field Stored, rest) = let light = pair_light rest in omega (arith, light)
 own_light (Field Tag, rest) = omega arith
 own_light (Field Link, rest) = omega arith
 own_light (Constant, rest) = let light = pair_light rest in omega (arith, light)
 own_light (Command, rest) = omega arith
 own_light (Answer, rest) = let light = answer_light rest in omega (arith, light)
+own_light (Output, rest) = omega arith
 
 path_light : (row : Row) → is_kind Device row ≡ true → device_own row + other_own row + 2 ≤ load row
 unfolding device_own other_own
@@ -191,14 +240,16 @@ path_light (Field Node, rest) h = cc
 path_light (Field Devnum, rest) h = cc
 path_light (Field Attribute, rest) h = cc
 path_light (Field Property, rest) h = cc
+path_light (Field Stored, rest) h = cc
 path_light (Field Tag, rest) h = cc
 path_light (Field Link, rest) h = cc
 path_light (Constant, rest) h = cc
 path_light (Command, rest) h = cc
 path_light (Answer, rest) h = cc
+path_light (Output, rest) h = cc
 
 rows_light : (rows : List Row) → device_rows rows + other_rows rows ≤ sum_by load rows
-unfolding device_rows other_rows texts pairs numbers answers
+unfolding device_rows other_rows texts pairs numbers
 rows_light [] = omega arith
 rows_light (row ∷ rows) = step row rows (rows_light rows)
   where
@@ -304,7 +355,8 @@ event_light rows d ds some are =
     let c = devices_light rows in
     let e = zip_light (texts Command rows) (answers rows) in
     let f = slack rows some in
-    omega (arith, a, b, c, e, f)
+    let g = answers_light rows in
+    omega (arith, a, b, c, e, f, g)
 
 -- ---- the lines of a block
 

@@ -32,7 +32,7 @@ use Rattle.eval_commands.specs.declared.builtin.Builtin.TheVariants as asked
 use Rattle.eval_commands.specs.declared.hwdb.Hwdb.{Hwdb}
 use Rattle.eval_acts.specs.ActTexts.{path_by, within_by}
 use Rattle.eval_acts.specs.Acts as acts
-use Rattle.eval_acts.specs.Acts.{act_step, imported, on_text, proceeds, too_long_noted}
+use Rattle.eval_acts.specs.Acts.{act_step, command_reached, imported, on_text, proceeds, too_long_noted}
 use Rattle.eval_acts.specs.BuiltinRuns.{needs_noted}
 use Rattle.eval_acts.specs.Imports.{builtin_run, from_parent, run_builtin, with_found}
 use Rattle.eval_acts.specs.LookUpNeeds.{lookup_needs}
@@ -87,7 +87,8 @@ module _ (known : Known) (r : Rule) (s : Scene) (manual : s.state.event.profile 
   unfolding act_step
   database_set template command hwdb text reads =
       let here : ActKind = act_kind.Import (import.Builtin template) in
-      ap (λ (p : Profile). after here (on_text (run_builtin known r) (within_by p most_command_bytes (render template s.state Plain)) s)) manual
+      ap (λ (p : Profile). after here (imported p known r (import.Builtin template) (command_reached p r template s))) manual
+      ∙ ap (λ (p : Profile). after here (on_text (run_builtin known r) (within_by p most_command_bytes (render template s.state Plain)) s)) manual
       ∙ ap (λ (x : Rendered). after here (on_text (run_builtin known r) x s)) text
       ∙ ap (λ (p : Profile). after here (acts.tried (builtin_run known r command (builtin p command) s))) manual
       ∙ ap (λ (b : Builtin). after here (acts.tried (builtin_run known r command b s))) reads

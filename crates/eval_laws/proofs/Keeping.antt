@@ -12,6 +12,7 @@ use Rattle.text_core.specs.declared.item.Item.{Item}
 use Rattle.text_core.specs.declared.reading.Reading.TheVariants.{Exact}
 use Rattle.builtin_devices.specs.Knowledge.{Known}
 use Rattle.device_core.specs.Values.{AnswerValue, DeviceValue}
+use Rattle.rule_templates.specs.Template.{Parts}
 use Rattle.rule_types.specs.declared.roles.PlainKey.{PlainKey}
 use Rattle.rule_types.specs.declared.roles.PlainKey.TheVariants as plain
 use Rattle.rule_types.specs.declared.part.Act.{Act}
@@ -22,7 +23,7 @@ use Rattle.rule_types.specs.declared.part.Import.{Import}
 use Rattle.rule_types.specs.declared.part.Import.TheVariants as import
 use Rattle.rule_types.specs.declared.part.PlainMatch.{PlainMatch}
 use Rattle.rule_types.specs.declared.part.UpMatch.{UpMatch}
-use Rattle.rule_types.specs.declared.types.ImportType.TheVariants.{File}
+use Rattle.rule_types.specs.declared.types.ImportType.TheVariants.{Db, File}
 use Rattle.rule_types.specs.Rules.{Rule}
 use Rattle.eval_state.specs.Chains.{device_at}
 use Rattle.eval_state.specs.Places.{is_there, place_of}
@@ -48,11 +49,12 @@ use Rattle.eval_state.specs.declared.scene.Scene.{Scene}
 use Rattle.eval_matching.specs.Attributes.{is_not_read}
 use Rattle.eval_matching.specs.Subjects.{is_not_given}
 use Rattle.eval_acts.specs.ActTexts.{import_text, names_text, program_text}
-use Rattle.eval_acts.specs.Acts.{act_step, from_parent_by, imported, on_text, performed, too_long_noted}
+use Rattle.eval_acts.specs.Acts.{act_step, command_reached, from_parent_by, import_reached, imported, on_text, performed, too_long_noted}
 use Rattle.eval_acts.specs.BuiltinRuns.{looked_up, most_set, needs_noted, outcome_set, outcome_taken, path_id_run, properties_size, usb_id_run, with_maker}
+use Rattle.eval_acts.specs.Stored.{from_stored, is_stored_known, stored_value}
+use Rattle.eval_acts.specs.Imports.{builtin_run, from_answer_or_noted, from_line, from_parent, from_program, line_for, name_given, not_run, run_builtin, taken}
 use Rattle.eval_acts.specs.LookUpNeeds.{lookup_needs}
 use Rattle.eval_acts.specs.LookUps.{found}
-use Rattle.eval_acts.specs.Imports.{builtin_run, from_answer_or_noted, from_line, from_parent, from_program, line_for, name_given, not_run, run_builtin, taken}
 use Rattle.eval_acts.specs.Printed.{printed_properties}
 use Rattle.eval_acts.specs.Questions.{answered_by_block, answered_or_noted, result_of, tested, tested_at, tested_by, tested_by_udev, with_result}
 use Rattle.eval_acts.specs.Reaching.{match_reached}
@@ -179,6 +181,13 @@ line_same : (r : Rule) (name : Text) (line : Option Text) (s : Scene) → Same s
 line_same r name None s = refl
 line_same r name (Some line) s = given_same name (cmdline_value name line) s
 
+stored_same : (r : Rule) (name : Text) (s : Scene) → Same s (from_stored r name s).0
+stored_same r name s = by (is_stored_known s.state.event)
+  where
+    by : (b : Bool) → Same s (cond b (name_given name (stored_value name s.state.event) s) (not_run r Db s)).0
+    by true = given_same name (stored_value name s.state.event) s
+    by false = refl
+
 built_same : (known : Known) (r : Rule) (text : Rendered) (s : Scene) → Same s (on_text (run_builtin known r) text s).0
 built_same known r text s = on_text_same (run_builtin known r) (λ c u. builtin_same known r c _ u) text s
 
@@ -196,7 +205,15 @@ imported_same Udev known r (import.File t) s = on_text_same (λ path. not_run r 
 imported_same Manual known r (import.Cmdline name) s = refl
 imported_same Udev known r (import.Cmdline name) s = line_same r name (line_for name s.state.event) s
 imported_same Manual known r (import.Db name) s = refl
-imported_same Udev known r (import.Db name) s = refl
+imported_same Udev known r (import.Db name) s = stored_same r name s
+
+command_same : (p : Profile) (r : Rule) (t : Parts) (s : Scene) → Same s (command_reached p r t s)
+command_same Manual r t s = refl
+command_same Udev r t s = refl
+
+import_reached_same : (p : Profile) (r : Rule) (i : Import) (s : Scene) → Same s (import_reached p r i s)
+import_reached_same p r (import.Builtin t) s = command_same p r t s
+import_reached_same p r i s = refl
 
 performed_same : (known : Known) (r : Rule) (d : ActKind) (s : Scene) → Same s (performed known r d s).0
 performed_same known r (act_kind.Test mask t) s = on_text_same (tested r mask) (tested_same r mask) _ s
@@ -204,7 +221,9 @@ performed_same known r (act_kind.Program t) s =
     let text : Rendered = program_text t s.state in
     through s (with_result [] s) (on_text (answered_by_block r) text (with_result [] s)).0 refl
     (on_text_same (answered_by_block r) (λ c u. answered_same r c (value_of u.state.event.programs c) u) text (with_result [] s))
-performed_same known r (act_kind.Import i) s = imported_same s.state.event.profile known r i s
+performed_same known r (act_kind.Import i) s =
+    let reached : Scene = import_reached s.state.event.profile r i s in
+    through s reached (imported s.state.event.profile known r i reached).0 (import_reached_same s.state.event.profile r i s) (imported_same s.state.event.profile known r i reached)
 
 late_same : (r : Rule) (d : ActKind) (done : Option Bool) (s t : Scene) → Same s t → Same s (too_long_noted r d done t)
 late_same r d None s t h = through s t (too_long_noted r d None t) h refl

@@ -60,7 +60,10 @@ pub mod Bracketed
 pub mod Attributes
 pub mod PrintedWeights
 pub mod CmdlineWeights
+pub mod StoredWeights
+pub mod StoredImports
 pub mod PrintedReading
 pub mod PrintedGiven
 pub mod PrintedActs
 pub mod UsbModaliases
+pub mod Unread

@@ -126,7 +126,7 @@ module _ (event : EventValue) where
     notes_fit r =
         let most : ℕ = length r.file + 280 in
         let a = sum_less (λ (m : PlainMatch). most) (λ m. part_allowance r (attribute_of_plain m.key)) (λ m. omega arith) r.plain in
-        let b = sum_less (λ (m : Act). most) (λ act. act_kind_allowance event.profile len known.entries r act.kind) (λ act. omega arith) r.acts in
+        let b = sum_less (λ (m : Act). most + most) (λ act. act_kind_allowance event.profile len known.entries r act.kind) (λ act. omega arith) r.acts in
         let c = sum_less (λ (m : Comparison). most) (λ m. part_allowance r None) (λ m. omega arith) r.results in
         let d = sum_less (λ (m : Assignment). most) (set_allowance event.profile len r) (λ a. omega arith) r.sets in
         omega (arith, a, b, c, d)

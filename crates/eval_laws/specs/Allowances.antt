@@ -46,9 +46,9 @@ import_allowance profile len entries (act_kind.Import i) = 2 * len + entries_wei
 import_allowance profile len entries (act_kind.Test mask t) = 0
 import_allowance profile len entries (act_kind.Program t) = 0
 
--- something that is done
+-- something that is done, which may leave a second note
 abbrev pub act_kind_allowance : Profile → ℕ → List Entry → Rule → ActKind → ℕ
-act_kind_allowance profile len entries r d = part_allowance r (attribute_of_act_kind d) + import_allowance profile len entries d
+act_kind_allowance profile len entries r d = part_allowance r (attribute_of_act_kind d) + length r.file + import_allowance profile len entries d
 
 -- what udev may add in addition if a text is assigned, by the text as it is written, for a block of so many bytes: a
 -- label that is rendered to nothing is as it is written, and the name of an attribute may come from the block

@@ -1,7 +1,7 @@
--- How many parts a rule has.
-use Rattle.std.specs.Prelude.{ℕ, ◌+◌, length}
+-- How many notes the parts of a rule may leave.
+use Rattle.std.specs.Prelude.{ℕ, ◌+◌, ◌*◌, length}
 use Rattle.rule_types.specs.Rules.{Rule}
 
--- the parts of a rule that are evaluated; its label and its jump are not among them
-abbrev pub part_count : Rule → ℕ
-part_count r = length r.plain + length r.up + length r.acts + length r.results + length r.sets
+-- the most notes of a rule: an act may leave two, any other part that is evaluated one; its label and its jump leave none
+abbrev pub most_notes : Rule → ℕ
+most_notes r = length r.plain + length r.up + 2 * length r.acts + length r.results + length r.sets

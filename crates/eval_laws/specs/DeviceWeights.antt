@@ -35,7 +35,7 @@ number_weight (Some number) = text_weight number.major + text_weight number.mino
 unfoldable pub device_weight : DeviceValue → ℕ
 device_weight d =
     text_weight d.path + given_weight d.subsystem + given_weight d.driver + given_weight d.node + number_weight d.number + pairs_weight d.attrs
-    + pairs_weight d.env + texts_weight d.tags + texts_weight d.links
+    + pairs_weight d.env + pairs_weight d.stored + texts_weight d.tags + texts_weight d.links
 
 -- devices
 abbrev pub devices_weight : List DeviceValue → ℕ

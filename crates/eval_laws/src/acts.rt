@@ -1,5 +1,6 @@
 //! What is true of acts, whatever the rules are. Each function here is empty: its contract is the law.
-ghost use Rattle.std.specs.Prelude.{◌≡◌, ◌==◌, ◌&&◌, ◌||◌, ◌∷◌, ◌++◌, [], codes, not, true, false, filter, is_some, length, List, None, Option, Some};
+ghost use Rattle.std.specs.Prelude.{◌≡◌, ◌==◌, ◌&&◌, ◌||◌, ◌++◌, ◌∷◌, [], not, true, false, filter, is_none, is_some, length, List, None, Option, Some, codes};
+ghost use Rattle.std.specs.List.{list_all};
 ghost use Rattle.text_bytes.specs.Names.{slash};
 ghost use Rattle.text_bytes.specs.Texts.{begins_with};
 ghost use Rattle.text_bytes.specs.declared.profile.Profile.TheVariants.{Manual};
@@ -11,12 +12,16 @@ ghost use Rattle.builtin_devices.specs.Knowledge.{Known};
 ghost use Rattle.builtin_devices.specs.Outcomes.{failing, succeeding};
 ghost use Rattle.device_core.specs.Values.{DeviceValue};
 ghost use Rattle.rule_templates.specs.Template as templates;
+ghost use Rattle.rule_templates.specs.declared.piece.Piece.{Piece};
+ghost use Rattle.rule_templates.specs.declared.piece.Piece.TheVariants as piece;
 ghost use Rattle.rule_types.specs.declared.roles.MatchOperator.TheVariants.{Equal, NotEqual};
 ghost use Rattle.rule_types.specs.declared.part.ActKind.{ActKind};
+ghost use Rattle.rule_types.specs.declared.part.Import.{Import};
 ghost use Rattle.rule_types.specs.Rules.{Rule};
 ghost use Rattle.eval_state.specs.Chains.{device_at};
+ghost use Rattle.eval_state.specs.Notes.{note_about};
 ghost use Rattle.eval_state.specs.Scenes.{noted, with_env};
-ghost use Rattle.eval_state.specs.declared.note_kind.NoteKind.TheVariants.{BuiltinNeeds, TestNotMade};
+ghost use Rattle.eval_state.specs.declared.note_kind.NoteKind.TheVariants.{AttributeNotRead, TestNotMade, BuiltinNeeds};
 ghost use Rattle.eval_state.specs.declared.scene.Scene.{Scene};
 ghost use Rattle.eval_rendering.specs.Rendering.{render};
 ghost use Rattle.eval_rendering.specs.declared.rendered.Mode.TheVariants.{Plain};
@@ -24,9 +29,11 @@ ghost use Rattle.eval_rendering.specs.declared.rendered.Rendered.TheVariants as 
 ghost use Rattle.eval_commands.specs.Builtins.{builtin};
 ghost use Rattle.eval_commands.specs.declared.builtin.Builtin.TheVariants as asked;
 ghost use Rattle.eval_commands.specs.declared.hwdb.Hwdb.{Hwdb};
-ghost use Rattle.eval_acts.specs.Acts.{act_step};
+ghost use Rattle.eval_matching.specs.Attributes.{is_not_read};
+ghost use Rattle.eval_acts.specs.Acts.{act_step, import_reached};
 ghost use Rattle.eval_acts.specs.BuiltinRuns.{outcome_taken};
 ghost use Rattle.eval_acts.specs.LookUps.{found};
+ghost use Rattle.eval_acts.specs.Unread.{unread_in, unread_noted};
 ghost use Rattle.eval_laws.specs.Acting.{builtin_import, parent_import, test};
 
 /// `!=` changes just what `==` changes, and the rule goes on if it would not with `==`. With udev a rule goes on
@@ -71,6 +78,18 @@ pub fn what_the_database_has_is_set()
         → scene.state.event.profile ≡ Manual → render template scene.state Plain ≡ rendered.Text command → builtin Manual command ≡ asked.Hwdb hwdb
         → act_step known rule (builtin_import template) scene
         ≡ (with_env (with_values scene.state.env (found known hwdb scene.state)) scene, not (length (found known hwdb scene.state) == 0)) }
+{}
+
+/// By the manual an IMPORT leaves nothing by being reached. For udev the command of a builtin leaves one note if an attribute
+/// in it is not read: the first of these, whatever is before it. If all are read, it leaves nothing.
+#[tactic(auto, using(crate::proofs::Unread::manual_leaves, crate::proofs::Unread::noted_first, crate::proofs::Unread::noted_none))]
+pub fn a_command_notes_its_first_unread_attribute()
+    ensures manual { (rule : Rule) (from : Import) (scene : Scene) → import_reached Manual rule from scene ≡ scene }
+    ensures noted { (rule : Rule) (template : templates.Parts) (scene : Scene) (before following : List Piece) (name : Text)
+        → template.pieces ≡ before ++ piece.Attr name ∷ following → list_all (λ p. is_none (unread_in scene.state.event p)) before ≡ true
+        → is_not_read name scene.state.event ≡ true → (unread_noted rule template scene).notes ≡ scene.notes ++ note_about rule AttributeNotRead name ∷ [] }
+    ensures read { (rule : Rule) (template : templates.Parts) (scene : Scene)
+        → list_all (λ p. is_none (unread_in scene.state.event p)) template.pieces ≡ true → unread_noted rule template scene ≡ scene }
 {}
 
 /// All that a builtin needs is told in one note, with commas between; without needs there is none.

@@ -12,20 +12,21 @@ ghost use Rattle.device_core.specs.Faults.{block_gives};
 ghost use Rattle.device_core.specs.Values.{EventValue, by_profile};
 ghost use Rattle.eval_rules.specs.Outcomes.{outcome};
 ghost use Rattle.eval_laws.specs.Allowances.{most_weight};
-ghost use Rattle.eval_laws.specs.Counts.{part_count};
+ghost use Rattle.eval_laws.specs.Counts.{most_notes};
 ghost use Rattle.eval_laws.specs.Weights.{outcome_weight};
 
 /// The texts in the outcome of an event, each with one more, are together at most four times its block and 128, and
-/// for each part of a rule 32,896, the length of its attribute and that of its file's name, and in addition for
-/// each IMPORT twice the block and all keys and values of the database, each with one more. For udev the outcome
-/// may have more: the text of each SECLABEL as it is written, the block for each ATTR, and 65,536 for each IMPORT.
+/// for each part of a rule 32,896, the length of its attribute and that of its file's name, and in addition for each
+/// act the length of its file's name again, and for each IMPORT twice the block and all keys and values of the
+/// database, each with one more. For udev the outcome may have more: the text of each SECLABEL as it is written, the
+/// block for each ATTR, and 65,536 for each IMPORT.
 pub fn an_answer_weighs_no_more_than_is_allowed()
     ensures { (profile : Profile) (rules : List Rule) (known : Known) (block : Text) (event : EventValue) → block_gives block ≡ Ok event
         → outcome_weight (outcome rules known (by_profile profile event)) ≤ most_weight profile (length block) known.entries rules }
 {}
 
-/// The outcome of an event has no more notes than its rules have parts: each part is met at most once, and leaves
-/// at most one note.
-pub fn each_part_leaves_at_most_one_note()
-    ensures { (rules : List Rule) (known : Known) (event : EventValue) → length (outcome rules known event).notes ≤ sum_by part_count rules }
+/// The outcome of an event has no more notes than two for each act of its rules, and one for each other part: each part
+/// is met at most once.
+pub fn an_act_leaves_at_most_two_notes()
+    ensures { (rules : List Rule) (known : Known) (event : EventValue) → length (outcome rules known event).notes ≤ sum_by most_notes rules }
 {}

@@ -15,7 +15,8 @@ use Rattle.rule_types.specs.declared.part.Change.TheVariants as change
 use Rattle.rule_types.specs.Rules.{Rule}
 use Rattle.eval_state.specs.declared.scene.Scene.{Scene}
 use Rattle.eval_assignments.specs.Steps.{set_step}
-use Rattle.eval_rules.specs.Idle.{act_kind_counts, applies, change_applies, change_counts, is_idle, is_idle_by, is_of_device, is_removal, note_all, note_step}
+use Rattle.eval_acts.specs.Stored.{is_removal}
+use Rattle.eval_rules.specs.Idle.{act_kind_counts, applies, change_applies, change_counts, is_idle, is_idle_by, is_of_device, note_all, note_step}
 use Rattle.eval_rules.specs.Steps.{Went, apply, only_noted, if_proceeding, set_all, steps, before_sets, with_selected}
 use Rattle.eval_rules.proofs.Skipped.{Still, by_udev, note_still, noted_still, same_event, still_noted, tried_idle}
 

@@ -11,6 +11,7 @@ use Rattle.text_tables.specs.Texts.{Text}
 use Rattle.text_tables.specs.Pairs.{Pair, value_of}
 use Rattle.builtin_devices.specs.Knowledge.{Known}
 use Rattle.device_core.specs.Values.{AnswerValue, DeviceValue}
+use Rattle.rule_templates.specs.Template.{Parts}
 use Rattle.rule_types.specs.declared.roles.PlainKey.{PlainKey}
 use Rattle.rule_types.specs.declared.roles.PlainKey.TheVariants as plain
 use Rattle.rule_types.specs.declared.part.Act.{Act}
@@ -22,7 +23,7 @@ use Rattle.rule_types.specs.declared.part.Import.{Import}
 use Rattle.rule_types.specs.declared.part.Import.TheVariants as import
 use Rattle.rule_types.specs.declared.part.PlainMatch.{PlainMatch}
 use Rattle.rule_types.specs.declared.part.UpMatch.{UpMatch}
-use Rattle.rule_types.specs.declared.types.ImportType.TheVariants.{File}
+use Rattle.rule_types.specs.declared.types.ImportType.TheVariants.{Db, File}
 use Rattle.rule_types.specs.Rules.{Rule}
 use Rattle.eval_rendering.specs.declared.rendered.Rendered.{Rendered}
 use Rattle.eval_rendering.specs.declared.rendered.Rendered.TheVariants as rendered
@@ -43,11 +44,12 @@ use Rattle.eval_state.specs.Scenes.{noted, with_env}
 use Rattle.eval_state.specs.declared.note_kind.NoteKind.{NoteKind}
 use Rattle.eval_state.specs.declared.note_kind.NoteKind.TheVariants.{AttributeNotRead, BuiltinNotRun, ConstantNotGiven, NoAnswer, TestNotMade, TextTooLong}
 use Rattle.eval_state.specs.declared.scene.Scene.{Scene}
-use Rattle.eval_acts.specs.Acts.{act_step, from_parent_by, imported, on_text, performed, too_long_noted}
+use Rattle.eval_acts.specs.Acts.{act_step, command_reached, from_parent_by, import_reached, imported, on_text, performed, too_long_noted}
 use Rattle.eval_acts.specs.BuiltinRuns.{looked_up, most_set, needs_noted, outcome_set, outcome_taken, path_id_run, properties_size, usb_id_run, with_maker}
+use Rattle.eval_acts.specs.Stored.{from_stored, is_stored_known, stored_value}
+use Rattle.eval_acts.specs.Imports.{builtin_run, from_answer_or_noted, from_line, from_parent, from_program, line_for, name_given, not_run, run_builtin, taken}
 use Rattle.eval_acts.specs.LookUpNeeds.{lookup_needs}
 use Rattle.eval_acts.specs.LookUps.{found}
-use Rattle.eval_acts.specs.Imports.{builtin_run, from_answer_or_noted, from_line, from_parent, from_program, line_for, name_given, not_run, run_builtin, taken}
 use Rattle.eval_acts.specs.Printed.{printed_properties}
 use Rattle.eval_acts.specs.Questions.{answered_by_block, answered_or_noted, result_of, tested, tested_at, tested_by, tested_by_udev, with_result}
 use Rattle.eval_acts.specs.Reaching.{match_reached}
@@ -141,6 +143,13 @@ line_stays : (r : Rule) (name : Text) (line : Option Text) (s : Scene) → Stays
 line_stays r name None s = refl
 line_stays r name (Some line) s = given_stays name (cmdline_value name line) s
 
+stored_stays : (r : Rule) (name : Text) (s : Scene) → Stays s (from_stored r name s).0
+stored_stays r name s = by (is_stored_known s.state.event)
+  where
+    by : (b : Bool) → Stays s (cond b (name_given name (stored_value name s.state.event) s) (not_run r Db s)).0
+    by true = given_stays name (stored_value name s.state.event) s
+    by false = refl
+
 imported_stays : (p : Profile) (known : Known) (r : Rule) (i : Import) (s : Scene) → Stays s (imported p known r i s).0
 imported_stays Manual known r (import.Builtin t) s = built_stays known r _ s
 imported_stays Udev known r (import.Builtin t) s = built_stays known r _ s
@@ -153,12 +162,21 @@ imported_stays Udev known r (import.File t) s = text_stays (λ path. not_run r F
 imported_stays Manual known r (import.Cmdline name) s = refl
 imported_stays Udev known r (import.Cmdline name) s = line_stays r name (line_for name s.state.event) s
 imported_stays Manual known r (import.Db name) s = refl
-imported_stays Udev known r (import.Db name) s = refl
+imported_stays Udev known r (import.Db name) s = stored_stays r name s
+
+command_stays : (p : Profile) (r : Rule) (t : Parts) (s : Scene) → Stays s (command_reached p r t s)
+command_stays Manual r t s = refl
+command_stays Udev r t s = refl
+
+reached_import_stays : (p : Profile) (r : Rule) (i : Import) (s : Scene) → Stays s (import_reached p r i s)
+reached_import_stays p r (import.Builtin t) s = command_stays p r t s
+reached_import_stays p r i s = refl
 
 performed_stays : (known : Known) (r : Rule) (d : ActKind) (s : Scene) → Stays s (performed known r d s).0
 performed_stays known r (act_kind.Test mask t) s = text_stays (tested r mask) (tested_stays r mask) _ s
 performed_stays known r (act_kind.Program t) s = text_stays (answered_by_block r) (λ c u. answered_stays r c (value_of u.state.event.programs c) u) _ (with_result [] s)
-performed_stays known r (act_kind.Import i) s = imported_stays s.state.event.profile known r i s
+performed_stays known r (act_kind.Import i) s =
+    imported_stays s.state.event.profile known r i (import_reached s.state.event.profile r i s) ∙ reached_import_stays s.state.event.profile r i s
 
 late_stays : (r : Rule) (d : ActKind) (done : Option Bool) (s t : Scene) → Stays s t → Stays s (too_long_noted r d done t)
 late_stays r d None s t h = h

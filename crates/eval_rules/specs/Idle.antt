@@ -1,9 +1,8 @@
 -- Rules that udev skips before it looks at their matches, since nothing in them counts for the event.
-use Rattle.std.specs.Prelude.{Bool, true, false, not, ◌&&◌, ◌||◌, if◌then◌else◌, codes, is_some, fold}
+use Rattle.std.specs.Prelude.{Bool, true, false, not, ◌&&◌, ◌||◌, if◌then◌else◌, is_some, fold}
 use Rattle.std.specs.List.{list_any}
 use Rattle.text_bytes.specs.declared.profile.Profile.{Profile}
 use Rattle.text_bytes.specs.declared.profile.Profile.TheVariants.{Manual, Udev}
-use Rattle.text_tables.specs.Texts.{same_text}
 use Rattle.rule_types.specs.declared.roles.Target.{Target}
 use Rattle.rule_types.specs.declared.roles.Target.TheVariants as target
 use Rattle.rule_types.specs.declared.rule_option.RuleOption.TheVariants.{Ignored}
@@ -15,12 +14,9 @@ use Rattle.rule_types.specs.declared.part.ActKind.TheVariants as act_kind
 use Rattle.rule_types.specs.Rules.{Rule}
 use Rattle.device_core.specs.Values.{DeviceValue, EventValue}
 use Rattle.eval_state.specs.declared.scene.Scene.{Scene}
+use Rattle.eval_acts.specs.Stored.{is_removal}
 use Rattle.eval_assignments.specs.Names.{is_interface}
 use Rattle.eval_assignments.specs.Steps.{set_step}
-
--- whether the event's device is removed
-abbrev pub is_removal : EventValue → Bool
-is_removal event = same_text event.action (codes "remove")
 
 -- whether a key is one of the device's node or its name
 abbrev pub is_of_device : Target → Bool

@@ -2,22 +2,16 @@
 ghost use Rattle.std.specs.Prelude.{◌≡◌, OnOk, OnErr, fold};
 ghost use Rattle.std.specs.List.{list_any};
 ghost use Rattle.eval_rules.specs.Idle.{act_kind_counts, applies, change_applies, change_counts, is_idle, is_idle_by};
-ghost use Rattle.eval_rules.specs.Idle.{is_of_device, is_removal, note_all, note_step, something_counts, text_counts};
+ghost use Rattle.eval_rules.specs.Idle.{is_of_device, note_all, note_step, something_counts, text_counts};
 ghost use Rattle.eval_rules.specs.Steps.{if_proceeding};
 
 use device_core::{Device, Event};
+use eval_acts::is_removal;
 use eval_assignments::{is_interface, set_one};
 use eval_state::Scene;
 use rule_types::{Act, ActKind, Assignment, Change, Rule, RuleOption, Target};
 use std::alloc::{AllocError, Global};
 use text_bytes::Profile;
-
-/// Whether the event's device is removed.
-fn is_removal(event: &Event<'_>) -> bool
-    ensures { result ≡ is_removal event.now }
-{
-    event.action() == b"remove".as_slice()
-}
 
 /// Whether a key is one of the device's node or its name.
 fn is_of_device(target: &Target) -> bool

@@ -4,7 +4,8 @@ ghost use Rattle.text_bytes.specs.declared.profile.Profile.TheVariants.{Manual};
 ghost use Rattle.builtin_devices.specs.Knowledge.{Known};
 ghost use Rattle.rule_types.specs.Rules as rules;
 ghost use Rattle.eval_state.specs.declared.scene.Scene.{Scene};
-ghost use Rattle.eval_rules.specs.Idle.{is_idle, is_removal};
+ghost use Rattle.eval_acts.specs.Stored.{is_removal};
+ghost use Rattle.eval_rules.specs.Idle.{is_idle};
 ghost use Rattle.eval_rules.specs.Steps.{apply, steps, with_selected};
 
 /// By the manual no rule is skipped.

@@ -31,7 +31,7 @@ use Rattle.rule_core.specs.Effects.{has_effect}
 use Rattle.rule_core.specs.Ends.{as_read}
 use Rattle.rule_core.specs.Rules.{set_of_as}
 use Rattle.device_core.specs.Blocks.{texts, pairs, numbers, answers, before_device, groups, device, devices, programs, event}
-use Rattle.device_core.specs.Faults.{device_above, follows_command, row_fault, has_nul, line_fault, given_below, given_by, block_gives}
+use Rattle.device_core.specs.Faults.{device_above, follows_answer, follows_command, row_fault, has_nul, line_fault, given_below, given_by, block_gives}
 use Rattle.device_core.specs.Lines.{kind_of, row_of, begins_answer}
 use Rattle.device_core.specs.Parts.{pair_of, number_below, answer_of, is_device_path, is_parent_path}
 use Rattle.device_core.specs.Parts as device_core_parts
@@ -63,6 +63,7 @@ use Rattle.eval_commands.specs.Words.{command_words, udev_words}
 use Rattle.eval_acts.specs.Acts.{act_step}
 use Rattle.eval_acts.specs.LookUps.{found}
 use Rattle.eval_acts.specs.Printed.{line_property, printed_properties}
+use Rattle.eval_acts.specs.Unread.{first_unread}
 use Rattle.eval_acts.specs.UsbModalias.{usb_modalias}
 use Rattle.eval_assignments.specs.Escapes.{escape_of}
 use Rattle.eval_assignments.specs.Steps.{set_step}
@@ -105,6 +106,7 @@ use Rattle.engine_formats.specs.Remarks.{heading_parts}
 use Rattle.engine_checks.specs.Ignores.{ignores_in}
 use Rattle.engine_checks.specs.Reported.{file_reported}
 use Rattle.engine_courses.specs.Asked.{unread, unknown_line, unknown}
+use Rattle.engine_courses.specs.Named.{alike}
 use Rattle.engine_courses.specs.Nearest.{least}
 use Rattle.engine_courses.specs.WhyLines.{why_line, unread_text, reported_from, why_lines}
 use Rattle.engine_courses.specs.Questions.{question_answer}
@@ -129,7 +131,7 @@ reading_rules = tt
 
 -- those by which the text of a block is read
 unfoldable reading_blocks : ⊤
-unfolding texts pairs numbers answers before_device groups device devices programs event device_above follows_command
+unfolding texts pairs numbers answers before_device groups device devices programs event device_above follows_answer follows_command
     row_fault has_nul line_fault given_below given_by block_gives kind_of row_of begins_answer pair_of number_below
     device_core_parts.number_of answer_of is_device_path is_parent_path line_of_excess
 reading_blocks = tt
@@ -150,7 +152,7 @@ reading_texts = tt
 unfoldable evaluating : ⊤
 unfolding star_place named named_place start_env name_text render udev_value is_not_read udev_subject holds holds_at
     found_place hwdb_of udev_hwdb_of command_words udev_words act_step found line_property printed_properties
-    usb_modalias escape_of set_step is_idle_by run outcome_of walk plain_step result_step steps apply is_not_given
+    first_unread usb_modalias escape_of set_step is_idle_by run outcome_of walk plain_step result_step steps apply is_not_given
     cmdline_value
 evaluating = tt
 
@@ -158,7 +160,7 @@ evaluating = tt
 unfoldable reporting : ⊤
 unfolding run_text effect ending node_items items whole_or_cut shown size_note stages_from source_of Reports property_report
     act_report walk_reports key_reports course wanted_text plain_report result_report device_report up_report
-    partial_report search_reports skipped_text message_line unread unknown_line unknown least why_line unread_text reported_from
+    partial_report search_reports skipped_text message_line alike unread unknown_line unknown least why_line unread_text reported_from
     why_lines question_answer rule_asks rules_ask
 reporting = tt
 

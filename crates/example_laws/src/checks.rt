@@ -55,6 +55,31 @@ pub fn a_result_that_no_program_gives_yet_is_reported()
         (codes "r.rules:1:14: warning: result before its program: RESULT [W25]\n") 1) }
 {}
 
+/// W26 is reported for each link in a rule that only network devices meet, and not in one that others may meet.
+pub fn a_link_of_a_network_device_is_reported()
+    ensures { Checks (linting Manual []) Gcc
+        (text (
+        codes "SUBSYSTEM==\"net\", SYMLINK+=\"a\"" ∷ codes "KERNEL==\"eth0\", SYMLINK+=\"b\""
+        ∷ codes "SUBSYSTEM==\"net|tty\", SYMLINK+=\"c\"" ∷ codes "SUBSYSTEM!=\"net\", SYMLINK+=\"d\""
+        ∷ codes "SUBSYSTEM==\"net\", NAME=\"e\"" ∷ []))
+        (said (codes "1 files checked, 0 good, 1 bad\n")
+        (codes "r.rules:1:29: warning: link of a network device: a [W26]\nr.rules:2:27: warning: link of a network device: b [W26]\n") 1) }
+{}
+
+/// W27 is reported at the first tag `uaccess` of a file whose name comes after that of the file that reads it,
+/// unless a rule of the file runs the builtin that does.
+pub fn a_tag_that_comes_too_late_is_reported()
+    ensures late { Checks (linting Manual []) Gcc
+        (text (
+        codes "KERNEL==\"a\", TAG+=\"seat\", TAG+=\"uaccess\", TAG+=\"uaccess\"" ∷ codes "KERNEL==\"b\", TAG-=\"uaccess\"" ∷ []))
+        (said (codes "1 files checked, 0 good, 1 bad\n")
+        (codes "r.rules:1:27: warning: tag uaccess in a late file: TAG [W27]\n") 1) }
+    ensures run { Checks (linting Manual []) Gcc
+        (text (
+        codes "KERNEL==\"a\", TAG+=\"uaccess\"" ∷ codes "TAG==\"uaccess\", RUN{builtin}+=\"uaccess\"" ∷ []))
+        (said (codes "1 files checked, 1 good, 0 bad\n") [] 0) }
+{}
+
 /// V8 is reported at the value of the second label or jump, and for udev, to which the last label counts, at that of the
 /// label that does not count.
 pub fn what_is_given_twice_is_reported_at_the_one_that_does_not_count()

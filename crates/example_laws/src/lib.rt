@@ -11,5 +11,6 @@ pub mod checks;
 pub mod events;
 pub mod matches;
 pub mod reports;
+pub mod stored;
 pub mod substitutions;
 pub mod udev;

@@ -13,6 +13,7 @@ use Rattle.rule_core.specs.Ends.{abandoned}
 use Rattle.rule_places.specs.Kept.{kept_lines}
 use Rattle.rule_places.specs.Placed.{placed}
 use Rattle.rule_places.specs.declared.kept.KeptLine.{KeptLine}
+use Rattle.rule_file_lints.specs.ByName.{later_families}
 use Rattle.rule_file_lints.specs.Compared.{Valued, assigned_value, meant_spots, meant_to_compare}
 use Rattle.rule_file_lints.specs.FileLaws.{ImportsFurtherDown, IsImportedBelow, NoneAfterMatches, NoneUncompared, ReachedAfterLostJumps, ReachedAfterMatches, ReachedByLabels, lints_without_places, without_place}
 use Rattle.rule_file_lints.specs.FileLints.{lints_below, lints_of, placed_lints, spots_of}
@@ -59,6 +60,9 @@ within_reversed a b c d f g x h =
 
 within_prefix : (a b : List Text) → Within a (a ++ b)
 within_prefix a b x h = among_append a b x ∙ or_left (is_among a x) (is_among b x) h
+
+within_suffix : (a b : List Text) → Within b (a ++ b)
+within_suffix a b x h = among_append a b x ∙ or_right (is_among a x) (is_among b x) h
 
 -- what tokens import they give
 imports_given : (tokens : List WrittenPart) → Within (imported_by tokens) (given_by tokens)
@@ -149,25 +153,37 @@ imported_here above r below name h e =
     (property_within (imported_names (reverse above)) (given_names above) (above_given above) name) e
     (property_by (imported_names (reverse above)) (imported_names (r ∷ below)) name (ap (λ n. has_property n name) (sym cut) ∙ h))
 
+-- a property that rules or later files import, if it is not given above
+imported_or_later : (above : List FileRule) (r : FileRule) (below : List FileRule) (later : List Text) (name : Text)
+    → has_property (imported_names (reverse above ++ r ∷ below) ++ later) name ≡ true → has_property (given_names above) name ≡ false
+    → has_property (imported_names (r ∷ below) ++ later) name ≡ true
+imported_or_later above r below later name h e =
+    let all : List Text = imported_names (reverse above ++ r ∷ below) in
+    let here : List Text = imported_names (r ∷ below) in
+    or_by (has_property all name) (has_property later name) (has_property (here ++ later) name)
+    (λ i. property_within here (here ++ later) (within_prefix here later) name (imported_here above r below name i e))
+    (λ i. property_within later (here ++ later) (within_suffix here later) name i)
+    (property_by all later name h)
+
 both_hold : (a b : Bool) (x reported : Spot Lint) → cond (a && not b) (x ∷ []) [] ≡ reported ∷ [] → (a ≡ true) × (b ≡ false) × (x ≡ reported)
 both_hold true false x reported e = (refl, refl, cc)
 both_hold true true x reported e = absurd (cc)
 both_hold false b x reported e = absurd (cc)
 
-wanted_here : (above : List FileRule) (r : FileRule) (below : List FileRule) (w : WrittenPart) (wanted : Option Text) (reported : Spot Lint)
-    → below_spots (imported_names (reverse above ++ r ∷ below)) (given_names above) w wanted ≡ reported ∷ [] → IsImportedBelow above r below reported.word
-wanted_here above r below w None reported e = absurd (cc)
-wanted_here above r below w (Some name) reported e =
-    let k = both_hold (has_property (imported_names (reverse above ++ r ∷ below)) name) (is_given (given_names above) name) _ reported e in
+wanted_here : (path : Text) (above : List FileRule) (r : FileRule) (below : List FileRule) (w : WrittenPart) (wanted : Option Text) (reported : Spot Lint)
+    → below_spots (imported_names (reverse above ++ r ∷ below) ++ later_families path) (given_names above) w wanted ≡ reported ∷ [] → IsImportedBelow path above r below reported.word
+wanted_here path above r below w None reported e = absurd (cc)
+wanted_here path above r below w (Some name) reported e =
+    let k = both_hold (has_property (imported_names (reverse above ++ r ∷ below) ++ later_families path) name) (is_given (given_names above) name) _ reported e in
     let none = or_neither (is_among (given_names above) any_property) (has_property (given_names above) name) k.1 in
     let word : name ≡ reported.word = ap (λ (s : Spot Lint). s.word) k.2 in
     record {
-      here = ap (λ (n : Text). has_property (imported_names (r ∷ below)) n) (sym word) ∙ imported_here above r below name k.0 none;
+      here = ap (λ (n : Text). has_property (imported_names (r ∷ below) ++ later_families path) n) (sym word) ∙ imported_or_later above r below (later_families path) name k.0 none;
       before = ap (λ (n : Text). is_given (given_names above) n) (sym word) ∙ k.1;
     }
 
 pub further_down : ImportsFurtherDown
-further_down above r below w reported e = wanted_here above r below w (wanted_in w.part) reported e
+further_down path above r below w reported e = wanted_here path above r below w (wanted_in w.part) reported e
 
 pub none_following : NoneAfterMatches
 none_following compared [] h = refl
@@ -205,17 +221,18 @@ places_left_out : (kept : List KeptLine) (number start : ℕ) (spots : List (Spo
 places_left_out kept number start [] = refl
 places_left_out kept number start (s ∷ spots) = ap (λ (xs : List (Lint × Text)). (s.kind, s.word) ∷ xs) (places_left_out kept number start spots)
 
-lints_of_rules_below : (by : Profile) (kept : List KeptLine) (all above rules : List FileRule) → map without_place (lints_below by kept all above rules) ≡ lints_without_places by all above rules
-lints_of_rules_below by kept all above [] = refl
-lints_of_rules_below by kept all above (r ∷ rules) =
-    map-append without_place (map (placed kept r.number r.start) (spots_of by all above r)) (lints_below by kept all (r ∷ above) rules)
-    ∙ ap (λ (xs : List (Lint × Text)). xs ++ map without_place (lints_below by kept all (r ∷ above) rules)) (places_left_out kept r.number r.start (spots_of by all above r))
-    ∙ ap (λ (xs : List (Lint × Text)). map (λ s. (s.kind, s.word)) (spots_of by all above r) ++ xs) (lints_of_rules_below by kept all (r ∷ above) rules)
+lints_of_rules_below : (by : Profile) (path : Text) (kept : List KeptLine) (all above rules : List FileRule)
+    → map without_place (lints_below by path kept all above rules) ≡ lints_without_places by path all above rules
+lints_of_rules_below by path kept all above [] = refl
+lints_of_rules_below by path kept all above (r ∷ rules) =
+    map-append without_place (map (placed kept r.number r.start) (spots_of by path all above r)) (lints_below by path kept all (r ∷ above) rules)
+    ∙ ap (λ (xs : List (Lint × Text)). xs ++ map without_place (lints_below by path kept all (r ∷ above) rules)) (places_left_out kept r.number r.start (spots_of by path all above r))
+    ∙ ap (λ (xs : List (Lint × Text)). map (λ s. (s.kind, s.word)) (spots_of by path all above r) ++ xs) (lints_of_rules_below by path kept all (r ∷ above) rules)
 
-pub lints_of_rules : (by : Profile) (file : SourceFile) → map without_place (placed_lints by file) ≡ lints_without_places by (file_rules by file.bytes) [] (file_rules by file.bytes)
+pub lints_of_rules : (by : Profile) (file : SourceFile) → map without_place (placed_lints by file) ≡ lints_without_places by file.name (file_rules by file.bytes) [] (file_rules by file.bytes)
 unfolding placed_lints
-lints_of_rules by file = lints_of_rules_below by (kept_lines file.bytes) (file_rules by file.bytes) [] (file_rules by file.bytes)
+lints_of_rules by file = lints_of_rules_below by file.name (kept_lines file.bytes) (file_rules by file.bytes) [] (file_rules by file.bytes)
 
 pub none_abandoned : (by : Profile) (file : SourceFile) (number : ℕ) → abandoned by file.bytes ≡ Some number → placed_lints by file ≡ []
 unfolding placed_lints
-none_abandoned by file number e = ap (λ (o : Option ℕ). lints_of by (kept_lines file.bytes) (rules_unless by file.bytes o)) e
+none_abandoned by file number e = ap (λ (o : Option ℕ). lints_of by file.name (kept_lines file.bytes) (rules_unless by file.bytes o)) e

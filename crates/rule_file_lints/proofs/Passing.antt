@@ -12,6 +12,8 @@ use Rattle.rule_value_lints.specs.Assignments.{is_about_tags}
 use Rattle.rule_value_lints.specs.ValueLints.{value_lints}
 use Rattle.rule_file_lints.specs.Beside.{imported_beside, imports_any, late_spots}
 use Rattle.rule_file_lints.specs.FileLints.{FileNames, RulesAbove, left_by, lints_below, lints_of, names_of, spots_by, spots_of}
+use Rattle.rule_file_lints.specs.ByName.{later_families}
+use Rattle.rule_file_lints.specs.Late.{are_late, has_tag, late_tag}
 use Rattle.rule_file_lints.specs.Guarded.{has_program, may_jump, no_result, unguarded}
 use Rattle.rule_file_lints.specs.FileRules.{FileRule}
 use Rattle.rule_file_lints.specs.Imported.{any_property, below_spots, families, given_by, given_names, has_property, imported_below, imported_names, is_of, wanted_in}
@@ -53,6 +55,13 @@ among_all (t ∷ more) texts name =
 
 pub all_added : (more : List Text) → SameTexts (with_texts [] more) more
 all_added more name = among_all more [] name
+
+-- what is added after all that was added before
+both_added : (a b : List Text) → SameTexts (with_texts (with_texts [] a) b) (a ++ b)
+both_added a b name =
+    among_all b (with_texts [] a) name
+    ∙ ap (λ x. x || is_among b name) (all_added a name)
+    ∙ sym (list_any-append (same_text name) a b)
 
 has_by : (a b : List Text) → SameTexts a b → (rows : List (Text × Text)) (name : Text)
     → list_any (λ row. is_of row.1 name && is_among a row.1) rows ≡ list_any (λ row. is_of row.1 name && is_among b row.1) rows
@@ -103,46 +112,50 @@ pub record SameNames (names all : FileNames) : Type 0 where
   pub imported : SameTexts names.imported all.imported
   pub compared : SameTexts names.compared all.compared
   pub tagged : names.tagged ≡ all.tagged
+  pub late : names.late ≡ all.late
 
 pub record SameAbove (a b : RulesAbove) : Type 0 where
   pub given : SameTexts a.given b.given
   pub jump : a.jump ≡ b.jump
   pub guarded : a.guarded ≡ b.guarded
   pub programs : a.programs ≡ b.programs
+  pub tag : a.tag ≡ b.tag
 
 pub spots_same : (profile : Profile) (names all : FileNames) (a b : RulesAbove) (r : FileRule) → SameNames names all → SameAbove a b → spots_by profile names a r ≡ spots_by profile all b r
 spots_same profile names all a b r n s =
     let tokens = r.draft.parts in
     ap (λ x. lints_of_rule profile tokens ++ x)
-    (ap (λ t. value_lints t tokens ++ rest names.imported a.given names.compared a.jump a.guarded a.programs) n.tagged
+    (ap (λ t. value_lints t tokens ++ rest names.imported a.given names.compared a.jump a.guarded a.programs names.late a.tag) n.tagged
     ∙ ap (λ x. value_lints all.tagged tokens ++ x) rests)
   where
-    rest : List Text → List Text → List Text → Option Text → Bool → Bool → List (Spot Lint)
-    rest imported given compared jump guarded programs =
+    rest : List Text → List Text → List Text → Option Text → Bool → Bool → Bool → Bool → List (Spot Lint)
+    rest imported given compared jump guarded programs late tag =
         flat_map (imported_below imported given) r.draft.parts
         ++ (imported_beside given false r.draft.parts
         ++ (meant_to_compare compared r.draft.parts
         ++ (never_reached jump r
-        ++ (unguarded guarded r.draft.parts ++ no_result programs r.draft.parts))))
+        ++ (unguarded guarded r.draft.parts
+        ++ (no_result programs r.draft.parts ++ late_tag late tag r.draft.parts)))))
 
-    rests : rest names.imported a.given names.compared a.jump a.guarded a.programs ≡ rest all.imported b.given all.compared b.jump b.guarded b.programs
+    rests : rest names.imported a.given names.compared a.jump a.guarded a.programs names.late a.tag ≡ rest all.imported b.given all.compared b.jump b.guarded b.programs all.late b.tag
     rests =
-        rw (tokens_same names.imported all.imported a.given b.given n.imported s.given r.draft.parts, beside_same a.given b.given s.given false r.draft.parts, meant_same names.compared all.compared n.compared r.draft.parts, s.jump, s.guarded, s.programs)
+        rw (tokens_same names.imported all.imported a.given b.given n.imported s.given r.draft.parts, beside_same a.given b.given s.given false r.draft.parts, meant_same names.compared all.compared n.compared r.draft.parts, s.jump, s.guarded, s.programs, n.late, s.tag)
 
 -- going down: what the rules above leave is known, and the lints so far and those of the rules below are all
-pub record Descends (profile : Profile) (kept : List KeptLine) (above : RulesAbove) (spots : List (PlacedFinding Lint)) (rules : List FileRule) (i : ℕ) : Type 0 where
+pub record Descends (profile : Profile) (path : Text) (kept : List KeptLine) (above : RulesAbove) (spots : List (PlacedFinding Lint)) (rules : List FileRule) (i : ℕ) : Type 0 where
   pub left : SameAbove above (left_by (reverse (take i rules)))
-  pub so_far : spots ++ lints_below profile kept rules (reverse (take i rules)) (drop i rules) ≡ lints_of profile kept rules
+  pub so_far : spots ++ lints_below profile path kept rules (reverse (take i rules)) (drop i rules) ≡ lints_of profile path kept rules
 
-pub down_start : (profile : Profile) (kept : List KeptLine) (above : RulesAbove) (spots : List (PlacedFinding Lint)) (rules : List FileRule) → above ≡ nothing_above → spots ≡ [] → Descends profile kept above spots rules 0
-down_start profile kept above spots rules e f = record {
+pub down_start : (profile : Profile) (path : Text) (kept : List KeptLine) (above : RulesAbove) (spots : List (PlacedFinding Lint)) (rules : List FileRule) → above ≡ nothing_above → spots ≡ [] → Descends profile path kept above spots rules 0
+down_start profile path kept above spots rules e f = record {
   left = record {
     given = λ name. ap (λ (a : RulesAbove). is_among a.given name) e;
     jump = ap (λ (a : RulesAbove). a.jump) e;
     guarded = ap (λ (a : RulesAbove). a.guarded) e;
     programs = ap (λ (a : RulesAbove). a.programs) e;
+    tag = ap (λ (a : RulesAbove). a.tag) e;
   };
-  so_far = ap (λ x. x ++ lints_of profile kept rules) f;
+  so_far = ap (λ x. x ++ lints_of profile path kept rules) f;
 }
 
 -- a rule comes before those after it
@@ -165,30 +178,32 @@ left_more above next past r same n = record {
   jump = ap (λ (a : RulesAbove). a.jump) n;
   guarded = ap (λ (a : RulesAbove). a.guarded) n ∙ ap (λ b. may_jump r || b) same.guarded;
   programs = ap (λ (a : RulesAbove). a.programs) n ∙ ap (λ b. has_program r.draft.parts || b) same.programs;
+  tag = ap (λ (a : RulesAbove). a.tag) n ∙ ap (λ b. has_tag r.draft.parts || b) same.tag;
 }
 
-pub down_past : (profile : Profile) (kept : List KeptLine) (above next : RulesAbove) (spots more : List (PlacedFinding Lint)) (found : List (Spot Lint)) (names : FileNames) (rules : List FileRule) (i : ℕ) (r : FileRule) → Descends profile kept above spots rules i
-    → i < length rules → r ≡ get_or rules i r → names.imported ≡ with_texts [] (imported_names rules) → names.compared ≡ with_texts [] (compared_texts rules) → names.tagged ≡ list_any (λ s. is_about_tags s.draft.parts) rules
+pub down_past : (profile : Profile) (path : Text) (kept : List KeptLine) (above next : RulesAbove) (spots more : List (PlacedFinding Lint)) (found : List (Spot Lint)) (names : FileNames) (rules : List FileRule) (i : ℕ) (r : FileRule) → Descends profile path kept above spots rules i
+    → i < length rules → r ≡ get_or rules i r → names.imported ≡ with_texts (with_texts [] (imported_names rules)) (later_families path) → names.compared ≡ with_texts [] (compared_texts rules) → names.tagged ≡ list_any (λ s. is_about_tags s.draft.parts) rules → names.late ≡ are_late path rules
     → found ≡ spots_by profile names above r → more ≡ spots ++ map (placed kept r.number r.start) found → next ≡ with_rule above r
-    → Descends profile kept next more rules (i + 1)
-down_past profile kept above next spots more found names rules i r before h e imported compared tagged f m n =
+    → Descends profile path kept next more rules (i + 1)
+down_past profile path kept above next spots more found names rules i r before h e imported compared tagged late f m n =
     let past : List FileRule = reverse (take i rules) in
     let reversed : reverse (take (i + 1) rules) ≡ r ∷ past = ap reverse (take_more rules i r h ∙ ap (λ x. take i rules ++ x ∷ []) (sym e)) ∙ reverse-append (take i rules) (r ∷ []) in
-    let known : SameNames names (names_of rules) =
+    let known : SameNames names (names_of path rules) =
     record {
-      imported = λ name. ap (λ x. is_among x name) imported ∙ all_added (imported_names rules) name;
+      imported = λ name. ap (λ x. is_among x name) imported ∙ both_added (imported_names rules) (later_families path) name;
       compared = λ name. ap (λ x. is_among x name) compared ∙ all_added (compared_texts rules) name;
       tagged = tagged;
+      late = late;
     } in
-    let own : spots_by profile names above r ≡ spots_of profile rules past r = spots_same profile names (names_of rules) above (left_by past) r known before.left in
+    let own : spots_by profile names above r ≡ spots_of profile path rules past r = spots_same profile names (names_of path rules) above (left_by past) r known before.left in
     record {
       left = subst (λ rs. SameAbove next (left_by rs)) (sym reversed) (left_more above next past r before.left n);
       so_far =
-          ap (λ x. x ++ lints_below profile kept rules (reverse (take (i + 1) rules)) (drop (i + 1) rules)) (m ∙ ap (λ (x : List (Spot Lint)). spots ++ map (placed kept r.number r.start) x) f)
-          ∙ ap (λ rs. (spots ++ map (placed kept r.number r.start) (spots_by profile names above r)) ++ lints_below profile kept rules rs (drop (i + 1) rules)) reversed
-          ∙ append_assoc spots (map (placed kept r.number r.start) (spots_by profile names above r)) (lints_below profile kept rules (r ∷ past) (drop (i + 1) rules))
-          ∙ ap (λ x. spots ++ (map (placed kept r.number r.start) x ++ lints_below profile kept rules (r ∷ past) (drop (i + 1) rules))) own
-          ∙ ap (λ rs. spots ++ lints_below profile kept rules past rs) (sym (rule_item rules i r h e))
+          ap (λ x. x ++ lints_below profile path kept rules (reverse (take (i + 1) rules)) (drop (i + 1) rules)) (m ∙ ap (λ (x : List (Spot Lint)). spots ++ map (placed kept r.number r.start) x) f)
+          ∙ ap (λ rs. (spots ++ map (placed kept r.number r.start) (spots_by profile names above r)) ++ lints_below profile path kept rules rs (drop (i + 1) rules)) reversed
+          ∙ append_assoc spots (map (placed kept r.number r.start) (spots_by profile names above r)) (lints_below profile path kept rules (r ∷ past) (drop (i + 1) rules))
+          ∙ ap (λ x. spots ++ (map (placed kept r.number r.start) x ++ lints_below profile path kept rules (r ∷ past) (drop (i + 1) rules))) own
+          ∙ ap (λ rs. spots ++ lints_below profile path kept rules past rs) (sym (rule_item rules i r h e))
           ∙ before.so_far;
     }
 
@@ -197,7 +212,7 @@ none_left : (rules : List FileRule) → length rules ≡ 0 → rules ≡ []
 none_left [] e = refl
 none_left (r ∷ rules) e = absurd (omega arith)
 
-pub down_end : (profile : Profile) (kept : List KeptLine) (above : RulesAbove) (spots : List (PlacedFinding Lint)) (rules : List FileRule) (i : ℕ) → Descends profile kept above spots rules i → length rules ≤ i → spots ≡ lints_of profile kept rules
-down_end profile kept above spots rules i before h =
+pub down_end : (profile : Profile) (path : Text) (kept : List KeptLine) (above : RulesAbove) (spots : List (PlacedFinding Lint)) (rules : List FileRule) (i : ℕ) → Descends profile path kept above spots rules i → length rules ≤ i → spots ≡ lints_of profile path kept rules
+down_end profile path kept above spots rules i before h =
     let none : drop i rules ≡ [] = none_left (drop i rules) (length-drop i rules ∙ omega arith) in
-    sym (append-nil spots) ∙ ap (λ rs. spots ++ lints_below profile kept rules (reverse (take i rules)) rs) (sym none) ∙ before.so_far
+    sym (append-nil spots) ∙ ap (λ rs. spots ++ lints_below profile path kept rules (reverse (take i rules)) rs) (sym none) ∙ before.so_far

@@ -4,6 +4,7 @@ use Rattle.std.specs.List.{list_any}
 use Rattle.text_bytes.specs.declared.profile.Profile.{Profile}
 use Rattle.text_tables.specs.Texts.{Text}
 use Rattle.rule_lints.specs.declared.lint.Lint.{Lint}
+use Rattle.rule_file_lints.specs.ByName.{later_families}
 use Rattle.rule_file_lints.specs.Compared.{meant_to_compare}
 use Rattle.rule_file_lints.specs.FileLints.{spots_of}
 use Rattle.rule_file_lints.specs.FileRules.{FileRule}
@@ -14,16 +15,17 @@ use Rattle.rule_core.specs.Written.{WrittenPart}
 use Rattle.rule_places.specs.declared.placed_finding.PlacedFinding.{PlacedFinding}
 use Rattle.rule_core.specs.declared.spot.Spot.{Spot}
 
--- if a match is reported in a rule below others, the nearest first, its property is imported by this rule or further
--- down, and neither given nor perhaps given by one of the others
-pub record IsImportedBelow (above : List FileRule) (r : FileRule) (below : List FileRule) (name : Text) : Type 0 where
-  pub here : has_property (imported_names (r ∷ below)) name ≡ true
+-- if a match is reported in a rule of a file, below others, the nearest first, its property is imported by this rule,
+-- further down or by a later file, and neither given nor perhaps given by one of the others
+pub record IsImportedBelow (path : Text) (above : List FileRule) (r : FileRule) (below : List FileRule) (name : Text) : Type 0 where
+  pub here : has_property (imported_names (r ∷ below) ++ later_families path) name ≡ true
   pub before : is_given (given_names above) name ≡ false
 
 abbrev pub ImportsFurtherDown : Type 0
 ImportsFurtherDown =
-    (above : List FileRule) (r : FileRule) (below : List FileRule) (w : WrittenPart) (reported : Spot Lint)
-    → imported_below (imported_names (reverse above ++ r ∷ below)) (given_names above) w ≡ reported ∷ [] → IsImportedBelow above r below reported.word
+    (path : Text) (above : List FileRule) (r : FileRule) (below : List FileRule) (w : WrittenPart) (reported : Spot Lint)
+    → imported_below (imported_names (reverse above ++ r ∷ below) ++ later_families path) (given_names above) w ≡ reported ∷ []
+    → IsImportedBelow path above r below reported.word
 
 -- assignments after the last match of a rule are not reported
 abbrev pub NoneAfterMatches : Type 0
@@ -55,8 +57,8 @@ ReachedByLabels = (above : List FileRule) (r : FileRule) → is_labelled r ≡ t
 abbrev pub without_place : PlacedFinding Lint → Lint × Text
 without_place p = (p.kind, p.word)
 
--- the lints of rules among all of a file, given those above them, from the nearest on, without their places
-abbrev pub lints_without_places : Profile → List FileRule → List FileRule → List FileRule → List (Lint × Text)
-lints_without_places profile all above [] = []
-lints_without_places profile all above (r ∷ below) =
-    map (λ s. (s.kind, s.word)) (spots_of profile all above r) ++ lints_without_places profile all (r ∷ above) below
+-- the lints of rules among all of a file with a name, given those above them, from the nearest on, without their places
+abbrev pub lints_without_places : Profile → Text → List FileRule → List FileRule → List FileRule → List (Lint × Text)
+lints_without_places profile path all above [] = []
+lints_without_places profile path all above (r ∷ below) =
+    map (λ s. (s.kind, s.word)) (spots_of profile path all above r) ++ lints_without_places profile path all (r ∷ above) below

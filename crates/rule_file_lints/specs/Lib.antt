@@ -1,9 +1,11 @@
 pub mod FileRules
 pub mod Matches
 pub mod Imported
+pub mod ByName
 pub mod Compared
 pub mod Beside
 pub mod Guarded
+pub mod Late
 pub mod Reached
 pub mod Steps
 pub mod FileLints

@@ -7,6 +7,7 @@ use Rattle.rule_file_lints.specs.FileLints.{RulesAbove}
 use Rattle.rule_file_lints.specs.FileRules.{FileRule}
 use Rattle.rule_file_lints.specs.Guarded.{has_program, may_jump}
 use Rattle.rule_file_lints.specs.Imported.{given_by}
+use Rattle.rule_file_lints.specs.Late.{has_tag}
 use Rattle.rule_file_lints.specs.Matches.{is_match}
 use Rattle.rule_file_lints.specs.Reached.{jumps_to}
 use Rattle.rule_core.specs.Written.{WrittenPart}
@@ -14,7 +15,7 @@ use Rattle.rule_core.specs.declared.spot.Spot.{Spot}
 
 -- no rules above
 abbrev pub nothing_above : RulesAbove
-nothing_above = record { given = []; jump = None; guarded = false; programs = false }
+nothing_above = record { given = []; jump = None; guarded = false; programs = false; tag = false }
 
 -- one more rule above, which is then the nearest
 abbrev pub with_rule : RulesAbove → FileRule → RulesAbove
@@ -23,6 +24,7 @@ with_rule a r = record {
   jump = jumps_to r;
   guarded = may_jump r || a.guarded;
   programs = has_program r.draft.parts || a.programs;
+  tag = has_tag r.draft.parts || a.tag;
 }
 
 -- how many of so many matches follow a token, which may be the first of them

@@ -90,7 +90,7 @@ fn is_result(written: &WrittenPart<'_>) -> bool
 }
 
 /// Adds a lint about the key of a token, if there is one.
-fn add_first(
+pub(crate) fn add_first(
     alloc: Global,
     spots: &mut Vec<Spot<Lint>>,
     lint: Lint,

@@ -6,6 +6,7 @@
 #![tactic(auto)]
 
 mod beside;
+mod by_name;
 mod file_laws;
 mod file_lints;
 mod file_rule;
@@ -13,6 +14,7 @@ mod file_rules;
 mod guarded;
 mod imported;
 mod imported_below;
+mod late;
 mod matches;
 mod meant;
 mod reached;
@@ -20,6 +22,7 @@ mod valued;
 
 pub use file_laws::{
     abandoned_files_have_no_lints, assignments_come_before_matches, imports_are_further_down,
-    lints_are_those_of_the_rules, rules_that_are_reached_are_not_reported,
+    lints_are_those_of_the_rules, rules_that_are_reached_are_not_reported, some_late_files,
+    some_later_families, some_tokens_of_access,
 };
 pub use file_lints::lints_of_lines;

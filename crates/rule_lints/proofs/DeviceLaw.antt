@@ -1,13 +1,14 @@
 -- Tokens of one group.
-use Rattle.std.proofs.Common.{◌≡◌, ℕ, ◌==◌, not, Bool, true, false, List, [], ◌∷◌, ◌++◌, Option, Some, None, is_some, cond, refl, ap, sym, ◌∙◌, subst, ◌↔◌}
+use Rattle.std.proofs.Common.{◌≡◌, ℕ, ◌==◌, not, Bool, true, false, ◌||◌, List, [], ◌∷◌, ◌++◌, Option, Some, None, is_some, cond, refl, ap, sym, ◌∙◌, subst, ◌↔◌}
 use Rattle.std.proofs.lemmas.Bool.{eq-eqb, eqb-true, false≢true, or_left, or_right}
 use Rattle.std.specs.List.{AllByRecursion, list_any}
-use Rattle.rule_lints.specs.Devices.{group_of, is_other, number, stranger, stranger_by}
-use Rattle.rule_lints.specs.Laws.{AreOfOneGroup, IsStranger}
+use Rattle.rule_lints.specs.Devices.{group_of, is_kind, is_of_net, is_other, number, stranger, stranger_by}
+use Rattle.rule_lints.specs.Laws.{AreOfOneGroup, AsksForNet, IsStranger}
 use Rattle.rule_core.specs.Written.{WrittenPart}
 use Rattle.rule_lints.specs.declared.devices.Group.{Group}
 use Rattle.rule_lints.specs.declared.devices.Group.TheVariants.{UsbDevice, UsbInterface, Input, Pci, Tty, Net, Block, Hidraw, Sound, Video}
 use Rattle.rule_lints.specs.declared.devices.Side.{Side}
+use Rattle.rule_lints.specs.declared.devices.Side.TheVariants.{Event}
 
 -- no token is of another group
 abbrev NoneOther : Side → Group → List WrittenPart → Type 0
@@ -149,3 +150,28 @@ stranger_found side (v ∷ tokens) w h = by (group_of side v) refl h (λ g. stra
           none_other = (ap (is_other group) e ∙ own group, rest.none_other);
           other = rest.other;
         }
+
+-- a kind is there exactly if it is this one
+kind_is : (g : Option Group) → is_kind Net g ≡ true → g ≡ Some Net
+kind_is None h = absurd (false≢true h)
+kind_is (Some g) h = ap Some (sym (one Net g (ap not h)))
+
+is_net : (g : Option Group) → g ≡ Some Net → is_kind Net g ≡ true
+is_net g e = ap (is_kind Net) e
+
+net_asked : (tokens : List WrittenPart) → is_of_net tokens ≡ true → AsksForNet tokens
+net_asked [] h = absurd (false≢true h)
+net_asked (w ∷ tokens) h = by (is_kind Net (group_of Event w)) refl h (λ g. net_asked tokens g)
+  where
+    by : (b : Bool) → is_kind Net (group_of Event w) ≡ b → (b || is_of_net tokens) ≡ true → (is_of_net tokens ≡ true → AsksForNet tokens) → AsksForNet (w ∷ tokens)
+    by true e g more = record { before = []; w = w; following = tokens; whole = refl; net = kind_is (group_of Event w) e }
+    by false e g more =
+        let rest = more g in
+        record { before = w ∷ rest.before; w = rest.w; following = rest.following; whole = ap (λ (ts : List WrittenPart). w ∷ ts) rest.whole; net = rest.net }
+
+asked_net : (before : List WrittenPart) (w : WrittenPart) (following : List WrittenPart) → group_of Event w ≡ Some Net → is_of_net (before ++ w ∷ following) ≡ true
+asked_net [] w following e = or_left (is_kind Net (group_of Event w)) (is_of_net following) (is_net (group_of Event w) e)
+asked_net (v ∷ before) w following e = or_right (is_kind Net (group_of Event v)) (is_of_net (before ++ w ∷ following)) (asked_net before w following e)
+
+pub asks_for_net : (tokens : List WrittenPart) → (is_of_net tokens ≡ true) ↔ AsksForNet tokens
+asks_for_net tokens = (net_asked tokens, λ a. ap is_of_net a.whole ∙ asked_net a.before a.w a.following a.net)

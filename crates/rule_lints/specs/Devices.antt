@@ -1,6 +1,6 @@
--- W5: what a rule asks one device for is of different devices.
+-- W5 and W26: what a rule asks one device for is of different devices, or of network devices.
 use Rattle.std.specs.Prelude.{ℕ, Bool, true, false, not, ◌==◌, nat_eq, if◌then◌else◌, List, [], ◌∷◌, Option, Some, None, codes, unwrap_or}
-use Rattle.std.specs.List.{starts_with}
+use Rattle.std.specs.List.{list_any, starts_with}
 use Rattle.text_bytes.specs.Names.{bar, colon, minus}
 use Rattle.rule_types.specs.declared.part.Part.{Part}
 use Rattle.rule_types.specs.declared.part.Part.TheVariants as part
@@ -143,6 +143,15 @@ is_same group other = number group == number other
 abbrev pub is_other : Group → Option Group → Bool
 is_other group None = false
 is_other group (Some found) = not (is_same group found)
+
+-- whether there is a group, and it is this one
+abbrev pub is_kind : Group → Option Group → Bool
+is_kind group None = false
+is_kind group (Some found) = is_same group found
+
+-- whether a rule holds for network devices alone: one of its matches is met by no others
+abbrev pub is_of_net : List WrittenPart → Bool
+is_of_net tokens = list_any (λ w. is_kind Net (group_of Event w)) tokens
 
 -- The first token of another group than that of the first token of a group. If a group is given, that is the group of
 -- the first.

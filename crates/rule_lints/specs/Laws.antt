@@ -1,6 +1,6 @@
 -- What is true of the lints of one rule, in terms of texts and not of how they are read.
 use Rattle.std.specs.Prelude.{◌≡◌, ◌<◌, ◌^◌, ℕ, ◌+◌, ◌*◌, Bool, true, false, ◌&&◌, ◌||◌, nat_eq, nat_le, List, [], ◌∷◌, ◌++◌, length, map, flat_map, take}
-use Rattle.std.specs.Prelude.{drop, codes, Result, Ok, Err, is_some}
+use Rattle.std.specs.Prelude.{drop, codes, Result, Ok, Err, Some, is_some}
 use Rattle.std.specs.List.{AllByRecursion, list_any, slice_split, starts_with}
 use Rattle.text_bytes.specs.Names.{close_brace, comma, digit_zero, open_brace}
 use Rattle.text_core.specs.Choices.{choice, is_bar}
@@ -13,7 +13,9 @@ use Rattle.rule_lints.specs.Patterns.{are_expressions, close_parenthesis, open_p
 use Rattle.rule_lints.specs.Texts.{has_byte}
 use Rattle.rule_core.specs.Written.{WrittenPart}
 use Rattle.rule_lints.specs.declared.devices.Group.{Group}
+use Rattle.rule_lints.specs.declared.devices.Group.TheVariants.{Net}
 use Rattle.rule_lints.specs.declared.devices.Side.{Side}
+use Rattle.rule_lints.specs.declared.devices.Side.TheVariants.{Event}
 use Rattle.rule_lints.specs.declared.letter_case.Writing.{Writing}
 
 -- the number that octal digits write, each by its position
@@ -101,6 +103,14 @@ pub record IsStranger (side : Side) (tokens : List WrittenPart) (w : WrittenPart
   pub some : list_any (λ v. is_some (group_of side v)) before ≡ true
   pub none_other : AllByRecursion (λ v. is_other group (group_of side v) ≡ false) before
   pub other : is_other group (group_of side w) ≡ true
+
+-- One of the tokens is a match of the event that only network devices meet.
+pub record AsksForNet (tokens : List WrittenPart) : Type 0 where
+  pub before : List WrittenPart
+  pub w : WrittenPart
+  pub following : List WrittenPart
+  pub whole : tokens ≡ before ++ w ∷ following
+  pub net : group_of Event w ≡ Some Net
 
 -- A text has a `{`, after it a `,`, and after that a `}`.
 pub record HasBraces (text : List ℕ) : Type 0 where

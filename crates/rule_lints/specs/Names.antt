@@ -1,4 +1,4 @@
--- W8, W9 and W10: names that are given to a device, and a name in quotes.
+-- W8, W9, W10 and W26: names that are given to a device, and a name in quotes.
 use Rattle.std.specs.Prelude.{ℕ, Bool, true, false, not, ◌&&◌, nat_eq, if◌then◌else◌, List, Option, Some, None, codes}
 use Rattle.std.specs.List.{list_any, slice_split, starts_with}
 use Rattle.std.specs.Option.{option_and_then}
@@ -63,6 +63,10 @@ links_by Udev links = None
 -- the value with which W9 is reported
 abbrev pub dev_link : Profile → Part → Option (List ℕ)
 dev_link profile p = option_and_then (links_by profile) (option_and_then links_in (change_of p))
+
+-- the links with which W26 is reported, in a rule for network devices alone: as they have no node, no link is made
+abbrev pub link_given : Part → Option (List ℕ)
+link_given p = option_and_then links_in (change_of p)
 
 -- a text, if it has a `"`
 abbrev pub with_quote : List ℕ → Option (List ℕ)

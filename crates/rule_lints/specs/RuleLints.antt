@@ -6,13 +6,13 @@ use Rattle.rule_tokens.specs.Grammar.{Placed}
 use Rattle.rule_lints.specs.declared.lint.Lint.{Lint}
 use Rattle.rule_lints.specs.declared.lint.Lint.TheVariants.{ModeNotOctal, SignOfShell, RelativeProgram, LetterCase, NoSuchDevice, NameOutsideNet}
 use Rattle.rule_lints.specs.declared.lint.Lint.TheVariants.{LinkWithDev, QuotedName, NotAPattern, AlwaysHolds, NoPatternForUdev}
-use Rattle.rule_lints.specs.declared.lint.Lint.TheVariants.{NeverFits, BlankBesideBar, NotSubstituted, NameTooLong, ForbiddenCommand}
+use Rattle.rule_lints.specs.declared.lint.Lint.TheVariants.{NeverFits, BlankBesideBar, NotSubstituted, NameTooLong, ForbiddenCommand, LinkOfNet}
 use Rattle.rule_lints.specs.declared.devices.Side.TheVariants.{Event, Chain}
 use Rattle.rule_lints.specs.Commands.{forbidden_command, relative_program, shell_command}
-use Rattle.rule_lints.specs.Devices.{asked, stranger}
+use Rattle.rule_lints.specs.Devices.{asked, is_of_net, stranger}
 use Rattle.rule_lints.specs.LetterCase.{wrong_case}
 use Rattle.rule_lints.specs.Modes.{wrong_mode}
-use Rattle.rule_lints.specs.Names.{dev_link, is_outside_net, name_given, quoted_name}
+use Rattle.rule_lints.specs.Names.{dev_link, is_outside_net, link_given, name_given, quoted_name}
 use Rattle.rule_lints.specs.Patterns.{always_holds, expression, is_no_pattern}
 use Rattle.rule_core.specs.Spots.{spot_at_key, value_spot}
 use Rattle.rule_core.specs.Written.{WrittenPart}
@@ -32,6 +32,7 @@ word_of profile NotAPattern w = expression w.part
 word_of profile AlwaysHolds w = if always_holds w.part then Some w.token.parts.head.key else None
 word_of profile NoPatternForUdev w = if is_no_pattern profile w.part then Some w.token.parts.head.key else None
 word_of profile ForbiddenCommand w = forbidden_command w.part
+word_of profile LinkOfNet w = link_given w.part
 word_of profile _ w = None
 
 -- whether a lint is about a token's key, and not about its value
@@ -48,6 +49,7 @@ is_of_key BlankBesideBar = false
 is_of_key NotSubstituted = false
 is_of_key NameTooLong = false
 is_of_key ForbiddenCommand = false
+is_of_key LinkOfNet = false
 is_of_key _ = true
 
 -- a lint about a token, reported with a text
@@ -76,10 +78,14 @@ reported_if_there profile lint (Some w) = reported profile lint (w ∷ [])
 abbrev pub names_reported : Profile → List WrittenPart → List (Spot Lint)
 names_reported profile tokens = if is_outside_net tokens then reported profile NameOutsideNet tokens else []
 
+-- each W26 of a rule's tokens
+abbrev pub links_reported : Profile → List WrittenPart → List (Spot Lint)
+links_reported profile tokens = if is_of_net tokens then reported profile LinkOfNet tokens else []
+
 -- what is reported for a rule's tokens: the lints in the order of their codes, and those of one code in written order
 unfoldable pub lints_of_rule : Profile → List WrittenPart → List (Spot Lint)
 lints_of_rule profile tokens =
-    (((((((((((reported profile ModeNotOctal tokens
+    ((((((((((((reported profile ModeNotOctal tokens
     ++ reported profile SignOfShell tokens)
     ++ reported profile RelativeProgram tokens)
     ++ reported profile LetterCase tokens)
@@ -91,4 +97,5 @@ lints_of_rule profile tokens =
     ++ reported profile NotAPattern tokens)
     ++ reported profile AlwaysHolds tokens)
     ++ reported profile NoPatternForUdev tokens)
-    ++ reported profile ForbiddenCommand tokens
+    ++ reported profile ForbiddenCommand tokens)
+    ++ links_reported profile tokens

@@ -1,7 +1,8 @@
-//! W5: what a rule asks one device for is of different devices.
+//! W5 and W26: what a rule asks one device for is of different devices, or of network devices.
 ghost use Rattle.std.specs.Prelude.{◌≡◌, map, option_map};
 ghost use Rattle.rule_lints.specs.Devices.{asked, group_by_stem, group_in_subsystem, group_named, group_of, group_of_driver, group_of_kernel};
-ghost use Rattle.rule_lints.specs.Devices.{group_of_parent, group_of_part, group_of_plain, group_of_up, if_equal, is_other, is_same, number, stranger};
+ghost use Rattle.rule_lints.specs.Devices.{group_of_parent, group_of_part, group_of_plain, group_of_up, if_equal, is_kind, is_of_net, is_other};
+ghost use Rattle.rule_lints.specs.Devices.{is_same, number, stranger};
 
 use crate::parts::is_among;
 use crate::texts::{has_byte, rest_after_first};
@@ -296,6 +297,23 @@ fn is_other(group: Group, found: Option<Group>) -> bool
     match found {
         None => false,
         Some(found) => !is_same(group, found),
+    }
+}
+
+/// Whether a rule holds for network devices alone: one of its matches is met by no others.
+pub(crate) fn is_of_net(tokens: &[WrittenPart<'_>]) -> bool
+    ensures { result ≡ is_of_net tokens.now }
+{
+    tokens.iter().any(|written| is_kind(Group::Net, group_of(Side::Event, written)))
+}
+
+/// Whether there is a group, and it is this one.
+fn is_kind(group: Group, found: Option<Group>) -> bool
+    ensures { result ≡ is_kind group found }
+{
+    match found {
+        None => false,
+        Some(found) => is_same(group, found),
     }
 }
 

@@ -4,8 +4,8 @@ ghost use Rattle.std.specs.List.{list_any};
 ghost use Rattle.text_core.specs.Fits.{fits};
 ghost use Rattle.text_core.specs.declared.item.Item.{Item};
 ghost use Rattle.rule_lints.specs.Commands.{has_shell_sign, is_forbidden, lacks_path, lacks_shell};
-ghost use Rattle.rule_lints.specs.Devices.{group_in_subsystem, group_of_driver, group_of_kernel, group_of_parent, stranger};
-ghost use Rattle.rule_lints.specs.Laws.{AreOfOneGroup, HasBraces, HasOpenParenthesis, HasSignOutside, IsStranger, WritesMode, has_capital, is_reported_as};
+ghost use Rattle.rule_lints.specs.Devices.{group_in_subsystem, group_of_driver, group_of_kernel, group_of_parent, is_of_net, stranger};
+ghost use Rattle.rule_lints.specs.Laws.{AreOfOneGroup, AsksForNet, HasBraces, HasOpenParenthesis, HasSignOutside, IsStranger, WritesMode, has_capital, is_reported_as};
 ghost use Rattle.rule_lints.specs.Laws.{is_reported_as_expression, is_reported_to_hold, is_small_text};
 ghost use Rattle.rule_lints.specs.LetterCase.{is_capital, is_small_alias, items_in_place};
 ghost use Rattle.rule_types.specs.Topics.{is_mode};
@@ -22,7 +22,7 @@ ghost use Rattle.rule_types.specs.declared.roles.PlainKey.TheVariants as plain;
 ghost use Rattle.rule_types.specs.declared.roles.UpKey.TheVariants as up;
 ghost use Rattle.text_bytes.specs.declared.profile.Profile.TheVariants.{Manual, Udev};
 ghost use Rattle.text_tables.specs.Texts.{same_text};
-ghost use Rattle.rule_lints.specs.declared.devices.Group.TheVariants.{Block, Input, Tty, UsbInterface};
+ghost use Rattle.rule_lints.specs.declared.devices.Group.TheVariants.{Block, Input, Net, Tty, UsbInterface};
 ghost use Rattle.rule_lints.specs.declared.devices.Side.{Side};
 ghost use Rattle.rule_lints.specs.declared.letter_case.Writing.TheVariants.{Alias, Lower, Prefixed};
 ghost use Rattle.rule_core.specs.Written.{WrittenPart};
@@ -66,6 +66,13 @@ pub fn the_first_stranger_is_reported()
     ensures { (side : Side) (tokens : List WrittenPart) (reported : WrittenPart) → stranger side tokens ≡ Some reported → IsStranger side tokens reported }
 {}
 
+/// A rule is for network devices alone, so that a link of it is reported, if and only if one of its tokens is a match
+/// of the event that only they meet.
+#[tactic(auto, using(crate::proofs::DeviceLaw::asks_for_net))]
+pub fn rules_of_network_devices_ask_for_one()
+    ensures { (tokens : List WrittenPart) → (is_of_net tokens ≡ true) ↔ AsksForNet tokens }
+{}
+
 /// Values, of which some ask for a known kind of devices.
 pub fn some_kinds_of_devices()
     ensures terminal { group_of_kernel (codes "ttyUSB*") ≡ Some Tty }
@@ -78,6 +85,8 @@ pub fn some_kinds_of_devices()
     ensures driver { group_of_driver (codes "cdc_acm") ≡ Some UsbInterface }
     ensures subsystem { group_in_subsystem (codes "input") ≡ Some Input }
     ensures subsystems { group_in_subsystem (codes "input|tty") ≡ None }
+    ensures network { group_in_subsystem (codes "net") ≡ Some Net }
+    ensures card { group_of_kernel (codes "eth0") ≡ Some Net }
 {}
 
 /// Braces are reported if and only if a comma is between them.

@@ -19,14 +19,14 @@ mod texts;
 pub use commands::first_word;
 pub use laws::{
     braces_have_a_comma, capital_letters_are_never_written, modes_are_octal_numbers,
-    open_parentheses_are_not_closed, signs_are_outside_of_quotes,
-    small_digits_of_aliases_are_never_written, some_aliases, some_commands, some_kinds_of_devices,
-    some_links, some_modes, some_numbers, some_patterns, some_stars,
-    something_of_members_is_no_pattern, strangers_are_of_two_groups,
+    open_parentheses_are_not_closed, rules_of_network_devices_ask_for_one,
+    signs_are_outside_of_quotes, small_digits_of_aliases_are_never_written, some_aliases,
+    some_commands, some_kinds_of_devices, some_links, some_modes, some_numbers, some_patterns,
+    some_stars, something_of_members_is_no_pattern, strangers_are_of_two_groups,
     the_first_stranger_is_reported, what_always_holds_fits_each_text,
 };
 pub use letter_case::{begin_with, is_many};
 pub use lint::Lint;
 pub use lints::{add_word, lints_of_rule};
 pub use parts::{comparison_of, is_among};
-pub use texts::has_byte;
+pub use texts::{has_byte, rest_after_last};

@@ -55,4 +55,8 @@ pub enum Lint {
     ForbiddenCommand,
     /// W25: a result is compared before the program that gives it.
     NoResultYet,
+    /// W26: a link is given to a network device, which has no node.
+    LinkOfNet,
+    /// W27: the tag `uaccess` is given after the file that reads it.
+    TagTooLate,
 }

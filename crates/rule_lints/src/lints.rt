@@ -3,14 +3,14 @@ ghost use Rattle.std.specs.Prelude.{◌≡◌, ◌∷◌, ◌++◌, [], IfOk, On
 ghost use Rattle.std.specs.Bool.{then_some};
 ghost use Rattle.rule_lints.specs.declared.lint.Lint.TheVariants.{NoSuchDevice};
 ghost use Rattle.rule_lints.specs.Devices.{stranger};
-ghost use Rattle.rule_lints.specs.RuleLints.{is_of_key, lints_of_rule, names_reported, reported, reported_if_there, spot_of, spots_with, word_of};
+ghost use Rattle.rule_lints.specs.RuleLints.{is_of_key, links_reported, lints_of_rule, names_reported, reported, reported_if_there, spot_of, spots_with, word_of};
 
 use crate::commands::{forbidden_command, relative_program, shell_command};
-use crate::devices::{Side, asked, stranger};
+use crate::devices::{Side, asked, is_of_net, stranger};
 use crate::letter_case::wrong_case;
 use crate::lint::Lint;
 use crate::modes::wrong_mode;
-use crate::names::{dev_link, is_outside_net, name_given, quoted_name};
+use crate::names::{dev_link, is_outside_net, link_given, name_given, quoted_name};
 use crate::patterns::{always_holds, expression, is_no_pattern};
 use rule_core::{Spot, WrittenPart, spot_at_key, value_spot};
 use rule_tokens::Token;
@@ -41,6 +41,7 @@ pub fn lints_of_rule(
     add(alloc, profile, &mut spots, Lint::AlwaysHolds, tokens)?;
     add(alloc, profile, &mut spots, Lint::NoPatternForUdev, tokens)?;
     add(alloc, profile, &mut spots, Lint::ForbiddenCommand, tokens)?;
+    add_links(alloc, profile, &mut spots, tokens)?;
     Ok(spots)
 }
 
@@ -71,6 +72,22 @@ fn add_names(
 {
     if is_outside_net(tokens) {
         add(alloc, profile, spots, Lint::NameOutsideNet, tokens)
+    } else {
+        Ok(())
+    }
+}
+
+/// Adds each W26 of a rule's tokens.
+fn add_links(
+    alloc: Global,
+    profile: Profile,
+    spots: &mut Vec<Spot<Lint>>,
+    tokens: &[WrittenPart<'_>],
+) -> Result<(), AllocError>
+    ensures { OnOk result (spots.new.items ≡ spots.old.items ++ links_reported profile tokens.now) }
+{
+    if is_of_net(tokens) {
+        add(alloc, profile, spots, Lint::LinkOfNet, tokens)
     } else {
         Ok(())
     }
@@ -161,7 +178,8 @@ fn is_of_key(lint: Lint) -> bool
         | Lint::BlankBesideBar
         | Lint::NotSubstituted
         | Lint::NameTooLong
-        | Lint::ForbiddenCommand => false,
+        | Lint::ForbiddenCommand
+        | Lint::LinkOfNet => false,
         _ => true,
     }
 }
@@ -183,6 +201,7 @@ fn word_of<'w>(profile: Profile, lint: Lint, written: &'w WrittenPart<'_>) -> Op
         Lint::AlwaysHolds => key_if(always_holds(&written.part), written),
         Lint::NoPatternForUdev => key_if(is_no_pattern(profile, &written.part), written),
         Lint::ForbiddenCommand => forbidden_command(&written.part),
+        Lint::LinkOfNet => link_given(&written.part),
         _ => None,
     }
 }

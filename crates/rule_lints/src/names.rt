@@ -1,8 +1,8 @@
-//! W8, W9 and W10: names that are given to a device, and a name in quotes.
+//! W8, W9, W10 and W26: names that are given to a device, and a name in quotes.
 ghost use Rattle.std.specs.Prelude.{◌≡◌, codes, nat_eq, option_map};
 ghost use Rattle.std.specs.List.{list_any, slice_split, starts_with};
 ghost use Rattle.text_bytes.specs.Names.{is_blank};
-ghost use Rattle.rule_lints.specs.Names.{dev_link, excludes_net, is_outside_net, is_subsystem, links_by, links_in, meets, name_given, name_in, quoted_name};
+ghost use Rattle.rule_lints.specs.Names.{dev_link, excludes_net, is_outside_net, is_subsystem, link_given, links_by, links_in, meets, name_given, name_in, quoted_name};
 
 use crate::parts::change_of;
 use crate::texts::has_byte;
@@ -97,6 +97,13 @@ fn has_dev(links: &[u8]) -> bool
     links
         .split(|byte| is_blank(*byte))
         .any(|link| link.starts_with(b"/dev/"))
+}
+
+/// The links with which W26 is reported, in a rule for network devices alone: as they have no node, no link is made.
+pub(crate) fn link_given(part: &Part) -> Option<&[u8]>
+    ensures { option_map (λ text. text.now) result ≡ link_given part.now }
+{
+    links_in(change_of(part)?)
 }
 
 /// The text in braces with which W10 is reported.

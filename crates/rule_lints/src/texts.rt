@@ -37,7 +37,7 @@ fn length_before(byte: u8, text: &[u8]) -> usize
 }
 
 /// What follows the last such byte of a text, all of it if it has none.
-pub(crate) fn rest_after_last(byte: u8, text: &[u8]) -> &[u8]
+pub fn rest_after_last(byte: u8, text: &[u8]) -> &[u8]
     ensures { result.now ≡ rest_after_last byte text.now }
 {
     let (_, following) = text.split_at(text.len() - length_after(byte, text));

@@ -9,11 +9,11 @@ def lint(number, word=""):
 
 
 # The lints that rules of a test have besides those that it is about, such as W15 of a rule without a match.
-OTHERS = ",".join(f"W{number}" for number in range(15, 26))
+OTHERS = ",".join(f"W{number}" for number in range(15, 28))
 
 
 def linted(name, *lines, words=f"verify --lint --ignore {OTHERS}"):
-    """A run over a file of these lines, with what is said about each, apart from W15 to W25."""
+    """A run over a file of these lines, with what is said about each, apart from W15 to W27."""
     return verified(name, *lines, words=words)
 
 

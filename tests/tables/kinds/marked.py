@@ -82,6 +82,8 @@ TEXTS = {
     "W23": "unit wanted without a tag",
     "W24": "command that cannot work",
     "W25": "result before its program",
+    "W26": "link of a network device",
+    "W27": "tag uaccess in a late file",
     "I1": "nothing to ignore",
     "I2": "unknown code",
 }

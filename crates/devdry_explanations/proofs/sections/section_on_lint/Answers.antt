@@ -75,3 +75,9 @@ returns-in-ForbiddenCommand-clause-advice c = rw c.in-ForbiddenCommand.is refl
 
 pub returns-in-NoResultYet-clause-advice : goal.returns-in-NoResultYet-clause-advice
 returns-in-NoResultYet-clause-advice c = rw c.in-NoResultYet.is refl
+
+pub returns-in-LinkOfNet-clause-advice : goal.returns-in-LinkOfNet-clause-advice
+returns-in-LinkOfNet-clause-advice c = rw c.in-LinkOfNet.is refl
+
+pub returns-in-TagTooLate-clause-advice : goal.returns-in-TagTooLate-clause-advice
+returns-in-TagTooLate-clause-advice c = rw c.in-TagTooLate.is refl

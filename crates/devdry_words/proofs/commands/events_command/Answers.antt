@@ -7,9 +7,9 @@ use Rattle.devdry_words.proofs.commands.events_command.Goals as goal
 
 pub returns : goal.returns
 returns c =
-    let start : IsCommand (new_shape (codes "events")) c.about.result = record {
-      shape_is = ap shape_of_fields c.about.ensures ∙ ap (λ (x : App). x.top) c.new.ensures.app;
-      is_local = ap (λ f. f.has_globals) c.about.ensures ∙ c.new.ensures.local;
+    let start : IsCommand (new_shape (codes "events")) c.after_help.result = record {
+      shape_is = ap shape_of_fields c.after_help.ensures ∙ ap shape_of_fields c.about.ensures ∙ ap (λ (x : App). x.top) c.new.ensures.app;
+      is_local = ap (λ f. f.has_globals) c.after_help.ensures ∙ ap (λ f. f.has_globals) c.about.ensures ∙ c.new.ensures.local;
     } in
     let first = one_more _ _ _ _ _ start c.root_option.ensures c.in_ok-arg.ensures in
     let second = one_more _ _ _ _ _ first c.with_option.ensures c.in_ok-arg-2.ensures in

@@ -27,10 +27,11 @@ returns-in-Some-clause-tokens c =
 pub returns-in-None-clause-found : goal.returns-in-None-clause-found
 returns-in-None-clause-found c =
     let same = c.as_slice-bytes.ensures ∙ ap (λ (f : SourceFile). f.bytes) c.file-file.ensures in
+    let named = c.as_slice-name.ensures ∙ ap (λ (f : SourceFile). f.name) c.file-file.ensures in
     let goes_on : abandoned c.args.asked.now.profile c.as_slice-bytes.result.now ≡ None =
     ap (λ (a : Asked). abandoned a.profile c.as_slice-bytes.result.now) (sym c.asked.view_is) ∙ sym c.abandoned_at.ensures ∙ c.in-None.is in
     IfOk-weaker c.found_in_lines.result _ _
-    (λ r h. h ∙ found_once c.args.asked.now c.args.read.now c.text-text.result.now c.as_slice-bytes.result.now c.args.joined.now c.text-text.ensures same c.requires goes_on)
+    (λ r h. h ∙ found_once c.args.asked.now c.args.read.now c.as_slice-name.result.now c.text-text.result.now c.as_slice-bytes.result.now c.args.joined.now c.text-text.ensures named same c.requires goes_on)
     c.found_in_lines.ensures.found
 
 pub returns-in-None-clause-tokens : goal.returns-in-None-clause-tokens

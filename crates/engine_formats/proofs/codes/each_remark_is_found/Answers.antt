@@ -2,7 +2,7 @@ use Rattle.std.proofs.Common.{◌≡◌, Some, refl}
 use Rattle.text_bytes.specs.Texts.{split_once}
 use Rattle.file_messages.specs.declared.message.MessageKind.TheVariants.{PropertyWithoutMatch, MatchWithoutProperty, UnindentedLine, NoEquals, EmptyKey, PatternNotSupported, BadSyntax, UnknownKey, OperatorNotAllowed, WrongAttribute, BadValue, BadSubstitution, NoLaterLabel, GivenTwice, LineTooLong, BadPrefix, SetNotSupported, OpenAtEnd, ReservedProperty, NameWithoutEffect, UnknownBuiltin, MatchesExclude, SaidTwice, RuleWithoutEffect, ResultBeforeProgram, EmptyValue, BadAttributeSubstitution, AttributeElsewhere, OldSubsystemName, AssignExpected, UnknownAccount, FileAbandoned, CommaExpected, BlankExpected, ReadAsAssign, LabelUnused, LeadingComma, BlankBeforeComma}
 use Rattle.rule_lints.specs.declared.lint.Lint.TheVariants.{NoMatch, NeverFits, BlankBesideBar, UnknownName, NotSubstituted, ListReplaced, MeantAsMatch}
-use Rattle.rule_lints.specs.declared.lint.Lint.TheVariants.{NameTooLong, WantedWithoutTag, ForbiddenCommand, NoResultYet}
+use Rattle.rule_lints.specs.declared.lint.Lint.TheVariants.{NameTooLong, WantedWithoutTag, ForbiddenCommand, NoResultYet, LinkOfNet, TagTooLate}
 use Rattle.rule_lints.specs.declared.lint.Lint.TheVariants.{ModeNotOctal, SignOfShell, RelativeProgram, LetterCase, NoSuchDevice, ImportedBelow, MeantToCompare, NameOutsideNet, LinkWithDev, QuotedName, NotAPattern, AlwaysHolds, NeverReached, NoPatternForUdev}
 use Rattle.hwdb_lints.specs.declared.lint.DatabaseLint.TheVariants.{DigitCase, NoModalias, EndMissing, UnknownPrefix, MatchTwice, PropertyTwice, BlankAtEquals}
 use Rattle.hwdb_lints.specs.declared.lint.DatabaseLint.TheVariants.{OddName, BlankAtEnd, ByteOrderMark, CutWord, OpenSet, WrongValue}
@@ -78,6 +78,8 @@ found (about.Lint NameTooLong) = refl
 found (about.Lint WantedWithoutTag) = refl
 found (about.Lint ForbiddenCommand) = refl
 found (about.Lint NoResultYet) = refl
+found (about.Lint LinkOfNet) = refl
+found (about.Lint TagTooLate) = refl
 found (about.DatabaseLint DigitCase) = refl
 found (about.DatabaseLint NoModalias) = refl
 found (about.DatabaseLint EndMissing) = refl

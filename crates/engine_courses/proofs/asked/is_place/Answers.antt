@@ -1,7 +1,7 @@
 use Rattle.std.proofs.Common.{◌∷◌, decimal, sym, ◌∙◌}
 use Rattle.text_bytes.specs.Names.{colon}
 use Rattle.engine_courses.proofs.Prefixes.{asks_after, asks_none}
-use Rattle.engine_courses.proofs.asked.asks.Goals as goal
+use Rattle.engine_courses.proofs.asked.is_place.Goals as goal
 
 pub returns-in-None : goal.returns-in-None
 returns-in-None c = asks_none (λ t. t.now) c.args.file.now c.args.text.now (colon ∷ decimal c.args.line) c.following.result c.following.ensures.value c.in-None.is

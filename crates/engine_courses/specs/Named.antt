@@ -1,0 +1,19 @@
+-- What a text of `--why` and the name of a file are compared as.
+use Rattle.std.specs.Prelude.{Bool, not, ◌==◌, ◌&&◌, ◌||◌, if◌then◌else◌, is_some, position}
+use Rattle.text_bytes.specs.Names.{slash}
+use Rattle.text_links.specs.Kernels.{last_component}
+use Rattle.text_tables.specs.Texts.{Text}
+
+-- whether a path leads through a folder
+abbrev pub has_folder : Text → Bool
+has_folder path = is_some (position (λ b. b == slash) path)
+
+-- whether the first of two texts leads through a folder, and the second is a name alone
+abbrev pub is_beside_name : Text → Text → Bool
+is_beside_name path name = has_folder path && not (has_folder name)
+
+-- A text and the name of a file as they are compared: as they stand if both have folders or neither has, and otherwise by what
+-- follows the last slash. So a path names the file that is read under its name alone, and a name the one that is read by its path.
+unfoldable pub alike : Text → Text → Text × Text
+alike text file =
+    if is_beside_name text file || is_beside_name file text then (last_component text, last_component file) else (text, file)

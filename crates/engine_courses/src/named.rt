@@ -1,0 +1,44 @@
+//! What a text of `--why` and the name of a file are compared as.
+ghost use Rattle.std.specs.Prelude.{◌≡◌};
+ghost use Rattle.engine_courses.specs.Named.{alike, has_folder, is_beside_name};
+
+use text_bytes::find;
+use text_links::last_component;
+
+/// A text and the name of a file, as they are compared.
+#[derive(Clone, Copy)]
+pub(crate) struct Names<'a, 'b> {
+    /// The text, or what it ends in.
+    pub(crate) text: &'a [u8],
+    /// The name of the file, or what it ends in.
+    pub(crate) file: &'b [u8],
+}
+
+/// Whether a path leads through a folder.
+fn has_folder(path: &[u8]) -> bool
+    ensures { result ≡ has_folder path.now }
+{
+    find(b'/', path).is_some()
+}
+
+/// Whether the first of two texts leads through a folder, and the second is a name alone.
+fn is_beside_name(path: &[u8], name: &[u8]) -> bool
+    ensures { result ≡ is_beside_name path.now name.now }
+{
+    has_folder(path) && !has_folder(name)
+}
+
+/// A text and the name of a file as they are compared: by what follows the last slash if only one of the two has one.
+#[tactic(auto, unfolding(crate::specs::Named::alike))]
+pub(crate) fn alike<'a, 'b>(text: &'a [u8], file: &'b [u8]) -> Names<'a, 'b>
+    ensures { (result.text.now, result.file.now) ≡ alike text.entry.now file.entry.now }
+{
+    if is_beside_name(text, file) || is_beside_name(file, text) {
+        Names {
+            text: last_component(text),
+            file: last_component(file),
+        }
+    } else {
+        Names { text, file }
+    }
+}

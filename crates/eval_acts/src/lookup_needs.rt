@@ -66,7 +66,7 @@ fn with_parents(
     mut words: Vec<Vec<u8>>,
 ) -> Result<Vec<Vec<u8>>, AllocError>
     ensures { IfOk result (λ all. map (λ w. w.items) all.items
-        ≡ map (λ w. w.items) words.entry.items ++ modalias_words event.now (option_map (λ t. t.now) subsystem.entry) (map parent_seen parents.now)) }
+        ≡ map (λ w. w.items) words.items ++ modalias_words event.now (option_map (λ t. t.now) subsystem.entry) (map parent_seen parents.now)) }
 {
     for device in parents {
         let modalias = device.env().get(b"MODALIAS");

@@ -1,7 +1,7 @@
-use Rattle.std.proofs.Common.{rules, ◌≡◌, true, false, inr, refl}
+use Rattle.std.proofs.Common.{rules, ◌≡◌, true, false}
 use Rattle.engine_reports.specs.Reports.{shown_rules}
 use Rattle.engine_core.specs.Outcomes.{asks_more, reported_for}
-use Rattle.engine_core.proofs.Running.{alone_runs, reported_runs, stopped}
+use Rattle.engine_core.proofs.Running.{alone_runs, reported_runs}
 use Rattle.engine_core.proofs.events.report_by_rules.Goals as goal
 use Rattle.engine_core.proofs.events.report_by_rules.Goals.{then-line-via-then-line, then-line-via-else-line+then-not-is_empty}
 
@@ -21,6 +21,3 @@ returns-in-Ok g c =
     let messages : c.deref-in-Ok.result.now ≡ c.args.read.messages.items = search rules in
     let tables : c.in-Ok.tables ≡ (opened.rules, record { links = c.args.line.now.links.items; entries = opened.entries }) = search rules in
     alone_runs c.args.line.now opened c.deref-in-Ok.result.now c.in-Ok.tables c.rules-rules-in-Ok.result.now c.knowledge-knowledge-in-Ok.result.now _ _ _ c.requires asks messages tables c.rules-rules-in-Ok.ensures c.knowledge-knowledge-in-Ok.ensures c.answer_and_say-in-Ok.ensures
-
-pub returns-in-Err : goal.returns-in-Err
-returns-in-Err g c = stopped _ _ _ _ _ _ _ (record { unread = refl; unanswered = refl; reports = inr c.report_out_of_memory.ensures })

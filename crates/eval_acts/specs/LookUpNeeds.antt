@@ -32,7 +32,8 @@ modalias_word event subsystem device seen =
 abbrev pub modalias_words : EventValue → (subsystem : Option Text) → List (DeviceValue × Candidate) → List Text
 modalias_words event subsystem [] = []
 modalias_words event subsystem (at ∷ others) =
-    modalias_word event subsystem at.0 at.1 ++ (if is_last subsystem at.1 then [] else modalias_words event subsystem others)
+    if is_last subsystem at.1 then modalias_word event subsystem at.0 at.1
+    else modalias_word event subsystem at.0 at.1 ++ modalias_words event subsystem others
 
 -- a device above the event device, with what `hwdb` looks at in it
 abbrev pub parent_seen : DeviceValue → DeviceValue × Candidate

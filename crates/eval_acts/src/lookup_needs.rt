@@ -3,7 +3,7 @@ ghost use Rattle.std.specs.Prelude.{◌≡◌, ◌++◌, None, IfOk, map, option
 ghost use Rattle.hwdb_lookup.specs.Query.{shown};
 ghost use Rattle.text_bytes.specs.declared.profile.Profile.TheVariants.{Udev};
 ghost use Rattle.eval_acts.specs.LookUps.{candidate_with, is_last};
-ghost use Rattle.eval_acts.specs.LookUpNeeds.{devices_seen, has_modalias, is_input_device, lookup_needs, modalias_word, modalias_words, parent_seen};
+ghost use Rattle.eval_acts.specs.LookUpNeeds.{device_needs, devices_seen, has_modalias, is_input_device, lookup_needs, modalias_word, modalias_words, parent_seen};
 
 use crate::candidates::seen_by_udev;
 use builtin_devices::{is_text, word_about};
@@ -102,6 +102,36 @@ fn modalias_words(
     with_parents(alloc, event, subsystem, event.parents(), words)
 }
 
+/// What the block would have to report if the modaliases of devices were looked up; a modalias that is given needs no
+/// device.
+fn device_needs(
+    alloc: Global,
+    request: &Request<'_>,
+    state: &State<'_>,
+) -> Result<Vec<Vec<u8>>, AllocError>
+    ensures { IfOk result (λ needs. map (λ w. w.items) needs.items ≡ device_needs state.now request.now request.now.modalias) }
+{
+    match request.modalias {
+        Some(_given) => Ok(Vec::new(alloc)),
+        None => modalias_words(alloc, request.subsystem, state),
+    }
+}
+
+/// The same for udev, by what was found.
+fn udev_needs(
+    alloc: Global,
+    request: &Request<'_>,
+    state: &State<'_>,
+    found: &[(&[u8], &[u8])],
+) -> Result<Vec<Vec<u8>>, AllocError>
+    ensures { IfOk result (λ needs. map (λ w. w.items) needs.items ≡ lookup_needs Udev state.now request.now (shown found.now)) }
+{
+    match found.split_first() {
+        Some((_first, _others)) => Ok(Vec::new(alloc)),
+        None => device_needs(alloc, request, state),
+    }
+}
+
 /// What the block would have to report for a look-up, by what was found: for udev the modaliases of devices, if they
 /// were looked up and nothing was found.
 pub(crate) fn lookup_needs(
@@ -113,9 +143,7 @@ pub(crate) fn lookup_needs(
     ensures { IfOk result (λ needs. map (λ w. w.items) needs.items ≡ lookup_needs state.now.event.profile state.now request.now (shown found.now)) }
 {
     match state.event.event().profile() {
-        Profile::Udev if found.is_empty() && request.modalias.is_none() => {
-            modalias_words(alloc, request.subsystem, state)
-        }
-        Profile::Udev | Profile::Manual => Ok(Vec::new(alloc)),
+        Profile::Manual => Ok(Vec::new(alloc)),
+        Profile::Udev => udev_needs(alloc, request, state, found),
     }
 }

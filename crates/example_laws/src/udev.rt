@@ -159,8 +159,8 @@ pub fn a_look_up_that_finds_nothing_tells_what_it_needs()
         ∷ codes "note r.rules:1: builtin needs: hwdb: MODALIAS of p"
         ∷ codes "note r.rules:2: builtin needs: hwdb: MODALIAS of input5, MODALIAS of p, MODALIAS of c" ∷ codes "" ∷ []) }
     ensures last { answered_as_udev (codes "IMPORT{builtin}=\"hwdb\"")
-        (codes "C: add\nP: /c/i\nU: usb\nP: /c\nU: usb\nE: DEVTYPE=usb_device\nE: MODALIAS=m\nP: /\nU: pci")
-        ≡ codes "event add /c/i\nenv ACTION=add\nenv DEVPATH=/c/i\nenv SUBSYSTEM=usb\nnote r.rules:1: builtin needs: hwdb: MODALIAS\n\n" }
+        (codes "C: add\nP: /p/c/i\nU: usb\nP: /p/c\nU: usb\nE: DEVTYPE=usb_device\nE: MODALIAS=m\nP: /p\nU: pci")
+        ≡ codes "event add /p/c/i\nenv ACTION=add\nenv DEVPATH=/p/c/i\nenv SUBSYSTEM=usb\nnote r.rules:1: builtin needs: hwdb: MODALIAS\n\n" }
     ensures manual { answered (codes "IMPORT{builtin}=\"hwdb\"") (codes "C: add\nP: /c\nU: pci")
         ≡ codes "event add /c\nenv ACTION=add\nenv DEVPATH=/c\nenv SUBSYSTEM=pci\n\n" }
 {}

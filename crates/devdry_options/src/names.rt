@@ -5,6 +5,7 @@ ghost use Rattle.devdry_options.specs.Names.{flag_names, repeated_names, valued_
 /// Options without a value.
 const FLAGS: &[&str] = &[
     "all",
+    "links",
     "lint",
     "no-style",
     "no-summary",
@@ -12,6 +13,7 @@ const FLAGS: &[&str] = &[
     "sources",
     "strict",
     "udev",
+    "unused",
 ];
 
 /// Options with a value, each of which can be given once.

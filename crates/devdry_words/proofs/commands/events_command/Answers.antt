@@ -17,6 +17,7 @@ returns c =
     let fourth = one_more _ _ _ _ _ third c.all_flag.ensures c.in_ok-arg-4.ensures in
     let fifth = one_more _ _ _ _ _ fourth c.sources_flag.ensures c.in_ok-arg-5.ensures in
     let sixth = one_more _ _ _ _ _ fifth c.why_option.ensures c.in_ok-arg-6.ensures in
+    let seventh = one_more _ _ _ _ _ sixth c.unused_flag.ensures c.in_ok-arg-7.ensures in
     let seventh = one_more _ _ _ _ _ sixth c.questions_flag.ensures c.in_ok-arg-7.ensures in
     let eighth = one_more _ _ _ _ _ seventh c.index_option.ensures c.in_ok-arg-8.ensures in
     let ninth = one_more _ _ _ _ _ eighth c.udev_flag.ensures c.in_ok-arg-9.ensures in

@@ -22,6 +22,7 @@ returns c =
     let ninth = one_more _ _ _ _ _ eighth c.no_summary_flag.ensures c.in_ok-arg-9.ensures in
     let tenth = one_more _ _ _ _ _ ninth c.no_style_flag.ensures c.in_ok-arg-10.ensures in
     let eleventh = one_more _ _ _ _ _ tenth c.lint_flag.ensures c.in_ok-arg-11.ensures in
+    let twelfth = one_more _ _ _ _ _ eleventh c.links_flag.ensures c.in_ok-arg-12.ensures in
     let twelfth = one_more _ _ _ _ _ eleventh c.udev_flag.ensures c.in_ok-arg-12.ensures in
     let thirteenth = one_more _ _ _ _ _ twelfth c.users_option.ensures c.in_ok-arg-13.ensures in
     let fourteenth = one_more _ _ _ _ _ thirteenth c.groups_option.ensures c.in_ok-arg-14.ensures in

@@ -49,7 +49,8 @@ update_shape = with_rules (codes "update")
 -- `query [--options FILE] [-r DIR] [--all] [--sources] [--index FILE] MODALIAS [FILE]..`
 abbrev pub query_shape : Shape
 query_shape = with_rules (codes "query")
-    (option_rule (codes "options") ∷ root_rule ∷ flag_rule (codes "all") ∷ flag_rule (codes "sources") ∷ option_rule (codes "index") ∷ required_rule (codes "MODALIAS") ∷ files_rule ∷ [])
+    (option_rule (codes "options") ∷ root_rule ∷ flag_rule (codes "all") ∷ flag_rule (codes "sources") ∷ option_rule (codes "index")
+    ∷ required_rule (codes "MODALIAS") ∷ files_rule ∷ [])
 
 -- `verify [--options FILE] [-r DIR] [--with FILE].. [-s] [--all] [--format FORMAT] [--color WHEN] [--ignore CODES].. [--no-summary] [--no-style] [--lint]
 -- [--links] [--udev] [--users FILE] [--groups FILE] [FILE]..`

@@ -59,20 +59,21 @@ verify_shape = with_rules (codes "verify")
     ∷ repeated_rule (codes "ignore") ∷ flag_rule (codes "no-summary") ∷ flag_rule (codes "no-style") ∷ flag_rule (codes "lint")
     ∷ flag_rule (codes "udev") ∷ option_rule (codes "users") ∷ option_rule (codes "groups") ∷ files_rule ∷ [])
 
--- `events [-r DIR] [--with FILE].. [--all] [--sources] [--why FILE[:LINE]].. [--unused] [--questions] [--index FILE] [--udev] [FILE]..`
+-- `events [-r DIR] [--with FILE].. [--all] [--format FORMAT] [--sources] [--why FILE[:LINE]].. [--unused] [--questions] [--index FILE]
+-- [--udev] [FILE]..`
 abbrev pub events_shape : Shape
 events_shape = with_rules (codes "events")
-    (root_rule ∷ added_rule ∷ flag_rule (codes "all") ∷ flag_rule (codes "sources") ∷ repeated_rule (codes "why")
+    (root_rule ∷ added_rule ∷ flag_rule (codes "all") ∷ option_rule (codes "format") ∷ flag_rule (codes "sources") ∷ repeated_rule (codes "why")
     ∷ flag_rule (codes "unused") ∷ flag_rule (codes "questions") ∷ option_rule (codes "index") ∷ flag_rule (codes "udev") ∷ files_rule ∷ [])
 
 -- `files [-r DIR] [--with FILE]..`
 abbrev pub files_shape : Shape
 files_shape = with_rules (codes "files") (root_rule ∷ added_rule ∷ [])
 
--- `compare [--with FILE].. [--all] [--index FILE] [--udev] OLD NEW`
+-- `compare [--with FILE].. [--all] [--format FORMAT] [--index FILE] [--udev] OLD NEW`
 abbrev pub compare_shape : Shape
 compare_shape = with_rules (codes "compare")
-    (added_rule ∷ flag_rule (codes "all") ∷ option_rule (codes "index") ∷ flag_rule (codes "udev")
+    (added_rule ∷ flag_rule (codes "all") ∷ option_rule (codes "format") ∷ option_rule (codes "index") ∷ flag_rule (codes "udev")
     ∷ required_rule (codes "OLD") ∷ required_rule (codes "NEW") ∷ [])
 
 -- `explain CODE`

@@ -14,10 +14,11 @@ returns c =
     let first = one_more _ _ _ _ _ start c.root_option.ensures c.in_ok-arg.ensures in
     let second = one_more _ _ _ _ _ first c.with_option.ensures c.in_ok-arg-2.ensures in
     let third = one_more _ _ _ _ _ second c.all_flag.ensures c.in_ok-arg-3.ensures in
-    let fourth = one_more _ _ _ _ _ third c.sources_flag.ensures c.in_ok-arg-4.ensures in
-    let fifth = one_more _ _ _ _ _ fourth c.why_option.ensures c.in_ok-arg-5.ensures in
-    let sixth = one_more _ _ _ _ _ fifth c.unused_flag.ensures c.in_ok-arg-6.ensures in
-    let seventh = one_more _ _ _ _ _ sixth c.questions_flag.ensures c.in_ok-arg-7.ensures in
-    let eighth = one_more _ _ _ _ _ seventh c.index_option.ensures c.in_ok-arg-8.ensures in
-    let ninth = one_more _ _ _ _ _ eighth c.udev_flag.ensures c.in_ok-arg-9.ensures in
-    IfOk-weaker c.arg-10.result _ _ (λ m h. one_more _ _ _ _ _ ninth c.files_argument.ensures h) c.arg-10.ensures
+    let fourth = one_more _ _ _ _ _ third c.format_option.ensures c.in_ok-arg-4.ensures in
+    let fifth = one_more _ _ _ _ _ fourth c.sources_flag.ensures c.in_ok-arg-5.ensures in
+    let sixth = one_more _ _ _ _ _ fifth c.why_option.ensures c.in_ok-arg-6.ensures in
+    let seventh = one_more _ _ _ _ _ sixth c.unused_flag.ensures c.in_ok-arg-7.ensures in
+    let eighth = one_more _ _ _ _ _ seventh c.questions_flag.ensures c.in_ok-arg-8.ensures in
+    let ninth = one_more _ _ _ _ _ eighth c.index_option.ensures c.in_ok-arg-9.ensures in
+    let tenth = one_more _ _ _ _ _ ninth c.udev_flag.ensures c.in_ok-arg-10.ensures in
+    IfOk-weaker c.arg-11.result _ _ (λ m h. one_more _ _ _ _ _ tenth c.files_argument.ensures h) c.arg-11.ensures

@@ -37,6 +37,13 @@ pub(crate) fn strict_flag<'a>(alloc: Global, help: &'a str) -> Arg<'a>
     flag(alloc, "strict", help).short('s')
 }
 
+/// `--links`: files that name network interfaces are checked in place of rules.
+pub(crate) fn links_flag<'a>(alloc: Global) -> Arg<'a>
+    ensures { (rule_of result ≡ flag_rule (codes "links")) × (result.global ≡ false) }
+{
+    flag(alloc, "links", "Check .link files in place of rules")
+}
+
 /// `--sources`: each line says where it comes from.
 pub(crate) fn sources_flag<'a>(alloc: Global) -> Arg<'a>
     ensures { (rule_of result ≡ flag_rule (codes "sources")) × (result.global ≡ false) }

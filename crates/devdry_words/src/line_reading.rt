@@ -155,6 +155,7 @@ pub(crate) fn line_with<'a>(
         summary: !is_given(matches, "no-summary"),
         style: !is_given(matches, "no-style"),
         lint: is_given_or_every(verb, matches, "lint"),
+        checks_links: is_given(matches, "links"),
         format: format_of(matches).unwrap_or(Format::Plain),
         color: color_of(matches).unwrap_or(Color::Auto),
         all: is_given_or_every(verb, matches, "all"),

@@ -5,7 +5,7 @@
 ghost use Rattle.std.specs.Prelude.{◌≡◌, false, option_map_or};
 ghost use Rattle.clap.specs.Words.{found_of, rows_of};
 ghost use Rattle.devdry_words.specs.Named.{IsUsageOf};
-ghost use Rattle.devdry_words.specs.Refusals.{answers_blocks, asks_all, asks_both, breaks_json, is_for_answers, is_strict, lacks_answer_format};
+ghost use Rattle.devdry_words.specs.Refusals.{answers_blocks, asks_all, asks_both, breaks_json, is_for_answers, is_strict, lacks_answer_format, links_as_rules};
 ghost use Rattle.devdry_words.specs.Refusals.{lacks_root, lacks_side, lacks_udev, names_two, refusal_of, said_of, unknown_value, wrong_added};
 
 use crate::added::{adds_to_index, adds_to_named, unaddable, unaddable_text};
@@ -20,6 +20,14 @@ use std::alloc::Global;
 const TWO_DATABASES: &str = "error: the argument '--index <FILE>' cannot be used with '[FILE]...'
 
 Usage: devdry query --index <FILE> <MODALIAS>
+
+For more information, try '--help'.
+";
+
+const LINKS_AS_RULES: &str =
+    "error: the argument '--links' cannot be used with '--with <FILE>', '--udev', '--users <FILE>', '--groups <FILE>' or '--strict'
+
+Usage: devdry verify --links [FILE]...
 
 For more information, try '--help'.
 ";
@@ -103,6 +111,8 @@ For more information, try '--help'.
 pub(crate) enum Refusal {
     /// A query names two databases: files and an index.
     TwoDatabases,
+    /// `.link` files are to be checked in place of rules, and what is asked beside it is about rules alone.
+    LinksAsRules,
     /// A file is added to those of the folders, and others are named to be read in place of these.
     AddedToNamed,
     /// A file is added to those of the database, and an index is named to be read in place of these.
@@ -137,6 +147,18 @@ fn names_two(name: &str, matches: &ArgMatches<'_>) -> bool
     ensures { result ≡ names_two name.now (rows_of (found_of matches.now)) }
 {
     (name == "query") & value(matches, "index").is_some() & has_value(matches, "FILE")
+}
+
+/// Whether matches ask to check `.link` files in place of rules, and for something that is about rules alone.
+fn links_as_rules(matches: &ArgMatches<'_>) -> bool
+    ensures { result ≡ links_as_rules (rows_of (found_of matches.now)) }
+{
+    is_given(matches, "links")
+        & (has_value(matches, "with")
+            | is_given(matches, "udev")
+            | is_given(matches, "strict")
+            | value(matches, "users").is_some()
+            | value(matches, "groups").is_some())
 }
 
 /// Whether matches ask for questions in place of answers, and for more about the answers.
@@ -260,6 +282,8 @@ pub(crate) fn refusal_of(name: &str, matches: &ArgMatches<'_>) -> Option<Refusal
 {
     if names_two(name, matches) {
         Some(Refusal::TwoDatabases)
+    } else if links_as_rules(matches) {
+        Some(Refusal::LinksAsRules)
     } else if adds_to_named(matches) {
         Some(Refusal::AddedToNamed)
     } else if asks_both(matches) {
@@ -283,6 +307,7 @@ pub(crate) fn usage_of(alloc: Global, refusal: Refusal, matches: &ArgMatches<'_>
 {
     match refusal {
         Refusal::TwoDatabases => usage(alloc, TWO_DATABASES),
+        Refusal::LinksAsRules => usage(alloc, LINKS_AS_RULES),
         Refusal::AddedToNamed => usage(alloc, ADDED_TO_NAMED),
         Refusal::AddedToIndex => usage(alloc, ADDED_TO_INDEX),
         Refusal::TwoAnswers => usage(alloc, TWO_ANSWERS),
@@ -299,7 +324,7 @@ pub(crate) fn usage_of(alloc: Global, refusal: Refusal, matches: &ArgMatches<'_>
             alloc,
             unknown_text(matches),
             "' for '--ignore <CODES>'\n  [possible values: ",
-            ", V, S, H, W, D, I, comments]\n\nFor more information, try '--help'.\n",
+            ", V, S, H, W, D, L, I, comments]\n\nFor more information, try '--help'.\n",
         ),
         Refusal::NotRules => usage_on_value(alloc, unaddable_text(true, matches), NOT_RULES),
         Refusal::NotFile => usage_on_value(alloc, unaddable_text(false, matches), NOT_A_FILE),

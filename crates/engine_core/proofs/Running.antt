@@ -155,7 +155,7 @@ said unused messages answer some says status before now u s h =
 pub tally_says : {K : Type 0} (known : K → Known) (added : List Text) (rules : List Rule) (knowledge : K) (tally : TallyValue K) (profile : Profile)
     → tally ≡ record { names = rules_named added; rules = rules; knowledge = knowledge; rows = map unreached rules }
     → ◌≡◌ {A = Text → Text} (λ text. lines_by tally.names tally.rules (counted tally.rules (known tally.knowledge) tally.rows (events_of profile text)))
-        (λ text. unused_lines added rules (known knowledge) (events_of profile text))
+    (λ text. unused_lines added rules (known knowledge) (events_of profile text))
 unfolding unused_lines
 tally_says {K = K} known added rules knowledge tally profile e =
     let says : TallyValue K → Text → Text = λ t text. lines_by t.names t.rules (counted t.rules (known t.knowledge) t.rows (events_of profile text)) in

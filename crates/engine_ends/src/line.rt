@@ -100,6 +100,8 @@ pub struct Line<'a> {
     pub style: bool,
     /// Whether `verify` and `update` also report what is most likely not what was meant.
     pub lint: bool,
+    /// Whether `verify` checks `.link` files in place of rules.
+    pub checks_links: bool,
     /// How `verify` and `update` write messages; plain for the other subcommands.
     pub format: Format,
     /// When messages for people are in colors.

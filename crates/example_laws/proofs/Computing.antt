@@ -52,6 +52,7 @@ use Rattle.eval_state.specs.Files.{star_place}
 use Rattle.eval_state.specs.Named.{named, named_place}
 use Rattle.eval_state.specs.Start.{start_env}
 use Rattle.eval_rendering.specs.Names.{name_text}
+use Rattle.eval_rendering.specs.Paths.{led_place}
 use Rattle.eval_rendering.specs.Rendering.{render}
 use Rattle.eval_matching.specs.Attributes.{udev_value, is_not_read, udev_subject}
 use Rattle.eval_matching.specs.Holding.{holds}
@@ -61,6 +62,7 @@ use Rattle.eval_commands.specs.Hwdb.{hwdb_of}
 use Rattle.eval_commands.specs.UdevHwdb.{udev_hwdb_of}
 use Rattle.eval_commands.specs.Words.{command_words, udev_words}
 use Rattle.eval_acts.specs.Acts.{act_step}
+use Rattle.eval_acts.specs.LookUpNeeds.{has_modalias}
 use Rattle.eval_acts.specs.LookUps.{found}
 use Rattle.eval_acts.specs.Printed.{line_property, printed_properties}
 use Rattle.eval_acts.specs.Unread.{first_unread}
@@ -153,8 +155,8 @@ reading_texts = tt
 
 -- those by which rules are evaluated
 unfoldable evaluating : ⊤
-unfolding star_place named named_place start_env name_text render udev_value is_not_read udev_subject holds holds_at
-    found_place hwdb_of udev_hwdb_of command_words udev_words act_step found line_property printed_properties
+unfolding star_place named named_place start_env name_text led_place render udev_value is_not_read udev_subject holds
+    holds_at found_place hwdb_of udev_hwdb_of command_words udev_words act_step found has_modalias line_property printed_properties
     first_unread usb_modalias escape_of set_step is_idle_by run outcome_of walk plain_step result_step steps apply is_not_given
     cmdline_value
 evaluating = tt

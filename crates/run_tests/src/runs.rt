@@ -88,6 +88,7 @@ pub(crate) fn line<'a>(alloc: Global, verb: Verb, modalias: &'a str) -> Line<'a>
         summary: true,
         style: true,
         lint: false,
+        checks_links: false,
         format: Format::Plain,
         color: Color::Auto,
         all: false,

@@ -19,6 +19,7 @@ returns c = record {
   summary = ap not c.is_given-5.ensures;
   style = ap not c.is_given-6.ensures;
   lint = c.is_given_or_every.ensures;
+  checks_links = c.is_given-7.ensures;
   format = search rules;
   color = search rules;
   all = c.is_given_or_every-2.ensures;

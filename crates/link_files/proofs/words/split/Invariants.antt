@@ -1,6 +1,6 @@
 use Rattle.std.proofs.Common.{◌≡◌, drop, fold}
 use Rattle.link_files.specs.Words.{split_byte, unsplit}
-use Rattle.link_files.proofs.words.words_of.Given as goal
+use Rattle.link_files.proofs.words.split.Given as goal
 
 abbrev pub invariant-loop-byte : goal.invariant-loop-byte
 invariant-loop-byte l =

@@ -25,6 +25,14 @@ _devdry_words() {
     mapfile -t COMPREPLY < <(compgen -W "$*" -- "$word")
 }
 
+# _devdry_formats: the current word may become a format: answers have fewer.
+_devdry_formats() {
+    case $command in
+        events | compare) _devdry_words plain json ;;
+        *) _devdry_words plain gcc github gitlab json sarif human ;;
+    esac
+}
+
 _devdry_codes='V1 V2 V3 V4 V5 V6 V7 V8 V9 V10 V11 V12 V13 V14 V15 V16 V17 V18 V19 V20 V21 V22 V23 V24 V25 V26 S1 S2 S3 S4 S5 S6 H1 H2 H3 H4 H5 H6 W1 W2 W3 W4 W5 W6 W7 W8 W9 W10 W11 W12 W13 W14 W15 W16 W17 W18 W19 W20 W21 W22 W23 W24 W25 W26 W27 D1 D2 D3 D4 D5 D6 D7 D8 D9 D10 D11 D12 D13 L1 L2 L3 L4 L5'
 
 # _devdry_code_list: the current word may become codes with commas between them, with `comments` among them.
@@ -79,9 +87,9 @@ _devdry() {
         verify) suffix=.rules options='--options -r --root --with -s --strict --all --format --color --ignore --no-summary --no-style --lint --links --udev --users --groups -h --help -V --version' ;;
         query) suffix=.hwdb options='--options -r --root --all --sources --index -h --help -V --version' ;;
         update) suffix=.hwdb options='--options -r --root -s --strict --all --format --color --ignore --lint -h --help -V --version' ;;
-        events) suffix=.rules options='--options -r --root --with --all --sources --why --unused --questions --index --udev -h --help -V --version' ;;
+        events) suffix=.rules options='--options -r --root --with --all --format --sources --why --unused --questions --index --udev -h --help -V --version' ;;
         files) suffix='' options='--options -r --root --with -h --help -V --version' ;;
-        compare) suffix='' options='--options --with --all --index --udev -h --help -V --version' ;;
+        compare) suffix='' options='--options --with --all --format --index --udev -h --help -V --version' ;;
         explain) suffix='' options='-h --help -V --version' ;;
         help)
             [ "$COMP_CWORD" -gt 2 ] || _devdry_words verify query update events files compare explain help
@@ -94,7 +102,7 @@ _devdry() {
         --options:* | --index:* | --users:* | --groups:*) _devdry_any_files ;;
         --why:*) _devdry_files .rules ;;
         --with:*) _devdry_added ;;
-        --format:*) _devdry_words plain gcc github gitlab json sarif human ;;
+        --format:*) _devdry_formats ;;
         --color:*) _devdry_words auto always never ;;
         --ignore:*) _devdry_code_list ;;
         *:-*) _devdry_words "$options" ;;

@@ -1,12 +1,13 @@
 #!/usr/bin/env python3
-"""Reads each format of `verify` and `update` as other programs do, and compares what they all say.
+"""Reads each format of `verify`, `update`, `events` and `compare` as other programs do, and compares what they all say.
 
 usage: tests/read_formats.py PROGRAM
 
 `json`, `gitlab` and `sarif` are read by Python's json, and by jq where it is there, `github` as GitHub's runner parses a workflow command, `gcc` by the regular
 expression of a problem matcher, `human` line by line, with the part of the line that it shows. Over files with faults,
 some of them made from a seed, all formats have to give the messages of `plain`, the place of each has to contain what its
-message is about, and messages and places have to be those of a plain reading of the rules (placed_rules.py). Each case is
+message is about, and messages and places have to be those of a plain reading of the rules (placed_rules.py). The objects of
+`events` and `compare` have to give the lines of `plain`, whatever bytes rules and blocks have. Each case is
 reported in a line `ok CASE`, or `not ok CASE` followed by what differs.
 """
 import json
@@ -21,6 +22,7 @@ from pathlib import Path
 from urllib.parse import unquote_to_bytes
 
 from placed_rules import findings
+from tables.kinds.json_answers import bytes_of, plain_of, shown
 from tables.kinds.marked import COMMA_AT_THE_END, UNSEEN, masked
 from tables.kinds.near import meant
 
@@ -369,6 +371,49 @@ ODD_WORDS = [
 ]
 
 
+# Rules and blocks for answers: each kind of line, with texts that JSON has to tell apart.
+ANSWERED_RULES = (
+    'SUBSYSTEM=="net", NAME="lan", ATTR{mtu}="1400", SYSCTL{net/x}="0"\n'
+    'OWNER="o", GROUP="g", MODE="0660", OPTIONS="link_priority=-7", OPTIONS="watch", OPTIONS="db_persist"\n'
+    'SECLABEL{smack}+="u=1", SECLABEL{selinux}+="\u00e9", SYMLINK+="a \u20ac", TAG+="t", TAG+="s"\n'
+    'ENV{A}="1", ENV{.H}="2", ENV{Q}="a\\"b\\\\c", ENV{$env{NAMED}}="x"\n'
+    'KERNEL=="d?", OPTIONS="nowatch", ENV{BOTH}="$env{ODD}$env{ODD}"\n'
+    'RUN+="/bin/a b %k", RUN{builtin}+="kmod load", IMPORT{builtin}="path_id", IMPORT{program}="/bin/x $env{ODD}"\n'
+    'PROGRAM=="/bin/none", TAG+="never"\n').encode()
+ANSWERED_BYTES = [b"plain", b"\xff", b"a\xe9b\\c", b"\xef\xbf\xbd", b"x\xef\xbf\xbd\xef\xbf\xbd", b"\xed\xa0\x80", b"\xf4\x90\x80\x80", b"\x01\x1b[31m",
+                  b"\x7f", b'"\\u0041"', b"\\x41", "\u202e\u00e9\U0001f600".encode(), b"\xc3", b"\xe2\x82", b" end "]
+
+
+def answered_blocks():
+    """A block for each of the texts, in a property, an attribute, a link and the path."""
+    return b"".join(b"C: add\nP: /d/" + text.replace(b"/", b"") + b"\nU: " + (b"net" if number % 2 else b"block") + b"\nE: ODD=" + text
+                    + b"\nE: K" + text.replace(b"=", b"") + b"=1\nS: l" + text + b"\nA: mtu=" + text + b"\n\n"
+                    for number, text in enumerate(ANSWERED_BYTES))
+
+
+def plain_differences(said):
+    """The lines of `compare` that an object stands for."""
+    lines = [b"event " + shown(said["event"]) + b" " + shown(said["path"])]
+    lines += [sign + bytes_of(text) for sign, key in ((b"-", "gone"), (b"+", "come")) for text in said[key]]
+    return b"".join(line + b"\n" for line in lines) + b"\n"
+
+
+def check_answers(case, program, folder, words, plain_from):
+    """Compares the objects of a run with its lines."""
+    def came(*more):
+        done = subprocess.run([program, *words, *more], cwd=folder, input=answered_blocks(), capture_output=True, timeout=60)
+        return done.returncode, done.stdout, done.stderr
+
+    status, lines, messages = came()
+    other, objects, same = came("--format=json")
+    if (status, messages) != (other, same):
+        reported(case, f"status {status} and {other}, messages {messages!r} and {same!r}")
+        return
+    made = b"".join(plain_from(json.loads(line)) for line in objects.decode("utf-8").split("\n")[:-1])
+    reported(case, "" if made == lines and lines else first_difference(lines.split(b"\n"), made.split(b"\n")) or "nothing is said")
+    reported(f"{case}: jq reads the objects as Python does", beside_jq(objects))
+
+
 def main(program):
     with tempfile.TemporaryDirectory() as name:
         folder = Path(name)
@@ -415,6 +460,15 @@ def main(program):
             (image / place).parent.mkdir(parents=True)
             (image / place).write_text(rule + "\n")
         check("files of an image by their full path", program, folder, ["verify", "-r", "image"], name_of=os.path.basename)
+
+        (folder / "answers.rules").write_bytes(ANSWERED_RULES)
+        for options in ([], ["--sources"], ["--why", "answers.rules"], ["--sources", "--why", "answers.rules", "--udev"], ["--udev"]):
+            check_answers(f"answers as JSON: {' '.join(options) or 'no option'}", program, folder, ["events", "-r", "none", *options, "answers.rules"],
+                          lambda said, sources="--sources" in options: plain_of(said, sources))
+        for root, rules in (("one", ANSWERED_RULES), ("two", ANSWERED_RULES.replace(b"0660", b"0600").replace(b"$env{ODD}$env{ODD}", b"$env{ODD}"))):
+            (folder / root / "etc/udev/rules.d").mkdir(parents=True)
+            (folder / root / "etc/udev/rules.d/a.rules").write_bytes(rules)
+        check_answers("differences as JSON", program, folder, ["compare", "one", "two"], plain_differences)
 
         (folder / "good.rules").write_text('TAG="t"\n')
         check("no message", program, folder, ["verify", "good.rules"])

@@ -434,6 +434,12 @@ ROWS = [
     Row(
         "as udev does, with sources and what rules met", ["events", "--udev", "--sources", "--why", "w.rules", "-r", ".", "w.rules"], REPORTED_FILES, REPORTED,
         None),
+    Row(
+        "answers as JSON, with sources and what rules met", ["events", "--format=json", "--sources", "--why", "w.rules", "-r", ".", "w.rules"], REPORTED_FILES,
+        REPORTED + "\n" + REPORTED, None, REPORTED_MESSAGE),
+    Row(
+        "two roots compared as JSON", ["compare", "--format=json", "old", "new"], {f"old/{RULES}": 'MODE="0600"\n', f"new/{RULES}": 'TAG+="a"\n'},
+        "C: add\nP: /d\n", '{"event":"add","path":"/d","gone":["mode 0600"],"come":["tag a"]}\n', status=1),
     Row("help", ["query", "--help"], output=None, each_byte=True),
     Row("an unknown option", ["verify", "--none"], line=None, status=2),
 ]

@@ -149,8 +149,23 @@ TOGETHER = [
         "[NEW] r.rules:1: V2 unknown key: FOO\n" + START + "+tag t\n\nblock 2, line 1: no device\n", status=1, together=True),
 ]
 
+# Differences as objects: the lines as in plain, without their signs.
+IN_JSON = [
+    Row("differences as an object", ["compare", "--format=json", OLD, NEW], {placed(OLD): 'MODE="0620", SYMLINK+="a b"\n', placed(NEW): 'SYMLINK+="b c", MODE="0600"\n'},
+        block(D), f'{{"event":"add","path":"{D}","gone":["mode 0620","link a"],"come":["mode 0600","link c"]}}\n', status=1),
+    Row("an object for each event that differs", ["compare", OLD, NEW, "--format=json"], {placed(OLD): "# none\n", placed(NEW): 'KERNEL=="d", TAG+="t"\n'},
+        block(D) + block("/devices/e") + block(D),
+        f'{{"event":"add","path":"{D}","gone":[],"come":["tag t"]}}\n' * 2, status=1),
+    Row("no object where nothing differs", ["compare", "--format=json", OLD, NEW], {placed(OLD): 'TAG+="t"\n', placed(NEW): 'TAG="t"\n'}, block(D)),
+    Row("lines in an object are escaped as in plain", ["compare", "--format=json", OLD, NEW], {placed(OLD): "# none\n", placed(NEW): 'ENV{A}="a\tb\\c"\n'}, block(D),
+        f'{{"event":"add","path":"{D}","gone":[],"come":["env A=a\\\\x09b\\\\x5Cc"]}}\n', status=1),
+    Row("messages beside objects", ["compare", "--format=json", OLD, NEW], {placed(OLD): 'FOO="1"\n', placed(NEW): 'TAG+="t"\n'}, block(D),
+        f'{{"event":"add","path":"{D}","gone":[],"come":["tag t"]}}\n', "[OLD] r.rules:1: V2 unknown key: FOO\n", 1),
+]
+
 ROWS = [
     *CHANGES,
+    *IN_JSON,
     *NOTES,
     *EVENTS,
     *ROOTS,

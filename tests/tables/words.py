@@ -163,6 +163,7 @@ Options:
   -r, --root <DIR>         Folder to put before each folder that is read
       --with <FILE>        Rules or database file to read among those of the folders, by its name
       --all                Go on where a file can't be read, and fail where there is none
+      --format <FORMAT>    How answers are written: plain or json
       --sources            Say where each line comes from
       --why <FILE[:LINE]>  Say what the rules of this file, or the one of this line, met
       --unused             Report, after the last answer, the rules that no block reached or met
@@ -221,13 +222,14 @@ Arguments:
   <NEW>  Root of the system after
 
 Options:
-      --options <FILE>  File of options to put before these, one a line, as --lint or --ignore=S2
-      --with <FILE>     Rules or database file to read among those of NEW, by its name
-      --all             Go on where a file can't be read, and fail where there is none
-      --index <FILE>    Index to read in place of the database's folders
-      --udev            Read and evaluate rules as udev itself does
-  -h, --help            Print help
-  -V, --version         Print version
+      --options <FILE>   File of options to put before these, one a line, as --lint or --ignore=S2
+      --with <FILE>      Rules or database file to read among those of NEW, by its name
+      --all              Go on where a file can't be read, and fail where there is none
+      --format <FORMAT>  How answers are written: plain or json
+      --index <FILE>     Index to read in place of the database's folders
+      --udev             Read and evaluate rules as udev itself does
+  -h, --help             Print help
+  -V, --version          Print version
 
 Status:
   0  no answer differs
@@ -362,6 +364,21 @@ error: invalid value 'xml' for '--format <FORMAT>'
 For more information, try '--help'.
 """
 
+NO_ANSWER_FORMAT = """\
+error: invalid value 'gcc' for '--format <FORMAT>'
+  [possible values: plain, json]
+
+For more information, try '--help'.
+"""
+
+LINES_BESIDE_JSON = """\
+error: the argument '--format=json' cannot be used with '--unused' or '--questions'
+
+Usage: devdry events --format=json [FILE]...
+
+For more information, try '--help'.
+"""
+
 NO_SUCH_COLOR = """\
 error: invalid value 'yes' for '--color <WHEN>'
   [possible values: auto, always, never]
@@ -461,7 +478,14 @@ NOT_UNDERSTOOD = [
     ("verify --groups= --lint", NO_UDEV),
     ("events --users passwd", "error: unexpected argument '--users' found\n"),
     ("update --groups group", "error: unexpected argument '--groups' found\n"),
-    ("events --format gcc", "error: unexpected argument '--format' found\n"),
+    ("events --format gcc", NO_ANSWER_FORMAT),
+    ("events --format=human a.rules", NO_ANSWER_FORMAT.replace("gcc", "human")),
+    ("events --format=xml a.rules", NO_ANSWER_FORMAT.replace("gcc", "xml")),
+    ("compare --format= a b", NO_ANSWER_FORMAT.replace("gcc", "")),
+    ("compare --format=sarif a b", NO_ANSWER_FORMAT.replace("gcc", "sarif")),
+    ("events --unused --format=json a.rules", LINES_BESIDE_JSON),
+    ("events --format json --questions", LINES_BESIDE_JSON),
+    ("compare --sources a b", "error: unexpected argument '--sources' found\n"),
     ("query --format json m", "error: unexpected argument '--format' found\n"),
     ("events --ignore V6", "error: unexpected argument '--ignore' found\n"),
     ("update --format=xml a.hwdb", NO_SUCH_FORMAT),

@@ -18,7 +18,7 @@ use Rattle.engine_ends.specs.declared.line.Color.TheVariants.{Auto, Always, Neve
 use Rattle.engine_ends.specs.declared.line.Format.{Format}
 use Rattle.engine_ends.specs.declared.line.Format.TheVariants.{Plain, Gcc, Github, Gitlab, Json, Sarif, Human, HumanInColor}
 use Rattle.devdry_words.specs.declared.refusals.Refusal.{Refusal}
-use Rattle.devdry_words.specs.declared.refusals.Refusal.TheVariants.{TwoDatabases, LinksAsRules, AddedToNamed, AddedToIndex, TwoAnswers, EmptyRoot, EmptySide, NoUdev, UnknownFormat, UnknownColor, UnknownPart, NotRules, NotFile}
+use Rattle.devdry_words.specs.declared.refusals.Refusal.TheVariants.{TwoDatabases, LinksAsRules, AddedToNamed, AddedToIndex, TwoAnswers, LinesBesideJson, EmptyRoot, EmptySide, NoUdev, UnknownFormat, NoAnswerFormat, UnknownColor, UnknownPart, NotRules, NotFile}
 use Rattle.engine_ends.specs.declared.line.Verb.TheVariants.{Update, Verify, Events}
 use Rattle.devdry_words.specs.Lines.{asks_every, class_codes, codes_with, color_name, color_named, color_of, format_name, format_named, format_of, is_set_or_every, profile_of}
 use Rattle.text_bytes.specs.Texts.{split_once}
@@ -160,13 +160,19 @@ explain_has_its_code : option_map {U = Text × (Text × Option Refusal)} (λ p. 
 unfolding clap_on_literals devdry
 explain_has_its_code = refl
 
-format_of_events : fault_of devdry (codes "events" ∷ codes "--format" ∷ codes "gcc" ∷ []) ≡ kind.UnknownArgument ∷ []
-unfolding clap_on_literals devdry
-format_of_events = refl
-
 format_of_query : fault_of devdry (codes "query" ∷ codes "--format" ∷ codes "json" ∷ codes "usb:v1" ∷ []) ≡ kind.UnknownArgument ∷ []
 unfolding clap_on_literals devdry
 format_of_query = refl
+
+answers_have_a_format : option_map {U = Option Format × Option Refusal} (λ p. (format_of p.1, refusal_of p.0 p.1)) (subcommand_of devdry (codes "events" ∷ codes "--format" ∷ codes "json" ∷ codes "a.rules" ∷ []))
+    ≡ Some (Some Json, None)
+unfolding clap_on_literals devdry
+answers_have_a_format = refl
+
+differences_have_a_format : option_map {U = Option Format × Option Refusal} (λ p. (format_of p.1, refusal_of p.0 p.1)) (subcommand_of devdry (codes "compare" ∷ codes "--format=json" ∷ codes "/old" ∷ codes "/new" ∷ []))
+    ≡ Some (Some Json, None)
+unfolding clap_on_literals devdry
+differences_have_a_format = refl
 
 unused_rules_are_asked : option_map {U = Bool × (Bool × Option Refusal)} (λ p. (is_set (codes "unused") p.1, (is_set (codes "sources") p.1, refusal_of p.0 p.1))) (subcommand_of devdry (codes "events" ∷ codes "--unused" ∷ codes "--why=a.rules" ∷ codes "--sources" ∷ []))
     ≡ Some (true, (true, None))
@@ -206,6 +212,22 @@ questions_with_a_reason_are_refused = refl
 questions_with_unused_rules_are_refused : refused (codes "events" ∷ codes "--unused" ∷ codes "--questions" ∷ []) ≡ Some (Some TwoAnswers)
 unfolding clap_on_literals devdry
 questions_with_unused_rules_are_refused = refl
+
+an_answer_for_gcc_is_refused : refused (codes "events" ∷ codes "--format" ∷ codes "gcc" ∷ []) ≡ Some (Some NoAnswerFormat)
+unfolding clap_on_literals devdry
+an_answer_for_gcc_is_refused = refl
+
+unknown_format_of_compare_is_refused : refused (codes "compare" ∷ codes "--format=xml" ∷ codes "/old" ∷ codes "/new" ∷ []) ≡ Some (Some NoAnswerFormat)
+unfolding clap_on_literals devdry
+unknown_format_of_compare_is_refused = refl
+
+unused_rules_beside_json_are_refused : refused (codes "events" ∷ codes "--unused" ∷ codes "--format=json" ∷ []) ≡ Some (Some LinesBesideJson)
+unfolding clap_on_literals devdry
+unused_rules_beside_json_are_refused = refl
+
+questions_beside_json_are_refused : refused (codes "events" ∷ codes "--questions" ∷ codes "--format=json" ∷ []) ≡ Some (Some LinesBesideJson)
+unfolding clap_on_literals devdry
+questions_beside_json_are_refused = refl
 
 links_of_a_strict_run_are_refused : refused (codes "verify" ∷ codes "--strict" ∷ codes "--links" ∷ []) ≡ Some (Some LinksAsRules)
 unfolding clap_on_literals devdry

@@ -60,21 +60,22 @@ verify_shape = with_rules (codes "verify")
     ∷ repeated_rule (codes "ignore") ∷ flag_rule (codes "no-summary") ∷ flag_rule (codes "no-style") ∷ flag_rule (codes "lint") ∷ flag_rule (codes "links")
     ∷ flag_rule (codes "udev") ∷ option_rule (codes "users") ∷ option_rule (codes "groups") ∷ files_rule ∷ [])
 
--- `events [--options FILE] [-r DIR] [--with FILE].. [--all] [--sources] [--why FILE[:LINE]].. [--unused] [--questions] [--index FILE] [--udev] [FILE]..`
+-- `events [--options FILE] [-r DIR] [--with FILE].. [--all] [--format FORMAT] [--sources] [--why FILE[:LINE]].. [--unused] [--questions] [--index FILE]
+-- [--udev] [FILE]..`
 abbrev pub events_shape : Shape
 events_shape = with_rules (codes "events")
-    (option_rule (codes "options") ∷ root_rule ∷ added_rule ∷ flag_rule (codes "all") ∷ flag_rule (codes "sources") ∷ repeated_rule (codes "why")
-    ∷ flag_rule (codes "unused") ∷ flag_rule (codes "questions") ∷ option_rule (codes "index") ∷ flag_rule (codes "udev") ∷ files_rule ∷ [])
+    (option_rule (codes "options") ∷ root_rule ∷ added_rule ∷ flag_rule (codes "all") ∷ option_rule (codes "format") ∷ flag_rule (codes "sources")
+    ∷ repeated_rule (codes "why") ∷ flag_rule (codes "unused") ∷ flag_rule (codes "questions") ∷ option_rule (codes "index") ∷ flag_rule (codes "udev") ∷ files_rule ∷ [])
 
 -- `files [--options FILE] [-r DIR] [--with FILE]..`
 abbrev pub files_shape : Shape
 files_shape = with_rules (codes "files") (option_rule (codes "options") ∷ root_rule ∷ added_rule ∷ [])
 
--- `compare [--options FILE] [--with FILE].. [--all] [--index FILE] [--udev] OLD NEW`
+-- `compare [--options FILE] [--with FILE].. [--all] [--format FORMAT] [--index FILE] [--udev] OLD NEW`
 abbrev pub compare_shape : Shape
 compare_shape = with_rules (codes "compare")
-    (option_rule (codes "options") ∷ added_rule ∷ flag_rule (codes "all") ∷ option_rule (codes "index") ∷ flag_rule (codes "udev")
-    ∷ required_rule (codes "OLD") ∷ required_rule (codes "NEW") ∷ [])
+    (option_rule (codes "options") ∷ added_rule ∷ flag_rule (codes "all") ∷ option_rule (codes "format") ∷ option_rule (codes "index")
+    ∷ flag_rule (codes "udev") ∷ required_rule (codes "OLD") ∷ required_rule (codes "NEW") ∷ [])
 
 -- `explain CODE`
 abbrev pub explain_shape : Shape

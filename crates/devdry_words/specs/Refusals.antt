@@ -1,17 +1,19 @@
 -- Which of the words that clap takes `devdry` itself refuses, and what it says about them.
 use Rattle.std.specs.Prelude.{◌&&◌, ◌||◌, ◌++◌, List, [], ◌∷◌, Bool, Option, Some, None, if◌then◌else◌, find, flat_map, is_some, map, nat_eq, not}
-use Rattle.std.specs.Prelude.{unwrap_or, codes, false, true}
+use Rattle.std.specs.Prelude.{option_map_or, unwrap_or, codes, false, true}
 use Rattle.std.specs.List.{ends_with}
 use Rattle.std.specs.Option.{is_none}
 use Rattle.std.specs.Str.{bytes_eq}
 use Rattle.clap.specs.Words.{Row, Text, first_of}
 use Rattle.text_bytes.specs.Kinds.{suffix_of}
 use Rattle.text_bytes.specs.declared.source_file.FileKind.TheVariants.{Hwdb, Rules}
+use Rattle.engine_ends.specs.declared.line.Format.{Format}
+use Rattle.engine_ends.specs.declared.line.Format.TheVariants.{Plain, Json}
 use Rattle.engine_formats.specs.Codes.{remark_of, remarks}
 use Rattle.engine_formats.specs.Remarks.{code_of}
 use Rattle.devdry_words.specs.declared.refusals.Refusal.{Refusal}
-use Rattle.devdry_words.specs.declared.refusals.Refusal.TheVariants.{TwoDatabases, LinksAsRules, AddedToNamed, AddedToIndex, TwoAnswers, EmptyRoot, EmptySide}
-use Rattle.devdry_words.specs.declared.refusals.Refusal.TheVariants.{NoUdev, UnknownFormat, UnknownColor, UnknownPart, NotRules, NotFile}
+use Rattle.devdry_words.specs.declared.refusals.Refusal.TheVariants.{TwoDatabases, LinksAsRules, AddedToNamed, AddedToIndex, TwoAnswers, LinesBesideJson, EmptyRoot, EmptySide}
+use Rattle.devdry_words.specs.declared.refusals.Refusal.TheVariants.{NoUdev, UnknownFormat, NoAnswerFormat, UnknownColor, UnknownPart, NotRules, NotFile}
 use Rattle.devdry_words.specs.Lines.{class_codes, color_of, format_of}
 use Rattle.devdry_words.specs.Values.{cut_at_commas, has_value, is_empty_text, is_set, text_of, texts_of}
 
@@ -57,6 +59,10 @@ adds_to_index rows = is_some (first_of (codes "index") rows) && is_some (unaddab
 abbrev pub asks_both : List Row → Bool
 asks_both rows = is_set (codes "questions") rows && (is_set (codes "sources") rows || (has_value (codes "why") rows || is_set (codes "unused") rows))
 
+-- answers are to be objects of JSON, and lines are asked for that are none: questions, or the rules that are unused
+abbrev pub breaks_json : List Row → Bool
+breaks_json rows = bytes_eq (text_of (codes "format") rows) (codes "json") && (is_set (codes "questions") rows || is_set (codes "unused") rows)
+
 -- `verify` is strict, and so asks for every check
 abbrev pub is_strict : Text → List Row → Bool
 is_strict name rows = bytes_eq name (codes "verify") && is_set (codes "strict") rows
@@ -78,6 +84,20 @@ abbrev pub lacks_udev : Text → List Row → Bool
 lacks_udev name rows = (is_some (first_of (codes "users") rows) || is_some (first_of (codes "groups") rows))
     && not (is_set (codes "udev") rows || is_strict name rows)
 
+-- a subcommand of this name answers event blocks
+abbrev pub answers_blocks : Text → Bool
+answers_blocks name = bytes_eq name (codes "events") || bytes_eq name (codes "compare")
+
+-- answers can be written in the format
+abbrev pub is_for_answers : Format → Bool
+is_for_answers Plain = true
+is_for_answers Json = true
+is_for_answers _ = false
+
+-- answers are asked for in a format in which they can't be written, or in one that there is not
+abbrev pub lacks_answer_format : Text → List Row → Bool
+lacks_answer_format name rows = answers_blocks name && not (option_map_or is_for_answers (format_of rows) false)
+
 -- a part of `--ignore` is the word `comments`, the code of a remark or a class of codes
 abbrev pub is_ignorable : Text → Bool
 is_ignorable part = bytes_eq part (codes "comments") || (is_some (remark_of part) || is_some (class_codes part))
@@ -95,12 +115,13 @@ abbrev pub wrong_added : Text → List Row → Option Refusal
 wrong_added name rows = if bytes_eq name (codes "verify") && is_some (unaddable true rows) then Some NotRules
     else (if is_some (unaddable false rows) then Some NotFile else (if adds_to_index rows then Some AddedToIndex else None))
 
--- why a value that has to be one of a few is refused, if it is: no format has the name, colors are asked for in no
--- known way, a part of `--ignore` names nothing, or a file may not be added
+-- why a value that has to be one of a few is refused, if it is: answers can't be written in the format, no format has
+-- the name, colors are asked for in no known way, a part of `--ignore` names nothing, or a file may not be added
 abbrev pub unknown_value : Text → List Row → Option Refusal
-unknown_value name rows = if is_none (format_of rows) then Some UnknownFormat
+unknown_value name rows = if lacks_answer_format name rows then Some NoAnswerFormat
+    else (if is_none (format_of rows) then Some UnknownFormat
     else (if is_none (color_of rows) then Some UnknownColor
-    else (if is_some (unknown_part rows) then Some UnknownPart else wrong_added name rows))
+    else (if is_some (unknown_part rows) then Some UnknownPart else wrong_added name rows)))
 
 -- why the matches of a subcommand are refused, if they are
 abbrev pub refusal_of : Text → List Row → Option Refusal
@@ -108,9 +129,10 @@ refusal_of name rows = if names_two name rows then Some TwoDatabases
     else (if links_as_rules rows then Some LinksAsRules
     else (if adds_to_named rows then Some AddedToNamed
     else (if asks_both rows then Some TwoAnswers
+    else (if breaks_json rows then Some LinesBesideJson
     else (if lacks_root name rows then Some EmptyRoot
     else (if lacks_side rows then Some EmptySide
-    else (if lacks_udev name rows then Some NoUdev else unknown_value name rows))))))
+    else (if lacks_udev name rows then Some NoUdev else unknown_value name rows)))))))
 
 -- what is said about a value that its argument does not take, by what comes before and after the value
 abbrev pub invalid_value : Text → Text → Text
@@ -119,6 +141,10 @@ invalid_value value following = codes "error: invalid value '" ++ value ++ follo
 -- what is said after the name of an unknown format
 abbrev pub no_such_format : Text
 no_such_format = codes "' for '--format <FORMAT>'\n  [possible values: plain, gcc, github, gitlab, json, sarif, human]\n\nFor more information, try '--help'.\n"
+
+-- what is said after the name of a format in which no answer can be written
+abbrev pub no_answer_format : Text
+no_answer_format = codes "' for '--format <FORMAT>'\n  [possible values: plain, json]\n\nFor more information, try '--help'.\n"
 
 -- what is said after the name of what is no way to ask for colors
 abbrev pub no_such_color : Text
@@ -153,10 +179,12 @@ said_of LinksAsRules rows = codes "error: the argument '--links' cannot be used 
 said_of AddedToNamed rows = codes "error: the argument '--with <FILE>' cannot be used with '[FILE]...'\n\nFor more information, try '--help'.\n"
 said_of AddedToIndex rows = codes "error: the argument '--with <FILE>' cannot add to the database with '--index <FILE>'\n\nFor more information, try '--help'.\n"
 said_of TwoAnswers rows = codes "error: the argument '--questions' cannot be used with '--sources', '--why <FILE[:LINE]>' or '--unused'\n\nUsage: devdry events --questions [FILE]...\n\nFor more information, try '--help'.\n"
+said_of LinesBesideJson rows = codes "error: the argument '--format=json' cannot be used with '--unused' or '--questions'\n\nUsage: devdry events --format=json [FILE]...\n\nFor more information, try '--help'.\n"
 said_of EmptyRoot rows = codes "error: an empty value of '--root <DIR>' names no folder\n\nFor more information, try '--help'.\n"
 said_of EmptySide rows = codes "error: an empty value of '<OLD>' or '<NEW>' names no folder; '/' is that of the running system\n\nFor more information, try '--help'.\n"
 said_of NoUdev rows = codes "error: the arguments '--users <FILE>' and '--groups <FILE>' need '--udev' or '--strict'\n\nUsage: devdry verify --udev --users <FILE> --groups <FILE> [FILE]...\n\nFor more information, try '--help'.\n"
 said_of UnknownFormat rows = invalid_value (text_of (codes "format") rows) no_such_format
+said_of NoAnswerFormat rows = invalid_value (text_of (codes "format") rows) no_answer_format
 said_of UnknownColor rows = invalid_value (text_of (codes "color") rows) no_such_color
 said_of UnknownPart rows = invalid_value (unwrap_or (unknown_part rows) []) not_ignorable
 said_of NotRules rows = invalid_value (unwrap_or (unaddable true rows) []) not_rules

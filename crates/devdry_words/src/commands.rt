@@ -55,6 +55,8 @@ const LINT_RECORDS: &str = "Also tell of lines that are most likely not the ones
 const MESSAGE_FORMATS: &str =
     "How messages are written: plain, gcc, github, gitlab, json, sarif or human";
 
+const ANSWER_FORMATS: &str = "How answers are written: plain or json";
+
 const EVALUATE_AS_UDEV: &str = "Read and evaluate rules as udev itself does";
 
 /// The subcommand `update`.
@@ -128,6 +130,7 @@ fn events_command<'a>(alloc: Global) -> Result<Command<'a>, AllocError>
         .arg(root_option(alloc))?
         .arg(with_option(alloc, ADDED_FILES))?
         .arg(all_flag(alloc))?
+        .arg(format_option(alloc, ANSWER_FORMATS))?
         .arg(sources_flag(alloc))?
         .arg(why_option(alloc))?
         .arg(unused_flag(alloc))?
@@ -159,6 +162,7 @@ fn compare_command<'a>(alloc: Global) -> Result<Command<'a>, AllocError>
         .arg(options_option(alloc))?
         .arg(with_option(alloc, ADDED_AFTER))?
         .arg(all_flag(alloc))?
+        .arg(format_option(alloc, ANSWER_FORMATS))?
         .arg(index_option(alloc))?
         .arg(udev_flag(alloc, EVALUATE_AS_UDEV))?
         .arg(old_argument(alloc))?

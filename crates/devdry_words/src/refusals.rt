@@ -2,11 +2,11 @@
 //!
 //! A rule of one argument on another would cost what `clap` proves about the words that it takes, and so would
 //! values split at commas, so these few cases are looked at here.
-ghost use Rattle.std.specs.Prelude.{◌≡◌};
+ghost use Rattle.std.specs.Prelude.{◌≡◌, false, option_map_or};
 ghost use Rattle.clap.specs.Words.{found_of, rows_of};
 ghost use Rattle.devdry_words.specs.Named.{IsUsageOf};
-ghost use Rattle.devdry_words.specs.Refusals.{asks_all, asks_both, is_strict, lacks_root, lacks_side, lacks_udev, names_two, refusal_of, said_of};
-ghost use Rattle.devdry_words.specs.Refusals.{links_as_rules, unknown_value, wrong_added};
+ghost use Rattle.devdry_words.specs.Refusals.{answers_blocks, asks_all, asks_both, breaks_json, is_for_answers, is_strict, lacks_answer_format, links_as_rules};
+ghost use Rattle.devdry_words.specs.Refusals.{lacks_root, lacks_side, lacks_udev, names_two, refusal_of, said_of, unknown_value, wrong_added};
 
 use crate::added::{adds_to_index, adds_to_named, unaddable, unaddable_text};
 use crate::ignored::{unknown_part, unknown_text};
@@ -14,7 +14,7 @@ use crate::line_reading::{color_of, format_of};
 use crate::reporting::{usage, usage_on_code, usage_on_value};
 use crate::values::{has_value, is_empty, is_given, text, value};
 use clap::ArgMatches;
-use engine_ends::LineFault;
+use engine_ends::{Format, LineFault};
 use std::alloc::Global;
 
 const TWO_DATABASES: &str = "error: the argument '--index <FILE>' cannot be used with '[FILE]...'
@@ -61,6 +61,14 @@ Usage: devdry events --questions [FILE]...
 For more information, try '--help'.
 ";
 
+const LINES_BESIDE_JSON: &str =
+    "error: the argument '--format=json' cannot be used with '--unused' or '--questions'
+
+Usage: devdry events --format=json [FILE]...
+
+For more information, try '--help'.
+";
+
 const EMPTY_ROOT: &str = "error: an empty value of '--root <DIR>' names no folder
 
 For more information, try '--help'.
@@ -86,6 +94,12 @@ const NO_SUCH_FORMAT: &str = "' for '--format <FORMAT>'
 For more information, try '--help'.
 ";
 
+const NO_ANSWER_FORMAT: &str = "' for '--format <FORMAT>'
+  [possible values: plain, json]
+
+For more information, try '--help'.
+";
+
 const NO_SUCH_COLOR: &str = "' for '--color <WHEN>'
   [possible values: auto, always, never]
 
@@ -105,6 +119,8 @@ pub(crate) enum Refusal {
     AddedToIndex,
     /// Events are to give questions in place of answers, and are to say more of their answers.
     TwoAnswers,
+    /// Answers are to be objects of JSON, and lines are asked for that are none.
+    LinesBesideJson,
     /// All is asked for, or which files count, below a root that is given and empty: so a variable without a value,
     /// as in `-r "$image"`, does not mean the system itself.
     EmptyRoot,
@@ -114,6 +130,8 @@ pub(crate) enum Refusal {
     NoUdev,
     /// There is no such format.
     UnknownFormat,
+    /// Answers can't be written in the format, or there is no such format.
+    NoAnswerFormat,
     /// Colors are asked for in no known way.
     UnknownColor,
     /// A part of `--ignore` is neither the code of a remark nor the word `comments`.
@@ -149,6 +167,14 @@ fn asks_both(matches: &ArgMatches<'_>) -> bool
 {
     is_given(matches, "questions")
         & (is_given(matches, "sources") | has_value(matches, "why") | is_given(matches, "unused"))
+}
+
+/// Whether matches ask for answers as objects of JSON, and for lines that are none.
+fn breaks_json(matches: &ArgMatches<'_>) -> bool
+    ensures { result ≡ breaks_json (rows_of (found_of matches.now)) }
+{
+    (text(matches, "format") == "json")
+        & (is_given(matches, "questions") | is_given(matches, "unused"))
 }
 
 /// Whether the matches of a subcommand are those of a strict `verify`, and so ask for every check.
@@ -187,6 +213,37 @@ fn lacks_udev(name: &str, matches: &ArgMatches<'_>) -> bool
         & !(is_given(matches, "udev") | is_strict(name, matches))
 }
 
+/// Whether a subcommand answers event blocks.
+fn answers_blocks(name: &str) -> bool
+    ensures { result ≡ answers_blocks name.now }
+{
+    (name == "events") | (name == "compare")
+}
+
+/// Whether answers can be written in a format.
+fn is_for_answers(format: Format) -> bool
+    ensures { result ≡ is_for_answers format }
+{
+    matches!(format, Format::Plain | Format::Json)
+}
+
+/// Whether there is a format, and answers can be written in it.
+fn has_answers(format: Option<Format>) -> bool
+    ensures { result ≡ option_map_or is_for_answers format false }
+{
+    match format {
+        Some(format) => is_for_answers(format),
+        None => false,
+    }
+}
+
+/// Whether matches ask for answers in a format in which they can't be written, or in one that there is not.
+fn lacks_answer_format(name: &str, matches: &ArgMatches<'_>) -> bool
+    ensures { result ≡ lacks_answer_format name.now (rows_of (found_of matches.now)) }
+{
+    answers_blocks(name) & !has_answers(format_of(matches))
+}
+
 /// Why a file may not be added for a subcommand, if one may not.
 fn wrong_added(name: &str, matches: &ArgMatches<'_>) -> Option<Refusal>
     ensures { result ≡ wrong_added name.now (rows_of (found_of matches.now)) }
@@ -206,7 +263,9 @@ fn wrong_added(name: &str, matches: &ArgMatches<'_>) -> Option<Refusal>
 fn unknown_value(name: &str, matches: &ArgMatches<'_>) -> Option<Refusal>
     ensures { result ≡ unknown_value name.now (rows_of (found_of matches.now)) }
 {
-    if format_of(matches).is_none() {
+    if lacks_answer_format(name, matches) {
+        Some(Refusal::NoAnswerFormat)
+    } else if format_of(matches).is_none() {
         Some(Refusal::UnknownFormat)
     } else if color_of(matches).is_none() {
         Some(Refusal::UnknownColor)
@@ -229,6 +288,8 @@ pub(crate) fn refusal_of(name: &str, matches: &ArgMatches<'_>) -> Option<Refusal
         Some(Refusal::AddedToNamed)
     } else if asks_both(matches) {
         Some(Refusal::TwoAnswers)
+    } else if breaks_json(matches) {
+        Some(Refusal::LinesBesideJson)
     } else if lacks_root(name, matches) {
         Some(Refusal::EmptyRoot)
     } else if lacks_side(matches) {
@@ -250,10 +311,14 @@ pub(crate) fn usage_of(alloc: Global, refusal: Refusal, matches: &ArgMatches<'_>
         Refusal::AddedToNamed => usage(alloc, ADDED_TO_NAMED),
         Refusal::AddedToIndex => usage(alloc, ADDED_TO_INDEX),
         Refusal::TwoAnswers => usage(alloc, TWO_ANSWERS),
+        Refusal::LinesBesideJson => usage(alloc, LINES_BESIDE_JSON),
         Refusal::EmptyRoot => usage(alloc, EMPTY_ROOT),
         Refusal::EmptySide => usage(alloc, EMPTY_SIDE),
         Refusal::NoUdev => usage(alloc, NO_UDEV),
         Refusal::UnknownFormat => usage_on_value(alloc, text(matches, "format"), NO_SUCH_FORMAT),
+        Refusal::NoAnswerFormat => {
+            usage_on_value(alloc, text(matches, "format"), NO_ANSWER_FORMAT)
+        }
         Refusal::UnknownColor => usage_on_value(alloc, text(matches, "color"), NO_SUCH_COLOR),
         Refusal::UnknownPart => usage_on_code(
             alloc,

@@ -96,7 +96,7 @@ pub(crate) fn push_as_is(lines: &mut Vec<u8>, name: &[u8], value: &[u8]) -> Resu
 }
 
 /// Whether a name begins with a dot: such a property is for rules alone.
-pub(crate) fn is_hidden(name: &[u8]) -> bool
+pub fn is_hidden(name: &[u8]) -> bool
     ensures { result ≡ is_hidden name.now }
 {
     name.first() == Some(&b'.')

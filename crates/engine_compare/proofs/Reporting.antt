@@ -7,6 +7,11 @@ use Rattle.device_core.specs.Values.{EventValue}
 use Rattle.engine_ends.specs.EventLine.{event_line}
 use Rattle.text_tallies.specs.Surplus.{times, surplus}
 use Rattle.engine_compare.specs.Differences.{compared_lines, differences, marked_lines, reported_for}
+use Rattle.engine_compare.specs.Objects.{differences_in_json, differences_object, object_for}
+use Rattle.json.specs.Json.{Json}
+use Rattle.json.specs.Print.{print}
+use Rattle.json.specs.Tree.{json_tokens}
+use Rattle.text_json.specs.Values.{value_line}
 use Rattle.text_tallies.proofs.Counting.{nothing_differs}
 
 -- four texts in a row, the first apart
@@ -51,3 +56,24 @@ nothing_reported event old new = (
 
 pub same_answer : (event : EventValue) (answer : Text) → differences event answer answer ≡ []
 same_answer event answer = (nothing_reported event answer answer).1 (λ text. refl)
+
+-- an object on its line has a byte
+line_ends : (value : Json) → value_line value ≡ [] → ⊥
+unfolding value_line
+line_ends value h = let end : newline ∷ [] ≡ [] = second_empty (print (json_tokens value)) (newline ∷ []) h in cc
+
+no_object : (event : EventValue) (gone come : List Text) → object_for event gone come ≡ [] → (gone ≡ []) × (come ≡ [])
+no_object event gone come h = by (length gone == 0 && length come == 0) refl h
+  where
+    by : (b : Bool) → (length gone == 0 && length come == 0) ≡ b → cond b [] (value_line (differences_object event gone come)) ≡ [] → (gone ≡ []) × (come ≡ [])
+    by true is none = let empty = both (length gone == 0) (length come == 0) is in (none_in gone empty.0, none_in come empty.1)
+    by false is none = absurd (line_ends (differences_object event gone come) none)
+
+object_of_nothing : (event : EventValue) (gone come : List Text) → (gone ≡ []) × (come ≡ []) → object_for event gone come ≡ []
+object_of_nothing event gone come e = ap₂ (object_for event) e.0 e.1
+
+pub nothing_in_json : (event : EventValue) (old new : Text) → (differences_in_json event old new ≡ []) ↔ ((text : Text) → times text (compared_lines old) ≡ times text (compared_lines new))
+nothing_in_json event old new = (
+  (λ none. (nothing_differs (compared_lines old) (compared_lines new)).0 (no_object event _ _ none)),
+  (λ same. object_of_nothing event _ _ ((nothing_differs (compared_lines old) (compared_lines new)).1 same)),
+)

@@ -30,7 +30,10 @@ pub fn differences(
 }
 
 /// The lines of an answer that are compared: neither its first, nor notes, nor the empty one at its end.
-fn compared_lines<'a>(alloc: Global, answer: &'a [u8]) -> Result<Vec<&'a [u8]>, AllocError>
+pub(crate) fn compared_lines<'a>(
+    alloc: Global,
+    answer: &'a [u8],
+) -> Result<Vec<&'a [u8]>, AllocError>
     ensures { IfOk result (λ compared. map (λ l. l.now) compared.items ≡ compared_lines answer.now) }
 {
     let mut compared = Vec::new(alloc);

@@ -1,10 +1,13 @@
 //! Laws of the lines that appear and disappear. Each is the contract of a function with an empty body.
-ghost use Rattle.std.specs.Prelude.{◌≡◌, ◌↔◌, ◌++◌, [], codes};
+ghost use Rattle.std.specs.Prelude.{◌≡◌, ◌↔◌, ◌++◌, ◌∷◌, [], codes};
+ghost use Rattle.text_json.specs.Told.{told};
+ghost use Rattle.text_json.specs.Values.{array_of, object_of, value_line};
 ghost use Rattle.text_tables.specs.Texts.{Text};
 ghost use Rattle.text_tallies.specs.Surplus.{times};
 ghost use Rattle.device_core.specs.Values.{EventValue};
 ghost use Rattle.engine_ends.specs.EventLine.{event_line};
 ghost use Rattle.engine_compare.specs.Differences.{compared_lines, differences};
+ghost use Rattle.engine_compare.specs.Objects.{differences_in_json};
 
 /// Nothing is reported for two equal answers.
 pub fn the_same_answer_differs_in_nothing()
@@ -26,4 +29,24 @@ pub fn lines_that_disappear_come_before_those_that_appear()
         (codes "event add /old\nlink x\nnote 1 a\nenv A=1\nmode 0600\n\n")
         (codes "event add /new\nmode 0660\nenv A=1\nnote 2 b\nlink y\n\n")
         ≡ event_line event.action event.device.path ++ codes "-link x\n-mode 0600\n+mode 0660\n+link y\n\n" }
+{}
+
+/// No object is reported for an event if and only if its two answers have the same lines apart from notes, each as
+/// often, in whatever order.
+pub fn no_object_is_reported_where_lines_are_the_same()
+    ensures { (event : EventValue) (old new : Text) → (differences_in_json event old new ≡ [])
+        ↔ ((text : Text) → times text (compared_lines old) ≡ times text (compared_lines new)) }
+{}
+
+/// The object of an event, by an example: the lines that disappear, and then those that appear.
+pub fn an_object_has_the_lines_that_disappear_and_appear()
+    ensures { (event : EventValue) → differences_in_json event
+        (codes "event add /old\nlink x\nnote 1 a\nenv A=1\nmode 0600\n\n")
+        (codes "event add /new\nmode 0660\nenv A=1\nnote 2 b\nlink y\n\n")
+        ≡ value_line (object_of (
+        (codes "event", told event.action)
+        ∷ (codes "path", told event.device.path)
+        ∷ (codes "gone", array_of (told (codes "link x") ∷ told (codes "mode 0600") ∷ []))
+        ∷ (codes "come", array_of (told (codes "mode 0660") ∷ told (codes "link y") ∷ []))
+        ∷ [])) }
 {}

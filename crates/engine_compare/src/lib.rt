@@ -5,10 +5,14 @@
 mod answers;
 mod compared;
 mod laws;
+mod objects;
 
 pub use answers::{differences, marked};
 pub use compared::Compared;
 pub use laws::{
+    an_object_has_the_lines_that_disappear_and_appear,
     lines_that_disappear_come_before_those_that_appear,
-    nothing_is_reported_where_lines_are_the_same, the_same_answer_differs_in_nothing,
+    no_object_is_reported_where_lines_are_the_same, nothing_is_reported_where_lines_are_the_same,
+    the_same_answer_differs_in_nothing,
 };
+pub use objects::differences_in_json;

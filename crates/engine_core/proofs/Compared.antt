@@ -1,5 +1,5 @@
 -- From the steps of a comparison to what it serves.
-use Rattle.std.proofs.Common.{◌≡◌, ℕ, List, inl, inr, refl, subst, Result, Ok, Err}
+use Rattle.std.proofs.Common.{◌≡◌, ℕ, Bool, List, inl, inr, refl, subst, Result, Ok, Err}
 use Rattle.text_tables.specs.Texts.{Text}
 use Rattle.engine_ends.specs.Streams.{Streams, outputs}
 use Rattle.engine_ends.specs.declared.line.Line.{Line}
@@ -19,7 +19,7 @@ use Rattle.engine_sessions.specs.Serves.{Serves}
 use Rattle.engine_sessions.specs.Sessions.{answers_as}
 use Rattle.engine_sessions.proofs.Serving.{reports_serve}
 use Rattle.engine_sessions.proofs.FindServing.{finds_serve}
-use Rattle.engine_compare.specs.Differences.{differences}
+use Rattle.engine_compare.specs.Objects.{compared}
 use Rattle.engine_core.specs.Comparing.{ComparesBy, both_messages, compare_outcome, differences_by}
 
 pub compares_serve : (old_line new_line : Line) (old new : Result OpeningValue RunOutcome) (status : ℕ) (before now : Streams)
@@ -65,11 +65,16 @@ new_refused old_line new_line Memory old new value status before now e is r = ol
 abbrev pub Tables : Type 0
 Tables = List Rule × Held
 
--- what comes and goes between two tables
-abbrev pub reported_by : Tables × Tables → EventValue → Text
-reported_by both event = differences event (answer_by both.0.0 (known_by both.0.1) event) (answer_by both.1.0 (known_by both.1.1) event)
+-- whether in JSON, and two tables
+abbrev pub Both : Type 0
+Both = Bool × (Tables × Tables)
 
-pub finds_both : (line : Line) (messages said : Text) (both tables : Tables × Tables) (status : ℕ) (before now : Streams)
+-- what comes and goes between two tables
+abbrev pub reported_by : Both → EventValue → Text
+reported_by both event =
+    compared both.0 event (answer_by both.1.0.0 (known_by both.1.0.1) event) (answer_by both.1.1.0 (known_by both.1.1.1) event)
+
+pub finds_both : (line : Line) (messages said : Text) (both tables : Both) (status : ℕ) (before now : Streams)
     → messages ≡ said → both ≡ tables → FindsAll messages (answers_as line.profile (reported_by both)) status before now
     → FindsAll said (answers_as line.profile (reported_by tables)) status before now
 finds_both line messages said both tables status before now e f h =

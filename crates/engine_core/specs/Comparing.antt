@@ -7,7 +7,7 @@ use Rattle.index_reading.specs.declared.fault.IndexFault.{IndexFault}
 use Rattle.index_reading.specs.Contents.{Contents}
 use Rattle.device_core.specs.Values.{EventValue}
 use Rattle.engine_answers.specs.Answers.{answer_by}
-use Rattle.engine_core.specs.Outcomes.{known_for}
+use Rattle.engine_core.specs.Outcomes.{is_json, known_for}
 use Rattle.engine_ends.specs.declared.line.Line.{Line}
 use Rattle.engine_ends.specs.Delivery.{RunOutcome}
 use Rattle.engine_ends.specs.Streams.{Streams}
@@ -17,12 +17,13 @@ use Rattle.engine_sessions.specs.Findings.{FindsAll, found}
 use Rattle.engine_sessions.specs.Outcomes.{input_outcome}
 use Rattle.engine_sessions.specs.Serves.{Reports, Serves}
 use Rattle.engine_sessions.specs.Sessions.{answers_as}
-use Rattle.engine_compare.specs.Differences.{differences, marked_text}
+use Rattle.engine_compare.specs.Differences.{marked_text}
+use Rattle.engine_compare.specs.Objects.{compared}
 
--- what appears and disappears between the answers to an event by two lines and their openings
+-- what appears and disappears between the answers to an event by two lines and their openings, in the old line's format
 abbrev pub differences_by : (old_line new_line : Line) → (old new : OpeningValue) → EventValue → Text
 differences_by old_line new_line old new event =
-    differences event (answer_by old.rules (known_for old_line old) event) (answer_by new.rules (known_for new_line new) event)
+    compared (is_json old_line.format) event (answer_by old.rules (known_for old_line old) event) (answer_by new.rules (known_for new_line new) event)
 
 -- the messages about both sides: those about the old rules, each line after `[OLD] `, and then those about the new ones, each
 -- after `[NEW] `
@@ -30,8 +31,9 @@ abbrev pub both_messages : Text → Text → Text
 both_messages old new = marked_text (codes "[OLD] ") old ++ marked_text (codes "[NEW] ") new
 
 -- The outcome of a comparison over an input, by the two lines and the opening of both sides: rules are evaluated by the
--- old line's profile. It is the messages about the old and then about the new rules, and for each block of the input what appears and
--- disappears, which is a finding. If one side can't be opened, what is said about that, about the old one first.
+-- old line's profile, and differences are in its format. It is the messages about the old and then about the new rules,
+-- and for each block of the input what appears and disappears, which is a finding. If one side can't be opened, what is
+-- said about that, about the old one first.
 abbrev pub compare_outcome : (old_line new_line : Line) → Result OpeningValue RunOutcome → Result OpeningValue RunOutcome → Text → RunOutcome
 compare_outcome old_line new_line (Ok old) (Ok new) input =
     found (input_outcome (both_messages old.messages new.messages) (answers_as old_line.profile (differences_by old_line new_line old new)) input)

@@ -7,6 +7,8 @@ use Rattle.text_bytes.specs.declared.source_file.SourceFile.{SourceFile}
 use Rattle.index_reading.specs.declared.fault.IndexFault.{IndexFault}
 use Rattle.index_reading.specs.Contents.{Contents}
 use Rattle.device_core.specs.Values.{EventValue}
+use Rattle.engine_ends.specs.declared.line.Format.{Format}
+use Rattle.engine_ends.specs.declared.line.Format.TheVariants.{Json}
 use Rattle.engine_ends.specs.declared.line.Line.{Line}
 use Rattle.engine_ends.specs.declared.line.Verb.{Verb}
 use Rattle.engine_ends.specs.declared.line.Verb.TheVariants.{Update, Query, Verify, Events}
@@ -35,18 +37,24 @@ why_of line = map (λ w. w.now) line.why.items
 abbrev pub known_for : Line → OpeningValue → Known
 known_for line opening = known_by (record { links = line.links.items; entries = opening.entries })
 
+-- whether answers are objects of JSON
+abbrev pub is_json : Format → Bool
+is_json Json = true
+is_json _ = false
+
 -- what a line asks for in addition to the answers, and by what these are made
 abbrev pub reported_for : Line → OpeningValue → ReportedValue
 reported_for line opening = record {
+  json = is_json line.format;
   sources = line.sources;
   why = why_of line;
   messages = opening.about_rules;
   rules = opening.rules;
 }
 
--- whether a line asks for more than the answers
+-- whether a line asks for more than the answers, or for another format of them
 abbrev pub asks_more : Line → Bool
-asks_more line = line.sources || not (vec_len line.why == 0)
+asks_more line = (line.sources || not (vec_len line.why == 0)) || is_json line.format
 
 -- the answer to an event by what an opening has: the questions of the rules if the line asks for these, otherwise the
 -- outcome of the event with what else the line asks for

@@ -9,10 +9,12 @@ use Rattle.device_core.specs.Values.{EventValue}
 use Rattle.eval_rules.specs.Outcomes.{outcome}
 use Rattle.engine_answers.specs.Answers.{answer_lines, sourced_lines}
 use Rattle.engine_courses.specs.WhyLines.{why_lines}
+use Rattle.engine_json.specs.Answers.{json_answer}
 
--- what is asked for, whether sources and for which rules what they met, and what events are answered by: the messages
--- about the rules, and the rules
+-- what is asked for, whether JSON, whether sources and for which rules what they met, and what events are answered by: the
+-- messages about the rules, and the rules
 pub record ReportedValue : Type 0 where
+  pub json : Bool
   pub sources : Bool
   pub why : List Text
   pub messages : List Message
@@ -23,6 +25,9 @@ abbrev pub lines_reported : Bool → List Rule → Known → EventValue → Text
 lines_reported sources rules known event =
     if sources then sourced_lines rules known event else answer_lines event (outcome rules known event)
 
--- the answer to an event, by what is known beyond it: its lines, then what the rules that are asked for met, and an empty line
+-- the answer to an event, by what is known beyond it: its lines, then what the rules that are asked for met, and an empty line;
+-- or all of this as an object of JSON on one line
 abbrev pub reported_by : ReportedValue → Known → EventValue → Text
-reported_by t known event = lines_reported t.sources t.rules known event ++ why_lines t.why t.messages t.rules known event ++ newline ∷ []
+reported_by t known event =
+    let why = why_lines t.why t.messages t.rules known event in
+    if t.json then json_answer t.sources why t.rules known event else lines_reported t.sources t.rules known event ++ why ++ newline ∷ []

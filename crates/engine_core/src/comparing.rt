@@ -8,6 +8,7 @@ ghost use Rattle.engine_reports.specs.Reports.{IsRefused, shown_rules};
 ghost use Rattle.engine_sessions.specs.Findings.{FindsAll};
 ghost use Rattle.engine_sessions.specs.Sessions.{answers_as};
 
+use crate::events::is_json;
 use crate::shared::Shared;
 use builtin_core::Builtins;
 use engine_answers::Tables;
@@ -28,7 +29,8 @@ use text_bytes::SourceFile;
 /// The files of each side are those passed in for its line, taken and read as `events` does; rules are evaluated by
 /// the profile of the old line, which is that of the new one if a command line made both. Messages about the old
 /// rules go to `error`, each after `[OLD] `, and then those about the new ones, each after `[NEW] `; to `output`, for
-/// each block of `input` whose answers differ, what appears and disappears, written and flushed before the next read.
+/// each block of `input` whose answers differ, what appears and disappears, in the old line's format, written and flushed
+/// before the next read.
 /// If `index` is passed in, both sides ask it, and no file of a database is read.
 ///
 /// The status is 0; 1 if anything appears or disappears, if a block is faulty, if the files of a side hold more
@@ -140,7 +142,8 @@ fn compare_rules<L: Lookup + Drop, M: Lookup + Drop, R: Source, W: Sink, E: Sink
 {
     let old_builtins = Builtins::new(old_lookup, &old_line.links);
     let new_builtins = Builtins::new(new_lookup, &new_line.links);
-    match both_tables(alloc, old, old_builtins, new, new_builtins) {
+    let json = is_json(old_line.format);
+    match both_tables(alloc, json, old, old_builtins, new, new_builtins) {
         Ok((messages, tables)) => find_after_messages(
             alloc,
             old_line.profile,
@@ -154,9 +157,10 @@ fn compare_rules<L: Lookup + Drop, M: Lookup + Drop, R: Source, W: Sink, E: Sink
     }
 }
 
-/// The messages about both sides, and the tables of both.
+/// The messages about both sides, and the tables of both, for differences as JSON or as lines.
 fn both_tables<'l, 'm, L: Lookup + Drop, M: Lookup + Drop>(
     alloc: Global,
+    json: bool,
     old: RulesRead,
     old_builtins: Builtins<'l, L>,
     new: RulesRead,
@@ -170,8 +174,11 @@ fn both_tables<'l, 'm, L: Lookup + Drop, M: Lookup + Drop>(
 >
     ensures messages { IfOk result (λ both. both.0.items ≡ both_messages old.messages.items new.messages.items) }
     ensures tables { IfOk result (λ both. both.1 ≡ (
-      (old.rules.rules, old_builtins.entry),
-      (new.rules.rules, new_builtins.entry),
+      json,
+      (
+        (old.rules.rules, old_builtins.entry),
+        (new.rules.rules, new_builtins.entry),
+      ),
     )) }
 {
     let RulesRead {
@@ -186,7 +193,7 @@ fn both_tables<'l, 'm, L: Lookup + Drop, M: Lookup + Drop>(
     messages.append(&mut marked(alloc, b"[NEW] ", &on_new)?)?;
     let old_tables = Tables::new(alloc, old_rules.into_rules(), old_builtins)?;
     let new_tables = Tables::new(alloc, new_rules.into_rules(), new_builtins)?;
-    Ok((messages, Compared::new(old_tables, new_tables)))
+    Ok((messages, Compared::new(json, old_tables, new_tables)))
 }
 
 /// The rules and the messages about the files passed in, with an index that others also ask. No file of a database

@@ -1,7 +1,7 @@
 //! `events`: the messages, and then the answers to the blocks of the input.
 ghost use Rattle.std.specs.Prelude.{◌≡◌, true, false, Ok, IfOk, IfErr, Some, Result};
 ghost use Rattle.engine_ends.specs.Delivery.{RunOutcome};
-ghost use Rattle.engine_core.specs.Outcomes.{added_of, answer_with, asked_of, unused_of, why_of};
+ghost use Rattle.engine_core.specs.Outcomes.{added_of, answer_with, asked_of, asks_more, is_json, unused_of, why_of};
 ghost use Rattle.engine_core.specs.Runs.{AnswersSaying, RunsBy};
 ghost use Rattle.engine_reports.specs.Indexes.{entries_in};
 ghost use Rattle.engine_reports.specs.Openings.{OpeningValue, opening};
@@ -16,7 +16,7 @@ use builtin_core::Builtins;
 use builtin_devices::Knowledge;
 use engine_answers::Tables;
 use engine_courses::first_unknown;
-use engine_ends::{Line, Sink, Source, report_out_of_memory};
+use engine_ends::{Format, Line, Sink, Source, report_out_of_memory};
 use engine_reports::{
     Refusal, RulesRead, deliver_refusal, deliver_usage_error, open_rules, open_with_database,
 };
@@ -153,6 +153,20 @@ fn ask_by_rules<L: Lookup + Drop, R: Source, W: Sink, E: Sink>(
     )
 }
 
+/// Whether answers are objects of JSON.
+pub(crate) fn is_json(format: Format) -> bool
+    ensures { result ≡ is_json format }
+{
+    format == Format::Json
+}
+
+/// Whether a line asks for more than the answers, or for another format of them.
+fn asks_more(line: &Line<'_>) -> bool
+    ensures { result ≡ asks_more line.now }
+{
+    line.sources || !line.why.is_empty() || is_json(line.format)
+}
+
 /// Writes the messages and answers the input; if the line asks for that, the rules that no event met follow the answers.
 fn answer_and_say<A: Answering, K: Knowledge, R: Source, W: Sink, E: Sink>(
     alloc: Global,
@@ -183,7 +197,7 @@ fn answer_and_say<A: Answering, K: Knowledge, R: Source, W: Sink, E: Sink>(
 }
 
 /// Writes the messages and answers the input: by the program of the rules, or, if the line asks for more than the
-/// answers, by the rules as they were read.
+/// answers or for JSON, by the rules as they were read.
 fn report_by_rules<L: Lookup + Drop, R: Source, W: Sink, E: Sink>(
     alloc: Global,
     line: &Line<'_>,
@@ -200,9 +214,10 @@ fn report_by_rules<L: Lookup + Drop, R: Source, W: Sink, E: Sink>(
         (record { input = R.shown input.new; out = W.shown output.new; err = E.shown error.new }) }
 {
     let RulesRead { messages, rules } = read;
-    if line.sources || !line.why.is_empty() {
+    if asks_more(line) {
         let builtins = Builtins::new(lookup, &line.links);
-        let tables = ReportedTables::new(line.sources, &line.why, rules, builtins);
+        let json = is_json(line.format);
+        let tables = ReportedTables::new(json, line.sources, &line.why, rules, builtins);
         let rules = tables.rules();
         let knowledge = tables.knowledge();
         return answer_and_say(

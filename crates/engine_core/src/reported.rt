@@ -1,12 +1,16 @@
 //! Rules as they were read, and what is known beyond an event, as one thing that answers events and reports what a line asks for in
-//! addition.
-ghost use Rattle.std.specs.Prelude.{◌≡◌, IfOk, map};
+//! addition, as lines or as JSON.
+ghost use Rattle.std.specs.Prelude.{◌≡◌, ◌++◌, ◌∷◌, [], IfOk, map};
+ghost use Rattle.text_bytes.specs.Names.{newline};
+ghost use Rattle.engine_courses.specs.WhyLines.{why_lines};
+ghost use Rattle.engine_json.specs.Answers.{json_answer};
 ghost use Rattle.engine_core.specs.Reported.{lines_reported, reported_by};
 
 use builtin_devices::Knowledge;
 use device_core::Event;
 use engine_answers::{answer_lines, sourced_lines};
 use engine_courses::push_why_lines;
+use engine_json::json_answer;
 use engine_sessions::Answering;
 use eval_rules::evaluate_plain;
 use rule_core::ReadRules;
@@ -19,6 +23,7 @@ use text_bytes::Bytes;
 /// comes from, and what rules met.
 #[derive(Drop)]
 pub struct ReportedTables<'b, 'a, K: Knowledge> {
+    json: bool,
     sources: bool,
     why: &'b [&'a str],
     rules: ReadRules,
@@ -33,6 +38,7 @@ impl<'b, 'a, K: Knowledge> Model for ReportedTables<'b, 'a, K> {
 
     ghost view = { λ t. (
       record {
+        json = t.json;
         sources = t.sources;
         why = map (λ w. w.now) t.why.now;
         messages = t.rules.messages;
@@ -43,9 +49,10 @@ impl<'b, 'a, K: Knowledge> Model for ReportedTables<'b, 'a, K> {
 }
 
 impl<'b, 'a, K: Knowledge + Drop> ReportedTables<'b, 'a, K> {
-    /// The rules and the knowledge that events are answered by, and what is reported in addition: with `sources` the
-    /// rule that each line comes from, and what the rules that `why` asks for met.
+    /// The rules and the knowledge that events are answered by, whether by objects of JSON, and what is reported in addition:
+    /// with `sources` the rule that each line comes from, and what the rules that `why` asks for met.
     pub fn new(
+        json: bool,
         sources: bool,
         why: &'b [&'a str],
         rules: ReadRules,
@@ -53,6 +60,7 @@ impl<'b, 'a, K: Knowledge + Drop> ReportedTables<'b, 'a, K> {
     ) -> ReportedTables<'b, 'a, K>
         ensures { result ≡ (
           record {
+            json = json;
             sources = sources;
             why = map (λ w. w.now) why.entry.now;
             messages = rules.messages;
@@ -62,6 +70,7 @@ impl<'b, 'a, K: Knowledge + Drop> ReportedTables<'b, 'a, K> {
         ) }
     {
         ReportedTables {
+            json,
             sources,
             why,
             rules,
@@ -103,8 +112,8 @@ fn lines_reported<K: Knowledge>(
     said
 }
 
-/// The answer to an event, with what is asked for in addition.
-fn reported_by<K: Knowledge>(
+/// The answer to an event as lines, with what is asked for in addition.
+fn answer_in_lines<K: Knowledge>(
     alloc: Global,
     sources: bool,
     why: &[&str],
@@ -112,17 +121,56 @@ fn reported_by<K: Knowledge>(
     knowledge: &K,
     event: &Event<'_>,
 ) -> Result<Bytes, AllocError>
+    ensures { IfOk result (λ text. text ≡ lines_reported sources rules.now.rules (K.known knowledge.now) event.now
+        ++ why_lines (map (λ w. w.now) why.now) rules.now.messages rules.now.rules (K.known knowledge.now) event.now ++ newline ∷ []) }
+{
+    let mut lines = lines_reported(alloc, sources, rules.rules(), knowledge, event)?;
+    push_why_lines(alloc, &mut lines, why, rules, event, knowledge)?;
+    lines.push(b'\n')?;
+    Ok(Bytes::new(lines))
+}
+
+/// The answer to an event as an object of JSON, with what is asked for in addition.
+fn answer_in_json<K: Knowledge>(
+    alloc: Global,
+    sources: bool,
+    why: &[&str],
+    rules: &ReadRules,
+    knowledge: &K,
+    event: &Event<'_>,
+) -> Result<Bytes, AllocError>
+    ensures { IfOk result (λ text. text ≡ json_answer sources
+        (why_lines (map (λ w. w.now) why.now) rules.now.messages rules.now.rules (K.known knowledge.now) event.now)
+        rules.now.rules (K.known knowledge.now) event.now) }
+{
+    let mut met = Vec::new(alloc);
+    push_why_lines(alloc, &mut met, why, rules, event, knowledge)?;
+    json_answer(alloc, sources, &met, rules.rules(), event, knowledge)
+}
+
+/// The answer to an event, with what is asked for in addition.
+fn reported_by<K: Knowledge>(
+    alloc: Global,
+    json: bool,
+    sources: bool,
+    why: &[&str],
+    rules: &ReadRules,
+    knowledge: &K,
+    event: &Event<'_>,
+) -> Result<Bytes, AllocError>
     ensures { IfOk result (λ text. text ≡ reported_by (record {
+      json = json;
       sources = sources;
       why = map (λ w. w.now) why.now;
       messages = rules.now.messages;
       rules = rules.now.rules;
     }) (K.known knowledge.now) event.now) }
 {
-    let mut lines = lines_reported(alloc, sources, rules.rules(), knowledge, event)?;
-    push_why_lines(alloc, &mut lines, why, rules, event, knowledge)?;
-    lines.push(b'\n')?;
-    Ok(Bytes::new(lines))
+    if json {
+        answer_in_json(alloc, sources, why, rules, knowledge, event)
+    } else {
+        answer_in_lines(alloc, sources, why, rules, knowledge, event)
+    }
 }
 
 impl<'b, 'a, K: Knowledge> Answering for ReportedTables<'b, 'a, K> {
@@ -133,6 +181,7 @@ impl<'b, 'a, K: Knowledge> Answering for ReportedTables<'b, 'a, K> {
     fn answer(&self, alloc: Global, event: &Event<'_>) -> Result<Bytes, AllocError> {
         reported_by(
             alloc,
+            self.json,
             self.sources,
             self.why,
             &self.rules,

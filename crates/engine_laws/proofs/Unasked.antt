@@ -8,7 +8,7 @@ use Rattle.engine_ends.specs.Delivery.{RunOutcome}
 use Rattle.engine_reports.specs.Openings.{OpeningValue}
 use Rattle.engine_answers.specs.Answers.{answer_by}
 use Rattle.engine_courses.specs.Questions.{question_answer}
-use Rattle.engine_core.specs.Outcomes.{answer_with, asked_of, asks_more, known_for, reported_for, why_of}
+use Rattle.engine_core.specs.Outcomes.{answer_with, asked_of, asks_more, is_json, known_for, reported_for, why_of}
 use Rattle.engine_core.specs.Reported.{reported_by}
 use Rattle.engine_sessions.specs.Sessions.{answers_as}
 
@@ -27,12 +27,12 @@ opened_as_it_is (Err said) = refl
 pub asked_as_it_is : (line : Line) (opened : Result OpeningValue RunOutcome) → vec_len line.why ≡ 0 → asked_of (why_of line) opened ≡ opened
 asked_as_it_is line opened e = ap (λ why. asked_of why opened) (nothing_asked line e) ∙ opened_as_it_is opened
 
-asks_no_more : (line : Line) → line.sources ≡ false → vec_len line.why ≡ 0 → asks_more line ≡ false
-asks_no_more line a b = ap (λ (s : Bool). s || not (vec_len line.why == 0)) a ∙ ap (λ (n : ℕ). not (n == 0)) b
+asks_no_more : (line : Line) → line.sources ≡ false → vec_len line.why ≡ 0 → is_json line.format ≡ false → asks_more line ≡ false
+asks_no_more line a b f = ap (λ (s : Bool). (s || not (vec_len line.why == 0)) || is_json line.format) a ∙ ap (λ (n : ℕ). not (n == 0) || is_json line.format) b ∙ f
 
-pub answered_alone : (line : Line) (opened : OpeningValue) → line.questions ≡ false → line.sources ≡ false → vec_len line.why ≡ 0 → answer_with line opened ≡ answers_as line.profile (answer_by opened.rules (known_for line opened))
-answered_alone line opened q a b =
+pub answered_alone : (line : Line) (opened : OpeningValue) → line.questions ≡ false → line.sources ≡ false → vec_len line.why ≡ 0 → is_json line.format ≡ false → answer_with line opened ≡ answers_as line.profile (answer_by opened.rules (known_for line opened))
+answered_alone line opened q a b f =
     let asked : EventValue → Text = question_answer opened.rules (known_for line opened) in
     let alone : EventValue → Text = answer_by opened.rules (known_for line opened) in
     ap (λ (s : Bool). answers_as line.profile (cond s asked (cond (asks_more line) (reported_by (reported_for line opened) (known_for line opened)) alone))) q
-    ∙ ap (λ (s : Bool). answers_as line.profile (cond s (reported_by (reported_for line opened) (known_for line opened)) alone)) (asks_no_more line a b)
+    ∙ ap (λ (s : Bool). answers_as line.profile (cond s (reported_by (reported_for line opened) (known_for line opened)) alone)) (asks_no_more line a b f)

@@ -9,14 +9,14 @@ ghost use Rattle.engine_ends.specs.declared.line.Line.{Line};
 ghost use Rattle.engine_ends.specs.declared.line.Verb.TheVariants.{Events};
 ghost use Rattle.engine_reports.specs.Openings.{OpeningValue, opening};
 ghost use Rattle.engine_answers.specs.Answers.{answer_by};
-ghost use Rattle.engine_core.specs.Outcomes.{answer_with, before_input, known_for};
+ghost use Rattle.engine_core.specs.Outcomes.{answer_with, before_input, is_json, known_for};
 ghost use Rattle.engine_sessions.specs.Sessions.{answers_as};
 
-/// Without `--questions`, `--sources` and `--why` events get the answers by rules and entries, over which rules are
+/// Without `--questions`, `--sources`, `--why` and `--format=json` events get the answers by rules and entries, over which rules are
 /// evaluated by the line's profile, and nothing is said before them but the messages.
 pub fn a_line_that_asks_for_no_more_gets_the_answers_alone()
     ensures answers { (line : Line) (opened : OpeningValue) → line.questions ≡ false → line.sources ≡ false → vec_len line.why ≡ 0
-        → answer_with line opened ≡ answers_as line.profile (answer_by opened.rules (known_for line opened)) }
+        → is_json line.format ≡ false → answer_with line opened ≡ answers_as line.profile (answer_by opened.rules (known_for line opened)) }
     ensures opening { (line : Line) (files : List SourceFile) (index : Option (Result Contents IndexFault)) → vec_len line.why ≡ 0
         → before_input Events line files index ≡ opening line files index }
 {}

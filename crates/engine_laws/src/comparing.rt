@@ -7,19 +7,22 @@ ghost use Rattle.device_core.specs.Values.{EventValue};
 ghost use Rattle.engine_answers.specs.Answers.{answer_by};
 ghost use Rattle.engine_ends.specs.EventLine.{event_line};
 ghost use Rattle.engine_compare.specs.Differences.{differences};
+ghost use Rattle.engine_compare.specs.Objects.{compared};
 ghost use Rattle.engine_core.specs.Comparing.{compare_outcome};
-ghost use Rattle.engine_core.specs.Outcomes.{known_for};
+ghost use Rattle.engine_core.specs.Outcomes.{is_json, known_for};
 ghost use Rattle.engine_ends.specs.declared.line.Line.{Line};
 ghost use Rattle.engine_reports.specs.Openings.{OpeningValue};
 ghost use Rattle.engine_sessions.specs.Answers.{answers_of};
 ghost use Rattle.engine_sessions.specs.Sessions.{answers_as};
 ghost use Rattle.engine_sessions.specs.Turns.{joined};
 
-/// What is said of an event is what disappears from the answer by the old rules and appears in that by the new ones.
+/// What is said of an event is what disappears from the answer by the old rules and appears in that by the new ones, in
+/// the old line's format.
 pub fn the_old_answer_is_compared_with_the_new_one()
     ensures { (old_line new_line : Line) (old new : OpeningValue) (input : Text) → (compare_outcome old_line new_line (Ok old) (Ok new) input).output
         ≡ joined (answers_of (answers_as old_line.profile (λ (event : EventValue).
-        differences event (answer_by old.rules (known_for old_line old) event) (answer_by new.rules (known_for new_line new) event))) input).texts }
+        compared (is_json old_line.format) event (answer_by old.rules (known_for old_line old) event)
+        (answer_by new.rules (known_for new_line new) event))) input).texts }
 {}
 
 /// A line `nowatch` is compared, though it begins as a note does, and notes are not.

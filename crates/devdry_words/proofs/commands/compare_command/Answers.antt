@@ -14,7 +14,8 @@ returns c =
     let first = one_more _ _ _ _ _ start c.options_option.ensures c.in_ok-arg.ensures in
     let second = one_more _ _ _ _ _ first c.with_option.ensures c.in_ok-arg-2.ensures in
     let third = one_more _ _ _ _ _ second c.all_flag.ensures c.in_ok-arg-3.ensures in
-    let fourth = one_more _ _ _ _ _ third c.index_option.ensures c.in_ok-arg-4.ensures in
-    let fifth = one_more _ _ _ _ _ fourth c.udev_flag.ensures c.in_ok-arg-5.ensures in
-    let sixth = one_more _ _ _ _ _ fifth c.old_argument.ensures c.in_ok-arg-6.ensures in
-    IfOk-weaker c.arg-7.result _ _ (λ m h. one_more _ _ _ _ _ sixth c.new_argument.ensures h) c.arg-7.ensures
+    let fourth = one_more _ _ _ _ _ third c.format_option.ensures c.in_ok-arg-4.ensures in
+    let fifth = one_more _ _ _ _ _ fourth c.index_option.ensures c.in_ok-arg-5.ensures in
+    let sixth = one_more _ _ _ _ _ fifth c.udev_flag.ensures c.in_ok-arg-6.ensures in
+    let seventh = one_more _ _ _ _ _ sixth c.old_argument.ensures c.in_ok-arg-7.ensures in
+    IfOk-weaker c.arg-8.result _ _ (λ m h. one_more _ _ _ _ _ seventh c.new_argument.ensures h) c.arg-8.ensures

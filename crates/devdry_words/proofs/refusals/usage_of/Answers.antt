@@ -1,11 +1,16 @@
 use Rattle.std.proofs.Common.{subst}
 use Rattle.devdry_words.specs.Named.{IsUsageOf}
-use Rattle.devdry_words.specs.Refusals.{invalid_value, no_such_color, no_such_format, not_a_file, not_ignorable, not_rules}
+use Rattle.devdry_words.specs.Refusals.{invalid_value, no_answer_format, no_such_color, no_such_format, not_a_file, not_ignorable, not_rules}
 use Rattle.devdry_words.proofs.refusals.usage_of.Goals as goal
 
 pub returns-in-UnknownFormat : goal.returns-in-UnknownFormat
 returns-in-UnknownFormat c =
     rw c.in-UnknownFormat.is (subst (λ value. IsUsageOf (invalid_value value no_such_format) c.usage_on_value.result) c.text.ensures c.usage_on_value.ensures)
+
+pub returns-in-NoAnswerFormat : goal.returns-in-NoAnswerFormat
+returns-in-NoAnswerFormat c =
+    rw c.in-NoAnswerFormat.is (subst (λ value. IsUsageOf (invalid_value value no_answer_format) c.usage_on_value-in-NoAnswerFormat.result)
+    c.text-in-NoAnswerFormat.ensures c.usage_on_value-in-NoAnswerFormat.ensures)
 
 pub returns-in-UnknownColor : goal.returns-in-UnknownColor
 returns-in-UnknownColor c =

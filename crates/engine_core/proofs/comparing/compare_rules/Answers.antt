@@ -1,6 +1,7 @@
 use Rattle.std.proofs.Common.{rules, ◌≡◌, ◌∙◌}
 use Rattle.engine_reports.specs.Reports.{shown_rules}
 use Rattle.engine_core.specs.Comparing.{both_messages}
+use Rattle.engine_core.specs.Outcomes.{is_json}
 use Rattle.engine_core.proofs.Compared.{finds_both}
 use Rattle.engine_core.proofs.comparing.compare_rules.Goals as goal
 
@@ -10,7 +11,10 @@ returns-in-Ok g c =
     let new = shown_rules c.args.new (g.M.Lookup.entries c.args.new_lookup) in
     let messages : c.deref-in-Ok.result.now ≡ both_messages c.args.old.messages.items c.args.new.messages.items = c.deref-in-Ok.ensures.value ∙ c.in-Ok.ensures.messages in
     let tables : c.in-Ok.tables ≡ (
-      (old.rules, record { links = c.args.old_line.now.links.items; entries = old.entries }),
-      (new.rules, record { links = c.args.new_line.now.links.items; entries = new.entries }),
+      is_json c.args.old_line.now.format,
+      (
+        (old.rules, record { links = c.args.old_line.now.links.items; entries = old.entries }),
+        (new.rules, record { links = c.args.new_line.now.links.items; entries = new.entries }),
+      ),
     ) = search rules in
     finds_both c.args.old_line.now _ _ c.in-Ok.tables _ _ _ _ messages tables c.find_after_messages.ensures.steps

@@ -3,16 +3,14 @@ use Rattle.engine_reports.specs.Reports.{shown_rules}
 use Rattle.engine_core.specs.Outcomes.{asks_more, reported_for}
 use Rattle.engine_core.proofs.Running.{alone_runs, reported_runs}
 use Rattle.engine_core.proofs.events.report_by_rules.Goals as goal
-use Rattle.engine_core.proofs.events.report_by_rules.Goals.{then-line-via-then-line, then-line-via-else-line+then-not-is_empty}
 
-pub returns-then-line : goal.returns-then-line
-returns-then-line g c =
+pub returns-then-asks_more : goal.returns-then-asks_more
+returns-then-asks_more g c =
     let opened = shown_rules c.args.read (g.L.Lookup.entries c.args.lookup) in
-    let asks : asks_more c.args.line.now ≡ true =
-    elim c.then-line.branch [ then-line-via-then-line w ↦ search rules | then-line-via-else-line+then-not-is_empty w ↦ search rules ] in
-    let messages : c.deref-then-line-2.result.now ≡ c.args.read.messages.items = search rules in
+    let asks : asks_more c.args.line.now ≡ true = search rules in
+    let messages : c.deref-then-asks_more-2.result.now ≡ c.args.read.messages.items = search rules in
     let tables : c.new-tables.result ≡ (reported_for c.args.line.now opened, record { links = c.args.line.now.links.items; entries = opened.entries }) = search rules in
-    reported_runs c.args.line.now opened c.deref-then-line-2.result.now c.new-tables.result c.rules-rules.result.now c.knowledge-knowledge.result.now _ _ _ c.requires asks messages tables c.rules-rules.ensures c.knowledge-knowledge.ensures c.answer_and_say.ensures
+    reported_runs c.args.line.now opened c.deref-then-asks_more-2.result.now c.new-tables.result c.rules-rules.result.now c.knowledge-knowledge.result.now _ _ _ c.requires asks messages tables c.rules-rules.ensures c.knowledge-knowledge.ensures c.answer_and_say.ensures
 
 pub returns-in-Ok : goal.returns-in-Ok
 returns-in-Ok g c =

@@ -1,0 +1,116 @@
+//! What appears and disappears between two answers to the same event, as an object of JSON.
+ghost use Rattle.std.specs.Prelude.{◌≡◌, ◌++◌, ◌∷◌, [], map, IfOk, OnOk};
+ghost use Rattle.json.specs.Tree.{json_tokens};
+ghost use Rattle.text_json.specs.Listed.{member_tokens, value_tokens};
+ghost use Rattle.text_json.specs.Told.{told};
+ghost use Rattle.text_json.specs.Values.{array_of, value_line};
+ghost use Rattle.engine_compare.specs.Objects.{differences_in_json, differences_object, object_for};
+
+use crate::answers::compared_lines;
+use device_core::Event;
+use json::Writer;
+use std::alloc::{AllocError, Global};
+use text_bytes::Bytes;
+use text_json::{write_told, write_told_value};
+use text_tallies::surplus;
+
+/// What appears and disappears between an old and a new answer to an event, as an object of JSON on one line: `event`,
+/// `path`, `gone` with the old lines that the new answer has less often, and `come` with the new ones that the old answer
+/// has less often. If there are neither, no byte.
+pub fn differences_in_json(
+    alloc: Global,
+    event: &Event<'_>,
+    old: &[u8],
+    new: &[u8],
+) -> Result<Bytes, AllocError>
+    ensures { IfOk result (λ text. text ≡ differences_in_json event.now old.now new.now) }
+{
+    let old_lines = compared_lines(alloc, old)?;
+    let new_lines = compared_lines(alloc, new)?;
+    let gone = surplus(alloc, &old_lines, &new_lines)?;
+    let come = surplus(alloc, &new_lines, &old_lines)?;
+    object_for(alloc, event, &gone, &come)
+}
+
+/// What is reported for an event, by the lines that disappear and those that appear.
+fn object_for(
+    alloc: Global,
+    event: &Event<'_>,
+    gone: &[&[u8]],
+    come: &[&[u8]],
+) -> Result<Bytes, AllocError>
+    ensures { IfOk result (λ text. text ≡ object_for event.now (map (λ l. l.now) gone.now) (map (λ l. l.now) come.now)) }
+{
+    if gone.is_empty() && come.is_empty() {
+        return Ok(Bytes::new(Vec::new(alloc)));
+    }
+    Ok(Bytes::new(object_line(alloc, event, gone, come)?))
+}
+
+/// The object of an event on a line.
+#[tactic(auto, unfolding(text_json::specs::Values::value_line))]
+fn object_line(
+    alloc: Global,
+    event: &Event<'_>,
+    gone: &[&[u8]],
+    come: &[&[u8]],
+) -> Result<Vec<u8>, AllocError>
+    ensures { IfOk result (λ text. text.items
+        ≡ value_line (differences_object event.now (map (λ l. l.now) gone.now) (map (λ l. l.now) come.now))) }
+{
+    let mut writer = Writer::new(Vec::new(alloc));
+    write_object(alloc, &mut writer, event, gone, come)?;
+    let mut text = writer.into_inner();
+    text.push(b'\n')?;
+    Ok(text)
+}
+
+/// Writes the object of an event.
+fn write_object(
+    alloc: Global,
+    writer: &mut Writer,
+    event: &Event<'_>,
+    gone: &[&[u8]],
+    come: &[&[u8]],
+) -> Result<(), AllocError>
+    ensures tokens { OnOk result (writer.new.tokens ≡ writer.old.tokens
+        ++ json_tokens (differences_object event.now (map (λ l. l.now) gone.now) (map (λ l. l.now) come.now))) }
+    ensures before { OnOk result (writer.new.before ≡ writer.old.before) }
+{
+    writer.begin_object()?;
+    write_told(alloc, writer, "event", event.action())?;
+    write_told(alloc, writer, "path", event.device().path())?;
+    write_lines(alloc, writer, "gone", gone)?;
+    write_lines(alloc, writer, "come", come)?;
+    writer.end_object()?;
+    Ok(())
+}
+
+/// Writes a member that is an array of lines.
+fn write_lines(
+    alloc: Global,
+    writer: &mut Writer,
+    key: &str,
+    lines: &[&[u8]],
+) -> Result<(), AllocError>
+    ensures tokens { OnOk result (writer.new.tokens ≡ writer.old.tokens
+        ++ member_tokens ((key.now, array_of (map told (map (λ l. l.now) lines.now))) ∷ [])) }
+    ensures before { OnOk result (writer.new.before ≡ writer.old.before) }
+{
+    writer.key(key)?;
+    writer.begin_array()?;
+    write_each_line(alloc, writer, lines)?;
+    writer.end_array()?;
+    Ok(())
+}
+
+/// Writes lines one after another.
+fn write_each_line(alloc: Global, writer: &mut Writer, lines: &[&[u8]]) -> Result<(), AllocError>
+    ensures tokens { OnOk result (writer.new.tokens ≡ writer.old.tokens ++ value_tokens (map told (map (λ l. l.now) lines.now))) }
+    ensures before { OnOk result (writer.new.before ≡ writer.old.before) }
+{
+    for line in lines {
+        write_told_value(alloc, writer, line)?;
+    }
+    Ok(())
+}

@@ -1,0 +1,3 @@
+pub mod EnvMembers
+mod Sourced
+mod ReadBack

@@ -1,0 +1,228 @@
+//! The whole answer.
+ghost use Rattle.std.specs.Prelude.{◌≡◌, ◌++◌, ◌∷◌, [], codes, map, None, IfOk, OnOk};
+ghost use Rattle.json.specs.Tree.{json_tokens};
+ghost use Rattle.text_json.specs.Listed.{member_tokens};
+ghost use Rattle.text_json.specs.Told.{told};
+ghost use Rattle.text_json.specs.Values.{array_of, object_of, value_line};
+ghost use Rattle.eval_rules.specs.Outcomes.{outcome};
+ghost use Rattle.eval_sources.specs.Sources.{source_in};
+ghost use Rattle.engine_json.specs.Answers.{answer_members, json_answer, plain_object, sourced_object};
+ghost use Rattle.engine_json.specs.Members.{item_members, note_value, run_value, sourced, sourced_runs, why_values};
+
+use crate::items::write_items;
+use crate::shape::{AsIs, Shape};
+use crate::values::{write_notes, write_runs, write_sourced_runs, write_why};
+use builtin_devices::Knowledge;
+use device_core::Event;
+use eval_rules::{Commands, Outcome, evaluate_plain};
+use eval_sources::{Sourced, SourcedCommand, evaluate_sources};
+use eval_state::Notes;
+use json::Writer;
+use rule_types::RuleSet;
+use std::alloc::{AllocError, Global};
+use text_bytes::Bytes;
+use text_json::write_told;
+
+/// Writes what comes before the commands: what happened to which device, and the items.
+fn write_start<S: Shape>(
+    alloc: Global,
+    writer: &mut Writer,
+    shape: &S,
+    event: &Event<'_>,
+    outcome: &Outcome<'_>,
+) -> Result<(), AllocError>
+    ensures tokens { OnOk result (writer.new.tokens ≡ writer.old.tokens
+        ++ member_tokens (((codes "event", told event.now.action) ∷ (codes "path", told event.now.device.path) ∷ [])
+        ++ item_members (S.shape shape.now) event.now.profile outcome.now)) }
+    ensures before { OnOk result (writer.new.before ≡ writer.old.before) }
+{
+    write_told(alloc, writer, "event", event.action())?;
+    write_told(alloc, writer, "path", event.device().path())?;
+    write_items(alloc, writer, shape, event.profile(), outcome)?;
+    Ok(())
+}
+
+/// Writes the member with the commands.
+fn write_run_member(alloc: Global, writer: &mut Writer, runs: &Commands) -> Result<(), AllocError>
+    ensures tokens { OnOk result (writer.new.tokens ≡ writer.old.tokens ++ member_tokens ((codes "run", array_of (map run_value runs.now)) ∷ [])) }
+    ensures before { OnOk result (writer.new.before ≡ writer.old.before) }
+{
+    writer.key("run")?;
+    writer.begin_array()?;
+    write_runs(alloc, writer, runs)?;
+    writer.end_array()?;
+    Ok(())
+}
+
+/// Writes the member with the commands, each with the rule that added it.
+fn write_sourced_run_member(
+    alloc: Global,
+    writer: &mut Writer,
+    commands: &[SourcedCommand<'_>],
+) -> Result<(), AllocError>
+    ensures tokens { OnOk result (writer.new.tokens ≡ writer.old.tokens ++ member_tokens ((codes "run", array_of (sourced_runs commands.now)) ∷ [])) }
+    ensures before { OnOk result (writer.new.before ≡ writer.old.before) }
+{
+    writer.key("run")?;
+    writer.begin_array()?;
+    write_sourced_runs(alloc, writer, commands)?;
+    writer.end_array()?;
+    Ok(())
+}
+
+/// Writes the member with the notes.
+fn write_note_member(alloc: Global, writer: &mut Writer, notes: &Notes) -> Result<(), AllocError>
+    ensures tokens { OnOk result (writer.new.tokens ≡ writer.old.tokens ++ member_tokens ((codes "notes", array_of (map note_value notes.now)) ∷ [])) }
+    ensures before { OnOk result (writer.new.before ≡ writer.old.before) }
+{
+    writer.key("notes")?;
+    writer.begin_array()?;
+    write_notes(alloc, writer, notes)?;
+    writer.end_array()?;
+    Ok(())
+}
+
+/// Writes the member with the lines of `--why`.
+fn write_why_member(alloc: Global, writer: &mut Writer, why: &[u8]) -> Result<(), AllocError>
+    ensures tokens { OnOk result (writer.new.tokens ≡ writer.old.tokens ++ member_tokens ((codes "why", array_of (why_values why.now)) ∷ [])) }
+    ensures before { OnOk result (writer.new.before ≡ writer.old.before) }
+{
+    writer.key("why")?;
+    writer.begin_array()?;
+    write_why(alloc, writer, why)?;
+    writer.end_array()?;
+    Ok(())
+}
+
+/// Writes the object of an event with its outcome.
+fn write_plain(
+    alloc: Global,
+    writer: &mut Writer,
+    why: &[u8],
+    event: &Event<'_>,
+    outcome: &Outcome<'_>,
+) -> Result<(), AllocError>
+    ensures tokens { OnOk result (writer.new.tokens ≡ writer.old.tokens ++ json_tokens (plain_object why.now event.now outcome.now)) }
+    ensures before { OnOk result (writer.new.before ≡ writer.old.before) }
+{
+    writer.begin_object()?;
+    write_start(alloc, writer, &AsIs, event, outcome)?;
+    write_run_member(alloc, writer, &outcome.runs)?;
+    write_note_member(alloc, writer, &outcome.notes)?;
+    write_why_member(alloc, writer, why)?;
+    writer.end_object()?;
+    Ok(())
+}
+
+/// The line of an event with its outcome.
+#[tactic(auto, unfolding(text_json::specs::Values::value_line))]
+fn plain_line(
+    alloc: Global,
+    why: &[u8],
+    event: &Event<'_>,
+    outcome: &Outcome<'_>,
+) -> Result<Vec<u8>, AllocError>
+    ensures { IfOk result (λ text. text.items ≡ value_line (plain_object why.now event.now outcome.now)) }
+{
+    let mut writer = Writer::new(Vec::new(alloc));
+    write_plain(alloc, &mut writer, why, event, outcome)?;
+    let mut text = writer.into_inner();
+    text.push(b'\n')?;
+    Ok(text)
+}
+
+/// Writes the object of an event with its outcome, each value with where it comes from.
+fn write_sourced(
+    alloc: Global,
+    writer: &mut Writer,
+    why: &[u8],
+    event: &Event<'_>,
+    found: &Sourced<'_>,
+) -> Result<(), AllocError>
+    ensures tokens { OnOk result (writer.new.tokens ≡ writer.old.tokens ++ json_tokens (object_of (answer_members
+        (λ item value. sourced (source_in found.now.sources None item) value) (sourced_runs found.now.commands.items) why.now event.now found.now.outcome))) }
+    ensures before { OnOk result (writer.new.before ≡ writer.old.before) }
+{
+    let outcome = &found.outcome;
+    writer.begin_object()?;
+    write_start(alloc, writer, &found.sources, event, outcome)?;
+    write_sourced_run_member(alloc, writer, &found.commands)?;
+    write_note_member(alloc, writer, &outcome.notes)?;
+    write_why_member(alloc, writer, why)?;
+    writer.end_object()?;
+    Ok(())
+}
+
+/// The line of an event with its outcome, each value with where it comes from.
+#[tactic(auto, unfolding(text_json::specs::Values::value_line))]
+fn sourced_line(
+    alloc: Global,
+    why: &[u8],
+    event: &Event<'_>,
+    found: &Sourced<'_>,
+) -> Result<Vec<u8>, AllocError>
+    ensures { IfOk result (λ text. text.items ≡ value_line (object_of (answer_members
+        (λ item value. sourced (source_in found.now.sources None item) value) (sourced_runs found.now.commands.items) why.now event.now found.now.outcome))) }
+{
+    let mut writer = Writer::new(Vec::new(alloc));
+    write_sourced(alloc, &mut writer, why, event, found)?;
+    let mut text = writer.into_inner();
+    text.push(b'\n')?;
+    Ok(text)
+}
+
+/// The line of an event by the rules as they are read, each value with where it comes from.
+fn sourced_answer<'a, K: Knowledge>(
+    alloc: Global,
+    why: &[u8],
+    rules: &'a RuleSet,
+    event: &'a Event<'_>,
+    knowledge: &K,
+) -> Result<Vec<u8>, AllocError>
+    ensures { IfOk result (λ text. text.items ≡ value_line (sourced_object why.now rules.now (K.known knowledge.now) event.now)) }
+{
+    let found = evaluate_sources(alloc, rules, event, knowledge)?;
+    let said = sourced_line(alloc, why, event, &found);
+    drop(found);
+    said
+}
+
+/// The line of an event by the rules as they are read.
+fn plain_answer<K: Knowledge>(
+    alloc: Global,
+    why: &[u8],
+    rules: &RuleSet,
+    event: &Event<'_>,
+    knowledge: &K,
+) -> Result<Vec<u8>, AllocError>
+    ensures { IfOk result (λ text. text.items ≡ value_line (plain_object why.now event.now (outcome rules.now (K.known knowledge.now) event.now))) }
+{
+    let outcome = evaluate_plain(alloc, rules, event, knowledge)?;
+    let said = plain_line(alloc, why, event, &outcome);
+    drop(outcome);
+    said
+}
+
+/// The answer to an event by the rules as they are read, as an object of JSON on one line. Its members are `event`, `path`,
+/// `name`, `owner`, `group`, `mode`, `priority`, `watch`, `persist`, `labels`, `links`, `tags`, `env`, `attr`, `sysctl`,
+/// `run`, `notes` and `why`, in this order; up to `persist` only those that were assigned, and the others always. `why` are
+/// the lines of `--why`. With `sources` each value of an item and each command is the member `value` of an object that has
+/// the `file` and the `line` of its rule, if it comes from one.
+pub fn json_answer<K: Knowledge>(
+    alloc: Global,
+    sources: bool,
+    why: &[u8],
+    rules: &RuleSet,
+    event: &Event<'_>,
+    knowledge: &K,
+) -> Result<Bytes, AllocError>
+    ensures { IfOk result (λ text. text ≡ json_answer sources why.now rules.now (K.known knowledge.now) event.now) }
+{
+    if sources {
+        let text = sourced_answer(alloc, why, rules, event, knowledge)?;
+        Ok(Bytes::new(text))
+    } else {
+        let text = plain_answer(alloc, why, rules, event, knowledge)?;
+        Ok(Bytes::new(text))
+    }
+}

@@ -1,0 +1,3 @@
+pub mod Listed
+mod ReadBack
+mod Utf8

@@ -39,7 +39,7 @@ RUNS = [
     ("a list that is a link to nothing is no list", "verify --strict -r mnt", {"mnt/etc/passwd": Link("none"), NAMED: OWNED}, GOOD, "", 0),
     ("a list that is a pipe is not waited for", "verify --strict -r mnt", {"mnt/etc/passwd": PIPE, NAMED: OWNED}, "", "devdry: cannot read mnt/etc/passwd\n", 3),
     ("a named file and the lists of a root", "verify --strict -r mnt a.rules", {**LISTS, "a.rules": STRANGE}, BAD,
-     "a.rules:1: V25 unknown user or group: jonh\na.rules:1: V25 unknown user or group: stuff\n", 1),
+     "devdry: mnt: its rules are not read beside a FILE that is named: --with FILE reads FILE among them\na.rules:1: V25 unknown user or group: jonh\na.rules:1: V25 unknown user or group: stuff\n", 1),
     ("a strict update reads no lists", "update -s -r mnt", {"mnt/etc/passwd": PIPE}, EMPTY_INDEX, "", 0),
     ("an empty root", ["verify", "--strict", "-r", ""], {}, "", Begins(b"error: an empty value of '--root <DIR>' names no folder\n"), 2),
 ]

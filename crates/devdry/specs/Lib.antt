@@ -1,3 +1,4 @@
+pub mod Noting
 pub mod PartialRuns
 pub mod Reading
 pub mod Knowing

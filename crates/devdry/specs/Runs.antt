@@ -10,6 +10,7 @@ use Rattle.engine_ends.specs.Streams.{Streams, outputs}
 use Rattle.engine_core.specs.Runs.{RunsOver}
 use Rattle.devdry_files.specs.Answers.{Answer}
 use Rattle.devdry_files.specs.Answers.Answer.{Content}
+use Rattle.devdry_files.specs.declared.fault.ReadFault.{ReadFault}
 use Rattle.devdry_folders.specs.declared.reading.Report.{Report}
 use Rattle.devdry_link_checks.specs.Running.{ChecksLinks}
 use Rattle.devdry_words.specs.Commands.{devdry}
@@ -18,25 +19,39 @@ use Rattle.devdry_words.specs.Options.{options_in, with_options}
 use Rattle.devdry_words.specs.Requests.{IsRequestOf}
 use Rattle.devdry.specs.Comparing.{ComparesLines}
 use Rattle.devdry.specs.Linking.{ReadsRequest, RunsReported, is_events}
+use Rattle.devdry.specs.Noting.{AreNotesOf, IsHintOn}
 use Rattle.devdry.specs.Options.{DoesByFile, IsFaultAt}
-use Rattle.devdry.specs.PartialRuns.{IsRefusedToRead, ListsFiles, RunsAfter, RunsSome}
+use Rattle.devdry.specs.PartialRuns.{IsRefusedToRead, ListsFiles, RunsAfter, RunsNoted, RunsSome}
 use Rattle.devdry.specs.Knowing.{IsFaultOfAccounts, KnowsAccounts}
 use Rattle.devdry.specs.Reading.{AreReadFor, FailsAt, IsFaultOf}
 use Rattle.devdry.specs.Reporting.{ReportsLineFault}
 use Rattle.devdry.specs.Terminals.{shown_request}
 use Rattle.devdry.specs.declared.terminals.Terminals.{Terminals}
 
+-- What there is to tell about these files is told, and the line is run over them, the index and the input.
+pub record RunsRead (may : Answer → Type 0) (line : Line) (files : List SourceFile) (index : Option (List ℕ)) (status : ℕ) (before now : Streams) : Type 0 where
+  pub notes : List ℕ
+  pub are_notes : AreNotesOf may line files notes
+  pub over : RunsNoted notes (RunsOver line files index) status before now
+
 -- What the line asks for was read, and the line is run over that and the input.
 pub record RunsOverFiles (may : Answer → Type 0) (line : Line) (status : ℕ) (before now : Streams) : Type 0 where
   pub files : List SourceFile
   pub index : Option (List ℕ)
   pub are_read : AreReadFor may line files index
-  pub over : RunsOver line files index status before now
+  pub runs : RunsRead may line files index status before now
+
+-- Something that the line asks for could not be read, and that is reported, after a hint on it if there is one.
+pub record FailsWanted (may : Answer → Type 0) (line : Line) (status : ℕ) (before now : Streams) : Type 0 where
+  pub fault : ReadFault
+  pub is_fault : IsFaultOf may line fault
+  pub hint : List ℕ
+  pub is_hint : IsHintOn may line fault hint
+  pub fails : RunsNoted hint (FailsAt (λ f. f ≡ fault)) status before now
 
 -- what a line that ends at what can't be read does
 abbrev pub RunsWanted : (Answer → Type 0) → Line → ℕ → Streams → Streams → Type 0
-RunsWanted may line status before now =
-    RunsOverFiles may line status before now ⊎ FailsAt (IsFaultOf may line) status before now
+RunsWanted may line status before now = RunsOverFiles may line status before now ⊎ FailsWanted may line status before now
 
 -- what a line does, by whether it goes on after what can't be read
 abbrev pub RunsBy : Bool → (Answer → Type 0) → Line → ℕ → Streams → Streams → Type 0

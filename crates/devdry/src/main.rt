@@ -10,6 +10,7 @@ ghost use Rattle.std.specs.Prelude.{◌≡◌, drop};
 mod comparing;
 mod knowing;
 mod linking;
+mod noting;
 mod options;
 mod partial_runs;
 mod reporting;

@@ -2,16 +2,16 @@
 //!
 //! What is reported for the reading is written first. Then the run is like any other, and its status is at least
 //! the one that the reading asks for.
+ghost use Rattle.std.specs.Prelude.{◌⊎◌};
 ghost use Rattle.engine_core.specs.Runs.{RunsOver};
 ghost use Rattle.engine_ends.specs.Sources.{SourceState};
-ghost use Rattle.devdry.specs.PartialRuns.{DeliversLines, ListsFiles, RunsAfter, RunsSome};
+ghost use Rattle.devdry.specs.PartialRuns.{DeliversLines, IsRefusedToRead, ListsFiles, RunsAfter, RunsNoted, RunsSome, TellsSome};
 
+use crate::noting::{notes_on, serve_noted};
 use devdry_files::Disk;
 use devdry_folders::{Listed, ReadSome, list_files, read_what_can};
-use engine_core::serve;
 use engine_ends::{DeviceFault, Line, Sink, Source, deliver, hand_on, report_out_of_memory};
 use std::alloc::Global;
-use text_bytes::Bytes;
 
 /// Runs a line over what can be read of all that it asks for.
 pub(crate) fn run_some<D: Disk, I: Source, W: Sink, E: Sink>(
@@ -27,21 +27,46 @@ pub(crate) fn run_some<D: Disk, I: Source, W: Sink, E: Sink>(
         (record { input = I.shown input.new; out = W.shown output.new; err = E.shown error.new }) }
 {
     match read_what_can(alloc, disk, line) {
-        Ok(some) => run_over(alloc, line, some, input, output, error),
+        Ok(some) => run_told(alloc, disk, line, some, input, output, error),
         Err(_) => report_out_of_memory(error),
     }
 }
 
-/// Reports what could not be read, and runs a line over what could.
-fn run_over<I: Source, W: Sink, E: Sink>(
+/// Reports what could not be read, tells what there is to tell about what could, and runs a line over that.
+fn run_told<D: Disk, I: Source, W: Sink, E: Sink>(
     alloc: Global,
+    disk: &D,
     line: &Line<'_>,
     some: ReadSome,
     input: &mut I,
     output: &mut W,
     error: &mut E,
 ) -> u8
-    ensures { RunsAfter some.report.lines.items some.report.least (RunsOver line.now some.files.items some.index) result
+    ensures { TellsSome (D.may_answer disk.now) line.now some result
+        (record { input = I.shown input.old; out = W.shown output.old; err = E.shown error.old })
+        (record { input = I.shown input.new; out = W.shown output.new; err = E.shown error.new })
+        ⊎ IsRefusedToRead result
+        (record { input = I.shown input.old; out = W.shown output.old; err = E.shown error.old })
+        (record { input = I.shown input.new; out = W.shown output.new; err = E.shown error.new }) }
+{
+    match notes_on(alloc, disk, line, &some.files) {
+        Ok(notes) => run_over(alloc, line, some, &notes, input, output, error),
+        Err(_) => report_out_of_memory(error),
+    }
+}
+
+/// Reports what could not be read, writes notes, and runs a line over what could be read.
+fn run_over<I: Source, W: Sink, E: Sink>(
+    alloc: Global,
+    line: &Line<'_>,
+    some: ReadSome,
+    notes: &[u8],
+    input: &mut I,
+    output: &mut W,
+    error: &mut E,
+) -> u8
+    ensures { RunsAfter some.report.lines.items some.report.least
+        (RunsNoted notes.now (RunsOver line.now some.files.items some.index)) result
         (record { input = I.shown input.old; out = W.shown output.old; err = E.shown error.old })
         (record { input = I.shown input.new; out = W.shown output.new; err = E.shown error.new }) }
 {
@@ -52,8 +77,7 @@ fn run_over<I: Source, W: Sink, E: Sink>(
     } = some;
     match hand_on(error, &report.lines) {
         Ok(()) => {
-            let index = index.as_ref().map(Bytes::as_slice);
-            let own = serve(alloc, line, files, index, input, output, error);
+            let own = serve_noted(alloc, line, files, index, notes, input, output, error);
             own.max(report.least)
         }
         Err(DeviceFault) => 3,

@@ -1,18 +1,21 @@
 //! The way from words to a status.
-ghost use Rattle.std.specs.Prelude.{◌≡◌, ◌&&◌, IfErr, IfOk, map, string_bytes};
+ghost use Rattle.std.specs.Prelude.{◌≡◌, ◌&&◌, ◌⊎◌, IfErr, IfOk, map, string_bytes};
+ghost use Rattle.engine_ends.specs.Sinks.{SinkState};
+ghost use Rattle.engine_ends.specs.Sources.{SourceState};
+ghost use Rattle.devdry.specs.PartialRuns.{IsRefusedToRead};
 ghost use Rattle.devdry.specs.Reading.{AreReadFor, IsFaultOf};
-ghost use Rattle.devdry.specs.Runs.{DoesAfter, DoesRequest, RunsAlone, RunsBy, RunsLine, RunsWanted, takes_blocks};
+ghost use Rattle.devdry.specs.Runs.{DoesAfter, DoesRequest, FailsWanted, RunsAlone, RunsBy, RunsLine, RunsRead, RunsWanted, takes_blocks};
 
 use crate::comparing::run_compare;
 use crate::knowing::run_knowing;
+use crate::noting::{fail_noted, hint_on, notes_on, serve_noted};
 use crate::partial_runs::{run_files, run_some};
-use crate::reporting::{report_line_fault, report_read_fault};
+use crate::reporting::report_line_fault;
 use crate::terminals::{Terminals, shown_request};
 use devdry_files::{Disk, ReadFault, read_all, read_index, wanted};
 use devdry_link_checks::run_link_checks;
 use devdry_words::parse_line;
-use engine_core::serve;
-use engine_ends::{DeviceFault, Line, Request, Sink, Source, Verb, hand_on};
+use engine_ends::{DeviceFault, Line, Request, Sink, Source, Verb, hand_on, report_out_of_memory};
 use std::alloc::Global;
 use text_bytes::{Bytes, SourceFile};
 
@@ -166,11 +169,53 @@ fn run_wanted<D: Disk, I: Source, W: Sink, E: Sink>(
         (record { input = I.shown input.new; out = W.shown output.new; err = E.shown error.new }) }
 {
     match read_wanted(alloc, disk, line) {
-        Ok(Inputs { files, index }) => {
-            let index = index.as_ref().map(Bytes::as_slice);
-            serve(alloc, line, files, index, input, output, error)
-        }
-        Err(fault) => report_read_fault(&fault, error),
+        Ok(inputs) => run_read(alloc, disk, line, inputs, input, output, error),
+        Err(fault) => fail_wanted(alloc, disk, line, &fault, error),
+    }
+}
+
+/// Reports which of what a line asks for could not be read, after a hint on it if there is one. If memory runs out for
+/// the hint, only that is reported.
+fn fail_wanted<D: Disk, E: Sink>(
+    alloc: Global,
+    disk: &D,
+    line: &Line<'_>,
+    fault: &ReadFault,
+    error: &mut E,
+) -> u8
+    requires { IsFaultOf (D.may_answer disk.now) line.now fault.now }
+    ensures { (input : SourceState) (out : SinkState) → FailsWanted (D.may_answer disk.now) line.now result
+        (record { input = input; out = out; err = E.shown error.old })
+        (record { input = input; out = out; err = E.shown error.new }) }
+{
+    match hint_on(alloc, disk, line, fault) {
+        Ok(hint) => fail_noted(&hint, fault, error),
+        Err(_) => report_out_of_memory(error),
+    }
+}
+
+/// Tells what there is to tell about what was read for a line, and runs the line over it. If memory runs out for that, only
+/// this is reported.
+fn run_read<D: Disk, I: Source, W: Sink, E: Sink>(
+    alloc: Global,
+    disk: &D,
+    line: &Line<'_>,
+    inputs: Inputs,
+    input: &mut I,
+    output: &mut W,
+    error: &mut E,
+) -> u8
+    ensures { RunsRead (D.may_answer disk.now) line.now inputs.files.items inputs.index result
+        (record { input = I.shown input.old; out = W.shown output.old; err = E.shown error.old })
+        (record { input = I.shown input.new; out = W.shown output.new; err = E.shown error.new })
+        ⊎ IsRefusedToRead result
+        (record { input = I.shown input.old; out = W.shown output.old; err = E.shown error.old })
+        (record { input = I.shown input.new; out = W.shown output.new; err = E.shown error.new }) }
+{
+    let Inputs { files, index } = inputs;
+    match notes_on(alloc, disk, line, &files) {
+        Ok(notes) => serve_noted(alloc, line, files, index, &notes, input, output, error),
+        Err(_) => report_out_of_memory(error),
     }
 }
 

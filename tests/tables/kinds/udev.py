@@ -13,9 +13,10 @@ MESSAGE = re.compile(rb"r\.rules:(\d+): ([A-Z]+\d+) ")
 
 
 def codes_in(reported):
-    """The codes of messages, each once for a line, in the order of lines and codes."""
+    """The codes of messages, each once for a line, in the order of lines and codes; notes on the file have none."""
+    lines = [line for line in reported.splitlines() if not line.startswith(b"devdry: r.rules:")]
     found = {(int(line), code.decode()) for line, code in MESSAGE.findall(reported)}
-    if len(MESSAGE.findall(reported)) != len(reported.splitlines()):
+    if len(MESSAGE.findall(reported)) != len(lines):
         raise ValueError("a line is no message")
     return sorted(found)
 

@@ -1,20 +1,19 @@
-use Rattle.std.proofs.Common.{◌≡◌, inl, inr, refl, rules, subst}
-use Rattle.std.specs.Option.{option_map}
-use Rattle.engine_core.specs.Runs.{RunsOver}
+use Rattle.std.proofs.Common.{[], inl, inr, refl}
+use Rattle.devdry_files.specs.declared.fault.ReadFault.TheVariants.{Memory}
 use Rattle.devdry.proofs.running.run_wanted.Goals as goal
 
 pub returns-in-Ok : goal.returns-in-Ok
 returns-in-Ok g c =
-    let inputs = c.in-Ok.field-0 in
-    let borrowed : option_map (λ bytes. bytes.now) c.map-index.result ≡ inputs.index = search rules in
-    inl (record {
-      files = inputs.files.items;
-      index = inputs.index;
-      are_read = c.in-Ok.ensures.inputs;
-      over = subst (λ index. RunsOver c.args.line.now inputs.files.items index c.serve.result
-          (record { input = g.I.Source.shown c.args.input.now; out = g.W.Sink.shown c.args.output.now; err = g.E.Sink.shown c.args.error.now })
-          (record { input = g.I.Source.shown c.serve.new.input; out = g.W.Sink.shown c.serve.new.output; err = g.E.Sink.shown c.serve.new.error })) borrowed c.serve.ensures.runs;
-    })
+    elim c.run_read.ensures [
+      | inl runs ↦ inl (record { files = c.in-Ok.inputs.files.items; index = c.in-Ok.inputs.index; are_read = c.in-Ok.ensures.inputs; runs = runs })
+      | inr refused ↦ inr (record {
+        fault = Memory;
+        is_fault = inl refl;
+        hint = [];
+        is_hint = refl;
+        fails = record { fault = Memory; is_fault = refl; reports = refused.refused.line; unread = refused.unread; untouched = refused.refused.untouched };
+      })
+    ]
 
 pub returns-in-Err : goal.returns-in-Err
-returns-in-Err g c = inr (record { fault = c.in-Err.fault; is_fault = c.in-Err.ensures.fault; reports = c.report_read_fault.ensures; unread = refl; untouched = refl })
+returns-in-Err g c = inr (c.fail_wanted.ensures (g.I.Source.shown c.args.input.now) (g.W.Sink.shown c.args.output.now))

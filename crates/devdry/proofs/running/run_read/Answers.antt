@@ -1,0 +1,5 @@
+use Rattle.std.proofs.Common.{inl}
+use Rattle.devdry.proofs.running.run_read.Goals as goal
+
+pub returns-in-Ok : goal.returns-in-Ok
+returns-in-Ok g c = inl (record { notes = c.in-Ok.notes.items; are_notes = c.in-Ok.ensures; over = c.serve_noted.ensures })

@@ -18,9 +18,9 @@ use Rattle.engine_ends.specs.declared.line.Color.TheVariants.{Auto, Always, Neve
 use Rattle.engine_ends.specs.declared.line.Format.{Format}
 use Rattle.engine_ends.specs.declared.line.Format.TheVariants.{Plain, Gcc, Github, Gitlab, Json, Sarif, Human, HumanInColor}
 use Rattle.devdry_words.specs.declared.refusals.Refusal.{Refusal}
-use Rattle.devdry_words.specs.declared.refusals.Refusal.TheVariants.{TwoDatabases, LinksAsRules, AddedToNamed, AddedToIndex, TwoAnswers, LinesBesideJson, EmptyRoot, EmptySide, NoUdev, UnknownFormat, NoAnswerFormat, UnknownColor, UnknownPart, NotRules, NotFile}
+use Rattle.devdry_words.specs.declared.refusals.Refusal.TheVariants.{TwoDatabases, LinksAsRules, AddedToNamed, AddedToIndex, TwoAnswers, LinesBesideJson, InputTwice, UnreadInput, EmptyRoot, EmptySide, NoUdev, UnknownFormat, NoAnswerFormat, UnknownColor, UnknownPart, NotRules, NotFile}
 use Rattle.engine_ends.specs.declared.line.Verb.TheVariants.{Update, Verify, Events}
-use Rattle.devdry_words.specs.Lines.{asks_every, class_codes, codes_with, color_name, color_named, color_of, format_name, format_named, format_of, is_set_or_every, profile_of}
+use Rattle.devdry_words.specs.Lines.{asks_every, class_codes, codes_with, color_name, color_named, color_of, files_of, format_name, format_named, format_of, is_set_or_every, profile_of}
 use Rattle.text_bytes.specs.Texts.{split_once}
 use Rattle.text_bytes.specs.declared.profile.Profile.{Profile}
 use Rattle.text_bytes.specs.declared.profile.Profile.TheVariants.{Manual, Udev}
@@ -236,6 +236,27 @@ links_of_a_strict_run_are_refused = refl
 links_with_groups_are_refused : refused (codes "verify" ∷ codes "--links" ∷ codes "--groups=group" ∷ []) ≡ Some (Some LinksAsRules)
 unfolding clap_on_literals devdry
 links_with_groups_are_refused = refl
+
+blocks_beside_the_input_as_rules_are_refused : refused (codes "events" ∷ codes "a.rules" ∷ codes "-" ∷ []) ≡ Some (Some InputTwice)
+unfolding clap_on_literals devdry
+blocks_beside_the_input_as_rules_are_refused = refl
+
+modaliases_beside_the_input_as_database_are_refused : refused (codes "query" ∷ codes "-" ∷ codes "-" ∷ []) ≡ Some (Some InputTwice)
+unfolding clap_on_literals devdry
+modaliases_beside_the_input_as_database_are_refused = refl
+
+a_name_of_the_input_without_it_is_refused : refused (codes "verify" ∷ codes "--stdin-name=a.rules" ∷ codes "./-" ∷ []) ≡ Some (Some UnreadInput)
+unfolding clap_on_literals devdry
+a_name_of_the_input_without_it_is_refused = refl
+
+the_input_with_a_name_is_taken : refused (codes "verify" ∷ codes "--stdin-name=a.rules" ∷ codes "-" ∷ []) ≡ Some None
+unfolding clap_on_literals devdry
+the_input_with_a_name_is_taken = refl
+
+files_have_their_names : option_map {U = List Text} (λ p. files_of p.1) (subcommand_of devdry (codes "verify" ∷ codes "--stdin-name=a.rules" ∷ codes "b.rules" ∷ codes "-" ∷ codes "./-" ∷ []))
+    ≡ Some (codes "b.rules" ∷ codes "a.rules" ∷ codes "./-" ∷ [])
+unfolding clap_on_literals devdry
+files_have_their_names = refl
 
 questions_alone_are_taken : refused (codes "events" ∷ codes "--questions" ∷ codes "--udev" ∷ []) ≡ Some None
 unfolding clap_on_literals devdry

@@ -40,25 +40,26 @@ files_rule = record (new_rule (codes "FILE")) { action = Some Append }
 abbrev pub with_rules : Text → List Rule → Shape
 with_rules name rules = record (new_shape name) { rules = rules }
 
--- `update [--options FILE] [-r DIR] [-s] [--all] [--format FORMAT] [--color WHEN] [--ignore CODES].. [--lint] [FILE]..`
+-- `update [--options FILE] [-r DIR] [-s] [--all] [--format FORMAT] [--color WHEN] [--ignore CODES].. [--lint] [--stdin-name PATH]
+-- [FILE]..`
 abbrev pub update_shape : Shape
 update_shape = with_rules (codes "update")
     (option_rule (codes "options") ∷ root_rule ∷ strict_rule ∷ flag_rule (codes "all") ∷ option_rule (codes "format") ∷ option_rule (codes "color")
-    ∷ repeated_rule (codes "ignore") ∷ flag_rule (codes "lint") ∷ files_rule ∷ [])
+    ∷ repeated_rule (codes "ignore") ∷ flag_rule (codes "lint") ∷ option_rule (codes "stdin-name") ∷ files_rule ∷ [])
 
--- `query [--options FILE] [-r DIR] [--all] [--sources] [--index FILE] MODALIAS [FILE]..`
+-- `query [--options FILE] [-r DIR] [--all] [--sources] [--index FILE] [--stdin-name PATH] MODALIAS [FILE]..`
 abbrev pub query_shape : Shape
 query_shape = with_rules (codes "query")
     (option_rule (codes "options") ∷ root_rule ∷ flag_rule (codes "all") ∷ flag_rule (codes "sources") ∷ option_rule (codes "index")
-    ∷ required_rule (codes "MODALIAS") ∷ files_rule ∷ [])
+    ∷ option_rule (codes "stdin-name") ∷ required_rule (codes "MODALIAS") ∷ files_rule ∷ [])
 
 -- `verify [--options FILE] [-r DIR] [--with FILE].. [-s] [--all] [--format FORMAT] [--color WHEN] [--ignore CODES].. [--no-summary] [--no-style] [--lint]
--- [--links] [--udev] [--users FILE] [--groups FILE] [FILE]..`
+-- [--links] [--udev] [--users FILE] [--groups FILE] [--stdin-name PATH] [FILE]..`
 abbrev pub verify_shape : Shape
 verify_shape = with_rules (codes "verify")
     (option_rule (codes "options") ∷ root_rule ∷ added_rule ∷ strict_rule ∷ flag_rule (codes "all") ∷ option_rule (codes "format") ∷ option_rule (codes "color")
     ∷ repeated_rule (codes "ignore") ∷ flag_rule (codes "no-summary") ∷ flag_rule (codes "no-style") ∷ flag_rule (codes "lint") ∷ flag_rule (codes "links")
-    ∷ flag_rule (codes "udev") ∷ option_rule (codes "users") ∷ option_rule (codes "groups") ∷ files_rule ∷ [])
+    ∷ flag_rule (codes "udev") ∷ option_rule (codes "users") ∷ option_rule (codes "groups") ∷ option_rule (codes "stdin-name") ∷ files_rule ∷ [])
 
 -- `events [--options FILE] [-r DIR] [--with FILE].. [--all] [--format FORMAT] [--sources] [--why FILE[:LINE]].. [--unused] [--questions] [--index FILE]
 -- [--udev] [FILE]..`

@@ -63,6 +63,18 @@ color_of rows = option_map_or color_named (first_of (codes "color") rows) (Some 
 abbrev pub input_name_of : List Row → Text
 input_name_of rows = unwrap_or (first_of (codes "stdin-name") rows) (codes "-")
 
+-- a FILE is the standard input
+abbrev pub is_input : Text → Bool
+is_input file = bytes_eq file (codes "-")
+
+-- a FILE by its name: that of the standard input is given to it
+abbrev pub file_named : (input_name file : Text) → Text
+file_named input_name file = if is_input file then input_name else file
+
+-- the files that are named, each by its name
+abbrev pub files_of : List Row → List Text
+files_of rows = map (file_named (input_name_of rows)) (texts_of (codes "FILE") rows)
+
 -- whether a verb is `verify`
 abbrev pub is_verify : Verb → Bool
 is_verify Verify = true
@@ -111,7 +123,7 @@ codes_named part = unwrap_or (class_codes part) (part ∷ [])
 pub record Reads (verb : Verb) (root : Text) (added : List Text) (rows : List Row) (line : Line) : Type 0 where
   pub verb_is : line.verb ≡ verb
   pub root_is : line.root.now ≡ root
-  pub files : map (λ f. f.now) line.files.items ≡ texts_of (codes "FILE") rows
+  pub files : map (λ f. f.now) line.files.items ≡ files_of rows
   pub added_are : map (λ f. f.now) line.added.items ≡ added
   pub input_name : line.input_name.now ≡ input_name_of rows
   pub index : option_map (λ i. i.now) line.index ≡ first_of (codes "index") rows

@@ -1,7 +1,7 @@
 -- Which of the words that clap takes `devdry` itself refuses, and what it says about them.
 use Rattle.std.specs.Prelude.{◌&&◌, ◌||◌, ◌++◌, List, [], ◌∷◌, Bool, Option, Some, None, if◌then◌else◌, find, flat_map, is_some, map, nat_eq, not}
 use Rattle.std.specs.Prelude.{option_map_or, unwrap_or, codes, false, true}
-use Rattle.std.specs.List.{ends_with}
+use Rattle.std.specs.List.{ends_with, list_any}
 use Rattle.std.specs.Option.{is_none}
 use Rattle.std.specs.Str.{bytes_eq}
 use Rattle.clap.specs.Words.{Row, Text, first_of}
@@ -12,10 +12,22 @@ use Rattle.engine_ends.specs.declared.line.Format.TheVariants.{Plain, Json}
 use Rattle.engine_formats.specs.Codes.{remark_of, remarks}
 use Rattle.engine_formats.specs.Remarks.{code_of}
 use Rattle.devdry_words.specs.declared.refusals.Refusal.{Refusal}
-use Rattle.devdry_words.specs.declared.refusals.Refusal.TheVariants.{TwoDatabases, LinksAsRules, AddedToNamed, AddedToIndex, TwoAnswers, LinesBesideJson}
+use Rattle.devdry_words.specs.declared.refusals.Refusal.TheVariants.{TwoDatabases, LinksAsRules, AddedToNamed, AddedToIndex, TwoAnswers, LinesBesideJson, InputTwice, UnreadInput}
 use Rattle.devdry_words.specs.declared.refusals.Refusal.TheVariants.{EmptyRoot, EmptySide, NoUdev, UnknownFormat, NoAnswerFormat, UnknownColor, UnknownPart, NotRules, NotFile}
-use Rattle.devdry_words.specs.Lines.{class_codes, color_of, format_of}
+use Rattle.devdry_words.specs.Lines.{class_codes, color_of, format_of, is_input}
 use Rattle.devdry_words.specs.Values.{cut_at_commas, has_value, is_empty_text, is_set, text_of, texts_of}
+
+-- the standard input is named as a file
+abbrev pub names_input : List Row → Bool
+names_input rows = list_any is_input (texts_of (codes "FILE") rows)
+
+-- the standard input is named as a file, and something else is read from it: the blocks of `events`, or modaliases
+abbrev pub reads_twice : Text → List Row → Bool
+reads_twice name rows = names_input rows && (bytes_eq name (codes "events") || is_input (text_of (codes "MODALIAS") rows))
+
+-- the standard input has a name as a file, and is not named as one
+abbrev pub lacks_input : List Row → Bool
+lacks_input rows = is_some (first_of (codes "stdin-name") rows) && not (names_input rows)
 
 -- a query names two databases: files and an index
 abbrev pub names_two : Text → List Row → Bool
@@ -130,9 +142,11 @@ refusal_of name rows = if names_two name rows then Some TwoDatabases
     else (if adds_to_named rows then Some AddedToNamed
     else (if asks_both rows then Some TwoAnswers
     else (if breaks_json rows then Some LinesBesideJson
+    else (if reads_twice name rows then Some InputTwice
+    else (if lacks_input rows then Some UnreadInput
     else (if lacks_root name rows then Some EmptyRoot
     else (if lacks_side rows then Some EmptySide
-    else (if lacks_udev name rows then Some NoUdev else unknown_value name rows)))))))
+    else (if lacks_udev name rows then Some NoUdev else unknown_value name rows)))))))))
 
 -- what is said about a value that its argument does not take, by what comes before and after the value
 abbrev pub invalid_value : Text → Text → Text
@@ -180,6 +194,8 @@ said_of AddedToNamed rows = codes "error: the argument '--with <FILE>' cannot be
 said_of AddedToIndex rows = codes "error: the argument '--with <FILE>' cannot add to the database with '--index <FILE>'\n\nFor more information, try '--help'.\n"
 said_of TwoAnswers rows = codes "error: the argument '--questions' cannot be used with '--sources', '--why <FILE[:LINE]>' or '--unused'\n\nUsage: devdry events --questions [FILE]...\n\nFor more information, try '--help'.\n"
 said_of LinesBesideJson rows = codes "error: the argument '--format=json' cannot be used with '--unused' or '--questions'\n\nUsage: devdry events --format=json [FILE]...\n\nFor more information, try '--help'.\n"
+said_of InputTwice rows = codes "error: '-' can't be '[FILE]...' where the standard input has event blocks or modaliases\n\nFor more information, try '--help'.\n"
+said_of UnreadInput rows = codes "error: the argument '--stdin-name <PATH>' needs '-' as '[FILE]...'\n\nFor more information, try '--help'.\n"
 said_of EmptyRoot rows = codes "error: an empty value of '--root <DIR>' names no folder\n\nFor more information, try '--help'.\n"
 said_of EmptySide rows = codes "error: an empty value of '<OLD>' or '<NEW>' names no folder; '/' is that of the running system\n\nFor more information, try '--help'.\n"
 said_of NoUdev rows = codes "error: the arguments '--users <FILE>' and '--groups <FILE>' need '--udev' or '--strict'\n\nUsage: devdry verify --udev --users <FILE> --groups <FILE> [FILE]...\n\nFor more information, try '--help'.\n"

@@ -15,6 +15,7 @@ use crate::arguments::{
     strict_flag, udev_flag, unused_flag, users_option, why_option,
 };
 use crate::endings;
+use crate::piped::input_name_option;
 use clap::Command;
 use std::alloc::{AllocError, Global};
 
@@ -74,6 +75,7 @@ fn update_command<'a>(alloc: Global) -> Result<Command<'a>, AllocError>
         .arg(color_option(alloc))?
         .arg(ignore_option(alloc))?
         .arg(lint_flag(alloc, LINT_RECORDS))?
+        .arg(input_name_option(alloc))?
         .arg(files_argument(alloc, DATABASE_FILES))
 }
 
@@ -90,6 +92,7 @@ fn query_command<'a>(alloc: Global) -> Result<Command<'a>, AllocError>
         .arg(all_flag(alloc))?
         .arg(sources_flag(alloc))?
         .arg(index_option(alloc))?
+        .arg(input_name_option(alloc))?
         .arg(modalias_argument(alloc))?
         .arg(files_argument(alloc, DATABASE_FILES))
 }
@@ -116,6 +119,7 @@ fn verify_command<'a>(alloc: Global) -> Result<Command<'a>, AllocError>
         .arg(udev_flag(alloc, "Read rules as udev itself reads them"))?
         .arg(users_option(alloc))?
         .arg(groups_option(alloc))?
+        .arg(input_name_option(alloc))?
         .arg(files_argument(alloc, CHECKED_FILES))
 }
 

@@ -12,6 +12,7 @@ mod ignored;
 mod line_reading;
 mod options;
 mod parse;
+mod piped;
 mod refusals;
 mod reporting;
 mod subcommands;

@@ -2,9 +2,10 @@
 ghost use Rattle.std.specs.Prelude.{◌≡◌, [], IfOk, map};
 ghost use Rattle.clap.specs.Words.{first_of, found_of, rows_of};
 ghost use Rattle.devdry_words.specs.Lines.{IsUnreadFile, Reads, account_path, asks_every, color_named, color_of, format_named, format_of};
-ghost use Rattle.devdry_words.specs.Lines.{input_name_of, is_set_or_every, profile_of};
+ghost use Rattle.devdry_words.specs.Lines.{is_set_or_every, profile_of};
 
 use crate::ignored::ignored_codes;
+use crate::piped::{files_of, input_name_of};
 use crate::values::{is_given, text, texts, value};
 use clap::ArgMatches;
 use engine_ends::{AccountFile, Color, Format, Line, Verb};
@@ -56,16 +57,6 @@ pub(crate) fn color_of(matches: &ArgMatches<'_>) -> Option<Color>
     match value(matches, "color") {
         Some(name) => color_named(name),
         None => Some(Color::Auto),
-    }
-}
-
-/// The name of the standard input as a file, `-` if matches give it none.
-fn input_name_of<'a>(matches: &ArgMatches<'a>) -> &'a str
-    ensures { result.now ≡ input_name_of (rows_of (found_of matches.now)) }
-{
-    match value(matches, "stdin-name") {
-        Some(name) => name,
-        None => "-",
     }
 }
 
@@ -142,7 +133,7 @@ pub(crate) fn line_with<'a>(
     Ok(Line {
         verb,
         root,
-        files: texts(alloc, matches, "FILE")?,
+        files: files_of(alloc, matches)?,
         added,
         input_name: input_name_of(matches),
         index: value(matches, "index"),

@@ -10,6 +10,7 @@ ghost use Rattle.devdry_words.specs.Refusals.{lacks_root, lacks_side, lacks_udev
 
 use crate::added::{adds_to_index, adds_to_named, unaddable, unaddable_text};
 use crate::ignored::{unknown_part, unknown_text};
+use crate::piped::{lacks_input, reads_twice};
 use crate::line_reading::{color_of, format_of};
 use crate::reporting::{usage, usage_on_code, usage_on_value};
 use crate::values::{has_value, is_empty, is_given, text, value};
@@ -69,6 +70,17 @@ Usage: devdry events --format=json [FILE]...
 For more information, try '--help'.
 ";
 
+const INPUT_TWICE: &str =
+    "error: '-' can't be '[FILE]...' where the standard input has event blocks or modaliases
+
+For more information, try '--help'.
+";
+
+const UNREAD_INPUT: &str = "error: the argument '--stdin-name <PATH>' needs '-' as '[FILE]...'
+
+For more information, try '--help'.
+";
+
 const EMPTY_ROOT: &str = "error: an empty value of '--root <DIR>' names no folder
 
 For more information, try '--help'.
@@ -121,6 +133,10 @@ pub(crate) enum Refusal {
     TwoAnswers,
     /// Answers are to be objects of JSON, and lines are asked for that are none.
     LinesBesideJson,
+    /// The standard input is named as a file, and something else is read from it.
+    InputTwice,
+    /// The standard input has a name as a file, and is not named as one.
+    UnreadInput,
     /// All is asked for, or which files count, below a root that is given and empty: so a variable without a value,
     /// as in `-r "$image"`, does not mean the system itself.
     EmptyRoot,
@@ -290,6 +306,10 @@ pub(crate) fn refusal_of(name: &str, matches: &ArgMatches<'_>) -> Option<Refusal
         Some(Refusal::TwoAnswers)
     } else if breaks_json(matches) {
         Some(Refusal::LinesBesideJson)
+    } else if reads_twice(name, matches) {
+        Some(Refusal::InputTwice)
+    } else if lacks_input(matches) {
+        Some(Refusal::UnreadInput)
     } else if lacks_root(name, matches) {
         Some(Refusal::EmptyRoot)
     } else if lacks_side(matches) {
@@ -312,6 +332,8 @@ pub(crate) fn usage_of(alloc: Global, refusal: Refusal, matches: &ArgMatches<'_>
         Refusal::AddedToIndex => usage(alloc, ADDED_TO_INDEX),
         Refusal::TwoAnswers => usage(alloc, TWO_ANSWERS),
         Refusal::LinesBesideJson => usage(alloc, LINES_BESIDE_JSON),
+        Refusal::InputTwice => usage(alloc, INPUT_TWICE),
+        Refusal::UnreadInput => usage(alloc, UNREAD_INPUT),
         Refusal::EmptyRoot => usage(alloc, EMPTY_ROOT),
         Refusal::EmptySide => usage(alloc, EMPTY_SIDE),
         Refusal::NoUdev => usage(alloc, NO_UDEV),

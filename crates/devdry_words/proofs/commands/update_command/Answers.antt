@@ -19,4 +19,5 @@ returns c =
     let sixth = one_more _ _ _ _ _ fifth c.color_option.ensures c.in_ok-arg-6.ensures in
     let seventh = one_more _ _ _ _ _ sixth c.ignore_option.ensures c.in_ok-arg-7.ensures in
     let eighth = one_more _ _ _ _ _ seventh c.lint_flag.ensures c.in_ok-arg-8.ensures in
-    IfOk-weaker c.arg-9.result _ _ (λ m h. one_more _ _ _ _ _ eighth c.files_argument.ensures h) c.arg-9.ensures
+    let ninth = one_more _ _ _ _ _ eighth c.input_name_option.ensures c.in_ok-arg-9.ensures in
+    IfOk-weaker c.arg-10.result _ _ (λ m h. one_more _ _ _ _ _ ninth c.files_argument.ensures h) c.arg-10.ensures

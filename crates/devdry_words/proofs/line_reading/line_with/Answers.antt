@@ -6,13 +6,13 @@ pub returns : goal.returns
 returns c = record {
   verb_is = refl;
   root_is = refl;
-  files = c.in_ok-texts.ensures;
+  files = c.in_ok-files_of.ensures;
   added_are = refl;
   input_name = c.input_name_of.ensures;
   index = c.value.ensures;
   strict = c.is_given.ensures;
   sources = c.is_given-2.ensures;
-  why = c.in_ok-texts-2.ensures;
+  why = c.in_ok-texts.ensures;
   questions = c.is_given-3.ensures;
   unused = c.is_given-4.ensures;
   modalias = c.text.ensures;

@@ -23,7 +23,7 @@ returns c =
     let tenth = one_more _ _ _ _ _ ninth c.no_style_flag.ensures c.in_ok-arg-10.ensures in
     let eleventh = one_more _ _ _ _ _ tenth c.lint_flag.ensures c.in_ok-arg-11.ensures in
     let twelfth = one_more _ _ _ _ _ eleventh c.links_flag.ensures c.in_ok-arg-12.ensures in
-    let twelfth = one_more _ _ _ _ _ eleventh c.udev_flag.ensures c.in_ok-arg-12.ensures in
-    let thirteenth = one_more _ _ _ _ _ twelfth c.users_option.ensures c.in_ok-arg-13.ensures in
-    let fourteenth = one_more _ _ _ _ _ thirteenth c.groups_option.ensures c.in_ok-arg-14.ensures in
-    IfOk-weaker c.arg-15.result _ _ (λ m h. one_more _ _ _ _ _ fourteenth c.files_argument.ensures h) c.arg-15.ensures
+    let thirteenth = one_more _ _ _ _ _ twelfth c.udev_flag.ensures c.in_ok-arg-13.ensures in
+    let fourteenth = one_more _ _ _ _ _ thirteenth c.users_option.ensures c.in_ok-arg-14.ensures in
+    let fifteenth = one_more _ _ _ _ _ fourteenth c.groups_option.ensures c.in_ok-arg-15.ensures in
+    IfOk-weaker c.arg-16.result _ _ (λ m h. one_more _ _ _ _ _ fifteenth c.files_argument.ensures h) c.arg-16.ensures

@@ -169,6 +169,7 @@ FIRST = [
         "r.rules:12: V2 unknown key: FOO\ndevdry: --why other: no such rules file\n", 2),
     Row("an unknown file is reported after the messages about the database", "events -r mnt --why other r.rules",
         {"r.rules": "FOO\n", "mnt/etc/udev/hwdb.d/a.hwdb": " A=1\n"}, BARE, "",
+        "devdry: mnt: its rules are not read beside a FILE that is named: --with FILE reads FILE among them\n"
         "r.rules:1: V1 bad syntax: FOO\na.hwdb:1: H1 property without a match: A=1\ndevdry: --why other: no such rules file\n", 2),
     Row("no rules files", "events -r none --why r.rules", {}, BARE, "", "devdry: --why r.rules: no such rules file\n", 2),
     Row("a file that is not an index is the only message", "events --index r.rules --why other r.rules", LINES, BARE, "", "devdry: index: magic\n", 1),

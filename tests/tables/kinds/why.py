@@ -26,10 +26,11 @@ def why(name, rules, lines, wanted, *courses, path="/d", asked=("r.rules",), mes
 
     `wanted` are the lines that its answer has in addition to the event, ACTION and DEVPATH. `courses` are lists of what
     follows them, as `of` gives them: each line without its `why r.rules:`. `files` and `root` may hold a database, and
-    `options` are added. `udev` evaluates as udev itself does.
+    `options` are added. `udev` evaluates as udev itself does. A root that exists leaves the note that its rules are not read.
     """
     answered = answer(path, wanted)
     reported = b"".join(b"why r.rules:" + line + b"\n" for course in courses for line in course)
+    noted = b"" if root == "none" else b"devdry: %s: its rules are not read beside a FILE that is named: --with FILE reads FILE among them\n" % root.encode()
     words = ["events", *(["--udev"] * udev), *options, "-r", root, *(word for text in asked for word in ("--why", text)), "r.rules"]
     return Row(
         name,
@@ -37,5 +38,5 @@ def why(name, rules, lines, wanted, *courses, path="/d", asked=("r.rules",), mes
         {"r.rules": b"".join(as_bytes(rule) + b"\n" for rule in rules), **dict(files)},
         input=block(path, *lines),
         output=answered[:-1] + reported + b"\n",
-        messages=messages,
+        messages=noted + messages,
     )

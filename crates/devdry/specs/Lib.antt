@@ -2,6 +2,7 @@ pub mod Noting
 pub mod PartialRuns
 pub mod Reading
 pub mod Knowing
+pub mod Piping
 pub mod Comparing
 pub mod Terminals
 pub mod Linking

@@ -6,6 +6,7 @@ use Rattle.engine_ends.specs.declared.line.Line.{Line}
 use Rattle.engine_ends.specs.declared.line.LineFault.{LineFault}
 use Rattle.engine_ends.specs.declared.line.Request.{Request}
 use Rattle.engine_ends.specs.declared.line.Request.TheVariants.{Run, Files, Compare}
+use Rattle.engine_ends.specs.Sources.{SourceState}
 use Rattle.engine_ends.specs.Streams.{Streams, outputs}
 use Rattle.engine_core.specs.Runs.{RunsOver}
 use Rattle.devdry_files.specs.Answers.{Answer}
@@ -13,6 +14,9 @@ use Rattle.devdry_files.specs.Answers.Answer.{Content}
 use Rattle.devdry_files.specs.declared.fault.ReadFault.{ReadFault}
 use Rattle.devdry_folders.specs.declared.reading.Report.{Report}
 use Rattle.devdry_link_checks.specs.Running.{ChecksLinks}
+use Rattle.devdry_input.specs.Beside.{MayBeside}
+use Rattle.devdry_input.specs.Whole.{ReadsNot, ReadsWhole}
+use Rattle.devdry_input.specs.declared.reading.InputFault.{InputFault}
 use Rattle.devdry_words.specs.Commands.{devdry}
 use Rattle.devdry_words.specs.Answers.{AnswersWords}
 use Rattle.devdry_words.specs.Options.{options_in, with_options}
@@ -23,6 +27,7 @@ use Rattle.devdry.specs.Noting.{AreNotesOf, IsHintOn}
 use Rattle.devdry.specs.Options.{DoesByFile, IsFaultAt}
 use Rattle.devdry.specs.PartialRuns.{IsRefusedToRead, ListsFiles, RunsAfter, RunsNoted, RunsSome}
 use Rattle.devdry.specs.Knowing.{IsFaultOfAccounts, KnowsAccounts}
+use Rattle.devdry.specs.Piping.{ReportsInputFault, input_named}
 use Rattle.devdry.specs.Reading.{AreReadFor, FailsAt, IsFaultOf}
 use Rattle.devdry.specs.Reporting.{ReportsLineFault}
 use Rattle.devdry.specs.Terminals.{shown_request}
@@ -111,12 +116,37 @@ abbrev pub RunsKnowing : Bool → (Answer → Type 0) → Request → ℕ → St
 RunsKnowing from_terminal may named status before now =
     RunsOverAccounts from_terminal may named status before now ⊎ FailsAt (IsFaultOfAccounts may named) status before now
 
+-- The input was read whole, and the request is run with a file of this name that has its bytes.
+pub record RunsOverInput (from_terminal : Bool) (may : Answer → Type 0) (name : List ℕ) (request : Request) (status : ℕ) (before now : Streams) : Type 0 where
+  pub bytes : List ℕ
+  pub input : SourceState
+  pub reads : ReadsWhole before.input bytes input
+  pub runs : RunsKnowing from_terminal (MayBeside may name bytes) request status (record { input = input; out = before.out; err = before.err }) now
+
+-- The input could not be read whole, and that is reported; the output stays as it is.
+pub record FailsAtInput (status : ℕ) (before now : Streams) : Type 0 where
+  pub fault : InputFault
+  pub reads_not : ReadsNot fault before.input now.input
+  pub reports : ReportsInputFault fault status before.err now.err
+  pub untouched : now.out ≡ before.out
+
+-- what a request does that names the standard input as the file of this name
+abbrev pub RunsWithInput : Bool → (Answer → Type 0) → (name : List ℕ) → Request → ℕ → Streams → Streams → Type 0
+RunsWithInput from_terminal may name request status before now =
+    RunsOverInput from_terminal may name request status before now ⊎ FailsAtInput status before now
+
+-- what a request does, given whether the input is a terminal: first the input is read if it is a file of the request
+abbrev pub RunsPiped : Bool → (Answer → Type 0) → Request → ℕ → Streams → Streams → Type 0
+RunsPiped from_terminal may request status before now =
+    MatchOption (input_named request) (RunsKnowing from_terminal may request status before now)
+    (λ name. RunsWithInput from_terminal may name request status before now)
+
 -- The words ask for something, which is done as terminals show it.
 pub record RunsWords (terminals : Terminals) (may : Answer → Type 0) (words : List (List ℕ)) (status : ℕ) (before now : Streams) : Type 0 where
   pub request : Request
   pub is_request : IsRequestOf (subcommand_of devdry words) request
   pub faultless : fault_of devdry words ≡ []
-  pub runs : RunsKnowing terminals.input may (shown_request terminals.colors request) status before now
+  pub runs : RunsPiped terminals.input may (shown_request terminals.colors request) status before now
 
 -- The words ask for nothing that is run, and that is reported; no input is read.
 pub record RefusesWords (words : List (List ℕ)) (status : ℕ) (before now : Streams) : Type 0 where

@@ -13,6 +13,7 @@ mod linking;
 mod noting;
 mod options;
 mod partial_runs;
+mod piping;
 mod reporting;
 mod running;
 mod terminals;

@@ -7,9 +7,9 @@ ghost use Rattle.devdry.specs.Reading.{AreReadFor, IsFaultOf};
 ghost use Rattle.devdry.specs.Runs.{DoesAfter, DoesRequest, FailsWanted, RunsAlone, RunsBy, RunsLine, RunsRead, RunsWanted, takes_blocks};
 
 use crate::comparing::run_compare;
-use crate::knowing::run_knowing;
 use crate::noting::{fail_noted, hint_on, notes_on, serve_noted};
 use crate::partial_runs::{run_files, run_some};
+use crate::piping::run_piped;
 use crate::reporting::report_line_fault;
 use crate::terminals::{Terminals, shown_request};
 use devdry_files::{Disk, ReadFault, read_all, read_index, wanted};
@@ -52,7 +52,7 @@ pub(crate) fn run_alone<D: Disk, I: Source, W: Sink, E: Sink>(
     match parse_line(alloc, words) {
         Ok(request) => {
             let request = shown_request(request, terminals.colors);
-            run_knowing(alloc, disk, request, terminals.input, input, output, error)
+            run_piped(alloc, disk, request, terminals.input, input, output, error)
         }
         Err(fault) => report_line_fault(&fault, output, error),
     }

@@ -22,7 +22,7 @@ pub enum Verb {
     Events,
 }
 
-/// How messages about files are written.
+/// How messages about files, or answers, are written.
 #[derive(Clone, Copy, PartialEq, Eq)]
 pub enum Format {
     /// `FILE:LINE: CODE TEXT: WORD`, the word cut after 32 bytes.
@@ -78,7 +78,7 @@ pub struct Line<'a> {
     /// The files that stand among those of the folders as if they were in the first of these, by their names, in the
     /// order given.
     pub added: Vec<&'a str>,
-    /// The name of the standard input as a file, `-` if none was given. No run looks at it yet.
+    /// The name of the standard input as a file, `-` if none was given. It is a file of the run if one of `files` has this name.
     pub input_name: &'a str,
     /// The index that is named, if any: it replaces the database's folders. `update` and `verify` name none.
     pub index: Option<&'a str>,
@@ -102,7 +102,7 @@ pub struct Line<'a> {
     pub lint: bool,
     /// Whether `verify` checks `.link` files in place of rules.
     pub checks_links: bool,
-    /// How `verify` and `update` write messages; plain for the other subcommands.
+    /// How `verify` and `update` write messages, and how `events` and `compare` write answers; plain for `query`.
     pub format: Format,
     /// When messages for people are in colors.
     pub color: Color,

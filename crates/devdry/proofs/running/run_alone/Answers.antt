@@ -1,5 +1,5 @@
 use Rattle.std.proofs.Common.{inl, inr, refl, subst}
-use Rattle.devdry.specs.Runs.{RunsKnowing}
+use Rattle.devdry.specs.Runs.{RunsPiped}
 use Rattle.devdry.proofs.running.run_alone.Goals as goal
 
 pub returns-in-Ok : goal.returns-in-Ok
@@ -7,10 +7,10 @@ returns-in-Ok g c = inl (record {
   request = c.in-Ok.request;
   is_request = c.in-Ok.ensures.request;
   faultless = c.in-Ok.ensures.faultless;
-  runs = subst (λ r. RunsKnowing c.args.terminals.input (g.D.Disk.may_answer c.args.disk.now) r c.run_knowing.result
+  runs = subst (λ r. RunsPiped c.args.terminals.input (g.D.Disk.may_answer c.args.disk.now) r c.run_piped.result
       (record { input = g.I.Source.shown c.args.input.now; out = g.W.Sink.shown c.args.output.now; err = g.E.Sink.shown c.args.error.now })
-      (record { input = g.I.Source.shown c.run_knowing.new.input; out = g.W.Sink.shown c.run_knowing.new.output; err = g.E.Sink.shown c.run_knowing.new.error }))
-      c.shown_request-request.ensures c.run_knowing.ensures;
+      (record { input = g.I.Source.shown c.run_piped.new.input; out = g.W.Sink.shown c.run_piped.new.output; err = g.E.Sink.shown c.run_piped.new.error }))
+      c.shown_request-request.ensures c.run_piped.ensures;
 })
 
 pub returns-in-Err : goal.returns-in-Err

@@ -1,0 +1,3 @@
+pub mod Whole
+pub mod Pieces
+pub mod Beside

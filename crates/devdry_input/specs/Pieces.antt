@@ -1,0 +1,24 @@
+-- For proofs only, no reader has to believe it: what one read adds to a text.
+use Rattle.std.specs.Prelude.{◌≡◌, ◌++◌, Bool, false, []}
+use Rattle.text_tables.specs.Texts.{Text}
+use Rattle.engine_ends.specs.Reported.{NoneLeft}
+use Rattle.engine_ends.specs.Sources.{Gives, SourceFails, SourceState}
+use Rattle.devdry_input.specs.declared.reading.InputFault.{InputFault}
+use Rattle.devdry_input.specs.declared.reading.InputFault.TheVariants.{Memory, Read}
+
+-- One piece was read and is added to the text; if the input goes on no more, it is empty and none is left.
+pub record Adds (more : Bool) (old new : Text) (before now : SourceState) : Type 0 where
+  pub piece : Text
+  pub gives : Gives before piece now
+  pub added : new ≡ old ++ piece
+  pub ends : more ≡ false → NoneLeft now.left
+
+-- One piece was read.
+pub record GivesOne (before now : SourceState) : Type 0 where
+  pub piece : Text
+  pub gives : Gives before piece now
+
+-- what one read comes to if its piece is not added
+abbrev pub AddsNot : InputFault → SourceState → SourceState → Type 0
+AddsNot Read before now = SourceFails before now
+AddsNot Memory before now = GivesOne before now

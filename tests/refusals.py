@@ -116,6 +116,8 @@ UNUSED_LINES = 'unused n.rules:1: KERNEL=="b" failed 2 of 2\nunused n.rules:3: n
 REPORTED_FILES = {"w.rules": REPORTED_RULES, f"{SECOND}/usb.hwdb": "usb:v1D6B*\n ID_VENDOR=Linux\n"}
 REPORTED = "C: add\nP: /a/sda\nU: block\nQ: /bin/id sda\nR: 0 ab cd\nP: /a\nU: usb\nE: MODALIAS=usb:v1D6Bp0002\n"
 REPORTED_MESSAGE = "w.rules:5: V6 bad substitution: $nope\n"
+ROOT_NOTE = "devdry: .: its rules are not read beside a FILE that is named: --with FILE reads FILE among them\n"
+ROOT_NOTED = ROOT_NOTE + REPORTED_MESSAGE
 REPORTED_ANSWER = """\
 event add /a/sda
 owner root
@@ -345,10 +347,10 @@ ROWS = [
         "the sources of lines", ["events", "-r", ".", "--sources", "w.rules"], REPORTED_FILES, REPORTED, REPORTED_SOURCES + "\n", REPORTED_MESSAGE),
     Row(
         "--why", ["events", "-r", ".", "--why", "w.rules", "w.rules"], REPORTED_FILES, REPORTED,
-        REPORTED_ANSWER + REPORTED_WHY + "\n", REPORTED_MESSAGE),
+        REPORTED_ANSWER + REPORTED_WHY + "\n", ROOT_NOTED),
     Row(
         "--sources and --why, over two blocks", ["events", "-r", ".", "--why", "w.rules", "--sources", "w.rules"], REPORTED_FILES, REPORTED + "\n" + REPORTED,
-        (REPORTED_SOURCES + REPORTED_WHY + "\n") * 2, REPORTED_MESSAGE),
+        (REPORTED_SOURCES + REPORTED_WHY + "\n") * 2, ROOT_NOTED),
     Row(
         "--questions", ["events", "-r", ".", "--questions", "w.rules"], REPORTED_FILES, REPORTED.replace("Q: /bin/id sda\nR: 0 ab cd\n", "") + "\n" + REPORTED,
         "event add /a/sda\nQ: /bin/id sda\n\nevent add /a/sda\n\n", REPORTED_MESSAGE),
@@ -358,7 +360,7 @@ ROWS = [
     Row(
         "names by .link files", ["events", "--udev", "-r", ".", "i.rules"], LINK_FILES, INTERFACE, INTERFACE_ANSWER, INTERFACE_MESSAGE),
     Row(
-        "--why with a line that has no rule", ["events", "-r", ".", "--why", "w.rules:9", "w.rules"], REPORTED_FILES, REPORTED, "", REPORTED_MESSAGE,
+        "--why with a line that has no rule", ["events", "-r", ".", "--why", "w.rules:9", "w.rules"], REPORTED_FILES, REPORTED, "", ROOT_NOTED,
         "devdry: --why w.rules:9: no such rule, the nearest is w.rules:5\n", 2),
     Row(
         "faulty rules", ["verify", "v.rules"], {"v.rules": FAULTY_RULES},
@@ -433,10 +435,10 @@ ROWS = [
     Row("a faulty database file as JSON", ["update", "--format", "json", "--ignore", "H5", "s.hwdb"], {"s.hwdb": "m1\n\nm2\n =x\n"}, output=None, line=None),
     Row(
         "as udev does, with sources and what rules met", ["events", "--udev", "--sources", "--why", "w.rules", "-r", ".", "w.rules"], REPORTED_FILES, REPORTED,
-        None),
+        None, ROOT_NOTE),
     Row(
         "answers as JSON, with sources and what rules met", ["events", "--format=json", "--sources", "--why", "w.rules", "-r", ".", "w.rules"], REPORTED_FILES,
-        REPORTED + "\n" + REPORTED, None, REPORTED_MESSAGE),
+        REPORTED + "\n" + REPORTED, None, ROOT_NOTED),
     Row(
         "two roots compared as JSON", ["compare", "--format=json", "old", "new"], {f"old/{RULES}": 'MODE="0600"\n', f"new/{RULES}": 'TAG+="a"\n'},
         "C: add\nP: /d\n", '{"event":"add","path":"/d","gone":["mode 0600"],"come":["tag a"]}\n', status=1),

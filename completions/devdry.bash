@@ -84,9 +84,9 @@ _devdry() {
         return
     fi
     case $command in
-        verify) suffix=.rules options='--options -r --root --with -s --strict --all --format --color --ignore --no-summary --no-style --lint --links --udev --users --groups -h --help -V --version' ;;
-        query) suffix=.hwdb options='--options -r --root --all --sources --index -h --help -V --version' ;;
-        update) suffix=.hwdb options='--options -r --root -s --strict --all --format --color --ignore --lint -h --help -V --version' ;;
+        verify) suffix=.rules options='--options -r --root --with -s --strict --all --format --color --ignore --no-summary --no-style --lint --links --udev --users --groups --stdin-name -h --help -V --version' ;;
+        query) suffix=.hwdb options='--options -r --root --all --sources --index --stdin-name -h --help -V --version' ;;
+        update) suffix=.hwdb options='--options -r --root -s --strict --all --format --color --ignore --lint --stdin-name -h --help -V --version' ;;
         events) suffix=.rules options='--options -r --root --with --all --format --sources --why --unused --questions --index --udev -h --help -V --version' ;;
         files) suffix='' options='--options -r --root --with -h --help -V --version' ;;
         compare) suffix='' options='--options --with --all --format --index --udev -h --help -V --version' ;;
@@ -99,7 +99,7 @@ _devdry() {
     esac
     case $before:$word in
         -r:* | --root:*) _devdry_files '' ;;
-        --options:* | --index:* | --users:* | --groups:*) _devdry_any_files ;;
+        --options:* | --index:* | --users:* | --groups:* | --stdin-name:*) _devdry_any_files ;;
         --why:*) _devdry_files .rules ;;
         --with:*) _devdry_added ;;
         --format:*) _devdry_formats ;;

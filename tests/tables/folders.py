@@ -70,7 +70,7 @@ UNREAD = [
     ("a named file in a folder that does not exist", "query m no/t.hwdb", {}, "no/t.hwdb"),
     ("a folder as a named file", "verify .", {}, "."),
     ("a folder as a named file, with a trailing slash", f"query m {ETC}/", {ETC: FOLDER}, f"{ETC}/"),
-    ("- is the name of a file", "verify -", {}, "-"),
+    ("./- is the name of a file", "verify ./-", {}, "./-"),
     ("a file in place of a folder of the database", "query m -r mnt", {ETC: ""}, ETC),
     ("a file in place of the other folder of the database", "update -r mnt", {LIB: Link("/file"), "mnt/file": ""}, LIB),
     ("a database file that is a symlink out of the root", "query m -r mnt", {f"{ETC}/d.hwdb": Link("../../../../d"), "d": ""}, f"{ETC}/d.hwdb"),

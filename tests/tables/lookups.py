@@ -60,7 +60,7 @@ ANSWERS = [
     Row("sources", "query --sources - t.hwdb", {"t.hwdb": RECORDS}, "abc\nx\n", output="t.hwdb:6: A=3\nt.hwdb:3: B=2\n\n\n"),
     Row("sources of a file whose name is escaped", ["query", "--sources", "-", "a\\\n.hwdb"], {"a\\\n.hwdb": RECORDS}, "ab\n",
         output="a\\x5C\\x0A.hwdb:2: A=1\na\\x5C\\x0A.hwdb:3: B=2\n\n"),
-    Row("a hyphen among the files is a file of that name", "query - -", {"-": RECORDS}, "ab\n", output=AB),
+    Row("./- among the files is a file", "query - ./-", {"-": RECORDS}, "ab\n", output=AB),
     Row("after two hyphens", "query -- - t.hwdb", {"t.hwdb": RECORDS}, "ab\n", output=AB),
     Row("folders", "query -r r -", {"r/usr/lib/udev/hwdb.d/60-a.hwdb": RECORDS}, "ab\n", output=AB),
     Row("no file", "query -r none -", {}, "ab\n", output=NONE),

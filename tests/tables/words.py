@@ -53,16 +53,17 @@ Arguments:
   [FILE]...  Database files to read in place of the folders
 
 Options:
-      --options <FILE>   File of options to put before these, one a line, as --lint or --ignore=S2
-  -r, --root <DIR>       Folder to put before each folder that is read
-  -s, --strict           Exit with status 1 if there is a message
-      --all              Go on where a file can't be read, and fail where there is none
-      --format <FORMAT>  How messages are written: plain, gcc, github, gitlab, json, sarif or human
-      --color <WHEN>     When messages for people are in colors: auto, always or never
-      --ignore <CODES>   Leave out the messages of these codes, as V6,S; comments: as the files say
-      --lint             Also tell of lines that are most likely not the ones that were meant
-  -h, --help             Print help
-  -V, --version          Print version
+      --options <FILE>     File of options to put before these, one a line, as --lint or --ignore=S2
+  -r, --root <DIR>         Folder to put before each folder that is read
+  -s, --strict             Exit with status 1 if there is a message
+      --all                Go on where a file can't be read, and fail where there is none
+      --format <FORMAT>    How messages are written: plain, gcc, github, gitlab, json, sarif or human
+      --color <WHEN>       When messages for people are in colors: auto, always or never
+      --ignore <CODES>     Leave out the messages of these codes, as V6,S; comments: as the files say
+      --lint               Also tell of lines that are most likely not the ones that were meant
+      --stdin-name <PATH>  Name of the standard input, which is the FILE -
+  -h, --help               Print help
+  -V, --version            Print version
 
 Status:
   0  the index was written
@@ -88,13 +89,14 @@ Arguments:
   [FILE]...   Database files to read in place of the folders
 
 Options:
-      --options <FILE>  File of options to put before these, one a line, as --lint or --ignore=S2
-  -r, --root <DIR>      Folder to put before each folder that is read
-      --all             Go on where a file can't be read, and fail where there is none
-      --sources         Say where each line comes from
-      --index <FILE>    Index to read in place of the database's folders
-  -h, --help            Print help
-  -V, --version         Print version
+      --options <FILE>     File of options to put before these, one a line, as --lint or --ignore=S2
+  -r, --root <DIR>         Folder to put before each folder that is read
+      --all                Go on where a file can't be read, and fail where there is none
+      --sources            Say where each line comes from
+      --index <FILE>       Index to read in place of the database's folders
+      --stdin-name <PATH>  Name of the standard input, which is the FILE -
+  -h, --help               Print help
+  -V, --version            Print version
 
 Status:
   0  the properties were printed, if there are any
@@ -119,23 +121,24 @@ Arguments:
   [FILE]...  Rules files, or with --links .link files, to read in place of the folders
 
 Options:
-      --options <FILE>   File of options to put before these, one a line, as --lint or --ignore=S2
-  -r, --root <DIR>       Folder to put before each folder that is read
-      --with <FILE>      Rules file to read among those of the folders, by its name
-  -s, --strict           Make every check: --lint, --udev, --all, users and groups of the root
-      --all              Go on where a file can't be read, and fail where there is none
-      --format <FORMAT>  How messages are written: plain, gcc, github, gitlab, json, sarif or human
-      --color <WHEN>     When messages for people are in colors: auto, always or never
-      --ignore <CODES>   Leave out the messages of these codes, as V6,S; comments: as the files say
-      --no-summary       Do not count the good and the bad files
-      --no-style         Give no messages about style
-      --lint             Also tell of rules that are most likely not the ones that were meant
-      --links            Check .link files in place of rules
-      --udev             Read rules as udev itself reads them
-      --users <FILE>     With --udev: users that OWNER may name, as in /etc/passwd
-      --groups <FILE>    With --udev: groups that GROUP may name, as in /etc/group
-  -h, --help             Print help
-  -V, --version          Print version
+      --options <FILE>     File of options to put before these, one a line, as --lint or --ignore=S2
+  -r, --root <DIR>         Folder to put before each folder that is read
+      --with <FILE>        Rules file to read among those of the folders, by its name
+  -s, --strict             Make every check: --lint, --udev, --all, users and groups of the root
+      --all                Go on where a file can't be read, and fail where there is none
+      --format <FORMAT>    How messages are written: plain, gcc, github, gitlab, json, sarif or human
+      --color <WHEN>       When messages for people are in colors: auto, always or never
+      --ignore <CODES>     Leave out the messages of these codes, as V6,S; comments: as the files say
+      --no-summary         Do not count the good and the bad files
+      --no-style           Give no messages about style
+      --lint               Also tell of rules that are most likely not the ones that were meant
+      --links              Check .link files in place of rules
+      --udev               Read rules as udev itself reads them
+      --users <FILE>       With --udev: users that OWNER may name, as in /etc/passwd
+      --groups <FILE>      With --udev: groups that GROUP may name, as in /etc/group
+      --stdin-name <PATH>  Name of the standard input, which is the FILE -
+  -h, --help               Print help
+  -V, --version            Print version
 
 Status:
   0  no file is bad

@@ -9,7 +9,8 @@ flag_names = codes "all" ∷ codes "links" ∷ codes "lint" ∷ codes "no-style"
 
 -- options with a value, each of which can be given once
 unfoldable pub valued_names : List Text
-valued_names = codes "color" ∷ codes "format" ∷ codes "groups" ∷ codes "index" ∷ codes "root" ∷ codes "users" ∷ []
+valued_names = codes "color" ∷ codes "format" ∷ codes "groups" ∷ codes "index" ∷ codes "root"
+    ∷ codes "stdin-name" ∷ codes "users" ∷ []
 
 -- options with a value, each of which can be given any number of times
 unfoldable pub repeated_names : List Text

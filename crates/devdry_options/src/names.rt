@@ -17,7 +17,15 @@ const FLAGS: &[&str] = &[
 ];
 
 /// Options with a value, each of which can be given once.
-const VALUED: &[&str] = &["color", "format", "groups", "index", "root", "users"];
+const VALUED: &[&str] = &[
+    "color",
+    "format",
+    "groups",
+    "index",
+    "root",
+    "stdin-name",
+    "users",
+];
 
 /// Options with a value, each of which can be given any number of times.
 const REPEATED: &[&str] = &["ignore", "why", "with"];

@@ -64,7 +64,16 @@ pub(crate) fn run_piped<D: Disk, I: Source, W: Sink, E: Sink>(
 {
     match input_named(&request) {
         None => run_knowing(alloc, disk, request, from_terminal, input, output, error),
-        Some(name) => run_over_input(alloc, disk, name, request, from_terminal, input, output, error),
+        Some(name) => run_over_input(
+            alloc,
+            disk,
+            name,
+            request,
+            from_terminal,
+            input,
+            output,
+            error,
+        ),
     }
 }
 

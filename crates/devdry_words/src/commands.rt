@@ -11,8 +11,8 @@ use crate::added::{ADDED_AFTER, ADDED_FILES, ADDED_RULES, with_option};
 use crate::arguments::{
     all_flag, code_argument, color_option, files_argument, format_option, groups_option,
     ignore_option, index_option, links_flag, lint_flag, modalias_argument, new_argument,
-    no_style_flag, no_summary_flag, old_argument, options_option, questions_flag, root_option, sources_flag,
-    strict_flag, udev_flag, unused_flag, users_option, why_option,
+    no_style_flag, no_summary_flag, old_argument, options_option, questions_flag, root_option,
+    sources_flag, strict_flag, udev_flag, unused_flag, users_option, why_option,
 };
 use crate::endings;
 use crate::piped::input_name_option;

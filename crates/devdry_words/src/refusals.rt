@@ -10,8 +10,8 @@ ghost use Rattle.devdry_words.specs.Refusals.{lacks_root, lacks_side, lacks_udev
 
 use crate::added::{adds_to_index, adds_to_named, unaddable, unaddable_text};
 use crate::ignored::{unknown_part, unknown_text};
-use crate::piped::{lacks_input, reads_twice};
 use crate::line_reading::{color_of, format_of};
+use crate::piped::{lacks_input, reads_twice};
 use crate::reporting::{usage, usage_on_code, usage_on_value};
 use crate::values::{has_value, is_empty, is_given, text, value};
 use clap::ArgMatches;

@@ -44,8 +44,7 @@ FAULTY = [
     told_from("an assignment in braces", 'KERNEL=="sda", ENV{A="1"}', "ENV"),
     told_from("a name in parentheses", 'KERNEL=="sda", ENV(A)="1"', "ENV"),
     told("a substitution in braces", ('KERNEL=="sda", SYMLINK+="disk-${kernel}"', fault("V6", "disk-${kernel}"))),
-    # without this option nothing of the rule counts
-    told("an option of old versions", ('KERNEL=="sda", OPTIONS+="ignore_device"', fault("V18"))),
+    told("an option of old versions", ('KERNEL=="sda", OPTIONS+="ignore_device"', fault("V5", "ignore_device"))),
     told("an option of old versions, among others", ('KERNEL=="sda", OPTIONS+="all_partitions", SYMLINK+="mine"', fault("V5", "all_partitions"))),
     told_from("the operator of a regular expression", 'KERNEL=~"sd", SYMLINK+="mine"', "KERNEL"),
     told_from("an operator the wrong way round", 'KERNEL=!"sda", SYMLINK+="mine"', "KERNEL"),

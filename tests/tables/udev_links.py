@@ -234,7 +234,7 @@ CASES = [
       'ENV{A}="[$id]"\n'),
      THING,
      ['env A=[]'],
-     '1:V18'),
+     '1:V5'),
     ('static_node has no effect in events',
      ('SUBSYSTEMS=="usb", OPTIONS="static_node=x"\n' +
       'ENV{G}="[$id]"\n'),

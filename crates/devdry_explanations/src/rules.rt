@@ -96,7 +96,7 @@ ATTR, ENV and a few more need a name in braces; most other keys take none. The f
 /// Bad value.
 pub(crate) const V5: &str = r#"V5 bad value
 
-Use one of the values that this key takes. The value is an unknown option of OPTIONS, an empty name of LABEL or GOTO, or `i"..."` where it has no meaning. `last_rule` of old versions of udev has no replacement; a jump to the end of the file at least skips the other rules of this file. With `--udev` a rule with an unknown option is kept, an empty name is a name like any other, and the value of `log_level` is checked, too.
+Use one of the values that this key takes. The value is an unknown option of OPTIONS, an empty name of LABEL or GOTO, or `i"..."` where it has no meaning. `last_rule` of old versions of udev has no replacement; a jump to the end of the file at least skips the other rules of this file. With `--udev` a rule with an unknown option is kept if it has another effect, an empty name is a name like any other, and the value of `log_level` is checked, too.
 
     $ cat v5.rules
     KERNEL=="sda", OPTIONS+="last_rule"

@@ -85,7 +85,7 @@ Remove one of the two. Only `--udev` reports it, and the rule is kept. The two n
 /// Rule without effect.
 pub(crate) const V18: &str = r#"V18 rule without effect
 
-Make the rule assign something, or remove it. Only `--udev` reports it, and the rule is dropped. Each assignment counts, and so do PROGRAM, IMPORT, LABEL and GOTO.
+Make the rule assign something, or remove it. Only `--udev` reports it, and the rule is dropped. Each assignment counts, and so do PROGRAM, IMPORT, LABEL and GOTO. If the rule has an option that udev does not know, V5 names that instead.
 
     $ cat v18.rules
     KERNEL=="sda", SUBSYSTEM=="block"

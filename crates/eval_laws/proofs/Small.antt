@@ -6,7 +6,7 @@ use Rattle.std.specs.Cmp.Lexicographic.{pointwise}
 use Rattle.std.specs.List.{cons_option, filter_map, range_with_len}
 use Rattle.std.specs.Option.{option_and_then, unwrap_or}
 use Rattle.text_bytes.specs.Numbers.{decimal, decimal_below, is_decimal}
-use Rattle.file_messages.specs.declared.message.MessageKind.TheVariants.{BadValue, LineTooLong, RuleWithoutEffect}
+use Rattle.file_messages.specs.declared.message.MessageKind.TheVariants.{BadValue, LineTooLong}
 use Rattle.text_bytes.specs.declared.source_file.SourceFile.{SourceFile}
 use Rattle.text_bytes.specs.declared.profile.Profile.{Profile}
 use Rattle.text_bytes.specs.declared.profile.Profile.TheVariants.{Manual, Udev}
@@ -35,9 +35,9 @@ use Rattle.rule_types.specs.declared.part.Change.{Change}
 use Rattle.rule_types.specs.declared.part.Change.TheVariants as change
 use Rattle.rule_types.specs.declared.part.Part.{Part}
 use Rattle.rule_types.specs.declared.part.Part.TheVariants as part
-use Rattle.rule_core.specs.Effects.{lacks_effect}
+use Rattle.rule_core.specs.Effects.{lacks_effect, unknown_option}
 use Rattle.rule_core.specs.Ends.{abandoned}
-use Rattle.rule_core.specs.Drafts.{Draft, assignment_in, draft, draft_of, draft_with, items_as, most_bytes, part_of_item, parts_of, with_part, written_part}
+use Rattle.rule_core.specs.Drafts.{Draft, assignment_in, draft, draft_of, draft_with, idle_spot, items_as, most_bytes, part_of_item, parts_of, with_part, written_part}
 use Rattle.rule_core.specs.Spots.{whole_spot}
 use Rattle.rule_core.specs.Written.{WrittenPart, parts_in, tokens_in}
 use Rattle.rule_core.specs.declared.spot.Spot.{Spot}
@@ -295,7 +295,7 @@ DraftFits (Err wrong) = ⊤
 draft_with_fits : (profile : Profile) (line : List ℕ) (parts : Result (List WrittenPart) (Spot MessageKind)) → PartsFit parts → DraftFits (draft_with profile line parts)
 draft_with_fits profile line (Ok parts) h = by (lacks_effect profile (tokens_in parts))
   where
-    by : (b : Bool) → DraftFits (if b then Err (whole_spot RuleWithoutEffect line) else Ok (draft profile line parts))
+    by : (b : Bool) → DraftFits (if b then Err (idle_spot line (unknown_option (tokens_in parts))) else Ok (draft profile line parts))
     by true = tt
     by false = h
 draft_with_fits profile line (Err wrong) h = tt

@@ -55,6 +55,16 @@ pub fn a_result_that_no_program_gives_yet_is_reported()
         (codes "r.rules:1:14: warning: result before its program: RESULT [W25]\n") 1) }
 {}
 
+/// The first option that udev does not know is reported for a rule that it leaves without effect, in place of the rule.
+pub fn an_unknown_option_is_reported_in_place_of_its_rule()
+    ensures { Checks (linting Udev []) Gcc
+        (text (
+        codes "KERNEL==\"a\", OPTIONS+=\"watch1\", OPTIONS+=\"watch2\"" ∷ codes "KERNEL==\"b\""
+        ∷ codes "KERNEL==\"c\", OPTIONS+=\"watch3\", TAG+=\"t\"" ∷ []))
+        (said (codes "1 files checked, 0 good, 1 bad\n")
+        (codes "r.rules:1:24: error: bad value: watch1 [V5]\nr.rules:2:1: error: rule without effect [V18]\nr.rules:3:24: error: bad value: watch3 [V5]\n") 1) }
+{}
+
 /// W26 is reported for each link in a rule that only network devices meet, and not in one that others may meet.
 pub fn a_link_of_a_network_device_is_reported()
     ensures { Checks (linting Manual []) Gcc

@@ -4,7 +4,7 @@ use Rattle.std.specs.List.{prefix_len}
 use Rattle.text_bytes.specs.Texts.{first, last}
 use Rattle.text_bytes.specs.declared.profile.Profile.{Profile}
 use Rattle.text_bytes.specs.declared.profile.Profile.TheVariants.{Manual, Udev}
-use Rattle.file_messages.specs.declared.message.MessageKind.TheVariants.{LineTooLong, GivenTwice, RuleWithoutEffect}
+use Rattle.file_messages.specs.declared.message.MessageKind.TheVariants.{BadValue, LineTooLong, GivenTwice, RuleWithoutEffect}
 use Rattle.file_messages.specs.declared.message.MessageKind.{MessageKind}
 use Rattle.rule_tokens.specs.Grammar.{Item, Placed, is_gap_byte}
 use Rattle.rule_tokens.specs.Lines.{items_from}
@@ -17,7 +17,7 @@ use Rattle.rule_types.specs.declared.part.PlainMatch.{PlainMatch}
 use Rattle.rule_types.specs.declared.part.UpMatch.{UpMatch}
 use Rattle.rule_parts.specs.declared.finding.Finding.{Finding}
 use Rattle.rule_types.specs.declared.part.Part.TheVariants as part
-use Rattle.rule_core.specs.Effects.{lacks_effect}
+use Rattle.rule_core.specs.Effects.{lacks_effect, unknown_option}
 use Rattle.rule_core.specs.Spots.{part_spot, spot, token_spot, value_start, whole_spot}
 use Rattle.rule_core.specs.Style.{style_findings}
 use Rattle.rule_core.specs.Turns.{acts_by_turn, assignments_by_turn}
@@ -157,9 +157,14 @@ draft by line parts = record {
   findings = given_again_after by [] parts ++ style_findings by line (tokens_in parts);
 }
 
+-- why a rule has no effect: it has an option that udev does not know, and so leaves out, or nothing but matches
+abbrev pub idle_spot : List ℕ → Option Placed → Spot MessageKind
+idle_spot line None = whole_spot RuleWithoutEffect line
+idle_spot line (Some t) = part_spot BadValue t
+
 -- the draft of tokens that were read, or what is wrong with them: udev also drops a rule without effect
 abbrev pub draft_with : Profile → List ℕ → Result (List WrittenPart) (Spot MessageKind) → Result Draft (Spot MessageKind)
-draft_with by line (Ok parts) = if lacks_effect by (tokens_in parts) then Err (whole_spot RuleWithoutEffect line) else Ok (draft by line parts)
+draft_with by line (Ok parts) = if lacks_effect by (tokens_in parts) then Err (idle_spot line (unknown_option (tokens_in parts))) else Ok (draft by line parts)
 draft_with by line (Err wrong) = Err wrong
 
 -- the most bytes of a joined line

@@ -1,5 +1,5 @@
 -- Whether the tokens of a line do anything but compare.
-use Rattle.std.specs.Prelude.{Bool, true, false, not, ◌&&◌, if◌then◌else◌, List, Option, Some}
+use Rattle.std.specs.Prelude.{Bool, true, false, not, ◌&&◌, if◌then◌else◌, List, find, Option, Some}
 use Rattle.std.specs.List.{list_any}
 use Rattle.text_bytes.specs.declared.profile.Profile.{Profile}
 use Rattle.text_bytes.specs.declared.profile.Profile.TheVariants.{Manual, Udev}
@@ -29,6 +29,10 @@ is_unknown_option t = is_options (key_of t.parts.head.key) && not (is_known_opti
 -- does something when it is compared
 unfoldable pub has_effect : Placed → Bool
 has_effect t = if compares t.parts.head.operator then acts_compared (key_of t.parts.head.key) else not (is_unknown_option t)
+
+-- the first option of a rule that udev does not know, if there is one
+abbrev pub unknown_option : List Placed → Option Placed
+unknown_option tokens = find is_unknown_option tokens
 
 -- whether a rule is dropped because none of its tokens has an effect: for udev it is, by the manual it stays
 abbrev pub lacks_effect : Profile → List Placed → Bool

@@ -1,16 +1,16 @@
 //! Reading a joined line.
-ghost use Rattle.std.specs.Prelude.{◌≡◌, IfOk, MatchResult, Ok};
-ghost use Rattle.rule_core.specs.Drafts.{draft, draft_of, draft_with, items_as, most_bytes, part_of_item, parts_of, written_part};
+ghost use Rattle.std.specs.Prelude.{◌≡◌, option_map, IfOk, MatchResult, Ok};
+ghost use Rattle.rule_core.specs.Drafts.{draft, draft_of, draft_with, idle_spot, items_as, most_bytes, part_of_item, parts_of, written_part};
 ghost use Rattle.rule_parts.specs.Parts.{part_of};
 ghost use Rattle.rule_core.specs.Faults.{FaultOf};
 
 use crate::draft::Draft;
-use crate::effects::lacks_effect;
+use crate::effects::{lacks_effect, unknown_option};
 use crate::line_ends::MAX_UDEV_BYTES;
 use crate::line_fault::LineFault;
 use crate::names::RuleNames;
 use crate::places::line_tokens;
-use crate::spot::{part_spot, token_spot, whole_spot};
+use crate::spot::{Spot, part_spot, token_spot, whole_spot};
 use crate::style::add_style;
 use crate::written::WrittenPart;
 use file_messages::MessageKind;
@@ -65,10 +65,24 @@ fn draft_with<'a>(
 {
     let lacks = lacks_effect(alloc, profile, &parts)?;
     if lacks {
-        let kind = MessageKind::RuleWithoutEffect;
-        return Err(LineFault::Wrong(whole_spot(alloc, kind, line)));
+        let option = unknown_option(alloc, &parts)?;
+        return Err(LineFault::Wrong(idle_spot(alloc, line, option)?));
     }
     Ok(draft(alloc, profile, line, parts)?)
+}
+
+/// Why a rule has no effect: it has an option that udev does not know, and so leaves out, or nothing but matches.
+fn idle_spot(
+    alloc: Global,
+    line: &[u8],
+    option: Option<&Token<'_>>,
+) -> Result<Spot<MessageKind>, AllocError>
+    ensures { IfOk result (λ found. found ≡ idle_spot line.now (option_map (λ t. t.now) option.entry)) }
+{
+    match option {
+        None => Ok(whole_spot(alloc, MessageKind::RuleWithoutEffect, line)),
+        Some(token) => part_spot(alloc, MessageKind::BadValue, token),
+    }
 }
 
 /// The most bytes of a joined line: 16,384, for udev 16,383.

@@ -1,8 +1,8 @@
 //! Whether the tokens of a line do anything but compare.
-ghost use Rattle.std.specs.Prelude.{◌≡◌, Bool, not, IfOk};
+ghost use Rattle.std.specs.Prelude.{◌≡◌, Bool, not, option_map, IfOk};
 ghost use Rattle.std.specs.List.{list_any};
 ghost use Rattle.rule_types.specs.Names.{key_of};
-ghost use Rattle.rule_core.specs.Effects.{acts_compared, has_effect, is_unknown_option, lacks_effect};
+ghost use Rattle.rule_core.specs.Effects.{acts_compared, has_effect, is_unknown_option, lacks_effect, unknown_option};
 ghost use Rattle.rule_core.specs.Written.{tokens_in};
 
 use crate::written::WrittenPart;
@@ -24,6 +24,21 @@ pub(crate) fn lacks_effect(
         Profile::Manual => Ok(false),
         Profile::Udev => Ok(!some_has_effect(alloc, parts)?),
     }
+}
+
+/// The first option of a line that udev does not know, if there is one.
+pub(crate) fn unknown_option<'w, 'a>(
+    alloc: Global,
+    parts: &'w [WrittenPart<'a>],
+) -> Result<Option<&'w Token<'a>>, AllocError>
+    ensures { IfOk result (λ found. option_map (λ t. t.now) found ≡ unknown_option (tokens_in parts.now)) }
+{
+    for written in parts {
+        if is_unknown_option(alloc, &written.token)? {
+            return Ok(Some(&written.token));
+        }
+    }
+    Ok(None)
 }
 
 /// Whether a token has an effect for udev.

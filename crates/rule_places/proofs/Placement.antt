@@ -7,7 +7,7 @@ use Rattle.std.specs.List.{filter_map}
 use Rattle.text_bytes.specs.Names.{comma, double_quote}
 use Rattle.text_bytes.specs.Texts.{first, last}
 use Rattle.file_messages.specs.declared.message.MessageKind.{MessageKind}
-use Rattle.file_messages.specs.declared.message.MessageKind.TheVariants.{LineTooLong, NoLaterLabel, RuleWithoutEffect, LabelUnused, CommaExpected, BlankExpected, LeadingComma, BlankBeforeComma}
+use Rattle.file_messages.specs.declared.message.MessageKind.TheVariants.{BadValue, LineTooLong, NoLaterLabel, RuleWithoutEffect, LabelUnused, CommaExpected, BlankExpected, LeadingComma, BlankBeforeComma}
 use Rattle.text_bytes.specs.declared.profile.Profile.{Profile}
 use Rattle.text_bytes.specs.declared.profile.Profile.TheVariants as profile
 use Rattle.rule_jumps.specs.declared.jumps.Landing.{Landing}
@@ -20,8 +20,8 @@ use Rattle.rule_parts.specs.Parts.{is_read_as_assign, part_of}
 use Rattle.rule_parts.specs.declared.finding.Finding.{Finding}
 use Rattle.rule_types.specs.declared.part.Part.{Part}
 use Rattle.rule_types.specs.declared.part.Part.TheVariants as part
-use Rattle.rule_core.specs.Drafts.{Draft, again_in, draft, draft_of, draft_with, first_place, given_again, given_again_after, given_twice, goto_at, items_as, label_again, label_among, label_at, lost_name, most_bytes, name_place, part_again, part_of_item, parts_of, with_part, written_part}
-use Rattle.rule_core.specs.Effects.{lacks_effect}
+use Rattle.rule_core.specs.Drafts.{Draft, again_in, draft, draft_of, draft_with, first_place, given_again, given_again_after, given_twice, goto_at, idle_spot, items_as, label_again, label_among, label_at, lost_name, most_bytes, name_place, part_again, part_of_item, parts_of, with_part, written_part}
+use Rattle.rule_core.specs.Effects.{is_unknown_option, lacks_effect, unknown_option}
 use Rattle.rule_core.specs.Rules.{line_findings, name_spot}
 use Rattle.rule_core.specs.Spots.{key_spot, spot, token_spot, value_start, whole_spot}
 use Rattle.rule_core.specs.Style.{between, comma_findings, commas, gap_findings, has_blank_before_comma, leading_findings, operator_findings, read_as_assign_kind, style_after, style_findings, whole_gap}
@@ -295,13 +295,23 @@ draft_in_place by line parts e slices =
           (subst (BeginsAt (first_place by line)) (sym items) (all_begin (first_place by line) line)) (subst (EndsLast line) (sym items) (all_end (first_place by line) line (first_within by line))));
     }
 
+-- why a rule has no effect: the option is one of its tokens
+idle_in_place : (line : List ℕ) (parts : List WrittenPart) → AllSlices line parts → IsPresent line (idle_spot line (unknown_option (tokens_in parts)))
+idle_in_place line [] h = whole_in_place line RuleWithoutEffect refl refl
+idle_in_place line (w ∷ parts) h = by (is_unknown_option w.token) (idle_in_place line parts h.1)
+  where
+    by : (b : Bool) → IsPresent line (idle_spot line (unknown_option (tokens_in parts))) → IsPresent line (idle_spot line (cond b (Some w.token) (unknown_option (tokens_in parts))))
+    by true more = part_in_place line BadValue w.token h.0 refl
+    by false more = more
+
 -- a rule that has an effect, or that has none
-ended : (by : Profile) (line : List ℕ) (parts : List WrittenPart) (idle : Bool) → DraftIsPresent line (draft by line parts) → ReadingIsPresent line (cond idle (Err (whole_spot RuleWithoutEffect line)) (Ok (draft by line parts)))
-ended by line parts true h = whole_in_place line RuleWithoutEffect refl refl
-ended by line parts false h = h
+ended : (by : Profile) (line : List ℕ) (parts : List WrittenPart) (idle : Bool) → AllSlices line parts → DraftIsPresent line (draft by line parts)
+    → ReadingIsPresent line (cond idle (Err (idle_spot line (unknown_option (tokens_in parts)))) (Ok (draft by line parts)))
+ended by line parts true a h = idle_in_place line parts a
+ended by line parts false a h = h
 
 read_in_place : (by : Profile) (line : List ℕ) (read : Result (List WrittenPart) (Spot MessageKind)) → parts_of by line (items_as by line) ≡ read → PartsArePresent line read → ReadingIsPresent line (draft_with by line read)
-read_in_place by line (Ok parts) e h = ended by line parts (lacks_effect by (tokens_in parts)) (draft_in_place by line parts e h)
+read_in_place by line (Ok parts) e h = ended by line parts (lacks_effect by (tokens_in parts)) h (draft_in_place by line parts e h)
 read_in_place by line (Err wrong) e h = h
 
 reading_in_place : (by : Profile) (line : List ℕ) → ReadingIsPresent line (draft_of by line)

@@ -3,7 +3,7 @@ use Rattle.std.proofs.Common.{◌≡◌, ℕ, zero, suc, Bool, true, false, cond
 use Rattle.std.specs.List.{AllByRecursion, cons_option, find}
 use Rattle.text_bytes.specs.Texts.{is_empty}
 use Rattle.file_messages.specs.declared.message.MessageKind.{MessageKind}
-use Rattle.file_messages.specs.declared.message.MessageKind.TheVariants.{AttributeElsewhere, BadAttributeSubstitution, BadSubstitution, BadValue, EmptyValue, LineTooLong, OldSubsystemName, ResultBeforeProgram, RuleWithoutEffect}
+use Rattle.file_messages.specs.declared.message.MessageKind.TheVariants.{AttributeElsewhere, BadAttributeSubstitution, BadSubstitution, BadValue, EmptyValue, LineTooLong, OldSubsystemName, ResultBeforeProgram}
 use Rattle.text_bytes.specs.declared.profile.Profile.TheVariants.{Udev}
 use Rattle.rule_templates.specs.Reading.{is_faulty}
 use Rattle.rule_tokens.specs.Grammar.{Item, Placed, compares}
@@ -17,8 +17,8 @@ use Rattle.rule_parts.specs.Parts.{meaning_of}
 use Rattle.rule_types.specs.declared.part.Part.{Part}
 use Rattle.rule_parts.specs.Parts.{part_of}
 use Rattle.rule_parts.specs.declared.finding.Finding.{Finding}
-use Rattle.rule_core.specs.Drafts.{draft, draft_of, draft_with, items_as, most_bytes, parts_of, with_part, written_part}
-use Rattle.rule_core.specs.Effects.{lacks_effect}
+use Rattle.rule_core.specs.Drafts.{draft, draft_of, draft_with, idle_spot, items_as, most_bytes, parts_of, with_part, written_part}
+use Rattle.rule_core.specs.Effects.{lacks_effect, unknown_option}
 use Rattle.rule_core.specs.Written.{WrittenPart, tokens_in}
 use Rattle.rule_pairs.specs.Accounts.{Accounts, given_in}
 use Rattle.rule_pairs.specs.Pairs.{message_of, pair_findings}
@@ -217,7 +217,7 @@ line_reported accounts line = on (nat_lt (most_bytes Udev) (length line))
     items : List Item
     items = items_as Udev line
 
-    kept : (parts : List WrittenPart) (idle : Bool) → parts_of Udev line items ≡ Ok parts → AllPresent line (line_remarks accounts (cond idle (Err (whole_spot RuleWithoutEffect line)) (Ok (draft Udev line parts))))
+    kept : (parts : List WrittenPart) (idle : Bool) → parts_of Udev line items ≡ Ok parts → AllPresent line (line_remarks accounts (cond idle (Err (idle_spot line (unknown_option (tokens_in parts)))) (Ok (draft Udev line parts))))
     kept parts true e = tt
     kept parts false e = rule_reported accounts line (tokens_in parts) (slices line items parts e (all_lie Udev line))
 

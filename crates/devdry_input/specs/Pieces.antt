@@ -6,12 +6,12 @@ use Rattle.engine_ends.specs.Sources.{Gives, SourceFails, SourceState}
 use Rattle.devdry_input.specs.declared.reading.InputFault.{InputFault}
 use Rattle.devdry_input.specs.declared.reading.InputFault.TheVariants.{Memory, Read}
 
--- One piece was read and is added to the text; if the input goes on no more, it is empty and none is left.
+-- One piece was read and is added to the text; if the input goes on no more, it is empty and none was left.
 pub record Adds (more : Bool) (old new : Text) (before now : SourceState) : Type 0 where
   pub piece : Text
   pub gives : Gives before piece now
   pub added : new ≡ old ++ piece
-  pub ends : more ≡ false → NoneLeft now.left
+  pub ends : more ≡ false → (piece ≡ []) × NoneLeft before.left
 
 -- One piece was read.
 pub record GivesOne (before now : SourceState) : Type 0 where

@@ -1,5 +1,6 @@
 pub mod PartialRuns
 pub mod Reading
+pub mod Finding
 pub mod Knowing
 pub mod Comparing
 pub mod Terminals

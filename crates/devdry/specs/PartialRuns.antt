@@ -1,14 +1,15 @@
 -- What runs that go on after what can't be read do.
 use Rattle.std.specs.Prelude.{◌≡◌, ℕ, ◌⊎◌, List, [], max}
 use Rattle.engine_ends.specs.declared.line.Line.{Line}
-use Rattle.engine_ends.specs.Delivery.{Delivers, IsOutOfMemory}
+use Rattle.engine_ends.specs.Delivery.{Delivers}
 use Rattle.engine_ends.specs.Sinks.{BreaksOff, HandsOn, SinkState}
 use Rattle.engine_ends.specs.Streams.{Streams, outputs}
-use Rattle.engine_core.specs.Runs.{RunsOver}
 use Rattle.devdry_files.specs.Answers.{Answer}
 use Rattle.devdry_folders.specs.Surveys.{IsListed, IsReadSome}
 use Rattle.devdry_folders.specs.declared.reading.Listed.{Listed}
 use Rattle.devdry_folders.specs.declared.reading.ReadSome.{ReadSome}
+use Rattle.devdry.specs.Finding.{RunsFinding}
+use Rattle.devdry.specs.Reading.{IsRefusedToRead}
 
 -- The error output has what is reported, and the run after that goes on from there; the status is the run's own, or
 -- the least one if that is greater.
@@ -30,16 +31,11 @@ pub record FailsAtReport (reported : List ℕ) (status : ℕ) (before now : Stre
 abbrev pub RunsAfter : List ℕ → ℕ → (ℕ → Streams → Streams → Type 0) → ℕ → Streams → Streams → Type 0
 RunsAfter reported least Own status before now = Proceeds reported least Own status before now ⊎ FailsAtReport reported status before now
 
--- The reading ran out of memory, and that is reported; no input is read.
-pub record IsRefusedToRead (status : ℕ) (before now : Streams) : Type 0 where
-  pub refused : IsOutOfMemory status (outputs before) (outputs now)
-  pub unread : now.input ≡ before.input
-
 -- What can be read of all that the line asks for was read, and the line is run over that.
 pub record RunsOverSome (may : Answer → Type 0) (line : Line) (status : ℕ) (before now : Streams) : Type 0 where
   pub some : ReadSome
   pub is_some : IsReadSome may line some
-  pub runs : RunsAfter some.report.lines.items some.report.least (RunsOver line some.files.items some.index) status before now
+  pub runs : RunsAfter some.report.lines.items some.report.least (RunsFinding may line some.files.items some.index) status before now
 
 -- what a line that goes on after what can't be read does
 abbrev pub RunsSome : (Answer → Type 0) → Line → ℕ → Streams → Streams → Type 0

@@ -7,17 +7,17 @@ use Rattle.engine_ends.specs.declared.line.LineFault.{LineFault}
 use Rattle.engine_ends.specs.declared.line.Request.{Request}
 use Rattle.engine_ends.specs.declared.line.Request.TheVariants.{Run, Files, Compare}
 use Rattle.engine_ends.specs.Streams.{Streams, outputs}
-use Rattle.engine_core.specs.Runs.{RunsOver}
 use Rattle.devdry_files.specs.Answers.{Answer}
 use Rattle.devdry_folders.specs.declared.reading.Report.{Report}
 use Rattle.devdry_words.specs.Commands.{devdry}
 use Rattle.devdry_words.specs.Answers.{AnswersWords}
 use Rattle.devdry_words.specs.Requests.{IsRequestOf}
 use Rattle.devdry.specs.Comparing.{ComparesLines}
-use Rattle.devdry.specs.Linking.{ReadsRequest, RunsReported, is_events}
-use Rattle.devdry.specs.PartialRuns.{IsRefusedToRead, ListsFiles, RunsAfter, RunsSome}
+use Rattle.devdry.specs.Finding.{RunsFinding, is_events}
+use Rattle.devdry.specs.Linking.{ReadsRequest, RunsReported}
+use Rattle.devdry.specs.PartialRuns.{ListsFiles, RunsAfter, RunsSome}
 use Rattle.devdry.specs.Knowing.{IsFaultOfAccounts, KnowsAccounts}
-use Rattle.devdry.specs.Reading.{AreReadFor, FailsAt, IsFaultOf}
+use Rattle.devdry.specs.Reading.{AreReadFor, FailsAt, IsFaultOf, IsRefusedToRead}
 use Rattle.devdry.specs.Reporting.{ReportsLineFault}
 use Rattle.devdry.specs.Terminals.{shown_request}
 use Rattle.devdry.specs.declared.terminals.Terminals.{Terminals}
@@ -27,7 +27,7 @@ pub record RunsOverFiles (may : Answer → Type 0) (line : Line) (status : ℕ) 
   pub files : List SourceFile
   pub index : Option (List ℕ)
   pub are_read : AreReadFor may line files index
-  pub over : RunsOver line files index status before now
+  pub over : RunsFinding may line files index status before now
 
 -- what a line that ends at what can't be read does
 abbrev pub RunsWanted : (Answer → Type 0) → Line → ℕ → Streams → Streams → Type 0

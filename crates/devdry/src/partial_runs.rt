@@ -2,13 +2,13 @@
 //!
 //! What is reported for the reading is written first. Then the run is like any other, and its status is at least
 //! the one that the reading asks for.
-ghost use Rattle.engine_core.specs.Runs.{RunsOver};
 ghost use Rattle.engine_ends.specs.Sources.{SourceState};
+ghost use Rattle.devdry.specs.Finding.{RunsFinding};
 ghost use Rattle.devdry.specs.PartialRuns.{DeliversLines, ListsFiles, RunsAfter, RunsSome};
 
+use crate::finding::serve_finding;
 use devdry_files::Disk;
 use devdry_folders::{Listed, ReadSome, list_files, read_what_can};
-use engine_core::serve;
 use engine_ends::{DeviceFault, Line, Sink, Source, deliver, hand_on, report_out_of_memory};
 use std::alloc::Global;
 use text_bytes::Bytes;
@@ -27,21 +27,22 @@ pub(crate) fn run_some<D: Disk, I: Source, W: Sink, E: Sink>(
         (record { input = I.shown input.new; out = W.shown output.new; err = E.shown error.new }) }
 {
     match read_what_can(alloc, disk, line) {
-        Ok(some) => run_over(alloc, line, some, input, output, error),
+        Ok(some) => run_over(alloc, disk, line, some, input, output, error),
         Err(_) => report_out_of_memory(error),
     }
 }
 
 /// Reports what could not be read, and runs a line over what could.
-fn run_over<I: Source, W: Sink, E: Sink>(
+fn run_over<D: Disk, I: Source, W: Sink, E: Sink>(
     alloc: Global,
+    disk: &D,
     line: &Line<'_>,
     some: ReadSome,
     input: &mut I,
     output: &mut W,
     error: &mut E,
 ) -> u8
-    ensures { RunsAfter some.report.lines.items some.report.least (RunsOver line.now some.files.items some.index) result
+    ensures { RunsAfter some.report.lines.items some.report.least (RunsFinding (D.may_answer disk.now) line.now some.files.items some.index) result
         (record { input = I.shown input.old; out = W.shown output.old; err = E.shown error.old })
         (record { input = I.shown input.new; out = W.shown output.new; err = E.shown error.new }) }
 {
@@ -53,7 +54,7 @@ fn run_over<I: Source, W: Sink, E: Sink>(
     match hand_on(error, &report.lines) {
         Ok(()) => {
             let index = index.as_ref().map(Bytes::as_slice);
-            let own = serve(alloc, line, files, index, input, output, error);
+            let own = serve_finding(alloc, disk, line, files, index, input, output, error);
             own.max(report.least)
         }
         Err(DeviceFault) => 3,

@@ -4,13 +4,13 @@ ghost use Rattle.devdry.specs.Reading.{AreReadFor, IsFaultOf};
 ghost use Rattle.devdry.specs.Runs.{DoesAfter, DoesRequest, Runs, RunsLine, RunsWanted, takes_blocks};
 
 use crate::comparing::run_compare;
+use crate::finding::serve_finding;
 use crate::knowing::run_knowing;
 use crate::partial_runs::{run_files, run_some};
 use crate::reporting::{report_line_fault, report_read_fault};
 use crate::terminals::{Terminals, shown_request};
 use devdry_files::{Disk, ReadFault, read_all, read_index, wanted};
 use devdry_words::parse_line;
-use engine_core::serve;
 use engine_ends::{DeviceFault, Line, Request, Sink, Source, Verb, hand_on};
 use std::alloc::Global;
 use text_bytes::{Bytes, SourceFile};
@@ -147,7 +147,7 @@ fn run_wanted<D: Disk, I: Source, W: Sink, E: Sink>(
     match read_wanted(alloc, disk, line) {
         Ok(Inputs { files, index }) => {
             let index = index.as_ref().map(Bytes::as_slice);
-            serve(alloc, line, files, index, input, output, error)
+            serve_finding(alloc, disk, line, files, index, input, output, error)
         }
         Err(fault) => report_read_fault(&fault, error),
     }

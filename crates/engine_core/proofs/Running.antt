@@ -23,48 +23,49 @@ use Rattle.engine_sessions.specs.Serves.{AnswersAll, Serves}
 use Rattle.engine_sessions.specs.Sessions.{answers_as}
 use Rattle.engine_sessions.proofs.Serving.{answers_serve, reports_serve}
 use Rattle.builtin_core.specs.Builtins.{Held, known_by}
+use Rattle.builtin_knowledge.specs.Knowledge.{FilesFound}
 use Rattle.engine_answers.specs.Answers.{answer_by}
 use Rattle.engine_courses.specs.Questions.{question_answer}
 use Rattle.engine_core.specs.Outcomes.{answer_by_line, answer_with, asked_of, asks_more, before_input, known_for, outcome, outcome_by, reads_modaliases, reported_for}
 use Rattle.engine_core.specs.Runs.{RunsBy}
 use Rattle.engine_core.specs.Reported.{ReportedValue, reported_by}
 
-runs_serve : (line : Line) (opened : Result OpeningValue RunOutcome) (status : ℕ) (before now : Streams) → RunsBy line opened status before now → Serves (outcome_by line opened) status before now
-runs_serve line (Ok opening) status before now r = answers_serve opening.messages (answer_with line opening) status before now r
-runs_serve line (Err said) status before now r = reports_serve (λ text. said) said status before now (λ text. refl) r
+runs_serve : (line : Line) (found : FilesFound) (opened : Result OpeningValue RunOutcome) (status : ℕ) (before now : Streams) → RunsBy line found opened status before now → Serves (outcome_by line found opened) status before now
+runs_serve line found (Ok opening) status before now r = answers_serve opening.messages (answer_with line found opening) status before now r
+runs_serve line found (Err said) status before now r = reports_serve (λ text. said) said status before now (λ text. refl) r
 
 lookups_serve : (line : Line) (read : Result DatabaseValue RunOutcome) (status : ℕ) (before now : Streams) → LooksUpBy line read status before now → Serves (lookups_by line read) status before now
 lookups_serve line (Ok database) status before now r = r.serves
 lookups_serve line (Err said) status before now r = reports_serve (λ text. said) said status before now (λ text. refl) r
 
 -- a run that looks up the modaliases of its input serves
-pub look_ups_serve : (line : Line) (files : List SourceFile) (opened : Option (Result Contents IndexFault)) (status : ℕ) (before now : Streams) → reads_modaliases line ≡ true → LooksUpBy line (database line files opened) status before now
-    → Serves (outcome line files opened) status before now
-look_ups_serve line files opened status before now e r =
-    subst (λ (v : Bool). Serves (λ input. cond v (lookups_by line (database line files opened) input) (outcome_by line (before_input line.verb line files opened) input)) status before now) (sym e)
+pub look_ups_serve : (line : Line) (files : List SourceFile) (found : FilesFound) (opened : Option (Result Contents IndexFault)) (status : ℕ) (before now : Streams) → reads_modaliases line ≡ true → LooksUpBy line (database line files opened) status before now
+    → Serves (outcome line files found opened) status before now
+look_ups_serve line files found opened status before now e r =
+    subst (λ (v : Bool). Serves (λ input. cond v (lookups_by line (database line files opened) input) (outcome_by line found (before_input line.verb line files opened) input)) status before now) (sym e)
     (lookups_serve line (database line files opened) status before now r)
 
 -- any other run serves
-pub others_serve : (line : Line) (files : List SourceFile) (opened : Option (Result Contents IndexFault)) (status : ℕ) (before now : Streams) → reads_modaliases line ≡ false → RunsBy line (before_input line.verb line files opened) status before now
-    → Serves (outcome line files opened) status before now
-others_serve line files opened status before now e r =
-    subst (λ (v : Bool). Serves (λ input. cond v (lookups_by line (database line files opened) input) (outcome_by line (before_input line.verb line files opened) input)) status before now) (sym e)
-    (runs_serve line (before_input line.verb line files opened) status before now r)
+pub others_serve : (line : Line) (files : List SourceFile) (found : FilesFound) (opened : Option (Result Contents IndexFault)) (status : ℕ) (before now : Streams) → reads_modaliases line ≡ false → RunsBy line found (before_input line.verb line files opened) status before now
+    → Serves (outcome line files found opened) status before now
+others_serve line files found opened status before now e r =
+    subst (λ (v : Bool). Serves (λ input. cond v (lookups_by line (database line files opened) input) (outcome_by line found (before_input line.verb line files opened) input)) status before now) (sym e)
+    (runs_serve line found (before_input line.verb line files opened) status before now r)
 
 -- what is said without a look at the input
-pub report_runs : (line : Line) (begun : Result OpeningValue RunOutcome) (said : RunOutcome) (report : Result Report Refusal) (status : ℕ) (before now : Streams) → begun ≡ Err said → ((outcome : RunOutcome) → IsReport outcome report → Delivers outcome status (outputs before) (outputs now))
-    → ReportsFaults status (outputs before) (outputs now) → IsReport said report → now.input ≡ before.input → RunsBy line begun status before now
-report_runs line begun said report status before now e delivers faults is unread = rw e (record { delivers = delivers said is; faults = faults; unread = unread })
+pub report_runs : (line : Line) (found : FilesFound) (begun : Result OpeningValue RunOutcome) (said : RunOutcome) (report : Result Report Refusal) (status : ℕ) (before now : Streams) → begun ≡ Err said → ((outcome : RunOutcome) → IsReport outcome report → Delivers outcome status (outputs before) (outputs now))
+    → ReportsFaults status (outputs before) (outputs now) → IsReport said report → now.input ≡ before.input → RunsBy line found begun status before now
+report_runs line found begun said report status before now e delivers faults is unread = rw e (record { delivers = delivers said is; faults = faults; unread = unread })
 
 -- what there is to say if events can't be answered
-pub refused_runs : (line : Line) (refusal : Refusal) (opened : Result OpeningValue RunOutcome) (status : ℕ) (before now : Streams) → IsRefused refusal opened
+pub refused_runs : (line : Line) (found : FilesFound) (refusal : Refusal) (opened : Result OpeningValue RunOutcome) (status : ℕ) (before now : Streams) → IsRefused refusal opened
     → ((outcome : RunOutcome) → IsSaid refusal outcome → Delivers outcome status (outputs before) (outputs now)) → ReportsFaults status (outputs before) (outputs now)
-    → (refusal ≡ Memory → ReportsFailure out_of_memory 4 status before.err now.err × (now.out ≡ before.out)) → now.input ≡ before.input → RunsBy line opened status before now
-refused_runs line TooManyEntries opened status before now is delivers faults memory unread = rw is (record { delivers = delivers too_many_entries refl; faults = faults; unread = unread })
-refused_runs line TooManyRules opened status before now is delivers faults memory unread = rw is (record { delivers = delivers too_many_rules refl; faults = faults; unread = unread })
-refused_runs line (Index fault) opened status before now is delivers faults memory unread = rw is (record { delivers = delivers (refused_index fault) refl; faults = faults; unread = unread })
-refused_runs line Memory (Ok opening) status before now is delivers faults memory unread = inl (record { unread = unread; unanswered = (memory refl).1; reports = inr (memory refl).0 })
-refused_runs line Memory (Err said) status before now is delivers faults memory unread = record { delivers = delivers said tt; faults = faults; unread = unread }
+    → (refusal ≡ Memory → ReportsFailure out_of_memory 4 status before.err now.err × (now.out ≡ before.out)) → now.input ≡ before.input → RunsBy line found opened status before now
+refused_runs line found TooManyEntries opened status before now is delivers faults memory unread = rw is (record { delivers = delivers too_many_entries refl; faults = faults; unread = unread })
+refused_runs line found TooManyRules opened status before now is delivers faults memory unread = rw is (record { delivers = delivers too_many_rules refl; faults = faults; unread = unread })
+refused_runs line found (Index fault) opened status before now is delivers faults memory unread = rw is (record { delivers = delivers (refused_index fault) refl; faults = faults; unread = unread })
+refused_runs line found Memory (Ok opening) status before now is delivers faults memory unread = inl (record { unread = unread; unanswered = (memory refl).1; reports = inr (memory refl).0 })
+refused_runs line found Memory (Err said) status before now is delivers faults memory unread = record { delivers = delivers said tt; faults = faults; unread = unread }
 
 -- what refuses an opening is said whatever is asked for
 pub asked_refused : (refusal : Refusal) (why : List Text) (opened : Result OpeningValue RunOutcome) → IsRefused refusal opened → IsRefused refusal (asked_of why opened)
@@ -74,27 +75,27 @@ asked_refused (Index fault) why opened is = ap (asked_of why) is
 asked_refused Memory why opened is = tt
 
 -- events that are answered by what the line asks for are answered as it asks
-answered_runs : (line : Line) (opening : OpeningValue) (messages : Text) (answer : EventValue → Text) (status : ℕ) (before now : Streams) → messages ≡ opening.messages → answer ≡ answer_by_line line opening
-    → AnswersAll messages (answers_as line.profile answer) status before now → AnswersAll opening.messages (answer_with line opening) status before now
-answered_runs line opening messages answer status before now m a h =
-    subst (λ u. AnswersAll u (answer_with line opening) status before now) m (subst (λ (f : EventValue → Text). AnswersAll messages (answers_as line.profile f) status before now) a h)
+answered_runs : (line : Line) (found : FilesFound) (opening : OpeningValue) (messages : Text) (answer : EventValue → Text) (status : ℕ) (before now : Streams) → messages ≡ opening.messages → answer ≡ answer_by_line line found opening
+    → AnswersAll messages (answers_as line.profile answer) status before now → AnswersAll opening.messages (answer_with line found opening) status before now
+answered_runs line found opening messages answer status before now m a h =
+    subst (λ u. AnswersAll u (answer_with line found opening) status before now) m (subst (λ (f : EventValue → Text). AnswersAll messages (answers_as line.profile f) status before now) a h)
 
 -- a line that asks for questions is answered with these
-pub asked_runs : (line : Line) (opening : OpeningValue) (messages : Text) (tables : List Rule × Held) (status : ℕ) (before now : Streams) → line.questions ≡ true → messages ≡ opening.messages → tables ≡ (opening.rules, record { links = line.links.items; entries = opening.entries })
-    → AnswersAll messages (answers_as line.profile (question_answer tables.0 (known_by tables.1))) status before now → AnswersAll opening.messages (answer_with line opening) status before now
-asked_runs line opening messages tables status before now q m t h =
-    let other : EventValue → Text = cond (asks_more line) (reported_by (reported_for line opening) (known_for line opening)) (answer_by opening.rules (known_for line opening)) in
-    answered_runs line opening messages (question_answer tables.0 (known_by tables.1)) status before now m
-    (ap (λ (t : List Rule × Held). question_answer t.0 (known_by t.1)) t ∙ ap (λ b. cond b (question_answer opening.rules (known_for line opening)) other) (sym q)) h
+pub asked_runs : (line : Line) (found : FilesFound) (opening : OpeningValue) (messages : Text) (tables : List Rule × Held) (status : ℕ) (before now : Streams) → line.questions ≡ true → messages ≡ opening.messages → tables ≡ (opening.rules, record { links = line.links.items; files = found; entries = opening.entries })
+    → AnswersAll messages (answers_as line.profile (question_answer tables.0 (known_by tables.1))) status before now → AnswersAll opening.messages (answer_with line found opening) status before now
+asked_runs line found opening messages tables status before now q m t h =
+    let other : EventValue → Text = cond (asks_more line) (reported_by (reported_for line opening) (known_for line found opening)) (answer_by opening.rules (known_for line found opening)) in
+    answered_runs line found opening messages (question_answer tables.0 (known_by tables.1)) status before now m
+    (ap (λ (t : List Rule × Held). question_answer t.0 (known_by t.1)) t ∙ ap (λ b. cond b (question_answer opening.rules (known_for line found opening)) other) (sym q)) h
 
 -- a line that asks for more is answered with that
-pub reported_runs : (line : Line) (opening : OpeningValue) (messages : Text) (tables : ReportedValue × Held) (status : ℕ) (before now : Streams) → line.questions ≡ false → asks_more line ≡ true → messages ≡ opening.messages
-    → tables ≡ (reported_for line opening, record { links = line.links.items; entries = opening.entries }) → AnswersAll messages (answers_as line.profile (reported_by tables.0 (known_by tables.1))) status before now → AnswersAll opening.messages (answer_with line opening) status before now
-reported_runs line opening messages tables status before now q a m t h =
-    let asked : EventValue → Text = question_answer opening.rules (known_for line opening) in
-    let more : EventValue → Text = reported_by (reported_for line opening) (known_for line opening) in
-    let alone : EventValue → Text = answer_by opening.rules (known_for line opening) in
-    answered_runs line opening messages (reported_by tables.0 (known_by tables.1)) status before now m
+pub reported_runs : (line : Line) (found : FilesFound) (opening : OpeningValue) (messages : Text) (tables : ReportedValue × Held) (status : ℕ) (before now : Streams) → line.questions ≡ false → asks_more line ≡ true → messages ≡ opening.messages
+    → tables ≡ (reported_for line opening, record { links = line.links.items; files = found; entries = opening.entries }) → AnswersAll messages (answers_as line.profile (reported_by tables.0 (known_by tables.1))) status before now → AnswersAll opening.messages (answer_with line found opening) status before now
+reported_runs line found opening messages tables status before now q a m t h =
+    let asked : EventValue → Text = question_answer opening.rules (known_for line found opening) in
+    let more : EventValue → Text = reported_by (reported_for line opening) (known_for line found opening) in
+    let alone : EventValue → Text = answer_by opening.rules (known_for line found opening) in
+    answered_runs line found opening messages (reported_by tables.0 (known_by tables.1)) status before now m
     (ap (λ (t : ReportedValue × Held). reported_by t.0 (known_by t.1)) t
     ∙ ap (λ b. cond b more alone) (sym a)
     ∙ ap (λ b. cond b asked (cond (asks_more line) more alone)) (sym q)) h

@@ -11,6 +11,7 @@ ghost use Rattle.engine_sessions.specs.Serves.{AnswersAll};
 use crate::asked::AskedTables;
 use crate::reported::ReportedTables;
 use builtin_core::Builtins;
+use builtin_knowledge::RootFiles;
 use engine_answers::Tables;
 use engine_courses::first_unknown;
 use engine_ends::{Line, Sink, Source, report_out_of_memory};
@@ -24,28 +25,30 @@ use std::alloc::Global;
 use text_bytes::SourceFile;
 
 /// Reads what events are answered by, writes the messages about it, answers the input, both by the line's profile,
-/// and returns the status to exit with. The database is the index that was opened, or otherwise that of the files.
+/// and returns the status to exit with. The database is the index that was opened, or otherwise that of the files;
+/// `found` is what was found at paths of the root.
 pub(crate) fn serve_events<R: Source, W: Sink, E: Sink>(
     alloc: Global,
     line: &Line<'_>,
     files: Vec<SourceFile>,
+    found: &RootFiles,
     opened: Option<Result<Index<'_>, IndexFault>>,
     input: &mut R,
     output: &mut W,
     error: &mut E,
 ) -> u8
-    ensures { RunsBy line.now (asked_of (why_of line.now) (opening line.now files.items opened.entry)) result
+    ensures { RunsBy line.now found.now (asked_of (why_of line.now) (opening line.now files.items opened.entry)) result
         (record { input = R.shown input.old; out = W.shown output.old; err = E.shown error.old })
         (record { input = R.shown input.new; out = W.shown output.new; err = E.shown error.new }) }
 {
     match opened {
         None => {
             let read = open_with_database(alloc, line, files);
-            answer_over(alloc, line, read, input, output, error)
+            answer_over(alloc, line, found, read, input, output, error)
         }
         Some(Ok(index)) => {
             let read = open_beside(alloc, line, files, index);
-            answer_over(alloc, line, read, input, output, error)
+            answer_over(alloc, line, found, read, input, output, error)
         }
         Some(Err(fault)) => deliver_refusal(Refusal::Index(fault), output, error),
     }
@@ -56,18 +59,21 @@ pub(crate) fn serve_events<R: Source, W: Sink, E: Sink>(
 fn answer_over<L: Lookup + Drop, R: Source, W: Sink, E: Sink>(
     alloc: Global,
     line: &Line<'_>,
+    found: &RootFiles,
     read: Result<(RulesRead, L), Refusal>,
     input: &mut R,
     output: &mut W,
     error: &mut E,
 ) -> u8
     ensures { (opened : Result OpeningValue RunOutcome) → IfOk read (λ r. opened ≡ Ok (shown_rules r.0 (L.entries r.1)))
-        → IfErr read (λ e. IsRefused e opened) → RunsBy line.now (asked_of (why_of line.now) opened) result
+        → IfErr read (λ e. IsRefused e opened) → RunsBy line.now found.now (asked_of (why_of line.now) opened) result
         (record { input = R.shown input.old; out = W.shown output.old; err = E.shown error.old })
         (record { input = R.shown input.new; out = W.shown output.new; err = E.shown error.new }) }
 {
     match read {
-        Ok((rules, lookup)) => answer_asked(alloc, line, rules, lookup, input, output, error),
+        Ok((rules, lookup)) => answer_asked(
+            alloc, line, found, rules, lookup, input, output, error,
+        ),
         Err(refusal) => deliver_refusal(refusal, output, error),
     }
 }
@@ -76,13 +82,14 @@ fn answer_over<L: Lookup + Drop, R: Source, W: Sink, E: Sink>(
 fn answer_asked<L: Lookup + Drop, R: Source, W: Sink, E: Sink>(
     alloc: Global,
     line: &Line<'_>,
+    found: &RootFiles,
     read: RulesRead,
     lookup: L,
     input: &mut R,
     output: &mut W,
     error: &mut E,
 ) -> u8
-    ensures { RunsBy line.now (asked_of (why_of line.now) (Ok (shown_rules read (L.entries lookup)))) result
+    ensures { RunsBy line.now found.now (asked_of (why_of line.now) (Ok (shown_rules read (L.entries lookup)))) result
         (record { input = R.shown input.old; out = W.shown output.old; err = E.shown error.old })
         (record { input = R.shown input.new; out = W.shown output.new; err = E.shown error.new }) }
 {
@@ -92,7 +99,7 @@ fn answer_asked<L: Lookup + Drop, R: Source, W: Sink, E: Sink>(
         read.rules.messages(),
         read.rules.rules().rules(),
     ) {
-        Ok(None) => answer_by_rules(alloc, line, read, lookup, input, output, error),
+        Ok(None) => answer_by_rules(alloc, line, found, read, lookup, input, output, error),
         Ok(Some(unknown)) => {
             deliver_usage_error(&read.messages, unknown.as_slice(), output, error)
         }
@@ -105,20 +112,21 @@ fn answer_asked<L: Lookup + Drop, R: Source, W: Sink, E: Sink>(
 fn answer_by_rules<L: Lookup + Drop, R: Source, W: Sink, E: Sink>(
     alloc: Global,
     line: &Line<'_>,
+    found: &RootFiles,
     read: RulesRead,
     lookup: L,
     input: &mut R,
     output: &mut W,
     error: &mut E,
 ) -> u8
-    ensures { AnswersAll read.messages.items (answer_with line.now (shown_rules read (L.entries lookup))) result
+    ensures { AnswersAll read.messages.items (answer_with line.now found.now (shown_rules read (L.entries lookup))) result
         (record { input = R.shown input.old; out = W.shown output.old; err = E.shown error.old })
         (record { input = R.shown input.new; out = W.shown output.new; err = E.shown error.new }) }
 {
     if line.questions {
-        ask_by_rules(alloc, line, read, lookup, input, output, error)
+        ask_by_rules(alloc, line, found, read, lookup, input, output, error)
     } else {
-        report_by_rules(alloc, line, read, lookup, input, output, error)
+        report_by_rules(alloc, line, found, read, lookup, input, output, error)
     }
 }
 
@@ -126,6 +134,7 @@ fn answer_by_rules<L: Lookup + Drop, R: Source, W: Sink, E: Sink>(
 fn ask_by_rules<L: Lookup + Drop, R: Source, W: Sink, E: Sink>(
     alloc: Global,
     line: &Line<'_>,
+    found: &RootFiles,
     read: RulesRead,
     lookup: L,
     input: &mut R,
@@ -133,12 +142,15 @@ fn ask_by_rules<L: Lookup + Drop, R: Source, W: Sink, E: Sink>(
     error: &mut E,
 ) -> u8
     requires { line.now.questions ≡ true }
-    ensures { AnswersAll read.messages.items (answer_with line.now (shown_rules read (L.entries lookup))) result
+    ensures { AnswersAll read.messages.items (answer_with line.now found.now (shown_rules read (L.entries lookup))) result
         (record { input = R.shown input.old; out = W.shown output.old; err = E.shown error.old })
         (record { input = R.shown input.new; out = W.shown output.new; err = E.shown error.new }) }
 {
     let RulesRead { messages, rules } = read;
-    let tables = AskedTables::new(rules.into_rules(), Builtins::new(lookup, &line.links));
+    let tables = AskedTables::new(
+        rules.into_rules(),
+        Builtins::new(lookup, &line.links, found),
+    );
     answer_after_messages(
         alloc,
         line.profile,
@@ -155,6 +167,7 @@ fn ask_by_rules<L: Lookup + Drop, R: Source, W: Sink, E: Sink>(
 fn report_by_rules<L: Lookup + Drop, R: Source, W: Sink, E: Sink>(
     alloc: Global,
     line: &Line<'_>,
+    found: &RootFiles,
     read: RulesRead,
     lookup: L,
     input: &mut R,
@@ -162,21 +175,21 @@ fn report_by_rules<L: Lookup + Drop, R: Source, W: Sink, E: Sink>(
     error: &mut E,
 ) -> u8
     requires { line.now.questions ≡ false }
-    ensures { AnswersAll read.messages.items (answer_with line.now (shown_rules read (L.entries lookup))) result
+    ensures { AnswersAll read.messages.items (answer_with line.now found.now (shown_rules read (L.entries lookup))) result
         (record { input = R.shown input.old; out = W.shown output.old; err = E.shown error.old })
         (record { input = R.shown input.new; out = W.shown output.new; err = E.shown error.new }) }
 {
     let RulesRead { messages, rules } = read;
     let profile = line.profile;
     if line.sources || !line.why.is_empty() {
-        let builtins = Builtins::new(lookup, &line.links);
+        let builtins = Builtins::new(lookup, &line.links, found);
         let tables = ReportedTables::new(line.sources, &line.why, rules, builtins);
         return answer_after_messages(alloc, profile, &messages, &tables, input, output, error);
     }
     match Tables::new(
         alloc,
         rules.into_rules(),
-        Builtins::new(lookup, &line.links),
+        Builtins::new(lookup, &line.links, found),
     ) {
         Ok(tables) => answer_after_messages(
             alloc, profile, &messages, &tables, input, output, error,

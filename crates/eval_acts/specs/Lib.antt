@@ -1,6 +1,7 @@
 pub mod LookUps
 pub mod BuiltinRuns
 pub mod Imports
+pub mod RootImports
 pub mod Stored
 pub mod Reaching
 pub mod Acts

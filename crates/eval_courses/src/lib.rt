@@ -15,6 +15,7 @@ mod answers;
 mod asking;
 mod asks;
 mod commands;
+mod imports;
 mod keys;
 mod laws;
 mod moments;

@@ -1,6 +1,6 @@
 use Rattle.std.proofs.Common.{◌≡◌, inl, inr, refl, rules, subst}
 use Rattle.std.specs.Option.{option_map}
-use Rattle.engine_core.specs.Runs.{RunsOver}
+use Rattle.devdry.specs.Finding.{RunsFinding}
 use Rattle.devdry.proofs.running.run_wanted.Goals as goal
 
 pub returns-in-Ok : goal.returns-in-Ok
@@ -11,9 +11,9 @@ returns-in-Ok g c =
       files = inputs.files.items;
       index = inputs.index;
       are_read = c.in-Ok.ensures.inputs;
-      over = subst (λ index. RunsOver c.args.line.now inputs.files.items index c.serve.result
+      over = subst (λ index. RunsFinding (g.D.Disk.may_answer c.args.disk.now) c.args.line.now inputs.files.items index c.serve_finding.result
           (record { input = g.I.Source.shown c.args.input.now; out = g.W.Sink.shown c.args.output.now; err = g.E.Sink.shown c.args.error.now })
-          (record { input = g.I.Source.shown c.serve.new.input; out = g.W.Sink.shown c.serve.new.output; err = g.E.Sink.shown c.serve.new.error })) borrowed c.serve.ensures.runs;
+          (record { input = g.I.Source.shown c.serve_finding.new.input; out = g.W.Sink.shown c.serve_finding.new.output; err = g.E.Sink.shown c.serve_finding.new.error })) borrowed c.serve_finding.ensures;
     })
 
 pub returns-in-Err : goal.returns-in-Err

@@ -10,7 +10,7 @@ returns-in-Ok g c =
     let new = shown_rules c.args.new (g.M.Lookup.entries c.args.new_lookup) in
     let messages : c.deref-in-Ok.result.now ≡ both_messages c.args.old.messages.items c.args.new.messages.items = c.deref-in-Ok.ensures.value ∙ c.in-Ok.ensures.messages in
     let tables : c.in-Ok.tables ≡ (
-      (old.rules, record { links = c.args.old_line.now.links.items; entries = old.entries }),
-      (new.rules, record { links = c.args.new_line.now.links.items; entries = new.entries }),
+      (old.rules, record { links = c.args.old_line.now.links.items; files = c.args.old_found.now; entries = old.entries }),
+      (new.rules, record { links = c.args.new_line.now.links.items; files = c.args.new_found.now; entries = new.entries }),
     ) = search rules in
     finds_both c.args.old_line.now _ _ c.in-Ok.tables _ _ _ _ messages tables c.find_after_messages.ensures.steps

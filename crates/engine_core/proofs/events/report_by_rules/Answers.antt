@@ -11,5 +11,5 @@ returns-then-line g c =
     let asks : asks_more c.args.line.now ≡ true =
     elim c.then-line.branch [ then-line-via-then-line w ↦ search rules | then-line-via-else-line+then-not-is_empty w ↦ search rules ] in
     let messages : c.deref-then-line-2.result.now ≡ c.args.read.messages.items = search rules in
-    let tables : c.new-tables.result ≡ (reported_for c.args.line.now opened, record { links = c.args.line.now.links.items; entries = opened.entries }) = search rules in
-    reported_runs c.args.line.now opened c.deref-then-line-2.result.now c.new-tables.result _ _ _ c.requires asks messages tables c.answer_after_messages.ensures.steps
+    let tables : c.new-tables.result ≡ (reported_for c.args.line.now opened, record { links = c.args.line.now.links.items; files = c.args.found.now; entries = opened.entries }) = search rules in
+    reported_runs c.args.line.now c.args.found.now opened c.deref-then-line-2.result.now c.new-tables.result _ _ _ c.requires asks messages tables c.answer_after_messages.ensures.steps

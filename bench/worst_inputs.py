@@ -68,6 +68,17 @@ def verify(rules):
     return ["verify", "r.rules"], {"r.rules": rules}, ""
 
 
+def checked_links(text):
+    return ["verify", "--links", "a.link"], {"a.link": text}, ""
+
+
+def links_with_drop_ins(count):
+    """.link files with a drop-in each, which are checked."""
+    files = {f"root/etc/systemd/network/{number:05}.link": "[Match]\n" for number in range(count)}
+    drop_ins = {f"root/etc/systemd/network/{number:05}.link.d/a.conf": "[Link]\n" for number in range(count)}
+    return ["verify", "--links", "-r", "root"], files | drop_ins, ""
+
+
 def query(text, modalias="m"):
     return ["query", modalias, "t.hwdb"], {"t.hwdb": text}, ""
 
@@ -186,7 +197,18 @@ UDEV = [
     Case("properties that are imported and removed", 300, lambda n: as_udev('IMPORT{program}="/p"\n' * 100, printing(n)), 150),
 ]
 
+LINKS = [
+    # each file has its drop-ins among all
+    Case(".link files that are checked with a drop-in each", 300, links_with_drop_ins, 150),
+    Case("unknown keys of a .link file", 20_000, lambda n: checked_links("[Link]\n" + each("Nmae#=\n", n))),
+    Case("patterns of a .link file that is checked", 20_000, lambda n: checked_links("[Match]\n" + each("OriginalName=x#\n", n))),
+    Case("words of a line of a .link file", 20_000, lambda n: checked_links("[Match]\nPath=" + each("x# ", n) + '"\n')),
+    Case("lines of a .link file that go on", 100_000, lambda n: checked_links("[Match]\nPath=x" + " \\\n" * n)),
+]
+
 BLOCKS = [
+    Case("rules that no block met", 10_000, lambda n: told("--unused", each('ENV{A}=="1", ENV{B#}=="#", RESULT=="#", NAME="n"\n', n))),
+    Case("blocks that meet no rule", 5_000, lambda n: (["events", "-r", "none", "--unused", "r.rules"], {"r.rules": each('ENV{B#}=="#", NAME="n"\n', 20)}, (DEVICE + "\n") * n)),
     Case("questions", 3_000, lambda n: (["events", "-r", "none", "--questions", "r.rules"], {"r.rules": each('PROGRAM!="p#"\n', n)}, DEVICE)),
     *(Case(f"blocks full of {template[0]} lines", 10, lambda n, template=template: events("", full(template) * n))
       for template in ["E: #=1\n", "A: #=1\n", "G: #\n", "S: #\n", "B: #=1\n", "K: #=1\n", "Q: #\nR: 0\n"]),
@@ -257,7 +279,7 @@ def is_right(program, case):
 
 
 def main(program, word):
-    cases = [case for case in [*RENDERING, *RULES, *TOLD, *UDEV, *BLOCKS, *DATABASE] if word in case.name]
+    cases = [case for case in [*RENDERING, *RULES, *TOLD, *UDEV, *LINKS, *BLOCKS, *DATABASE] if word in case.name]
     wrong = [case.name for case in cases if not is_right(program, case)]
     print(f"{len(cases) - len(wrong)} of {len(cases)} expensive inputs take no more than about ten times as long for ten times as much")
     return bool(wrong)

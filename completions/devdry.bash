@@ -25,13 +25,13 @@ _devdry_words() {
     mapfile -t COMPREPLY < <(compgen -W "$*" -- "$word")
 }
 
-_devdry_codes='V1 V2 V3 V4 V5 V6 V7 V8 V9 V10 V11 V12 V13 V14 V15 V16 V17 V18 V19 V20 V21 V22 V23 V24 V25 V26 S1 S2 S3 S4 S5 S6 H1 H2 H3 H4 H5 H6 W1 W2 W3 W4 W5 W6 W7 W8 W9 W10 W11 W12 W13 W14 W15 W16 W17 W18 W19 W20 W21 W22 W23 W24 W25 W26 W27 D1 D2 D3 D4 D5 D6 D7 D8 D9 D10 D11 D12 D13'
+_devdry_codes='V1 V2 V3 V4 V5 V6 V7 V8 V9 V10 V11 V12 V13 V14 V15 V16 V17 V18 V19 V20 V21 V22 V23 V24 V25 V26 S1 S2 S3 S4 S5 S6 H1 H2 H3 H4 H5 H6 W1 W2 W3 W4 W5 W6 W7 W8 W9 W10 W11 W12 W13 W14 W15 W16 W17 W18 W19 W20 W21 W22 W23 W24 W25 W26 W27 D1 D2 D3 D4 D5 D6 D7 D8 D9 D10 D11 D12 D13 L1 L2 L3 L4 L5'
 
 # _devdry_code_list: the current word may become codes with commas between them, with `comments` among them.
 _devdry_code_list() {
     local front=
     case $word in *,*) front=${word%,*}, ;; esac
-    mapfile -t COMPREPLY < <(compgen -P "$front" -W "V S H W D I $_devdry_codes comments" -- "${word##*,}")
+    mapfile -t COMPREPLY < <(compgen -P "$front" -W "V S H W D L I $_devdry_codes comments" -- "${word##*,}")
 }
 
 # Whether query takes a database file as the current word: after a modalias, a word that is neither an option nor the
@@ -49,11 +49,20 @@ _devdry_takes_database() {
     return $takes
 }
 
+# _devdry_checked: the suffix of the files that verify checks, by the options before the current word.
+_devdry_checked() {
+    case " ${COMP_WORDS[*]:0:COMP_CWORD} " in
+        *' --links '*) echo .link ;;
+        *) echo .rules ;;
+    esac
+}
+
 # _devdry_arguments: the current word is neither an option of the command nor the value of one.
 _devdry_arguments() {
     case $command in
         files) ;;
         explain) _devdry_words "$_devdry_codes I1 I2" ;;
+        verify) _devdry_files "$(_devdry_checked)" ;;
         *) if [ "$command" != query ] || _devdry_takes_database; then _devdry_files "$suffix"; fi ;;
     esac
 }
@@ -67,10 +76,10 @@ _devdry() {
         return
     fi
     case $command in
-        verify) suffix=.rules options='-r --root --with -s --strict --all --format --color --ignore --no-summary --no-style --lint --udev --users --groups -h --help -V --version' ;;
+        verify) suffix=.rules options='-r --root --with -s --strict --all --format --color --ignore --no-summary --no-style --lint --links --udev --users --groups -h --help -V --version' ;;
         query) suffix=.hwdb options='-r --root --all --sources --index -h --help -V --version' ;;
         update) suffix=.hwdb options='-r --root -s --strict --all --format --color --ignore --lint -h --help -V --version' ;;
-        events) suffix=.rules options='-r --root --with --all --sources --why --questions --index --udev -h --help -V --version' ;;
+        events) suffix=.rules options='-r --root --with --all --sources --why --unused --questions --index --udev -h --help -V --version' ;;
         files) suffix='' options='-r --root --with -h --help -V --version' ;;
         compare) suffix='' options='--with --all --index --udev -h --help -V --version' ;;
         explain) suffix='' options='-h --help -V --version' ;;

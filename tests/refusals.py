@@ -110,6 +110,9 @@ TAG+="never"
 LABEL="end", IMPORT{builtin}="hwdb --subsystem=usb", ENV{B}+="b", OWNER="b"
 ENV{C}="$nope"
 """
+UNUSED_RULES = 'KERNEL=="b", SUBSYSTEMS=="s", ATTRS{x}=="1", NAME="n"\nGOTO="e"\nNAME="o"\nLABEL="e", TEST!="t", RESULT=="r"\n'
+UNUSED_LINES = 'unused n.rules:1: KERNEL=="b" failed 2 of 2\nunused n.rules:3: not reached\nunused n.rules:4: RESULT=="r" failed 2 of 2\n'
+
 REPORTED_FILES = {"w.rules": REPORTED_RULES, f"{SECOND}/usb.hwdb": "usb:v1D6B*\n ID_VENDOR=Linux\n"}
 REPORTED = "C: add\nP: /a/sda\nU: block\nQ: /bin/id sda\nR: 0 ab cd\nP: /a\nU: usb\nE: MODALIAS=usb:v1D6Bp0002\n"
 REPORTED_MESSAGE = "w.rules:5: V6 bad substitution: $nope\n"
@@ -343,6 +346,9 @@ ROWS = [
     Row(
         "--questions", ["events", "-r", ".", "--questions", "w.rules"], REPORTED_FILES, REPORTED.replace("Q: /bin/id sda\nR: 0 ab cd\n", "") + "\n" + REPORTED,
         "event add /a/sda\nQ: /bin/id sda\n\nevent add /a/sda\n\n", REPORTED_MESSAGE),
+    Row(
+        "--unused", ["events", "-r", "none", "--unused", "n.rules"], {"n.rules": UNUSED_RULES}, "C: add\nP: /a\n\nC: add\nP: /c\n",
+        "".join(f"event add /{name}\nenv ACTION=add\nenv DEVPATH=/{name}\n\n" for name in "ac") + UNUSED_LINES, each_byte=True),
     Row(
         "names by .link files", ["events", "--udev", "-r", ".", "i.rules"], LINK_FILES, INTERFACE, INTERFACE_ANSWER, INTERFACE_MESSAGE),
     Row(

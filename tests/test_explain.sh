@@ -27,9 +27,9 @@ for code in $codes; do
     fi
     goes_well "explain $code accepts lower case" cmp <("$program" explain "${code,}") "$work/section"
 done
-same "the number of sections" "80" "$(wc -w <<< "$codes")"
+same "the number of sections" "85" "$(wc -w <<< "$codes")"
 
-for code in '' none V V0 V27 V01 ' V1' 'V1 ' 'V1 bad syntax' S0 S7 H7 W0 W28 X1; do
+for code in '' none V V0 V27 V01 ' V1' 'V1 ' 'V1 bad syntax' S0 S7 H7 W0 W28 L0 L6 X1; do
     said=$("$program" explain "$code" 2>&1 > "$work/output")
     same "explain '$code' exits with status 2" 2 $?
     same "explain '$code' prints nothing" "" "$(cat "$work/output")"

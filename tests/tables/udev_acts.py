@@ -28,6 +28,13 @@ def paths_of_test(name, block, *paths):
     return name, rules, block, [f'env A{place}=1' for place, (_, is_there) in enumerate(paths) if is_there]
 
 
+# An event of a node of an input device, below a device of HID and one of PCI, with these lines.
+def pressed(*lines):
+    more = ''.join(line + '\n' for line in lines)
+    return ('C: add\nP: /devices/pci0/0:1/2:3/input/input5/event5\nU: input\nP: /devices/pci0/0:1/2:3/input/input5\nU: input\n' +
+            'P: /devices/pci0/0:1/2:3\nU: hid\nP: /devices/pci0/0:1\nU: pci\nA: modalias=usb:v1\n' + more)
+
+
 # A device of USB with a vendor and a product.
 NUMBERS = ('A: idVendor=0012', 'A: idProduct=00ff')
 LOOKS_UP = 'IMPORT{builtin}="hwdb --subsystem=usb", ENV{A}="1"\n'
@@ -311,14 +318,14 @@ CASES = [
                   ('hwdb -pusb: v1', True), ('hwdb -xpusb: v1', True), ('hwdb -xp usb: v1', True), ('hwdb -p=usb: v1', False),
                   ('hwdb -x usb:v1', True), ('hwdb -pusb: -f ID_X v1', True), ('hwdb -fID_N usb:v1', False), ('hwdb - usb:v1', False),
                   ('hwdb -f ID_N -f ID_X usb:v1', True)),
-    words_of_hwdb('options of hwdb: their end, and options without a value', THING, ['env ID_X=1'],
+    words_of_hwdb('options of hwdb: their end, and options without a value', THING, ['env ID_X=1', 'note r.rules:6: builtin needs: hwdb: MODALIAS of usb1'],
                   ('hwdb -- usb:v1', True), ('hwdb -- -p', False), ('hwdb usb:v1 -f ID_N', False), ('hwdb usb:v1 -- -f ID_N', True),
                   ('hwdb -p -- v1', False), ('hwdb -p', False), ('hwdb usb:v1 -f', True), ('hwdb usb:v1 --filter', True),
                   ('hwdb other usb:v1', False)),
     words_of_hwdb('long options of hwdb', THING, ['env ID_X=1'],
                   ('hwdb --l=usb: v1', True), ('hwdb --l usb: v1', True), ('hwdb --look= usb:v1', True), ('hwdb --lookup-prefixes=usb: v1', False),
                   ('hwdb --=usb: usb:v1', True), ('hwdb --filter=ID_N --fil ID_X usb:v1', True), ('hwdb --f= usb:v1', False)),
-    words_of_hwdb('blanks and quotes of hwdb', THING, ['env ID_X=1'],
+    words_of_hwdb('blanks and quotes of hwdb', THING, ['env ID_X=1', 'note r.rules:4: builtin needs: hwdb: MODALIAS of usb1'],
                   ('hwdb \tusb:v1', True), ("hwdb --filter='ID_X' usb:v1", True), ("hwdb usb:'v1' 'a b", True),
                   ("hwdb --filter='ID_X usb:v1", False), ("hwdb '' usb:v1", False)),
     words_of_hwdb('subsystems of hwdb', CAMERA, ['env ID_Z=1'],
@@ -409,6 +416,27 @@ CASES = [
     ('a modalias of 2,046 bytes',
      LOOKS_UP,
      plugged(*NUMBERS, 'A: product=' + 'n' * 2031),
+     []),
+    ('modaliases that the block lacks are told if nothing is found',
+     ('IMPORT{builtin}="hwdb --subsystem=pci", ENV{A}="1"\n' +
+      'IMPORT{builtin}="hwdb --subsystem=input", ENV{B}="1"\n' +
+      'IMPORT{builtin}="hwdb", ENV{C}="1"\n' +
+      'IMPORT{builtin}="hwdb --subsystem=tty", ENV{D}="1"\n' +
+      'IMPORT{builtin}="hwdb usb:v9", ENV{E}="1"\n'),
+     pressed(),
+     ['note r.rules:1: builtin needs: hwdb: MODALIAS of 0:1', 'note r.rules:2: builtin needs: hwdb: MODALIAS of input5',
+      'note r.rules:3: builtin needs: hwdb: MODALIAS of input5, MODALIAS of 2:3, MODALIAS of 0:1']),
+    ('no modalias is needed where one is found',
+     'IMPORT{builtin}="hwdb", ENV{A}="1"\n',
+     pressed('E: MODALIAS=usb:v1'),
+     ['env A=1', 'env ID_X=1']),
+    ('the modalias of the event device is told without a name',
+     LOOKS_UP,
+     'C: add\nP: /devices/pci0/usb1/1-1/1-1:1.0\nU: usb\nE: DEVTYPE=usb_interface\nP: /devices/pci0/usb1/1-1\nU: usb\nE: DEVTYPE=usb_device\n',
+     ['note r.rules:1: builtin needs: hwdb: MODALIAS, MODALIAS of 1-1']),
+    ('a modalias after the last device that is looked at is not needed',
+     'IMPORT{builtin}="hwdb", ENV{A}="1"\n',
+     'C: add\nP: /devices/pci0/usb1\nU: usb\nE: DEVTYPE=usb_device\nE: MODALIAS=usb:v9\nP: /devices/pci0\nU: pci\n',
      []),
     ('a program with ?*',
      ('PROGRAM=="?*", ENV{A}="1"\n' +

@@ -108,6 +108,7 @@ MANUAL = [
     by_the_manual("by the manual a constant that is not given leaves no note", 'CONST{virt}!="kvm", ENV{A}="1"\n', THING, 'env A=1'),
     by_the_manual("by the manual no attribute in a command is of another device", 'IMPORT{builtin}!="hwdb x$attr{[dmi/id]y}", ENV{A}="1"\n', THING,
                   'env A=1'),
+    by_the_manual("by the manual the name of an attribute is no path", 'ATTR{../serial}!="7", ENV{A}="$attr{../serial}|$attr{subsystem}|"\n', THING, 'env A=||'),
     by_the_manual("by the manual no command line is looked at", 'IMPORT{cmdline}!="nomodeset", ENV{A}="1"\n', asked_line("nomodeset"), 'env A=1',
                   'note r.rules:1: import not run: cmdline'),
     by_the_manual("by the manual a result has carriage returns between its lines", 'PROGRAM=="p", ENV{A}="$result"\n', THING + "Q: p\nR: 0 a\nO: b\n", 'env A=a\rb'),

@@ -31,12 +31,6 @@ CASES = [
      STAR,
      ['env L=1', 'env M=[a ]'],
      ['env L=1', 'env M=[a]']),
-    ('the links of a device as attributes',
-     ('ATTR{subsystem}=="block", ENV{A}="1"\n' +
-      'SUBSYSTEMS=="usb", ENV{B}="$attr{driver}"\n'),
-     DISK,
-     ['env A=1', 'env B=hub'],
-     []),
     ('IMPORT{parent} with ?*',
      ('IMPORT{parent}=="ID_?*", ENV{A}="1"\n' +
       'IMPORT{parent}!="?*", ENV{E}="1"\n'),
@@ -73,13 +67,6 @@ CASES = [
      STAR,
      ['env A=1'],
      ['env A=1', 'env C=1']),
-    ('a path as the name of an attribute',
-     ('ATTR{../../serial}=="7", ENV{A}="1"\n' +
-      'ATTR{./model}=="Disk", ENV{C}="1"\n' +
-      'ENV{D}="$attr{../../serial}"\n'),
-     DISK,
-     ['env A=1', 'env C=1', 'env D=7'],
-     []),
     ('a folder that .. leaves is not looked for',
      ('TEST=="none/../q", ENV{A}="1"\n' +
       'TEST=="q/a/x/..", ENV{B}="1"\n' +

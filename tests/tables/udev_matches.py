@@ -65,6 +65,46 @@ CASES = [
       'ATTR{[usb]x}!="x", ENV{I}="1"\n'),
      DISK,
      ['note r.rules:1: attribute not read: [usb/none]serial']),
+    ('the links of a device as attributes',
+     ('ATTR{subsystem}=="block", ENV{A}="1"\n' +
+      'SUBSYSTEMS=="usb", ENV{B}="$attr{driver}"\n'),
+     DISK,
+     ['env A=1', 'env B=hub']),
+    ('a path as the name of an attribute',
+     ('ATTR{../../serial}=="7", ENV{A}="1"\n' +
+      'ATTR{./model}=="Disk", ENV{C}="1"\n' +
+      'ENV{D}="$attr{../../serial}"\n'),
+     DISK,
+     ['env A=1', 'env C=1', 'env D=7']),
+    ('an attribute by a path from the folder of the device',
+     ('ATTR{../../serial}=="7", ENV{A}="$attr{../../serial}|%s{./model}|$attr{./../../serial}|$attr{../../none}|$attr{../serial}|"\n' +
+      'ATTR{./size}=="2048", ENV{B}="1"\n' +
+      'ATTR{../../none}!="x", ENV{C}="1"\n' +
+      'ATTR{./none}!="x", ENV{D}="1"\n'),
+     DISK,
+     ['env A=7|Disk|7|||', 'env B=1']),
+    ('a path to what the block does not have',
+     ('ATTR{../serial}!="7", ENV{A}="1"\n' +
+      'ATTR{../../../../x}!="7", ENV{B}="1"\n' +
+      'ATTR{../../block/sdb/size}!="7", ENV{C}="1"\n'),
+     DISK,
+     ['note r.rules:1: attribute not read: ../serial', 'note r.rules:2: attribute not read: ../../../../x',
+      'note r.rules:3: attribute not read: ../../block/sdb/size']),
+    ('a path that leads to a device above each device, with ATTRS',
+     'ATTRS{../serial}=="7", ENV{A}="$id"\nATTRS{./serial}=="7", ENV{B}="$id"\n',
+     DISK.replace("P: /devices/pci0/usb1\nU: usb\n", "P: /devices/pci0/usb1/port\nU: usb\nP: /devices/pci0/usb1\nU: usb\n")
+     .replace("/devices/pci0/usb1/block/sda", "/devices/pci0/usb1/port/block/sda"),
+     ['env A=port', 'env B=usb1']),
+    ('the links to the driver and the subsystem of a device',
+     ('ATTRS{driver}=="hub", ENV{A}="$id|$attr{driver}|$attr{subsystem}|"\n' +
+      'ATTR{driver}!="x", ENV{B}="1"\n' +
+      'ATTR{subsystem}=="block", ENV{C}="1"\n'),
+     DISK,
+     ['env A=usb1|hub|block|', 'env C=1']),
+    ('what the block has under the name of a link or a path',
+     'ATTR{subsystem}=="a", ENV{A}="$attr{../../serial}"\n',
+     DISK.replace("A: size=2048\n", "A: size=2048\nA: subsystem=a\nA: ../../serial=8\n"),
+     ['env A=8']),
     ('a kernel name in brackets has its slashes',
      ('ATTR{[block/cciss/c0d0]x}=="", ENV{A}="1"\n' +
       'ATTR{[pci/12]x}=="", ENV{D}="1"\n'),

@@ -114,7 +114,7 @@ Checks rules files
 Usage: devdry verify [OPTIONS] [FILE]...
 
 Arguments:
-  [FILE]...  Rules files to read in place of the folders
+  [FILE]...  Rules files, or with --links .link files, to read in place of the folders
 
 Options:
   -r, --root <DIR>       Folder to put before each folder that is read
@@ -127,6 +127,7 @@ Options:
       --no-summary       Do not count the good and the bad files
       --no-style         Give no messages about style
       --lint             Also tell of rules that are most likely not the ones that were meant
+      --links            Check .link files in place of rules
       --udev             Read rules as udev itself reads them
       --users <FILE>     With --udev: users that OWNER may name, as in /etc/passwd
       --groups <FILE>    With --udev: groups that GROUP may name, as in /etc/group
@@ -160,6 +161,7 @@ Options:
       --all                Go on where a file can't be read, and fail where there is none
       --sources            Say where each line comes from
       --why <FILE[:LINE]>  Say what the rules of this file, or the one of this line, met
+      --unused             Report, after the last answer, the rules that no block reached or met
       --questions          Print the commands that the blocks do not answer, in place of answers
       --index <FILE>       Index to read in place of the database's folders
       --udev               Read and evaluate rules as udev itself does
@@ -285,6 +287,14 @@ Usage: devdry query --index <FILE> <MODALIAS>
 For more information, try '--help'.
 """
 
+LINKS_AS_RULES = """\
+error: the argument '--links' cannot be used with '--with <FILE>', '--udev', '--users <FILE>', '--groups <FILE>' or '--strict'
+
+Usage: devdry verify --links [FILE]...
+
+For more information, try '--help'.
+"""
+
 ADDED_TO_NAMED = """\
 error: the argument '--with <FILE>' cannot be used with '[FILE]...'
 
@@ -298,7 +308,7 @@ For more information, try '--help'.
 """
 
 TWO_ANSWERS = """\
-error: the argument '--questions' cannot be used with '--sources' or '--why <FILE[:LINE]>'
+error: the argument '--questions' cannot be used with '--sources', '--why <FILE[:LINE]>' or '--unused'
 
 Usage: devdry events --questions [FILE]...
 
@@ -361,7 +371,7 @@ def not_added(path, endings):
 
 NO_SUCH_CODE = """\
 error: invalid value 'V27' for '<CODE>'
-  [possible values: V1, V2, V3, V4, V5, V6, V7, V8, V9, V10, V11, V12, V13, V14, V15, V16, V17, V18, V19, V20, V21, V22, V23, V24, V25, V26, S1, S2, S3, S4, S5, S6, H1, H2, H3, H4, H5, H6, W1, W2, W3, W4, W5, W6, W7, W8, W9, W10, W11, W12, W13, W14, W15, W16, W17, W18, W19, W20, W21, W22, W23, W24, W25, W26, W27, D1, D2, D3, D4, D5, D6, D7, D8, D9, D10, D11, D12, D13, I1, I2]
+  [possible values: V1, V2, V3, V4, V5, V6, V7, V8, V9, V10, V11, V12, V13, V14, V15, V16, V17, V18, V19, V20, V21, V22, V23, V24, V25, V26, S1, S2, S3, S4, S5, S6, H1, H2, H3, H4, H5, H6, W1, W2, W3, W4, W5, W6, W7, W8, W9, W10, W11, W12, W13, W14, W15, W16, W17, W18, W19, W20, W21, W22, W23, W24, W25, W26, W27, D1, D2, D3, D4, D5, D6, D7, D8, D9, D10, D11, D12, D13, L1, L2, L3, L4, L5, I1, I2]
 
 For more information, try '--help'.
 """
@@ -404,6 +414,15 @@ NOT_UNDERSTOOD = [
     ("compare --questions a b", "error: unexpected argument '--questions' found\n"),
     ("events --questions --sources", TWO_ANSWERS),
     ("events a.rules --why a.rules --udev --questions", TWO_ANSWERS),
+    ("events --questions --unused", TWO_ANSWERS),
+    ("compare --unused a b", "error: unexpected argument '--unused' found\n"),
+    ("verify --unused a.rules", "error: unexpected argument '--unused' found\n"),
+    ("events --links", "error: unexpected argument '--links' found\n"),
+    ("verify --links --strict", LINKS_AS_RULES),
+    ("verify --links --udev a.link", LINKS_AS_RULES),
+    ("verify --with a.link --links b.link", LINKS_AS_RULES),
+    ("verify --users passwd --links", LINKS_AS_RULES),
+    ("verify --links --groups= a.link", LINKS_AS_RULES),
     ("query m --strict", "error: unexpected argument '--strict' found\n"),
     ("update --index a.index", "error: unexpected argument '--index' found\n"),
     ("query --index a.index m a.hwdb", TWO_DATABASES),

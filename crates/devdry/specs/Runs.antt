@@ -1,5 +1,5 @@
 -- What a run of the program does with its words, with a disk that may give these answers.
-use Rattle.std.specs.Prelude.{◌≡◌, ◌&&◌, ℕ, ◌⊎◌, Bool, List, [], Option, codes, true, false}
+use Rattle.std.specs.Prelude.{◌≡◌, ◌&&◌, ℕ, ◌⊎◌, Bool, List, [], MatchBool, Option, codes, true, false}
 use Rattle.clap.specs.Words.{fault_of, subcommand_of}
 use Rattle.text_bytes.specs.declared.source_file.SourceFile.{SourceFile}
 use Rattle.engine_ends.specs.declared.line.Line.{Line}
@@ -9,6 +9,7 @@ use Rattle.engine_ends.specs.declared.line.Request.TheVariants.{Run, Files, Comp
 use Rattle.engine_ends.specs.Streams.{Streams, outputs}
 use Rattle.devdry_files.specs.Answers.{Answer}
 use Rattle.devdry_folders.specs.declared.reading.Report.{Report}
+use Rattle.devdry_link_checks.specs.Running.{ChecksLinks}
 use Rattle.devdry_words.specs.Commands.{devdry}
 use Rattle.devdry_words.specs.Answers.{AnswersWords}
 use Rattle.devdry_words.specs.Requests.{IsRequestOf}
@@ -39,9 +40,15 @@ abbrev pub RunsBy : Bool → (Answer → Type 0) → Line → ℕ → Streams �
 RunsBy true may line status before now = RunsSome may line status before now
 RunsBy false may line status before now = RunsWanted may line status before now
 
--- what a line does
+-- .link files are checked, and no input is read
+pub record RunsLinkChecks (may : Answer → Type 0) (line : Line) (status : ℕ) (before now : Streams) : Type 0 where
+  pub checks : ChecksLinks may line status (outputs before) (outputs now)
+  pub unread : now.input ≡ before.input
+
+-- what a line does: it checks .link files if it asks for that
 abbrev pub RunsLine : (Answer → Type 0) → Line → ℕ → Streams → Streams → Type 0
-RunsLine may line status before now = RunsBy line.all may line status before now
+RunsLine may line status before now =
+    MatchBool line.checks_links (RunsLinkChecks may line status before now) (RunsBy line.all may line status before now)
 
 -- what a request does: a line is run; `files` and `compare` read the folders of theirs
 abbrev pub DoesRequest : (Answer → Type 0) → Request → ℕ → Streams → Streams → Type 0

@@ -1,7 +1,7 @@
 //! The way from words to a status.
 ghost use Rattle.std.specs.Prelude.{◌≡◌, ◌&&◌, IfErr, IfOk, map, string_bytes};
 ghost use Rattle.devdry.specs.Reading.{AreReadFor, IsFaultOf};
-ghost use Rattle.devdry.specs.Runs.{DoesAfter, DoesRequest, Runs, RunsLine, RunsWanted, takes_blocks};
+ghost use Rattle.devdry.specs.Runs.{DoesAfter, DoesRequest, Runs, RunsBy, RunsLine, RunsWanted, takes_blocks};
 
 use crate::comparing::run_compare;
 use crate::finding::serve_finding;
@@ -10,6 +10,7 @@ use crate::partial_runs::{run_files, run_some};
 use crate::reporting::{report_line_fault, report_read_fault};
 use crate::terminals::{Terminals, shown_request};
 use devdry_files::{Disk, ReadFault, read_all, read_index, wanted};
+use devdry_link_checks::run_link_checks;
 use devdry_words::parse_line;
 use engine_ends::{DeviceFault, Line, Request, Sink, Source, Verb, hand_on};
 use std::alloc::Global;
@@ -110,7 +111,7 @@ fn do_request<D: Disk, I: Source, W: Sink, E: Sink>(
     }
 }
 
-/// Runs a line over what it asks for, or with `--all` over what can be read of that.
+/// Runs a line, or checks `.link` files if it asks for that.
 fn run_line<D: Disk, I: Source, W: Sink, E: Sink>(
     alloc: Global,
     disk: &D,
@@ -120,6 +121,26 @@ fn run_line<D: Disk, I: Source, W: Sink, E: Sink>(
     error: &mut E,
 ) -> u8
     ensures { RunsLine (D.may_answer disk.now) line.now result
+        (record { input = I.shown input.old; out = W.shown output.old; err = E.shown error.old })
+        (record { input = I.shown input.new; out = W.shown output.new; err = E.shown error.new }) }
+{
+    if line.checks_links {
+        run_link_checks(alloc, disk, line, output, error)
+    } else {
+        run_reading(alloc, disk, line, input, output, error)
+    }
+}
+
+/// Runs a line over what it asks for, or with `--all` over what can be read of that.
+fn run_reading<D: Disk, I: Source, W: Sink, E: Sink>(
+    alloc: Global,
+    disk: &D,
+    line: &Line<'_>,
+    input: &mut I,
+    output: &mut W,
+    error: &mut E,
+) -> u8
+    ensures { RunsBy line.now.all (D.may_answer disk.now) line.now result
         (record { input = I.shown input.old; out = W.shown output.old; err = E.shown error.old })
         (record { input = I.shown input.new; out = W.shown output.new; err = E.shown error.new }) }
 {

@@ -8,6 +8,7 @@ mod comments;
 mod database;
 mod database_lints;
 mod effects;
+mod link_faults;
 mod lints;
 mod rules;
 mod sections;

@@ -6,10 +6,13 @@ ghost use Rattle.engine_formats.specs.declared.remark.Remark.TheVariants.{Messag
 ghost use Rattle.engine_formats.specs.declared.remark.Remark.TheVariants as about;
 
 use crate::codes::remark_with;
-use crate::{comments, database, database_lints, effects, lints, rules, style, udev, values};
+use crate::{
+    comments, database, database_lints, effects, link_faults, lints, rules, style, udev, values,
+};
 use engine_formats::Remark;
 use file_messages::MessageKind;
 use hwdb_lints::DatabaseLint;
+use link_lints::LinkFault;
 use rule_lints::Lint;
 
 /// The section on a kind of message.
@@ -117,6 +120,20 @@ fn section_on_database_lint(lint: DatabaseLint) -> &'static str
     }
 }
 
+/// The section on a fault of a `.link` file.
+fn section_on_link_fault(fault: LinkFault) -> &'static str
+    ensures heading { HasHeading (about.LinkFault fault) result.now }
+    ensures advice { HasAdvice (about.LinkFault fault) result.now }
+{
+    match fault {
+        LinkFault::UnknownSection => link_faults::L1,
+        LinkFault::UnknownKey => link_faults::L2,
+        LinkFault::BadLine => link_faults::L3,
+        LinkFault::BadValue => link_faults::L4,
+        LinkFault::NoInterface => link_faults::L5,
+    }
+}
+
 /// The section on a remark. Its first line is the heading of the remark, and after an empty line come what it
 /// means, a file that causes it, and the corrected file.
 pub fn section_on(remark: Remark) -> &'static str
@@ -127,6 +144,7 @@ pub fn section_on(remark: Remark) -> &'static str
         Remark::Message(kind) => section_on_kind(kind),
         Remark::Lint(lint) => section_on_lint(lint),
         Remark::DatabaseLint(lint) => section_on_database_lint(lint),
+        Remark::LinkFault(fault) => section_on_link_fault(fault),
         Remark::IdleIgnore => comments::I1,
         Remark::UnknownCode => comments::I2,
     }

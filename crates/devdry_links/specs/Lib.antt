@@ -1,3 +1,4 @@
 pub mod Places
 pub mod Visits
 pub mod Reading
+pub mod Checking

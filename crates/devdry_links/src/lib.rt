@@ -2,12 +2,14 @@
 //! reported, and never ends a run.
 #![tactic(auto)]
 
+mod checking;
 mod laws;
 mod places;
 mod reading;
 mod survey;
 mod visits;
 
+pub use checking::{LinksToCheck, read_links_to_check};
 pub use laws::{folders_have_their_places, what_cannot_be_read_masks};
 pub use places::LinkPlace;
 pub use reading::{LinksRead, read_link_files};

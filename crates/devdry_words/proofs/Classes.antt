@@ -24,6 +24,10 @@ pub d_codes : (codes "D1" ∷ codes "D2" ∷ codes "D3" ∷ codes "D4" ∷ codes
 unfolding codes_with heading_parts split_once
 d_codes = refl
 
+pub l_codes : (codes "L1" ∷ codes "L2" ∷ codes "L3" ∷ codes "L4" ∷ codes "L5" ∷ []) ≡ codes_with (codes "L")
+unfolding codes_with heading_parts split_once
+l_codes = refl
+
 pub i_codes : (codes "I1" ∷ codes "I2" ∷ []) ≡ codes_with (codes "I")
 unfolding codes_with heading_parts split_once
 i_codes = refl

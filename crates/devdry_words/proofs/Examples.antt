@@ -14,7 +14,7 @@ use Rattle.engine_ends.specs.declared.line.Color.TheVariants.{Auto, Always, Neve
 use Rattle.engine_ends.specs.declared.line.Format.{Format}
 use Rattle.engine_ends.specs.declared.line.Format.TheVariants.{Plain, Gcc, Github, Gitlab, Json, Sarif, Human, HumanInColor}
 use Rattle.devdry_words.specs.declared.refusals.Refusal.{Refusal}
-use Rattle.devdry_words.specs.declared.refusals.Refusal.TheVariants.{TwoDatabases, AddedToNamed, AddedToIndex, TwoAnswers, EmptyRoot, EmptySide, NoUdev, UnknownFormat, UnknownColor, UnknownPart, NotRules, NotFile}
+use Rattle.devdry_words.specs.declared.refusals.Refusal.TheVariants.{TwoDatabases, LinksAsRules, AddedToNamed, AddedToIndex, TwoAnswers, EmptyRoot, EmptySide, NoUdev, UnknownFormat, UnknownColor, UnknownPart, NotRules, NotFile}
 use Rattle.engine_ends.specs.declared.line.Verb.TheVariants.{Update, Verify, Events}
 use Rattle.devdry_words.specs.Lines.{asks_every, class_codes, codes_with, color_name, color_named, color_of, format_name, format_named, format_of, is_set_or_every, profile_of}
 use Rattle.text_bytes.specs.Texts.{split_once}
@@ -162,6 +162,16 @@ format_of_query : fault_of devdry (codes "query" ∷ codes "--format" ∷ codes 
 unfolding clap_on_literals devdry
 format_of_query = refl
 
+unused_rules_are_asked : option_map {U = Bool × (Bool × Option Refusal)} (λ p. (is_set (codes "unused") p.1, (is_set (codes "sources") p.1, refusal_of p.0 p.1))) (subcommand_of devdry (codes "events" ∷ codes "--unused" ∷ codes "--why=a.rules" ∷ codes "--sources" ∷ []))
+    ≡ Some (true, (true, None))
+unfolding clap_on_literals devdry
+unused_rules_are_asked = refl
+
+links_are_asked : option_map {U = Bool × (Bool × Option Refusal)} (λ p. (is_set (codes "links") p.1, (is_set (codes "lint") p.1, refusal_of p.0 p.1))) (subcommand_of devdry (codes "verify" ∷ codes "--links" ∷ codes "--lint" ∷ codes "a.link" ∷ []))
+    ≡ Some (true, (true, None))
+unfolding clap_on_literals devdry
+links_are_asked = refl
+
 questions_are_asked : option_map {U = Bool × (Profile × List Text)} (λ p. (is_set (codes "questions") p.1, (profile_of Events p.1, texts_of (codes "FILE") p.1))) (subcommand_of devdry (codes "events" ∷ codes "--questions" ∷ codes "--udev" ∷ codes "a.rules" ∷ []))
     ≡ Some (true, (Udev, codes "a.rules" ∷ []))
 unfolding clap_on_literals devdry
@@ -186,6 +196,18 @@ questions_with_sources_are_refused = refl
 questions_with_a_reason_are_refused : refused (codes "events" ∷ codes "--why=a.rules" ∷ codes "--questions" ∷ []) ≡ Some (Some TwoAnswers)
 unfolding clap_on_literals devdry
 questions_with_a_reason_are_refused = refl
+
+questions_with_unused_rules_are_refused : refused (codes "events" ∷ codes "--unused" ∷ codes "--questions" ∷ []) ≡ Some (Some TwoAnswers)
+unfolding clap_on_literals devdry
+questions_with_unused_rules_are_refused = refl
+
+links_of_a_strict_run_are_refused : refused (codes "verify" ∷ codes "--strict" ∷ codes "--links" ∷ []) ≡ Some (Some LinksAsRules)
+unfolding clap_on_literals devdry
+links_of_a_strict_run_are_refused = refl
+
+links_with_groups_are_refused : refused (codes "verify" ∷ codes "--links" ∷ codes "--groups=group" ∷ []) ≡ Some (Some LinksAsRules)
+unfolding clap_on_literals devdry
+links_with_groups_are_refused = refl
 
 questions_alone_are_taken : refused (codes "events" ∷ codes "--questions" ∷ codes "--udev" ∷ []) ≡ Some None
 unfolding clap_on_literals devdry
@@ -344,6 +366,6 @@ each_color_is_found Auto = refl
 each_color_is_found Always = refl
 each_color_is_found Never = refl
 
-pub each_code_is_listed : codes "V1, V2, V3, V4, V5, V6, V7, V8, V9, V10, V11, V12, V13, V14, V15, V16, V17, V18, V19, V20, V21, V22, V23, V24, V25, V26, S1, S2, S3, S4, S5, S6, H1, H2, H3, H4, H5, H6, W1, W2, W3, W4, W5, W6, W7, W8, W9, W10, W11, W12, W13, W14, W15, W16, W17, W18, W19, W20, W21, W22, W23, W24, W25, W26, W27, D1, D2, D3, D4, D5, D6, D7, D8, D9, D10, D11, D12, D13, I1, I2" ≡ known_codes
+pub each_code_is_listed : codes "V1, V2, V3, V4, V5, V6, V7, V8, V9, V10, V11, V12, V13, V14, V15, V16, V17, V18, V19, V20, V21, V22, V23, V24, V25, V26, S1, S2, S3, S4, S5, S6, H1, H2, H3, H4, H5, H6, W1, W2, W3, W4, W5, W6, W7, W8, W9, W10, W11, W12, W13, W14, W15, W16, W17, W18, W19, W20, W21, W22, W23, W24, W25, W26, W27, D1, D2, D3, D4, D5, D6, D7, D8, D9, D10, D11, D12, D13, L1, L2, L3, L4, L5, I1, I2" ≡ known_codes
 unfolding known_codes listed heading_parts split_once
 each_code_is_listed = refl

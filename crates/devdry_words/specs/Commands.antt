@@ -52,18 +52,18 @@ query_shape = with_rules (codes "query")
     (root_rule ∷ flag_rule (codes "all") ∷ flag_rule (codes "sources") ∷ option_rule (codes "index") ∷ required_rule (codes "MODALIAS") ∷ files_rule ∷ [])
 
 -- `verify [-r DIR] [--with FILE].. [-s] [--all] [--format FORMAT] [--color WHEN] [--ignore CODES].. [--no-summary] [--no-style] [--lint]
--- [--udev] [--users FILE] [--groups FILE] [FILE]..`
+-- [--links] [--udev] [--users FILE] [--groups FILE] [FILE]..`
 abbrev pub verify_shape : Shape
 verify_shape = with_rules (codes "verify")
     (root_rule ∷ added_rule ∷ strict_rule ∷ flag_rule (codes "all") ∷ option_rule (codes "format") ∷ option_rule (codes "color")
-    ∷ repeated_rule (codes "ignore") ∷ flag_rule (codes "no-summary") ∷ flag_rule (codes "no-style") ∷ flag_rule (codes "lint")
+    ∷ repeated_rule (codes "ignore") ∷ flag_rule (codes "no-summary") ∷ flag_rule (codes "no-style") ∷ flag_rule (codes "lint") ∷ flag_rule (codes "links")
     ∷ flag_rule (codes "udev") ∷ option_rule (codes "users") ∷ option_rule (codes "groups") ∷ files_rule ∷ [])
 
--- `events [-r DIR] [--with FILE].. [--all] [--sources] [--why FILE[:LINE]].. [--questions] [--index FILE] [--udev] [FILE]..`
+-- `events [-r DIR] [--with FILE].. [--all] [--sources] [--why FILE[:LINE]].. [--unused] [--questions] [--index FILE] [--udev] [FILE]..`
 abbrev pub events_shape : Shape
 events_shape = with_rules (codes "events")
     (root_rule ∷ added_rule ∷ flag_rule (codes "all") ∷ flag_rule (codes "sources") ∷ repeated_rule (codes "why")
-    ∷ flag_rule (codes "questions") ∷ option_rule (codes "index") ∷ flag_rule (codes "udev") ∷ files_rule ∷ [])
+    ∷ flag_rule (codes "unused") ∷ flag_rule (codes "questions") ∷ option_rule (codes "index") ∷ flag_rule (codes "udev") ∷ files_rule ∷ [])
 
 -- `files [-r DIR] [--with FILE]..`
 abbrev pub files_shape : Shape

@@ -97,7 +97,7 @@ codes_with letter = filter (λ code. starts_with nat_eq code letter) (map code_o
 
 -- the letters of the classes of codes
 abbrev pub class_letters : List Text
-class_letters = codes "V" ∷ codes "S" ∷ codes "H" ∷ codes "W" ∷ codes "D" ∷ codes "I" ∷ []
+class_letters = codes "V" ∷ codes "S" ∷ codes "H" ∷ codes "W" ∷ codes "D" ∷ codes "L" ∷ codes "I" ∷ []
 
 -- the codes of a class, if there is one with this letter
 abbrev pub class_codes : Text → Option (List Text)
@@ -119,10 +119,12 @@ pub record Reads (verb : Verb) (root : Text) (added : List Text) (rows : List Ro
   pub sources : line.sources ≡ is_set (codes "sources") rows
   pub why : map (λ w. w.now) line.why.items ≡ texts_of (codes "why") rows
   pub questions : line.questions ≡ is_set (codes "questions") rows
+  pub unused : line.unused ≡ is_set (codes "unused") rows
   pub modalias : line.modalias.now ≡ text_of (codes "MODALIAS") rows
   pub summary : line.summary ≡ not (is_set (codes "no-summary") rows)
   pub style : line.style ≡ not (is_set (codes "no-style") rows)
   pub lint : line.lint ≡ is_set_or_every verb (codes "lint") rows
+  pub checks_links : line.checks_links ≡ is_set (codes "links") rows
   pub format : line.format ≡ unwrap_or (format_of rows) Plain
   pub color : line.color ≡ unwrap_or (color_of rows) Auto
   pub all : line.all ≡ is_set_or_every verb (codes "all") rows

@@ -10,7 +10,7 @@ use Rattle.text_bytes.specs.declared.source_file.FileKind.TheVariants.{Hwdb, Rul
 use Rattle.engine_formats.specs.Codes.{remark_of, remarks}
 use Rattle.engine_formats.specs.Remarks.{code_of}
 use Rattle.devdry_words.specs.declared.refusals.Refusal.{Refusal}
-use Rattle.devdry_words.specs.declared.refusals.Refusal.TheVariants.{TwoDatabases, AddedToNamed, AddedToIndex, TwoAnswers, EmptyRoot, EmptySide}
+use Rattle.devdry_words.specs.declared.refusals.Refusal.TheVariants.{TwoDatabases, LinksAsRules, AddedToNamed, AddedToIndex, TwoAnswers, EmptyRoot, EmptySide}
 use Rattle.devdry_words.specs.declared.refusals.Refusal.TheVariants.{NoUdev, UnknownFormat, UnknownColor, UnknownPart, NotRules, NotFile}
 use Rattle.devdry_words.specs.Lines.{class_codes, color_of, format_of}
 use Rattle.devdry_words.specs.Values.{cut_at_commas, has_value, is_empty_text, is_set, text_of, texts_of}
@@ -18,6 +18,11 @@ use Rattle.devdry_words.specs.Values.{cut_at_commas, has_value, is_empty_text, i
 -- a query names two databases: files and an index
 abbrev pub names_two : Text → List Row → Bool
 names_two name rows = bytes_eq name (codes "query") && (is_some (first_of (codes "index") rows) && has_value (codes "FILE") rows)
+
+-- `.link` files are to be checked in place of rules, and what is asked beside it is about rules alone
+abbrev pub links_as_rules : List Row → Bool
+links_as_rules rows = is_set (codes "links") rows && (has_value (codes "with") rows || (is_set (codes "udev") rows || (is_set (codes "strict") rows
+    || (is_some (first_of (codes "users") rows) || is_some (first_of (codes "groups") rows)))))
 
 -- a file is added to those of the folders, and others are named to be read in place of these
 abbrev pub adds_to_named : List Row → Bool
@@ -50,7 +55,7 @@ adds_to_index rows = is_some (first_of (codes "index") rows) && is_some (unaddab
 
 -- events are to give questions and are to say more of their answers, which are then not given
 abbrev pub asks_both : List Row → Bool
-asks_both rows = is_set (codes "questions") rows && (is_set (codes "sources") rows || has_value (codes "why") rows)
+asks_both rows = is_set (codes "questions") rows && (is_set (codes "sources") rows || (has_value (codes "why") rows || is_set (codes "unused") rows))
 
 -- `verify` is strict, and so asks for every check
 abbrev pub is_strict : Text → List Row → Bool
@@ -100,11 +105,12 @@ unknown_value name rows = if is_none (format_of rows) then Some UnknownFormat
 -- why the matches of a subcommand are refused, if they are
 abbrev pub refusal_of : Text → List Row → Option Refusal
 refusal_of name rows = if names_two name rows then Some TwoDatabases
+    else (if links_as_rules rows then Some LinksAsRules
     else (if adds_to_named rows then Some AddedToNamed
     else (if asks_both rows then Some TwoAnswers
     else (if lacks_root name rows then Some EmptyRoot
     else (if lacks_side rows then Some EmptySide
-    else (if lacks_udev name rows then Some NoUdev else unknown_value name rows)))))
+    else (if lacks_udev name rows then Some NoUdev else unknown_value name rows))))))
 
 -- what is said about a value that its argument does not take, by what comes before and after the value
 abbrev pub invalid_value : Text → Text → Text
@@ -130,7 +136,7 @@ known_codes = listed (map code_of remarks)
 
 -- what is said after a part of `--ignore` that is neither a code nor a class nor the word `comments`
 abbrev pub not_ignorable : Text
-not_ignorable = codes "' for '--ignore <CODES>'\n  [possible values: " ++ known_codes ++ codes ", V, S, H, W, D, I, comments]\n\nFor more information, try '--help'.\n"
+not_ignorable = codes "' for '--ignore <CODES>'\n  [possible values: " ++ known_codes ++ codes ", V, S, H, W, D, L, I, comments]\n\nFor more information, try '--help'.\n"
 
 -- what is said after the path of a file that `verify` may not add
 abbrev pub not_rules : Text
@@ -143,9 +149,10 @@ not_a_file = codes "' for '--with <FILE>': its name has to end in .rules or .hwd
 -- what is said about matches that are refused
 abbrev pub said_of : Refusal → List Row → Text
 said_of TwoDatabases rows = codes "error: the argument '--index <FILE>' cannot be used with '[FILE]...'\n\nUsage: devdry query --index <FILE> <MODALIAS>\n\nFor more information, try '--help'.\n"
+said_of LinksAsRules rows = codes "error: the argument '--links' cannot be used with '--with <FILE>', '--udev', '--users <FILE>', '--groups <FILE>' or '--strict'\n\nUsage: devdry verify --links [FILE]...\n\nFor more information, try '--help'.\n"
 said_of AddedToNamed rows = codes "error: the argument '--with <FILE>' cannot be used with '[FILE]...'\n\nFor more information, try '--help'.\n"
 said_of AddedToIndex rows = codes "error: the argument '--with <FILE>' cannot add to the database with '--index <FILE>'\n\nFor more information, try '--help'.\n"
-said_of TwoAnswers rows = codes "error: the argument '--questions' cannot be used with '--sources' or '--why <FILE[:LINE]>'\n\nUsage: devdry events --questions [FILE]...\n\nFor more information, try '--help'.\n"
+said_of TwoAnswers rows = codes "error: the argument '--questions' cannot be used with '--sources', '--why <FILE[:LINE]>' or '--unused'\n\nUsage: devdry events --questions [FILE]...\n\nFor more information, try '--help'.\n"
 said_of EmptyRoot rows = codes "error: an empty value of '--root <DIR>' names no folder\n\nFor more information, try '--help'.\n"
 said_of EmptySide rows = codes "error: an empty value of '<OLD>' or '<NEW>' names no folder; '/' is that of the running system\n\nFor more information, try '--help'.\n"
 said_of NoUdev rows = codes "error: the arguments '--users <FILE>' and '--groups <FILE>' need '--udev' or '--strict'\n\nUsage: devdry verify --udev --users <FILE> --groups <FILE> [FILE]...\n\nFor more information, try '--help'.\n"

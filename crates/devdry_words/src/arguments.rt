@@ -37,6 +37,13 @@ pub(crate) fn strict_flag<'a>(alloc: Global, help: &'a str) -> Arg<'a>
     flag(alloc, "strict", help).short('s')
 }
 
+/// `--links`: files that name network interfaces are checked in place of rules.
+pub(crate) fn links_flag<'a>(alloc: Global) -> Arg<'a>
+    ensures { (rule_of result ≡ flag_rule (codes "links")) × (result.global ≡ false) }
+{
+    flag(alloc, "links", "Check .link files in place of rules")
+}
+
 /// `--sources`: each line says where it comes from.
 pub(crate) fn sources_flag<'a>(alloc: Global) -> Arg<'a>
     ensures { (rule_of result ≡ flag_rule (codes "sources")) × (result.global ≡ false) }
@@ -53,6 +60,17 @@ pub(crate) fn why_option<'a>(alloc: Global) -> Arg<'a>
         .value_name("FILE[:LINE]")
         .action(ArgAction::Append)
         .help("Say what the rules of this file, or the one of this line, met")
+}
+
+/// `--unused`: the rules of which the blocks say nothing, after the last answer.
+pub(crate) fn unused_flag<'a>(alloc: Global) -> Arg<'a>
+    ensures { (rule_of result ≡ flag_rule (codes "unused")) × (result.global ≡ false) }
+{
+    flag(
+        alloc,
+        "unused",
+        "Report, after the last answer, the rules that no block reached or met",
+    )
 }
 
 /// `--questions`: the commands that the blocks do not answer, in place of answers.

@@ -10,9 +10,9 @@ ghost use Rattle.devdry_words.specs.Commands.{update_shape, verify_shape};
 use crate::added::{ADDED_AFTER, ADDED_FILES, ADDED_RULES, with_option};
 use crate::arguments::{
     all_flag, code_argument, color_option, files_argument, format_option, groups_option,
-    ignore_option, index_option, lint_flag, modalias_argument, new_argument, no_style_flag,
-    no_summary_flag, old_argument, questions_flag, root_option, sources_flag, strict_flag,
-    udev_flag, users_option, why_option,
+    ignore_option, index_option, links_flag, lint_flag, modalias_argument, new_argument,
+    no_style_flag, no_summary_flag, old_argument, questions_flag, root_option, sources_flag,
+    strict_flag, udev_flag, unused_flag, users_option, why_option,
 };
 use crate::endings;
 use clap::Command;
@@ -42,6 +42,9 @@ Examples:
 const DATABASE_FILES: &str = "Database files to read in place of the folders";
 
 const RULES_FILES: &str = "Rules files to read in place of the folders";
+
+const CHECKED_FILES: &str =
+    "Rules files, or with --links .link files, to read in place of the folders";
 
 const EVERY_CHECK: &str = "Make every check: --lint, --udev, --all, users and groups of the root";
 
@@ -104,10 +107,11 @@ fn verify_command<'a>(alloc: Global) -> Result<Command<'a>, AllocError>
         .arg(no_summary_flag(alloc))?
         .arg(no_style_flag(alloc))?
         .arg(lint_flag(alloc, LINT_RULES))?
+        .arg(links_flag(alloc))?
         .arg(udev_flag(alloc, "Read rules as udev itself reads them"))?
         .arg(users_option(alloc))?
         .arg(groups_option(alloc))?
-        .arg(files_argument(alloc, RULES_FILES))
+        .arg(files_argument(alloc, CHECKED_FILES))
 }
 
 /// The subcommand `events`.
@@ -122,6 +126,7 @@ fn events_command<'a>(alloc: Global) -> Result<Command<'a>, AllocError>
         .arg(all_flag(alloc))?
         .arg(sources_flag(alloc))?
         .arg(why_option(alloc))?
+        .arg(unused_flag(alloc))?
         .arg(questions_flag(alloc))?
         .arg(index_option(alloc))?
         .arg(udev_flag(alloc, EVALUATE_AS_UDEV))?

@@ -33,6 +33,9 @@ const D_CODES: &[&str] = &[
     "D1", "D2", "D3", "D4", "D5", "D6", "D7", "D8", "D9", "D10", "D11", "D12", "D13",
 ];
 
+/// The codes of faults of `.link` files.
+const L_CODES: &[&str] = &["L1", "L2", "L3", "L4", "L5"];
+
 /// The codes of remarks on comments.
 const I_CODES: &[&str] = &["I1", "I2"];
 
@@ -71,6 +74,13 @@ fn d_codes() -> &'static [&'static str]
     D_CODES
 }
 
+/// The codes of faults of `.link` files.
+fn l_codes() -> &'static [&'static str]
+    ensures { map (λ c. c.now) result.now ≡ codes_with (codes "L") }
+{
+    L_CODES
+}
+
 /// The codes of remarks on comments.
 fn i_codes() -> &'static [&'static str]
     ensures { map (λ c. c.now) result.now ≡ codes_with (codes "I") }
@@ -88,6 +98,7 @@ fn class_codes(letter: &str) -> Option<&'static [&'static str]>
         "H" => Some(h_codes()),
         "W" => Some(w_codes()),
         "D" => Some(d_codes()),
+        "L" => Some(l_codes()),
         "I" => Some(i_codes()),
         _ => None,
     }

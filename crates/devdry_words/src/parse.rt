@@ -95,21 +95,22 @@ fn request_of<'a>(alloc: Global, matches: &ArgMatches<'a>) -> Result<Request<'a>
 /// The subcommands and their options are those of `systemd-hwdb(8)` and `udevadm(8)` as far as `devdry` has them,
 /// and its own:
 /// `verify [-r DIR] [--with FILE].. [--all] [--format FORMAT] [--color WHEN] [--ignore CODES].. [--no-summary]
-/// [--no-style] [--lint] [--udev] [--users FILE] [--groups FILE] [FILE]..`,
+/// [--no-style] [--lint] [--links] [--udev] [--users FILE] [--groups FILE] [FILE]..`,
 /// `query [-r DIR] [--sources] [--index FILE] MODALIAS [FILE]..`,
 /// `update [-r DIR] [-s] [--all] [--format FORMAT] [--color WHEN] [--ignore CODES].. [FILE]..`,
-/// `events [-r DIR] [--with FILE].. [--all] [--sources] [--why FILE[:LINE]].. [--questions] [--index FILE]
+/// `events [-r DIR] [--with FILE].. [--all] [--sources] [--why FILE[:LINE]].. [--unused] [--questions] [--index FILE]
 /// [--udev] [FILE]..`, `files [-r DIR] [--with FILE]..`, `compare [--with FILE].. [--all] [--index FILE] [--udev] OLD NEW`
 /// and `explain CODE`.
 ///
 /// `LineFault::Help` comes for `--help`, `-h`, `help`, `--version` and `-V`, also after a
 /// subcommand, and for `explain` with a code, whose text is then the section on its message.
 /// `LineFault::Usage` comes for all else that `clap` does not take, no words at all among it; for a `query` with both
-/// files and an index; for `--with` with files, or with an index if it adds to the database, and for a path there that
-/// ends neither in `.rules` nor, but for `verify`, in `.hwdb`; for `--questions` with `--sources` or `--why`;
-/// for `--all`, `files` or `compare` with a root that is given and empty; for `--users` or `--groups` without `--udev`;
-/// for a format that there is not; for colors that are asked for in no known way; for a part of `--ignore` that is neither
-/// a code nor the word `comments`; and for `explain` with a code that there is not.
+/// files and an index; for `--links` with `--with`, `--udev`, `--users`, `--groups` or `--strict`; for `--with` with
+/// files, or with an index if it adds to the database, and for a path there that ends neither in `.rules` nor, but for
+/// `verify`, in `.hwdb`; for `--questions` with `--sources`, `--why` or `--unused`; for `--all`, `files` or `compare` with
+/// a root that is given and empty; for `--users` or `--groups` without `--udev`; for a format that there is not; for colors
+/// that are asked for in no known way; for a part of `--ignore` that is neither a code, nor the letter of a class, nor the
+/// word `comments`; and for `explain` with a code that there is not.
 pub fn parse_line<'a>(alloc: Global, words: &'a [String]) -> Result<Request<'a>, LineFault>
     // A request is that of the subcommand that the words name, with the values that they give, and nothing of them
     // is refused.

@@ -6,7 +6,7 @@ ghost use Rattle.std.specs.Prelude.{◌≡◌};
 ghost use Rattle.clap.specs.Words.{found_of, rows_of};
 ghost use Rattle.devdry_words.specs.Named.{IsUsageOf};
 ghost use Rattle.devdry_words.specs.Refusals.{asks_all, asks_both, is_strict, lacks_root, lacks_side, lacks_udev, names_two, refusal_of, said_of};
-ghost use Rattle.devdry_words.specs.Refusals.{unknown_value, wrong_added};
+ghost use Rattle.devdry_words.specs.Refusals.{links_as_rules, unknown_value, wrong_added};
 
 use crate::added::{adds_to_index, adds_to_named, unaddable, unaddable_text};
 use crate::ignored::{unknown_part, unknown_text};
@@ -20,6 +20,14 @@ use std::alloc::Global;
 const TWO_DATABASES: &str = "error: the argument '--index <FILE>' cannot be used with '[FILE]...'
 
 Usage: devdry query --index <FILE> <MODALIAS>
+
+For more information, try '--help'.
+";
+
+const LINKS_AS_RULES: &str =
+    "error: the argument '--links' cannot be used with '--with <FILE>', '--udev', '--users <FILE>', '--groups <FILE>' or '--strict'
+
+Usage: devdry verify --links [FILE]...
 
 For more information, try '--help'.
 ";
@@ -46,7 +54,7 @@ For more information, try '--help'.
 ";
 
 const TWO_ANSWERS: &str =
-    "error: the argument '--questions' cannot be used with '--sources' or '--why <FILE[:LINE]>'
+    "error: the argument '--questions' cannot be used with '--sources', '--why <FILE[:LINE]>' or '--unused'
 
 Usage: devdry events --questions [FILE]...
 
@@ -89,6 +97,8 @@ For more information, try '--help'.
 pub(crate) enum Refusal {
     /// A query names two databases: files and an index.
     TwoDatabases,
+    /// `.link` files are to be checked in place of rules, and what is asked beside it is about rules alone.
+    LinksAsRules,
     /// A file is added to those of the folders, and others are named to be read in place of these.
     AddedToNamed,
     /// A file is added to those of the database, and an index is named to be read in place of these.
@@ -121,11 +131,24 @@ fn names_two(name: &str, matches: &ArgMatches<'_>) -> bool
     (name == "query") & value(matches, "index").is_some() & has_value(matches, "FILE")
 }
 
+/// Whether matches ask to check `.link` files in place of rules, and for something that is about rules alone.
+fn links_as_rules(matches: &ArgMatches<'_>) -> bool
+    ensures { result ≡ links_as_rules (rows_of (found_of matches.now)) }
+{
+    is_given(matches, "links")
+        & (has_value(matches, "with")
+            | is_given(matches, "udev")
+            | is_given(matches, "strict")
+            | value(matches, "users").is_some()
+            | value(matches, "groups").is_some())
+}
+
 /// Whether matches ask for questions in place of answers, and for more about the answers.
 fn asks_both(matches: &ArgMatches<'_>) -> bool
     ensures { result ≡ asks_both (rows_of (found_of matches.now)) }
 {
-    is_given(matches, "questions") & (is_given(matches, "sources") | has_value(matches, "why"))
+    is_given(matches, "questions")
+        & (is_given(matches, "sources") | has_value(matches, "why") | is_given(matches, "unused"))
 }
 
 /// Whether the matches of a subcommand are those of a strict `verify`, and so ask for every check.
@@ -200,6 +223,8 @@ pub(crate) fn refusal_of(name: &str, matches: &ArgMatches<'_>) -> Option<Refusal
 {
     if names_two(name, matches) {
         Some(Refusal::TwoDatabases)
+    } else if links_as_rules(matches) {
+        Some(Refusal::LinksAsRules)
     } else if adds_to_named(matches) {
         Some(Refusal::AddedToNamed)
     } else if asks_both(matches) {
@@ -221,6 +246,7 @@ pub(crate) fn usage_of(alloc: Global, refusal: Refusal, matches: &ArgMatches<'_>
 {
     match refusal {
         Refusal::TwoDatabases => usage(alloc, TWO_DATABASES),
+        Refusal::LinksAsRules => usage(alloc, LINKS_AS_RULES),
         Refusal::AddedToNamed => usage(alloc, ADDED_TO_NAMED),
         Refusal::AddedToIndex => usage(alloc, ADDED_TO_INDEX),
         Refusal::TwoAnswers => usage(alloc, TWO_ANSWERS),
@@ -233,7 +259,7 @@ pub(crate) fn usage_of(alloc: Global, refusal: Refusal, matches: &ArgMatches<'_>
             alloc,
             unknown_text(matches),
             "' for '--ignore <CODES>'\n  [possible values: ",
-            ", V, S, H, W, D, I, comments]\n\nFor more information, try '--help'.\n",
+            ", V, S, H, W, D, L, I, comments]\n\nFor more information, try '--help'.\n",
         ),
         Refusal::NotRules => usage_on_value(alloc, unaddable_text(true, matches), NOT_RULES),
         Refusal::NotFile => usage_on_value(alloc, unaddable_text(false, matches), NOT_A_FILE),

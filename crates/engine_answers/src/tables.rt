@@ -7,7 +7,7 @@ use builtin_knowledge::Knowledge;
 use device_core::Event;
 use engine_sessions::Answering;
 use eval_core::{Program, compile};
-use rule_types::RuleSet;
+use rule_types::{Rule, RuleSet};
 use std::alloc::{AllocError, Global};
 use std::marker::Model;
 use text_bytes::Bytes;
@@ -39,6 +39,20 @@ impl<K: Knowledge + Drop> Tables<K> {
             program: compile(alloc, rules)?,
             knowledge,
         })
+    }
+
+    /// The rules.
+    pub fn rules(&self) -> &[Rule]
+        ensures { result.now ≡ self.now.0 }
+    {
+        self.program.rules()
+    }
+
+    /// What is known beyond an event.
+    pub fn knowledge(&self) -> &K
+        ensures { result.now ≡ self.now.1 }
+    {
+        &self.knowledge
     }
 }
 

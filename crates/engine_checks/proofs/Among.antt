@@ -9,7 +9,7 @@ use Rattle.engine_ends.specs.declared.line.Line.{Line}
 use Rattle.engine_formats.specs.Diagnostics.{DiagnosticValue}
 use Rattle.engine_formats.specs.Remarks.{code_of}
 use Rattle.engine_formats.specs.declared.remark.Remark.{Remark}
-use Rattle.engine_formats.specs.declared.remark.Remark.TheVariants.{Message, Lint, DatabaseLint, IdleIgnore, UnknownCode}
+use Rattle.engine_formats.specs.declared.remark.Remark.TheVariants.{Message, Lint, DatabaseLint, LinkFault, IdleIgnore, UnknownCode}
 use Rattle.engine_checks.specs.Codes.{has_comments, is_found}
 use Rattle.engine_checks.specs.Files.{asked_by, database_diagnostic, database_found, database_lint_diagnostic, database_lints_counted, database_reported, file_text, findings_of, ignored_by, ignores_counted, lint_diagnostic, lints_counted, rule_diagnostic, rules_found, rules_reported}
 use Rattle.engine_checks.specs.Ignores.{Ignore, ignores_in}
@@ -37,6 +37,7 @@ asked_anyway : (asked : Asked) (remark : Remark) → is_found remark ≡ false �
 asked_anyway asked (Message kind) e = cc
 asked_anyway asked (Lint l) e = cc
 asked_anyway asked (DatabaseLint l) e = cc
+asked_anyway asked (LinkFault l) e = cc
 asked_anyway asked IdleIgnore e = anyway asked.style (is_among asked.ignored (code_of IdleIgnore))
 asked_anyway asked UnknownCode e = anyway asked.style (is_among asked.ignored (code_of UnknownCode))
 

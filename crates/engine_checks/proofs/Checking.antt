@@ -22,8 +22,9 @@ use Rattle.engine_formats.specs.declared.remark.Remark.{Remark}
 use Rattle.engine_checks.specs.Codes.{comments_word, has_comments}
 use Rattle.engine_checks.specs.Files.{accounts_by, asked_by, database_found, database_found_with, database_reported, file_text, findings_of, found_with, ignored_by, ignores_counted, lints_counted, reported_for, rules_found, rules_reported}
 use Rattle.engine_checks.specs.Ignores.{Ignore, ignores_in}
+use Rattle.engine_checks.specs.Links.{link_text, links_found, links_reported}
 use Rattle.engine_checks.specs.Outcomes.{checks_said, database_checks, rules_checks, entries_said}
-use Rattle.engine_checks.specs.Tables.{database_found_by, database_reported_by, read_by, rules_found_by, rules_reported_by}
+use Rattle.engine_checks.specs.Tables.{database_found_by, database_reported_by, link_read_by, links_reported_by, read_by, rules_found_by, rules_reported_by}
 use Rattle.engine_checks.specs.Reported.{Asked, FileText, merged, comment_diagnostics, file_reported, is_about_style, is_asked, is_lint, is_reported, is_silenced}
 
 same_filter : {X : Type 0} (p q : X → Bool) (xs : List X) → ((x : X) → p x ≡ q x) → filter p xs ≡ filter q xs
@@ -89,6 +90,22 @@ module _ (line : Line) (asked : Asked) (p : asked.profile ≡ line.profile) (a :
   database_by (file ∷ files) =
       ap (λ ds. ds ++ flat_map (database_reported_by asked) (map (read_by line) files)) (database_file file)
       ∙ ap (λ ds. database_reported line file ++ ds) (database_by files)
+
+  -- what is reported for a .link file, by tables
+  link_file : (files : List SourceFile) (file : SourceFile) → links_reported_by asked files (link_read_by line file) ≡ links_reported line files file
+  unfolding links_reported
+  link_file files file =
+      let found : List DiagnosticValue = links_found (link_text line file) files file in
+      reported_alike asked (asked_by line) (link_text line file) (ignores_counted asked file) found l s e
+      ∙ ap (λ b. file_reported (asked_by line) (link_text line file) (cond b (ignores_in asked.profile file) []) found) (e comments_word)
+      ∙ ap (λ by. file_reported (asked_by line) (link_text line file) (cond (has_comments (ignored_by line)) (ignores_in by file) []) found) p
+
+  -- .link files that are read, by tables
+  pub links_by : (all files : List SourceFile) → flat_map (links_reported_by asked all) (map (link_read_by line) files) ≡ flat_map (links_reported line all) files
+  links_by all [] = refl
+  links_by all (file ∷ files) =
+      ap (λ ds. ds ++ flat_map (links_reported_by asked all) (map (link_read_by line) files)) (link_file all file)
+      ∙ ap (λ ds. links_reported line all file ++ ds) (links_by all files)
 
 pub checks_few : (line : Line) (files : List SourceFile) → tokens_in (set_of_as line.profile files).rules ≤ 2 ^ 24 → rules_checks line files ≡ checks_said line files (flat_map (rules_reported line) files)
 unfolding rules_checks

@@ -9,11 +9,12 @@ use Rattle.rule_lints.specs.declared.lint.Lint.TheVariants.{NameTooLong, WantedW
 use Rattle.rule_lints.specs.declared.lint.Lint.TheVariants.{ModeNotOctal, SignOfShell, RelativeProgram, LetterCase, NoSuchDevice, ImportedBelow, MeantToCompare, NameOutsideNet, LinkWithDev, QuotedName, NotAPattern, AlwaysHolds, NeverReached, NoPatternForUdev}
 use Rattle.hwdb_lints.specs.declared.lint.DatabaseLint.TheVariants.{DigitCase, NoModalias, EndMissing, UnknownPrefix, MatchTwice, PropertyTwice, BlankAtEquals}
 use Rattle.hwdb_lints.specs.declared.lint.DatabaseLint.TheVariants.{OddName, BlankAtEnd, ByteOrderMark, CutWord, OpenSet, WrongValue}
+use Rattle.link_lints.specs.declared.fault.LinkFault.TheVariants as link
 use Rattle.text_tables.specs.Texts.{Text, same_text}
 use Rattle.engine_formats.specs.Codes.{remark_of, remarks}
 use Rattle.engine_formats.specs.Remarks.{code_of, heading_parts}
 use Rattle.engine_formats.specs.declared.remark.Remark.{Remark}
-use Rattle.engine_formats.specs.declared.remark.Remark.TheVariants.{Message, Lint, DatabaseLint, IdleIgnore, UnknownCode}
+use Rattle.engine_formats.specs.declared.remark.Remark.TheVariants.{Message, Lint, DatabaseLint, LinkFault, IdleIgnore, UnknownCode}
 use Rattle.engine_checks.specs.Codes.{is_code, is_found}
 
 -- each remark is found by its code
@@ -97,6 +98,11 @@ each_found (DatabaseLint ByteOrderMark) = refl
 each_found (DatabaseLint CutWord) = refl
 each_found (DatabaseLint OpenSet) = refl
 each_found (DatabaseLint WrongValue) = refl
+each_found (LinkFault link.UnknownSection) = refl
+each_found (LinkFault link.UnknownKey) = refl
+each_found (LinkFault link.BadLine) = refl
+each_found (LinkFault link.BadValue) = refl
+each_found (LinkFault link.NoInterface) = refl
 each_found IdleIgnore = refl
 each_found UnknownCode = refl
 

@@ -10,7 +10,7 @@ use Rattle.engine_ends.specs.declared.line.Line.{Line}
 use Rattle.engine_formats.specs.Diagnostics.{DiagnosticValue}
 use Rattle.engine_formats.specs.Remarks.{code_of}
 use Rattle.engine_formats.specs.declared.remark.Remark.{Remark}
-use Rattle.engine_formats.specs.declared.remark.Remark.TheVariants.{Message, Lint, DatabaseLint, IdleIgnore, UnknownCode}
+use Rattle.engine_formats.specs.declared.remark.Remark.TheVariants.{Message, Lint, DatabaseLint, LinkFault, IdleIgnore, UnknownCode}
 use Rattle.engine_checks.specs.Codes.{has_comments, is_found}
 use Rattle.engine_checks.specs.Files.{asked_by, database_diagnostic, database_found, database_lint_diagnostic, database_lints_counted, database_reported, file_text, findings_of, ignored_by, ignores_counted, lint_diagnostic, lints_counted, rule_diagnostic, rules_found, rules_reported}
 use Rattle.engine_checks.specs.Ignores.{Ignore}
@@ -23,6 +23,7 @@ lint_is_found : (remark : Remark) → is_found remark ≡ false → is_lint rema
 lint_is_found (Message kind) e = refl
 lint_is_found (Lint lint) e = cc
 lint_is_found (DatabaseLint lint) e = cc
+lint_is_found (LinkFault fault) e = cc
 lint_is_found IdleIgnore e = refl
 lint_is_found UnknownCode e = refl
 
@@ -30,6 +31,7 @@ message_is_found : (remark : Remark) → is_found remark ≡ false → is_messag
 message_is_found (Message kind) e = cc
 message_is_found (Lint lint) e = refl
 message_is_found (DatabaseLint lint) e = refl
+message_is_found (LinkFault fault) e = refl
 message_is_found IdleIgnore e = refl
 message_is_found UnknownCode e = refl
 

@@ -4,13 +4,14 @@ use Rattle.std.specs.Option.{option_map_or}
 use Rattle.text_tables.specs.Texts.{Text, is_among}
 use Rattle.engine_formats.specs.Codes.{remark_of}
 use Rattle.engine_formats.specs.declared.remark.Remark.{Remark}
-use Rattle.engine_formats.specs.declared.remark.Remark.TheVariants.{Message, Lint, DatabaseLint}
+use Rattle.engine_formats.specs.declared.remark.Remark.TheVariants.{Message, Lint, DatabaseLint, LinkFault}
 
 -- whether a remark is about what is found in a file, a message or a lint, and not about a comment
 abbrev pub is_found : Remark → Bool
 is_found (Message kind) = true
 is_found (Lint lint) = true
 is_found (DatabaseLint lint) = true
+is_found (LinkFault fault) = true
 is_found _ = false
 
 -- whether a text is the code of something that can be found in a file

@@ -10,7 +10,7 @@ use Rattle.engine_formats.specs.Diagnostics.{DiagnosticValue}
 use Rattle.engine_formats.specs.Placing.{line_numbered}
 use Rattle.engine_formats.specs.Remarks.{code_of}
 use Rattle.engine_formats.specs.declared.remark.Remark.{Remark}
-use Rattle.engine_formats.specs.declared.remark.Remark.TheVariants.{Message, Lint, DatabaseLint, IdleIgnore, UnknownCode}
+use Rattle.engine_formats.specs.declared.remark.Remark.TheVariants.{Message, Lint, DatabaseLint, LinkFault, IdleIgnore, UnknownCode}
 use Rattle.engine_checks.specs.Codes.{is_found}
 use Rattle.engine_checks.specs.Files.{database_lint_diagnostic, file_text, findings_of, lint_diagnostic, rule_diagnostic}
 use Rattle.engine_checks.specs.Ignores.{Ignore}
@@ -30,6 +30,7 @@ abbrev pub is_message : Remark → Bool
 is_message (Message kind) = true
 is_message (Lint lint) = false
 is_message (DatabaseLint lint) = false
+is_message (LinkFault fault) = false
 is_message IdleIgnore = false
 is_message UnknownCode = false
 
@@ -83,6 +84,7 @@ IsSaidOf found ignore (Some IdleIgnore) = (IsInUse found ignore → ⊥) × (IsU
 IsSaidOf found ignore (Some (Message kind)) = ⊥
 IsSaidOf found ignore (Some (Lint lint)) = ⊥
 IsSaidOf found ignore (Some (DatabaseLint lint)) = ⊥
+IsSaidOf found ignore (Some (LinkFault fault)) = ⊥
 
 -- A code in a comment is in the line with its number at its columns, without the blanks before it and the whitespace
 -- after it.

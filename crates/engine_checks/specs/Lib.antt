@@ -3,6 +3,7 @@ pub mod Ignores
 pub mod Reported
 pub mod Files
 pub mod Outcomes
+pub mod Links
 pub mod Tables
 pub mod LinesFound
 pub mod Laws

@@ -13,6 +13,7 @@ use Rattle.rule_remarks.specs.Findings.{findings_as}
 use Rattle.engine_ends.specs.declared.line.Line.{Line}
 use Rattle.engine_checks.specs.Ignores.{Ignore}
 use Rattle.engine_checks.specs.Files.{database_found_with, database_lints_counted, file_text, found_with, ignores_counted, lints_counted}
+use Rattle.engine_checks.specs.Links.{link_text, links_found}
 use Rattle.engine_checks.specs.Reported.{Asked, FileText, file_reported, is_asked, is_unknown}
 use Rattle.engine_checks.specs.declared.ignores.Scope.{Scope}
 use Rattle.engine_checks.specs.declared.ignores.Scope.TheVariants.{File, Next, Unread}
@@ -96,3 +97,11 @@ database_found_by asked read = database_found_with read.text (messages_of (read.
 -- what is reported for a file of a database that is read
 abbrev pub database_reported_by : Asked → FileRead → List DiagnosticValue
 database_reported_by asked read = file_reported asked read.text (ignores_counted asked read.file) (database_found_by asked read)
+
+-- a .link file that a command line reads
+abbrev pub link_read_by : Line → SourceFile → FileRead
+link_read_by line file = record { file = file; text = link_text line file }
+
+-- what is reported for a .link file that is read, among these files
+abbrev pub links_reported_by : Asked → List SourceFile → FileRead → List DiagnosticValue
+links_reported_by asked files read = file_reported asked read.text (ignores_counted asked read.file) (links_found read.text files read.file)

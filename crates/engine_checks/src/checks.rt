@@ -52,7 +52,7 @@ fn report_on_these(alloc: Global, line: &Line<'_>, files: &[SourceFile]) -> Resu
 }
 
 /// What is said about files and what is reported for them.
-fn report_on_reported(
+pub(crate) fn report_on_reported(
     alloc: Global,
     line: &Line<'_>,
     files: &[SourceFile],

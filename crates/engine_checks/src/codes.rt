@@ -21,6 +21,7 @@ fn is_found(remark: Remark) -> bool
 {
     match remark {
         Remark::Message(_) | Remark::Lint(_) | Remark::DatabaseLint(_) => true,
+        Remark::LinkFault(_) => true,
         Remark::IdleIgnore | Remark::UnknownCode => false,
     }
 }

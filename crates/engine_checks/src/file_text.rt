@@ -2,7 +2,9 @@
 ghost use Rattle.std.specs.Prelude.{◌≡◌, IfOk};
 ghost use Rattle.engine_formats.specs.Placing.{line_numbered};
 ghost use Rattle.engine_checks.specs.Files.{file_text};
+ghost use Rattle.engine_checks.specs.Links.{link_text};
 
+use crate::link_paths::link_path;
 use engine_ends::Line;
 use engine_formats::{file_lines, line_numbered, path_of};
 use std::alloc::{AllocError, Global};
@@ -37,6 +39,21 @@ impl<'a> FileText<'a> {
         Ok(FileText {
             name: file.name.as_slice(),
             path: Bytes::new(path_of(alloc, line, file)?),
+            lines: file_lines(alloc, file.bytes.as_slice())?,
+        })
+    }
+
+    /// A `.link` file or a drop-in that a command line reads.
+    pub(crate) fn of_link(
+        alloc: Global,
+        line: &Line<'_>,
+        file: &'a SourceFile,
+    ) -> Result<FileText<'a>, AllocError>
+        ensures { IfOk result (λ text. text ≡ link_text line.now file.now) }
+    {
+        Ok(FileText {
+            name: file.name.as_slice(),
+            path: Bytes::new(link_path(alloc, line, file)?),
             lines: file_lines(alloc, file.bytes.as_slice())?,
         })
     }

@@ -22,6 +22,9 @@ mod in_format;
 mod laws;
 mod line_codes;
 mod lines_found;
+mod link_checks;
+mod link_faults;
+mod link_paths;
 mod lint_laws;
 mod lints;
 mod met;
@@ -41,6 +44,7 @@ pub use comment_laws::{
 pub use laws::{
     ignored_codes_alone_are_left_out, plain_checks_are_as_before, plain_updates_are_as_before,
 };
+pub use link_checks::{report_on_links, serve_links};
 pub use lint_laws::{
     comments_count_for_lints, lints_are_reported_where_asked,
     messages_are_reported_as_without_lints,

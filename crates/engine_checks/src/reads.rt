@@ -1,6 +1,6 @@
 //! Files that are read for their checks.
 ghost use Rattle.std.specs.Prelude.{◌≡◌, map, IfOk};
-ghost use Rattle.engine_checks.specs.Tables.{read_by};
+ghost use Rattle.engine_checks.specs.Tables.{link_read_by, read_by};
 
 use crate::file_text::FileText;
 use engine_ends::Line;
@@ -50,6 +50,22 @@ pub(crate) fn read_files<'a>(
     let mut reads = Vec::with_capacity(alloc, files.len())?;
     for file in files {
         let text = FileText::of(alloc, line, file)?;
+        reads.push(FileRead { file, text })?;
+    }
+    Ok(reads)
+}
+
+/// `.link` files and drop-ins that a command line reads.
+pub(crate) fn read_links<'a>(
+    alloc: Global,
+    line: &Line<'_>,
+    files: &'a [SourceFile],
+) -> Result<Vec<FileRead<'a>>, AllocError>
+    ensures { IfOk result (λ reads. reads.items ≡ map (link_read_by line.now) files.now) }
+{
+    let mut reads = Vec::with_capacity(alloc, files.len())?;
+    for file in files {
+        let text = FileText::of_link(alloc, line, file)?;
         reads.push(FileRead { file, text })?;
     }
     Ok(reads)

@@ -24,6 +24,8 @@ use Rattle.engine_core.specs.Reported.{ReportedValue, reported_by}
 use Rattle.engine_courses.specs.Questions.{question_answer}
 use Rattle.engine_sessions.specs.Outcomes.{input_outcome}
 use Rattle.engine_sessions.specs.Sessions.{answers_as}
+use Rattle.engine_sessions.specs.Tallies.{events_of, with_said}
+use Rattle.engine_unused.specs.Unused.{unused_lines}
 
 -- the texts of a line's `--why`
 abbrev pub why_of : Line → List Text
@@ -59,6 +61,14 @@ answer_by_line line found opening =
 abbrev pub answer_with : Line → FilesFound → OpeningValue → EventValue → Text
 answer_with line found opening = answers_as line.profile (answer_by_line line found opening)
 
+-- the files that a line adds to those of the folders
+abbrev pub added_of : Line → List Text
+added_of line = map (λ f. f.now) line.added.items
+
+-- what is said about the rules of an opening after the answers to an input: which of them no event of it met
+abbrev pub unused_of : Line → FilesFound → OpeningValue → Text → Text
+unused_of line found opening input = unused_lines (added_of line) opening.rules (known_for line found opening) (events_of line.profile input)
+
 -- an opening, or what is said instead if the line asks for a rule that is not there
 abbrev pub opening_unless : Option Text → OpeningValue → Result OpeningValue RunOutcome
 opening_unless None opening = Ok opening
@@ -77,10 +87,15 @@ before_input Update line files opened = Err (update_said line files)
 before_input Verify line files opened = Err (verify_said line files)
 before_input Events line files opened = asked_of (why_of line) (opening line files opened)
 
--- the outcome of a run over an input: the messages of its opening and the answers to the blocks of the input, or what
--- is said without looking at the input
+-- the outcome of answers to an input after messages, and of what is said after them, if something is
+abbrev pub outcome_saying : Bool → (messages : Text) → (EventValue → Text) → (says : Text → Text) → Text → RunOutcome
+outcome_saying true messages answer says input = with_said (says input) (input_outcome messages answer input)
+outcome_saying false messages answer says input = input_outcome messages answer input
+
+-- the outcome of a run over an input: the messages of its opening and the answers to the blocks of the input, with the
+-- rules that are unused after them if the line asks for that; or what is said without looking at the input
 abbrev pub outcome_by : Line → FilesFound → Result OpeningValue RunOutcome → Text → RunOutcome
-outcome_by line found (Ok opening) input = input_outcome opening.messages (answer_with line found opening) input
+outcome_by line found (Ok opening) input = outcome_saying line.unused opening.messages (answer_with line found opening) (unused_of line found opening) input
 outcome_by line found (Err said) input = said
 
 -- whether a verb is `query`

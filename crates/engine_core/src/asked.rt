@@ -5,7 +5,7 @@ use builtin_knowledge::Knowledge;
 use device_core::Event;
 use engine_courses::question_answer;
 use engine_sessions::Answering;
-use rule_types::RuleSet;
+use rule_types::{Rule, RuleSet};
 use std::alloc::{AllocError, Global};
 use std::marker::Model;
 use text_bytes::Bytes;
@@ -33,6 +33,20 @@ impl<K: Knowledge + Drop> AskedTables<K> {
         ensures { result ≡ (rules, knowledge) }
     {
         AskedTables { rules, knowledge }
+    }
+
+    /// The rules.
+    pub(crate) fn rules(&self) -> &[Rule]
+        ensures { result.now ≡ self.now.0 }
+    {
+        self.rules.rules()
+    }
+
+    /// What is known beyond an event.
+    pub(crate) fn knowledge(&self) -> &K
+        ensures { result.now ≡ self.now.1 }
+    {
+        &self.knowledge
     }
 }
 

@@ -1,26 +1,30 @@
 //! `events`: the messages, and then the answers to the blocks of the input.
 ghost use Rattle.std.specs.Prelude.{◌≡◌, true, false, Ok, IfOk, IfErr, Some, Result};
 ghost use Rattle.engine_ends.specs.Delivery.{RunOutcome};
-ghost use Rattle.engine_core.specs.Outcomes.{answer_with, asked_of, why_of};
-ghost use Rattle.engine_core.specs.Runs.{RunsBy};
+ghost use Rattle.engine_core.specs.Outcomes.{added_of, answer_with, asked_of, unused_of, why_of};
+ghost use Rattle.engine_core.specs.Runs.{AnswersSaying, RunsBy};
 ghost use Rattle.engine_reports.specs.Indexes.{entries_in};
 ghost use Rattle.engine_reports.specs.Openings.{OpeningValue, opening};
 ghost use Rattle.engine_reports.specs.Reports.{IsRefused, shown_rules};
-ghost use Rattle.engine_sessions.specs.Serves.{AnswersAll};
+ghost use Rattle.engine_sessions.specs.Sessions.{answers_as};
+ghost use Rattle.engine_sessions.specs.Tallies.{events_of};
+ghost use Rattle.engine_unused.specs.Unused.{unused_lines};
 
 use crate::asked::AskedTables;
 use crate::reported::ReportedTables;
 use builtin_core::Builtins;
-use builtin_knowledge::RootFiles;
+use builtin_knowledge::{Knowledge, RootFiles};
 use engine_answers::Tables;
 use engine_courses::first_unknown;
 use engine_ends::{Line, Sink, Source, report_out_of_memory};
 use engine_reports::{
     Refusal, RulesRead, deliver_refusal, deliver_usage_error, open_rules, open_with_database,
 };
-use engine_sessions::answer_after_messages;
+use engine_sessions::{Answering, answer_after_messages, answer_and_tally};
+use engine_unused::UnusedTally;
 use hwdb_lookup::Lookup;
 use index_reading::{Index, IndexFault};
+use rule_types::Rule;
 use std::alloc::Global;
 use text_bytes::SourceFile;
 
@@ -119,7 +123,8 @@ fn answer_by_rules<L: Lookup + Drop, R: Source, W: Sink, E: Sink>(
     output: &mut W,
     error: &mut E,
 ) -> u8
-    ensures { AnswersAll read.messages.items (answer_with line.now found.now (shown_rules read (L.entries lookup))) result
+    ensures { AnswersSaying line.now.unused read.messages.items (answer_with line.now found.now (shown_rules read (L.entries lookup)))
+        (unused_of line.now found.now (shown_rules read (L.entries lookup))) result
         (record { input = R.shown input.old; out = W.shown output.old; err = E.shown error.old })
         (record { input = R.shown input.new; out = W.shown output.new; err = E.shown error.new }) }
 {
@@ -142,7 +147,8 @@ fn ask_by_rules<L: Lookup + Drop, R: Source, W: Sink, E: Sink>(
     error: &mut E,
 ) -> u8
     requires { line.now.questions ≡ true }
-    ensures { AnswersAll read.messages.items (answer_with line.now found.now (shown_rules read (L.entries lookup))) result
+    ensures { AnswersSaying line.now.unused read.messages.items (answer_with line.now found.now (shown_rules read (L.entries lookup)))
+        (unused_of line.now found.now (shown_rules read (L.entries lookup))) result
         (record { input = R.shown input.old; out = W.shown output.old; err = E.shown error.old })
         (record { input = R.shown input.new; out = W.shown output.new; err = E.shown error.new }) }
 {
@@ -151,15 +157,40 @@ fn ask_by_rules<L: Lookup + Drop, R: Source, W: Sink, E: Sink>(
         rules.into_rules(),
         Builtins::new(lookup, &line.links, found),
     );
-    answer_after_messages(
-        alloc,
-        line.profile,
-        &messages,
-        &tables,
-        input,
-        output,
-        error,
+    let rules = tables.rules();
+    let knowledge = tables.knowledge();
+    answer_and_say(
+        alloc, line, &messages, &tables, rules, knowledge, input, output, error,
     )
+}
+
+/// Writes the messages and answers the input; if the line asks for that, the rules that no event met follow the answers.
+fn answer_and_say<A: Answering, K: Knowledge, R: Source, W: Sink, E: Sink>(
+    alloc: Global,
+    line: &Line<'_>,
+    messages: &[u8],
+    answering: &A,
+    rules: &[Rule],
+    knowledge: &K,
+    input: &mut R,
+    output: &mut W,
+    error: &mut E,
+) -> u8
+    ensures { AnswersSaying line.now.unused messages.now (answers_as line.now.profile (A.answers answering.now))
+        (λ text. unused_lines (added_of line.now) rules.now (K.known knowledge.now) (events_of line.now.profile text)) result
+        (record { input = R.shown input.old; out = W.shown output.old; err = E.shown error.old })
+        (record { input = R.shown input.new; out = W.shown output.new; err = E.shown error.new }) }
+{
+    let profile = line.profile;
+    if !line.unused {
+        return answer_after_messages(alloc, profile, messages, answering, input, output, error);
+    }
+    match UnusedTally::new(alloc, &line.added, rules, knowledge) {
+        Ok(tally) => answer_and_tally(
+            alloc, profile, messages, answering, tally, input, output, error,
+        ),
+        Err(_) => report_out_of_memory(error),
+    }
 }
 
 /// Writes the messages and answers the input: by the program of the rules, or, if the line asks for more than the
@@ -175,25 +206,33 @@ fn report_by_rules<L: Lookup + Drop, R: Source, W: Sink, E: Sink>(
     error: &mut E,
 ) -> u8
     requires { line.now.questions ≡ false }
-    ensures { AnswersAll read.messages.items (answer_with line.now found.now (shown_rules read (L.entries lookup))) result
+    ensures { AnswersSaying line.now.unused read.messages.items (answer_with line.now found.now (shown_rules read (L.entries lookup)))
+        (unused_of line.now found.now (shown_rules read (L.entries lookup))) result
         (record { input = R.shown input.old; out = W.shown output.old; err = E.shown error.old })
         (record { input = R.shown input.new; out = W.shown output.new; err = E.shown error.new }) }
 {
     let RulesRead { messages, rules } = read;
-    let profile = line.profile;
     if line.sources || !line.why.is_empty() {
         let builtins = Builtins::new(lookup, &line.links, found);
         let tables = ReportedTables::new(line.sources, &line.why, rules, builtins);
-        return answer_after_messages(alloc, profile, &messages, &tables, input, output, error);
+        let rules = tables.rules();
+        let knowledge = tables.knowledge();
+        return answer_and_say(
+            alloc, line, &messages, &tables, rules, knowledge, input, output, error,
+        );
     }
     match Tables::new(
         alloc,
         rules.into_rules(),
         Builtins::new(lookup, &line.links, found),
     ) {
-        Ok(tables) => answer_after_messages(
-            alloc, profile, &messages, &tables, input, output, error,
-        ),
+        Ok(tables) => {
+            let rules = tables.rules();
+            let knowledge = tables.knowledge();
+            answer_and_say(
+                alloc, line, &messages, &tables, rules, knowledge, input, output, error,
+            )
+        }
         Err(_) => report_out_of_memory(error),
     }
 }

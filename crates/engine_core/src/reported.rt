@@ -10,7 +10,7 @@ use engine_courses::push_why_lines;
 use engine_sessions::Answering;
 use eval_rules::evaluate_plain;
 use rule_core::ReadRules;
-use rule_types::RuleSet;
+use rule_types::{Rule, RuleSet};
 use std::alloc::{AllocError, Global};
 use std::marker::Model;
 use text_bytes::Bytes;
@@ -67,6 +67,20 @@ impl<'b, 'a, K: Knowledge + Drop> ReportedTables<'b, 'a, K> {
             rules,
             knowledge,
         }
+    }
+
+    /// The rules.
+    pub(crate) fn rules(&self) -> &[Rule]
+        ensures { result.now ≡ self.now.0.rules }
+    {
+        self.rules.rules().rules()
+    }
+
+    /// What is known beyond an event.
+    pub(crate) fn knowledge(&self) -> &K
+        ensures { result.now ≡ self.now.1 }
+    {
+        &self.knowledge
     }
 }
 

@@ -90,6 +90,8 @@ pub struct Line<'a> {
     pub why: Vec<&'a str>,
     /// Whether `events` gives, in place of its answers, the commands that rules ask for and the blocks do not answer.
     pub questions: bool,
+    /// Whether `events` reports, after its last answer, the rules that no block reached or met.
+    pub unused: bool,
     /// The modalias to look up; empty for the other subcommands.
     pub modalias: &'a str,
     /// Whether `verify` counts the files at its end; true for the other subcommands.
@@ -98,6 +100,8 @@ pub struct Line<'a> {
     pub style: bool,
     /// Whether `verify` and `update` also report what is most likely not what was meant.
     pub lint: bool,
+    /// Whether `verify` checks `.link` files in place of rules.
+    pub checks_links: bool,
     /// How `verify` and `update` write messages; plain for the other subcommands.
     pub format: Format,
     /// When messages for people are in colors.

@@ -276,6 +276,7 @@ hint_lacks (about.Message LeadingComma) d h = h
 hint_lacks (about.Message BlankBeforeComma) d h = h
 hint_lacks (about.Lint lint) d h = h
 hint_lacks (about.DatabaseLint lint) d h = h
+hint_lacks (about.LinkFault fault) d h = h
 hint_lacks about.IdleIgnore d h = h
 hint_lacks about.UnknownCode d h = h
 

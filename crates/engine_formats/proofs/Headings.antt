@@ -17,6 +17,7 @@ use Rattle.engine_formats.specs.declared.remark.Remark.TheVariants as about
 use Rattle.engine_formats.specs.declared.remark.Remark.TheVariants.{Message, IdleIgnore, UnknownCode}
 use Rattle.engine_formats.specs.declared.remark.Severity.TheVariants.{Error, Warning}
 use Rattle.engine_formats.proofs.DatabaseHeadings.{database_code_has_no_colon, database_in_one_line, database_in_two_parts}
+use Rattle.engine_formats.proofs.LinkHeadings.{link_code_has_no_colon, link_in_one_line, link_in_two_parts}
 use Rattle.engine_formats.proofs.OneLine.{Lacks, lacks-append}
 
 -- the two parts of each heading, of which the first has no space
@@ -88,6 +89,7 @@ in_two_parts (about.Lint NoResultYet) = (refl, refl)
 in_two_parts (about.Lint LinkOfNet) = (refl, refl)
 in_two_parts (about.Lint TagTooLate) = (refl, refl)
 in_two_parts (about.DatabaseLint lint) = database_in_two_parts lint
+in_two_parts (about.LinkFault fault) = link_in_two_parts fault
 in_two_parts IdleIgnore = (refl, refl)
 in_two_parts UnknownCode = (refl, refl)
 
@@ -231,6 +233,7 @@ in_one_line (about.Lint NoResultYet) = (refl, refl, refl)
 in_one_line (about.Lint LinkOfNet) = (refl, refl, refl)
 in_one_line (about.Lint TagTooLate) = (refl, refl, refl)
 in_one_line (about.DatabaseLint lint) = database_in_one_line lint
+in_one_line (about.LinkFault fault) = link_in_one_line fault
 in_one_line IdleIgnore = (refl, refl, refl)
 in_one_line UnknownCode = (refl, refl, refl)
 
@@ -316,5 +319,6 @@ code_has_no_colon (about.Lint NoResultYet) = refl
 code_has_no_colon (about.Lint LinkOfNet) = refl
 code_has_no_colon (about.Lint TagTooLate) = refl
 code_has_no_colon (about.DatabaseLint lint) = database_code_has_no_colon lint
+code_has_no_colon (about.LinkFault fault) = link_code_has_no_colon fault
 code_has_no_colon IdleIgnore = refl
 code_has_no_colon UnknownCode = refl

@@ -1,6 +1,7 @@
 mod OneLine
 mod Commands
 mod DatabaseHeadings
+mod LinkHeadings
 mod Headings
 mod Issues
 mod SameLines

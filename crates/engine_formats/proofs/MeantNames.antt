@@ -70,5 +70,6 @@ pub meant_lacks : (remark : Remark) (word : Text) → IfSome (meant_as remark wo
 meant_lacks (about.Message kind) word = nearest_one (Lacks newline) (names_for kind) (word_of (name_in kind word)) (names_lack kind)
 meant_lacks (about.Lint lint) word = tt
 meant_lacks (about.DatabaseLint lint) word = tt
+meant_lacks (about.LinkFault fault) word = tt
 meant_lacks about.IdleIgnore word = tt
 meant_lacks about.UnknownCode word = tt

@@ -15,6 +15,7 @@ use Rattle.rule_lints.specs.declared.lint.Lint.TheVariants.{NoMatch, NeverFits, 
 use Rattle.rule_lints.specs.declared.lint.Lint.TheVariants.{NameTooLong, WantedWithoutTag, ForbiddenCommand, NoResultYet, LinkOfNet, TagTooLate}
 use Rattle.rule_lints.specs.declared.lint.Lint.TheVariants.{NameOutsideNet, LinkWithDev, QuotedName, NotAPattern, AlwaysHolds, NeverReached, NoPatternForUdev}
 use Rattle.engine_formats.specs.DatabaseLints.{database_advice}
+use Rattle.engine_formats.specs.LinkFaults.{link_advice}
 use Rattle.engine_formats.specs.declared.remark.Remark.{Remark}
 use Rattle.engine_formats.specs.declared.remark.Remark.TheVariants as about
 use Rattle.engine_formats.specs.declared.remark.Remark.TheVariants.{Message, IdleIgnore, UnknownCode}
@@ -95,5 +96,6 @@ abbrev pub advice_of : Remark → List ℕ
 advice_of (Message kind) = advice_on kind
 advice_of (about.Lint lint) = advice_on_lint lint
 advice_of (about.DatabaseLint lint) = database_advice lint
+advice_of (about.LinkFault fault) = link_advice fault
 advice_of IdleIgnore = codes "Remove the code from the comment, which silences nothing."
 advice_of UnknownCode = codes "Write \"ignore\" or \"ignore-file\", a space, and codes such as V6,S2."

@@ -11,6 +11,7 @@ use Rattle.file_messages.specs.declared.message.MessageKind.TheVariants.{AssignE
 use Rattle.file_messages.specs.declared.message.MessageKind.TheVariants.{BlankExpected, ReadAsAssign, LabelUnused, LeadingComma, BlankBeforeComma}
 use Rattle.std.specs.Cmp.Lexicographic.{pointwise}
 use Rattle.engine_formats.specs.DatabaseLints.{database_lints}
+use Rattle.engine_formats.specs.LinkFaults.{link_faults}
 use Rattle.engine_formats.specs.Remarks.{code_of}
 use Rattle.rule_lints.specs.declared.lint.Lint.{Lint}
 use Rattle.rule_lints.specs.declared.lint.Lint.TheVariants.{ModeNotOctal, SignOfShell, RelativeProgram, LetterCase, NoSuchDevice, ImportedBelow, MeantToCompare}
@@ -42,7 +43,7 @@ lints = ModeNotOctal ∷ SignOfShell ∷ RelativeProgram ∷ LetterCase ∷ NoSu
 abbrev pub remarks : List Remark
 remarks =
     map (λ kind. Message kind) kinds ++ map (λ lint. about.Lint lint) lints ++ map (λ lint. about.DatabaseLint lint) database_lints
-    ++ IdleIgnore ∷ UnknownCode ∷ []
+    ++ map (λ fault. about.LinkFault fault) link_faults ++ IdleIgnore ∷ UnknownCode ∷ []
 
 -- the remark with a code, if there is one
 unfoldable pub remark_of : List ℕ → Option Remark

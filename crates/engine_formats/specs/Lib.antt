@@ -1,6 +1,7 @@
 pub mod Remarks
 pub mod Codes
 pub mod DatabaseLints
+pub mod LinkFaults
 pub mod Diagnostics
 pub mod Lines
 pub mod Github

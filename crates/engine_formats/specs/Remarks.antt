@@ -10,6 +10,7 @@ use Rattle.rule_lints.specs.declared.lint.Lint.TheVariants.{NoMatch, NeverFits, 
 use Rattle.rule_lints.specs.declared.lint.Lint.TheVariants.{NameTooLong, WantedWithoutTag, ForbiddenCommand, NoResultYet, LinkOfNet, TagTooLate}
 use Rattle.engine_reports.specs.Messages.{heading_of}
 use Rattle.engine_formats.specs.DatabaseLints.{database_heading}
+use Rattle.engine_formats.specs.LinkFaults.{link_heading}
 use Rattle.engine_formats.specs.declared.remark.Remark.{Remark}
 use Rattle.engine_formats.specs.declared.remark.Remark.TheVariants as about
 use Rattle.engine_formats.specs.declared.remark.Remark.TheVariants.{Message, IdleIgnore, UnknownCode}
@@ -51,6 +52,7 @@ abbrev pub remark_heading : Remark → List ℕ
 remark_heading (Message kind) = heading_of kind
 remark_heading (about.Lint lint) = lint_heading lint
 remark_heading (about.DatabaseLint lint) = database_heading lint
+remark_heading (about.LinkFault fault) = link_heading fault
 remark_heading IdleIgnore = codes "I1 nothing to ignore"
 remark_heading UnknownCode = codes "I2 unknown code"
 

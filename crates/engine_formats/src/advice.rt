@@ -3,6 +3,7 @@ ghost use Rattle.std.specs.Prelude.{◌≡◌};
 ghost use Rattle.engine_formats.specs.Advice.{advice_of, advice_on, advice_on_lint};
 
 use crate::database_lints::database_advice;
+use crate::link_faults::link_advice;
 use crate::remark::Remark;
 use file_messages::MessageKind;
 use rule_lints::Lint;
@@ -172,6 +173,7 @@ impl Remark {
             Remark::Message(kind) => advice_on(kind),
             Remark::Lint(lint) => advice_on_lint(lint),
             Remark::DatabaseLint(lint) => database_advice(lint),
+            Remark::LinkFault(fault) => link_advice(fault),
             Remark::IdleIgnore => IDLE_IGNORE,
             Remark::UnknownCode => UNKNOWN_CODE,
         }

@@ -6,10 +6,11 @@ ghost use Rattle.engine_formats.specs.Remarks.{code_of};
 use crate::remark::Remark;
 use file_messages::MessageKind;
 use hwdb_lints::DatabaseLint;
+use link_lints::LinkFault;
 use rule_lints::Lint;
 
 /// Each remark.
-const REMARKS: [Remark; 80] = [
+const REMARKS: [Remark; 85] = [
     Remark::Message(MessageKind::BadSyntax),
     Remark::Message(MessageKind::UnknownKey),
     Remark::Message(MessageKind::OperatorNotAllowed),
@@ -88,11 +89,16 @@ const REMARKS: [Remark; 80] = [
     Remark::DatabaseLint(DatabaseLint::CutWord),
     Remark::DatabaseLint(DatabaseLint::OpenSet),
     Remark::DatabaseLint(DatabaseLint::WrongValue),
+    Remark::LinkFault(LinkFault::UnknownSection),
+    Remark::LinkFault(LinkFault::UnknownKey),
+    Remark::LinkFault(LinkFault::BadLine),
+    Remark::LinkFault(LinkFault::BadValue),
+    Remark::LinkFault(LinkFault::NoInterface),
     Remark::IdleIgnore,
     Remark::UnknownCode,
 ];
 
-/// Each remark, by code: V, S, H, W, D and I.
+/// Each remark, by code: V, S, H, W, D, L and I.
 pub fn remarks() -> &'static [Remark]
     ensures { result.now ≡ remarks }
 {

@@ -11,6 +11,7 @@ ghost use Rattle.file_messages.specs.declared.message.MessageKind.{MessageKind};
 ghost use Rattle.text_bytes.specs.declared.source_file.SourceFile.{SourceFile};
 ghost use Rattle.hwdb_core.specs.Sources.{messages_of};
 ghost use Rattle.hwdb_lints.specs.declared.lint.DatabaseLint.{DatabaseLint};
+ghost use Rattle.link_lints.specs.declared.fault.LinkFault.{LinkFault};
 ghost use Rattle.rule_lints.specs.declared.lint.Lint.{Lint};
 ghost use Rattle.engine_ends.specs.declared.line.Format.{Format};
 ghost use Rattle.engine_reports.specs.Checks.{is_style};
@@ -41,6 +42,7 @@ pub fn style_is_a_warning()
     ensures message { (kind : MessageKind) → severity_of (about.Message kind) ≡ (if is_style kind then Warning else Error) }
     ensures lint { (lint : Lint) → severity_of (about.Lint lint) ≡ Warning }
     ensures database { (lint : DatabaseLint) → severity_of (about.DatabaseLint lint) ≡ Warning }
+    ensures links { (fault : LinkFault) → severity_of (about.LinkFault fault) ≡ Error }
     ensures idle { severity_of about.IdleIgnore ≡ Warning }
     ensures unknown { severity_of about.UnknownCode ≡ Warning }
 {}

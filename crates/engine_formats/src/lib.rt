@@ -18,6 +18,7 @@ mod hints;
 mod human;
 mod json_members;
 mod laws;
+mod link_faults;
 mod marks;
 mod masked;
 mod meant;

@@ -3,9 +3,11 @@ ghost use Rattle.std.specs.Prelude.{◌≡◌};
 ghost use Rattle.engine_formats.specs.Remarks.{code_of, heading_parts, lint_heading, remark_heading, severity_of, severity_word, text_of};
 
 use crate::database_lints::database_heading;
+use crate::link_faults::link_heading;
 use engine_reports::heading;
 use file_messages::MessageKind;
 use hwdb_lints::DatabaseLint;
+use link_lints::LinkFault;
 use rule_lints::Lint;
 use text_bytes::{begins_with, split_once};
 
@@ -18,6 +20,8 @@ pub enum Remark {
     Lint(Lint),
     /// D1 to D13: a line of a database is most likely not the one that was meant.
     DatabaseLint(DatabaseLint),
+    /// L1 to L5: a line of a `.link` file, or the file, is not as systemd.link(5) has it.
+    LinkFault(LinkFault),
     /// I1: a comment ignores messages with a code, and there are none.
     IdleIgnore,
     /// I2: a comment names an unknown code, or is not understood.
@@ -42,6 +46,7 @@ impl Remark {
             Remark::Message(kind) => heading(kind),
             Remark::Lint(lint) => lint_heading(lint),
             Remark::DatabaseLint(lint) => database_heading(lint),
+            Remark::LinkFault(fault) => link_heading(fault),
             Remark::IdleIgnore => b"I1 nothing to ignore",
             Remark::UnknownCode => b"I2 unknown code",
         }

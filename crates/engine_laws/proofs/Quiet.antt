@@ -53,7 +53,9 @@ use Rattle.eval_state.specs.declared.scene.Scene.{Scene}
 use Rattle.eval_acts.specs.Acts.{imported, on_text}
 use Rattle.eval_acts.specs.Inner.{left}
 use Rattle.eval_acts.specs.BuiltinRuns.{looked_up, most_set, needs_noted, needs_word, outcome_set, outcome_taken, path_id_run, properties_size, usb_id_run, with_maker}
-use Rattle.eval_acts.specs.Imports.{builtin_run, from_answer_or_noted, from_parent, run_builtin}
+use Rattle.eval_acts.specs.LookUpNeeds.{lookup_needs}
+use Rattle.eval_acts.specs.LookUps.{found}
+use Rattle.eval_acts.specs.Imports.{builtin_run, from_answer_or_noted, from_parent, run_builtin, taken}
 use Rattle.eval_acts.specs.Printed.{printed_properties}
 use Rattle.eval_commands.specs.Builtins.{builtin_question}
 use Rattle.eval_acts.specs.Questions.{tested, tested_at, tested_by, tested_by_udev}
@@ -134,7 +136,9 @@ answer_quiet r name None s = note_quiet r BuiltinNotRun name s refl
 answer_quiet r name (Some a) s = either s (a.status == 0) (with_env (properties_set s.state.env (printed_properties a.text)) s, true) (s, false) refl refl
 
 builtin_quiet : (known : Known) (r : Rule) (t : Text) (b : Builtin) (s : Scene) → Quiet s (builtin_run known r t b s).0
-builtin_quiet known r t (builtin.Hwdb h) s = refl
+builtin_quiet known r t (builtin.Hwdb h) s =
+    let properties : List Pair = found known h s.state in
+    need_quiet r (codes "hwdb") (lookup_needs s.state.event.profile s.state h properties) (taken properties s).0
 builtin_quiet known r t builtin.InputId s = taken_quiet r (builtin_name InputId) (known.input_id s.state.event) s
 builtin_quiet known r t builtin.NetId s =
     let names : OutcomeValue = known.net_id s.state.event s.state.env in

@@ -52,11 +52,11 @@ serves_still messages answer status before now n s = record {
   statuses = s.statuses;
 }
 
-reports_some : (line : Text) (wanted status : ℕ) (after now : SinkState) → 0 < wanted → ReportsFailure line wanted status after now → status ≡ 0 → ⊥
+pub reports_some : (line : Text) (wanted status : ℕ) (after now : SinkState) → 0 < wanted → ReportsFailure line wanted status after now → status ≡ 0 → ⊥
 reports_some line wanted status after now h (inl p) e = absurd (omega (arith, h, p.0, e))
 reports_some line wanted status after now h (inr p) e = absurd (omega (arith, p.0, e))
 
-stops_some : (messages : Text) (status : ℕ) (before now : Streams) → StopsBefore messages status before now → status ≡ 0 → ⊥
+pub stops_some : (messages : Text) (status : ℕ) (before now : Streams) → StopsBefore messages status before now → status ≡ 0 → ⊥
 stops_some messages status before now s e = by s.reports
   where
     by : ((status ≡ 3) × BreaksOff before.err messages now.err) ⊎ ReportsFailure out_of_memory 4 status before.err now.err → ⊥

@@ -1,5 +1,5 @@
 -- Whether answers that are sent one after another have a byte.
-use Rattle.std.proofs.Common.{◌≡◌, ℕ, zero, suc, ◌+◌, ◌==◌, Bool, true, false, cond, not, ◌||◌, inr, List, [], ◌++◌, length, take, ◌≤◌, Ok, Err, ap, ap₂, sym, ◌∙◌, refl, arith, zero-add, length-append}
+use Rattle.std.proofs.Common.{◌≡◌, ℕ, zero, suc, ◌+◌, ◌==◌, Bool, true, false, cond, not, ◌||◌, inr, List, [], ◌∷◌, ◌++◌, length, take, ◌≤◌, Ok, Err, ap, ap₂, sym, ◌∙◌, refl, arith, zero-add, length-append}
 use Rattle.std.specs.Option.{option_to_list}
 use Rattle.std.proofs.lemmas.Bool.{ne_eqb}
 use Rattle.std.proofs.lemmas.Grind.{flat_map-append}
@@ -13,12 +13,12 @@ use Rattle.engine_sessions.specs.Sessions.{Held, SessionTakes, opened}
 use Rattle.engine_sessions.specs.Turns.{Sends, TurnFailsBy, Turns, due, joined, say_something}
 use Rattle.engine_sessions.specs.Inputs.{devices_of, most_turns}
 use Rattle.engine_sessions.specs.Findings.{AnswersFinding, FindsAll}
-use Rattle.engine_sessions.specs.Holding.{IsGoing, TurnsFinding}
+use Rattle.engine_sessions.specs.Holding.{IsGoing, TurnsFinding, TurnsTold}
 use Rattle.engine_sessions.specs.declared.session.Step.{Step}
 use Rattle.engine_sessions.specs.declared.turning.TurnFault.{TurnFault}
 use Rattle.engine_sessions.specs.declared.turning.TurnFault.TheVariants.{Read}
 use Rattle.engine_sessions.proofs.TurnLemmas.{Sent, at, sent-all, sent-all_texts, sent-more, sent-more_texts, sent-none, sent-none_texts}
-use Rattle.engine_sessions.proofs.Turns.{Served, failed, finished, finished_sent, served_at_start, served_at_start_sent, served_more, served_more_sent, shown, used_up}
+use Rattle.engine_sessions.proofs.Turns.{Served, failed, finished, finished_read, finished_sent, served_at_start, served_at_start_read, served_at_start_sent, served_more, served_more_read, served_more_sent, shown, used_up}
 
 some_either : (m n : ℕ) → not (m + n == 0) ≡ (not (m == 0) || not (n == 0))
 some_either zero n = ap (λ k. not (k == 0)) (zero-add n)
@@ -54,6 +54,11 @@ pub turn_finds : {A : Type 0} (answer : EventValue → Text) (more finds : Bool)
     → finds ≡ say_something (due answer more old.pending t.piece).texts → TurnsFinding answer more finds (at old input output) (at new input_now output_now)
 turn_finds answer more finds old new input input_now output output_now t e = record { turn = t; finds_is = e ∙ ap (λ a. say_something a.texts) t.sends.answers }
 
+-- a turn, by what was due and what was told
+pub turn_tells : {A : Type 0} (answer : EventValue → Text) (Told : Text → Type 0) (more finds : Bool) (old new : Held A) (input input_now : SourceState) (output output_now : SinkState) (t : Turns answer more (at old input output) (at new input_now output_now))
+    → finds ≡ say_something (due answer more old.pending t.piece).texts → Told t.piece → TurnsTold answer Told more finds (at old input output) (at new input_now output_now)
+turn_tells answer Told more finds old new input input_now output output_now t e h = record { finding = record { turn = t; finds_is = e ∙ ap (λ a. say_something a.texts) t.sends.answers }; told = h }
+
 -- some turns, and whether any of their answers has a byte
 pub record ServedFinding {A : Type 0} (answer : EventValue → Text) (first : Held A) (input now : SourceState) (output sink : SinkState) (session : Held A) (turns : ℕ) (finds : Bool) : Type 0 where
   pub served : Served answer first input now output sink session turns
@@ -78,6 +83,22 @@ finding_finished answer first session next input now later output sink sink_late
   finds_is = ap₂ (λ a b. a || b) s.finds_is t.finds_is ∙ sym (something-append s.served.sent t.turn.sends.texts)
       ∙ sym (ap say_something (finished_sent answer first session next input now later output sink sink_later turns s.served t.turn));
 }
+
+pub finding_at_start_read : {A : Type 0} (answer : EventValue → Text) (session : Held A) (input : SourceState) (output : SinkState) (e : session ≡ opened session.answering) → (finding_at_start answer session input output e).served.read ≡ []
+unfolding finding_at_start
+finding_at_start_read answer session input output e = served_at_start_read answer session input output e
+
+pub finding_more_read : {A : Type 0} (answer : EventValue → Text) (first session next : Held A) (input now later : SourceState) (output sink sink_later : SinkState) (turns : ℕ) (finds says : Bool)
+    → (s : ServedFinding answer first input now output sink session turns finds) (t : TurnsFinding answer true says (at session now sink) (at next later sink_later)) (fits : length next.pending ≤ most_bytes)
+    → (finding_more answer first session next input now later output sink sink_later turns finds says s t fits).served.read ≡ s.served.read ++ t.turn.piece ∷ []
+unfolding finding_more
+finding_more_read answer first session next input now later output sink sink_later turns finds says s t fits = served_more_read answer first session next input now later output sink sink_later turns s.served t.turn fits
+
+pub finding_finished_read : {A : Type 0} (answer : EventValue → Text) (first session next : Held A) (input now later : SourceState) (output sink sink_later : SinkState) (turns : ℕ) (finds says : Bool)
+    → (s : ServedFinding answer first input now output sink session turns finds) (t : TurnsFinding answer false says (at session now sink) (at next later sink_later))
+    → (finding_finished answer first session next input now later output sink sink_later turns finds says s t).answers.read ≡ s.served.read ++ t.turn.piece ∷ []
+unfolding finding_finished
+finding_finished_read answer first session next input now later output sink sink_later turns finds says s t = finished_read answer first session next input now later output sink sink_later turns s.served t.turn
 
 pub finding_failed : {A : Type 0} (answer : EventValue → Text) (fault : TurnFault) (first session next : Held A) (input now later : SourceState) (output sink sink_later : SinkState) (turns : ℕ) (finds : Bool)
     → ServedFinding answer first input now output sink session turns finds → TurnFailsBy answer fault (at session now sink) (at next later sink_later) → AnswersFinding answer (Err fault) (shown input output) (shown later sink_later)

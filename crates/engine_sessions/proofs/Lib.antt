@@ -9,3 +9,6 @@ pub mod FindingLemmas
 pub mod FindServing
 pub mod Serving
 pub mod Manual
+pub mod Telling
+pub mod Heard
+pub mod Saying

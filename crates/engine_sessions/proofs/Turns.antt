@@ -164,6 +164,10 @@ pub served_at_start_sent : {A : Type 0} (answer : EventValue → Text) (session 
 unfolding served_at_start
 served_at_start_sent answer session input output e = refl
 
+pub served_at_start_read : {A : Type 0} (answer : EventValue → Text) (session : Held A) (input : SourceState) (output : SinkState) (e : session ≡ opened session.answering) → (served_at_start answer session input output e).read ≡ []
+unfolding served_at_start
+served_at_start_read answer session input output e = refl
+
 given_more : {A : Type 0} (answer : EventValue → Text) (session next : Held A) (text piece : Text) (sent : List Text) (sink later : SinkState) (g : Given answer text sent session) (s : SendsDue answer true session piece next sink later)
     → Given answer (text ++ piece) (sent ++ s.texts) next
 given_more answer session next text piece sent sink later g s = record {
@@ -200,6 +204,12 @@ pub served_more_sent : {A : Type 0} (answer : EventValue → Text) (first sessio
     → (served_more answer first session next input now later output sink sink_later turns s t fits).sent ≡ s.sent ++ t.sends.texts
 unfolding served_more
 served_more_sent answer first session next input now later output sink sink_later turns s t fits = refl
+
+pub served_more_read : {A : Type 0} (answer : EventValue → Text) (first session next : Held A) (input now later : SourceState) (output sink sink_later : SinkState) (turns : ℕ)
+    → (s : Served answer first input now output sink session turns) (t : Turns answer true (at session now sink) (at next later sink_later)) (fits : length next.pending ≤ most_bytes)
+    → (served_more answer first session next input now later output sink sink_later turns s t fits).read ≡ s.read ++ t.piece ∷ []
+unfolding served_more
+served_more_read answer first session next input now later output sink sink_later turns s t fits = refl
 
 -- all answers to the text with one more piece and what follows it
 all_answers : {A : Type 0} (answer : EventValue → Text) (session : Held A) (read : List Text) (piece later : Text) (sent : List Text) → Given answer (joined read) sent session
@@ -242,6 +252,12 @@ pub finished_sent : {A : Type 0} (answer : EventValue → Text) (first session n
     → (finished answer first session next input now later output sink sink_later turns s t).sent ≡ s.sent ++ t.sends.texts
 unfolding finished
 finished_sent answer first session next input now later output sink sink_later turns s t = refl
+
+pub finished_read : {A : Type 0} (answer : EventValue → Text) (first session next : Held A) (input now later : SourceState) (output sink sink_later : SinkState) (turns : ℕ)
+    → (s : Served answer first input now output sink session turns) (t : Turns answer false (at session now sink) (at next later sink_later))
+    → (finished answer first session next input now later output sink sink_later turns s t).read ≡ s.read ++ t.piece ∷ []
+unfolding finished
+finished_read answer first session next input now later output sink sink_later turns s t = refl
 
 -- the first answers to a piece are those that are due when it was read
 due_first : (answer : EventValue → Text) (more : Bool) (pending piece : Text) → (following : List Text) × ((answers_of answer (pending ++ piece)).texts ≡ (due answer more pending piece).texts ++ following)

@@ -67,3 +67,8 @@ BreaksOffAt before (Some text) now = BreaksOff before text now
 pub record TurnsFinding {A : Type 0} (answer : EventValue → Text) (more finds : Bool) (before now : Situation A) : Type 0 where
   pub turn : Turns answer more before now
   pub finds_is : finds ≡ say_something turn.sends.texts
+
+-- a turn, whether any of the answers that it sends has a byte, and what a listener was told in it
+pub record TurnsTold {A : Type 0} (answer : EventValue → Text) (Told : Text → Type 0) (more finds : Bool) (before now : Situation A) : Type 0 where
+  pub finding : TurnsFinding answer more finds before now
+  pub told : Told finding.turn.piece

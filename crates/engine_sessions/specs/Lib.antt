@@ -8,5 +8,6 @@ pub mod Outcomes
 pub mod Inputs
 pub mod Serves
 pub mod Findings
+pub mod Tallies
 pub mod BlockFaults
 pub mod FaultTexts

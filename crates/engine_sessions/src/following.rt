@@ -114,7 +114,7 @@ fn find_in_steps<A: Answering, R: Source, W: Sink, E: Sink>(
 }
 
 /// Reports why the answering of an input stopped, and returns the status for it, or 3 if the error output failed.
-fn conclude<E: Sink>(fault: TurnFault, error: &mut E) -> u8
+pub(crate) fn conclude<E: Sink>(fault: TurnFault, error: &mut E) -> u8
     requires { fault ≡ TurnFault.Session SessionFault.Ended → ⊥ }
     ensures { Concludes (Err fault) result (E.shown error.old) (E.shown error.new) }
 {

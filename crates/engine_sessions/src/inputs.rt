@@ -2,10 +2,12 @@
 ghost use Rattle.std.specs.Prelude.{◌≡◌};
 ghost use Rattle.engine_sessions.specs.Sessions.{answer_of, asked_by, opened};
 ghost use Rattle.engine_sessions.specs.Findings.{AnswersFinding};
+ghost use Rattle.engine_sessions.specs.Tallies.{HearsInput};
 
 use crate::answering::Answering;
+use crate::listening::Listener;
 use crate::session::{Session, SessionFault};
-use crate::turning::{TurnFault, turn_finding};
+use crate::turning::{TurnFault, turn_told};
 use engine_ends::{Sink, Source};
 use std::alloc::Global;
 use text_bytes::Profile;
@@ -29,26 +31,42 @@ pub fn answer_input<A: Answering, R: Source, W: Sink>(
     ensures { AnswersFinding (answer_of A.answers (asked_by profile answering.now)) result
         (record { input = R.shown input.old; output = W.shown output.old }) (record { input = R.shown input.new; output = W.shown output.new }) }
 {
+    answer_heard(alloc, profile, answering, &mut (), input, output)
+}
+
+/// Answers the blocks of an input as `answer_input` does, while a listener is told what is read.
+pub(crate) fn answer_heard<A: Answering, L: Listener, R: Source, W: Sink>(
+    alloc: Global,
+    profile: Profile,
+    answering: &A,
+    listener: &mut L,
+    input: &mut R,
+    output: &mut W,
+) -> Result<bool, TurnFault>
+    ensures { HearsInput (answer_of A.answers (asked_by profile answering.now)) (L.says listener.old) (L.says listener.new) result
+        (record { input = R.shown input.old; output = W.shown output.old }) (record { input = R.shown input.new; output = W.shown output.new }) }
+{
     match Session::new_as(alloc, profile, answering) {
-        Ok(mut session) => make_turns(alloc, &mut session, input, output),
+        Ok(mut session) => make_turns(alloc, &mut session, listener, input, output),
         Err(_) => Err(TurnFault::Session(SessionFault::Memory)),
     }
 }
 
 /// Makes turns until the input ends or a turn fails. Returns whether any answer has a byte.
-fn make_turns<A: Answering, R: Source, W: Sink>(
+fn make_turns<A: Answering, L: Listener, R: Source, W: Sink>(
     alloc: Global,
     session: &mut Session<'_, A>,
+    listener: &mut L,
     input: &mut R,
     output: &mut W,
 ) -> Result<bool, TurnFault>
     requires { session.old ≡ opened session.old.answering }
-    ensures { AnswersFinding (answer_of A.answers session.old.answering) result
+    ensures { HearsInput (answer_of A.answers session.old.answering) (L.says listener.old) (L.says listener.new) result
         (record { input = R.shown input.old; output = W.shown output.old }) (record { input = R.shown input.new; output = W.shown output.new }) }
 {
     let mut finds = false;
     for _made in 0..MAX_TURNS {
-        let outcome = turn_finding(alloc, session, input, output)?;
+        let outcome = turn_told(alloc, session, listener, input, output)?;
         finds |= outcome.finds;
         if !outcome.more {
             return Ok(finds);

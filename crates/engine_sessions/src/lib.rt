@@ -5,9 +5,12 @@ mod answering;
 mod block_faults;
 mod faults;
 mod following;
+mod hearing;
 mod inputs;
 mod laws;
+mod listening;
 mod session;
+mod tallying;
 mod turning;
 
 pub use answering::Answering;
@@ -17,5 +20,7 @@ pub use laws::{
     answers_do_not_depend_on_the_pieces, answers_end_at_the_first_fault, known_answers_stay,
     the_manual_changes_no_event,
 };
+pub use listening::Tally;
 pub use session::{Session, SessionFault, Step};
+pub use tallying::answer_and_tally;
 pub use turning::{TurnFault, turn};

@@ -8,9 +8,11 @@ ghost use Rattle.device_core.specs.RunBlocks.{most_bytes};
 ghost use Rattle.engine_ends.specs.Sinks.{SinkState};
 ghost use Rattle.engine_sessions.specs.Sessions.{answer_of};
 ghost use Rattle.engine_sessions.specs.Turns.{due, HasEnded, say_something, Sends, SendsDue, SendsUntil, Turns, TurnFailsBy};
-ghost use Rattle.engine_sessions.specs.Holding.{IsGoing, BreaksOffAt, TurnsFinding};
+ghost use Rattle.engine_sessions.specs.Holding.{IsGoing, BreaksOffAt, TurnsTold};
+ghost use Rattle.engine_sessions.specs.Tallies.{IsTold};
 
 use crate::answering::Answering;
+use crate::listening::Listener;
 use crate::session::{Session, SessionFault};
 use engine_ends::{DeviceFault, Sink, Source, hand_on};
 use std::alloc::Global;
@@ -63,18 +65,20 @@ pub fn turn<A: Answering, R: Source, W: Sink>(
     ensures fits { length session.new.pending ≤ most_bytes }
     ensures untouched { session.old.ended ≡ true → (session.new ≡ session.old) × (input.new ≡ input.old) × (output.new ≡ output.old) }
 {
-    let outcome = turn_finding(alloc, session, input, output)?;
+    let outcome = turn_told(alloc, session, &mut (), input, output)?;
     Ok(outcome.more)
 }
 
-/// Does what `turn` does, and also returns whether any of the answers has a byte.
-pub(crate) fn turn_finding<A: Answering, R: Source, W: Sink>(
+/// Does what `turn` does, tells a listener the piece that was read, once its answers are written, and also returns
+/// whether any of the answers has a byte.
+pub(crate) fn turn_told<A: Answering, L: Listener, R: Source, W: Sink>(
     alloc: Global,
     session: &mut Session<'_, A>,
+    listener: &mut L,
     input: &mut R,
     output: &mut W,
 ) -> Result<TurnOutcome, TurnFault>
-    ensures ok { IfOk result (λ after_turn. TurnsFinding (answer_of A.answers session.old.answering) after_turn.more after_turn.finds
+    ensures ok { IfOk result (λ after_turn. TurnsTold (answer_of A.answers session.old.answering) (IsTold (L.says listener.old) (L.says listener.new)) after_turn.more after_turn.finds
         (record { session = session.old; input = R.shown input.old; output = W.shown output.old })
         (record { session = session.new; input = R.shown input.new; output = W.shown output.new })) }
     ensures err { IfErr result (λ fault. TurnFailsBy (answer_of A.answers session.old.answering) fault
@@ -95,7 +99,13 @@ pub(crate) fn turn_finding<A: Answering, R: Source, W: Sink>(
         }
         Ok(len) => {
             let finds = answer_piece(alloc, session, &piece[..len], output)?;
-            Ok(TurnOutcome { more: true, finds })
+            match listener.hear(alloc, &piece[..len]) {
+                Ok(()) => Ok(TurnOutcome { more: true, finds }),
+                Err(_) => {
+                    session.close();
+                    Err(TurnFault::Session(SessionFault::Memory))
+                }
+            }
         }
         Err(DeviceFault) => {
             session.close();

@@ -1,5 +1,6 @@
 pub mod Filtering
 pub mod Finding
+pub mod Lacking
 pub mod Lines
 pub mod Plain
 pub mod Runs

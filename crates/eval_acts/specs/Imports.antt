@@ -15,10 +15,12 @@ use Rattle.rule_types.specs.declared.types.ImportType.TheVariants.{Cmdline}
 use Rattle.rule_types.specs.Rules.{Rule}
 use Rattle.eval_commands.specs.Builtins.{builtin, builtin_question}
 use Rattle.eval_commands.specs.Cmdline.{cmdline_value}
-use Rattle.eval_acts.specs.BuiltinRuns.{input_id_run, net_id_run, net_setup_link_run, path_id_run, usb_id_run}
+use Rattle.eval_acts.specs.BuiltinRuns.{input_id_run, needs_noted, net_id_run, net_setup_link_run, path_id_run, usb_id_run}
+use Rattle.eval_acts.specs.LookUpNeeds.{lookup_needs}
 use Rattle.eval_acts.specs.LookUps.{found}
 use Rattle.eval_acts.specs.Printed.{printed_properties}
 use Rattle.eval_commands.specs.declared.builtin.Builtin.{Builtin}
+use Rattle.eval_commands.specs.declared.hwdb.Hwdb.{Hwdb}
 use Rattle.eval_commands.specs.declared.builtin.Builtin.TheVariants as asked
 use Rattle.eval_state.specs.Properties.{given_properties, properties_set, property_set}
 use Rattle.eval_state.specs.Scenes.{noted, with_env}
@@ -35,6 +37,12 @@ with_found Udev env properties = properties_set env properties
 abbrev pub taken : List Pair → Scene → Scene × Bool
 taken properties s = (with_env (with_found s.state.event.profile s.state.env properties) s, not (length properties == 0))
 
+-- `hwdb` takes what it finds; if the block lacks something for that, it is noted
+abbrev pub hwdb_run : Known → Rule → Hwdb → Scene → Scene × Bool
+hwdb_run known r hwdb s =
+    let properties = found known hwdb s.state in
+    (needs_noted r (codes "hwdb") (lookup_needs s.state.event.profile s.state hwdb properties) (taken properties s).0, (taken properties s).1)
+
 -- a program that answered: if its status is 0, the properties of what it printed are set; the result of PROGRAM stays
 abbrev pub from_answer : AnswerValue → Scene → Scene × Bool
 from_answer answer s =
@@ -49,7 +57,7 @@ from_answer_or_noted r kind word (Some answer) s = from_answer answer s
 -- the builtin of a command: `hwdb` takes what it finds, and five builtins of udev look at the devices. Of the others, by
 -- udev, those that set nothing are done and the event's block answers the rest; by the manual none is run.
 abbrev pub builtin_run : Known → Rule → Text → Builtin → Scene → Scene × Bool
-builtin_run known r command (asked.Hwdb hwdb) s = taken (found known hwdb s.state) s
+builtin_run known r command (asked.Hwdb hwdb) s = hwdb_run known r hwdb s
 builtin_run known r command asked.InputId s = input_id_run known r s
 builtin_run known r command asked.NetId s = net_id_run known r s
 builtin_run known r command asked.NetSetupLink s = net_setup_link_run known r s

@@ -1,4 +1,5 @@
 pub mod LookUps
+pub mod LookUpNeeds
 pub mod BuiltinRuns
 pub mod Imports
 pub mod RootImports

@@ -40,7 +40,7 @@ fn needs_word(
 }
 
 /// Notes all that a builtin needs from the block, if it needs anything.
-fn note_needs(
+pub(crate) fn note_needs(
     alloc: Global,
     rule: &Rule,
     name: &[u8],

@@ -20,7 +20,7 @@ use text_bytes::Bytes;
 pub(crate) struct Candidate<'a> {
     subsystem: Option<&'a [u8]>,
     devtype: Option<&'a [u8]>,
-    modalias: Option<Bytes>,
+    pub(crate) modalias: Option<Bytes>,
 }
 
 impl<'a> Model for Candidate<'a> {
@@ -47,7 +47,7 @@ fn own_or_made_up(
 }
 
 /// A device as udev sees it, by its property MODALIAS.
-fn seen_by_udev<'a>(
+pub(crate) fn seen_by_udev<'a>(
     alloc: Global,
     device: &'a Device<'_>,
     modalias: Option<&[u8]>,
@@ -90,7 +90,7 @@ pub(crate) fn is_wanted(named: Option<&[u8]>, subsystem: Option<&[u8]>) -> bool
 impl<'a> Candidate<'a> {
     /// Whether it has a subsystem: the one that is named, if any.
     #[tactic(auto, using(crate::proofs::Seeing::wanted_by))]
-    fn is_wanted(&self, subsystem: Option<&[u8]>) -> bool
+    pub(crate) fn is_wanted(&self, subsystem: Option<&[u8]>) -> bool
         ensures { result ≡ is_wanted (option_map (λ t. t.now) subsystem.entry) self.now }
     {
         is_wanted(subsystem, self.subsystem)
@@ -104,7 +104,7 @@ impl<'a> Candidate<'a> {
     }
 
     /// Whether it is a device of USB that is wanted.
-    fn is_last(&self, subsystem: Option<&[u8]>) -> bool
+    pub(crate) fn is_last(&self, subsystem: Option<&[u8]>) -> bool
         ensures { result ≡ is_last (option_map (λ t. t.now) subsystem.entry) self.now }
     {
         self.is_wanted(subsystem) && self.is_usb_device()

@@ -13,11 +13,11 @@ ghost use Rattle.eval_acts.specs.Imports.{from_answer, from_answer_or_noted, fro
 ghost use Rattle.eval_acts.specs.Imports.{names_fitting, not_run, run_builtin, taken, with_found};
 
 use crate::builtin_runs::{run_input_id, run_net_id, run_net_setup_link, run_path_id, run_usb_id};
-use crate::lookups::{look_up, look_up_request};
+use crate::hwdb_runs::run_hwdb;
 use crate::printed::set_printed;
 use builtin_knowledge::Knowledge;
 use device_core::{Event, ProgramAnswer};
-use eval_commands::{Builtin, builtin_question, cmdline_value, other_name, request_of};
+use eval_commands::{Builtin, Request, builtin_question, cmdline_value, other_name, request_of};
 use eval_state::{NoteKind, Scene, set_property};
 use rule_types::{ImportType, Rule};
 use std::alloc::{AllocError, Global};
@@ -69,7 +69,11 @@ fn set_found(
 }
 
 /// Takes the properties that were found, and returns whether there are any.
-fn take(alloc: Global, found: &[(&[u8], &[u8])], scene: &mut Scene<'_>) -> Result<bool, AllocError>
+pub(crate) fn take(
+    alloc: Global,
+    found: &[(&[u8], &[u8])],
+    scene: &mut Scene<'_>,
+) -> Result<bool, AllocError>
     ensures scene { IfOk result (λ done. (scene.new, done) ≡ taken (shown found.now) scene.old) }
     ensures refused { OnErr result (scene.new.state.event ≡ scene.old.state.event) }
 {
@@ -150,14 +154,10 @@ pub(crate) fn run_builtin<K: Knowledge>(
         return Ok(false);
     }
     if let Some(request) = request_of(profile, command) {
-        let found = look_up_request(alloc, &request, &scene.state, knowledge)?;
-        return take(alloc, &found, scene);
+        return run_hwdb(alloc, rule, &request, knowledge, scene);
     }
     match Builtin::read(alloc, profile, command)? {
-        Builtin::Hwdb(hwdb) => {
-            let found = look_up(alloc, &hwdb, &scene.state, knowledge)?;
-            take(alloc, &found, scene)
-        }
+        Builtin::Hwdb(hwdb) => run_hwdb(alloc, rule, &Request::of(&hwdb), knowledge, scene),
         Builtin::InputId => run_input_id(alloc, rule, knowledge, scene),
         Builtin::NetId => run_net_id(alloc, rule, knowledge, scene),
         Builtin::NetSetupLink => run_net_setup_link(alloc, rule, knowledge, scene),

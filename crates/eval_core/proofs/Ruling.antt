@@ -142,7 +142,7 @@ module _ (names : List Text) (r : Rule) (s : Scene) (manual : s.state.event.prof
   key_missed plain.Driver wanted h = (refl, text_ruled 3 (or_empty s.state.event.device.driver) wanted refl (exact_sketch wanted.choice) refl h)
   key_missed (plain.Attr name) wanted h = (
     attribute_reached r name s manual,
-    ap (λ by. holds (attribute_by by name s.state.event (value_by by name s.state s.state.event.device.attrs)) wanted) manual
+    ap (λ by. holds (attribute_by by name s.state.event (value_by by name s.state s.state.event.device)) wanted) manual
         ∙ attribute_ruled name wanted (position (same_text name) names) refl (exact_sketch wanted.choice) refl h,
   )
   key_missed key wanted h = nothing_known h

@@ -93,4 +93,11 @@ impl Program {
         };
         evaluate(alloc, layout, event, knowledge)
     }
+
+    /// The rules that are laid out.
+    pub fn rules(&self) -> &[Rule]
+        ensures { result.now ≡ self.now }
+    {
+        &self.rules
+    }
 }

@@ -6,3 +6,5 @@ pub mod Gathering
 pub mod Told
 pub mod AllAsked
 pub mod Looking
+pub mod Fated
+pub mod First

@@ -1,6 +1,6 @@
 -- Serves inner proofs only: what is known about an act before it is done, what a match looks at as it is borrowed,
 -- and what is reported and asked moment by moment.
-use Rattle.std.specs.Prelude.{Bool, List, [], ◌∷◌, ◌++◌, map, option_map, codes}
+use Rattle.std.specs.Prelude.{ℕ, ◌+◌, Bool, List, [], ◌∷◌, ◌++◌, map, option_map, codes}
 use Rattle.text_tables.specs.Texts.{Text}
 use Rattle.text_tables.specs.Pairs.{Pair}
 use Rattle.rule_types.specs.declared.part.Act.{Act}
@@ -10,7 +10,7 @@ use Rattle.eval_matching.specs.Borrowed.{borrowed_subject}
 use Rattle.eval_matching.specs.Subjects.{members_by, subsystem_by}
 use Rattle.eval_rules.specs.Idle.{is_idle}
 use Rattle.eval_rules.specs.Steps.{Went}
-use Rattle.eval_rules.specs.Watched.{Happening, acted, comparing, meeting, searching, skipped, stopped}
+use Rattle.eval_rules.specs.Watched.{Happening, acted, assigned, comparing, entered, left, meeting, passed, searching, skipped, stopped}
 use Rattle.eval_courses.specs.Acts.{has_noted, noted_report, taken_report}
 use Rattle.eval_courses.specs.Keys.{act_key}
 use Rattle.eval_courses.specs.Looks.{met, plain_report, result_report}
@@ -19,6 +19,8 @@ use Rattle.eval_courses.specs.Skipped.{skipped_text}
 use Rattle.eval_courses.specs.Upward.{search_reports}
 use Rattle.eval_courses.specs.declared.acts.ReportBefore.{ReportBefore}
 use Rattle.eval_courses.specs.declared.acts.ReportBefore.TheVariants as before
+use Rattle.eval_courses.specs.declared.fate.Fate.{Fate}
+use Rattle.eval_courses.specs.declared.fate.Fate.TheVariants.{Passed, Stopped, Met}
 use Rattle.eval_courses.specs.declared.subjects.Subject as borrowed
 use Rattle.eval_courses.specs.declared.subjects.Subject.TheVariants as borrowed_as
 
@@ -56,3 +58,29 @@ moment_reports happening s = []
 abbrev pub asking : List Text → Happening → Scene → List Text
 asking asked (acted r act went) s = with_asked asked (act_asks act.kind s.state)
 asking asked happening s = asked
+
+-- how many keys of the rule that was reached last were begun, and what became of the rules until now
+pub record Noted : Type 0 where
+  pub begun : ℕ
+  pub fates : List Fate
+
+-- one more fate is known
+abbrev pub with_fate : Noted → Fate → Noted
+with_fate w f = record w { fates = w.fates ++ f ∷ [] }
+
+-- one more key was begun
+abbrev pub with_key : Noted → Noted
+with_key w = record w { begun = w.begun + 1 }
+
+-- what is known of the fates of rules once more happened
+abbrev pub noting : Noted → Happening → Scene → Noted
+noting w (passed r) s = with_fate w Passed
+noting w (entered r) s = record w { begun = 0 }
+noting w (searching r) s = with_key w
+noting w (stopped r) s = with_fate w (Stopped w.begun)
+noting w (skipped r) s = with_fate w Met
+noting w (meeting r part) s = with_key w
+noting w (acted r act went) s = with_key w
+noting w (comparing r part) s = with_key w
+noting w (assigned r made) s = with_fate w Met
+noting w (left r reached) s = w

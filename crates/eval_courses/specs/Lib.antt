@@ -7,3 +7,4 @@ pub mod Courses
 pub mod Questions
 pub mod Inner
 pub mod Laws
+pub mod Fates

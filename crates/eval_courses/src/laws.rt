@@ -1,5 +1,5 @@
 //! What holds for courses, whatever the rule. Each function here is empty: its contract is the law.
-ghost use Rattle.std.specs.Prelude.{◌≡◌, ◌↔◌, ◌∷◌, ◌++◌, Bool, ℕ, List, Some, codes, true, false};
+ghost use Rattle.std.specs.Prelude.{◌≡◌, ◌↔◌, ◌∷◌, ◌++◌, Bool, ℕ, List, Option, Some, codes, length, true, false};
 ghost use Rattle.text_tables.specs.Texts.{Text};
 ghost use Rattle.builtin_knowledge.specs.Knowledge.{Known};
 ghost use Rattle.rule_types.specs.declared.part.UpMatch.{UpMatch};
@@ -13,6 +13,8 @@ ghost use Rattle.eval_effects.specs.Since as finals;
 ghost use Rattle.eval_courses.specs.Courses.{course};
 ghost use Rattle.eval_courses.specs.Skipped.{skipped_text};
 ghost use Rattle.eval_courses.specs.Upward.{meets_all, name_at, search_reports};
+ghost use Rattle.eval_courses.specs.Fates.{fate, fates_from, keys_of, keys_reached};
+ghost use Rattle.eval_courses.specs.declared.fate.Fate.TheVariants as fates;
 ghost use Rattle.eval_courses.specs.Laws.{last_of};
 
 /// The last text of a course is `stops there` exactly if the rule's end was not reached, unless the rule is
@@ -40,4 +42,19 @@ pub fn search_names_the_first_to_meet()
 pub fn search_names_no_device_where_none_meets()
     ensures { (idle : Bool) (part : UpMatch) (parts : List UpMatch) (state : State) → NoneMeets (part ∷ parts) state
         → (rest : Text) × (last_of (search_reports idle (part ∷ parts) state) ≡ Some (codes "no device meets " ++ rest)) }
+{}
+
+/// A rule that is reached is met exactly if all its keys let it go on, whether it is then skipped or not.
+pub fn rule_is_met_where_all_its_keys_let_it_go_on()
+    ensures { (known : Known) (r : rules.Rule) (s : Scene) → (fate known r s ≡ fates.Met) ↔ ((before_sets known r s).1 ≡ true) }
+{}
+
+/// The keys of a rule that were reached are the first of its keys, so that their number names the last of them.
+pub fn keys_reached_are_the_first_of_a_rule()
+    ensures { (known : Known) (r : rules.Rule) (s : Scene) → (others : List Text) × (keys_of r ≡ keys_reached known r s ++ others) }
+{}
+
+/// Each rule has one fate at an event.
+pub fn each_rule_has_its_fate()
+    ensures { (known : Known) (sought : Option Text) (read : List rules.Rule) (s : Scene) → length (fates_from known sought read s) ≡ length read }
 {}

@@ -15,10 +15,13 @@ mod answers;
 mod asking;
 mod asks;
 mod commands;
+mod fate;
 mod imports;
+mod key_lists;
 mod keys;
 mod laws;
 mod moments;
+mod noting;
 mod plain;
 mod properties;
 mod skipped;
@@ -28,8 +31,12 @@ mod upward;
 pub use acts::report_act;
 pub use asking::questions;
 pub use commands::can_be_asked;
+pub use fate::Fate;
+pub use key_lists::rule_keys;
 pub use laws::{
-    course_ends_as_its_rule, course_says_what_is_skipped, search_names_no_device_where_none_meets,
-    search_names_the_first_to_meet,
+    course_ends_as_its_rule, course_says_what_is_skipped, each_rule_has_its_fate,
+    keys_reached_are_the_first_of_a_rule, rule_is_met_where_all_its_keys_let_it_go_on,
+    search_names_no_device_where_none_meets, search_names_the_first_to_meet,
 };
 pub use moments::report_moment;
+pub use noting::fates;

@@ -59,8 +59,9 @@ use Rattle.eval_acts.specs.Acts.{act_step, command_reached, from_parent_by, impo
 use Rattle.eval_acts.specs.Inner.{left}
 use Rattle.eval_acts.specs.RootImports.{file_properties, from_file, from_found}
 use Rattle.eval_acts.specs.Stored.{from_stored, is_stored_known, stored_value}
+use Rattle.eval_acts.specs.LookUpNeeds.{lookup_needs}
 use Rattle.eval_acts.specs.Imports.{builtin_run, from_answer_or_noted, from_cmdline, from_line, from_parent, from_program, line_for, name_given, names_fitting}
-use Rattle.eval_acts.specs.Imports.{not_run, run_builtin, with_found}
+use Rattle.eval_acts.specs.Imports.{not_run, run_builtin, taken, with_found}
 use Rattle.eval_acts.specs.Printed.{printed_properties}
 use Rattle.eval_acts.specs.Questions.{answered_by_block, answered_or_noted, result_of, tested, tested_at, tested_by, tested_by_udev, with_result}
 use Rattle.eval_acts.specs.Unread.{first_unread, unread_notes}
@@ -139,6 +140,14 @@ module _ (event : EventValue) where
   set_within n properties s h =
       let a = h.light in
       let b : pairs_weight (properties_set s.state.env properties) ≤ pairs_weight s.state.env + properties_size properties = found_more Udev s.state.env properties in
+      record { same = h.same; light = omega (arith, a, b) }
+
+  found_within : (n : ℕ) (profile : Profile) (properties : List Pair) (s : Scene) → Within event n s
+      → Within event (n + pairs_weight properties) (record s { state = record s.state { env = with_found profile s.state.env properties } })
+  unfolding scene_weight
+  found_within n profile properties s h =
+      let a = h.light in
+      let b = found_more profile s.state.env properties in
       record { same = h.same; light = omega (arith, a, b) }
 
   need_within : (n : ℕ) (r : Rule) (name : Text) (needs : List Text) (s : Scene) → Within event n s → Within event (n + (length r.file + 280)) (needs_noted r name needs s)
@@ -223,13 +232,16 @@ module _ (event : EventValue) where
         let b = properties_light s.state.event.profile parent.env in
         more_env Manual (names_fitting names given) (omega (arith, a, b, light))
 
-    hwdb_within : (known : Known) (command : Text) (hwdb : Option Hwdb) → entries_weight known.entries ≤ most → Within event (n + most) (builtin_run known r command (hwdb_asked hwdb) s).0
+    hwdb_within : (known : Known) (command : Text) (hwdb : Option Hwdb) → entries_weight known.entries + (length r.file + 280) ≤ most → Within event (n + most) (builtin_run known r command (hwdb_asked hwdb) s).0
     hwdb_within known command None light = notes BadHwdbArguments command
     hwdb_within known command (Some hwdb) light =
+        let properties : List Pair = found known hwdb s.state in
         let a = found_light known hwdb s.state in
-        more_env s.state.event.profile (found known hwdb s.state) (omega (arith, a, light))
+        more event (n + pairs_weight properties + (length r.file + 280)) (n + most) _ (omega (arith, a, light))
+        (need_within event (n + pairs_weight properties) r (codes "hwdb") (lookup_needs s.state.event.profile s.state hwdb properties) (taken properties s).0
+        (found_within event n s.state.event.profile properties s h))
 
-    manual_within : (known : Known) (command : Text) (words : Option (List Text)) → entries_weight known.entries ≤ most → Within event (n + most) (builtin_run known r command (builtin_of words) s).0
+    manual_within : (known : Known) (command : Text) (words : Option (List Text)) → entries_weight known.entries + (length r.file + 280) ≤ most → Within event (n + most) (builtin_run known r command (builtin_of words) s).0
     manual_within known command None light = notes BadHwdbArguments command
     manual_within known command (Some []) light = notes BuiltinNotRun []
     manual_within known command (Some (name ∷ words)) light = by (same_text name (codes "hwdb"))

@@ -17,7 +17,7 @@ use Rattle.eval_state.specs.Named.{NamedValue, named, named_place}
 use Rattle.eval_state.specs.Texts.{or_empty}
 use Rattle.eval_state.specs.declared.state.State.{State}
 use Rattle.eval_rendering.specs.Bounds.{bounded, most_value_bytes}
-use Rattle.eval_rendering.specs.Pieces.{as_read, attribute, attribute_as, attribute_named, attribute_of, cut_off, has_long, is_long, named_attribute, or_else, piece_text}
+use Rattle.eval_rendering.specs.Pieces.{as_read, attribute_as, attribute_named, attribute_of, attribute_read, cut_off, has_long, is_long, named_attribute, or_else, piece_text}
 use Rattle.eval_rendering.specs.Rendering.{as_rendered, render, text_in}
 use Rattle.text_links.specs.Safe.{attribute_marks, safe}
 use Rattle.eval_rendering.specs.declared.rendered.Mode.{Mode}
@@ -37,12 +37,12 @@ any_among test (y ∷ before) following x h = by (test y) (any_among test before
     by false more = more
 
 pub long_is_too_long : (template : Template) (state : State) (mode : Mode) (before following : List Piece) (name : Text) → state.event.profile ≡ Udev → template.pieces ≡ before ++ piece.Attr name ∷ following
-    → named_attribute name state.event ≡ None → 511 < length (as_read (or_empty (attribute name state))) → render template state mode ≡ rendered.TooLong
+    → named_attribute name state.event ≡ None → 511 < length (as_read (or_empty (attribute_read name state))) → render template state mode ≡ rendered.TooLong
 unfolding render
 long_is_too_long template state mode before following name udev whole none long =
     let other = as_rendered mode (bounded (flat_map (text_in mode state) template.pieces)) in
-    let found : attribute_as Udev name state ≡ as_read (or_empty (attribute name state)) = ap (λ (o : Option Text). unwrap_or (option_map cut_off o) (as_read (or_empty (attribute name state)))) none in
-    let here : is_long state (piece.Attr name) ≡ true = ap (λ (t : Text). nat_lt most_value_bytes (length t)) found ∙ lt-ltb 511 (length (as_read (or_empty (attribute name state)))) long in
+    let found : attribute_as Udev name state ≡ as_read (or_empty (attribute_read name state)) = ap (λ (o : Option Text). unwrap_or (option_map cut_off o) (as_read (or_empty (attribute_read name state)))) none in
+    let here : is_long state (piece.Attr name) ≡ true = ap (λ (t : Text). nat_lt most_value_bytes (length t)) found ∙ lt-ltb 511 (length (as_read (or_empty (attribute_read name state)))) long in
     ap (λ (p : Profile). cond (has_long p state template.pieces) rendered.TooLong other) udev
     ∙ ap (λ (ps : List Piece). cond (list_any (is_long state) ps) rendered.TooLong other) whole
     ∙ ap (λ (b : Bool). cond b rendered.TooLong other) (any_among (is_long state) before following (piece.Attr name) here)
@@ -51,7 +51,7 @@ pub named_is_cut : (state : State) (name : Text) (is : NamedValue) (place : ℕ)
     → named_place is state.event ≡ Some place → device_at state.event place ≡ Some device
     → piece_text state (piece.Attr name) ≡ safe attribute_marks (trimmed (take 511 (as_read (or_empty (value_of device.attrs is.attribute)))))
 named_is_cut state name is place device udev reads some there at =
-    let own : Text = as_read (or_empty (attribute name state)) in
+    let own : Text = as_read (or_empty (attribute_read name state)) in
     let given : Option Text = value_of state.event.device.attrs name in
     let found : named_attribute name state.event ≡ Some (attribute_of is.attribute device) =
     ap (option_and_then (attribute_named state.event given)) reads

@@ -52,7 +52,9 @@ use Rattle.eval_acts.specs.Acts.{act_step, command_reached, from_parent_by, impo
 use Rattle.eval_acts.specs.Inner.{left}
 use Rattle.eval_acts.specs.RootImports.{file_properties, from_file, from_found}
 use Rattle.eval_acts.specs.Stored.{from_stored, is_stored_known, stored_value}
-use Rattle.eval_acts.specs.Imports.{builtin_run, from_answer_or_noted, from_line, from_parent, from_program, line_for, name_given, not_run, run_builtin}
+use Rattle.eval_acts.specs.Imports.{builtin_run, from_answer_or_noted, from_line, from_parent, from_program, line_for, name_given, not_run, run_builtin, taken}
+use Rattle.eval_acts.specs.LookUpNeeds.{lookup_needs}
+use Rattle.eval_acts.specs.LookUps.{found}
 use Rattle.eval_acts.specs.Printed.{printed_properties}
 use Rattle.eval_acts.specs.Questions.{answered_by_block, answered_or_noted, result_of, tested, tested_at, tested_by, tested_by_udev, with_result}
 use Rattle.eval_acts.specs.Unread.{first_unread, unread_notes}
@@ -135,7 +137,9 @@ module _ (w : Note → ℕ) (v : RunValue → ℕ) (c : Rule → ℕ) (light : (
         by false = omega arith
 
     builtin_counts : (known : Known) (command : Text) (wanted : Builtin) → counted (builtin_run known r command wanted s).0 ≤ counted s + c r
-    builtin_counts known command (asked_for.Hwdb hwdb) = omega arith
+    builtin_counts known command (asked_for.Hwdb hwdb) =
+        let properties : List Pair = found known hwdb s.state in
+        need_counts r (codes "hwdb") (lookup_needs s.state.event.profile s.state hwdb properties) (taken properties s).0
     builtin_counts known command asked_for.InputId = taken_counts r (builtin_name InputId) (known.input_id s.state.event) s
     builtin_counts known command asked_for.NetId =
         let names : OutcomeValue = known.net_id s.state.event s.state.env in

@@ -1,5 +1,5 @@
 -- What TEST asks, and what IMPORT takes from the parent and from the hardware database, by the manual.
-use Rattle.std.proofs.Common.{◌≡◌, ◌==◌, ◌||◌, Bool, true, false, cond, not, List, filter, length, Option, Some, None, is_some, ap, ◌∙◌}
+use Rattle.std.proofs.Common.{◌≡◌, ◌==◌, ◌||◌, Bool, true, false, cond, not, List, filter, length, Option, Some, None, is_some, ap, codes, ◌∙◌}
 use Rattle.text_bytes.specs.Names.{slash}
 use Rattle.text_bytes.specs.Texts.{begins_with}
 use Rattle.text_bytes.specs.declared.profile.Profile.{Profile}
@@ -33,7 +33,9 @@ use Rattle.eval_commands.specs.declared.hwdb.Hwdb.{Hwdb}
 use Rattle.eval_acts.specs.ActTexts.{path_by, within_by}
 use Rattle.eval_acts.specs.Acts as acts
 use Rattle.eval_acts.specs.Acts.{act_step, command_reached, imported, on_text, proceeds, too_long_noted}
+use Rattle.eval_acts.specs.BuiltinRuns.{needs_noted}
 use Rattle.eval_acts.specs.Imports.{builtin_run, from_parent, run_builtin, with_found}
+use Rattle.eval_acts.specs.LookUpNeeds.{lookup_needs}
 use Rattle.eval_acts.specs.LookUps.{found}
 use Rattle.eval_acts.specs.Questions.{tested, tested_by}
 use Rattle.eval_laws.specs.Acting.{builtin_import, parent_import, test}
@@ -75,6 +77,11 @@ module _ (known : Known) (r : Rule) (s : Scene) (manual : s.state.event.profile 
     pub parent_absent : device_at s.state.event 1 ≡ None → act_step known r (parent_import names written) s ≡ (s, false)
     parent_absent e = parent_is ∙ ap (λ (d : Option DeviceValue). after (act_kind.Import (import.Parent names written)) (acts.tried (from_parent names d s))) e
 
+  -- what `hwdb` does with what it found, by a profile
+  abbrev hwdb_as : Profile → Hwdb → List Pair → Scene × Bool
+  hwdb_as p hwdb properties =
+      (needs_noted r (codes "hwdb") (lookup_needs p s.state hwdb properties) (with_env (with_found p s.state.env properties) s), not (length properties == 0))
+
   pub database_set : (template : Template) (command : Text) (hwdb : Hwdb) → render template s.state Plain ≡ rendered.Text command → builtin Manual command ≡ asked.Hwdb hwdb
       → act_step known r (builtin_import template) s ≡ (with_env (with_values s.state.env (found known hwdb s.state)) s, not (length (found known hwdb s.state) == 0))
   unfolding act_step
@@ -85,4 +92,4 @@ module _ (known : Known) (r : Rule) (s : Scene) (manual : s.state.event.profile 
       ∙ ap (λ (x : Rendered). after here (on_text (run_builtin known r) x s)) text
       ∙ ap (λ (p : Profile). after here (acts.tried (builtin_run known r command (builtin p command) s))) manual
       ∙ ap (λ (b : Builtin). after here (acts.tried (builtin_run known r command b s))) reads
-      ∙ ap (λ (p : Profile). (with_env (with_found p s.state.env (found known hwdb s.state)) s, not (length (found known hwdb s.state) == 0))) manual
+      ∙ ap (λ (p : Profile). after here (acts.tried (hwdb_as p hwdb (found known hwdb s.state)))) manual

@@ -53,10 +53,12 @@ use Rattle.eval_matching.specs.Attributes.{is_not_read}
 use Rattle.eval_matching.specs.Subjects.{is_not_given}
 use Rattle.eval_acts.specs.ActTexts.{import_text, names_text, program_text}
 use Rattle.eval_acts.specs.Acts.{act_step, command_reached, from_parent_by, import_reached, imported, on_text, performed, too_long_noted}
-use Rattle.eval_acts.specs.BuiltinRuns.{looked_up, most_set, outcome_set, outcome_taken, path_id_run, properties_size, usb_id_run, with_maker, needs_noted}
+use Rattle.eval_acts.specs.BuiltinRuns.{looked_up, most_set, needs_noted, outcome_set, outcome_taken, path_id_run, properties_size, usb_id_run, with_maker}
 use Rattle.eval_acts.specs.RootImports.{file_properties, from_file, from_found}
 use Rattle.eval_acts.specs.Stored.{from_stored, is_stored_known, stored_value}
-use Rattle.eval_acts.specs.Imports.{builtin_run, from_answer_or_noted, from_line, from_parent, from_program, line_for, name_given, not_run, run_builtin}
+use Rattle.eval_acts.specs.Imports.{builtin_run, from_answer_or_noted, from_line, from_parent, from_program, line_for, name_given, not_run, run_builtin, taken}
+use Rattle.eval_acts.specs.LookUpNeeds.{lookup_needs}
+use Rattle.eval_acts.specs.LookUps.{found}
 use Rattle.eval_acts.specs.Printed.{printed_properties}
 use Rattle.eval_acts.specs.Questions.{answered_by_block, answered_or_noted, result_of, tested, tested_at, tested_by, tested_by_udev, with_result}
 use Rattle.eval_acts.specs.Reaching.{match_reached}
@@ -155,7 +157,9 @@ printed_same r kind t None s = refl
 printed_same r kind t (Some a) s = chosen s (with_env (properties_set s.state.env (printed_properties a.text)) s) s true false _ refl refl
 
 builtin_same : (known : Known) (r : Rule) (t : Text) (b : Builtin) (s : Scene) → Same s (builtin_run known r t b s).0
-builtin_same known r t (builtin.Hwdb h) s = refl
+builtin_same known r t (builtin.Hwdb h) s =
+    let properties : List Pair = found known h s.state in
+    need_same r (codes "hwdb") (lookup_needs s.state.event.profile s.state h properties) (taken properties s).0
 builtin_same known r t builtin.InputId s = taken_same r (builtin_name InputId) (known.input_id s.state.event) s
 builtin_same known r t builtin.NetId s =
     let names : OutcomeValue = known.net_id s.state.event s.state.env in

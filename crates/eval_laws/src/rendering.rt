@@ -12,7 +12,7 @@ ghost use Rattle.eval_state.specs.Chains.{device_at, kernel_of};
 ghost use Rattle.eval_state.specs.Named.{NamedValue, named, named_place};
 ghost use Rattle.eval_state.specs.Texts.{or_empty};
 ghost use Rattle.eval_rendering.specs.Bounds.{bounded};
-ghost use Rattle.eval_rendering.specs.Pieces.{as_read, attribute, named_attribute, piece_text};
+ghost use Rattle.eval_rendering.specs.Pieces.{as_read, attribute, attribute_read, named_attribute, piece_text};
 ghost use Rattle.eval_rendering.specs.Words.{from_word, spaced, word_at};
 ghost use Rattle.text_links.specs.Kernels.{longest_end};
 ghost use Rattle.text_links.specs.Safe.{attribute_marks, link_marks, safe};
@@ -41,7 +41,7 @@ pub fn long_attributes_are_too_long()
         → render template state mode ≡ as_rendered mode (bounded (flat_map (text_in mode state) template.pieces)) }
     ensures udev { (template : templates.Parts) (state : states.State) (mode : Mode) (before following : List Piece) (name : Text)
         → state.event.profile ≡ Udev → template.pieces ≡ before ++ piece.Attr name ∷ following → named_attribute name state.event ≡ None
-        → 511 < length (as_read (or_empty (attribute name state))) → render template state mode ≡ rendered.TooLong }
+        → 511 < length (as_read (or_empty (attribute_read name state))) → render template state mode ≡ rendered.TooLong }
 {}
 
 /// Each substitution is replaced with its own text: of the event device, of the selected one, of the next device above, of the

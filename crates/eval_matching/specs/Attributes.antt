@@ -1,20 +1,21 @@
 -- Which attribute a match of ATTR or ATTRS looks at.
-use Rattle.std.specs.Prelude.{ℕ, Bool, false, not, ◌&&◌, if◌then◌else◌, is_none, List, Option, Some, None, option_map}
+use Rattle.std.specs.Prelude.{ℕ, Bool, false, not, ◌&&◌, ◌||◌, if◌then◌else◌, is_none, Option, Some, None, option_map}
 use Rattle.std.specs.Option.{option_and_then}
 use Rattle.text_bytes.specs.Names.{open_bracket}
 use Rattle.text_bytes.specs.Texts.{begins_with, is_empty}
 use Rattle.text_bytes.specs.declared.profile.Profile.{Profile}
 use Rattle.text_bytes.specs.declared.profile.Profile.TheVariants as profile
 use Rattle.text_tables.specs.Texts.{Text}
-use Rattle.text_tables.specs.Pairs.{Pair, value_of}
+use Rattle.text_tables.specs.Pairs.{value_of}
 use Rattle.rule_templates.specs.Substituted.{has_sign}
-use Rattle.device_core.specs.Values.{EventValue}
+use Rattle.device_core.specs.Values.{DeviceValue, EventValue}
 use Rattle.eval_state.specs.Chains.{device_at}
 use Rattle.eval_state.specs.Named.{NamedValue, named, named_place}
 use Rattle.eval_state.specs.Texts.{or_empty}
 use Rattle.eval_state.specs.declared.state.State.{State}
 use Rattle.eval_rendering.specs.Bounds.{short}
 use Rattle.eval_rendering.specs.Names.{name_text}
+use Rattle.eval_rendering.specs.Paths.{is_path_unread, read_value}
 use Rattle.eval_rendering.specs.Pieces.{as_read}
 use Rattle.eval_matching.specs.Holding.{Subject, attribute, udev_attribute, udev_unread}
 use Rattle.eval_matching.specs.Udev.{capped}
@@ -27,22 +28,23 @@ attribute_of event name place = option_and_then (λ device. value_of device.attr
 abbrev pub is_rendered : Text → Bool
 is_rendered name = not (begins_with open_bracket name) && has_sign name
 
--- what stands under a name as udev looks it up: for a name that it renders, under the result, if that is not too long
-abbrev pub udev_found : Text → State → List Pair → Option Text
-udev_found name state attrs = if is_rendered name then option_and_then (value_of attrs) (short (name_text name state)) else value_of attrs name
+-- what udev finds for a device under a name: for a name that it renders, under the result, if that is not too long
+abbrev pub udev_found : Text → State → DeviceValue → Option Text
+udev_found name state device =
+    if is_rendered name then option_and_then (read_value state.event device) (short (name_text name state)) else read_value state.event device name
 
--- what udev reads under a name
-unfoldable pub udev_value : Text → State → List Pair → Option Text
-udev_value name state attrs = option_map as_read (udev_found name state attrs)
+-- what udev reads for a device under a name
+unfoldable pub udev_value : Text → State → DeviceValue → Option Text
+udev_value name state device = option_map as_read (udev_found name state device)
 
--- an attribute among those of a device, by the name that a match has
-abbrev pub value_by : Profile → Text → State → List Pair → Option Text
-value_by profile.Manual name state attrs = value_of attrs name
-value_by profile.Udev name state attrs = udev_value name state attrs
+-- an attribute of a device, by the name that a match has
+abbrev pub value_by : Profile → Text → State → DeviceValue → Option Text
+value_by profile.Manual name state device = value_of device.attrs name
+value_by profile.Udev name state device = udev_value name state device
 
 -- the same of the device at a place of the chain, if there is one
 abbrev pub own_attribute : Text → State → ℕ → Option Text
-own_attribute name state place = option_and_then (λ device. value_by state.event.profile name state device.attrs) (device_at state.event place)
+own_attribute name state place = option_and_then (λ device. value_by state.event.profile name state device) (device_at state.event place)
 
 -- whether a name is that of an attribute of a device that is not in the chain
 abbrev pub is_elsewhere : EventValue → Option NamedValue → Bool
@@ -61,7 +63,7 @@ is_unknown name event = begins_with open_bracket name && (is_elsewhere event (na
 -- whether an attribute that a match asks for is not read; the manual knows no such names
 abbrev pub is_not_read_by : Profile → Text → EventValue → Bool
 is_not_read_by profile.Manual name event = false
-is_not_read_by profile.Udev name event = is_unknown name event
+is_not_read_by profile.Udev name event = is_unknown name event || is_path_unread name event
 
 -- whether an attribute that a match asks for is not read
 unfoldable pub is_not_read : Text → EventValue → Bool

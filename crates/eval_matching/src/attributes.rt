@@ -1,7 +1,6 @@
 //! Which attribute a match of ATTR or ATTRS looks at.
 ghost use Rattle.std.specs.Prelude.{◌≡◌, option_map};
 ghost use Rattle.std.specs.Option.{option_and_then};
-ghost use Rattle.text_tables.specs.Pairs.{value_of};
 ghost use Rattle.rule_types.specs.declared.roles.PlainKey.TheVariants as plain;
 ghost use Rattle.rule_types.specs.declared.roles.UpKey.TheVariants as up;
 ghost use Rattle.eval_state.specs.Named.{named, named_place};
@@ -15,16 +14,17 @@ ghost use Rattle.eval_matching.specs.Udev.{capped};
 ghost use Rattle.eval_state.specs.Chains.{device_at};
 ghost use Rattle.eval_rendering.specs.Bounds.{short};
 ghost use Rattle.eval_rendering.specs.Names.{name_text};
+ghost use Rattle.eval_rendering.specs.Paths.{read_value};
 ghost use Rattle.eval_rendering.specs.Pieces.{as_read};
 
 use crate::holding::attribute_holds;
 use crate::udev;
-use eval_rendering::{as_read, rendered_name};
+use device_core::Device;
+use eval_rendering::{as_read, is_path_unread, read_value, rendered_name};
 use eval_state::{Chain, Named, State};
 use rule_templates::has_sign;
 use rule_types::Comparison;
 use text_bytes::{Profile, begins_with};
-use text_tables::Pairs;
 
 /// What a match of ATTR or ATTRS looks at.
 #[derive(Drop)]
@@ -79,14 +79,15 @@ fn is_unknown(name: &[u8], chain: &Chain<'_>) -> bool
 
 /// Whether a match of ATTR or ATTRS asks for an attribute that udev of systemd 257 would read, and that is not read
 /// here: one of a device that is not in the chain, named `[SUBSYSTEM/KERNEL]ATTRIBUTE`, unless the event device has it
-/// under this whole name. Never by the manual, which knows no such names.
+/// under this whole name; or a path that begins with `../` or `./` and leads to what the block does not have and does
+/// not deny. Never by the manual, which knows no such names.
 #[tactic(auto, unfolding(crate::specs::Attributes::is_not_read))]
 pub fn is_not_read(name: &[u8], chain: &Chain<'_>) -> bool
     ensures { result ≡ is_not_read name.now chain.now }
 {
     match chain.event().profile() {
         Profile::Manual => false,
-        Profile::Udev => is_unknown(name, chain),
+        Profile::Udev => is_unknown(name, chain) || is_path_unread(name, chain),
     }
 }
 
@@ -139,48 +140,48 @@ fn named_value<'a>(
 
 /// The value of a name once that is rendered, with the device at a place selected, or with none selected.
 fn value_of_rendered<'a>(
-    state: &State<'_>,
+    state: &State<'a>,
     selected: Option<usize>,
     name: &[u8],
-    attrs: &Pairs<'a>,
+    device: &'a Device<'a>,
 ) -> Option<&'a [u8]>
     ensures { option_map (λ value. value.now) result
-        ≡ option_and_then (value_of attrs.now) (short (name_text name.now (record state.now { selected = selected }))) }
+        ≡ option_and_then (read_value state.now.event device.now) (short (name_text name.now (record state.now { selected = selected }))) }
 {
     let rendered = rendered_name(state, selected, name);
     match rendered.text() {
-        Some(text) => attrs.get(text),
+        Some(text) => read_value(&state.event, device, text),
         None => None,
     }
 }
 
 /// What stands under a name as udev looks it up.
 fn udev_found<'a>(
-    state: &State<'_>,
+    state: &State<'a>,
     selected: Option<usize>,
     name: &[u8],
-    attrs: &Pairs<'a>,
+    device: &'a Device<'a>,
 ) -> Option<&'a [u8]>
-    ensures { option_map (λ value. value.now) result ≡ udev_found name.now (record state.now { selected = selected }) attrs.now }
+    ensures { option_map (λ value. value.now) result ≡ udev_found name.now (record state.now { selected = selected }) device.now }
 {
     if is_rendered(name) {
-        value_of_rendered(state, selected, name, attrs)
+        value_of_rendered(state, selected, name, device)
     } else {
-        attrs.get(name)
+        read_value(&state.event, device, name)
     }
 }
 
 /// What udev reads under a name.
 #[tactic(auto, unfolding(crate::specs::Attributes::udev_value))]
 fn udev_value<'a>(
-    state: &State<'_>,
+    state: &State<'a>,
     selected: Option<usize>,
     name: &[u8],
-    attrs: &Pairs<'a>,
+    device: &'a Device<'a>,
 ) -> Option<&'a [u8]>
-    ensures { option_map (λ value. value.now) result ≡ udev_value name.now (record state.now { selected = selected }) attrs.now }
+    ensures { option_map (λ value. value.now) result ≡ udev_value name.now (record state.now { selected = selected }) device.now }
 {
-    match udev_found(state, selected, name, attrs) {
+    match udev_found(state, selected, name, device) {
         Some(value) => Some(as_read(value)),
         None => None,
     }
@@ -188,16 +189,16 @@ fn udev_value<'a>(
 
 /// An attribute among those of a device, by the name that a match has.
 fn value_by<'a>(
-    state: &State<'_>,
+    state: &State<'a>,
     selected: Option<usize>,
     name: &[u8],
-    attrs: &Pairs<'a>,
+    device: &'a Device<'a>,
 ) -> Option<&'a [u8]>
-    ensures { option_map (λ value. value.now) result ≡ value_by state.now.event.profile name.now (record state.now { selected = selected }) attrs.now }
+    ensures { option_map (λ value. value.now) result ≡ value_by state.now.event.profile name.now (record state.now { selected = selected }) device.now }
 {
     match state.event.event().profile() {
-        Profile::Manual => attrs.get(name),
-        Profile::Udev => udev_value(state, selected, name, attrs),
+        Profile::Manual => device.attrs().get(name),
+        Profile::Udev => udev_value(state, selected, name, device),
     }
 }
 
@@ -211,7 +212,7 @@ fn own_attribute<'a>(
     ensures { option_map (λ value. value.now) result ≡ own_attribute name.now (record state.now { selected = selected }) place }
 {
     let device = state.event.device_at(place)?;
-    value_by(state, selected, name, device.attrs())
+    value_by(state, selected, name, device)
 }
 
 /// The attribute of a name as udev has it, by the one of the device at a place.
@@ -270,7 +271,9 @@ fn attribute_by<'a>(
 /// systemd 257 has it, a name with a `$` or a `%` is rendered first, and no attribute has a name that is then longer than
 /// 511 bytes; but `[SUBSYSTEM/KERNEL]ATTRIBUTE` is an attribute of a device of the chain, its first 511 bytes, and
 /// empty if that device does not have it; of a device that is not in the chain it is what the event device has under
-/// this whole name. The newlines and carriage returns at its end are no part of it.
+/// this whole name. A name that begins with `../` or `./` is a path from the device's folder, and `driver` and `subsystem`
+/// name links, unless the block has the attribute under this name. The newlines and carriage returns at its end are no
+/// part of it.
 pub fn event_attribute<'a>(state: &State<'a>, name: &[u8]) -> Attribute<'a>
     ensures { borrowed_subject result ≡ plain_subject (plain.Attr name.now) state.now }
 {

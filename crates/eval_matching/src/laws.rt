@@ -1,12 +1,12 @@
 //! Laws of what udev compares, each the contract of a function with an empty body.
-ghost use Rattle.std.specs.Prelude.{◌≡◌, ◌≤◌, ◌<◌, ◌==◌, ◌||◌, ◌++◌, option_map, ◌∷◌, ℕ, List, [], length, Option, Some, None, not, true, false};
+ghost use Rattle.std.specs.Prelude.{◌≡◌, ◌≤◌, ◌<◌, ◌==◌, ◌||◌, ◌++◌, option_map, ◌∷◌, ℕ, length, Option, Some, None, not, true, false};
 ghost use Rattle.std.specs.List.{list_all, list_any};
 ghost use Rattle.text_bytes.specs.Names.{bar, carriage_return, newline, open_bracket};
 ghost use Rattle.text_bytes.specs.Texts.{begins_with, is_empty};
 ghost use Rattle.text_bytes.specs.declared.profile.Profile.TheVariants as profile;
 ghost use Rattle.text_core.specs.Choices.{is_bar};
 ghost use Rattle.text_tables.specs.Texts.{Text, same_text};
-ghost use Rattle.text_tables.specs.Pairs.{Pair, value_of};
+ghost use Rattle.text_tables.specs.Pairs.{value_of};
 ghost use Rattle.device_core.specs.Values.{DeviceValue, EventValue};
 ghost use Rattle.rule_templates.specs.Integers.{is_separator};
 ghost use Rattle.rule_templates.specs.Substituted.{has_sign};
@@ -18,6 +18,7 @@ ghost use Rattle.eval_state.specs.Named.{NamedValue, named, named_place};
 ghost use Rattle.eval_state.specs.Texts.{or_empty};
 ghost use Rattle.eval_state.specs.declared.state.State.{State};
 ghost use Rattle.eval_rendering.specs.Names.{name_text};
+ghost use Rattle.eval_rendering.specs.Paths.{read_value};
 ghost use Rattle.eval_rendering.specs.Pieces.{as_read};
 ghost use Rattle.eval_matching.specs.Attributes.{udev_subject, udev_value};
 ghost use Rattle.eval_matching.specs.Holding.{holds, udev_attribute, udev_unread};
@@ -27,7 +28,7 @@ ghost use Rattle.eval_matching.specs.Udev.{capped, first_part, last_is, without_
 /// For udev, ATTR with an attribute that the device does not have fails, with `==` and with `!=`.
 pub fn an_absent_attribute_fails_both()
     ensures { (name : Text) (state : State) (wanted : Comparison) → state.event.profile ≡ profile.Udev → begins_with open_bracket name ≡ false
-        → udev_value name state state.event.device.attrs ≡ None → holds (plain_subject (plain.Attr name) state) wanted ≡ false }
+        → udev_value name state state.event.device ≡ None → holds (plain_subject (plain.Attr name) state) wanted ≡ false }
 {}
 
 /// A name that names a device of the chain, and an attribute, looks at that attribute of that device, and the device's
@@ -57,15 +58,15 @@ pub fn a_plain_name_looks_at_the_device()
 {}
 
 /// A name without a byte that begins a substitution stands for itself. Any other that does not begin with `[` stands
-/// for what it is rendered to, if that has at most 511 bytes; no attribute has a longer name. An attribute is that of the
-/// block without the ends of lines at its end.
+/// for what it is rendered to, if that has at most 511 bytes; no attribute has a longer name. An attribute is what
+/// udev reads for the device, without the ends of lines at its end.
 pub fn a_name_with_a_sign_is_rendered()
-    ensures plain { (name : Text) (state : State) (attrs : List Pair) → has_sign name ≡ false
-        → udev_value name state attrs ≡ option_map as_read (value_of attrs name) }
-    ensures rendered { (name : Text) (state : State) (attrs : List Pair) → begins_with open_bracket name ≡ false → has_sign name ≡ true
-        → length (name_text name state) ≤ 511 → udev_value name state attrs ≡ option_map as_read (value_of attrs (name_text name state)) }
-    ensures long { (name : Text) (state : State) (attrs : List Pair) → begins_with open_bracket name ≡ false → has_sign name ≡ true
-        → 511 < length (name_text name state) → udev_value name state attrs ≡ None }
+    ensures plain { (name : Text) (state : State) (device : DeviceValue) → has_sign name ≡ false
+        → udev_value name state device ≡ option_map as_read (read_value state.event device name) }
+    ensures rendered { (name : Text) (state : State) (device : DeviceValue) → begins_with open_bracket name ≡ false → has_sign name ≡ true
+        → length (name_text name state) ≤ 511 → udev_value name state device ≡ option_map as_read (read_value state.event device (name_text name state)) }
+    ensures long { (name : Text) (state : State) (device : DeviceValue) → begins_with open_bracket name ≡ false → has_sign name ≡ true
+        → 511 < length (name_text name state) → udev_value name state device ≡ None }
 {}
 
 /// ATTRS with a name that does not begin with `[` looks at each device by the name that is rendered while that device
@@ -73,7 +74,7 @@ pub fn a_name_with_a_sign_is_rendered()
 pub fn a_device_that_is_tried_is_selected()
     ensures { (name : Text) (state : State) (place : ℕ) (device : DeviceValue) → state.event.profile ≡ profile.Udev → begins_with open_bracket name ≡ false
         → device_at state.event place ≡ Some device → up_subject (up.Attrs name) state place
-        ≡ udev_attribute (udev_value name (record state { selected = Some place }) device.attrs) }
+        ≡ udev_attribute (udev_value name (record state { selected = Some place }) device) }
 {}
 
 /// The first part of a value follows its first bars, and before the next one or its end.

@@ -5,3 +5,4 @@ pub mod Shown
 pub mod Bounds
 pub mod Names
 pub mod Lengthened
+pub mod Paths

@@ -20,6 +20,7 @@ use Rattle.eval_state.specs.Named.{NamedValue, named, named_place}
 use Rattle.eval_state.specs.Start.{node_path}
 use Rattle.eval_state.specs.declared.state.State.{State}
 use Rattle.eval_rendering.specs.Bounds.{most_value_bytes}
+use Rattle.eval_rendering.specs.Paths.{read_value}
 use Rattle.eval_rendering.specs.Words.{from_word, spaced, word_at}
 
 -- a text, or another one if there is none
@@ -63,11 +64,16 @@ as_read value = take (length value - suffix_len ends_line value) value
 abbrev pub cut_off : Text → Text
 cut_off value = take most_value_bytes (as_read value)
 
+-- the same as udev reads it
+abbrev pub attribute_read : Text → State → Option Text
+attribute_read name state =
+    or_else (read_value state.event state.event.device name) (option_and_then (λ device. read_value state.event device name) (selected_device state))
+
 -- the attribute that is put into a text, as the device has it; udev also looks for a device that is named, and cuts
 -- its attribute off
 abbrev pub attribute_as : Profile → Text → State → Text
 attribute_as Manual name state = or_empty (attribute name state)
-attribute_as Udev name state = unwrap_or (option_map cut_off (named_attribute name state.event)) (as_read (or_empty (attribute name state)))
+attribute_as Udev name state = unwrap_or (option_map cut_off (named_attribute name state.event)) (as_read (or_empty (attribute_read name state)))
 
 -- the number that the kernel's name ends in; for udev a name of digits alone has none
 abbrev pub number_as : Profile → Text → Text

@@ -6,10 +6,12 @@ ghost use Rattle.text_tables.specs.Pairs.{value_of};
 ghost use Rattle.eval_state.specs.Chains.{device_at};
 ghost use Rattle.eval_state.specs.Named.{named_place};
 ghost use Rattle.eval_state.specs.Texts.{or_empty};
-ghost use Rattle.eval_rendering.specs.Pieces.{as_read, attribute, attribute_as, attribute_named, attribute_of, cut_off, ends_line, has_long, is_long};
+ghost use Rattle.eval_rendering.specs.Pieces.{as_read, attribute, attribute_as, attribute_named, attribute_of, attribute_read, cut_off, ends_line, has_long, is_long};
+ghost use Rattle.eval_rendering.specs.Paths.{read_value};
 ghost use Rattle.eval_rendering.specs.Pieces.{named_attribute, selected_device};
 
 use crate::bounds::MAX_VALUE_BYTES;
+use crate::paths::read_value;
 use device_core::Device;
 use eval_state::{Named, State};
 use rule_templates::{Piece, Template};
@@ -42,6 +44,27 @@ fn attribute<'a>(state: &State<'a>, name: &[u8]) -> Option<&'a [u8]>
     match state.event.device().attrs().get(name) {
         Some(value) => Some(value),
         None => selected_attribute(state, name),
+    }
+}
+
+/// An attribute that udev reads for the selected device.
+fn selected_read<'a>(state: &State<'a>, name: &[u8]) -> Option<&'a [u8]>
+    ensures { option_map (λ value. value.now) result
+        ≡ option_and_then (λ device. read_value state.now.event device name.now) (selected_device state.now) }
+{
+    match selected_device(state) {
+        Some(device) => read_value(&state.event, device, name),
+        None => None,
+    }
+}
+
+/// An attribute as udev reads it, for the event device or else for the selected one.
+fn attribute_read<'a>(state: &State<'a>, name: &[u8]) -> Option<&'a [u8]>
+    ensures { option_map (λ value. value.now) result ≡ attribute_read name.now state.now }
+{
+    match read_value(&state.event, state.event.device(), name) {
+        Some(value) => Some(value),
+        None => selected_read(state, name),
     }
 }
 
@@ -129,7 +152,7 @@ fn udev_attribute<'a>(state: &State<'a>, name: &[u8]) -> &'a [u8]
 {
     match named_attribute(state, name) {
         Some(value) => cut_off(value),
-        None => as_read(attribute(state, name).unwrap_or(b"")),
+        None => as_read(attribute_read(state, name).unwrap_or(b"")),
     }
 }
 

@@ -6,6 +6,7 @@ mod bounded_text;
 mod bounds;
 mod laws;
 mod names;
+mod paths;
 mod pieces;
 mod rendered;
 mod rendering;
@@ -15,8 +16,11 @@ mod words;
 
 pub use attributes::{as_read, ends_line};
 pub use bounds::{MAX_BYTES, MAX_COMMAND_BYTES, MAX_PATH_BYTES, MAX_VALUE_BYTES};
-pub use laws::a_name_is_rendered_as_a_text;
+pub use laws::{
+    a_name_is_rendered_as_a_text, some_names_of_attributes, what_the_block_has_is_read,
+};
 pub use names::rendered_name;
+pub use paths::{is_path_unread, read_value};
 pub use rendered::{Mode, Rendered};
 pub use rendering::{render, render_text};
 pub use short_name::ShortName;

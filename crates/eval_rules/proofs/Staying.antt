@@ -47,10 +47,12 @@ use Rattle.eval_state.specs.declared.note_kind.NoteKind.{NoteKind}
 use Rattle.eval_state.specs.declared.note_kind.NoteKind.TheVariants.{AttributeNotRead, BuiltinNotRun, ConstantNotGiven, NoAnswer, TestNotMade, TextTooLong}
 use Rattle.eval_state.specs.declared.scene.Scene.{Scene}
 use Rattle.eval_acts.specs.Acts.{act_step, command_reached, from_parent_by, import_reached, imported, on_text, performed, too_long_noted}
-use Rattle.eval_acts.specs.BuiltinRuns.{looked_up, most_set, outcome_set, outcome_taken, path_id_run, properties_size, usb_id_run, with_maker, needs_noted}
+use Rattle.eval_acts.specs.BuiltinRuns.{looked_up, most_set, needs_noted, outcome_set, outcome_taken, path_id_run, properties_size, usb_id_run, with_maker}
 use Rattle.eval_acts.specs.RootImports.{file_properties, from_file, from_found}
 use Rattle.eval_acts.specs.Stored.{from_stored, is_stored_known, stored_value}
-use Rattle.eval_acts.specs.Imports.{builtin_run, from_answer_or_noted, from_line, from_parent, from_program, line_for, name_given, not_run, run_builtin}
+use Rattle.eval_acts.specs.Imports.{builtin_run, from_answer_or_noted, from_line, from_parent, from_program, line_for, name_given, not_run, run_builtin, taken}
+use Rattle.eval_acts.specs.LookUpNeeds.{lookup_needs}
+use Rattle.eval_acts.specs.LookUps.{found}
 use Rattle.eval_acts.specs.Printed.{printed_properties}
 use Rattle.eval_acts.specs.Questions.{answered_by_block, answered_or_noted, result_of, tested, tested_at, tested_by, tested_by_udev, with_result}
 use Rattle.eval_acts.specs.Reaching.{match_reached}
@@ -113,7 +115,9 @@ printed_stays r kind t None s = refl
 printed_stays r kind t (Some a) s = either s (a.status == 0) (with_env (properties_set s.state.env (printed_properties a.text)) s, true) (s, false) refl refl
 
 builtin_stays : (known : Known) (r : Rule) (t : Text) (b : Builtin) (s : Scene) → Stays s (builtin_run known r t b s).0
-builtin_stays known r t (builtin.Hwdb h) s = refl
+builtin_stays known r t (builtin.Hwdb h) s =
+    let properties : List Pair = found known h s.state in
+    need_stays r (codes "hwdb") (lookup_needs s.state.event.profile s.state h properties) (taken properties s).0
 builtin_stays known r t builtin.InputId s = taken_stays r (builtin_name InputId) (known.input_id s.state.event) s
 builtin_stays known r t builtin.NetId s =
     let names : OutcomeValue = known.net_id s.state.event s.state.env in

@@ -52,6 +52,7 @@ use Rattle.eval_state.specs.Files.{star_place}
 use Rattle.eval_state.specs.Named.{named, named_place}
 use Rattle.eval_state.specs.Start.{start_env}
 use Rattle.eval_rendering.specs.Names.{name_text}
+use Rattle.eval_rendering.specs.Paths.{led_place}
 use Rattle.eval_rendering.specs.Rendering.{render}
 use Rattle.eval_matching.specs.Attributes.{udev_value, is_not_read, udev_subject}
 use Rattle.eval_matching.specs.Holding.{holds}
@@ -61,6 +62,7 @@ use Rattle.eval_commands.specs.Hwdb.{hwdb_of}
 use Rattle.eval_commands.specs.UdevHwdb.{udev_hwdb_of}
 use Rattle.eval_commands.specs.Words.{command_words, udev_words}
 use Rattle.eval_acts.specs.Acts.{act_step}
+use Rattle.eval_acts.specs.LookUpNeeds.{has_modalias}
 use Rattle.eval_acts.specs.LookUps.{found}
 use Rattle.eval_acts.specs.Printed.{line_property, printed_properties}
 use Rattle.eval_acts.specs.Unread.{first_unread}
@@ -114,8 +116,11 @@ use Rattle.engine_answers.specs.Answers.{lines_with}
 use Rattle.engine_answers.specs.Items.{node_lines, item_lines}
 use Rattle.engine_answers.specs.Lines.{text_line, pair_line, run_line, note_line}
 use Rattle.engine_ends.specs.EventLine.{event_line}
+use Rattle.eval_courses.specs.Fates.{fate, fates_from, keys_reached}
+use Rattle.engine_unused.specs.Rows.{counted, with_fates}
+use Rattle.engine_unused.specs.Unused.{greatest, line_on, lines_by, unmet_text, unused_lines}
 use Rattle.example_laws.specs.Answered.{answered_by}
-use Rattle.example_laws.specs.Reported.{sourced, sourced_as_udev, explained, explained_as_udev, asked, asked_in_vain}
+use Rattle.example_laws.specs.Reported.{sourced, sourced_as_udev, explained, explained_as_udev, asked, asked_in_vain, unused_by}
 
 -- the words by which the text of a rules file is read
 unfoldable reading_rules : ⊤
@@ -150,8 +155,8 @@ reading_texts = tt
 
 -- those by which rules are evaluated
 unfoldable evaluating : ⊤
-unfolding star_place named named_place start_env name_text render udev_value is_not_read udev_subject holds holds_at
-    found_place hwdb_of udev_hwdb_of command_words udev_words act_step found line_property printed_properties
+unfolding star_place named named_place start_env name_text led_place render udev_value is_not_read udev_subject holds
+    holds_at found_place hwdb_of udev_hwdb_of command_words udev_words act_step found has_modalias line_property printed_properties
     first_unread usb_modalias escape_of set_step is_idle_by run outcome_of walk plain_step result_step steps apply is_not_given
     cmdline_value
 evaluating = tt
@@ -161,7 +166,7 @@ unfoldable reporting : ⊤
 unfolding run_text effect ending node_items items whole_or_cut shown size_note stages_from source_of Reports property_report
     act_report walk_reports key_reports course wanted_text plain_report result_report device_report up_report
     partial_report search_reports skipped_text message_line alike unread unknown_line unknown least why_line unread_text reported_from
-    why_lines question_answer rule_asks rules_ask
+    why_lines question_answer rule_asks rules_ask fate fates_from keys_reached counted with_fates greatest line_on lines_by unmet_text unused_lines
 reporting = tt
 
 -- those by which an answer is written
@@ -178,5 +183,5 @@ checking = tt
 
 -- all of these
 unfoldable pub computed : ⊤
-unfolding digits answered_by sourced sourced_as_udev explained explained_as_udev asked asked_in_vain checking reading_rules reading_blocks reading_databases reading_texts evaluating reporting writing
+unfolding digits answered_by sourced sourced_as_udev explained explained_as_udev asked asked_in_vain unused_by checking reading_rules reading_blocks reading_databases reading_texts evaluating reporting writing
 computed = tt

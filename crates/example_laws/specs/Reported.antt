@@ -1,4 +1,4 @@
--- What `events` answers with `--sources`, `--why` and `--questions`.
+-- What `events` answers with `--sources`, `--why` and `--questions`, and what it says with `--unused`.
 use Rattle.std.specs.Prelude.{[], ◌∷◌, ◌++◌, codes, Option}
 use Rattle.text_bytes.specs.Names.{newline}
 use Rattle.text_bytes.specs.declared.profile.Profile.{Profile}
@@ -13,6 +13,8 @@ use Rattle.engine_answers.specs.Answers.{answer_lines, sourced_lines}
 use Rattle.engine_courses.specs.Asked.{unknown}
 use Rattle.engine_courses.specs.WhyLines.{why_lines}
 use Rattle.engine_courses.specs.Questions.{question_answer}
+use Rattle.engine_sessions.specs.Tallies.{events_of}
+use Rattle.engine_unused.specs.Unused.{unused_lines}
 use Rattle.example_laws.specs.Answered.{answer_to, only_entries, read_by}
 
 -- the answer to an event in which each line has its source
@@ -57,3 +59,7 @@ asked rules block = answered_so asked_answer Manual rules block
 -- what is said about a text of `--why`, by the text of a rules file, if it asks for nothing there
 unfoldable pub asked_in_vain : Text → Text → Option Text
 asked_in_vain why rules = let read = read_by Manual rules in unknown (why ∷ []) read.messages read.rules
+
+-- the lines that follow the answers of `events --unused`, by a profile, the text of a rules file and that of an input
+unfoldable pub unused_by : Profile → Text → Text → Text
+unused_by by rules input = unused_lines [] (read_by by rules).rules (only_entries []) (events_of by input)

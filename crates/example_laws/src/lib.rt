@@ -14,3 +14,4 @@ pub mod reports;
 pub mod stored;
 pub mod substitutions;
 pub mod udev;
+pub mod unused;

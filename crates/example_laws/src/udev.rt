@@ -146,3 +146,21 @@ pub fn udev_adds_to_properties_and_labels_otherwise()
         (codes "C: add\nP: /d\nD: 8:1\nE: A=1")
         ≡ codes "event add /d\nlabel m=l\nlabel m=l\nenv A=1 \nenv ACTION=add\nenv DEVPATH=/d\nenv MAJOR=8\nenv MINOR=1\n\n" }
 {}
+
+/// For udev `hwdb` that finds nothing tells which of the devices that it looked at lack a modalias; what it looks at ends with the first
+/// wanted device of USB.
+pub fn a_look_up_that_finds_nothing_tells_what_it_needs()
+    ensures udev { answered_as_udev
+        (text (
+        codes "IMPORT{builtin}=\"hwdb --subsystem=pci\"" ∷ codes "IMPORT{builtin}=\"hwdb\"" ∷ codes "IMPORT{builtin}=\"hwdb m\"" ∷ []))
+        (codes "C: add\nP: /c/p/input5/event5\nU: input\nP: /c/p/input5\nU: input\nP: /c/p\nU: pci\nP: /c\nU: virtio")
+        ≡ text (
+        codes "event add /c/p/input5/event5" ∷ codes "env ACTION=add" ∷ codes "env DEVPATH=/c/p/input5/event5" ∷ codes "env SUBSYSTEM=input"
+        ∷ codes "note r.rules:1: builtin needs: hwdb: MODALIAS of p"
+        ∷ codes "note r.rules:2: builtin needs: hwdb: MODALIAS of input5, MODALIAS of p, MODALIAS of c" ∷ codes "" ∷ []) }
+    ensures last { answered_as_udev (codes "IMPORT{builtin}=\"hwdb\"")
+        (codes "C: add\nP: /p/c/i\nU: usb\nP: /p/c\nU: usb\nE: DEVTYPE=usb_device\nE: MODALIAS=m\nP: /p\nU: pci")
+        ≡ codes "event add /p/c/i\nenv ACTION=add\nenv DEVPATH=/p/c/i\nenv SUBSYSTEM=usb\nnote r.rules:1: builtin needs: hwdb: MODALIAS\n\n" }
+    ensures manual { answered (codes "IMPORT{builtin}=\"hwdb\"") (codes "C: add\nP: /c\nU: pci")
+        ≡ codes "event add /c\nenv ACTION=add\nenv DEVPATH=/c\nenv SUBSYSTEM=pci\n\n" }
+{}

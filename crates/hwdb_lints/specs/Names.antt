@@ -4,7 +4,7 @@ use Rattle.std.specs.List.{list_all}
 use Rattle.text_bytes.specs.Names.{underscore}
 use Rattle.text_bytes.specs.Numbers.{is_digit}
 use Rattle.text_bytes.specs.Texts.{following, is_empty}
-use Rattle.text_tables.specs.Texts.{Text}
+use Rattle.text_tables.specs.Texts.{Text, same_text}
 use Rattle.hwdb_lints.specs.Forms.{is_small_digit}
 
 -- a capital letter
@@ -31,6 +31,10 @@ is_name_by (Some code) axis name = are_small_digits code
 is_name_by None (Some axis) name = are_small_digits axis && length axis == 2
 is_name_by None None name = begins_with_capital name && list_all is_name_byte name
 
+-- the property that sane gives its scanners, the only one in small letters
+abbrev pub of_sane : Text
+of_sane = codes "libsane_matched"
+
 -- whether a program can ask for a property of this name
 abbrev pub is_name : Text → Bool
-is_name name = is_name_by (following (codes "KEYBOARD_KEY_") name) (following (codes "EVDEV_ABS_") name) name
+is_name name = same_text name of_sane || is_name_by (following (codes "KEYBOARD_KEY_") name) (following (codes "EVDEV_ABS_") name) name

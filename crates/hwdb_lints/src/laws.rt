@@ -25,6 +25,9 @@ pub fn digits_have_the_case_of_their_prefix()
     ensures capitals { match_fault (codes "usb:v1D6Bp0002*") ≡ None }
     ensures mouse { match_fault (codes "mouse:usb:v046Dpc53f:name:*:") ≡ Some DigitCase }
     ensures small { match_fault (codes "mouse:usb:v046dpc53f:name:*:") ≡ None }
+    ensures kinds { match_fault (codes "id-input:modalias:input:b0003v28dep*") ≡ Some DigitCase }
+    ensures buses { match_fault (codes "id-input:usb:v28DEp*:name:*:") ≡ Some DigitCase }
+    ensures bus { match_fault (codes "id-input:i2c:*:name:*Mouse:") ≡ None }
     ensures ends { match_fault (codes "usb:v1d6bp0002") ≡ Some DigitCase }
     ensures any { match_fault (codes "usb:v1D6Bp0002?Hub*") ≡ None }
     ensures sets { match_fault (codes "usb:v1D6Bp000[12a]*") ≡ None }
@@ -54,6 +57,7 @@ pub fn names_are_those_of_udev()
     ensures no_code { is_name (codes "KEYBOARD_KEY_") ≡ false }
     ensures axis { is_name (codes "EVDEV_ABS_0a") ≡ true }
     ensures short_axis { is_name (codes "EVDEV_ABS_0") ≡ false }
+    ensures sane { is_name (codes "libsane_matched") ≡ true }
 {}
 
 /// A known property takes the values that systemd says of it, and any other property all values.

@@ -1,8 +1,9 @@
 //! The matches that a device can fit, by their prefixes.
 //!
 //! Taken on 28 November 2026 from the comments in the files of hwdb.d of systemd 252, from the rules of systemd 257
-//! that look devices up, and from the aliases of devices in Linux 6.1 (`scripts/mod/file2alias.c`). Each table is data
-//! that contracts cite as it stands.
+//! that look devices up, and from the aliases of devices in Linux 6.1 (`scripts/mod/file2alias.c`); and on 29 November
+//! 2026 from the files of hwdb.d of Debian trixie, among them those of upower and gmobile. Each table is data that
+//! contracts cite as it stands.
 
 /// How the modaliases of a prefix are written: the prefix; what follows it, in which `X` is a hexadecimal digit in
 /// capitals, `x` one in small letters, and any other byte itself; and whether they end in `:`. More may follow, and a
@@ -10,7 +11,7 @@
 pub(crate) type Modalias = (&'static [u8], &'static [u8], bool);
 
 /// Modaliases by prefix; the first prefix that a match begins with counts.
-pub(crate) const MODALIASES: [Modalias; 21] = [
+pub(crate) const MODALIASES: [Modalias; 24] = [
     (
         b"usb:",
         b"vXXXXpXXXXdXXXXdcXXdscXXdpXXicXXiscXXipXXinXX",
@@ -30,6 +31,9 @@ pub(crate) const MODALIASES: [Modalias; 21] = [
     (b"evdev:name:", b"", true),
     (b"evdev:atkbd:", b"", true),
     (b"evdev:", b"input:bXXXXvXXXXpXXXXeXXXX", false),
+    (b"id-input:usb:", b"vxxxxpxxxx", true),
+    (b"id-input:bluetooth:", b"vxxxxpxxxx", true),
+    (b"id-input:i2c:", b"vxxxxpxxxx", true),
     (b"id-input:", b"modalias:input:bXXXXvXXXXpXXXXeXXXX", false),
     (b"mouse:usb:", b"vxxxxpxxxx", true),
     (b"mouse:bluetooth:", b"vxxxxpxxxx", true),
@@ -44,7 +48,7 @@ pub(crate) const MODALIASES: [Modalias; 21] = [
 
 /// What comes before the first `:` of the matches that something looks up: the prefixes of hwdb.d, then the buses
 /// whose devices have a modalias.
-pub(crate) const FIRST_WORDS: [&[u8]; 92] = [
+pub(crate) const FIRST_WORDS: [&[u8]; 94] = [
     b"usb",
     b"pci",
     b"OUI",
@@ -76,6 +80,8 @@ pub(crate) const FIRST_WORDS: [&[u8]; 92] = [
     b"rfkill",
     b"libinput",
     b"libwacom",
+    b"battery",
+    b"gmobile",
     b"amba",
     b"ap",
     b"auxiliary",

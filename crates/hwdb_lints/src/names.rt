@@ -1,8 +1,9 @@
 //! D8: what a property may be called.
-ghost use Rattle.std.specs.Prelude.{◌≡◌};
+ghost use Rattle.std.specs.Prelude.{◌≡◌, codes};
 ghost use Rattle.std.specs.List.{list_all};
+ghost use Rattle.text_bytes.specs.Texts.{following};
 ghost use Rattle.hwdb_lints.specs.Forms.{is_small_digit};
-ghost use Rattle.hwdb_lints.specs.Names.{are_small_digits, begins_with_capital, is_capital, is_name, is_name_byte};
+ghost use Rattle.hwdb_lints.specs.Names.{are_small_digits, begins_with_capital, is_capital, is_name, is_name_by, is_name_byte};
 
 use crate::forms::is_small_digit;
 use text_bytes::{following, is_digit};
@@ -52,9 +53,9 @@ fn has_name_bytes(text: &[u8]) -> bool
     text.iter().all(|byte| is_name_byte(*byte))
 }
 
-/// Whether a program can ask for a property of this name.
-pub(crate) fn is_name(name: &[u8]) -> bool
-    ensures { result ≡ is_name name.now }
+/// Whether a name is that of a property of its form: a key, an axis, or any other.
+fn has_form(name: &[u8]) -> bool
+    ensures { result ≡ is_name_by (following (codes "KEYBOARD_KEY_") name.now) (following (codes "EVDEV_ABS_") name.now) name.now }
 {
     if let Some(code) = following(b"KEYBOARD_KEY_", name) {
         are_small_digits(code)
@@ -63,4 +64,11 @@ pub(crate) fn is_name(name: &[u8]) -> bool
     } else {
         begins_with_capital(name) && has_name_bytes(name)
     }
+}
+
+/// Whether a program can ask for a property of this name.
+pub(crate) fn is_name(name: &[u8]) -> bool
+    ensures { result ≡ is_name name.now }
+{
+    name == b"libsane_matched".as_slice() || has_form(name)
 }

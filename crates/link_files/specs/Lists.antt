@@ -8,7 +8,7 @@ use Rattle.text_bytes.specs.Numbers.{is_digit}
 use Rattle.text_bytes.specs.Texts.{begins_with, is_empty, split_once}
 use Rattle.text_tables.specs.Texts.{Text, same_text}
 use Rattle.link_files.specs.Names.{is_interface_name}
-use Rattle.link_files.specs.Words.{words_of}
+use Rattle.link_files.specs.Words.{is_whole, words_of}
 use Rattle.link_files.specs.declared.settings.Setting.{Setting}
 use Rattle.link_files.specs.declared.words.WordKind.{WordKind}
 use Rattle.link_files.specs.declared.words.WordKind.TheVariants.{Plain, Name, Glob, Property}
@@ -66,6 +66,10 @@ signed negated word = if negated then bang ∷ word else word
 -- the words of a value that count, each with its sign
 unfoldable pub texts_of : WordKind → (value : Text) → List Text
 texts_of kind value = map (signed (is_negated kind value)) (filter (counts kind) (words_of kind (unsigned kind value)))
+
+-- whether a value is a list of words that count, all of them
+unfoldable pub is_list : WordKind → (value : Text) → Bool
+is_list kind value = is_whole kind (unsigned kind value) && list_all (counts kind) (words_of kind (unsigned kind value))
 
 -- what one more setting makes of the words for a key of [Match]: an empty value drops those so far
 unfoldable pub with_texts_of : WordKind → (key : Text) → List Text → Setting → List Text

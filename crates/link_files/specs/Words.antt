@@ -74,6 +74,14 @@ split_byte kind s b =
 abbrev pub finished : Splitting → List Text
 finished s = if s.is_escaped || not (s.quote == 0) then s.words else (ended s).words
 
+-- the words so far at the end of a value
+unfoldable pub split : WordKind → Text → Splitting
+split kind value = fold (split_byte kind) unsplit value
+
 -- the words of a value
 unfoldable pub words_of : WordKind → Text → List Text
-words_of kind value = finished (fold (split_byte kind) unsplit value)
+words_of kind value = finished (split kind value)
+
+-- whether no word of a value is left out at its end, since a quote is not closed or nothing comes after a backslash
+unfoldable pub is_whole : WordKind → Text → Bool
+is_whole kind value = not (split kind value).is_escaped && (split kind value).quote == 0

@@ -71,7 +71,7 @@ pub fn link_folder(rank: u8) -> &'static str
 }
 
 /// Where a file is.
-fn path_of(alloc: Global, file: &SourceFile) -> Result<Vec<u8>, AllocError>
+pub fn path_of(alloc: Global, file: &SourceFile) -> Result<Vec<u8>, AllocError>
     ensures { IfOk result (λ path. path.items ≡ path_of file.now) }
 {
     let mut path = Vec::from_slice(alloc, link_folder(file.rank).as_bytes())?;
@@ -153,7 +153,7 @@ fn is_drop_in(file: &SourceFile, other: &SourceFile) -> bool
 }
 
 /// The drop-ins of a file among some files.
-fn drop_ins_of<'f>(
+pub fn drop_ins_of<'f>(
     alloc: Global,
     file: &SourceFile,
     drop_ins: &'f [SourceFile],
@@ -180,14 +180,14 @@ fn take_files(alloc: Global, reading: &mut Reading, files: &[&SourceFile]) -> Re
 }
 
 /// Whether a file is masked, or is not read for its name.
-fn is_masked(file: &SourceFile) -> bool
+pub fn is_masked(file: &SourceFile) -> bool
     ensures { result ≡ is_masked file.now }
 {
     file.bytes.as_slice().is_empty() || begins_with(b'.', file.name.as_slice())
 }
 
-/// A file and its drop-ins.
-fn with_drop_ins(
+/// A file and its drop-ins: what it sets with them, and whether each line of all these could be read.
+pub fn with_drop_ins(
     alloc: Global,
     file: &SourceFile,
     drop_ins: &[&SourceFile],

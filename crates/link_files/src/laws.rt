@@ -39,7 +39,7 @@ pub fn lines_are_put_together()
 
 /// How values are split: quotes keep blanks in a word of a pattern, where a backslash stays; in a plain list a backslash
 /// does so, and quotes stay. A quote that stays open drops its word.
-#[tactic(auto, unfolding(crate::specs::Words::words_of, crate::specs::Words::split_byte))]
+#[tactic(auto, unfolding(crate::specs::Words::words_of, crate::specs::Words::split, crate::specs::Words::split_byte))]
 pub fn values_are_split()
     ensures globs { words_of Glob (codes "a 'b c'd e\\f '' \"g") ≡ codes "a" ∷ codes "b cd" ∷ codes "e\\f" ∷ [] ∷ [] }
     ensures plain { words_of Plain (codes "'a b' c\\ d\\\\") ≡ codes "'a" ∷ codes "b'" ∷ codes "c d\\" ∷ [] }

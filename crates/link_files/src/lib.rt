@@ -9,12 +9,15 @@ mod names;
 mod settings;
 mod words;
 
-pub use files::{LinkFile, link_folder, read_links};
+pub use files::{
+    LinkFile, drop_ins_of, is_masked, link_folder, path_of, read_links, with_drop_ins,
+};
 pub use laws::{
     files_are_put_together, lines_are_put_together, lines_set_keys, names_are_short,
     names_of_interfaces, values_are_split,
 };
-pub use lists::{LINK, MATCH, is_of, last_of, list_of};
+pub use lines::{bare, from_start, is_comment, is_continued, stripped, without_last};
+pub use lists::{LINK, MATCH, is_list, is_of, last_of, list_of};
 pub use names::is_interface_name;
-pub use settings::Setting;
+pub use settings::{Setting, is_utf8, section_of, unmarked};
 pub use words::{WordKind, words_of};

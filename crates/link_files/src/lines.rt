@@ -33,7 +33,7 @@ fn trailing_spaces(text: &[u8]) -> usize
 }
 
 /// A text without such bytes at its start.
-fn from_start(text: &[u8]) -> &[u8]
+pub fn from_start(text: &[u8]) -> &[u8]
     ensures { result.now ≡ from_start text.now }
 {
     text.split_at(leading_spaces(text)).1
@@ -48,21 +48,21 @@ fn up_to_end(text: &[u8]) -> &[u8]
 
 /// A text without such bytes at its ends.
 #[tactic(auto, unfolding(crate::specs::Lines::stripped))]
-pub(crate) fn stripped(text: &[u8]) -> &[u8]
+pub fn stripped(text: &[u8]) -> &[u8]
     ensures { result.now ≡ stripped text.now }
 {
     up_to_end(from_start(text))
 }
 
 /// A text without its last byte.
-pub(crate) fn without_last(text: &[u8]) -> &[u8]
+pub fn without_last(text: &[u8]) -> &[u8]
     ensures { result.now ≡ without_last text.now }
 {
     text.split_at(text.len().saturating_sub(1)).0
 }
 
 /// A line without a carriage return at its end.
-pub(crate) fn bare(line: &[u8]) -> &[u8]
+pub fn bare(line: &[u8]) -> &[u8]
     ensures { result.now ≡ bare line.now }
 {
     if ends_in(b'\r', line) {
@@ -74,7 +74,7 @@ pub(crate) fn bare(line: &[u8]) -> &[u8]
 
 /// Whether a line is a comment.
 #[tactic(auto, unfolding(crate::specs::Lines::is_comment))]
-pub(crate) fn is_comment(line: &[u8]) -> bool
+pub fn is_comment(line: &[u8]) -> bool
     ensures { result ≡ is_comment line.now }
 {
     let text = from_start(line);
@@ -90,7 +90,7 @@ fn trailing_backslashes(line: &[u8]) -> usize
 }
 
 /// Whether a line goes on in the next one.
-pub(crate) fn is_continued(line: &[u8]) -> bool
+pub fn is_continued(line: &[u8]) -> bool
     ensures { result ≡ is_continued line.now }
 {
     trailing_backslashes(line) % 2 == 1

@@ -1,12 +1,12 @@
 //! The values that `.link` files give a key.
 ghost use Rattle.std.specs.Prelude.{◌≡◌, ◌++◌, IfOk, OnOk, filter, map};
 ghost use Rattle.std.specs.List.{list_all};
-ghost use Rattle.link_files.specs.Lists.{counts, has_signs, is_negated, is_of, is_property, is_property_byte, is_property_name, last_of, list_of};
+ghost use Rattle.link_files.specs.Lists.{counts, has_signs, is_list, is_negated, is_of, is_property, is_property_byte, is_property_name, last_of, list_of};
 ghost use Rattle.link_files.specs.Lists.{signed, texts_of, unsigned, with_texts_of};
 
 use crate::names::is_interface_name;
 use crate::settings::Setting;
-use crate::words::{WordKind, words_of};
+use crate::words::{WordKind, is_whole, words_of};
 use std::alloc::{AllocError, Global};
 use text_bytes::{Bytes, begins_with, is_digit, split_once};
 
@@ -140,6 +140,24 @@ fn add_texts(
     let negated = is_negated(kind, value);
     let words = words_of(alloc, kind, unsigned(kind, value))?;
     add_words(alloc, kind, negated, &words, held)
+}
+
+/// Whether all words count.
+fn all_count(kind: WordKind, words: &[Bytes]) -> bool
+    ensures { result ≡ list_all (counts kind) words.now }
+{
+    words.iter().all(|word| counts(kind, word.as_slice()))
+}
+
+/// Whether a value is a list of words that count, all of them: none is left out by `list_of`.
+#[tactic(auto, unfolding(crate::specs::Lists::is_list))]
+pub fn is_list(alloc: Global, kind: WordKind, value: &[u8]) -> Result<bool, AllocError>
+    ensures { IfOk result (λ list. list ≡ is_list kind value.now) }
+{
+    let value = unsigned(kind, value);
+    let whole = is_whole(alloc, kind, value)?;
+    let words = words_of(alloc, kind, value)?;
+    Ok(whole && all_count(kind, &words))
 }
 
 /// Takes one more setting for the words of a key.

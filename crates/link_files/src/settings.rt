@@ -54,7 +54,7 @@ fn has_section_bytes(text: &[u8]) -> bool
 }
 
 /// Whether a text is UTF-8.
-fn is_utf8(text: &[u8]) -> bool
+pub fn is_utf8(text: &[u8]) -> bool
     ensures { result ≡ is_utf8 text.now }
 {
     str::from_utf8(text).is_ok()
@@ -70,7 +70,7 @@ fn inside(text: &[u8]) -> &[u8]
 
 /// The section that a line begins which begins with `[`.
 #[tactic(auto, unfolding(crate::specs::Settings::section_of))]
-fn section_of(text: &[u8]) -> Option<&[u8]>
+pub fn section_of(text: &[u8]) -> Option<&[u8]>
     ensures { option_map (λ t. t.now) result ≡ section_of text.now }
 {
     let name = inside(text);
@@ -82,7 +82,7 @@ fn section_of(text: &[u8]) -> Option<&[u8]>
 }
 
 /// A file without the mark of UTF-8 at its start.
-fn unmarked(bytes: &[u8]) -> &[u8]
+pub fn unmarked(bytes: &[u8]) -> &[u8]
     ensures { result.now ≡ unmarked bytes.now }
 {
     if bytes.starts_with(b"\xEF\xBB\xBF") {

@@ -1,6 +1,6 @@
 //! The words of a value.
 ghost use Rattle.std.specs.Prelude.{◌≡◌, IfOk, OnOk};
-ghost use Rattle.link_files.specs.Words.{ended, finished, has_escapes, has_quotes, is_quote, split_byte, with_byte, unsplit, words_of};
+ghost use Rattle.link_files.specs.Words.{ended, finished, has_escapes, has_quotes, is_quote, is_whole, split, split_byte, with_byte, unsplit, words_of};
 
 use crate::lines::is_space;
 use std::alloc::{AllocError, Global};
@@ -148,14 +148,31 @@ impl Splitting {
     }
 }
 
-/// The words of a value.
-#[tactic(auto, unfolding(crate::specs::Words::words_of))]
-pub fn words_of(alloc: Global, kind: WordKind, value: &[u8]) -> Result<Vec<Bytes>, AllocError>
-    ensures { IfOk result (λ words. words.items ≡ words_of kind value.now) }
+/// The words of a value so far at its end.
+#[tactic(auto, unfolding(crate::specs::Words::split))]
+fn split(alloc: Global, kind: WordKind, value: &[u8]) -> Result<Splitting, AllocError>
+    ensures { IfOk result (λ s. s ≡ split kind value.now) }
 {
     let mut splitting = Splitting::new(alloc);
     for byte in value {
         splitting.take_byte(alloc, kind, *byte)?;
     }
-    splitting.finish(alloc)
+    Ok(splitting)
+}
+
+/// Whether a value leaves no quote open, and ends in no backslash that counts for the byte after it.
+#[tactic(auto, unfolding(crate::specs::Words::is_whole))]
+pub(crate) fn is_whole(alloc: Global, kind: WordKind, value: &[u8]) -> Result<bool, AllocError>
+    ensures { IfOk result (λ whole. whole ≡ is_whole kind value.now) }
+{
+    let splitting = split(alloc, kind, value)?;
+    Ok(!splitting.is_escaped && splitting.quote == 0)
+}
+
+/// The words of a value.
+#[tactic(auto, unfolding(crate::specs::Words::words_of))]
+pub fn words_of(alloc: Global, kind: WordKind, value: &[u8]) -> Result<Vec<Bytes>, AllocError>
+    ensures { IfOk result (λ words. words.items ≡ words_of kind value.now) }
+{
+    split(alloc, kind, value)?.finish(alloc)
 }

@@ -16,7 +16,8 @@ returns c =
     let third = one_more _ _ _ _ _ second c.all_flag.ensures c.in_ok-arg-3.ensures in
     let fourth = one_more _ _ _ _ _ third c.sources_flag.ensures c.in_ok-arg-4.ensures in
     let fifth = one_more _ _ _ _ _ fourth c.why_option.ensures c.in_ok-arg-5.ensures in
-    let sixth = one_more _ _ _ _ _ fifth c.questions_flag.ensures c.in_ok-arg-6.ensures in
-    let seventh = one_more _ _ _ _ _ sixth c.index_option.ensures c.in_ok-arg-7.ensures in
-    let eighth = one_more _ _ _ _ _ seventh c.udev_flag.ensures c.in_ok-arg-8.ensures in
-    IfOk-weaker c.arg-9.result _ _ (λ m h. one_more _ _ _ _ _ eighth c.files_argument.ensures h) c.arg-9.ensures
+    let sixth = one_more _ _ _ _ _ fifth c.unused_flag.ensures c.in_ok-arg-6.ensures in
+    let seventh = one_more _ _ _ _ _ sixth c.questions_flag.ensures c.in_ok-arg-7.ensures in
+    let eighth = one_more _ _ _ _ _ seventh c.index_option.ensures c.in_ok-arg-8.ensures in
+    let ninth = one_more _ _ _ _ _ eighth c.udev_flag.ensures c.in_ok-arg-9.ensures in
+    IfOk-weaker c.arg-10.result _ _ (λ m h. one_more _ _ _ _ _ ninth c.files_argument.ensures h) c.arg-10.ensures

@@ -21,7 +21,8 @@ returns c =
     let eighth = one_more _ _ _ _ _ seventh c.no_summary_flag.ensures c.in_ok-arg-8.ensures in
     let ninth = one_more _ _ _ _ _ eighth c.no_style_flag.ensures c.in_ok-arg-9.ensures in
     let tenth = one_more _ _ _ _ _ ninth c.lint_flag.ensures c.in_ok-arg-10.ensures in
-    let eleventh = one_more _ _ _ _ _ tenth c.udev_flag.ensures c.in_ok-arg-11.ensures in
-    let twelfth = one_more _ _ _ _ _ eleventh c.users_option.ensures c.in_ok-arg-12.ensures in
-    let thirteenth = one_more _ _ _ _ _ twelfth c.groups_option.ensures c.in_ok-arg-13.ensures in
-    IfOk-weaker c.arg-14.result _ _ (λ m h. one_more _ _ _ _ _ thirteenth c.files_argument.ensures h) c.arg-14.ensures
+    let eleventh = one_more _ _ _ _ _ tenth c.links_flag.ensures c.in_ok-arg-11.ensures in
+    let twelfth = one_more _ _ _ _ _ eleventh c.udev_flag.ensures c.in_ok-arg-12.ensures in
+    let thirteenth = one_more _ _ _ _ _ twelfth c.users_option.ensures c.in_ok-arg-13.ensures in
+    let fourteenth = one_more _ _ _ _ _ thirteenth c.groups_option.ensures c.in_ok-arg-14.ensures in
+    IfOk-weaker c.arg-15.result _ _ (λ m h. one_more _ _ _ _ _ fourteenth c.files_argument.ensures h) c.arg-15.ensures

@@ -6,6 +6,7 @@ use Rattle.rule_lints.specs.declared.lint.Lint.TheVariants.{NameTooLong, WantedW
 use Rattle.rule_lints.specs.declared.lint.Lint.TheVariants.{ModeNotOctal, SignOfShell, RelativeProgram, LetterCase, NoSuchDevice, ImportedBelow, MeantToCompare, NameOutsideNet, LinkWithDev, QuotedName, NotAPattern, AlwaysHolds, NeverReached, NoPatternForUdev}
 use Rattle.hwdb_lints.specs.declared.lint.DatabaseLint.TheVariants.{DigitCase, NoModalias, EndMissing, UnknownPrefix, MatchTwice, PropertyTwice, BlankAtEquals}
 use Rattle.hwdb_lints.specs.declared.lint.DatabaseLint.TheVariants.{OddName, BlankAtEnd, ByteOrderMark, CutWord, OpenSet, WrongValue}
+use Rattle.link_lints.specs.declared.fault.LinkFault.TheVariants as link
 use Rattle.engine_formats.specs.Remarks.{code_of, heading_parts}
 use Rattle.engine_formats.specs.declared.remark.Remark.{Remark}
 use Rattle.engine_formats.specs.declared.remark.Remark.TheVariants as about
@@ -93,6 +94,11 @@ found (about.DatabaseLint ByteOrderMark) = refl
 found (about.DatabaseLint CutWord) = refl
 found (about.DatabaseLint OpenSet) = refl
 found (about.DatabaseLint WrongValue) = refl
+found (about.LinkFault link.UnknownSection) = refl
+found (about.LinkFault link.UnknownKey) = refl
+found (about.LinkFault link.BadLine) = refl
+found (about.LinkFault link.BadValue) = refl
+found (about.LinkFault link.NoInterface) = refl
 found IdleIgnore = refl
 found UnknownCode = refl
 

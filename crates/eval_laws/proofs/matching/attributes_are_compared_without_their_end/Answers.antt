@@ -1,8 +1,8 @@
-use Rattle.std.proofs.Common.{◌≡◌, List, Option, Some, subst, sym, option_and_then}
+use Rattle.std.proofs.Common.{◌≡◌, Option, Some, subst, sym, option_and_then}
 use Rattle.text_bytes.specs.declared.profile.Profile.{Profile}
 use Rattle.text_bytes.specs.declared.profile.Profile.TheVariants.{Manual}
 use Rattle.text_tables.specs.Texts.{Text}
-use Rattle.text_tables.specs.Pairs.{Pair, value_of}
+use Rattle.text_tables.specs.Pairs.{value_of}
 use Rattle.device_core.specs.Values.{DeviceValue}
 use Rattle.eval_state.specs.declared.state.State.{State}
 use Rattle.eval_laws.specs.Comparing.{ComparesWithoutItsEnd}
@@ -13,16 +13,16 @@ use Rattle.eval_laws.proofs.Compared.{attribute_cut}
 use Rattle.eval_laws.proofs.matching.attributes_are_compared_without_their_end.Goals as goal
 
 -- by the manual the attribute of this name is looked at, and no other
-manual_cut : (profile : Profile) (name : Text) (state : State) (attrs : List Pair) (text : Text) → profile ≡ Manual → value_of attrs name ≡ Some text
-    → ComparesWithoutItsEnd (attribute_by profile name state.event (value_by profile name state attrs)) text
-manual_cut profile name state attrs text manual at =
-    subst (λ p. ComparesWithoutItsEnd (attribute_by p name state.event (value_by p name state attrs)) text) (sym manual)
+manual_cut : (profile : Profile) (name : Text) (state : State) (device : DeviceValue) (text : Text) → profile ≡ Manual → value_of device.attrs name ≡ Some text
+    → ComparesWithoutItsEnd (attribute_by profile name state.event (value_by profile name state device)) text
+manual_cut profile name state device text manual at =
+    subst (λ p. ComparesWithoutItsEnd (attribute_by p name state.event (value_by p name state device)) text) (sym manual)
     (subst (λ v. ComparesWithoutItsEnd (attribute v) text) (sym at) (attribute_cut text))
 
 pub returns : goal.returns
 returns c = record {
-  event = (λ name text state manual at. manual_cut state.event.profile name state state.event.device.attrs text manual at);
+  event = (λ name text state manual at. manual_cut state.event.profile name state state.event.device text manual at);
   device = (λ name text state place device manual at value.
-      subst (λ (o : Option DeviceValue). ComparesWithoutItsEnd (attribute_by state.event.profile name state.event (option_and_then (λ d. value_by state.event.profile name (tried state place) d.attrs) o)) text) (sym at)
-      (manual_cut state.event.profile name (tried state place) device.attrs text manual value));
+      subst (λ (o : Option DeviceValue). ComparesWithoutItsEnd (attribute_by state.event.profile name state.event (option_and_then (λ d. value_by state.event.profile name (tried state place) d) o)) text) (sym at)
+      (manual_cut state.event.profile name (tried state place) device text manual value));
 }

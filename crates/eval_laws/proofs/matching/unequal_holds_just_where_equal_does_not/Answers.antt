@@ -32,7 +32,7 @@ event_opposite : (key : PlainKey) (state : State) → state.event.profile ≡ Ma
 event_opposite plain.Subsystem state manual known = subsystem_opposite state.event.profile (or_empty state.event.device.subsystem) manual
 event_opposite plain.Symlink state manual known = texts_opposite state.event.profile state.links manual
 event_opposite plain.Tag state manual known = texts_opposite state.event.profile state.tags manual
-event_opposite (plain.Attr name) state manual known = value_opposite state.event.profile name state (value_by state.event.profile name state state.event.device.attrs) manual
+event_opposite (plain.Attr name) state manual known = value_opposite state.event.profile name state (value_by state.event.profile name state state.event.device) manual
 event_opposite (plain.Sysctl name) state manual known = unread_opposite
 event_opposite (plain.Const name) state manual known = known_opposite (is_known name) (value_of state.event.constants name) (known name refl)
 event_opposite key state manual known = one_opposite _

@@ -12,7 +12,7 @@ pub returns : goal.returns
 unfolding udev_subject
 returns c = λ name state place device udev plain at.
     let event = state.event in
-    let own = option_and_then (λ device. udev_value name (tried state place) device.attrs) (device_at event place) in
-    ap (λ by. attribute_by by name event (option_and_then (λ device. value_by by name (tried state place) device.attrs) (device_at event place))) udev
+    let own = option_and_then (λ device. udev_value name (tried state place) device) (device_at event place) in
+    ap (λ by. attribute_by by name event (option_and_then (λ device. value_by by name (tried state place) device) (device_at event place))) udev
     ∙ ap (λ b. cond (b && (is_elsewhere event (named name) && is_none (written_value event name))) udev_unread (udev_attribute (cond b (named_value event (written_value event name) (named name)) own))) plain
-    ∙ ap (λ (o : Option DeviceValue). udev_attribute (option_and_then (λ device. udev_value name (tried state place) device.attrs) o)) at
+    ∙ ap (λ (o : Option DeviceValue). udev_attribute (option_and_then (λ device. udev_value name (tried state place) device) o)) at

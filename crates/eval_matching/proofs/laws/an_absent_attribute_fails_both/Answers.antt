@@ -14,8 +14,8 @@ pub returns : goal.returns
 unfolding udev_subject
 returns c = λ name state wanted udev plain none.
     let event = state.event in
-    let own = udev_value name state event.device.attrs in
-    ap (λ by. holds (attribute_by by name event (value_by by name state event.device.attrs)) wanted) udev
+    let own = udev_value name state event.device in
+    ap (λ by. holds (attribute_by by name event (value_by by name state event.device)) wanted) udev
     ∙ ap (λ b. holds (cond (b && (is_elsewhere event (named name) && is_none (written_value event name))) udev_unread (udev_attribute (cond b (named_value event (written_value event name) (named name)) own))) wanted) plain
     ∙ ap (λ (o : Option Text). holds (udev_attribute o) wanted) none
     ∙ fails wanted

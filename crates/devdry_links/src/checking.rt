@@ -1,0 +1,97 @@
+//! The `.link` files and drop-ins of a root that are checked.
+ghost use Rattle.std.specs.Prelude.{◌≡◌, ◌≤◌, IfOk, filter, option_map};
+ghost use Rattle.devdry_files.specs.Inside.{MayInside};
+ghost use Rattle.devdry_links.specs.Checking.{AreLinksToCheck, counts, counts_as_drop_in, is_shown};
+
+use crate::survey::survey;
+use devdry_files::{Disk, RootedDisk};
+use devdry_folders::{Report, least_status};
+use link_files::is_masked;
+use std::alloc::{AllocError, Global};
+use text_bytes::{SourceFile, begins_with, order_files, split_once};
+
+/// Files to check.
+#[derive(Drop)]
+pub struct LinksToCheck {
+    /// The files, in order.
+    pub files: Vec<SourceFile>,
+    /// What is reported before the check.
+    pub report: Report,
+}
+
+/// Whether a file counts.
+fn counts(file: &SourceFile) -> bool
+    ensures { result ≡ counts file.now }
+{
+    !is_masked(file)
+}
+
+/// Those files that count.
+fn counting(mut files: Vec<SourceFile>) -> Vec<SourceFile>
+    ensures { result.items ≡ filter counts files.items }
+{
+    files.retain(|file| counts(file));
+    files
+}
+
+/// Whether the name of a drop-in in its folder does not begin with a dot, by the parts around the slash.
+fn is_shown(parts: Option<(&[u8], &[u8])>) -> bool
+    ensures { result ≡ is_shown (option_map (λ p. (p.0.now, p.1.now)) parts.entry) }
+{
+    match parts {
+        Some((_, name)) => !begins_with(b'.', name),
+        None => false,
+    }
+}
+
+/// Whether a drop-in counts.
+fn counts_as_drop_in(file: &SourceFile) -> bool
+    ensures { result ≡ counts_as_drop_in file.now }
+{
+    !file.bytes.as_slice().is_empty() && is_shown(split_once(b'/', file.name.as_slice()))
+}
+
+/// Those drop-ins that count.
+fn counting_drop_ins(mut files: Vec<SourceFile>) -> Vec<SourceFile>
+    ensures { result.items ≡ filter counts_as_drop_in files.items }
+{
+    files.retain(|file| counts_as_drop_in(file));
+    files
+}
+
+/// The files to check, as a disk answers.
+fn read_to_check_of<D: Disk>(
+    alloc: Global,
+    disk: &D,
+    root: &str,
+) -> Result<LinksToCheck, AllocError>
+    ensures read { IfOk result (AreLinksToCheck (D.may_answer disk.now) root.now) }
+    ensures least { IfOk result (λ links. links.report.least ≤ 3) }
+{
+    let survey = survey(alloc, disk, root)?;
+    let least = least_status(&survey.unread, b"");
+    let mut files = counting(survey.files);
+    let mut drop_ins = counting_drop_ins(order_files(alloc, survey.drop_ins, b".conf")?);
+    files.append(&mut drop_ins)?;
+    Ok(LinksToCheck {
+        files,
+        report: Report {
+            lines: survey.unread,
+            least,
+        },
+    })
+}
+
+/// Reads the `.link` files of a root that count and then their drop-ins, to be checked: they are looked for as
+/// `read_link_files` does, and what can't be read is reported in the same way. There is an error only if memory runs out.
+pub fn read_links_to_check<D: Disk>(
+    alloc: Global,
+    disk: &D,
+    root: &str,
+) -> Result<LinksToCheck, AllocError>
+    ensures read { IfOk result (AreLinksToCheck (MayInside (D.may_answer disk.now) root.now) root.now) }
+    ensures least { IfOk result (λ links. links.report.least ≤ 3) }
+{
+    let inside = RootedDisk::new(disk, root);
+    read_to_check_of(alloc, &inside, root)
+}

@@ -1,5 +1,0 @@
-use Rattle.engine_sessions.proofs.Turns.{unstarted}
-use Rattle.engine_sessions.proofs.inputs.answer_input.Goals as goal
-
-pub returns-in-Err : goal.returns-in-Err
-returns-in-Err g c = record { answers = unstarted _ _ _; finds_is = tt }

@@ -1,0 +1,4 @@
+pub mod Noting
+pub mod Counting
+pub mod Greatest
+pub mod Own

@@ -1,0 +1,4 @@
+pub mod Rows
+pub mod Unused
+pub mod Inner
+pub mod Laws

@@ -1,0 +1,89 @@
+-- The attributes that udev reads for a device: its own, those to which a path leads from its folder in sysfs, and links.
+use Rattle.std.specs.Prelude.{ℕ, ◌==◌, ◌&&◌, Bool, false, not, if◌then◌else◌, fold, length, Option, Some, None, is_none, is_some, position, unwrap_or, codes}
+use Rattle.std.specs.List.{list_any, range_with_len}
+use Rattle.std.specs.Option.{option_and_then, option_or}
+use Rattle.text_bytes.specs.Names.{dot, slash}
+use Rattle.text_bytes.specs.Texts.{begins_with, following}
+use Rattle.text_tables.specs.Texts.{Text, same_text}
+use Rattle.text_tables.specs.Pairs.{value_of}
+use Rattle.device_core.specs.Values.{DeviceValue, EventValue, chain}
+use Rattle.eval_state.specs.Chains.{device_at}
+use Rattle.eval_state.specs.Files.{is_end}
+
+-- whether a name is a path that begins with `.` or `..`
+abbrev pub is_path : Text → Bool
+is_path name = begins_with dot name
+
+-- what a path asks for once it has left a folder, if it begins with `../`
+abbrev pub left_folder : Option Text → Option Text
+left_folder name = option_and_then (following (codes "../")) name
+
+-- what a path asks for after a byte of the folders that it has to leave: each of them begins with a slash
+abbrev pub left_after : Option Text → ℕ → Option Text
+left_after name b = if b == slash then left_folder name else name
+
+-- what a path asks for once it has left folders, of which each begins with a slash
+abbrev pub left_all : (name folders : Text) → Option Text
+left_all name folders = fold left_after (Some name) folders
+
+-- the same of all folders that are below a device's own; if the folders are not below that, it asks for nothing there
+abbrev pub left_below : Text → Option Text → Option Text
+left_below name None = None
+left_below name (Some folders) = if is_end (Some folders) then left_all name folders else None
+
+-- a path without the `./` that it begins with
+abbrev pub without_dot : Text → Text
+without_dot name = unwrap_or (following (codes "./") name) name
+
+-- a name that leads up no further
+abbrev pub ended : Option Text → Option Text
+ended None = None
+ended (Some name) = if begins_with dot name then None else Some name
+
+-- the name that a path asks for in the folder of a device, from the folder of one below it or from its own
+abbrev pub asked_in : (from name : Text) → Option DeviceValue → Option Text
+asked_in from name None = None
+asked_in from name (Some device) = ended (left_below (without_dot name) (following device.path from))
+
+-- the place in the chain of the device to whose folder a path leads
+unfoldable pub led_place : (from name : Text) → EventValue → Option ℕ
+led_place from name event = position (λ place. is_some (asked_in from name (device_at event place))) (range_with_len 0 (length (chain event)))
+
+-- the attribute of a device that a path asks for
+abbrev pub asked_value : (from name : Text) → Option DeviceValue → Option Text
+asked_value from name None = None
+asked_value from name (Some device) = option_and_then (value_of device.attrs) (asked_in from name (Some device))
+
+-- the attribute to which a path leads from a folder
+abbrev pub led_value : EventValue → (from name : Text) → Option Text
+led_value event from name = option_and_then (λ place. asked_value from name (device_at event place)) (led_place from name event)
+
+-- the last component of the link to the driver or the subsystem of a device
+abbrev pub linked_value : DeviceValue → Text → Option Text
+linked_value device name =
+    if same_text name (codes "driver") then device.driver
+    else if same_text name (codes "subsystem") then device.subsystem
+    else None
+
+-- what the block does not have under a name as it is written: the attribute to which a path leads, or a link
+abbrev pub other_value : EventValue → DeviceValue → Text → Option Text
+other_value event device name = if is_path name then led_value event device.path name else linked_value device name
+
+-- the attribute that udev reads for a device of an event: what the block has under the name goes first
+abbrev pub read_value : EventValue → DeviceValue → Text → Option Text
+read_value event device name = option_or (value_of device.attrs name) (other_value event device name)
+
+-- whether a name is that of a file in a folder itself, and in none below it
+abbrev pub is_file_name : Option Text → Bool
+is_file_name None = false
+is_file_name (Some name) = not (list_any (λ b. b == slash) name)
+
+-- whether the block says what a path asks for: it leads to a device of the chain, and there into no other folder
+abbrev pub is_told : EventValue → (from name : Text) → Bool
+is_told event from name =
+    is_file_name (option_and_then (λ place. asked_in from name (device_at event place)) (led_place from name event))
+
+-- whether a path of the event device leads to what the block does not have and does not deny
+abbrev pub is_path_unread : Text → EventValue → Bool
+is_path_unread name event =
+    is_path name && (is_none (read_value event event.device name) && not (is_told event event.device.path name))

@@ -1,0 +1,173 @@
+//! The faults of a line.
+ghost use Rattle.std.specs.Prelude.{◌≡◌, ◌++◌, ◌∷◌, ◌+◌, ◌-◌, [], OnOk, length, option_map};
+ghost use Rattle.link_lints.specs.Faults.{assignment_faults, key_faults, line_faults, parts_faults, placed, section_after, section_begun, section_faults};
+ghost use Rattle.link_lints.specs.Faults.{start_of, value_faults};
+ghost use Rattle.link_files.specs.Lines.{stripped};
+
+use crate::fault::LinkFault;
+use crate::joined::JoinedLine;
+use crate::keys::Form;
+use crate::placed_fault::{PlacedFault, add, add_bad_line, start_of};
+use crate::sections::{Section, form_of, is_extension, is_known, section_named};
+use crate::values::takes;
+use link_files::{is_utf8, section_of, stripped};
+use std::alloc::{AllocError, Global};
+use text_bytes::{begins_with, split_once};
+
+/// Adds the fault of a line that begins with `[`, by the name of the section in it.
+fn add_section_faults(
+    alloc: Global,
+    found: &mut Vec<PlacedFault>,
+    line: &JoinedLine,
+    name: Option<&[u8]>,
+) -> Result<(), AllocError>
+    ensures { OnOk result (found.new.items ≡ found.old.items ++ section_faults line.now (option_map (λ n. n.now) name.entry)) }
+{
+    let Some(name) = name else {
+        return add_bad_line(alloc, found, line);
+    };
+    if is_known(section_named(name)) || is_extension(name) {
+        return Ok(());
+    }
+    let start = start_of(line).saturating_add(1);
+    add(alloc, found, line, LinkFault::UnknownSection, start, name)
+}
+
+/// Adds the fault of a value that a form does not have.
+fn add_value_fault(
+    alloc: Global,
+    found: &mut Vec<PlacedFault>,
+    line: &JoinedLine,
+    value: &[u8],
+) -> Result<(), AllocError>
+    ensures { OnOk result (found.new.items ≡ found.old.items ++ placed line.now LinkFault.BadValue (start_of line.now + (length (stripped line.now.text) - length value.now)) value.now ∷ []) }
+{
+    let before = stripped(line.text()).len().saturating_sub(value.len());
+    let start = start_of(line).saturating_add(before);
+    add(alloc, found, line, LinkFault::BadValue, start, value)
+}
+
+/// Adds the fault of a key and its value, by the form that the section has for the key.
+fn add_value_faults(
+    alloc: Global,
+    found: &mut Vec<PlacedFault>,
+    line: &JoinedLine,
+    key: &[u8],
+    value: &[u8],
+    form: Option<Form>,
+) -> Result<(), AllocError>
+    ensures { OnOk result (found.new.items ≡ found.old.items ++ value_faults line.now key.now value.now form) }
+{
+    match form {
+        None if is_extension(key) => Ok(()),
+        None => {
+            let start = start_of(line);
+            add(alloc, found, line, LinkFault::UnknownKey, start, key)
+        }
+        Some(form) => {
+            if takes(alloc, form, value)? {
+                Ok(())
+            } else {
+                add_value_fault(alloc, found, line, value)
+            }
+        }
+    }
+}
+
+/// Adds the fault of a key and its value.
+fn add_key_faults(
+    alloc: Global,
+    found: &mut Vec<PlacedFault>,
+    section: Section,
+    line: &JoinedLine,
+    key: &[u8],
+    value: &[u8],
+) -> Result<(), AllocError>
+    ensures { OnOk result (found.new.items ≡ found.old.items ++ key_faults section line.now key.now value.now) }
+{
+    if key.is_empty() {
+        return add_bad_line(alloc, found, line);
+    }
+    add_value_faults(alloc, found, line, key, value, form_of(section, key))
+}
+
+/// Adds the fault of an assignment in a known section, by the parts around its first `=`.
+fn add_parts_faults(
+    alloc: Global,
+    found: &mut Vec<PlacedFault>,
+    section: Section,
+    line: &JoinedLine,
+    parts: Option<(&[u8], &[u8])>,
+) -> Result<(), AllocError>
+    ensures { OnOk result (found.new.items ≡ found.old.items ++ parts_faults section line.now (option_map (λ p. (p.0.now, p.1.now)) parts.entry)) }
+{
+    match parts {
+        Some((key, value)) => {
+            add_key_faults(alloc, found, section, line, stripped(key), stripped(value))
+        }
+        None => add_bad_line(alloc, found, line),
+    }
+}
+
+/// Adds the fault of an assignment.
+fn add_assignment_faults(
+    alloc: Global,
+    found: &mut Vec<PlacedFault>,
+    section: Section,
+    line: &JoinedLine,
+    parts: Option<(&[u8], &[u8])>,
+) -> Result<(), AllocError>
+    ensures { OnOk result (found.new.items ≡ found.old.items ++ assignment_faults section line.now (option_map (λ p. (p.0.now, p.1.now)) parts.entry)) }
+{
+    match section {
+        Section::Before => add_bad_line(alloc, found, line),
+        Section::Unknown => Ok(()),
+        _ => add_parts_faults(alloc, found, section, line, parts),
+    }
+}
+
+/// Adds the faults of a line in a section.
+#[tactic(auto, unfolding(crate::specs::Faults::line_faults))]
+pub(crate) fn add_line_faults(
+    alloc: Global,
+    found: &mut Vec<PlacedFault>,
+    section: Section,
+    line: &JoinedLine,
+) -> Result<(), AllocError>
+    ensures { OnOk result (found.new.items ≡ found.old.items ++ line_faults section line.now) }
+{
+    let text = stripped(line.text());
+    if text.is_empty() {
+        return Ok(());
+    }
+    if !is_utf8(text) {
+        return add_bad_line(alloc, found, line);
+    }
+    if begins_with(b'[', text) {
+        return add_section_faults(alloc, found, line, section_of(text));
+    }
+    add_assignment_faults(alloc, found, section, line, split_once(b'=', text))
+}
+
+/// The section that begins; if its name can't be read, what follows is skipped.
+fn section_begun(name: Option<&[u8]>) -> Section
+    ensures { result ≡ section_begun (option_map (λ n. n.now) name.entry) }
+{
+    match name {
+        Some(name) => section_named(name),
+        None => Section::Unknown,
+    }
+}
+
+/// The section after a line.
+#[tactic(auto, unfolding(crate::specs::Faults::section_after))]
+pub(crate) fn section_after(section: Section, line: &JoinedLine) -> Section
+    ensures { result ≡ section_after section line.now }
+{
+    let text = stripped(line.text());
+    if begins_with(b'[', text) {
+        section_begun(section_of(text))
+    } else {
+        section
+    }
+}

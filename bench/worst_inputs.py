@@ -59,6 +59,11 @@ def interfaces(count):
     return named_by({f"{number:05}.link": match for number in range(count)} | drop_ins, 10)
 
 
+def importing(rules, files):
+    """Rules that import files of the root."""
+    return ["events", "--udev", "-r", "root", "r.rules"], {"r.rules": rules, **{f"root/{name}": text for name, text in files.items()}}, DEVICE
+
+
 def verify(rules):
     return ["verify", "r.rules"], {"r.rules": rules}, ""
 
@@ -186,6 +191,8 @@ UDEV = [
     # each file has its drop-ins among all
     Case(".link files with a drop-in each, and interfaces that none is for", 300, interfaces, 150),
     Case("lines of a .link file", 20_000, lambda n: named_by({"a.link": "[Match]\n" + each("OriginalName=x#\n", n) + "[Link]\nName=a\n"}, 3)),
+    Case("files that rules import", 500, lambda n: importing(each('IMPORT{file}="/f#"\n', n), {f"f{number}": "A=1\n" for number in range(n)})),
+    Case("imports of a file of 65,000 bytes", 20, lambda n: importing('IMPORT{file}="/f"\n' * n, {"f": each("A#=1\n", 6_000)})),
     # as with links, all properties after one that is removed are moved up
     Case("properties that are imported and removed", 300, lambda n: as_udev('IMPORT{program}="/p"\n' * 100, printing(n)), 150),
 ]

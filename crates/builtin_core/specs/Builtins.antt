@@ -1,10 +1,10 @@
--- What evaluating rules asks beyond the event, by the entries of a hardware database and the .link files.
+-- What evaluating rules asks beyond the event, by the entries of a hardware database, the .link files and files of the root.
 use Rattle.std.specs.Prelude.{Bool, List}
-use Rattle.text_tables.specs.Pairs.{Pair}
+use Rattle.text_tables.specs.Pairs.{Pair, value_of}
 use Rattle.hwdb_lookup.specs.declared.entry.Entry.{Entry}
 use Rattle.device_core.specs.Values.{EventValue}
 use Rattle.builtin_chains.specs.Needs.{input_needs, net_needs, path_needs, usb_needs}
-use Rattle.builtin_devices.specs.Knowledge.{Known}
+use Rattle.builtin_knowledge.specs.Knowledge.{FilesFound, Known}
 use Rattle.builtin_devices.specs.Outcomes.{OutcomeValue, needing_first}
 use Rattle.link_files.specs.Files.{LinkFileValue}
 use Rattle.builtin_input.specs.Input.{input_id}
@@ -32,12 +32,13 @@ input_outcome event = needing_first (input_needs event) (input_id event)
 abbrev pub net_outcome : EventValue → (env : List Pair) → OutcomeValue
 net_outcome event env = needing_first (net_needs event) (net_id event env)
 
--- The .link files by which interfaces are named, in order, and the entries of a database.
+-- The .link files by which interfaces are named, in order, what was found at paths of the root, and the entries of a database.
 pub record Held : Type 0 where
   pub links : List LinkFileValue
+  pub files : FilesFound
   pub entries : List Entry
 
--- the entries, and these outcomes
+-- the entries, these outcomes, and what was found at each path
 abbrev pub known_by : Held → Known
 known_by held = record {
   entries = held.entries;
@@ -47,4 +48,5 @@ known_by held = record {
   net_id = net_outcome;
   net_lookup = lookup;
   net_setup_link = net_setup_link held.links;
+  file = value_of held.files;
 }

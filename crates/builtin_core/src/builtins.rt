@@ -1,10 +1,11 @@
-//! The builtins over a database and `.link` files.
+//! The builtins over a database and `.link` files, with files of the root.
 ghost use Rattle.std.specs.Prelude.{◌≡◌};
 ghost use Rattle.builtin_core.specs.Builtins.{known_by};
 
 use builtin_chains::{input_needs, net_needs, path_needs, usb_needs};
-use builtin_devices::{BuiltinOutcome, Knowledge, NetNames};
+use builtin_devices::{BuiltinOutcome, NetNames};
 use builtin_input::input_id;
+use builtin_knowledge::{Knowledge, RootFile, RootFiles};
 use builtin_link::net_setup_link;
 use builtin_net::net_id;
 use builtin_path::path_id;
@@ -16,11 +17,12 @@ use std::alloc::{AllocError, Global};
 use std::marker::Model;
 use text_tables::CowPairs;
 
-/// The builtins of udev over a hardware database and `.link` files.
+/// The builtins of udev over a hardware database and `.link` files, and what was found at paths of the root.
 #[derive(Drop)]
 pub struct Builtins<'l, L: Lookup> {
     database: L,
     links: &'l [LinkFile],
+    files: &'l RootFiles,
 }
 
 impl<'l, L: Lookup> Model for Builtins<'l, L> {
@@ -28,15 +30,20 @@ impl<'l, L: Lookup> Model for Builtins<'l, L> {
 
     ghost Value = { Held };
 
-    ghost view = { λ b. record { links = b.links.now; entries = L.entries b.database } };
+    ghost view = { λ b. record { links = b.links.now; files = b.files.now; entries = L.entries b.database } };
 }
 
 impl<'l, L: Lookup> Builtins<'l, L> {
-    /// The builtins over this database, with the `.link` files by which interfaces are named.
-    pub fn new(database: L, links: &'l [LinkFile]) -> Builtins<'l, L>
-        ensures { result ≡ record { links = links.now; entries = L.entries database } }
+    /// The builtins over this database, with the `.link` files by which interfaces are named, and what was found at
+    /// paths of the root.
+    pub fn new(database: L, links: &'l [LinkFile], files: &'l RootFiles) -> Builtins<'l, L>
+        ensures { result ≡ record { links = links.now; files = files.now; entries = L.entries database } }
     {
-        Builtins { database, links }
+        Builtins {
+            database,
+            links,
+            files,
+        }
     }
 }
 
@@ -89,5 +96,9 @@ impl<'l, L: Lookup> Knowledge for Builtins<'l, L> {
         env: &CowPairs<'_>,
     ) -> Result<BuiltinOutcome, AllocError> {
         net_setup_link(alloc, self.links, event, env)
+    }
+
+    fn file(&self, path: &[u8]) -> Option<&RootFile> {
+        self.files.get(path)
     }
 }

@@ -8,7 +8,7 @@ use Rattle.devdry_options.specs.Files.{bad_line, said_of, words_of}
 use Rattle.devdry_options.specs.declared.files.OptionsFault.{OptionsFault}
 use Rattle.devdry_options.specs.declared.files.OptionsFault.TheVariants.{BadLine, Memory}
 use Rattle.devdry.specs.Options.{DoesByFile, RefusesLine}
-use Rattle.devdry.specs.PartialRuns.{IsRefusedToRead}
+use Rattle.devdry.specs.Reading.{IsRefusedToRead}
 use Rattle.devdry.specs.Reporting.{ReportsOptionsFault}
 
 -- what comes of a choice comes of the same choice

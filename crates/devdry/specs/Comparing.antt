@@ -3,7 +3,6 @@ use Rattle.std.specs.Prelude.{◌≡◌, ◌++◌, ℕ, ◌⊎◌, Bool, true, f
 use Rattle.text_bytes.specs.declared.source_file.SourceFile.{SourceFile}
 use Rattle.engine_ends.specs.declared.line.Line.{Line}
 use Rattle.engine_ends.specs.Streams.{Streams}
-use Rattle.engine_core.specs.Comparing.{ComparesOver}
 use Rattle.devdry_files.specs.Answers.{Answer}
 use Rattle.devdry_files.specs.Faults.{HasPath, IsFaultyWanted}
 use Rattle.devdry_files.specs.Found.{AreWanted}
@@ -14,8 +13,9 @@ use Rattle.devdry_files.specs.declared.places.Wanted.{Wanted}
 use Rattle.devdry_folders.specs.Surveys.{AreFilesReadSome, IsReadSome, IsReportOnFiles}
 use Rattle.devdry_folders.specs.declared.reading.ReadSome.{ReadSome}
 use Rattle.devdry_folders.specs.declared.reading.Report.{Report}
-use Rattle.devdry.specs.PartialRuns.{IsRefusedToRead, RunsAfter}
-use Rattle.devdry.specs.Reading.{AreReadFor, FailsAt, IsFaultOf}
+use Rattle.devdry.specs.Finding.{ComparesFinding}
+use Rattle.devdry.specs.PartialRuns.{RunsAfter}
+use Rattle.devdry.specs.Reading.{AreReadFor, FailsAt, IsFaultOf, IsRefusedToRead}
 
 -- the files are those that the line asks for
 pub record AreFilesFor (may : Answer → Type 0) (line : Line) (files : List SourceFile) : Type 0 where
@@ -72,29 +72,30 @@ abbrev pub IsFaultOfBoth : (Answer → Type 0) → Line → Line → ReadFault �
 IsFaultOfBoth may old new fault = IsFileFault may old fault ⊎ IsFaultOfNew may old new fault
 
 -- what is reported is written first, and then the answers to the input are compared
-abbrev pub ComparesAfter : Line → Line → List SourceFile → List SourceFile → Option (List ℕ) → Report → ℕ → Streams → Streams → Type 0
-ComparesAfter old new old_files new_files index report status before now =
-    RunsAfter report.lines.items report.least (ComparesOver old new old_files new_files index) status before now
+abbrev pub ComparesAfter : (Answer → Type 0) → Line → Line → List SourceFile → List SourceFile → Option (List ℕ) → Report
+    → ℕ → Streams → Streams → Type 0
+ComparesAfter may old new old_files new_files index report status before now =
+    RunsAfter report.lines.items report.least (ComparesFinding may old new old_files new_files index) status before now
 
 -- For what was read of the two lines this holds, and their answers are compared after what is reported.
-pub record ComparesRead (Read : List SourceFile → List SourceFile → Option (List ℕ) → Report → Type 0) (old new : Line) (status : ℕ)
-    (before now : Streams) : Type 0 where
+pub record ComparesRead (may : Answer → Type 0) (Read : List SourceFile → List SourceFile → Option (List ℕ) → Report → Type 0)
+    (old new : Line) (status : ℕ) (before now : Streams) : Type 0 where
   pub old_files : List SourceFile
   pub new_files : List SourceFile
   pub index : Option (List ℕ)
   pub report : Report
   pub are_read : Read old_files new_files index report
-  pub over : ComparesAfter old new old_files new_files index report status before now
+  pub over : ComparesAfter may old new old_files new_files index report status before now
 
 -- what `compare` does with two lines if it ends at what can't be read
 abbrev pub ComparesWanted : (Answer → Type 0) → Line → Line → ℕ → Streams → Streams → Type 0
 ComparesWanted may old new status before now =
-    ComparesRead (AreReadForBoth may old new) old new status before now ⊎ FailsAt (IsFaultOfBoth may old new) status before now
+    ComparesRead may (AreReadForBoth may old new) old new status before now ⊎ FailsAt (IsFaultOfBoth may old new) status before now
 
 -- what it does with two lines if it goes on after that
 abbrev pub ComparesSome : (Answer → Type 0) → Line → Line → ℕ → Streams → Streams → Type 0
 ComparesSome may old new status before now =
-    ComparesRead (AreReadOfBoth may old new) old new status before now ⊎ IsRefusedToRead status before now
+    ComparesRead may (AreReadOfBoth may old new) old new status before now ⊎ IsRefusedToRead status before now
 
 -- what it does by whether it goes on
 abbrev pub ComparesBy : Bool → (Answer → Type 0) → Line → Line → ℕ → Streams → Streams → Type 0

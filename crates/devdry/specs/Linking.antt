@@ -1,13 +1,9 @@
 -- The .link files for a request, as they come from the disk.
-use Rattle.std.specs.Prelude.{◌≡◌, ◌&&◌, ℕ, Bool, true, false, List, [], MatchBool}
+use Rattle.std.specs.Prelude.{◌≡◌, ℕ, [], MatchBool}
 use Rattle.text_bytes.specs.Texts.{is_empty}
-use Rattle.text_bytes.specs.declared.profile.Profile.{Profile}
-use Rattle.text_bytes.specs.declared.profile.Profile.TheVariants.{Manual, Udev}
 use Rattle.engine_ends.specs.declared.line.Line.{Line}
 use Rattle.engine_ends.specs.declared.line.Request.{Request}
 use Rattle.engine_ends.specs.declared.line.Request.TheVariants.{Run, Files, Compare}
-use Rattle.engine_ends.specs.declared.line.Verb.{Verb}
-use Rattle.engine_ends.specs.declared.line.Verb.TheVariants.{Events}
 use Rattle.engine_ends.specs.Streams.{Streams}
 use Rattle.devdry_files.specs.Answers.{Answer}
 use Rattle.devdry_files.specs.Inside.{MayInside}
@@ -15,21 +11,8 @@ use Rattle.devdry_folders.specs.declared.reading.Report.{Report}
 use Rattle.devdry_links.specs.Reading.{AreLinksRead}
 use Rattle.devdry_links.specs.declared.reading.LinksRead.{LinksRead}
 use Rattle.devdry.specs.Comparing.{AreReported}
+use Rattle.devdry.specs.Finding.{does_as_udev}
 use Rattle.devdry.specs.PartialRuns.{RunsAfter}
-
--- the verb is that of `events`
-abbrev pub is_events : Verb → Bool
-is_events Events = true
-is_events _ = false
-
--- rules are evaluated as udev does
-abbrev pub is_udev : Profile → Bool
-is_udev Manual = false
-is_udev Udev = true
-
--- whether a line names interfaces by .link files: `events` and `compare` do as udev does
-abbrev pub names_links : Line → Bool
-names_links line = is_events line.verb && is_udev line.profile
 
 -- The .link files inside the line's root were read. The line has those that count, and what is reported is about the others.
 pub record HasLinks (may : Answer → Type 0) (named line : Line) (report : Report) : Type 0 where
@@ -44,9 +27,9 @@ pub record Stays (named line : Line) (report : Report) : Type 0 where
   pub lines : report.lines.items ≡ []
   pub least : report.least ≡ 0
 
--- a line that names interfaces by .link files gets those of its root, and any other stays as it is
+-- a line that answers events as udev does gets the .link files of its root, and any other stays as it is
 abbrev pub ReadsLinks : (Answer → Type 0) → (named line : Line) → Report → Type 0
-ReadsLinks may named line report = MatchBool (names_links named) (HasLinks may named line report) (Stays named line report)
+ReadsLinks may named line report = MatchBool (does_as_udev named) (HasLinks may named line report) (Stays named line report)
 
 -- Both lines of `compare` get theirs; what is reported is about the old one's first.
 pub record ReadsBoth (may : Answer → Type 0) (old_named new_named old new : Line) (report : Report) : Type 0 where

@@ -7,7 +7,7 @@ use Rattle.devdry_files.specs.Answers.{Answer}
 use Rattle.devdry_files.specs.Faults.{HasPath, IsUnread}
 use Rattle.devdry_files.specs.declared.fault.ReadFault.{ReadFault}
 use Rattle.devdry_options.specs.Files.{bad_line, said_of, words_of}
-use Rattle.devdry.specs.PartialRuns.{IsRefusedToRead}
+use Rattle.devdry.specs.Reading.{IsRefusedToRead}
 
 -- the fault is about the file at the path, which the disk may say that it can't read, or memory ran out
 abbrev pub IsFaultAt : (Answer → Type 0) → (path : List ℕ) → ReadFault → Type 0

@@ -2,15 +2,16 @@
 use Rattle.std.specs.Prelude.{◌≡◌, ℕ, ◌⊎◌, List, [], MatchBool, max}
 use Rattle.text_bytes.specs.Texts.{is_empty}
 use Rattle.engine_ends.specs.declared.line.Line.{Line}
-use Rattle.engine_ends.specs.Delivery.{Delivers, IsOutOfMemory}
+use Rattle.engine_ends.specs.Delivery.{Delivers}
 use Rattle.engine_ends.specs.Sinks.{BreaksOff, HandsOn, SinkState}
 use Rattle.engine_ends.specs.Streams.{Streams, outputs}
-use Rattle.engine_core.specs.Runs.{RunsOver}
 use Rattle.devdry_files.specs.Answers.{Answer}
 use Rattle.devdry_folders.specs.Surveys.{IsListed, IsReadSome}
 use Rattle.devdry_folders.specs.declared.reading.Listed.{Listed}
 use Rattle.devdry_folders.specs.declared.reading.ReadSome.{ReadSome}
+use Rattle.devdry.specs.Finding.{RunsFinding}
 use Rattle.devdry.specs.Noting.{AreNotesOf}
+use Rattle.devdry.specs.Reading.{IsRefusedToRead}
 
 -- The error output has what is reported, and the run after that goes on from there; the status is the run's own, or
 -- the least one if that is greater.
@@ -36,16 +37,11 @@ RunsAfter reported least Own status before now = Proceeds reported least Own sta
 abbrev pub RunsNoted : List ℕ → (ℕ → Streams → Streams → Type 0) → ℕ → Streams → Streams → Type 0
 RunsNoted notes Own status before now = MatchBool (is_empty notes) (Own status before now) (RunsAfter notes 0 Own status before now)
 
--- The reading ran out of memory, and that is reported; no input is read.
-pub record IsRefusedToRead (status : ℕ) (before now : Streams) : Type 0 where
-  pub refused : IsOutOfMemory status (outputs before) (outputs now)
-  pub unread : now.input ≡ before.input
-
 -- What can't be read is reported, what there is to tell about the rest is told, and the line is run over the rest.
 pub record TellsSome (may : Answer → Type 0) (line : Line) (some : ReadSome) (status : ℕ) (before now : Streams) : Type 0 where
   pub notes : List ℕ
   pub are_notes : AreNotesOf may line some.files.items notes
-  pub runs : RunsAfter some.report.lines.items some.report.least (RunsNoted notes (RunsOver line some.files.items some.index)) status before now
+  pub runs : RunsAfter some.report.lines.items some.report.least (RunsNoted notes (RunsFinding may line some.files.items some.index)) status before now
 
 -- What can be read of all that the line asks for was read, and the line is run over that.
 pub record RunsOverSome (may : Answer → Type 0) (line : Line) (status : ℕ) (before now : Streams) : Type 0 where

@@ -2,7 +2,8 @@
 use Rattle.std.specs.Prelude.{◌≡◌, ℕ, ◌⊎◌, List, Option}
 use Rattle.text_bytes.specs.declared.source_file.SourceFile.{SourceFile}
 use Rattle.engine_ends.specs.declared.line.Line.{Line}
-use Rattle.engine_ends.specs.Streams.{Streams}
+use Rattle.engine_ends.specs.Delivery.{IsOutOfMemory}
+use Rattle.engine_ends.specs.Streams.{Streams, outputs}
 use Rattle.devdry_files.specs.Answers.{Answer}
 use Rattle.devdry_files.specs.Faults.{HasPath, IsFaultyIndex, IsFaultyWanted}
 use Rattle.devdry_files.specs.Found.{AreWanted, IsIndexWanted}
@@ -42,3 +43,8 @@ pub record FailsAt (IsFault : ReadFault → Type 0) (status : ℕ) (before now :
   pub reports : ReportsReadFault fault status before.err now.err
   pub unread : now.input ≡ before.input
   pub untouched : now.out ≡ before.out
+
+-- The reading ran out of memory, and that is reported; no input is read.
+pub record IsRefusedToRead (status : ℕ) (before now : Streams) : Type 0 where
+  pub refused : IsOutOfMemory status (outputs before) (outputs now)
+  pub unread : now.input ≡ before.input

@@ -8,7 +8,6 @@ use Rattle.engine_ends.specs.declared.line.Request.{Request}
 use Rattle.engine_ends.specs.declared.line.Request.TheVariants.{Run, Files, Compare}
 use Rattle.engine_ends.specs.Sources.{SourceState}
 use Rattle.engine_ends.specs.Streams.{Streams, outputs}
-use Rattle.engine_core.specs.Runs.{RunsOver}
 use Rattle.devdry_files.specs.Answers.{Answer}
 use Rattle.devdry_files.specs.Answers.Answer.{Content}
 use Rattle.devdry_files.specs.declared.fault.ReadFault.{ReadFault}
@@ -22,13 +21,14 @@ use Rattle.devdry_words.specs.Answers.{AnswersWords}
 use Rattle.devdry_words.specs.Options.{options_in, with_options}
 use Rattle.devdry_words.specs.Requests.{IsRequestOf}
 use Rattle.devdry.specs.Comparing.{ComparesLines}
-use Rattle.devdry.specs.Linking.{ReadsRequest, RunsReported, is_events}
+use Rattle.devdry.specs.Finding.{RunsFinding, is_events}
+use Rattle.devdry.specs.Linking.{ReadsRequest, RunsReported}
 use Rattle.devdry.specs.Noting.{AreNotesOf, IsHintOn}
 use Rattle.devdry.specs.Options.{DoesByFile, IsFaultAt}
-use Rattle.devdry.specs.PartialRuns.{IsRefusedToRead, ListsFiles, RunsAfter, RunsNoted, RunsSome}
+use Rattle.devdry.specs.PartialRuns.{ListsFiles, RunsAfter, RunsNoted, RunsSome}
 use Rattle.devdry.specs.Knowing.{IsFaultOfAccounts, KnowsAccounts}
 use Rattle.devdry.specs.Piping.{ReportsInputFault, input_named}
-use Rattle.devdry.specs.Reading.{AreReadFor, FailsAt, IsFaultOf}
+use Rattle.devdry.specs.Reading.{AreReadFor, FailsAt, IsFaultOf, IsRefusedToRead}
 use Rattle.devdry.specs.Reporting.{ReportsLineFault}
 use Rattle.devdry.specs.Terminals.{shown_request}
 use Rattle.devdry.specs.declared.terminals.Terminals.{Terminals}
@@ -37,7 +37,7 @@ use Rattle.devdry.specs.declared.terminals.Terminals.{Terminals}
 pub record RunsRead (may : Answer → Type 0) (line : Line) (files : List SourceFile) (index : Option (List ℕ)) (status : ℕ) (before now : Streams) : Type 0 where
   pub notes : List ℕ
   pub are_notes : AreNotesOf may line files notes
-  pub over : RunsNoted notes (RunsOver line files index) status before now
+  pub over : RunsNoted notes (RunsFinding may line files index) status before now
 
 -- What the line asks for was read, and the line is run over that and the input.
 pub record RunsOverFiles (may : Answer → Type 0) (line : Line) (status : ℕ) (before now : Streams) : Type 0 where

@@ -3,11 +3,11 @@ ghost use Rattle.std.specs.Prelude.{IfErr, IfOk};
 ghost use Rattle.devdry.specs.Comparing.{AreFilesFor, AreReadForBoth, AreReadOfBoth, AreReported, AreReportedOnBoth, ComparesAfter, ComparesLines};
 ghost use Rattle.devdry.specs.Comparing.{ComparesSome, ComparesWanted, IsFaultOfBoth, IsFileFault};
 
+use crate::finding::compare_finding;
 use crate::reporting::report_read_fault;
 use crate::running::{Inputs, read_wanted};
 use devdry_files::{Disk, ReadFault, read_all, wanted};
 use devdry_folders::{ReadSome, Report, read_files_that_can, read_what_can, report_on_files};
-use engine_core::serve_compare;
 use engine_ends::{DeviceFault, Line, Sink, Source, hand_on, report_out_of_memory};
 use std::alloc::{AllocError, Global};
 use text_bytes::{Bytes, SourceFile};
@@ -63,7 +63,7 @@ fn compare_wanted<D: Disk, I: Source, W: Sink, E: Sink>(
         (record { input = I.shown input.new; out = W.shown output.new; err = E.shown error.new }) }
 {
     match read_both(alloc, disk, old, new) {
-        Ok(both) => compare_after(alloc, old, new, both, input, output, error),
+        Ok(both) => compare_after(alloc, disk, old, new, both, input, output, error),
         Err(fault) => report_read_fault(&fault, error),
     }
 }
@@ -83,14 +83,15 @@ fn compare_some<D: Disk, I: Source, W: Sink, E: Sink>(
         (record { input = I.shown input.new; out = W.shown output.new; err = E.shown error.new }) }
 {
     match read_some_of_both(alloc, disk, old, new) {
-        Ok(both) => compare_after(alloc, old, new, both, input, output, error),
+        Ok(both) => compare_after(alloc, disk, old, new, both, input, output, error),
         Err(_) => report_out_of_memory(error),
     }
 }
 
 /// Writes what is reported for the reading, and compares the answers of two lines over what was read.
-fn compare_after<I: Source, W: Sink, E: Sink>(
+fn compare_after<D: Disk, I: Source, W: Sink, E: Sink>(
     alloc: Global,
+    disk: &D,
     old: &Line<'_>,
     new: &Line<'_>,
     both: BothInputs,
@@ -98,7 +99,7 @@ fn compare_after<I: Source, W: Sink, E: Sink>(
     output: &mut W,
     error: &mut E,
 ) -> u8
-    ensures { ComparesAfter old.now new.now both.old.items both.new.items both.index both.report result
+    ensures { ComparesAfter (D.may_answer disk.now) old.now new.now both.old.items both.new.items both.index both.report result
         (record { input = I.shown input.old; out = W.shown output.old; err = E.shown error.old })
         (record { input = I.shown input.new; out = W.shown output.new; err = E.shown error.new }) }
 {
@@ -111,8 +112,8 @@ fn compare_after<I: Source, W: Sink, E: Sink>(
     match hand_on(error, &report.lines) {
         Ok(()) => {
             let index = index.as_ref().map(Bytes::as_slice);
-            let own = serve_compare(
-                alloc, old, new, old_files, new_files, index, input, output, error,
+            let own = compare_finding(
+                alloc, disk, old, new, old_files, new_files, index, input, output, error,
             );
             own.max(report.least)
         }

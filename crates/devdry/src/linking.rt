@@ -1,16 +1,16 @@
 //! Runs that name network interfaces by `.link` files.
 ghost use Rattle.std.specs.Prelude.{◌≡◌, ◌&&◌, [], IfOk};
-ghost use Rattle.devdry.specs.Linking.{HasLinks, ReadsBoth, ReadsLinks, ReadsRequest, RunsReported, names_links};
+ghost use Rattle.devdry.specs.Linking.{HasLinks, ReadsBoth, ReadsLinks, ReadsRequest, RunsReported};
 ghost use Rattle.devdry.specs.Runs.{DoesAfter, RunsLinking, takes_blocks};
 
 use crate::comparing::joined;
+use crate::finding::does_as_udev;
 use crate::running::run_request;
 use devdry_files::Disk;
 use devdry_folders::Report;
 use devdry_links::read_link_files;
-use engine_ends::{DeviceFault, Line, Request, Sink, Source, Verb, hand_on, report_out_of_memory};
+use engine_ends::{DeviceFault, Line, Request, Sink, Source, hand_on, report_out_of_memory};
 use std::alloc::{AllocError, Global};
-use text_bytes::Profile;
 
 /// Reads the `.link` files for a request, reports what can't be read of them, and runs the request by the rest.
 pub(crate) fn run_linking<D: Disk, I: Source, W: Sink, E: Sink>(
@@ -116,13 +116,6 @@ fn nothing(alloc: Global) -> Report
     }
 }
 
-/// Whether a line names interfaces by `.link` files.
-fn names_links(line: &Line<'_>) -> bool
-    ensures { result ≡ names_links line.now }
-{
-    line.verb == Verb::Events && line.profile == Profile::Udev
-}
-
 /// Reads the `.link` files for a line, if it names interfaces by them.
 fn read_line_links<D: Disk>(
     alloc: Global,
@@ -131,7 +124,7 @@ fn read_line_links<D: Disk>(
 ) -> Result<Report, AllocError>
     ensures { IfOk result (ReadsLinks (D.may_answer disk.now) line.old line.new) }
 {
-    if names_links(line) {
+    if does_as_udev(line) {
         take_links(alloc, disk, line)
     } else {
         Ok(nothing(alloc))

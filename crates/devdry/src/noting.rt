@@ -1,23 +1,24 @@
 //! Runs that tell about their files before they answer.
 ghost use Rattle.std.specs.Prelude.{◌≡◌, IfOk};
-ghost use Rattle.engine_core.specs.Runs.{RunsOver};
 ghost use Rattle.engine_ends.specs.Sinks.{SinkState};
 ghost use Rattle.engine_ends.specs.Sources.{SourceState};
+ghost use Rattle.devdry.specs.Finding.{RunsFinding};
 ghost use Rattle.devdry.specs.Noting.{AreNotesOf, IsHintAt, IsHintOn, IsNoteAt, IsRootSeen, IsThere, is_folder, note_if};
 ghost use Rattle.devdry.specs.PartialRuns.{RunsNoted};
 ghost use Rattle.devdry.specs.Reading.{FailsAt};
 
+use crate::finding::serve_finding;
 use crate::reporting::report_read_fault;
 use devdry_files::{Disk, Look, ReadFault};
 use devdry_notes::{asks_folder, asks_root, folder_note, notes_of};
-use engine_core::serve;
 use engine_ends::{DeviceFault, Line, Sink, Source, hand_on};
 use std::alloc::{AllocError, Global};
 use text_bytes::{Bytes, SourceFile};
 
 /// Runs a line over files and an index.
-fn serve_read<I: Source, W: Sink, E: Sink>(
+fn serve_read<D: Disk, I: Source, W: Sink, E: Sink>(
     alloc: Global,
+    disk: &D,
     line: &Line<'_>,
     files: Vec<SourceFile>,
     index: Option<Bytes>,
@@ -25,17 +26,18 @@ fn serve_read<I: Source, W: Sink, E: Sink>(
     output: &mut W,
     error: &mut E,
 ) -> u8
-    ensures { RunsOver line.now files.items index result
+    ensures { RunsFinding (D.may_answer disk.now) line.now files.items index result
         (record { input = I.shown input.old; out = W.shown output.old; err = E.shown error.old })
         (record { input = I.shown input.new; out = W.shown output.new; err = E.shown error.new }) }
 {
     let index = index.as_ref().map(Bytes::as_slice);
-    serve(alloc, line, files, index, input, output, error)
+    serve_finding(alloc, disk, line, files, index, input, output, error)
 }
 
 /// Writes notes, if there are any, and then runs a line over files and an index.
-pub(crate) fn serve_noted<I: Source, W: Sink, E: Sink>(
+pub(crate) fn serve_noted<D: Disk, I: Source, W: Sink, E: Sink>(
     alloc: Global,
+    disk: &D,
     line: &Line<'_>,
     files: Vec<SourceFile>,
     index: Option<Bytes>,
@@ -44,15 +46,15 @@ pub(crate) fn serve_noted<I: Source, W: Sink, E: Sink>(
     output: &mut W,
     error: &mut E,
 ) -> u8
-    ensures { RunsNoted notes.now (RunsOver line.now files.items index) result
+    ensures { RunsNoted notes.now (RunsFinding (D.may_answer disk.now) line.now files.items index) result
         (record { input = I.shown input.old; out = W.shown output.old; err = E.shown error.old })
         (record { input = I.shown input.new; out = W.shown output.new; err = E.shown error.new }) }
 {
     if notes.is_empty() {
-        serve_read(alloc, line, files, index, input, output, error)
+        serve_read(alloc, disk, line, files, index, input, output, error)
     } else {
         match hand_on(error, notes) {
-            Ok(()) => serve_read(alloc, line, files, index, input, output, error),
+            Ok(()) => serve_read(alloc, disk, line, files, index, input, output, error),
             Err(DeviceFault) => 3,
         }
     }

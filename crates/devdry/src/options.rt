@@ -4,7 +4,7 @@ ghost use Rattle.devdry_files.specs.Answers.Answer.{Content};
 ghost use Rattle.devdry_files.specs.FaultsAt.{fault_of};
 ghost use Rattle.devdry_words.specs.Options.{with_options};
 ghost use Rattle.devdry.specs.Options.{DoesByFile, IsFaultAt};
-ghost use Rattle.devdry.specs.PartialRuns.{IsRefusedToRead};
+ghost use Rattle.devdry.specs.Reading.{IsRefusedToRead};
 ghost use Rattle.devdry.specs.Runs.{Runs, RunsAlone, RunsWithFile};
 
 use crate::reporting::{report_options_fault, report_read_fault};

@@ -3,9 +3,10 @@
 //! What is reported for the reading is written first. Then the run is like any other, and its status is at least
 //! the one that the reading asks for.
 ghost use Rattle.std.specs.Prelude.{◌⊎◌};
-ghost use Rattle.engine_core.specs.Runs.{RunsOver};
 ghost use Rattle.engine_ends.specs.Sources.{SourceState};
-ghost use Rattle.devdry.specs.PartialRuns.{DeliversLines, IsRefusedToRead, ListsFiles, RunsAfter, RunsNoted, RunsSome, TellsSome};
+ghost use Rattle.devdry.specs.Finding.{RunsFinding};
+ghost use Rattle.devdry.specs.PartialRuns.{DeliversLines, ListsFiles, RunsAfter, RunsNoted, RunsSome, TellsSome};
+ghost use Rattle.devdry.specs.Reading.{IsRefusedToRead};
 
 use crate::noting::{notes_on, serve_noted};
 use devdry_files::Disk;
@@ -50,14 +51,15 @@ fn run_told<D: Disk, I: Source, W: Sink, E: Sink>(
         (record { input = I.shown input.new; out = W.shown output.new; err = E.shown error.new }) }
 {
     match notes_on(alloc, disk, line, &some.files) {
-        Ok(notes) => run_over(alloc, line, some, &notes, input, output, error),
+        Ok(notes) => run_over(alloc, disk, line, some, &notes, input, output, error),
         Err(_) => report_out_of_memory(error),
     }
 }
 
 /// Reports what could not be read, writes notes, and runs a line over what could be read.
-fn run_over<I: Source, W: Sink, E: Sink>(
+fn run_over<D: Disk, I: Source, W: Sink, E: Sink>(
     alloc: Global,
+    disk: &D,
     line: &Line<'_>,
     some: ReadSome,
     notes: &[u8],
@@ -66,7 +68,7 @@ fn run_over<I: Source, W: Sink, E: Sink>(
     error: &mut E,
 ) -> u8
     ensures { RunsAfter some.report.lines.items some.report.least
-        (RunsNoted notes.now (RunsOver line.now some.files.items some.index)) result
+        (RunsNoted notes.now (RunsFinding (D.may_answer disk.now) line.now some.files.items some.index)) result
         (record { input = I.shown input.old; out = W.shown output.old; err = E.shown error.old })
         (record { input = I.shown input.new; out = W.shown output.new; err = E.shown error.new }) }
 {
@@ -77,7 +79,7 @@ fn run_over<I: Source, W: Sink, E: Sink>(
     } = some;
     match hand_on(error, &report.lines) {
         Ok(()) => {
-            let own = serve_noted(alloc, line, files, index, notes, input, output, error);
+            let own = serve_noted(alloc, disk, line, files, index, notes, input, output, error);
             own.max(report.least)
         }
         Err(DeviceFault) => 3,

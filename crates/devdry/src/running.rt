@@ -2,8 +2,7 @@
 ghost use Rattle.std.specs.Prelude.{◌≡◌, ◌&&◌, ◌⊎◌, IfErr, IfOk, map, string_bytes};
 ghost use Rattle.engine_ends.specs.Sinks.{SinkState};
 ghost use Rattle.engine_ends.specs.Sources.{SourceState};
-ghost use Rattle.devdry.specs.PartialRuns.{IsRefusedToRead};
-ghost use Rattle.devdry.specs.Reading.{AreReadFor, IsFaultOf};
+ghost use Rattle.devdry.specs.Reading.{AreReadFor, IsFaultOf, IsRefusedToRead};
 ghost use Rattle.devdry.specs.Runs.{DoesAfter, DoesRequest, FailsWanted, RunsAlone, RunsBy, RunsLine, RunsRead, RunsWanted, takes_blocks};
 
 use crate::comparing::run_compare;
@@ -214,7 +213,7 @@ fn run_read<D: Disk, I: Source, W: Sink, E: Sink>(
 {
     let Inputs { files, index } = inputs;
     match notes_on(alloc, disk, line, &files) {
-        Ok(notes) => serve_noted(alloc, line, files, index, &notes, input, output, error),
+        Ok(notes) => serve_noted(alloc, disk, line, files, index, &notes, input, output, error),
         Err(_) => report_out_of_memory(error),
     }
 }

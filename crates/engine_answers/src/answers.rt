@@ -7,7 +7,7 @@ ghost use Rattle.eval_sources.specs.Sources.{source_in};
 use crate::front::{Nothing, push_source};
 use crate::items::push_items;
 use crate::lines::{push_note, push_run};
-use builtin_devices::Knowledge;
+use builtin_knowledge::Knowledge;
 use device_core::Event;
 use engine_ends::push_event;
 use eval_rules::{Commands, Outcome};

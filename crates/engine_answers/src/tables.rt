@@ -3,7 +3,7 @@ ghost use Rattle.std.specs.Prelude.{◌≡◌, IfOk};
 ghost use Rattle.engine_answers.specs.Answers.{answer_by};
 
 use crate::answers::answer;
-use builtin_devices::Knowledge;
+use builtin_knowledge::Knowledge;
 use device_core::Event;
 use engine_sessions::Answering;
 use eval_core::{Program, compile};

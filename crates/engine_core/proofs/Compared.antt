@@ -13,6 +13,7 @@ use Rattle.engine_reports.specs.declared.refusal.Refusal.TheVariants.{TooManyEnt
 use Rattle.rule_types.specs.Rules.{Rule}
 use Rattle.device_core.specs.Values.{EventValue}
 use Rattle.builtin_core.specs.Builtins.{Held, known_by}
+use Rattle.builtin_knowledge.specs.Knowledge.{FilesFound}
 use Rattle.engine_answers.specs.Answers.{answer_by}
 use Rattle.engine_sessions.specs.Findings.{FindsAll}
 use Rattle.engine_sessions.specs.Serves.{Serves}
@@ -22,12 +23,12 @@ use Rattle.engine_sessions.proofs.FindServing.{finds_serve}
 use Rattle.engine_compare.specs.Objects.{compared}
 use Rattle.engine_core.specs.Comparing.{ComparesBy, both_messages, compare_outcome, differences_by}
 
-pub compares_serve : (old_line new_line : Line) (old new : Result OpeningValue RunOutcome) (status : ℕ) (before now : Streams)
-    → ComparesBy old_line new_line old new status before now → Serves (compare_outcome old_line new_line old new) status before now
-compares_serve old_line new_line (Ok old) (Ok new) status before now r =
-    finds_serve (both_messages old.messages new.messages) (answers_as old_line.profile (differences_by old_line new_line old new)) status before now r
-compares_serve old_line new_line (Ok old) (Err said) status before now r = reports_serve (λ text. said) said status before now (λ text. refl) r
-compares_serve old_line new_line (Err said) new status before now r = reports_serve (λ text. said) said status before now (λ text. refl) r
+pub compares_serve : (old_line new_line : Line) (old_found new_found : FilesFound) (old new : Result OpeningValue RunOutcome) (status : ℕ) (before now : Streams)
+    → ComparesBy old_line new_line old_found new_found old new status before now → Serves (compare_outcome old_line new_line old_found new_found old new) status before now
+compares_serve old_line new_line old_found new_found (Ok old) (Ok new) status before now r =
+    finds_serve (both_messages old.messages new.messages) (answers_as old_line.profile (differences_by old_line new_line old_found new_found old new)) status before now r
+compares_serve old_line new_line old_found new_found (Ok old) (Err said) status before now r = reports_serve (λ text. said) said status before now (λ text. refl) r
+compares_serve old_line new_line old_found new_found (Err said) new status before now r = reports_serve (λ text. said) said status before now (λ text. refl) r
 
 -- what is delivered if one side can't be opened
 pub record Refuses (refusal : Refusal) (status : ℕ) (before now : Streams) : Type 0 where
@@ -37,29 +38,29 @@ pub record Refuses (refusal : Refusal) (status : ℕ) (before now : Streams) : T
   pub unread : now.input ≡ before.input
 
 -- the old side is refused
-pub old_refused : (old_line new_line : Line) (refusal : Refusal) (old new : Result OpeningValue RunOutcome) (status : ℕ) (before now : Streams)
-    → IsRefused refusal old → Refuses refusal status before now → ComparesBy old_line new_line old new status before now
-old_refused old_line new_line TooManyEntries old new status before now is r =
+pub old_refused : (old_line new_line : Line) (old_found new_found : FilesFound) (refusal : Refusal) (old new : Result OpeningValue RunOutcome) (status : ℕ) (before now : Streams)
+    → IsRefused refusal old → Refuses refusal status before now → ComparesBy old_line new_line old_found new_found old new status before now
+old_refused old_line new_line old_found new_found TooManyEntries old new status before now is r =
     rw is (record { delivers = r.delivers too_many_entries refl; faults = r.faults; unread = r.unread })
-old_refused old_line new_line TooManyRules old new status before now is r =
+old_refused old_line new_line old_found new_found TooManyRules old new status before now is r =
     rw is (record { delivers = r.delivers too_many_rules refl; faults = r.faults; unread = r.unread })
-old_refused old_line new_line (Index fault) old new status before now is r =
+old_refused old_line new_line old_found new_found (Index fault) old new status before now is r =
     rw is (record { delivers = r.delivers (refused_index fault) refl; faults = r.faults; unread = r.unread })
-old_refused old_line new_line Memory (Ok old) (Ok new) status before now is r =
+old_refused old_line new_line old_found new_found Memory (Ok old) (Ok new) status before now is r =
     inl (record { unread = r.unread; unanswered = (r.memory refl).1; reports = inr (r.memory refl).0 })
-old_refused old_line new_line Memory (Ok old) (Err said) status before now is r = record { delivers = r.delivers said tt; faults = r.faults; unread = r.unread }
-old_refused old_line new_line Memory (Err said) new status before now is r = record { delivers = r.delivers said tt; faults = r.faults; unread = r.unread }
+old_refused old_line new_line old_found new_found Memory (Ok old) (Err said) status before now is r = record { delivers = r.delivers said tt; faults = r.faults; unread = r.unread }
+old_refused old_line new_line old_found new_found Memory (Err said) new status before now is r = record { delivers = r.delivers said tt; faults = r.faults; unread = r.unread }
 
 -- the new side is refused, if the old one is not
-pub new_refused : (old_line new_line : Line) (refusal : Refusal) (old new : Result OpeningValue RunOutcome) (value : OpeningValue) (status : ℕ)
-    (before now : Streams) → old ≡ Ok value → IsRefused refusal new → Refuses refusal status before now → ComparesBy old_line new_line old new status before now
-new_refused old_line new_line TooManyEntries old new value status before now e is r =
+pub new_refused : (old_line new_line : Line) (old_found new_found : FilesFound) (refusal : Refusal) (old new : Result OpeningValue RunOutcome) (value : OpeningValue) (status : ℕ)
+    (before now : Streams) → old ≡ Ok value → IsRefused refusal new → Refuses refusal status before now → ComparesBy old_line new_line old_found new_found old new status before now
+new_refused old_line new_line old_found new_found TooManyEntries old new value status before now e is r =
     rw (e, is) (record { delivers = r.delivers too_many_entries refl; faults = r.faults; unread = r.unread })
-new_refused old_line new_line TooManyRules old new value status before now e is r =
+new_refused old_line new_line old_found new_found TooManyRules old new value status before now e is r =
     rw (e, is) (record { delivers = r.delivers too_many_rules refl; faults = r.faults; unread = r.unread })
-new_refused old_line new_line (Index fault) old new value status before now e is r =
+new_refused old_line new_line old_found new_found (Index fault) old new value status before now e is r =
     rw (e, is) (record { delivers = r.delivers (refused_index fault) refl; faults = r.faults; unread = r.unread })
-new_refused old_line new_line Memory old new value status before now e is r = old_refused old_line new_line Memory old new status before now tt r
+new_refused old_line new_line old_found new_found Memory old new value status before now e is r = old_refused old_line new_line old_found new_found Memory old new status before now tt r
 
 -- rules, and what the builtins hold
 abbrev pub Tables : Type 0

@@ -4,7 +4,7 @@ use Rattle.text_bytes.specs.declared.profile.Profile.{Profile}
 use Rattle.text_bytes.specs.declared.source_file.SourceFile.{SourceFile}
 use Rattle.text_tables.specs.Texts.{Text}
 use Rattle.hwdb_lookup.specs.declared.entry.Entry.{Entry}
-use Rattle.builtin_devices.specs.Knowledge.{Known}
+use Rattle.builtin_knowledge.specs.Knowledge.{FilesFound, Known}
 use Rattle.rule_types.specs.Rules.{Rule}
 use Rattle.device_core.specs.Values.{EventValue}
 use Rattle.engine_ends.specs.declared.line.Line.{Line}
@@ -40,32 +40,32 @@ saying_serve : (unused : Bool) (messages : Text) (answer : EventValue → Text) 
 saying_serve true messages answer says status before now r = said_serve messages answer says status before now r
 saying_serve false messages answer says status before now r = answers_serve messages answer status before now r
 
-runs_serve : (line : Line) (opened : Result OpeningValue RunOutcome) (status : ℕ) (before now : Streams) → RunsBy line opened status before now → Serves (outcome_by line opened) status before now
-runs_serve line (Ok opening) status before now r = saying_serve line.unused opening.messages (answer_with line opening) (unused_of line opening) status before now r
-runs_serve line (Err said) status before now r = reports_serve (λ text. said) said status before now (λ text. refl) r
+runs_serve : (line : Line) (found : FilesFound) (opened : Result OpeningValue RunOutcome) (status : ℕ) (before now : Streams) → RunsBy line found opened status before now → Serves (outcome_by line found opened) status before now
+runs_serve line found (Ok opening) status before now r = saying_serve line.unused opening.messages (answer_with line found opening) (unused_of line found opening) status before now r
+runs_serve line found (Err said) status before now r = reports_serve (λ text. said) said status before now (λ text. refl) r
 
 lookups_serve : (line : Line) (read : Result DatabaseValue RunOutcome) (status : ℕ) (before now : Streams) → LooksUpBy line read status before now → Serves (lookups_by line read) status before now
 lookups_serve line (Ok database) status before now r = r.serves
 lookups_serve line (Err said) status before now r = reports_serve (λ text. said) said status before now (λ text. refl) r
 
 -- a run that looks up the modaliases of its input serves
-pub look_ups_serve : (line : Line) (files : List SourceFile) (opened : Option (Result Contents IndexFault)) (status : ℕ) (before now : Streams) → reads_modaliases line ≡ true → LooksUpBy line (database line files opened) status before now
-    → Serves (outcome line files opened) status before now
-look_ups_serve line files opened status before now e r =
-    subst (λ (v : Bool). Serves (λ input. cond v (lookups_by line (database line files opened) input) (outcome_by line (before_input line.verb line files opened) input)) status before now) (sym e)
+pub look_ups_serve : (line : Line) (files : List SourceFile) (found : FilesFound) (opened : Option (Result Contents IndexFault)) (status : ℕ) (before now : Streams) → reads_modaliases line ≡ true → LooksUpBy line (database line files opened) status before now
+    → Serves (outcome line files found opened) status before now
+look_ups_serve line files found opened status before now e r =
+    subst (λ (v : Bool). Serves (λ input. cond v (lookups_by line (database line files opened) input) (outcome_by line found (before_input line.verb line files opened) input)) status before now) (sym e)
     (lookups_serve line (database line files opened) status before now r)
 
 -- any other run serves
-pub others_serve : (line : Line) (files : List SourceFile) (opened : Option (Result Contents IndexFault)) (status : ℕ) (before now : Streams) → reads_modaliases line ≡ false → RunsBy line (before_input line.verb line files opened) status before now
-    → Serves (outcome line files opened) status before now
-others_serve line files opened status before now e r =
-    subst (λ (v : Bool). Serves (λ input. cond v (lookups_by line (database line files opened) input) (outcome_by line (before_input line.verb line files opened) input)) status before now) (sym e)
-    (runs_serve line (before_input line.verb line files opened) status before now r)
+pub others_serve : (line : Line) (files : List SourceFile) (found : FilesFound) (opened : Option (Result Contents IndexFault)) (status : ℕ) (before now : Streams) → reads_modaliases line ≡ false → RunsBy line found (before_input line.verb line files opened) status before now
+    → Serves (outcome line files found opened) status before now
+others_serve line files found opened status before now e r =
+    subst (λ (v : Bool). Serves (λ input. cond v (lookups_by line (database line files opened) input) (outcome_by line found (before_input line.verb line files opened) input)) status before now) (sym e)
+    (runs_serve line found (before_input line.verb line files opened) status before now r)
 
 -- what is said without a look at the input
-pub report_runs : (line : Line) (begun : Result OpeningValue RunOutcome) (said : RunOutcome) (report : Result Report Refusal) (status : ℕ) (before now : Streams) → begun ≡ Err said → ((outcome : RunOutcome) → IsReport outcome report → Delivers outcome status (outputs before) (outputs now))
-    → ReportsFaults status (outputs before) (outputs now) → IsReport said report → now.input ≡ before.input → RunsBy line begun status before now
-report_runs line begun said report status before now e delivers faults is unread = rw e (record { delivers = delivers said is; faults = faults; unread = unread })
+pub report_runs : (line : Line) (found : FilesFound) (begun : Result OpeningValue RunOutcome) (said : RunOutcome) (report : Result Report Refusal) (status : ℕ) (before now : Streams) → begun ≡ Err said → ((outcome : RunOutcome) → IsReport outcome report → Delivers outcome status (outputs before) (outputs now))
+    → ReportsFaults status (outputs before) (outputs now) → IsReport said report → now.input ≡ before.input → RunsBy line found begun status before now
+report_runs line found begun said report status before now e delivers faults is unread = rw e (record { delivers = delivers said is; faults = faults; unread = unread })
 
 -- nothing is answered
 pub stopped : (unused : Bool) (messages : Text) (answer : EventValue → Text) (says : Text → Text) (status : ℕ) (before now : Streams) → StopsBefore messages status before now → AnswersSaying unused messages answer says status before now
@@ -73,15 +73,15 @@ stopped true messages answer says status before now s = inl s
 stopped false messages answer says status before now s = inl s
 
 -- what there is to say if events can't be answered
-pub refused_runs : (line : Line) (refusal : Refusal) (opened : Result OpeningValue RunOutcome) (status : ℕ) (before now : Streams) → IsRefused refusal opened
+pub refused_runs : (line : Line) (found : FilesFound) (refusal : Refusal) (opened : Result OpeningValue RunOutcome) (status : ℕ) (before now : Streams) → IsRefused refusal opened
     → ((outcome : RunOutcome) → IsSaid refusal outcome → Delivers outcome status (outputs before) (outputs now)) → ReportsFaults status (outputs before) (outputs now)
-    → (refusal ≡ Memory → ReportsFailure out_of_memory 4 status before.err now.err × (now.out ≡ before.out)) → now.input ≡ before.input → RunsBy line opened status before now
-refused_runs line TooManyEntries opened status before now is delivers faults memory unread = rw is (record { delivers = delivers too_many_entries refl; faults = faults; unread = unread })
-refused_runs line TooManyRules opened status before now is delivers faults memory unread = rw is (record { delivers = delivers too_many_rules refl; faults = faults; unread = unread })
-refused_runs line (Index fault) opened status before now is delivers faults memory unread = rw is (record { delivers = delivers (refused_index fault) refl; faults = faults; unread = unread })
-refused_runs line Memory (Ok opening) status before now is delivers faults memory unread =
-    stopped line.unused opening.messages (answer_with line opening) (unused_of line opening) status before now (record { unread = unread; unanswered = (memory refl).1; reports = inr (memory refl).0 })
-refused_runs line Memory (Err said) status before now is delivers faults memory unread = record { delivers = delivers said tt; faults = faults; unread = unread }
+    → (refusal ≡ Memory → ReportsFailure out_of_memory 4 status before.err now.err × (now.out ≡ before.out)) → now.input ≡ before.input → RunsBy line found opened status before now
+refused_runs line found TooManyEntries opened status before now is delivers faults memory unread = rw is (record { delivers = delivers too_many_entries refl; faults = faults; unread = unread })
+refused_runs line found TooManyRules opened status before now is delivers faults memory unread = rw is (record { delivers = delivers too_many_rules refl; faults = faults; unread = unread })
+refused_runs line found (Index fault) opened status before now is delivers faults memory unread = rw is (record { delivers = delivers (refused_index fault) refl; faults = faults; unread = unread })
+refused_runs line found Memory (Ok opening) status before now is delivers faults memory unread =
+    stopped line.unused opening.messages (answer_with line found opening) (unused_of line found opening) status before now (record { unread = unread; unanswered = (memory refl).1; reports = inr (memory refl).0 })
+refused_runs line found Memory (Err said) status before now is delivers faults memory unread = record { delivers = delivers said tt; faults = faults; unread = unread }
 
 -- what refuses an opening is said whatever is asked for
 pub asked_refused : (refusal : Refusal) (why : List Text) (opened : Result OpeningValue RunOutcome) → IsRefused refusal opened → IsRefused refusal (asked_of why opened)
@@ -91,11 +91,11 @@ asked_refused (Index fault) why opened is = ap (asked_of why) is
 asked_refused Memory why opened is = tt
 
 -- events that are answered by what the line asks for are answered as it asks, and what is said is what it asks for
-answered_runs : (line : Line) (opening : OpeningValue) (messages : Text) (answer : EventValue → Text) (says : Text → Text) (status : ℕ) (before now : Streams) → messages ≡ opening.messages → answer ≡ answer_by_line line opening → says ≡ unused_of line opening
-    → AnswersSaying line.unused messages (answers_as line.profile answer) says status before now → AnswersSaying line.unused opening.messages (answer_with line opening) (unused_of line opening) status before now
-answered_runs line opening messages answer says status before now m a u h =
-    subst (λ t. AnswersSaying line.unused t (answer_with line opening) (unused_of line opening) status before now) m
-    (subst (λ (f : EventValue → Text). AnswersSaying line.unused messages (answers_as line.profile f) (unused_of line opening) status before now) a
+answered_runs : (line : Line) (found : FilesFound) (opening : OpeningValue) (messages : Text) (answer : EventValue → Text) (says : Text → Text) (status : ℕ) (before now : Streams) → messages ≡ opening.messages → answer ≡ answer_by_line line found opening → says ≡ unused_of line found opening
+    → AnswersSaying line.unused messages (answers_as line.profile answer) says status before now → AnswersSaying line.unused opening.messages (answer_with line found opening) (unused_of line found opening) status before now
+answered_runs line found opening messages answer says status before now m a u h =
+    subst (λ t. AnswersSaying line.unused t (answer_with line found opening) (unused_of line found opening) status before now) m
+    (subst (λ (f : EventValue → Text). AnswersSaying line.unused messages (answers_as line.profile f) (unused_of line found opening) status before now) a
     (subst (λ (f : Text → Text). AnswersSaying line.unused messages (answers_as line.profile answer) f status before now) u h))
 
 -- what is said by rules and what is known
@@ -103,41 +103,41 @@ abbrev said_by : Line → List Rule → Held → Text → Text
 said_by line rules held text = unused_lines (added_of line) rules (known_by held) (events_of line.profile text)
 
 -- a line that asks for questions is answered with these
-pub asked_runs : (line : Line) (opening : OpeningValue) (messages : Text) (tables : List Rule × Held) (rules : List Rule) (held : Held) (status : ℕ) (before now : Streams) → line.questions ≡ true → messages ≡ opening.messages
-    → tables ≡ (opening.rules, record { links = line.links.items; entries = opening.entries }) → rules ≡ tables.0 → held ≡ tables.1
+pub asked_runs : (line : Line) (found : FilesFound) (opening : OpeningValue) (messages : Text) (tables : List Rule × Held) (rules : List Rule) (held : Held) (status : ℕ) (before now : Streams) → line.questions ≡ true → messages ≡ opening.messages
+    → tables ≡ (opening.rules, record { links = line.links.items; files = found; entries = opening.entries }) → rules ≡ tables.0 → held ≡ tables.1
     → AnswersSaying line.unused messages (answers_as line.profile (question_answer tables.0 (known_by tables.1))) (said_by line rules held) status before now
-    → AnswersSaying line.unused opening.messages (answer_with line opening) (unused_of line opening) status before now
-asked_runs line opening messages tables rules held status before now q m t r k h =
-    let other : EventValue → Text = cond (asks_more line) (reported_by (reported_for line opening) (known_for line opening)) (answer_by opening.rules (known_for line opening)) in
-    answered_runs line opening messages (question_answer tables.0 (known_by tables.1)) (said_by line rules held) status before now m
-    (ap (λ (t : List Rule × Held). question_answer t.0 (known_by t.1)) t ∙ ap (λ b. cond b (question_answer opening.rules (known_for line opening)) other) (sym q))
+    → AnswersSaying line.unused opening.messages (answer_with line found opening) (unused_of line found opening) status before now
+asked_runs line found opening messages tables rules held status before now q m t r k h =
+    let other : EventValue → Text = cond (asks_more line) (reported_by (reported_for line opening) (known_for line found opening)) (answer_by opening.rules (known_for line found opening)) in
+    answered_runs line found opening messages (question_answer tables.0 (known_by tables.1)) (said_by line rules held) status before now m
+    (ap (λ (t : List Rule × Held). question_answer t.0 (known_by t.1)) t ∙ ap (λ b. cond b (question_answer opening.rules (known_for line found opening)) other) (sym q))
     (ap (λ x. said_by line x held) r ∙ ap (said_by line tables.0) k ∙ ap (λ (t : List Rule × Held). said_by line t.0 t.1) t) h
 
 -- a line that asks for more is answered with that
-pub reported_runs : (line : Line) (opening : OpeningValue) (messages : Text) (tables : ReportedValue × Held) (rules : List Rule) (held : Held) (status : ℕ) (before now : Streams) → line.questions ≡ false → asks_more line ≡ true → messages ≡ opening.messages
-    → tables ≡ (reported_for line opening, record { links = line.links.items; entries = opening.entries }) → rules ≡ tables.0.rules → held ≡ tables.1
+pub reported_runs : (line : Line) (found : FilesFound) (opening : OpeningValue) (messages : Text) (tables : ReportedValue × Held) (rules : List Rule) (held : Held) (status : ℕ) (before now : Streams) → line.questions ≡ false → asks_more line ≡ true → messages ≡ opening.messages
+    → tables ≡ (reported_for line opening, record { links = line.links.items; files = found; entries = opening.entries }) → rules ≡ tables.0.rules → held ≡ tables.1
     → AnswersSaying line.unused messages (answers_as line.profile (reported_by tables.0 (known_by tables.1))) (said_by line rules held) status before now
-    → AnswersSaying line.unused opening.messages (answer_with line opening) (unused_of line opening) status before now
-reported_runs line opening messages tables rules held status before now q a m t r k h =
-    let asked : EventValue → Text = question_answer opening.rules (known_for line opening) in
-    let more : EventValue → Text = reported_by (reported_for line opening) (known_for line opening) in
-    let alone : EventValue → Text = answer_by opening.rules (known_for line opening) in
-    answered_runs line opening messages (reported_by tables.0 (known_by tables.1)) (said_by line rules held) status before now m
+    → AnswersSaying line.unused opening.messages (answer_with line found opening) (unused_of line found opening) status before now
+reported_runs line found opening messages tables rules held status before now q a m t r k h =
+    let asked : EventValue → Text = question_answer opening.rules (known_for line found opening) in
+    let more : EventValue → Text = reported_by (reported_for line opening) (known_for line found opening) in
+    let alone : EventValue → Text = answer_by opening.rules (known_for line found opening) in
+    answered_runs line found opening messages (reported_by tables.0 (known_by tables.1)) (said_by line rules held) status before now m
     (ap (λ (t : ReportedValue × Held). reported_by t.0 (known_by t.1)) t
     ∙ ap (λ b. cond b more alone) (sym a)
     ∙ ap (λ b. cond b asked (cond (asks_more line) more alone)) (sym q))
     (ap (λ x. said_by line x held) r ∙ ap (said_by line tables.0.rules) k ∙ ap (λ (t : ReportedValue × Held). said_by line t.0.rules t.1) t) h
 
 -- any other line is answered alone
-pub alone_runs : (line : Line) (opening : OpeningValue) (messages : Text) (tables : List Rule × Held) (rules : List Rule) (held : Held) (status : ℕ) (before now : Streams) → line.questions ≡ false → asks_more line ≡ false → messages ≡ opening.messages
-    → tables ≡ (opening.rules, record { links = line.links.items; entries = opening.entries }) → rules ≡ tables.0 → held ≡ tables.1
+pub alone_runs : (line : Line) (found : FilesFound) (opening : OpeningValue) (messages : Text) (tables : List Rule × Held) (rules : List Rule) (held : Held) (status : ℕ) (before now : Streams) → line.questions ≡ false → asks_more line ≡ false → messages ≡ opening.messages
+    → tables ≡ (opening.rules, record { links = line.links.items; files = found; entries = opening.entries }) → rules ≡ tables.0 → held ≡ tables.1
     → AnswersSaying line.unused messages (answers_as line.profile (answer_by tables.0 (known_by tables.1))) (said_by line rules held) status before now
-    → AnswersSaying line.unused opening.messages (answer_with line opening) (unused_of line opening) status before now
-alone_runs line opening messages tables rules held status before now q a m t r k h =
-    let asked : EventValue → Text = question_answer opening.rules (known_for line opening) in
-    let more : EventValue → Text = reported_by (reported_for line opening) (known_for line opening) in
-    let alone : EventValue → Text = answer_by opening.rules (known_for line opening) in
-    answered_runs line opening messages (answer_by tables.0 (known_by tables.1)) (said_by line rules held) status before now m
+    → AnswersSaying line.unused opening.messages (answer_with line found opening) (unused_of line found opening) status before now
+alone_runs line found opening messages tables rules held status before now q a m t r k h =
+    let asked : EventValue → Text = question_answer opening.rules (known_for line found opening) in
+    let more : EventValue → Text = reported_by (reported_for line opening) (known_for line found opening) in
+    let alone : EventValue → Text = answer_by opening.rules (known_for line found opening) in
+    answered_runs line found opening messages (answer_by tables.0 (known_by tables.1)) (said_by line rules held) status before now m
     (ap (λ (t : List Rule × Held). answer_by t.0 (known_by t.1)) t
     ∙ ap (λ b. cond b more alone) (sym a)
     ∙ ap (λ b. cond b asked (cond (asks_more line) more alone)) (sym q))

@@ -1,11 +1,12 @@
--- What a comparison says: its outcome, as a function of the two command lines, the files passed in for each, the
--- outcome of opening an index, and the input.
+-- What a comparison says: its outcome, as a function of the two command lines, the files passed in and what was found at
+-- paths of the root for each, the outcome of opening an index, and the input.
 use Rattle.std.specs.Prelude.{ℕ, List, ◌++◌, Option, Result, Ok, Err, codes}
 use Rattle.text_bytes.specs.declared.source_file.SourceFile.{SourceFile}
 use Rattle.text_tables.specs.Texts.{Text}
 use Rattle.index_reading.specs.declared.fault.IndexFault.{IndexFault}
 use Rattle.index_reading.specs.Contents.{Contents}
 use Rattle.device_core.specs.Values.{EventValue}
+use Rattle.builtin_knowledge.specs.Knowledge.{FilesFound}
 use Rattle.engine_answers.specs.Answers.{answer_by}
 use Rattle.engine_core.specs.Outcomes.{is_json, known_for}
 use Rattle.engine_ends.specs.declared.line.Line.{Line}
@@ -21,37 +22,37 @@ use Rattle.engine_compare.specs.Differences.{marked_text}
 use Rattle.engine_compare.specs.Objects.{compared}
 
 -- what appears and disappears between the answers to an event by two lines and their openings, in the old line's format
-abbrev pub differences_by : (old_line new_line : Line) → (old new : OpeningValue) → EventValue → Text
-differences_by old_line new_line old new event =
-    compared (is_json old_line.format) event (answer_by old.rules (known_for old_line old) event) (answer_by new.rules (known_for new_line new) event)
+abbrev pub differences_by : (old_line new_line : Line) → (old_found new_found : FilesFound) → (old new : OpeningValue) → EventValue → Text
+differences_by old_line new_line old_found new_found old new event =
+    compared (is_json old_line.format) event (answer_by old.rules (known_for old_line old_found old) event) (answer_by new.rules (known_for new_line new_found new) event)
 
 -- the messages about both sides: those about the old rules, each line after `[OLD] `, and then those about the new ones, each
 -- after `[NEW] `
 abbrev pub both_messages : Text → Text → Text
 both_messages old new = marked_text (codes "[OLD] ") old ++ marked_text (codes "[NEW] ") new
 
--- The outcome of a comparison over an input, by the two lines and the opening of both sides: rules are evaluated by the
--- old line's profile, and differences are in its format. It is the messages about the old and then about the new rules,
--- and for each block of the input what appears and disappears, which is a finding. If one side can't be opened, what is
--- said about that, about the old one first.
-abbrev pub compare_outcome : (old_line new_line : Line) → Result OpeningValue RunOutcome → Result OpeningValue RunOutcome → Text → RunOutcome
-compare_outcome old_line new_line (Ok old) (Ok new) input =
-    found (input_outcome (both_messages old.messages new.messages) (answers_as old_line.profile (differences_by old_line new_line old new)) input)
-compare_outcome old_line new_line (Ok old) (Err said) input = said
-compare_outcome old_line new_line (Err said) new input = said
+-- The outcome of a comparison over an input, by the two lines, what was found and the opening of both sides: rules are
+-- evaluated by the old line's profile, and differences are in its format. It is the messages about the old and then about
+-- the new rules, and for each block of the input what appears and disappears, which is a finding. If one side can't be
+-- opened, what is said about that, about the old one first.
+abbrev pub compare_outcome : (old_line new_line : Line) → (old_found new_found : FilesFound) → Result OpeningValue RunOutcome → Result OpeningValue RunOutcome → Text → RunOutcome
+compare_outcome old_line new_line old_found new_found (Ok old) (Ok new) input =
+    found (input_outcome (both_messages old.messages new.messages) (answers_as old_line.profile (differences_by old_line new_line old_found new_found old new)) input)
+compare_outcome old_line new_line old_found new_found (Ok old) (Err said) input = said
+compare_outcome old_line new_line old_found new_found (Err said) new input = said
 
--- a comparison step by step, by the two lines and the opening of both sides
-abbrev pub ComparesBy : (old_line new_line : Line) → Result OpeningValue RunOutcome → Result OpeningValue RunOutcome → ℕ → Streams → Streams → Type 0
-ComparesBy old_line new_line (Ok old) (Ok new) status before now =
-    FindsAll (both_messages old.messages new.messages) (answers_as old_line.profile (differences_by old_line new_line old new)) status before now
-ComparesBy old_line new_line (Ok old) (Err said) status before now = Reports said status before now
-ComparesBy old_line new_line (Err said) new status before now = Reports said status before now
+-- a comparison step by step, by the two lines, what was found and the opening of both sides
+abbrev pub ComparesBy : (old_line new_line : Line) → (old_found new_found : FilesFound) → Result OpeningValue RunOutcome → Result OpeningValue RunOutcome → ℕ → Streams → Streams → Type 0
+ComparesBy old_line new_line old_found new_found (Ok old) (Ok new) status before now =
+    FindsAll (both_messages old.messages new.messages) (answers_as old_line.profile (differences_by old_line new_line old_found new_found old new)) status before now
+ComparesBy old_line new_line old_found new_found (Ok old) (Err said) status before now = Reports said status before now
+ComparesBy old_line new_line old_found new_found (Err said) new status before now = Reports said status before now
 
 -- A comparison with the outcome of opening the index, by the old line's profile: what is written and returned is one
--- function of the two lines, the files of each, the index and the input; and the same step by step.
-pub record ComparesOver (old_line new_line : Line) (old_files new_files : List SourceFile) (index : Option Text) (status : ℕ)
+-- function of the two lines, the files of each and what was found for each, the index and the input; and the same step by step.
+pub record ComparesOver (old_line new_line : Line) (old_files new_files : List SourceFile) (old_found new_found : FilesFound) (index : Option Text) (status : ℕ)
     (before now : Streams) : Type 0 where
   pub opened : Option (Result Contents IndexFault)
   pub opens : Opens index opened
-  pub serves : Serves (compare_outcome old_line new_line (opening old_line old_files opened) (opening new_line new_files opened)) status before now
-  pub steps : ComparesBy old_line new_line (opening old_line old_files opened) (opening new_line new_files opened) status before now
+  pub serves : Serves (compare_outcome old_line new_line old_found new_found (opening old_line old_files opened) (opening new_line new_files opened)) status before now
+  pub steps : ComparesBy old_line new_line old_found new_found (opening old_line old_files opened) (opening new_line new_files opened) status before now

@@ -1,5 +1,5 @@
--- What a run says: its outcome, as a function of the command line, of the files passed in, of the outcome of opening
--- an index and of the input.
+-- What a run says: its outcome, as a function of the command line, of the files passed in, of what was found at paths of
+-- the root, of the outcome of opening an index and of the input.
 use Rattle.std.specs.Prelude.{Bool, true, false, not, ◌||◌, ◌&&◌, ◌==◌, if◌then◌else◌, List, codes, map, Option, Some, None, Result, Ok, Err, vec_len}
 use Rattle.std.specs.Str.{bytes_eq}
 use Rattle.text_tables.specs.Texts.{Text}
@@ -18,7 +18,7 @@ use Rattle.engine_reports.specs.Databases.{database}
 use Rattle.engine_reports.specs.Openings.{OpeningValue, opening}
 use Rattle.engine_reports.specs.Outcomes.{query_over, usage_error}
 use Rattle.builtin_core.specs.Builtins.{known_by}
-use Rattle.builtin_devices.specs.Knowledge.{Known}
+use Rattle.builtin_knowledge.specs.Knowledge.{FilesFound, Known}
 use Rattle.engine_answers.specs.Answers.{answer_by}
 use Rattle.engine_courses.specs.Asked.{unknown}
 use Rattle.engine_core.specs.Checking.{update_said, verify_said}
@@ -33,9 +33,10 @@ use Rattle.engine_unused.specs.Unused.{unused_lines}
 abbrev pub why_of : Line → List Text
 why_of line = map (λ w. w.now) line.why.items
 
--- what is known beyond an event, by the .link files of a line and the database of its opening
-abbrev pub known_for : Line → OpeningValue → Known
-known_for line opening = known_by (record { links = line.links.items; entries = opening.entries })
+-- what is known beyond an event, by the .link files of a line, what was found at paths of the root, and the database of the
+-- line's opening
+abbrev pub known_for : Line → FilesFound → OpeningValue → Known
+known_for line found opening = known_by (record { links = line.links.items; files = found; entries = opening.entries })
 
 -- whether answers are objects of JSON
 abbrev pub is_json : Format → Bool
@@ -58,23 +59,23 @@ asks_more line = (line.sources || not (vec_len line.why == 0)) || is_json line.f
 
 -- the answer to an event by what an opening has: the questions of the rules if the line asks for these, otherwise the
 -- outcome of the event with what else the line asks for
-abbrev pub answer_by_line : Line → OpeningValue → EventValue → Text
-answer_by_line line opening =
-    let known = known_for line opening in
+abbrev pub answer_by_line : Line → FilesFound → OpeningValue → EventValue → Text
+answer_by_line line found opening =
+    let known = known_for line found opening in
     if line.questions then question_answer opening.rules known
     else (if asks_more line then reported_by (reported_for line opening) known else answer_by opening.rules known)
 
 -- the same, with rules evaluated by the line's profile
-abbrev pub answer_with : Line → OpeningValue → EventValue → Text
-answer_with line opening = answers_as line.profile (answer_by_line line opening)
+abbrev pub answer_with : Line → FilesFound → OpeningValue → EventValue → Text
+answer_with line found opening = answers_as line.profile (answer_by_line line found opening)
 
 -- the files that a line adds to those of the folders
 abbrev pub added_of : Line → List Text
 added_of line = map (λ f. f.now) line.added.items
 
 -- what is said about the rules of an opening after the answers to an input: which of them no event of it met
-abbrev pub unused_of : Line → OpeningValue → Text → Text
-unused_of line opening input = unused_lines (added_of line) opening.rules (known_for line opening) (events_of line.profile input)
+abbrev pub unused_of : Line → FilesFound → OpeningValue → Text → Text
+unused_of line found opening input = unused_lines (added_of line) opening.rules (known_for line found opening) (events_of line.profile input)
 
 -- an opening, or what is said instead if the line asks for a rule that is not there
 abbrev pub opening_unless : Option Text → OpeningValue → Result OpeningValue RunOutcome
@@ -101,9 +102,9 @@ outcome_saying false messages answer says input = input_outcome messages answer 
 
 -- the outcome of a run over an input: the messages of its opening and the answers to the blocks of the input, with the
 -- rules that are unused after them if the line asks for that; or what is said without looking at the input
-abbrev pub outcome_by : Line → Result OpeningValue RunOutcome → Text → RunOutcome
-outcome_by line (Ok opening) input = outcome_saying line.unused opening.messages (answer_with line opening) (unused_of line opening) input
-outcome_by line (Err said) input = said
+abbrev pub outcome_by : Line → FilesFound → Result OpeningValue RunOutcome → Text → RunOutcome
+outcome_by line found (Ok opening) input = outcome_saying line.unused opening.messages (answer_with line found opening) (unused_of line found opening) input
+outcome_by line found (Err said) input = said
 
 -- whether a verb is `query`
 abbrev pub is_query : Verb → Bool
@@ -114,8 +115,9 @@ is_query _ = false
 abbrev pub reads_modaliases : Line → Bool
 reads_modaliases line = is_query line.verb && bytes_eq line.modalias.now (codes "-")
 
--- the outcome of a run over the files passed in, the outcome of opening an index and an input
-abbrev pub outcome : Line → List SourceFile → Option (Result Contents IndexFault) → Text → RunOutcome
-outcome line files opened input =
+-- the outcome of a run over the files passed in, what was found at paths of the root, the outcome of opening an index and an
+-- input
+abbrev pub outcome : Line → List SourceFile → FilesFound → Option (Result Contents IndexFault) → Text → RunOutcome
+outcome line files found opened input =
     if reads_modaliases line then lookups_by line (database line files opened) input
-    else outcome_by line (before_input line.verb line files opened) input
+    else outcome_by line found (before_input line.verb line files opened) input

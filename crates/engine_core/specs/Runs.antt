@@ -4,6 +4,7 @@ use Rattle.text_bytes.specs.declared.source_file.SourceFile.{SourceFile}
 use Rattle.text_tables.specs.Texts.{Text}
 use Rattle.index_reading.specs.declared.fault.IndexFault.{IndexFault}
 use Rattle.index_reading.specs.Contents.{Contents}
+use Rattle.builtin_knowledge.specs.Knowledge.{FilesFound}
 use Rattle.engine_ends.specs.declared.line.Line.{Line}
 use Rattle.engine_ends.specs.Streams.{Streams}
 use Rattle.engine_ends.specs.Delivery.{RunOutcome}
@@ -22,15 +23,17 @@ AnswersSaying true messages answer says status before now = SaysAll messages ans
 AnswersSaying false messages answer says status before now = AnswersAll messages answer status before now
 
 -- a run of a line, by its outcome before it looks at its input
-abbrev pub RunsBy : Line → Result OpeningValue RunOutcome → ℕ → Streams → Streams → Type 0
-RunsBy line (Ok opening) status before now = AnswersSaying line.unused opening.messages (answer_with line opening) (unused_of line opening) status before now
-RunsBy line (Err said) status before now = Reports said status before now
+abbrev pub RunsBy : Line → FilesFound → Result OpeningValue RunOutcome → ℕ → Streams → Streams → Type 0
+RunsBy line found (Ok opening) status before now = AnswersSaying line.unused opening.messages (answer_with line found opening) (unused_of line found opening) status before now
+RunsBy line found (Err said) status before now = Reports said status before now
 
 -- A run over the outcome of opening its index: what is written and answered is one function of the line, the files,
--- the index and the input, also step by step, whether it looks up the modaliases of its input or not.
-pub record RunsOver (line : Line) (files : List SourceFile) (index : Option Text) (status : ℕ) (before now : Streams) : Type 0 where
+-- what was found at paths of the root, the index and the input, also step by step, whether it looks up the modaliases of its
+-- input or not.
+pub record RunsOver (line : Line) (files : List SourceFile) (found : FilesFound) (index : Option Text) (status : ℕ)
+    (before now : Streams) : Type 0 where
   pub opened : Option (Result Contents IndexFault)
   pub opens : Opens index opened
-  pub serves : Serves (outcome line files opened) status before now
+  pub serves : Serves (outcome line files found opened) status before now
   pub looks_up : reads_modaliases line ≡ true → LooksUpBy line (database line files opened) status before now
-  pub runs : reads_modaliases line ≡ false → RunsBy line (before_input line.verb line files opened) status before now
+  pub runs : reads_modaliases line ≡ false → RunsBy line found (before_input line.verb line files opened) status before now

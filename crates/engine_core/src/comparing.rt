@@ -11,6 +11,7 @@ ghost use Rattle.engine_sessions.specs.Sessions.{answers_as};
 use crate::events::is_json;
 use crate::shared::Shared;
 use builtin_core::Builtins;
+use builtin_knowledge::RootFiles;
 use engine_answers::Tables;
 use engine_compare::{Compared, marked};
 use engine_ends::{Line, Sink, Source, report_out_of_memory};
@@ -27,7 +28,8 @@ use text_bytes::SourceFile;
 /// returns the status to exit with.
 ///
 /// The files of each side are those passed in for its line, taken and read as `events` does; rules are evaluated by
-/// the profile of the old line, which is that of the new one if a command line made both. Messages about the old
+/// the profile of the old line, which is that of the new one if a command line made both, and what was found at paths of
+/// each root is passed in. Messages about the old
 /// rules go to `error`, each after `[OLD] `, and then those about the new ones, each after `[NEW] `; to `output`, for
 /// each block of `input` whose answers differ, what appears and disappears, in the old line's format, written and flushed
 /// before the next read.
@@ -42,20 +44,23 @@ pub fn serve_compare<R: Source, W: Sink, E: Sink>(
     new_line: &Line<'_>,
     old_files: Vec<SourceFile>,
     new_files: Vec<SourceFile>,
+    old_found: &RootFiles,
+    new_found: &RootFiles,
     index: Option<&[u8]>,
     input: &mut R,
     output: &mut W,
     error: &mut E,
 ) -> u8
-    // What is written and returned is one function of the lines, the files, the index and the input; and the same
-    // step by step.
-    ensures { ComparesOver old_line.now new_line.now old_files.items new_files.items (option_map (λ bytes. bytes.now) index.entry) result
+    // What is written and returned is one function of the lines, the files, what was found, the index and the input; and
+    // the same step by step.
+    ensures { ComparesOver old_line.now new_line.now old_files.items new_files.items old_found.now new_found.now (option_map (λ bytes. bytes.now) index.entry) result
         (record { input = R.shown input.old; out = W.shown output.old; err = E.shown error.old })
         (record { input = R.shown input.new; out = W.shown output.new; err = E.shown error.new }) }
 {
     let opened = open_index(index);
     compare_opened(
-        alloc, old_line, new_line, old_files, new_files, opened, input, output, error,
+        alloc, old_line, new_line, old_files, new_files, old_found, new_found, opened, input,
+        output, error,
     )
 }
 
@@ -66,12 +71,14 @@ fn compare_opened<R: Source, W: Sink, E: Sink>(
     new_line: &Line<'_>,
     old_files: Vec<SourceFile>,
     new_files: Vec<SourceFile>,
+    old_found: &RootFiles,
+    new_found: &RootFiles,
     opened: Option<Result<Index<'_>, IndexFault>>,
     input: &mut R,
     output: &mut W,
     error: &mut E,
 ) -> u8
-    ensures { ComparesBy old_line.now new_line.now (opening old_line.now old_files.items opened.entry)
+    ensures { ComparesBy old_line.now new_line.now old_found.now new_found.now (opening old_line.now old_files.items opened.entry)
         (opening new_line.now new_files.items opened.entry) result
         (record { input = R.shown input.old; out = W.shown output.old; err = E.shown error.old })
         (record { input = R.shown input.new; out = W.shown output.new; err = E.shown error.new }) }
@@ -80,12 +87,16 @@ fn compare_opened<R: Source, W: Sink, E: Sink>(
         None => {
             let old = open_with_database(alloc, old_line, old_files);
             let new = open_with_database(alloc, new_line, new_files);
-            compare_read(alloc, old_line, new_line, old, new, input, output, error)
+            compare_read(
+                alloc, old_line, new_line, old_found, new_found, old, new, input, output, error,
+            )
         }
         Some(Ok(index)) => {
             let old = open_beside(alloc, old_line, old_files, &index);
             let new = open_beside(alloc, new_line, new_files, &index);
-            compare_read(alloc, old_line, new_line, old, new, input, output, error)
+            compare_read(
+                alloc, old_line, new_line, old_found, new_found, old, new, input, output, error,
+            )
         }
         Some(Err(fault)) => deliver_refusal(Refusal::Index(fault), output, error),
     }
@@ -96,6 +107,8 @@ fn compare_read<L: Lookup + Drop, M: Lookup + Drop, R: Source, W: Sink, E: Sink>
     alloc: Global,
     old_line: &Line<'_>,
     new_line: &Line<'_>,
+    old_found: &RootFiles,
+    new_found: &RootFiles,
     old: Result<(RulesRead, L), Refusal>,
     new: Result<(RulesRead, M), Refusal>,
     input: &mut R,
@@ -105,15 +118,15 @@ fn compare_read<L: Lookup + Drop, M: Lookup + Drop, R: Source, W: Sink, E: Sink>
     ensures { (old_opened new_opened : Result OpeningValue RunOutcome)
         → IfOk old (λ r. old_opened ≡ Ok (shown_rules r.0 (L.entries r.1))) → IfErr old (λ e. IsRefused e old_opened)
         → IfOk new (λ r. new_opened ≡ Ok (shown_rules r.0 (M.entries r.1))) → IfErr new (λ e. IsRefused e new_opened)
-        → ComparesBy old_line.now new_line.now old_opened new_opened result
+        → ComparesBy old_line.now new_line.now old_found.now new_found.now old_opened new_opened result
         (record { input = R.shown input.old; out = W.shown output.old; err = E.shown error.old })
         (record { input = R.shown input.new; out = W.shown output.new; err = E.shown error.new }) }
 {
     match old {
         Ok((old_rules, old_lookup)) => match new {
             Ok((new_rules, new_lookup)) => compare_rules(
-                alloc, old_line, new_line, old_rules, old_lookup, new_rules, new_lookup, input,
-                output, error,
+                alloc, old_line, new_line, old_found, new_found, old_rules, old_lookup, new_rules,
+                new_lookup, input, output, error,
             ),
             Err(refusal) => deliver_refusal(refusal, output, error),
         },
@@ -126,6 +139,8 @@ fn compare_rules<L: Lookup + Drop, M: Lookup + Drop, R: Source, W: Sink, E: Sink
     alloc: Global,
     old_line: &Line<'_>,
     new_line: &Line<'_>,
+    old_found: &RootFiles,
+    new_found: &RootFiles,
     old: RulesRead,
     old_lookup: L,
     new: RulesRead,
@@ -135,13 +150,13 @@ fn compare_rules<L: Lookup + Drop, M: Lookup + Drop, R: Source, W: Sink, E: Sink
     error: &mut E,
 ) -> u8
     ensures { FindsAll (both_messages old.messages.items new.messages.items)
-        (answers_as old_line.now.profile (differences_by old_line.now new_line.now (shown_rules old (L.entries old_lookup))
+        (answers_as old_line.now.profile (differences_by old_line.now new_line.now old_found.now new_found.now (shown_rules old (L.entries old_lookup))
         (shown_rules new (M.entries new_lookup)))) result
         (record { input = R.shown input.old; out = W.shown output.old; err = E.shown error.old })
         (record { input = R.shown input.new; out = W.shown output.new; err = E.shown error.new }) }
 {
-    let old_builtins = Builtins::new(old_lookup, &old_line.links);
-    let new_builtins = Builtins::new(new_lookup, &new_line.links);
+    let old_builtins = Builtins::new(old_lookup, &old_line.links, old_found);
+    let new_builtins = Builtins::new(new_lookup, &new_line.links, new_found);
     let json = is_json(old_line.format);
     match both_tables(alloc, json, old, old_builtins, new, new_builtins) {
         Ok((messages, tables)) => find_after_messages(

@@ -13,7 +13,7 @@ ghost use Rattle.engine_unused.specs.Unused.{unused_lines};
 use crate::asked::AskedTables;
 use crate::reported::ReportedTables;
 use builtin_core::Builtins;
-use builtin_devices::Knowledge;
+use builtin_knowledge::{Knowledge, RootFiles};
 use engine_answers::Tables;
 use engine_courses::first_unknown;
 use engine_ends::{Format, Line, Sink, Source, report_out_of_memory};
@@ -29,28 +29,30 @@ use std::alloc::Global;
 use text_bytes::SourceFile;
 
 /// Reads what events are answered by, writes the messages about it, answers the input, both by the line's profile,
-/// and returns the status to exit with. The database is the index that was opened, or otherwise that of the files.
+/// and returns the status to exit with. The database is the index that was opened, or otherwise that of the files;
+/// `found` is what was found at paths of the root.
 pub(crate) fn serve_events<R: Source, W: Sink, E: Sink>(
     alloc: Global,
     line: &Line<'_>,
     files: Vec<SourceFile>,
+    found: &RootFiles,
     opened: Option<Result<Index<'_>, IndexFault>>,
     input: &mut R,
     output: &mut W,
     error: &mut E,
 ) -> u8
-    ensures { RunsBy line.now (asked_of (why_of line.now) (opening line.now files.items opened.entry)) result
+    ensures { RunsBy line.now found.now (asked_of (why_of line.now) (opening line.now files.items opened.entry)) result
         (record { input = R.shown input.old; out = W.shown output.old; err = E.shown error.old })
         (record { input = R.shown input.new; out = W.shown output.new; err = E.shown error.new }) }
 {
     match opened {
         None => {
             let read = open_with_database(alloc, line, files);
-            answer_over(alloc, line, read, input, output, error)
+            answer_over(alloc, line, found, read, input, output, error)
         }
         Some(Ok(index)) => {
             let read = open_beside(alloc, line, files, index);
-            answer_over(alloc, line, read, input, output, error)
+            answer_over(alloc, line, found, read, input, output, error)
         }
         Some(Err(fault)) => deliver_refusal(Refusal::Index(fault), output, error),
     }
@@ -61,18 +63,21 @@ pub(crate) fn serve_events<R: Source, W: Sink, E: Sink>(
 fn answer_over<L: Lookup + Drop, R: Source, W: Sink, E: Sink>(
     alloc: Global,
     line: &Line<'_>,
+    found: &RootFiles,
     read: Result<(RulesRead, L), Refusal>,
     input: &mut R,
     output: &mut W,
     error: &mut E,
 ) -> u8
     ensures { (opened : Result OpeningValue RunOutcome) → IfOk read (λ r. opened ≡ Ok (shown_rules r.0 (L.entries r.1)))
-        → IfErr read (λ e. IsRefused e opened) → RunsBy line.now (asked_of (why_of line.now) opened) result
+        → IfErr read (λ e. IsRefused e opened) → RunsBy line.now found.now (asked_of (why_of line.now) opened) result
         (record { input = R.shown input.old; out = W.shown output.old; err = E.shown error.old })
         (record { input = R.shown input.new; out = W.shown output.new; err = E.shown error.new }) }
 {
     match read {
-        Ok((rules, lookup)) => answer_asked(alloc, line, rules, lookup, input, output, error),
+        Ok((rules, lookup)) => answer_asked(
+            alloc, line, found, rules, lookup, input, output, error,
+        ),
         Err(refusal) => deliver_refusal(refusal, output, error),
     }
 }
@@ -81,13 +86,14 @@ fn answer_over<L: Lookup + Drop, R: Source, W: Sink, E: Sink>(
 fn answer_asked<L: Lookup + Drop, R: Source, W: Sink, E: Sink>(
     alloc: Global,
     line: &Line<'_>,
+    found: &RootFiles,
     read: RulesRead,
     lookup: L,
     input: &mut R,
     output: &mut W,
     error: &mut E,
 ) -> u8
-    ensures { RunsBy line.now (asked_of (why_of line.now) (Ok (shown_rules read (L.entries lookup)))) result
+    ensures { RunsBy line.now found.now (asked_of (why_of line.now) (Ok (shown_rules read (L.entries lookup)))) result
         (record { input = R.shown input.old; out = W.shown output.old; err = E.shown error.old })
         (record { input = R.shown input.new; out = W.shown output.new; err = E.shown error.new }) }
 {
@@ -97,7 +103,7 @@ fn answer_asked<L: Lookup + Drop, R: Source, W: Sink, E: Sink>(
         read.rules.messages(),
         read.rules.rules().rules(),
     ) {
-        Ok(None) => answer_by_rules(alloc, line, read, lookup, input, output, error),
+        Ok(None) => answer_by_rules(alloc, line, found, read, lookup, input, output, error),
         Ok(Some(unknown)) => {
             deliver_usage_error(&read.messages, unknown.as_slice(), output, error)
         }
@@ -110,21 +116,22 @@ fn answer_asked<L: Lookup + Drop, R: Source, W: Sink, E: Sink>(
 fn answer_by_rules<L: Lookup + Drop, R: Source, W: Sink, E: Sink>(
     alloc: Global,
     line: &Line<'_>,
+    found: &RootFiles,
     read: RulesRead,
     lookup: L,
     input: &mut R,
     output: &mut W,
     error: &mut E,
 ) -> u8
-    ensures { AnswersSaying line.now.unused read.messages.items (answer_with line.now (shown_rules read (L.entries lookup)))
-        (unused_of line.now (shown_rules read (L.entries lookup))) result
+    ensures { AnswersSaying line.now.unused read.messages.items (answer_with line.now found.now (shown_rules read (L.entries lookup)))
+        (unused_of line.now found.now (shown_rules read (L.entries lookup))) result
         (record { input = R.shown input.old; out = W.shown output.old; err = E.shown error.old })
         (record { input = R.shown input.new; out = W.shown output.new; err = E.shown error.new }) }
 {
     if line.questions {
-        ask_by_rules(alloc, line, read, lookup, input, output, error)
+        ask_by_rules(alloc, line, found, read, lookup, input, output, error)
     } else {
-        report_by_rules(alloc, line, read, lookup, input, output, error)
+        report_by_rules(alloc, line, found, read, lookup, input, output, error)
     }
 }
 
@@ -132,6 +139,7 @@ fn answer_by_rules<L: Lookup + Drop, R: Source, W: Sink, E: Sink>(
 fn ask_by_rules<L: Lookup + Drop, R: Source, W: Sink, E: Sink>(
     alloc: Global,
     line: &Line<'_>,
+    found: &RootFiles,
     read: RulesRead,
     lookup: L,
     input: &mut R,
@@ -139,13 +147,16 @@ fn ask_by_rules<L: Lookup + Drop, R: Source, W: Sink, E: Sink>(
     error: &mut E,
 ) -> u8
     requires { line.now.questions ≡ true }
-    ensures { AnswersSaying line.now.unused read.messages.items (answer_with line.now (shown_rules read (L.entries lookup)))
-        (unused_of line.now (shown_rules read (L.entries lookup))) result
+    ensures { AnswersSaying line.now.unused read.messages.items (answer_with line.now found.now (shown_rules read (L.entries lookup)))
+        (unused_of line.now found.now (shown_rules read (L.entries lookup))) result
         (record { input = R.shown input.old; out = W.shown output.old; err = E.shown error.old })
         (record { input = R.shown input.new; out = W.shown output.new; err = E.shown error.new }) }
 {
     let RulesRead { messages, rules } = read;
-    let tables = AskedTables::new(rules.into_rules(), Builtins::new(lookup, &line.links));
+    let tables = AskedTables::new(
+        rules.into_rules(),
+        Builtins::new(lookup, &line.links, found),
+    );
     let rules = tables.rules();
     let knowledge = tables.knowledge();
     answer_and_say(
@@ -201,6 +212,7 @@ fn answer_and_say<A: Answering, K: Knowledge, R: Source, W: Sink, E: Sink>(
 fn report_by_rules<L: Lookup + Drop, R: Source, W: Sink, E: Sink>(
     alloc: Global,
     line: &Line<'_>,
+    found: &RootFiles,
     read: RulesRead,
     lookup: L,
     input: &mut R,
@@ -208,14 +220,14 @@ fn report_by_rules<L: Lookup + Drop, R: Source, W: Sink, E: Sink>(
     error: &mut E,
 ) -> u8
     requires { line.now.questions ≡ false }
-    ensures { AnswersSaying line.now.unused read.messages.items (answer_with line.now (shown_rules read (L.entries lookup)))
-        (unused_of line.now (shown_rules read (L.entries lookup))) result
+    ensures { AnswersSaying line.now.unused read.messages.items (answer_with line.now found.now (shown_rules read (L.entries lookup)))
+        (unused_of line.now found.now (shown_rules read (L.entries lookup))) result
         (record { input = R.shown input.old; out = W.shown output.old; err = E.shown error.old })
         (record { input = R.shown input.new; out = W.shown output.new; err = E.shown error.new }) }
 {
     let RulesRead { messages, rules } = read;
     if asks_more(line) {
-        let builtins = Builtins::new(lookup, &line.links);
+        let builtins = Builtins::new(lookup, &line.links, found);
         let json = is_json(line.format);
         let tables = ReportedTables::new(json, line.sources, &line.why, rules, builtins);
         let rules = tables.rules();
@@ -227,7 +239,7 @@ fn report_by_rules<L: Lookup + Drop, R: Source, W: Sink, E: Sink>(
     match Tables::new(
         alloc,
         rules.into_rules(),
-        Builtins::new(lookup, &line.links),
+        Builtins::new(lookup, &line.links, found),
     ) {
         Ok(tables) => {
             let rules = tables.rules();

@@ -6,7 +6,7 @@ ghost use Rattle.engine_courses.specs.WhyLines.{why_lines};
 ghost use Rattle.engine_json.specs.Answers.{json_answer};
 ghost use Rattle.engine_core.specs.Reported.{lines_reported, reported_by};
 
-use builtin_devices::Knowledge;
+use builtin_knowledge::Knowledge;
 use device_core::Event;
 use engine_answers::{answer_lines, sourced_lines};
 use engine_courses::push_why_lines;

@@ -5,6 +5,7 @@ ghost use Rattle.engine_core.specs.Runs.{RunsBy, RunsOver};
 
 use crate::checking::{report_on_index, report_on_verify};
 use crate::events::serve_events;
+use builtin_knowledge::RootFiles;
 use engine_ends::{Line, Sink, Source, Verb};
 use engine_lookups::serve_lookups;
 use engine_reports::{deliver_report, open_index, report_on_query};
@@ -27,7 +28,8 @@ use text_bytes::SourceFile;
 ///
 /// If `line` names files of the kind that the command reads, those passed in are read in their order, and otherwise
 /// those whose names end in `.hwdb` or `.rules`, of each name the one of least rank, sorted by name. `verify` and
-/// `events` read rules, and `events` evaluates them, by the profile of `line`. If `index` is passed in, `query` and
+/// `events` read rules, and `events` evaluates them, by the profile of `line`; what IMPORT{file} takes as udev does is in
+/// `found`, by the paths of files in the root. If `index` is passed in, `query` and
 /// `events` answer from it and read no file of the database. Only `events`, and `query` with the modalias `-`, look at
 /// the input.
 ///
@@ -40,13 +42,15 @@ pub fn serve<R: Source, W: Sink, E: Sink>(
     alloc: Global,
     line: &Line<'_>,
     files: Vec<SourceFile>,
+    found: &RootFiles,
     index: Option<&[u8]>,
     input: &mut R,
     output: &mut W,
     error: &mut E,
 ) -> u8
-    // What is written and answered is one function of the line, the files, the index and the input, also step by step.
-    ensures runs { RunsOver line.now files.items (option_map (λ bytes. bytes.now) index.entry) result
+    // What is written and answered is one function of the line, the files, what was found at paths of the root, the index
+    // and the input, also step by step.
+    ensures runs { RunsOver line.now files.items found.now (option_map (λ bytes. bytes.now) index.entry) result
         (record { input = R.shown input.old; out = W.shown output.old; err = E.shown error.old })
         (record { input = R.shown input.new; out = W.shown output.new; err = E.shown error.new }) }
     ensures untouched { (line.now.verb ≡ Verb.Events → ⊥) → reads_modaliases line.now ≡ false → input.new ≡ input.old }
@@ -55,7 +59,7 @@ pub fn serve<R: Source, W: Sink, E: Sink>(
     if reads_modaliases(line) {
         return serve_lookups(alloc, line, files, opened, input, output, error);
     }
-    serve_verb(alloc, line, files, opened, input, output, error)
+    serve_verb(alloc, line, files, found, opened, input, output, error)
 }
 
 /// Whether a line looks up the modaliases that its input has.
@@ -70,12 +74,13 @@ fn serve_verb<R: Source, W: Sink, E: Sink>(
     alloc: Global,
     line: &Line<'_>,
     files: Vec<SourceFile>,
+    found: &RootFiles,
     opened: Option<Result<Index<'_>, IndexFault>>,
     input: &mut R,
     output: &mut W,
     error: &mut E,
 ) -> u8
-    ensures runs { RunsBy line.now (before_input line.now.verb line.now files.items opened.entry) result
+    ensures runs { RunsBy line.now found.now (before_input line.now.verb line.now files.items opened.entry) result
         (record { input = R.shown input.old; out = W.shown output.old; err = E.shown error.old })
         (record { input = R.shown input.new; out = W.shown output.new; err = E.shown error.new }) }
     ensures untouched { (line.now.verb ≡ Verb.Events → ⊥) → input.new ≡ input.old }
@@ -84,6 +89,6 @@ fn serve_verb<R: Source, W: Sink, E: Sink>(
         Verb::Query => deliver_report(report_on_query(alloc, line, files, opened), output, error),
         Verb::Update => deliver_report(report_on_index(alloc, line, files), output, error),
         Verb::Verify => deliver_report(report_on_verify(alloc, line, files), output, error),
-        Verb::Events => serve_events(alloc, line, files, opened, input, output, error),
+        Verb::Events => serve_events(alloc, line, files, found, opened, input, output, error),
     }
 }

@@ -59,6 +59,6 @@ abbrev pub reporting : Reporting → Happening → Scene → Reporting
 reporting w (passed r) s = record w { lines = w.lines ++ flat_map rule_lines (reported_if_asked w.why r (passed_texts w.jumping)) }
 reporting w (entered r) s = record w { about = about_of w.why r }
 reporting w (left r reached) s = record w { since = since_after w.since r s.finals; jumping = jumping_after reached r }
-reporting w (acted r act went) s = with_texts w (act_met act s.state went ∷ [])
+reporting w (acted r act went) s = with_texts w (act_met act s went ∷ [])
 reporting w (assigned r made) s = with_texts w (ending w.since r s ∷ [])
 reporting w happening s = with_texts w (moment_reports happening s)

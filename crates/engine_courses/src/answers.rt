@@ -6,7 +6,7 @@ ghost use Rattle.engine_courses.specs.WhyLines.{unread_lines, why_lines};
 use crate::lines::push_unread;
 use crate::reporting::reported_lines;
 use crate::unread::is_unread;
-use builtin_devices::Knowledge;
+use builtin_knowledge::Knowledge;
 use device_core::Event;
 use file_messages::Message;
 use rule_core::ReadRules;

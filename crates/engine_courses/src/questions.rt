@@ -2,7 +2,7 @@
 ghost use Rattle.std.specs.Prelude.{◌≡◌, ◌++◌, IfOk, OnOk};
 ghost use Rattle.engine_courses.specs.Questions.{question_answer, question_line, question_lines};
 
-use builtin_devices::Knowledge;
+use builtin_knowledge::Knowledge;
 use device_core::Event;
 use engine_ends::push_event;
 use eval_courses::questions;

@@ -3,7 +3,7 @@ ghost use Rattle.std.specs.Prelude.{◌≡◌, IfOk, flat_map, map};
 ghost use Rattle.engine_courses.specs.WhyLines.{reported_for, rule_lines};
 
 use crate::reporter::Reporter;
-use builtin_devices::Knowledge;
+use builtin_knowledge::Knowledge;
 use device_core::Event;
 use eval_rules::run_watched;
 use eval_state::Scene;

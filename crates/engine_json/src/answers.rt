@@ -12,7 +12,7 @@ ghost use Rattle.engine_json.specs.Members.{item_members, note_value, run_value,
 use crate::items::write_items;
 use crate::shape::{AsIs, Shape};
 use crate::values::{write_notes, write_runs, write_sourced_runs, write_why};
-use builtin_devices::Knowledge;
+use builtin_knowledge::Knowledge;
 use device_core::Event;
 use eval_rules::{Commands, Outcome, evaluate_plain};
 use eval_sources::{Sourced, SourcedCommand, evaluate_sources};

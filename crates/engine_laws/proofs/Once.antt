@@ -3,7 +3,7 @@ use Rattle.std.proofs.Common.{◌≡◌, ◌&&◌, ◌||◌, Bool, true, false, 
 use Rattle.std.specs.Cmp.Lexicographic.{bytes_decides}
 use Rattle.std.specs.List.{AllByRecursion, IsDistinct, filter}
 use Rattle.text_tables.specs.Texts.{AreOnce, Text, is_among, same_text, with_text, with_texts}
-use Rattle.builtin_devices.specs.Knowledge.{Known}
+use Rattle.builtin_knowledge.specs.Knowledge.{Known}
 use Rattle.device_core.specs.Values.{EventValue}
 use Rattle.rule_types.specs.Rules.{Rule}
 use Rattle.eval_state.specs.Scenes.{start}

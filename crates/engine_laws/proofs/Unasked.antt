@@ -3,6 +3,7 @@ use Rattle.std.proofs.Common.{◌≡◌, ℕ, Bool, false, not, ◌||◌, ◌==�
 use Rattle.text_tables.specs.Texts.{Text}
 use Rattle.device_core.specs.Values.{EventValue}
 use Rattle.engine_courses.specs.Asked.{unknown}
+use Rattle.builtin_knowledge.specs.Knowledge.{FilesFound}
 use Rattle.engine_ends.specs.declared.line.Line.{Line}
 use Rattle.engine_ends.specs.Delivery.{RunOutcome}
 use Rattle.engine_reports.specs.Openings.{OpeningValue}
@@ -30,9 +31,9 @@ asked_as_it_is line opened e = ap (λ why. asked_of why opened) (nothing_asked l
 asks_no_more : (line : Line) → line.sources ≡ false → vec_len line.why ≡ 0 → is_json line.format ≡ false → asks_more line ≡ false
 asks_no_more line a b f = ap (λ (s : Bool). (s || not (vec_len line.why == 0)) || is_json line.format) a ∙ ap (λ (n : ℕ). not (n == 0) || is_json line.format) b ∙ f
 
-pub answered_alone : (line : Line) (opened : OpeningValue) → line.questions ≡ false → line.sources ≡ false → vec_len line.why ≡ 0 → is_json line.format ≡ false → answer_with line opened ≡ answers_as line.profile (answer_by opened.rules (known_for line opened))
-answered_alone line opened q a b f =
-    let asked : EventValue → Text = question_answer opened.rules (known_for line opened) in
-    let alone : EventValue → Text = answer_by opened.rules (known_for line opened) in
-    ap (λ (s : Bool). answers_as line.profile (cond s asked (cond (asks_more line) (reported_by (reported_for line opened) (known_for line opened)) alone))) q
-    ∙ ap (λ (s : Bool). answers_as line.profile (cond s (reported_by (reported_for line opened) (known_for line opened)) alone)) (asks_no_more line a b f)
+pub answered_alone : (line : Line) (found : FilesFound) (opened : OpeningValue) → line.questions ≡ false → line.sources ≡ false → vec_len line.why ≡ 0 → is_json line.format ≡ false → answer_with line found opened ≡ answers_as line.profile (answer_by opened.rules (known_for line found opened))
+answered_alone line found opened q a b f =
+    let asked : EventValue → Text = question_answer opened.rules (known_for line found opened) in
+    let alone : EventValue → Text = answer_by opened.rules (known_for line found opened) in
+    ap (λ (s : Bool). answers_as line.profile (cond s asked (cond (asks_more line) (reported_by (reported_for line opened) (known_for line found opened)) alone))) q
+    ∙ ap (λ (s : Bool). answers_as line.profile (cond s (reported_by (reported_for line opened) (known_for line found opened)) alone)) (asks_no_more line a b f)

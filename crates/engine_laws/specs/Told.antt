@@ -3,7 +3,7 @@ use Rattle.std.specs.Prelude.{ℕ, ◌+◌, Bool, if◌then◌else◌, nat_eq, n
 use Rattle.std.specs.List.{starts_with}
 use Rattle.text_tables.specs.Pairs.{Pair}
 use Rattle.text_tables.specs.Sorted.{by_name}
-use Rattle.builtin_devices.specs.Knowledge.{Known}
+use Rattle.builtin_knowledge.specs.Knowledge.{Known}
 use Rattle.rule_types.specs.Rules.{Rule}
 use Rattle.rule_types.specs.declared.part.UpMatch.{UpMatch}
 use Rattle.eval_state.specs.declared.scene.Scene.{Scene}

@@ -5,6 +5,7 @@ ghost use Rattle.std.specs.Prelude.{◌≡◌, false, List, Option, Result, vec_
 ghost use Rattle.text_bytes.specs.declared.source_file.SourceFile.{SourceFile};
 ghost use Rattle.index_reading.specs.Contents.{Contents};
 ghost use Rattle.index_reading.specs.declared.fault.IndexFault.{IndexFault};
+ghost use Rattle.builtin_knowledge.specs.Knowledge.{FilesFound};
 ghost use Rattle.engine_ends.specs.declared.line.Line.{Line};
 ghost use Rattle.engine_ends.specs.declared.line.Verb.TheVariants.{Events};
 ghost use Rattle.engine_reports.specs.Openings.{OpeningValue, opening};
@@ -15,8 +16,8 @@ ghost use Rattle.engine_sessions.specs.Sessions.{answers_as};
 /// Without `--questions`, `--sources`, `--why` and `--format=json` events get the answers by rules and entries, over which rules are
 /// evaluated by the line's profile, and nothing is said before them but the messages.
 pub fn a_line_that_asks_for_no_more_gets_the_answers_alone()
-    ensures answers { (line : Line) (opened : OpeningValue) → line.questions ≡ false → line.sources ≡ false → vec_len line.why ≡ 0
-        → is_json line.format ≡ false → answer_with line opened ≡ answers_as line.profile (answer_by opened.rules (known_for line opened)) }
+    ensures answers { (line : Line) (found : FilesFound) (opened : OpeningValue) → line.questions ≡ false → line.sources ≡ false → vec_len line.why ≡ 0
+        → is_json line.format ≡ false → answer_with line found opened ≡ answers_as line.profile (answer_by opened.rules (known_for line found opened)) }
     ensures opening { (line : Line) (files : List SourceFile) (index : Option (Result Contents IndexFault)) → vec_len line.why ≡ 0
         → before_input Events line files index ≡ opening line files index }
 {}

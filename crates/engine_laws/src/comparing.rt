@@ -3,6 +3,7 @@
 //! Each function here is empty: its contract is the law.
 ghost use Rattle.std.specs.Prelude.{◌≡◌, ◌++◌, Ok, codes};
 ghost use Rattle.text_tables.specs.Texts.{Text};
+ghost use Rattle.builtin_knowledge.specs.Knowledge.{FilesFound};
 ghost use Rattle.device_core.specs.Values.{EventValue};
 ghost use Rattle.engine_answers.specs.Answers.{answer_by};
 ghost use Rattle.engine_ends.specs.EventLine.{event_line};
@@ -19,10 +20,10 @@ ghost use Rattle.engine_sessions.specs.Turns.{joined};
 /// What is said of an event is what disappears from the answer by the old rules and appears in that by the new ones, in
 /// the old line's format.
 pub fn the_old_answer_is_compared_with_the_new_one()
-    ensures { (old_line new_line : Line) (old new : OpeningValue) (input : Text) → (compare_outcome old_line new_line (Ok old) (Ok new) input).output
+    ensures { (old_line new_line : Line) (old_found new_found : FilesFound) (old new : OpeningValue) (input : Text) → (compare_outcome old_line new_line old_found new_found (Ok old) (Ok new) input).output
         ≡ joined (answers_of (answers_as old_line.profile (λ (event : EventValue).
-        compared (is_json old_line.format) event (answer_by old.rules (known_for old_line old) event)
-        (answer_by new.rules (known_for new_line new) event))) input).texts }
+        compared (is_json old_line.format) event (answer_by old.rules (known_for old_line old_found old) event)
+        (answer_by new.rules (known_for new_line new_found new) event))) input).texts }
 {}
 
 /// A line `nowatch` is compared, though it begins as a note does, and notes are not.

@@ -5,7 +5,7 @@ ghost use Rattle.text_bytes.specs.Texts.{word_of};
 ghost use Rattle.text_bytes.specs.declared.profile.Profile.TheVariants.{Manual, Udev};
 ghost use Rattle.text_tables.specs.Texts.{AreOnce, Text, is_among};
 ghost use Rattle.text_tables.specs.Pairs.{value_of};
-ghost use Rattle.builtin_devices.specs.Knowledge.{Known};
+ghost use Rattle.builtin_knowledge.specs.Knowledge.{Known};
 ghost use Rattle.rule_templates.specs.Template as templates;
 ghost use Rattle.rule_types.specs.Rules as rules;
 ghost use Rattle.rule_types.specs.declared.part.Act.{Act};

@@ -3,7 +3,7 @@
 //! Each function here is empty: its contract is the law.
 ghost use Rattle.std.specs.Prelude.{◌≡◌, ◌&&◌, ◌++◌, [], ◌∷◌, false, filter, is_some, List, map, not, true};
 ghost use Rattle.text_tables.specs.Pairs.{Pair};
-ghost use Rattle.builtin_devices.specs.Knowledge.{Known};
+ghost use Rattle.builtin_knowledge.specs.Knowledge.{Known};
 ghost use Rattle.rule_types.specs.Rules.{Rule};
 ghost use Rattle.device_core.specs.Values.{EventValue};
 ghost use Rattle.eval_state.specs.Runs.{RunValue};

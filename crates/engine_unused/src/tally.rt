@@ -5,7 +5,7 @@ ghost use Rattle.engine_unused.specs.Rows.{unreached};
 
 use crate::lines::{lines_by, rules_named};
 use crate::rows::{Row, note_all, rows_of};
-use builtin_devices::Knowledge;
+use builtin_knowledge::Knowledge;
 use device_core::Event;
 use engine_sessions::Tally;
 use eval_courses::fates;

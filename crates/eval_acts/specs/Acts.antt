@@ -5,7 +5,7 @@ use Rattle.text_bytes.specs.declared.profile.Profile.TheVariants.{Manual, Udev}
 use Rattle.text_tables.specs.Texts.{Text}
 use Rattle.text_core.specs.Fnmatch.{fnmatch_items}
 use Rattle.text_core.specs.declared.reading.Reading.TheVariants.{Exact}
-use Rattle.builtin_devices.specs.Knowledge.{Known}
+use Rattle.builtin_knowledge.specs.Knowledge.{Known}
 use Rattle.rule_templates.specs.Template.{Parts as Template}
 use Rattle.rule_types.specs.WrittenParts.{attribute_of_act_kind, key_of_act_kind, type_of}
 use Rattle.rule_types.specs.declared.part.Act.{Act}
@@ -14,7 +14,6 @@ use Rattle.rule_types.specs.declared.part.ActKind.TheVariants as act_kind
 use Rattle.rule_types.specs.declared.part.Import.{Import}
 use Rattle.rule_types.specs.declared.part.Import.TheVariants as import
 use Rattle.rule_types.specs.declared.roles.MatchOperator.{MatchOperator}
-use Rattle.rule_types.specs.declared.types.ImportType.TheVariants.{File}
 use Rattle.rule_types.specs.Rules.{Rule}
 use Rattle.eval_state.specs.Chains.{device_at}
 use Rattle.eval_rendering.specs.Bounds.{most_command_bytes, most_path_bytes}
@@ -27,6 +26,7 @@ use Rattle.eval_state.specs.declared.note_kind.NoteKind.TheVariants.{TextTooLong
 use Rattle.eval_state.specs.declared.scene.Scene.{Scene}
 use Rattle.eval_acts.specs.ActTexts.{import_text, names_text, program_text, test_text}
 use Rattle.eval_acts.specs.Imports.{from_cmdline, from_parent, from_program, not_run, run_builtin}
+use Rattle.eval_acts.specs.RootImports.{from_file}
 use Rattle.eval_acts.specs.Stored.{from_stored}
 use Rattle.eval_acts.specs.Questions.{answered_by_block, tested, with_result}
 use Rattle.eval_acts.specs.Unread.{unread_noted}
@@ -45,14 +45,14 @@ abbrev pub from_parent_by : Text → Scene → Scene × Bool
 from_parent_by text s = from_parent (fnmatch_items Exact text 0 ∷ []) (device_at s.state.event 1) s
 
 -- IMPORT, by where it takes properties from: for the manual a value of IMPORT{parent} is read with the rule, and for udev
--- it is rendered. The event's block answers for udev alone: the command of a program, a name on the kernel's command line,
--- and one that udev had stored. Other types are never run, though udev renders the path of a file.
+-- it is rendered. For udev alone the event's block answers the command of a program, a name on the kernel's command line,
+-- and one that udev had stored, and what was found in the root answers the path of a file. Other types are never run.
 abbrev pub imported : Profile → Known → Rule → Import → Scene → Scene × Option Bool
 imported profile known r (import.Builtin template) s = on_text (run_builtin known r) (import_text most_command_bytes template s.state) s
 imported Manual known r (import.Parent names text) s = tried (from_parent names (device_at s.state.event 1) s)
 imported Udev known r (import.Parent names text) s = on_text from_parent_by (names_text text s.state) s
 imported Udev known r (import.Program template) s = on_text (from_program r) (import_text most_command_bytes template s.state) s
-imported Udev known r (import.File template) s = on_text (λ path. not_run r File) (import_text most_path_bytes template s.state) s
+imported Udev known r (import.File template) s = on_text (from_file known r) (import_text most_path_bytes template s.state) s
 imported Udev known r (import.Cmdline name) s = tried (from_cmdline r name s)
 imported Udev known r (import.Db name) s = tried (from_stored r name s)
 imported profile known r other s = tried (not_run r (type_of other) s)

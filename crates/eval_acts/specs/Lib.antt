@@ -2,6 +2,7 @@ pub mod LookUps
 pub mod LookUpNeeds
 pub mod BuiltinRuns
 pub mod Imports
+pub mod RootImports
 pub mod Stored
 pub mod Reaching
 pub mod Acts

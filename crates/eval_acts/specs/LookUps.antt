@@ -11,7 +11,7 @@ use Rattle.text_tables.specs.Pairs.{Pair, value_of}
 use Rattle.text_core.specs.Fits.{fits}
 use Rattle.text_core.specs.declared.item.Item.{Item}
 use Rattle.hwdb_lookup.specs.Query.{query}
-use Rattle.builtin_devices.specs.Knowledge.{Known}
+use Rattle.builtin_knowledge.specs.Knowledge.{Known}
 use Rattle.device_core.specs.Values.{DeviceValue}
 use Rattle.builtin_devices.specs.Devices.{is_text, type_of}
 use Rattle.eval_state.specs.Texts.{filled}

@@ -1,12 +1,12 @@
 //! An act of a rule, by what it does.
 ghost use Rattle.std.specs.Prelude.{◌≡◌, [], IfOk, OnOk, OnErr, option_copied};
-ghost use Rattle.rule_types.specs.declared.types.ImportType.TheVariants.{File};
 ghost use Rattle.eval_rendering.specs.Bounds.{most_command_bytes, most_path_bytes};
 ghost use Rattle.eval_state.specs.Scenes.{blank};
 ghost use Rattle.eval_acts.specs.ActTexts.{import_text, names_text, program_text, test_text};
 ghost use Rattle.eval_acts.specs.Acts.{act_step, from_parent_by, import_reached, imported, on_text, performed, proceeds, too_long_noted};
-ghost use Rattle.eval_acts.specs.Imports.{from_program, not_run, run_builtin};
+ghost use Rattle.eval_acts.specs.Imports.{from_program, run_builtin};
 ghost use Rattle.eval_acts.specs.Questions.{answered_by_block, tested, with_result};
+ghost use Rattle.eval_acts.specs.RootImports.{from_file};
 ghost use Rattle.eval_acts.specs.Unread.{unread_noted};
 
 use crate::act_texts::{import_text, names_text, plain_command, program_text, test_text};
@@ -14,14 +14,15 @@ use crate::imports::{
     import_cmdline, import_named, import_parent, import_printed, not_run, run_builtin,
 };
 use crate::questions::{ask, clear_result, look_for};
+use crate::root_imports::import_file;
 use crate::stored::import_stored;
 use crate::unread::note_unread;
-use builtin_devices::Knowledge;
+use builtin_knowledge::Knowledge;
 use eval_matching::agrees;
 use eval_rendering::{MAX_COMMAND_BYTES, MAX_PATH_BYTES, Rendered};
 use eval_state::Scene;
 use rule_templates::Template;
-use rule_types::{Act, ActKind, Import, ImportType, MatchOperator, Rule};
+use rule_types::{Act, ActKind, Import, MatchOperator, Rule};
 use std::alloc::{AllocError, Global};
 use text_bytes::{Bytes, Profile};
 
@@ -142,19 +143,23 @@ fn program_answered(
     }
 }
 
-/// IMPORT{file} for udev, which renders its path. It is never run.
-fn file_named(
+/// IMPORT{file} for udev.
+fn file_named<K: Knowledge>(
     alloc: Global,
     rule: &Rule,
     template: &Template,
+    knowledge: &K,
     scene: &mut Scene<'_>,
 ) -> Result<Option<bool>, AllocError>
     ensures scene { IfOk result (λ done. (scene.new, done)
-        ≡ on_text (λ path. not_run rule.now File) (import_text most_path_bytes template.now scene.old.state) scene.old) }
+        ≡ on_text (from_file (K.known knowledge.now) rule.now) (import_text most_path_bytes template.now scene.old.state) scene.old) }
     ensures refused { OnErr result (scene.new.state.event ≡ scene.old.state.event) }
 {
     match import_text(alloc, MAX_PATH_BYTES, template, &scene.state)? {
-        Rendered::Text(_) => Ok(Some(not_run(alloc, rule, ImportType::File, scene)?)),
+        Rendered::Text(path) => {
+            let done = import_file(alloc, rule, path.as_slice(), knowledge, scene)?;
+            Ok(Some(done))
+        }
         Rendered::TooLong => Ok(None),
     }
 }
@@ -193,7 +198,7 @@ fn import_udev<K: Knowledge>(
         Import::Builtin(template) => builtin_noted(alloc, rule, template, knowledge, scene),
         Import::Parent(_, text) => parent_named(alloc, text.as_slice(), scene),
         Import::Program(template) => program_answered(alloc, rule, template, scene),
-        Import::File(template) => file_named(alloc, rule, template, scene),
+        Import::File(template) => file_named(alloc, rule, template, knowledge, scene),
         Import::Cmdline(name) => Ok(Some(import_cmdline(alloc, rule, name.as_slice(), scene)?)),
         Import::Db(name) => Ok(Some(import_stored(alloc, rule, name.as_slice(), scene)?)),
     }
@@ -300,7 +305,9 @@ fn act_noted<K: Knowledge>(
 /// and the result has `_` for bytes that do not belong in an attribute. The value of IMPORT{parent} is rendered, and is
 /// one pattern of fnmatch(3). IMPORT{program} is done if the event's block answers the rendered command with status 0,
 /// and sets the properties that the answer gives, one for each line; without an answer it leaves the note `no answer for
-/// program`. The beginning of `hwdb` may be written for it; an empty value that it finds removes the property.
+/// program`. IMPORT{file} is done if a file was found at the rendered path in the root, and sets the properties that its
+/// lines give; if the path was not looked at, or the file has over 65,536 bytes, it leaves the note `import not run`.
+/// The beginning of `hwdb` may be written for it; an empty value that it finds removes the property.
 /// IMPORT{db} is done if the block says that udev had stored the property, which it sets, and fails on `remove`; if the
 /// block says of no property that it was stored, it leaves the note `import not run`. An attribute in the command of a
 /// builtin that udev would read, and a dry run does not, leaves the note `attribute not read`. A text over 1,023 bytes of

@@ -9,7 +9,8 @@ ghost use Rattle.eval_acts.specs.BuiltinRuns.{net_setup_link_run, outcome_set};
 ghost use Rattle.eval_acts.specs.BuiltinRuns.{outcome_taken, path_id_run, properties_size, property_size, usb_id_run, with_maker};
 
 use crate::imports::set_as_udev;
-use builtin_devices::{BuiltinOutcome, Knowledge};
+use builtin_devices::BuiltinOutcome;
+use builtin_knowledge::Knowledge;
 use eval_state::{NoteKind, Scene, set_property};
 use rule_types::{Builtin, Rule};
 use std::alloc::{AllocError, Global};
@@ -17,7 +18,7 @@ use text_bytes::Bytes;
 use text_tables::CowPairs;
 
 /// The most that a builtin may set: its names and values, each counted with one byte more.
-const MAX_SET: usize = 65536;
+pub(crate) const MAX_SET: usize = 65536;
 
 /// The word of a note on what a builtin needs.
 fn needs_word(

@@ -6,7 +6,7 @@ use crate::builtin_runs::note_needs;
 use crate::imports::take;
 use crate::lookup_needs::lookup_needs;
 use crate::lookups::look_up_request;
-use builtin_devices::Knowledge;
+use builtin_knowledge::Knowledge;
 use eval_commands::Request;
 use eval_state::Scene;
 use rule_types::Rule;

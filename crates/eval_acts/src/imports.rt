@@ -15,7 +15,7 @@ ghost use Rattle.eval_acts.specs.Imports.{names_fitting, not_run, run_builtin, t
 use crate::builtin_runs::{run_input_id, run_net_id, run_net_setup_link, run_path_id, run_usb_id};
 use crate::hwdb_runs::run_hwdb;
 use crate::printed::set_printed;
-use builtin_devices::Knowledge;
+use builtin_knowledge::Knowledge;
 use device_core::{Event, ProgramAnswer};
 use eval_commands::{Builtin, Request, builtin_question, cmdline_value, other_name, request_of};
 use eval_state::{NoteKind, Scene, set_property};

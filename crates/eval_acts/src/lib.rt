@@ -13,6 +13,7 @@ mod lookups;
 mod printed;
 mod questions;
 mod reaching;
+mod root_imports;
 mod seen;
 mod stored;
 mod unread;

@@ -7,7 +7,7 @@ ghost use Rattle.eval_acts.specs.LookUps.{candidates, counted_properties, counts
 
 use crate::candidates::{candidates, udev_modaliases_of};
 use crate::seen::modaliases_of;
-use builtin_devices::Knowledge;
+use builtin_knowledge::Knowledge;
 use eval_commands::{Hwdb, Request};
 use eval_state::State;
 use std::alloc::{AllocError, Global};

@@ -98,8 +98,23 @@ fn set_line(alloc: Global, line: &[u8], env: &mut CowPairs<'_>) -> Result<(), Al
     }
 }
 
+/// Sets the properties that lines give, in their order.
+#[tactic(auto, using(crate::proofs::Lines::set_more))]
+pub(crate) fn set_lines(
+    alloc: Global,
+    lines: &[&[u8]],
+    env: &mut CowPairs<'_>,
+) -> Result<(), AllocError>
+    ensures { OnOk result (env.new ≡ properties_set env.old (filter_map line_property (map (λ line. line.now) lines.now))) }
+{
+    for line in lines {
+        set_line(alloc, line, env)?;
+    }
+    Ok(())
+}
+
 /// Sets the properties that a printed text gives, in the order of its lines.
-#[tactic(auto, using(crate::proofs::Lines::set_more), unfolding(crate::specs::Printed::printed_properties))]
+#[tactic(auto, unfolding(crate::specs::Printed::printed_properties))]
 pub(crate) fn set_printed(
     alloc: Global,
     text: &[u8],
@@ -108,8 +123,5 @@ pub(crate) fn set_printed(
     ensures { OnOk result (env.new ≡ properties_set env.old (printed_properties text.now)) }
 {
     let lines = lines(alloc, text)?;
-    for line in &lines {
-        set_line(alloc, line, env)?;
-    }
-    Ok(())
+    set_lines(alloc, &lines, env)
 }

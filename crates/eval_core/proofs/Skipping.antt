@@ -3,7 +3,7 @@ use Rattle.std.proofs.Common.{◌≡◌, ℕ, suc, ◌+◌, ◌<◌, ◌≤◌, 
 use Rattle.std.specs.Cmp.Lexicographic.{bytes_decides}
 use Rattle.std.proofs.lemmas.List.{drop_more, drop_all, drop-drop}
 use Rattle.text_tables.specs.Texts.{Text, same_text}
-use Rattle.builtin_devices.specs.Knowledge.{Known}
+use Rattle.builtin_knowledge.specs.Knowledge.{Known}
 use Rattle.rule_jumps.specs.Jumps.{is_named}
 use Rattle.rule_types.specs.Rules.{Rule}
 use Rattle.rule_jumps.specs.Passed.{over, skipped}

@@ -6,7 +6,7 @@ ghost use Rattle.eval_core.specs.Layout.{IsLaidOut};
 use crate::checks::first_attributes;
 use crate::courses::{Course, courses};
 use crate::running::{Layout, run};
-use builtin_devices::Knowledge;
+use builtin_knowledge::Knowledge;
 use device_core::Event;
 use eval_rules::{Outcome, finish};
 use eval_state::Scene;

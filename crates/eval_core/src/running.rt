@@ -10,7 +10,7 @@ use crate::actions::action_place;
 use crate::courses::{Course, Fate, predicted_by};
 use crate::marks::marks;
 use crate::seen::seen;
-use builtin_devices::Knowledge;
+use builtin_knowledge::Knowledge;
 use eval_rules::apply;
 use eval_state::Scene;
 use rule_types::Rule;

@@ -1,5 +1,5 @@
 -- What TEST, PROGRAM and IMPORT met, by the scene before them and the scene after.
-use Rattle.std.specs.Prelude.{ℕ, Bool, false, not, ◌&&◌, ◌||◌, if◌then◌else◌, List, [], ◌∷◌, ◌++◌, map, filter, Option, Some, None, is_none, is_some}
+use Rattle.std.specs.Prelude.{Bool, false, not, ◌==◌, ◌&&◌, ◌||◌, if◌then◌else◌, List, [], ◌∷◌, ◌++◌, length, map, filter, Option, Some, None, is_none, is_some}
 use Rattle.std.specs.Prelude.{codes, decimal}
 use Rattle.text_bytes.specs.Names.{equals, slash, space}
 use Rattle.text_bytes.specs.Texts.{begins_with, is_empty}
@@ -8,7 +8,7 @@ use Rattle.text_bytes.specs.declared.profile.Profile.{Profile}
 use Rattle.text_bytes.specs.declared.profile.Profile.TheVariants as profile
 use Rattle.text_tables.specs.Texts.{Text}
 use Rattle.text_tables.specs.Pairs.{Pair, value_of}
-use Rattle.builtin_devices.specs.Knowledge.{Known}
+use Rattle.builtin_knowledge.specs.Knowledge.{Known}
 use Rattle.device_core.specs.Values.{AnswerValue, EventValue}
 use Rattle.rule_templates.specs.Template.{Parts as Template}
 use Rattle.rule_types.specs.declared.part.Act.{Act}
@@ -113,10 +113,14 @@ program_import_report profile.Manual template s env = codes "not run"
 program_import_report profile.Udev template s env =
     on_rendered (λ command. printed_report command (value_of s.event.programs command) s.env env) (import_text most_command_bytes template s)
 
--- an IMPORT that is not run; udev nevertheless renders its value
-abbrev pub unrun_report : Profile → ℕ → Template → State → Text
-unrun_report profile.Manual most template s = codes "not run"
-unrun_report profile.Udev most template s = on_rendered (λ text. codes "not run") (import_text most template s)
+-- what was removed and set of properties, by those before and those now; an import that left a note was not run
+abbrev pub noted_report : (noted : Bool) → List Pair → List Pair → Text
+noted_report noted before now = if noted then codes "not run" else taken_report before now
+
+-- what an IMPORT{file} met, by whether it left a note and the properties after it; by the manual it is not run
+abbrev pub file_report : Profile → Template → State → (noted : Bool) → List Pair → Text
+file_report profile.Manual template s noted env = codes "not run"
+file_report profile.Udev template s noted env = on_rendered (λ path. noted_report noted s.env env) (import_text most_path_bytes template s)
 
 -- what an IMPORT{cmdline} met, by the kernel's command line, if the event gives it, and the properties after it
 abbrev pub line_report : (line : Option Text) → State → List Pair → Text
@@ -133,26 +137,30 @@ abbrev pub stored_report : Profile → State → List Pair → Text
 stored_report profile.Manual s env = codes "not run"
 stored_report profile.Udev s env = if is_stored_known s.event then taken_report s.env env else codes "not run"
 
--- what an IMPORT met, by the properties after it
-abbrev pub import_report : Import → State → List Pair → Text
-import_report (import.Builtin template) s env =
+-- what an IMPORT met, by whether it left a note and the properties after it
+abbrev pub import_report : Import → State → (noted : Bool) → List Pair → Text
+import_report (import.Builtin template) s noted env =
     on_rendered (λ command. shown command ++ space ∷ taken_report s.env env) (import_text most_command_bytes template s)
-import_report (import.Parent names value) s env = parent_report s.event.profile value s env
-import_report (import.Program template) s env = program_import_report s.event.profile template s env
-import_report (import.File template) s env = unrun_report s.event.profile most_path_bytes template s
-import_report (import.Cmdline name) s env = cmdline_report s.event.profile name s env
-import_report (import.Db name) s env = stored_report s.event.profile s env
+import_report (import.Parent names value) s noted env = parent_report s.event.profile value s env
+import_report (import.Program template) s noted env = program_import_report s.event.profile template s env
+import_report (import.File template) s noted env = file_report s.event.profile template s noted env
+import_report (import.Cmdline name) s noted env = cmdline_report s.event.profile name s env
+import_report (import.Db name) s noted env = stored_report s.event.profile s env
 
--- what an act met, by the properties after it
-abbrev pub act_kind_report : ActKind → State → List Pair → Text
-act_kind_report (act_kind.Test mask template) s env = on_rendered (path_report (is_some mask) s.event) (test_text template s)
-act_kind_report (act_kind.Program template) s env = on_rendered (λ command. answer_report command (value_of s.event.programs command)) (program_text template s)
-act_kind_report (act_kind.Import from) s env = import_report from s env
+-- what an act met, by whether it left a note and the properties after it
+abbrev pub act_kind_report : ActKind → State → (noted : Bool) → List Pair → Text
+act_kind_report (act_kind.Test mask template) s noted env = on_rendered (path_report (is_some mask) s.event) (test_text template s)
+act_kind_report (act_kind.Program template) s noted env = on_rendered (λ command. answer_report command (value_of s.event.programs command)) (program_text template s)
+act_kind_report (act_kind.Import from) s noted env = import_report from s noted env
 
--- an act, whether its rule goes on, and what it met, by the scene after it
-abbrev pub act_met : Act → State → Scene × Bool → Text
-act_met act s went = act_key act ++ met went.1 ++ act_kind_report act.kind s went.0.state.env
+-- whether a scene has other notes than one before it
+abbrev pub has_noted : (before after : Scene) → Bool
+has_noted before after = not (length after.notes == length before.notes)
+
+-- an act, whether its rule goes on, and what it met, by the scene before it and the one after it
+abbrev pub act_met : Act → Scene → Scene × Bool → Text
+act_met act s went = act_key act ++ met went.1 ++ act_kind_report act.kind s.state (has_noted s went.0) went.0.state.env
 
 -- an act, and what it met
 unfoldable pub act_report : Known → Rule → Act → Scene → Text
-act_report known r act s = act_met act s.state (act_step known r act s)
+act_report known r act s = act_met act s (act_step known r act s)

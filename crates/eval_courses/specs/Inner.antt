@@ -1,6 +1,6 @@
 -- Serves inner proofs only: what is known about an act before it is done, what a match looks at as it is borrowed,
 -- and what is reported and asked moment by moment.
-use Rattle.std.specs.Prelude.{ℕ, ◌+◌, List, [], ◌∷◌, ◌++◌, map, option_map, codes}
+use Rattle.std.specs.Prelude.{ℕ, ◌+◌, Bool, List, [], ◌∷◌, ◌++◌, map, option_map, codes}
 use Rattle.text_tables.specs.Texts.{Text}
 use Rattle.text_tables.specs.Pairs.{Pair}
 use Rattle.rule_types.specs.declared.part.Act.{Act}
@@ -11,7 +11,7 @@ use Rattle.eval_matching.specs.Subjects.{members_by, subsystem_by}
 use Rattle.eval_rules.specs.Idle.{is_idle}
 use Rattle.eval_rules.specs.Steps.{Went}
 use Rattle.eval_rules.specs.Watched.{Happening, acted, assigned, comparing, entered, left, meeting, passed, searching, skipped, stopped}
-use Rattle.eval_courses.specs.Acts.{taken_report}
+use Rattle.eval_courses.specs.Acts.{has_noted, noted_report, taken_report}
 use Rattle.eval_courses.specs.Keys.{act_key}
 use Rattle.eval_courses.specs.Looks.{met, plain_report, result_report}
 use Rattle.eval_courses.specs.Questions.{act_asks, with_asked}
@@ -24,14 +24,15 @@ use Rattle.eval_courses.specs.declared.fate.Fate.TheVariants.{Passed, Stopped, M
 use Rattle.eval_courses.specs.declared.subjects.Subject as borrowed
 use Rattle.eval_courses.specs.declared.subjects.Subject.TheVariants as borrowed_as
 
--- what is reported for an act, by the properties after it
-abbrev pub report_after : ReportBefore → List Pair → Text
-report_after (before.Whole text) env = text
-report_after (before.Taking text properties) env = text ++ taken_report properties env
+-- what is reported for an act, by whether it left a note and the properties after it
+abbrev pub report_after : ReportBefore → (noted : Bool) → List Pair → Text
+report_after (before.Whole text) noted env = text
+report_after (before.Taking text properties) noted env = text ++ taken_report properties env
+report_after (before.Importing properties) noted env = noted_report noted properties env
 
 -- an act that was done, whether its rule goes on, and what it met
-unfoldable pub done_report : Act → ReportBefore → Went → Text
-done_report act reported went = act_key act ++ met went.1 ++ report_after reported went.0.state.env
+unfoldable pub done_report : Act → ReportBefore → Scene → Went → Text
+done_report act reported s went = act_key act ++ met went.1 ++ report_after reported (has_noted s went.0) went.0.state.env
 
 -- what a match looks at
 abbrev pub subject_of : borrowed.Subject → Subject

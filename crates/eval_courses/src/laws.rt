@@ -1,7 +1,7 @@
 //! What holds for courses, whatever the rule. Each function here is empty: its contract is the law.
 ghost use Rattle.std.specs.Prelude.{◌≡◌, ◌↔◌, ◌∷◌, ◌++◌, Bool, ℕ, List, Option, Some, codes, length, true, false};
 ghost use Rattle.text_tables.specs.Texts.{Text};
-ghost use Rattle.builtin_devices.specs.Knowledge.{Known};
+ghost use Rattle.builtin_knowledge.specs.Knowledge.{Known};
 ghost use Rattle.rule_types.specs.declared.part.UpMatch.{UpMatch};
 ghost use Rattle.rule_types.specs.Rules as rules;
 ghost use Rattle.eval_state.specs.declared.scene.Scene.{Scene};

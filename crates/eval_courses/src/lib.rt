@@ -16,6 +16,7 @@ mod asking;
 mod asks;
 mod commands;
 mod fate;
+mod imports;
 mod key_lists;
 mod keys;
 mod laws;

@@ -13,7 +13,9 @@ use Rattle.text_core.specs.Choices.{choice_fits}
 use Rattle.text_core.specs.Fnmatch.{fnmatch_items}
 use Rattle.text_core.specs.declared.item.Item.{Item}
 use Rattle.text_core.specs.declared.reading.Reading.TheVariants.{Exact}
-use Rattle.builtin_devices.specs.Knowledge.{Known}
+use Rattle.builtin_knowledge.specs.Knowledge.{Known}
+use Rattle.builtin_knowledge.specs.declared.root_files.RootFile.{RootFile}
+use Rattle.builtin_knowledge.specs.declared.root_files.RootFile.TheVariants.{Absent, Read}
 use Rattle.rule_templates.specs.Template.{Parts as Template}
 use Rattle.rule_types.specs.Names.{import_name}
 use Rattle.rule_types.specs.WrittenParts.{attribute_of_act_kind, key_of_act_kind}
@@ -55,6 +57,7 @@ use Rattle.eval_state.specs.Properties.{given_properties, properties_set, proper
 use Rattle.eval_acts.specs.ActTexts.{import_text, names_text, program_text, test_text}
 use Rattle.eval_acts.specs.Acts.{act_step, command_reached, from_parent_by, import_reached, imported, on_text, performed}
 use Rattle.eval_acts.specs.Inner.{left}
+use Rattle.eval_acts.specs.RootImports.{file_properties, from_file, from_found}
 use Rattle.eval_acts.specs.Stored.{from_stored, is_stored_known, stored_value}
 use Rattle.eval_acts.specs.LookUpNeeds.{lookup_needs}
 use Rattle.eval_acts.specs.Imports.{builtin_run, from_answer_or_noted, from_cmdline, from_line, from_parent, from_program, line_for, name_given, names_fitting}
@@ -68,7 +71,7 @@ use Rattle.eval_laws.specs.Weights.{note_weight}
 use Rattle.eval_laws.proofs.Tables.{with_value_light, with_values_light, without_name_light}
 use Rattle.eval_laws.proofs.Sums.{filter_light, fold_light}
 use Rattle.eval_laws.proofs.Found.{found_light, query_light}
-use Rattle.eval_laws.proofs.PrintedWeights.{answered_weight, answers_light, printed_light}
+use Rattle.eval_laws.proofs.PrintedWeights.{answered_weight, answers_light, file_light, printed_light}
 use Rattle.eval_laws.proofs.StoredWeights.{stored_light}
 use Rattle.eval_laws.proofs.CmdlineWeights.{cmdline_light, line_light, line_weight, set_weight}
 use Rattle.eval_laws.proofs.Scenes.{more, noted_within}
@@ -307,6 +310,25 @@ module _ (event : EventValue) where
     not_run_within : (type : ImportType) → Within event (n + most) (not_run r type s).0
     not_run_within type = notes ImportNotRun (import_name type)
 
+    found_within : (found : Option RootFile) → most_set + (length r.file + 280) ≤ most → Within event (n + most) (from_found r found s).0
+    found_within None light = not_run_within import_of.File
+    found_within (Some Absent) light = stays
+    found_within (Some (Read bytes)) light = by (nat_le (length bytes) most_set) refl
+      where
+        by : (b : Bool) → nat_le (length bytes) most_set ≡ b
+            → Within event (n + most) (if◌then◌else◌ {A = Scene × Bool} b (with_env (properties_set s.state.env (file_properties bytes)) s, true) (not_run r import_of.File s)).0
+        by true fits =
+            let a = file_light bytes in
+            let b = leb-true (length bytes) most_set fits in
+            more_env Udev (file_properties bytes) (omega (arith, a, b, light))
+        by false over = not_run_within import_of.File
+
+    -- udev may set as much as a builtin
+    file_room : (entries : ℕ) → Udev ≡ event.profile → entries + (builtin_allowance event.profile + (length r.file + 280)) ≤ most → most_set + (length r.file + 280) ≤ most
+    file_room entries is light =
+        let same : most_set ≡ builtin_allowance event.profile = ap builtin_allowance is in
+        omega (arith, same, light)
+
     program_within : (command : Text) → event_weight event ≤ most → Within event (n + most) (from_program r command s).0
     program_within command short = answer_within NoAnswer command command short
 
@@ -346,23 +368,23 @@ module _ (event : EventValue) where
         on_text_within d (run_builtin known r) given
         (λ command. builtin_within s.state.event.profile known command (let same = ap (λ e. builtin_allowance e.profile) h.same in omega (arith, same, light)) short)
 
-    import_within : (profile : Profile) (d : ActKind) (known : Known) (from : Import) → entries_weight known.entries + (builtin_allowance event.profile + (length r.file + 280)) ≤ most → event_weight event ≤ most
-        → Within event (n + most) (left r d (imported profile known r from s))
-    import_within Manual d known (import.Builtin template) light short = built_within d known _ light short
-    import_within Udev d known (import.Builtin template) light short = built_within d known _ light short
-    import_within Manual d known (import.Parent names text) light short = second_within names short
-    import_within Udev d known (import.Parent names text) light short =
+    import_within : (profile : Profile) (d : ActKind) (known : Known) (from : Import) → profile ≡ event.profile
+        → entries_weight known.entries + (builtin_allowance event.profile + (length r.file + 280)) ≤ most → event_weight event ≤ most → Within event (n + most) (left r d (imported profile known r from s))
+    import_within Manual d known (import.Builtin template) is light short = built_within d known _ light short
+    import_within Udev d known (import.Builtin template) is light short = built_within d known _ light short
+    import_within Manual d known (import.Parent names text) is light short = second_within names short
+    import_within Udev d known (import.Parent names text) is light short =
         on_text_within d from_parent_by (names_text text s.state) (λ found. second_within (fnmatch_items Exact found 0 ∷ []) short)
-    import_within Manual d known (import.Program template) light short = not_run_within import_of.Program
-    import_within Udev d known (import.Program template) light short =
+    import_within Manual d known (import.Program template) is light short = not_run_within import_of.Program
+    import_within Udev d known (import.Program template) is light short =
         on_text_within d (from_program r) (import_text most_command_bytes template s.state) (λ command. program_within command short)
-    import_within Manual d known (import.File template) light short = not_run_within import_of.File
-    import_within Udev d known (import.File template) light short =
-        on_text_within d (λ path. not_run r import_of.File) (import_text most_path_bytes template s.state) (λ path. not_run_within import_of.File)
-    import_within Manual d known (import.Cmdline name) light short = not_run_within import_of.Cmdline
-    import_within Udev d known (import.Cmdline name) light short = cmdline_within name short
-    import_within Manual d known (import.Db name) light short = not_run_within import_of.Db
-    import_within Udev d known (import.Db name) light short = stored_within name short
+    import_within Manual d known (import.File template) is light short = not_run_within import_of.File
+    import_within Udev d known (import.File template) is light short =
+        on_text_within d (from_file known r) (import_text most_path_bytes template s.state) (λ path. found_within (known.file path) (file_room (entries_weight known.entries) is light))
+    import_within Manual d known (import.Cmdline name) is light short = not_run_within import_of.Cmdline
+    import_within Udev d known (import.Cmdline name) is light short = cmdline_within name short
+    import_within Manual d known (import.Db name) is light short = not_run_within import_of.Db
+    import_within Udev d known (import.Db name) is light short = stored_within name short
 
   emptied : (n : ℕ) (s : Scene) → Within event n s → Within event n (with_result [] s)
   unfolding scene_weight
@@ -403,7 +425,7 @@ module _ (event : EventValue) where
         let reached : Scene = import_reached s.state.event.profile r from s in
         let inside = reached_within n r s h s.state.event.profile from in
         more event ((n + note) + most) (n + act_kind_allowance event.profile len known.entries r (act_kind.Import from)) _ (omega arith)
-        (import_within (n + note) r reached inside most (omega arith) s.state.event.profile (act_kind.Import from) known from (omega arith) (omega (arith, short)))
+        (import_within (n + note) r reached inside most (omega arith) s.state.event.profile (act_kind.Import from) known from (ap (λ e. e.profile) h.same) (omega arith) (omega (arith, short)))
 
     -- an act
     pub act_within : (r : Rule) (act : Act) (n : ℕ) (s : Scene) → Within event n s → Within event (n + act_kind_allowance event.profile len known.entries r act.kind) (act_step known r act s).0

@@ -10,7 +10,7 @@ use Rattle.text_bytes.specs.declared.profile.Profile.{Profile}
 use Rattle.text_bytes.specs.declared.source_file.SourceFile.{SourceFile}
 use Rattle.text_tables.specs.Texts.{Text}
 use Rattle.text_tables.specs.Pairs.{Pair}
-use Rattle.builtin_devices.specs.Knowledge.{Known}
+use Rattle.builtin_knowledge.specs.Knowledge.{Known}
 use Rattle.rule_core.specs.Rules.{set_of_as}
 use Rattle.device_core.specs.Faults.{block_gives}
 use Rattle.device_core.specs.Values.{DeviceValue, EventValue, by_profile}

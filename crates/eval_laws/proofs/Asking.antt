@@ -4,7 +4,7 @@ use Rattle.std.proofs.lemmas.Bool.{eqb-true}
 use Rattle.text_tables.specs.Texts.{Text}
 use Rattle.text_tables.specs.Pairs.{value_of}
 use Rattle.device_core.specs.Values.{AnswerValue}
-use Rattle.builtin_devices.specs.Knowledge.{Known}
+use Rattle.builtin_knowledge.specs.Knowledge.{Known}
 use Rattle.rule_templates.specs.Template.{Parts as Template}
 use Rattle.rule_types.specs.declared.part.ActKind.TheVariants as act_kind
 use Rattle.rule_types.specs.Rules.{Rule}

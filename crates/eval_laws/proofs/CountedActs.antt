@@ -1,5 +1,5 @@
 -- How much an act of a rule adds to what is counted.
-use Rattle.std.proofs.Common.{ℕ, ◌+◌, ◌≤◌, nat_le, Bool, true, false, ◌==◌, List, [], ◌∷◌, ◌++◌, Option, Some, None, is_some, ◌||◌, codes, if◌then◌else◌, arith}
+use Rattle.std.proofs.Common.{ℕ, ◌+◌, ◌≤◌, nat_le, Bool, true, false, ◌==◌, List, [], ◌∷◌, ◌++◌, length, Option, Some, None, is_some, ◌||◌, codes, if◌then◌else◌, arith}
 use Rattle.std.proofs.lemmas.List.Sums.{sum_by-append}
 use Rattle.text_bytes.specs.Names.{slash}
 use Rattle.text_bytes.specs.Texts.{begins_with}
@@ -10,7 +10,9 @@ use Rattle.text_tables.specs.Pairs.{Pair, value_of}
 use Rattle.text_core.specs.Fnmatch.{fnmatch_items}
 use Rattle.text_core.specs.declared.item.Item.{Item}
 use Rattle.text_core.specs.declared.reading.Reading.TheVariants.{Exact}
-use Rattle.builtin_devices.specs.Knowledge.{Known}
+use Rattle.builtin_knowledge.specs.Knowledge.{Known}
+use Rattle.builtin_knowledge.specs.declared.root_files.RootFile.{RootFile}
+use Rattle.builtin_knowledge.specs.declared.root_files.RootFile.TheVariants.{Absent, Read}
 use Rattle.rule_templates.specs.Template.{Parts as Template}
 use Rattle.rule_types.specs.Names.{import_name}
 use Rattle.rule_types.specs.WrittenParts.{attribute_of_act_kind, key_of_act_kind}
@@ -48,6 +50,7 @@ use Rattle.eval_commands.specs.declared.builtin.Builtin.TheVariants as asked_for
 use Rattle.eval_acts.specs.ActTexts.{import_text, names_text, program_text, test_text}
 use Rattle.eval_acts.specs.Acts.{act_step, command_reached, from_parent_by, import_reached, imported, on_text, performed}
 use Rattle.eval_acts.specs.Inner.{left}
+use Rattle.eval_acts.specs.RootImports.{file_properties, from_file, from_found}
 use Rattle.eval_acts.specs.Stored.{from_stored, is_stored_known, stored_value}
 use Rattle.eval_acts.specs.Imports.{builtin_run, from_answer_or_noted, from_line, from_parent, from_program, line_for, name_given, not_run, run_builtin, taken}
 use Rattle.eval_acts.specs.LookUpNeeds.{lookup_needs}
@@ -157,6 +160,15 @@ module _ (w : Note → ℕ) (v : RunValue → ℕ) (c : Rule → ℕ) (light : (
     not_run_counts : (type : ImportType) → counted (not_run r type s).0 ≤ counted s + c r
     not_run_counts type = notes ImportNotRun (import_name type)
 
+    found_counts : (found : Option RootFile) → counted (from_found r found s).0 ≤ counted s + c r
+    found_counts None = not_run_counts import_of.File
+    found_counts (Some Absent) = omega arith
+    found_counts (Some (Read bytes)) = by (nat_le (length bytes) most_set)
+      where
+        by : (b : Bool) → counted (if◌then◌else◌ {A = Scene × Bool} b (with_env (properties_set s.state.env (file_properties bytes)) s, true) (not_run r import_of.File s)).0 ≤ counted s + c r
+        by true = omega arith
+        by false = not_run_counts import_of.File
+
     given_counts : (name : Text) (value : Option Text) → counted (name_given name value s).0 ≤ counted s + c r
     given_counts name None = omega arith
     given_counts name (Some value) = omega arith
@@ -185,7 +197,7 @@ module _ (w : Note → ℕ) (v : RunValue → ℕ) (c : Rule → ℕ) (light : (
     import_counts Udev d known (import.Program template) =
         on_text_counts d (from_program r) (import_text most_command_bytes template s.state) (λ command. printed_counts NoAnswer command (value_of s.state.event.programs command))
     import_counts Manual d known (import.File template) = not_run_counts import_of.File
-    import_counts Udev d known (import.File template) = on_text_counts d (λ path. not_run r import_of.File) (import_text most_path_bytes template s.state) (λ text. not_run_counts import_of.File)
+    import_counts Udev d known (import.File template) = on_text_counts d (from_file known r) (import_text most_path_bytes template s.state) (λ path. found_counts (known.file path))
     import_counts Manual d known (import.Cmdline name) = not_run_counts import_of.Cmdline
     import_counts Udev d known (import.Cmdline name) = line_counts name (line_for name s.state.event)
     import_counts Manual d known (import.Db name) = not_run_counts import_of.Db

@@ -7,7 +7,7 @@ use Rattle.text_tables.specs.Pairs.{Pair}
 use Rattle.text_core.specs.Fits.{fits}
 use Rattle.hwdb_lookup.specs.Query.{fitting, property, put, query, winner, winners}
 use Rattle.hwdb_lookup.specs.declared.entry.Entry.{Entry}
-use Rattle.builtin_devices.specs.Knowledge.{Known}
+use Rattle.builtin_knowledge.specs.Knowledge.{Known}
 use Rattle.eval_laws.specs.DeviceWeights.{pair_weight, pairs_weight}
 use Rattle.eval_state.specs.declared.state.State.{State}
 use Rattle.eval_acts.specs.LookUps.{counted_properties, counts, first_found, found, texts}

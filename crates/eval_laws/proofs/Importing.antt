@@ -8,7 +8,7 @@ use Rattle.text_tables.specs.Texts.{Text}
 use Rattle.text_tables.specs.Pairs.{Pair, value_of, with_values}
 use Rattle.text_core.specs.Choices.{choice_fits}
 use Rattle.text_core.specs.declared.item.Item.{Item}
-use Rattle.builtin_devices.specs.Knowledge.{Known}
+use Rattle.builtin_knowledge.specs.Knowledge.{Known}
 use Rattle.device_core.specs.Values.{DeviceValue}
 use Rattle.rule_templates.specs.Template.{Parts as Template}
 use Rattle.rule_types.specs.declared.part.ActKind.{ActKind}

@@ -1,5 +1,5 @@
 -- Keys that are final stay, through any further rules.
-use Rattle.std.proofs.Common.{◌≡◌, ℕ, Bool, true, false, cond, ◌||◌, is_some, List, [], ◌∷◌, Option, Some, None, refl, ap, ◌∙◌, codes, nat_le}
+use Rattle.std.proofs.Common.{◌≡◌, ℕ, Bool, true, false, cond, ◌||◌, is_some, List, [], ◌∷◌, length, Option, Some, None, refl, ap, ◌∙◌, codes, nat_le}
 use Rattle.std.specs.List.{fold}
 use Rattle.text_bytes.specs.Names.{slash}
 use Rattle.text_bytes.specs.Texts.{begins_with}
@@ -10,7 +10,9 @@ use Rattle.text_tables.specs.Pairs.{Pair, value_of}
 use Rattle.text_core.specs.Fnmatch.{fnmatch_items}
 use Rattle.text_core.specs.declared.item.Item.{Item}
 use Rattle.text_core.specs.declared.reading.Reading.TheVariants.{Exact}
-use Rattle.builtin_devices.specs.Knowledge.{Known}
+use Rattle.builtin_knowledge.specs.Knowledge.{Known}
+use Rattle.builtin_knowledge.specs.declared.root_files.RootFile.{RootFile}
+use Rattle.builtin_knowledge.specs.declared.root_files.RootFile.TheVariants.{Absent, Read}
 use Rattle.device_core.specs.Values.{AnswerValue, DeviceValue}
 use Rattle.rule_templates.specs.Template.{Parts}
 use Rattle.rule_types.specs.declared.roles.PlainKey.{PlainKey}
@@ -23,6 +25,7 @@ use Rattle.rule_types.specs.declared.part.Import.{Import}
 use Rattle.rule_types.specs.declared.part.Import.TheVariants as import
 use Rattle.rule_types.specs.declared.part.PlainMatch.{PlainMatch}
 use Rattle.rule_types.specs.declared.part.UpMatch.{UpMatch}
+use Rattle.rule_types.specs.Names.{import_name}
 use Rattle.rule_types.specs.declared.types.ImportType.TheVariants.{Db, File}
 use Rattle.rule_types.specs.Rules.{Rule}
 use Rattle.eval_state.specs.Chains.{device_at}
@@ -31,7 +34,7 @@ use Rattle.eval_state.specs.Named.{NamedValue, named, named_place}
 use Rattle.eval_state.specs.Properties.{properties_set}
 use Rattle.eval_state.specs.Scenes.{noted, with_env}
 use Rattle.eval_state.specs.declared.note_kind.NoteKind.{NoteKind}
-use Rattle.eval_state.specs.declared.note_kind.NoteKind.TheVariants.{AttributeNotRead, BuiltinNotRun, ConstantNotGiven, NoAnswer, TestNotMade, TextTooLong}
+use Rattle.eval_state.specs.declared.note_kind.NoteKind.TheVariants.{AttributeNotRead, BuiltinNotRun, ConstantNotGiven, ImportNotRun, NoAnswer, TestNotMade, TextTooLong}
 use Rattle.eval_rendering.specs.Bounds.{most_command_bytes, most_path_bytes}
 use Rattle.eval_rendering.specs.declared.rendered.Rendered.{Rendered}
 use Rattle.eval_rendering.specs.declared.rendered.Rendered.TheVariants as rendered
@@ -51,6 +54,7 @@ use Rattle.eval_matching.specs.Subjects.{is_not_given}
 use Rattle.eval_acts.specs.ActTexts.{import_text, names_text, program_text}
 use Rattle.eval_acts.specs.Acts.{act_step, command_reached, from_parent_by, import_reached, imported, on_text, performed, too_long_noted}
 use Rattle.eval_acts.specs.BuiltinRuns.{looked_up, most_set, needs_noted, outcome_set, outcome_taken, path_id_run, properties_size, usb_id_run, with_maker}
+use Rattle.eval_acts.specs.RootImports.{file_properties, from_file, from_found}
 use Rattle.eval_acts.specs.Stored.{from_stored, is_stored_known, stored_value}
 use Rattle.eval_acts.specs.Imports.{builtin_run, from_answer_or_noted, from_line, from_parent, from_program, line_for, name_given, not_run, run_builtin, taken}
 use Rattle.eval_acts.specs.LookUpNeeds.{lookup_needs}
@@ -191,6 +195,12 @@ stored_same r name s = by (is_stored_known s.state.event)
 built_same : (known : Known) (r : Rule) (text : Rendered) (s : Scene) → Same s (on_text (run_builtin known r) text s).0
 built_same known r text s = on_text_same (run_builtin known r) (λ c u. builtin_same known r c _ u) text s
 
+found_same : (r : Rule) (found : Option RootFile) (s : Scene) → Same s (from_found r found s).0
+found_same r None s = refl
+found_same r (Some Absent) s = refl
+found_same r (Some (Read bytes)) s =
+    chosen s (with_env (properties_set s.state.env (file_properties bytes)) s) (noted r ImportNotRun (import_name File) s) true false (nat_le (length bytes) most_set) refl refl
+
 imported_same : (profile : Profile) (known : Known) (r : Rule) (i : Import) (s : Scene) → Same s (imported profile known r i s).0
 imported_same Manual known r (import.Builtin t) s = built_same known r _ s
 imported_same Udev known r (import.Builtin t) s = built_same known r _ s
@@ -201,7 +211,7 @@ imported_same Manual known r (import.Program t) s = refl
 imported_same Udev known r (import.Program t) s =
     on_text_same (from_program r) (λ c u. printed_same r NoAnswer c (value_of u.state.event.programs c) u) (import_text most_command_bytes t s.state) s
 imported_same Manual known r (import.File t) s = refl
-imported_same Udev known r (import.File t) s = on_text_same (λ path. not_run r File) (λ text u. refl) (import_text most_path_bytes t s.state) s
+imported_same Udev known r (import.File t) s = on_text_same (from_file known r) (λ path u. found_same r (known.file path) u) (import_text most_path_bytes t s.state) s
 imported_same Manual known r (import.Cmdline name) s = refl
 imported_same Udev known r (import.Cmdline name) s = line_same r name (line_for name s.state.event) s
 imported_same Manual known r (import.Db name) s = refl

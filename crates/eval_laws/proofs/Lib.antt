@@ -62,6 +62,7 @@ pub mod PrintedWeights
 pub mod CmdlineWeights
 pub mod StoredWeights
 pub mod StoredImports
+pub mod FileImports
 pub mod PrintedReading
 pub mod PrintedGiven
 pub mod PrintedActs

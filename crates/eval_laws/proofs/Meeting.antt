@@ -3,7 +3,7 @@ use Rattle.std.proofs.Common.{◌≡◌, ◌↔◌, ℕ, nat_lt, ltb-true, ltb-f
 use Rattle.std.specs.List.{fold, list_all}
 use Rattle.text_bytes.specs.declared.profile.Profile.{Profile}
 use Rattle.text_bytes.specs.declared.profile.Profile.TheVariants.{Manual}
-use Rattle.builtin_devices.specs.Knowledge.{Known}
+use Rattle.builtin_knowledge.specs.Knowledge.{Known}
 use Rattle.device_core.specs.Values.{EventValue, chain}
 use Rattle.rule_types.specs.declared.part.Act.{Act}
 use Rattle.rule_types.specs.declared.part.Comparison.{Comparison}

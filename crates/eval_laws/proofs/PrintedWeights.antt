@@ -10,6 +10,7 @@ use Rattle.text_tables.specs.Pairs.{Pair, value_of}
 use Rattle.text_core.proofs.Cutting.{position-lt}
 use Rattle.device_core.specs.Values.{AnswerValue, EventValue}
 use Rattle.eval_acts.specs.Printed.{bare, before_end, line_property, printed_properties, property_cut, property_of, unquoted, unspaced}
+use Rattle.eval_acts.specs.RootImports.{ends_file_line, file_properties}
 use Rattle.eval_rendering.specs.Pieces.{ends_line}
 use Rattle.eval_commands.specs.Words.{is_quote}
 use Rattle.eval_laws.specs.DeviceWeights.{answer_weight, event_weight, pair_weight, pairs_weight, text_weight}
@@ -119,6 +120,14 @@ unfolding printed_properties
 printed_light text =
     let a = lines_light (slice_split ends_line text) in
     let b = split_light ends_line text in
+    omega (arith, a, b)
+
+-- what the properties that a file gives weigh
+pub file_light : (text : Text) → pairs_weight (file_properties text) ≤ text_weight text
+unfolding file_properties
+file_light text =
+    let a = lines_light (slice_split ends_file_line text) in
+    let b = split_light ends_file_line text in
     omega (arith, a, b)
 
 -- ---- an answer

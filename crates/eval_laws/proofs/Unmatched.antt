@@ -1,7 +1,7 @@
 -- Matches change nothing but the notes, so that a rule whose matches do not hold changes nothing else.
 use Rattle.std.proofs.Common.{◌≡◌, Bool, true, false, cond, ◌||◌, ◌&&◌, List, [], ◌∷◌, None, refl, ap, sym, ◌∙◌}
 use Rattle.std.specs.List.{list_all, list_any}
-use Rattle.builtin_devices.specs.Knowledge.{Known}
+use Rattle.builtin_knowledge.specs.Knowledge.{Known}
 use Rattle.rule_types.specs.declared.roles.PlainKey.{PlainKey}
 use Rattle.rule_types.specs.declared.roles.PlainKey.TheVariants as plain
 use Rattle.rule_types.specs.declared.part.PlainMatch.{PlainMatch}

@@ -35,7 +35,7 @@ entries_weight entries = sum_by entry_weight entries
 abbrev pub part_allowance : Rule → Option Text → ℕ
 part_allowance r attribute = most_added + length (or_empty attribute) + length r.file
 
--- what a builtin of udev may set
+-- what a builtin of udev may set, and what is taken of a file
 abbrev pub builtin_allowance : Profile → ℕ
 builtin_allowance Manual = 0
 builtin_allowance Udev = most_set

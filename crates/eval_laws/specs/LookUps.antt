@@ -4,7 +4,7 @@ use Rattle.std.specs.List.{flat_map}
 use Rattle.text_bytes.specs.Names.{equals}
 use Rattle.text_tables.specs.Texts.{Text}
 use Rattle.text_tables.specs.Pairs.{Pair}
-use Rattle.builtin_devices.specs.Knowledge.{Known}
+use Rattle.builtin_knowledge.specs.Knowledge.{Known}
 use Rattle.eval_acts.specs.LookUps.{Candidate, counted_properties, is_wanted}
 use Rattle.eval_commands.specs.declared.hwdb.Hwdb.{Hwdb}
 

@@ -1,7 +1,7 @@
 -- When the end of a rule is reached: all its keys let it go on.
 use Rattle.std.specs.Prelude.{◌≡◌, true, List, [], ◌∷◌, Some, fold}
 use Rattle.std.specs.List.{list_all}
-use Rattle.builtin_devices.specs.Knowledge.{Known}
+use Rattle.builtin_knowledge.specs.Knowledge.{Known}
 use Rattle.rule_types.specs.Rules.{Rule}
 use Rattle.rule_types.specs.declared.part.Act.{Act}
 use Rattle.rule_types.specs.declared.part.UpMatch.{UpMatch}

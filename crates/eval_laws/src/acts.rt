@@ -8,7 +8,7 @@ ghost use Rattle.text_tables.specs.Pairs.{value_of, with_values};
 ghost use Rattle.text_tables.specs.Texts.{Text};
 ghost use Rattle.text_core.specs.Choices.{choice_fits};
 ghost use Rattle.text_core.specs.declared.item.Item.{Item};
-ghost use Rattle.builtin_devices.specs.Knowledge.{Known};
+ghost use Rattle.builtin_knowledge.specs.Knowledge.{Known};
 ghost use Rattle.builtin_devices.specs.Outcomes.{failing, succeeding};
 ghost use Rattle.device_core.specs.Values.{DeviceValue};
 ghost use Rattle.rule_templates.specs.Template as templates;

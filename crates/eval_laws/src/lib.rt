@@ -18,6 +18,7 @@ pub mod outputs;
 pub mod printed;
 pub mod programs;
 pub mod rendering;
+pub mod root_files;
 pub mod safe_texts;
 pub mod sketches;
 pub mod stored;

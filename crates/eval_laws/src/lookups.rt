@@ -11,7 +11,7 @@ ghost use Rattle.text_core.specs.Fits.{fits};
 ghost use Rattle.text_core.specs.Spell.{spell};
 ghost use Rattle.text_core.specs.declared.item.Item.{Item};
 ghost use Rattle.hwdb_lookup.specs.Query.{query};
-ghost use Rattle.builtin_devices.specs.Knowledge.{Known};
+ghost use Rattle.builtin_knowledge.specs.Knowledge.{Known};
 ghost use Rattle.device_core.specs.Values.{DeviceValue};
 ghost use Rattle.builtin_devices.specs.Devices.{is_of};
 ghost use Rattle.builtin_devices.specs.Numbers.{number_in};

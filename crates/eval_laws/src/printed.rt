@@ -5,7 +5,7 @@ ghost use Rattle.text_bytes.specs.Names.{equals, hash, is_blank};
 ghost use Rattle.text_bytes.specs.declared.profile.Profile.TheVariants.{Udev};
 ghost use Rattle.text_tables.specs.Texts.{Text};
 ghost use Rattle.text_tables.specs.Pairs.{Pair};
-ghost use Rattle.builtin_devices.specs.Knowledge.{Known};
+ghost use Rattle.builtin_knowledge.specs.Knowledge.{Known};
 ghost use Rattle.rule_templates.specs.Template as templates;
 ghost use Rattle.rule_types.specs.Rules.{Rule};
 ghost use Rattle.rule_types.specs.declared.roles.MatchOperator.{MatchOperator};

@@ -1,5 +1,5 @@
 -- What an event says of itself stays, whatever rules do.
-use Rattle.std.proofs.Common.{◌==◌, ◌||◌, ℕ, Bool, true, false, cond, List, [], ◌∷◌, Option, Some, None, is_some, refl, nat_le, codes, ◌∙◌}
+use Rattle.std.proofs.Common.{◌==◌, ◌||◌, ℕ, Bool, true, false, cond, List, [], ◌∷◌, length, Option, Some, None, is_some, refl, nat_le, codes, ◌∙◌}
 use Rattle.std.specs.List.{fold}
 use Rattle.text_bytes.specs.Names.{slash}
 use Rattle.text_bytes.specs.Texts.{begins_with}
@@ -9,7 +9,9 @@ use Rattle.text_core.specs.Fnmatch.{fnmatch_items}
 use Rattle.text_core.specs.declared.reading.Reading.TheVariants.{Exact}
 use Rattle.text_tables.specs.Texts.{Text}
 use Rattle.text_tables.specs.Pairs.{Pair, value_of}
-use Rattle.builtin_devices.specs.Knowledge.{Known}
+use Rattle.builtin_knowledge.specs.Knowledge.{Known}
+use Rattle.builtin_knowledge.specs.declared.root_files.RootFile.{RootFile}
+use Rattle.builtin_knowledge.specs.declared.root_files.RootFile.TheVariants.{Absent, Read}
 use Rattle.device_core.specs.Values.{AnswerValue, DeviceValue}
 use Rattle.rule_templates.specs.Template.{Parts}
 use Rattle.rule_types.specs.declared.roles.PlainKey.{PlainKey}
@@ -46,6 +48,7 @@ use Rattle.eval_state.specs.declared.note_kind.NoteKind.TheVariants.{AttributeNo
 use Rattle.eval_state.specs.declared.scene.Scene.{Scene}
 use Rattle.eval_acts.specs.Acts.{act_step, command_reached, from_parent_by, import_reached, imported, on_text, performed, too_long_noted}
 use Rattle.eval_acts.specs.BuiltinRuns.{looked_up, most_set, needs_noted, outcome_set, outcome_taken, path_id_run, properties_size, usb_id_run, with_maker}
+use Rattle.eval_acts.specs.RootImports.{file_properties, from_file, from_found}
 use Rattle.eval_acts.specs.Stored.{from_stored, is_stored_known, stored_value}
 use Rattle.eval_acts.specs.Imports.{builtin_run, from_answer_or_noted, from_line, from_parent, from_program, line_for, name_given, not_run, run_builtin, taken}
 use Rattle.eval_acts.specs.LookUpNeeds.{lookup_needs}
@@ -150,6 +153,12 @@ stored_stays r name s = by (is_stored_known s.state.event)
     by true = given_stays name (stored_value name s.state.event) s
     by false = refl
 
+found_stays : (r : Rule) (found : Option RootFile) (s : Scene) → Stays s (from_found r found s).0
+found_stays r None s = refl
+found_stays r (Some Absent) s = refl
+found_stays r (Some (Read bytes)) s =
+    either s (nat_le (length bytes) most_set) (with_env (properties_set s.state.env (file_properties bytes)) s, true) (not_run r File s) refl refl
+
 imported_stays : (p : Profile) (known : Known) (r : Rule) (i : Import) (s : Scene) → Stays s (imported p known r i s).0
 imported_stays Manual known r (import.Builtin t) s = built_stays known r _ s
 imported_stays Udev known r (import.Builtin t) s = built_stays known r _ s
@@ -158,7 +167,7 @@ imported_stays Udev known r (import.Parent names text) s = text_stays from_paren
 imported_stays Manual known r (import.Program t) s = refl
 imported_stays Udev known r (import.Program t) s = text_stays (from_program r) (λ c u. printed_stays r NoAnswer c (value_of u.state.event.programs c) u) _ s
 imported_stays Manual known r (import.File t) s = refl
-imported_stays Udev known r (import.File t) s = text_stays (λ path. not_run r File) (λ t u. refl) _ s
+imported_stays Udev known r (import.File t) s = text_stays (from_file known r) (λ path u. found_stays r (known.file path) u) _ s
 imported_stays Manual known r (import.Cmdline name) s = refl
 imported_stays Udev known r (import.Cmdline name) s = line_stays r name (line_for name s.state.event) s
 imported_stays Manual known r (import.Db name) s = refl

@@ -1,7 +1,7 @@
 -- A rule that can have changed no item leaves all of them.
 use Rattle.std.proofs.Common.{◌≡◌, Bool, true, false, not, ◌||◌, ◌&&◌, List, [], ◌∷◌, None, fold, cond, refl, ap, sym, ◌∙◌}
 use Rattle.text_bytes.specs.Texts.{is_empty}
-use Rattle.builtin_devices.specs.Knowledge.{Known}
+use Rattle.builtin_knowledge.specs.Knowledge.{Known}
 use Rattle.rule_types.specs.declared.roles.PlainKey.{PlainKey}
 use Rattle.rule_types.specs.declared.roles.PlainKey.TheVariants as plain
 use Rattle.rule_types.specs.declared.part.Act.{Act}

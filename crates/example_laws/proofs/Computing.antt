@@ -65,6 +65,7 @@ use Rattle.eval_acts.specs.Acts.{act_step}
 use Rattle.eval_acts.specs.LookUpNeeds.{has_modalias}
 use Rattle.eval_acts.specs.LookUps.{found}
 use Rattle.eval_acts.specs.Printed.{line_property, printed_properties}
+use Rattle.eval_acts.specs.RootImports.{file_properties}
 use Rattle.eval_acts.specs.Unread.{first_unread}
 use Rattle.eval_acts.specs.UsbModalias.{usb_modalias}
 use Rattle.eval_assignments.specs.Escapes.{escape_of}
@@ -157,7 +158,7 @@ reading_texts = tt
 unfoldable evaluating : ⊤
 unfolding star_place named named_place start_env name_text led_place render udev_value is_not_read udev_subject holds
     holds_at found_place hwdb_of udev_hwdb_of command_words udev_words act_step found has_modalias line_property printed_properties
-    first_unread usb_modalias escape_of set_step is_idle_by run outcome_of walk plain_step result_step steps apply is_not_given
+    file_properties first_unread usb_modalias escape_of set_step is_idle_by run outcome_of walk plain_step result_step steps apply is_not_given
     cmdline_value
 evaluating = tt
 

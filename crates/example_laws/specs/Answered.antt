@@ -16,7 +16,7 @@ use Rattle.device_core.specs.Faults.{block_gives}
 use Rattle.device_core.specs.FaultTexts.{fault_text}
 use Rattle.device_core.specs.Values.{EventValue, by_profile}
 use Rattle.device_core.specs.declared.faults.BlockFault.{BlockFault}
-use Rattle.builtin_devices.specs.Knowledge.{Known}
+use Rattle.builtin_knowledge.specs.Knowledge.{Known}
 use Rattle.builtin_devices.specs.Outcomes.{failing}
 use Rattle.eval_rules.specs.Outcomes.{outcome}
 use Rattle.engine_answers.specs.Answers.{answer}
@@ -37,7 +37,8 @@ read_by by rules = set_of_as by (file_as_read by (file_with Rules (codes "r.rule
 abbrev pub entries_in : Text → List Entry
 entries_in database = entries_of (file_with Hwdb (codes "d.hwdb") database ∷ [])
 
--- what is known beside an event: the entries of a database, and builtins of udev that find nothing, as no example runs one
+-- what is known beside an event: the entries of a database, and builtins of udev that find nothing, as no example runs one;
+-- no file of the root was read
 abbrev pub only_entries : List Entry → Known
 only_entries entries = record {
   entries = entries;
@@ -47,6 +48,7 @@ only_entries entries = record {
   net_id = λ event env. failing [];
   net_lookup = λ event env. None;
   net_setup_link = λ event env. failing [];
+  file = λ path. None;
 }
 
 -- the answer to an event over which rules are evaluated by a profile, or what is wrong with its block

@@ -2,6 +2,7 @@
 //!
 //! Only the functions of the first part own the devices and what they took: a function that owns none of them, and
 //! only says what a run should give, is quick to check.
+use builtin_knowledge::RootFiles;
 use engine_core::{Color, Format, Line, MemorySink, MemorySource, Verb, serve};
 use std::alloc::{AllocError, Global};
 use std::test::Fail;
@@ -167,7 +168,17 @@ fn run_in(
     let (room, error_room) = rooms;
     let mut output = output_of(alloc, room)?;
     let mut error = output_of(alloc, error_room)?;
-    let status = serve(alloc, line, files, index, input, &mut output, &mut error);
+    let found = RootFiles::new(alloc);
+    let status = serve(
+        alloc,
+        line,
+        files,
+        &found,
+        index,
+        input,
+        &mut output,
+        &mut error,
+    );
     outcome_of(alloc, &output, &error, status)
 }
 

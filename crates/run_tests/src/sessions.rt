@@ -1,6 +1,7 @@
 //! Sessions that get an input piece by piece, and turns that answer a block with its last byte.
 use crate::runs::{AMPLE, ANSWER, BLOCK, DISK, Given, OF_DISKS, files_of, input_of, output_of};
 use builtin_core::Builtins;
+use builtin_knowledge::RootFiles;
 use device_core::{BlockFault, BlockFaultKind};
 use engine_core::{MemorySink, MemorySource, Session, SessionFault, Tables, turn};
 use hwdb_core::{PlainDb, read_sources};
@@ -10,11 +11,12 @@ use std::alloc::Global;
 use std::test::Fail;
 use text_bytes::Bytes;
 
-/// What files of rules answer without a database, with these `.link` files.
+/// What files of rules answer without a database, with these `.link` files and files of the root.
 fn tables_of<'l>(
     alloc: Global,
     given: &[Given<'_>],
     links: &'l [LinkFile],
+    found: &'l RootFiles,
 ) -> Result<Tables<Builtins<'l, PlainDb>>, Fail> {
     let Ok(read) = read_rules(alloc, &files_of(alloc, given)?) else {
         return Err("no rules")?;
@@ -24,7 +26,7 @@ fn tables_of<'l>(
         Ok(database) => Ok(Tables::new(
             alloc,
             rules,
-            Builtins::new(PlainDb::new(database.entries), links),
+            Builtins::new(PlainDb::new(database.entries), links, found),
         )?),
         Err(_fault) => {
             drop(rules);
@@ -208,7 +210,8 @@ fn sessions_answer(alloc: Global, tables: &Tables<Builtins<'_, PlainDb>>) -> Res
 #[test]
 fn sessions_answer_block_by_block(rt: HostRuntime) -> Result<(), Fail> {
     let links = Vec::new(rt.alloc());
-    let tables = tables_of(rt.alloc(), &OF_DISKS, &links)?;
+    let found = RootFiles::new(rt.alloc());
+    let tables = tables_of(rt.alloc(), &OF_DISKS, &links, &found)?;
     let answered = sessions_answer(rt.alloc(), &tables);
     drop(tables);
     assert!(rt; answered?);
@@ -322,7 +325,8 @@ fn each_size_has_room(alloc: Global, tables: &Tables<Builtins<'_, PlainDb>>) -> 
 #[test]
 fn a_block_has_65536_bytes_in_any_pieces(rt: HostRuntime) -> Result<(), Fail> {
     let links = Vec::new(rt.alloc());
-    let tables = tables_of(rt.alloc(), &[], &links)?;
+    let found = RootFiles::new(rt.alloc());
+    let tables = tables_of(rt.alloc(), &[], &links, &found)?;
     let has_room = each_size_has_room(rt.alloc(), &tables);
     drop(tables);
     assert!(rt; has_room?);

@@ -9,7 +9,7 @@ returns-then-reads_modaliases-clause-runs g c =
     record {
       opened = c.open_index-opened.result;
       opens = c.open_index-opened.ensures;
-      serves = look_ups_serve c.args.line.now c.args.files.items c.open_index-opened.result _ _ _ reads c.serve_lookups.ensures;
+      serves = look_ups_serve c.args.line.now c.args.files.items c.args.found.now c.open_index-opened.result _ _ _ reads c.serve_lookups.ensures;
       looks_up = λ e. c.serve_lookups.ensures;
       runs = λ e. let both : true ≡ false = sym reads ∙ e in absurd cc;
     }
@@ -20,7 +20,7 @@ returns-clause-runs g c =
     record {
       opened = c.open_index-opened.result;
       opens = c.open_index-opened.ensures;
-      serves = others_serve c.args.line.now c.args.files.items c.open_index-opened.result _ _ _ reads c.serve_verb.ensures.runs;
+      serves = others_serve c.args.line.now c.args.files.items c.args.found.now c.open_index-opened.result _ _ _ reads c.serve_verb.ensures.runs;
       looks_up = λ e. let both : true ≡ false = sym e ∙ reads in absurd cc;
       runs = λ e. c.serve_verb.ensures.runs;
     }

@@ -7,15 +7,15 @@ use Rattle.engine_core.proofs.serving.serve_verb.Goals as goal
 
 pub returns-in-Query-clause-runs : goal.returns-in-Query-clause-runs
 returns-in-Query-clause-runs g c =
-    report_runs c.args.line.now _ (query_over c.args.line.now c.args.files.items c.args.opened) c.report_on_query.result _ _ _ (ap (λ v. before_input v c.args.line.now c.args.files.items c.args.opened) c.in-Query.is)
+    report_runs c.args.line.now c.args.found.now _ (query_over c.args.line.now c.args.files.items c.args.opened) c.report_on_query.result _ _ _ (ap (λ v. before_input v c.args.line.now c.args.files.items c.args.opened) c.in-Query.is)
     c.deliver_report.ensures.delivers c.deliver_report.ensures.faults (record { says = c.report_on_query.ensures.said; refused = c.report_on_query.ensures.refused }) refl
 
 pub returns-in-Update-clause-runs : goal.returns-in-Update-clause-runs
 returns-in-Update-clause-runs g c =
-    report_runs c.args.line.now _ (update_said c.args.line.now c.args.files.items) c.report_on_index.result _ _ _ (ap (λ v. before_input v c.args.line.now c.args.files.items c.args.opened) c.in-Update.is)
+    report_runs c.args.line.now c.args.found.now _ (update_said c.args.line.now c.args.files.items) c.report_on_index.result _ _ _ (ap (λ v. before_input v c.args.line.now c.args.files.items c.args.opened) c.in-Update.is)
     c.deliver_report-in-Update.ensures.delivers c.deliver_report-in-Update.ensures.faults (record { says = c.report_on_index.ensures.said; refused = c.report_on_index.ensures.refused }) refl
 
 pub returns-in-Verify-clause-runs : goal.returns-in-Verify-clause-runs
 returns-in-Verify-clause-runs g c =
-    report_runs c.args.line.now _ (verify_said c.args.line.now c.args.files.items) c.report_on_verify.result _ _ _ (ap (λ v. before_input v c.args.line.now c.args.files.items c.args.opened) c.in-Verify.is)
+    report_runs c.args.line.now c.args.found.now _ (verify_said c.args.line.now c.args.files.items) c.report_on_verify.result _ _ _ (ap (λ v. before_input v c.args.line.now c.args.files.items c.args.opened) c.in-Verify.is)
     c.deliver_report-in-Verify.ensures.delivers c.deliver_report-in-Verify.ensures.faults (record { says = c.report_on_verify.ensures.said; refused = c.report_on_verify.ensures.refused }) refl

@@ -7,6 +7,6 @@ use Rattle.engine_laws.proofs.Sides.{output_is}
 use Rattle.engine_laws.proofs.comparing.the_old_answer_is_compared_with_the_new_one.Goals as goal
 
 pub returns : goal.returns
-returns c old_line new_line old new input =
-    let answers = answers_of (answers_as old_line.profile (differences_by old_line new_line old new)) input in
+returns c old_line new_line old_found new_found old new input =
+    let answers = answers_of (answers_as old_line.profile (differences_by old_line new_line old_found new_found old new)) input in
     output_is (both_messages old.messages new.messages) (joined answers.texts) (length answers.texts) answers.fault

@@ -1,0 +1,29 @@
+//! What is true of the files that rules import, whatever a disk answers.
+//!
+//! Each function here is empty: its contract is the law.
+ghost use Rattle.std.specs.Prelude.{◌≡◌, ◌∷◌, ℕ, List, [], None, Some, codes, false, true};
+ghost use Rattle.rule_templates.specs.declared.piece.Piece.TheVariants.{Kernel, Plain};
+ghost use Rattle.builtin_knowledge.specs.declared.root_files.RootFile.TheVariants.{Absent, Read};
+ghost use Rattle.devdry_files.specs.Answers.Answer.{Content, Looked};
+ghost use Rattle.devdry_files.specs.declared.look.Look.TheVariants as look;
+ghost use Rattle.devdry_imports.specs.Naming.{mentions, path_of_pieces};
+ghost use Rattle.devdry_imports.specs.Reading.{IsFound};
+
+use devdry_files::Disk;
+
+/// A path is one text that begins with a slash: neither a path below another folder nor one with a substitution is.
+pub fn files_are_named_in_full()
+    ensures whole { path_of_pieces (Plain (codes "/run/x") ∷ []) ≡ Some (codes "/run/x") }
+    ensures below { path_of_pieces (Plain (codes "run/x") ∷ []) ≡ None }
+    ensures rendered { path_of_pieces (Plain (codes "/run/") ∷ Kernel ∷ []) ≡ None }
+    ensures mentioned { mentions (codes "A, IMPORT{file}=x") ≡ true }
+    ensures unmentioned { mentions (codes "A, IMPORT{files}=x") ≡ false }
+{}
+
+/// A file that a disk shows and reads is found with its bytes, and a path at which it shows nothing is found to be empty.
+pub fn what_is_there_decides<D: Disk>()
+    ensures read { (disk : D) (path bytes : List ℕ) → D.may_answer disk (Looked path look.File) → D.may_answer disk (Content path bytes)
+        → IsFound (D.may_answer disk) path (Some (Read bytes)) }
+    ensures absent { (disk : D) (path : List ℕ) → D.may_answer disk (Looked path look.Absent) → IsFound (D.may_answer disk) path (Some Absent) }
+    ensures folder { (disk : D) (path : List ℕ) → D.may_answer disk (Looked path look.Folder) → IsFound (D.may_answer disk) path None }
+{}

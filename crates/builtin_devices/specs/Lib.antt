@@ -1,5 +1,4 @@
 pub mod Outcomes
-pub mod Knowledge
 pub mod Files
 pub mod Devices
 pub mod Numbers

@@ -213,7 +213,9 @@ fn run_read<D: Disk, I: Source, W: Sink, E: Sink>(
 {
     let Inputs { files, index } = inputs;
     match notes_on(alloc, disk, line, &files) {
-        Ok(notes) => serve_noted(alloc, disk, line, files, index, &notes, input, output, error),
+        Ok(notes) => serve_noted(
+            alloc, disk, line, files, index, &notes, input, output, error,
+        ),
         Err(_) => report_out_of_memory(error),
     }
 }

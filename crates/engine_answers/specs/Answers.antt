@@ -12,7 +12,7 @@ use Rattle.eval_rules.specs.declared.outcome.Outcome.{Outcome}
 use Rattle.eval_sources.specs.Sources.{Source, source_of}
 use Rattle.eval_sources.specs.Reported.{event_commands, stages}
 use Rattle.engine_ends.specs.Places.{place_of}
-use Rattle.engine_answers.specs.Lines.{note_lines, run_line}
+use Rattle.engine_answers.specs.Lines.{block_note_lines, note_lines, run_line}
 use Rattle.engine_ends.specs.EventLine.{event_line}
 use Rattle.engine_answers.specs.Items.{item_lines}
 
@@ -26,6 +26,7 @@ lines_with front runs event outcome =
     event_line event.action event.device.path
     ++ lines_after front (item_lines event.profile outcome)
     ++ runs
+    ++ block_note_lines event
     ++ note_lines outcome.notes
 
 -- the lines of the answer to an event with this outcome, one for each part that has something to say

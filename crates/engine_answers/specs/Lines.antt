@@ -5,6 +5,9 @@ use Rattle.text_bytes.specs.Escapes.{escape_text}
 use Rattle.text_tables.specs.Texts.{Text}
 use Rattle.text_tables.specs.Pairs.{Pair}
 use Rattle.rule_types.specs.Names.{run_name}
+use Rattle.device_core.specs.Values.{EventValue}
+use Rattle.device_notes.specs.Notes.{block_notes, text_of as text_about_block}
+use Rattle.device_notes.specs.declared.notes.BlockNote.{BlockNote}
 use Rattle.eval_rules.specs.declared.outcome.Command.{Command}
 use Rattle.eval_state.specs.Notes.{text_of}
 use Rattle.eval_state.specs.declared.notes.Note.{Note}
@@ -38,6 +41,14 @@ run_line command = line (codes "run") (run_name command.kind ++ space ∷ escape
 -- the line of a note: the place of its rule, what it says, and its word
 unfoldable pub note_line : Note → Text
 note_line note = line (codes "note") (place_of note.file note.line ++ text_of note.kind ++ word_part note.word)
+
+-- the line of a note about the block: `-` where others have the place of a rule, what it says, and its word
+unfoldable pub block_note_line : BlockNote → Text
+block_note_line note = line (codes "note") (codes "-: " ++ text_about_block note.kind ++ word_part note.word)
+
+-- the lines of the notes about the block of an event
+abbrev pub block_note_lines : EventValue → Text
+block_note_lines event = flat_map block_note_line (block_notes event)
 
 -- the lines of notes
 abbrev pub note_lines : List Note → Text

@@ -1,14 +1,15 @@
 //! The whole answer.
 ghost use Rattle.std.specs.Prelude.{◌≡◌, ◌++◌, flat_map, None, IfOk, OnOk};
 ghost use Rattle.engine_answers.specs.Answers.{answer, answer_lines, command_lines, lines_after, lines_with, source_part, sourced_lines};
-ghost use Rattle.engine_answers.specs.Lines.{note_lines, run_line};
+ghost use Rattle.engine_answers.specs.Lines.{block_note_line, block_note_lines, note_lines, run_line};
 ghost use Rattle.eval_sources.specs.Sources.{source_in};
 
 use crate::front::{Nothing, push_source};
 use crate::items::push_items;
-use crate::lines::{push_note, push_run};
+use crate::lines::{push_block_note, push_note, push_run};
 use builtin_knowledge::Knowledge;
 use device_core::Event;
+use device_notes::{BlockNote, block_notes};
 use engine_ends::push_event;
 use eval_rules::{Commands, Outcome};
 use eval_sources::{Sourced, SourcedCommand, evaluate_sources};
@@ -24,8 +25,8 @@ const USUAL_LEN: usize = 1024;
 ///
 /// The lines are `event ACTION PATH`, `name`, `owner`, `group`, `mode`, `priority`, `watch` or
 /// `nowatch`, `persist`, `label MODULE=..`, `link`, `tag`, `env KEY=..`, `attr NAME=..`, `sysctl
-/// NAME=..`, `run TYPE ..` and `note FILE:LINE: TEXT: WORD`, in this order, as udev(7) names these
-/// things. Properties whose names begin with a dot are left out.
+/// NAME=..`, `run TYPE ..`, `note -: TEXT: WORD` about the block, and `note FILE:LINE: TEXT: WORD`, in this
+/// order, as udev(7) names these things. Properties whose names begin with a dot are left out.
 #[tactic(auto, unfolding(crate::specs::Answers::lines_with))]
 pub fn answer_lines(
     alloc: Global,
@@ -38,6 +39,7 @@ pub fn answer_lines(
     push_event(alloc, &mut lines, event.action(), event.device().path())?;
     push_items(alloc, &mut lines, &Nothing, event.profile(), outcome)?;
     push_runs(alloc, &mut lines, &outcome.runs)?;
+    push_block_notes(alloc, &mut lines, event)?;
     push_notes(alloc, &mut lines, &outcome.notes)?;
     Ok(lines)
 }
@@ -91,6 +93,7 @@ fn lines_of(alloc: Global, event: &Event<'_>, found: &Sourced<'_>) -> Result<Vec
     push_event(alloc, &mut lines, event.action(), event.device().path())?;
     push_items(alloc, &mut lines, &found.sources, event.profile(), outcome)?;
     push_sourced_runs(alloc, &mut lines, &found.commands)?;
+    push_block_notes(alloc, &mut lines, event)?;
     push_notes(alloc, &mut lines, &outcome.notes)?;
     Ok(lines)
 }
@@ -118,6 +121,28 @@ fn push_sourced_runs(
         push_run(alloc, lines, found.command())?;
     }
     Ok(())
+}
+
+/// Adds the lines of these notes about a block.
+fn push_each_block_note(
+    alloc: Global,
+    lines: &mut Vec<u8>,
+    notes: &[BlockNote],
+) -> Result<(), AllocError>
+    ensures { OnOk result (lines.new.items ≡ lines.old.items ++ flat_map block_note_line notes.now) }
+{
+    for note in notes {
+        push_block_note(alloc, lines, note)?;
+    }
+    Ok(())
+}
+
+/// Adds the lines of the notes about the block of an event.
+fn push_block_notes(alloc: Global, lines: &mut Vec<u8>, event: &Event<'_>) -> Result<(), AllocError>
+    ensures { OnOk result (lines.new.items ≡ lines.old.items ++ block_note_lines event.now) }
+{
+    let notes = block_notes(alloc, event)?;
+    push_each_block_note(alloc, lines, &notes)
 }
 
 /// Adds the lines of notes.

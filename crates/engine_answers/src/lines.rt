@@ -1,8 +1,9 @@
 //! One line of each kind, as text.
 ghost use Rattle.std.specs.Prelude.{◌≡◌, ◌++◌, codes, not, IfOk, OnOk};
 ghost use Rattle.engine_answers.specs.Inner.{pair_words, shown_as_is};
-ghost use Rattle.engine_answers.specs.Lines.{bare_line, is_hidden, line, note_line, pair_line, run_line, text_line};
+ghost use Rattle.engine_answers.specs.Lines.{bare_line, block_note_line, is_hidden, line, note_line, pair_line, run_line, text_line};
 
+use device_notes::BlockNote;
 use engine_ends::{is_plain, push_escaped, push_place, push_word};
 use eval_rules::Command;
 use eval_state::Note;
@@ -146,6 +147,22 @@ pub(crate) fn push_note(alloc: Global, lines: &mut Vec<u8>, note: &Note) -> Resu
 {
     lines.extend_from_slice(b"note ")?;
     push_place(alloc, lines, note.file.as_slice(), note.line)?;
+    lines.extend_from_slice(note.kind.text())?;
+    push_word(alloc, lines, note.word.as_slice())?;
+    lines.push(b'\n')?;
+    Ok(())
+}
+
+/// Adds the line of a note about the block.
+#[tactic(auto, unfolding(crate::specs::Lines::block_note_line))]
+pub(crate) fn push_block_note(
+    alloc: Global,
+    lines: &mut Vec<u8>,
+    note: &BlockNote,
+) -> Result<(), AllocError>
+    ensures { OnOk result (lines.new.items ≡ lines.old.items ++ block_note_line note.now) }
+{
+    lines.extend_from_slice(b"note -: ")?;
     lines.extend_from_slice(note.kind.text())?;
     push_word(alloc, lines, note.word.as_slice())?;
     lines.push(b'\n')?;

@@ -17,6 +17,8 @@ use Rattle.text_json.specs.Values.{array_of, items_of, members_of, number_value,
 use Rattle.rule_types.specs.Names.{run_name}
 use Rattle.rule_types.specs.Rules.{Rule}
 use Rattle.device_core.specs.Values.{EventValue}
+use Rattle.device_notes.specs.Notes.{block_notes, text_of as text_about_block}
+use Rattle.device_notes.specs.declared.notes.BlockNote.{BlockNote}
 use Rattle.eval_state.specs.Notes.{text_of}
 use Rattle.eval_state.specs.declared.notes.Note.{Note}
 use Rattle.eval_rules.specs.declared.outcome.Command.{Command}
@@ -25,7 +27,7 @@ use Rattle.eval_effects.specs.Items.{item_name, label_item, watch_word}
 use Rattle.eval_sources.specs.Sources.{Source}
 use Rattle.engine_answers.specs.Lines.{is_hidden}
 use Rattle.engine_json.specs.Answers.{answer_members, plain_object}
-use Rattle.engine_json.specs.Members.{Member, Shape, env_members, given_members, item_members, label_value, label_values, node_members, note_value, persist_members, priority_members, run_value, source_members, sourced, sourced_runs, text_values, value_members, watch_members, why_value, why_values}
+use Rattle.engine_json.specs.Members.{Member, Shape, env_members, given_members, item_members, label_value, label_values, node_members, block_note_value, note_value, note_values, persist_members, priority_members, run_value, source_members, sourced, sourced_runs, text_values, value_members, watch_members, why_value, why_values}
 
 -- the numbers of a value are numbers, and it is nested no deeper than this
 abbrev pub Good : ℕ → Json → Type 0
@@ -54,6 +56,10 @@ array_good n js h = let all = items_good n js h in (all.0, omega (arith, all.1))
 append_good : (n : ℕ) (a b : List Member) → GoodMembers n a → GoodMembers n b → GoodMembers n (a ++ b)
 append_good n [] b p q = q
 append_good n (m ∷ a) b p q = (p.0, append_good n a b p.1 q)
+
+append_values_good : (n : ℕ) (a b : List Json) → GoodValues n a → GoodValues n b → GoodValues n (a ++ b)
+append_values_good n [] b p q = q
+append_values_good n (j ∷ a) b p q = (p.0, append_values_good n a b p.1 q)
 
 told_good : (n : ℕ) (text : Text) → Good n (told text)
 told_good n text = (tt, omega arith)
@@ -129,6 +135,19 @@ module _ (shape : Shape) (keeps : Keeps shape) where
   notes_good [] h = tt
   notes_good (note ∷ notes) h = (note_good note (h 0 note (omega arith)), notes_good notes (λ k d l. h (suc k) d (omega arith)))
 
+  block_note_good : (note : BlockNote) → Good 2 (block_note_value note)
+  unfolding block_note_value
+  block_note_good note =
+      let all = object_good 0 ((codes "text", told (text_about_block note.kind)) ∷ (codes "word", told note.word) ∷ []) (told_good 0 (text_about_block note.kind), (told_good 0 note.word, tt)) in
+      (all.0, omega (arith, all.1))
+
+  block_notes_good : (notes : List BlockNote) → GoodValues 2 (map block_note_value notes)
+  block_notes_good [] = tt
+  block_notes_good (note ∷ notes) = (block_note_good note, block_notes_good notes)
+
+  all_notes_good : (event : EventValue) (notes : List Note) → All (λ (n : Note). n.line < 2 ^ 64) notes → GoodValues 2 (note_values event notes)
+  all_notes_good event notes h = append_values_good 2 (map block_note_value (block_notes event)) (map note_value notes) (block_notes_good (block_notes event)) (notes_good notes h)
+
   why_good : (said : List Text) → GoodValues 2 (map why_value said)
   why_good [] = tt
   why_good (line ∷ said) = (told_good 2 (drop 4 line), why_good said)
@@ -140,11 +159,11 @@ module _ (shape : Shape) (keeps : Keeps shape) where
       let head : List Member = (codes "event", told event.action) ∷ (codes "path", told event.device.path) ∷ [] in
       let items : List Member = item_members shape event.profile outcome in
       let run : List Member = (codes "run", array_of runs) ∷ [] in
-      let notes : List Member = (codes "notes", array_of (map note_value outcome.notes)) ∷ [] in
+      let notes : List Member = (codes "notes", array_of (note_values event outcome.notes)) ∷ [] in
       let said : List Member = (codes "why", array_of (why_values why)) ∷ [] in
       let start : GoodMembers 3 (head ++ items) = append_good 3 head items (told_good 3 event.action, (told_good 3 event.device.path, tt)) (items_are_good event.profile outcome p) in
       let ran : GoodMembers 3 ((head ++ items) ++ run) = append_good 3 (head ++ items) run start (array_good 2 runs r, tt) in
-      let noted : GoodMembers 3 (((head ++ items) ++ run) ++ notes) = append_good 3 ((head ++ items) ++ run) notes ran (array_good 2 _ (notes_good outcome.notes n), tt) in
+      let noted : GoodMembers 3 (((head ++ items) ++ run) ++ notes) = append_good 3 ((head ++ items) ++ run) notes ran (array_good 2 _ (all_notes_good event outcome.notes n), tt) in
       append_good 3 (((head ++ items) ++ run) ++ notes) said noted (array_good 2 _ (why_good (lines why)), tt)
 
   pub answer_read : (runs : List Json) (why : Text) (event : EventValue) (outcome : Outcome) → GoodValues 2 runs → IfSome outcome.priority (λ p. mag p < 2 ^ 63)

@@ -11,7 +11,7 @@ use Rattle.eval_rules.specs.Outcomes.{outcome}
 use Rattle.eval_rules.specs.declared.outcome.Outcome.{Outcome}
 use Rattle.eval_sources.specs.Sources.{source_of}
 use Rattle.eval_sources.specs.Reported.{event_commands, stages}
-use Rattle.engine_json.specs.Members.{Member, Shape, item_members, note_value, run_value, sourced, sourced_runs, why_values}
+use Rattle.engine_json.specs.Members.{Member, Shape, item_members, note_values, run_value, sourced, sourced_runs, why_values}
 
 -- the members of an answer, by how its items are written, its commands and the lines of `--why`
 unfoldable pub answer_members : Shape → List Json → Text → EventValue → Outcome → List Member
@@ -19,7 +19,7 @@ answer_members shape runs why event outcome =
     ((codes "event", told event.action) ∷ (codes "path", told event.device.path) ∷ [])
     ++ item_members shape event.profile outcome
     ++ ((codes "run", array_of runs) ∷ [])
-    ++ ((codes "notes", array_of (map note_value outcome.notes)) ∷ [])
+    ++ ((codes "notes", array_of (note_values event outcome.notes)) ∷ [])
     ++ ((codes "why", array_of (why_values why)) ∷ [])
 
 -- the answer to an event with this outcome

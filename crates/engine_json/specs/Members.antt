@@ -10,6 +10,9 @@ use Rattle.text_json.specs.Told.{told, told_text}
 use Rattle.text_json.specs.Values.{array_of, number_value, object_of}
 use Rattle.rule_types.specs.Names.{run_name}
 use Rattle.rule_types.specs.Rules.{Rule}
+use Rattle.device_core.specs.Values.{EventValue}
+use Rattle.device_notes.specs.Notes.{block_notes, text_of as text_about_block}
+use Rattle.device_notes.specs.declared.notes.BlockNote.{BlockNote}
 use Rattle.eval_state.specs.Notes.{text_of}
 use Rattle.eval_state.specs.declared.notes.Note.{Note}
 use Rattle.eval_rules.specs.declared.outcome.Command.{Command}
@@ -115,6 +118,14 @@ note_value note =
     ∷ (codes "text", told (text_of note.kind))
     ∷ (codes "word", told note.word)
     ∷ [])
+
+-- a note about the block, which no rule is named with
+unfoldable pub block_note_value : BlockNote → Json
+block_note_value note = object_of ((codes "text", told (text_about_block note.kind)) ∷ (codes "word", told note.word) ∷ [])
+
+-- the notes of an answer: those about the block of its event, and then those about rules
+abbrev pub note_values : EventValue → List Note → List Json
+note_values event notes = map block_note_value (block_notes event) ++ map note_value notes
 
 -- a line of `--why` without its first word
 abbrev pub why_value : Text → Json

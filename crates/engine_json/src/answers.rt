@@ -7,7 +7,7 @@ ghost use Rattle.text_json.specs.Values.{array_of, object_of, value_line};
 ghost use Rattle.eval_rules.specs.Outcomes.{outcome};
 ghost use Rattle.eval_sources.specs.Sources.{source_in};
 ghost use Rattle.engine_json.specs.Answers.{answer_members, json_answer, plain_object, sourced_object};
-ghost use Rattle.engine_json.specs.Members.{item_members, note_value, run_value, sourced, sourced_runs, why_values};
+ghost use Rattle.engine_json.specs.Members.{item_members, note_values, run_value, sourced, sourced_runs, why_values};
 
 use crate::items::write_items;
 use crate::shape::{AsIs, Shape};
@@ -71,13 +71,18 @@ fn write_sourced_run_member(
 }
 
 /// Writes the member with the notes.
-fn write_note_member(alloc: Global, writer: &mut Writer, notes: &Notes) -> Result<(), AllocError>
-    ensures tokens { OnOk result (writer.new.tokens ≡ writer.old.tokens ++ member_tokens ((codes "notes", array_of (map note_value notes.now)) ∷ [])) }
+fn write_note_member(
+    alloc: Global,
+    writer: &mut Writer,
+    event: &Event<'_>,
+    notes: &Notes,
+) -> Result<(), AllocError>
+    ensures tokens { OnOk result (writer.new.tokens ≡ writer.old.tokens ++ member_tokens ((codes "notes", array_of (note_values event.now notes.now)) ∷ [])) }
     ensures before { OnOk result (writer.new.before ≡ writer.old.before) }
 {
     writer.key("notes")?;
     writer.begin_array()?;
-    write_notes(alloc, writer, notes)?;
+    write_notes(alloc, writer, event, notes)?;
     writer.end_array()?;
     Ok(())
 }
@@ -108,7 +113,7 @@ fn write_plain(
     writer.begin_object()?;
     write_start(alloc, writer, &AsIs, event, outcome)?;
     write_run_member(alloc, writer, &outcome.runs)?;
-    write_note_member(alloc, writer, &outcome.notes)?;
+    write_note_member(alloc, writer, event, &outcome.notes)?;
     write_why_member(alloc, writer, why)?;
     writer.end_object()?;
     Ok(())
@@ -147,7 +152,7 @@ fn write_sourced(
     writer.begin_object()?;
     write_start(alloc, writer, &found.sources, event, outcome)?;
     write_sourced_run_member(alloc, writer, &found.commands)?;
-    write_note_member(alloc, writer, &outcome.notes)?;
+    write_note_member(alloc, writer, event, &outcome.notes)?;
     write_why_member(alloc, writer, why)?;
     writer.end_object()?;
     Ok(())

@@ -11,16 +11,20 @@ ghost use Rattle.text_json.specs.Values.{array_of, number_value, object_of};
 ghost use Rattle.rule_types.specs.Rules.{Rule};
 ghost use Rattle.rule_types.specs.declared.types.RunType.TheVariants.{Program};
 ghost use Rattle.device_core.specs.Values.{EventValue};
+ghost use Rattle.device_notes.specs.Notes.{block_notes};
+ghost use Rattle.device_notes.specs.declared.kinds.BlockNoteKind.TheVariants.{UnknownAction};
+ghost use Rattle.device_notes.specs.declared.notes.BlockNote.{BlockNote};
+ghost use Rattle.eval_state.specs.declared.notes.Note.{Note};
 ghost use Rattle.eval_state.specs.declared.note_kind.NoteKind.TheVariants.{BuiltinNotRun};
 ghost use Rattle.eval_rules.specs.declared.outcome.Command.{Command};
 ghost use Rattle.eval_rules.specs.declared.outcome.Outcome.{Outcome};
 ghost use Rattle.eval_sources.specs.Sources.{Source};
 ghost use Rattle.engine_json.specs.Answers.{answer_members, plain_object};
-ghost use Rattle.engine_json.specs.Members.{sourced, sourced_runs};
+ghost use Rattle.engine_json.specs.Members.{block_note_value, note_value, note_values, sourced, sourced_runs};
 
-/// An answer in which each part is there once. A property whose name begins with a dot is left out.
+/// An answer in which each part is there once, and nothing is noted about the block. A property whose name begins with a dot is left out.
 pub fn an_answer_has_all_its_parts()
-    ensures { (event : EventValue) → plain_object (codes "why r.rules:1: said\n") event (record {
+    ensures { (event : EventValue) → block_notes event ≡ [] → plain_object (codes "why r.rules:1: said\n") event (record {
       name = Some (codes "n");
       owner = Some (codes "o");
       group = Some (codes "g");
@@ -68,7 +72,7 @@ pub fn an_answer_has_all_its_parts()
 
 /// An answer of nothing still has the members of which there can be several.
 pub fn an_empty_answer_has_its_arrays_and_objects()
-    ensures { (event : EventValue) → plain_object [] event (record {
+    ensures { (event : EventValue) → block_notes event ≡ [] → plain_object [] event (record {
       name = None;
       owner = None;
       group = None;
@@ -97,6 +101,14 @@ pub fn an_empty_answer_has_its_arrays_and_objects()
         ∷ (codes "notes", array_of [])
         ∷ (codes "why", array_of [])
         ∷ []) }
+{}
+
+/// A note about the block is an object without a rule, in front of the notes about rules.
+pub fn a_note_about_the_block_names_no_rule()
+    ensures value { block_note_value (record { kind = UnknownAction; word = codes "plug" })
+        ≡ object_of ((codes "text", told (codes "unknown action")) ∷ (codes "word", told (codes "plug")) ∷ []) }
+    ensures first { (event : EventValue) (about : BlockNote) (note : Note) → block_notes event ≡ about ∷ []
+        → note_values event (note ∷ []) ≡ block_note_value about ∷ note_value note ∷ [] }
 {}
 
 /// A value with its rule is an object of both; without a rule it has the value alone.

@@ -12,6 +12,6 @@ mod values;
 
 pub use answers::json_answer;
 pub use laws::{
-    a_value_is_beside_its_rule, an_answer_has_all_its_parts,
+    a_note_about_the_block_names_no_rule, a_value_is_beside_its_rule, an_answer_has_all_its_parts,
     an_empty_answer_has_its_arrays_and_objects, answers_are_read_back,
 };

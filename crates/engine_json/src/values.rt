@@ -3,9 +3,11 @@ ghost use Rattle.std.specs.Prelude.{◌≡◌, ◌++◌, Some, OnOk, drop, map};
 ghost use Rattle.json.specs.Tree.{json_tokens};
 ghost use Rattle.text_bytes.specs.Lines.{lines};
 ghost use Rattle.text_json.specs.Listed.{value_tokens};
-ghost use Rattle.engine_json.specs.Members.{label_value, note_value, run_value, sourced, sourced_runs, why_values};
+ghost use Rattle.engine_json.specs.Members.{block_note_value, label_value, note_value, note_values, run_value, sourced, sourced_runs, why_values};
 
 use crate::shape::write_source;
+use device_core::Event;
+use device_notes::{BlockNote, block_notes};
 use eval_rules::{Command, Commands};
 use eval_sources::SourcedCommand;
 use eval_state::{Label, Note, Notes};
@@ -105,12 +107,64 @@ fn write_note(alloc: Global, writer: &mut Writer, note: &Note) -> Result<(), All
     Ok(())
 }
 
-/// Writes notes.
+/// Writes a note about the block.
+#[tactic(auto, unfolding(crate::specs::Members::block_note_value))]
+fn write_block_note(alloc: Global, writer: &mut Writer, note: &BlockNote) -> Result<(), AllocError>
+    ensures tokens { OnOk result (writer.new.tokens ≡ writer.old.tokens ++ json_tokens (block_note_value note.now)) }
+    ensures before { OnOk result (writer.new.before ≡ writer.old.before) }
+{
+    writer.begin_object()?;
+    write_told(alloc, writer, "text", note.kind.text())?;
+    write_told(alloc, writer, "word", note.word.as_slice())?;
+    writer.end_object()?;
+    Ok(())
+}
+
+/// Writes these notes about a block.
+fn write_each_block_note(
+    alloc: Global,
+    writer: &mut Writer,
+    notes: &[BlockNote],
+) -> Result<(), AllocError>
+    ensures tokens { OnOk result (writer.new.tokens ≡ writer.old.tokens ++ value_tokens (map block_note_value notes.now)) }
+    ensures before { OnOk result (writer.new.before ≡ writer.old.before) }
+{
+    for note in notes {
+        write_block_note(alloc, writer, note)?;
+    }
+    Ok(())
+}
+
+/// Writes the notes about the block of an event.
+fn write_block_notes(
+    alloc: Global,
+    writer: &mut Writer,
+    event: &Event<'_>,
+) -> Result<(), AllocError>
+    ensures tokens { OnOk result (writer.new.tokens ≡ writer.old.tokens ++ value_tokens (map block_note_value (block_notes event.now))) }
+    ensures before { OnOk result (writer.new.before ≡ writer.old.before) }
+{
+    let notes = block_notes(alloc, event)?;
+    write_each_block_note(alloc, writer, &notes)
+}
+
+/// Writes the notes about the block of an event, and then those about rules.
 pub(crate) fn write_notes(
     alloc: Global,
     writer: &mut Writer,
+    event: &Event<'_>,
     notes: &Notes,
 ) -> Result<(), AllocError>
+    ensures tokens { OnOk result (writer.new.tokens ≡ writer.old.tokens ++ value_tokens (note_values event.now notes.now)) }
+    ensures before { OnOk result (writer.new.before ≡ writer.old.before) }
+{
+    write_block_notes(alloc, writer, event)?;
+    write_rule_notes(alloc, writer, notes)?;
+    Ok(())
+}
+
+/// Writes notes about rules.
+fn write_rule_notes(alloc: Global, writer: &mut Writer, notes: &Notes) -> Result<(), AllocError>
     ensures tokens { OnOk result (writer.new.tokens ≡ writer.old.tokens ++ value_tokens (map note_value notes.now)) }
     ensures before { OnOk result (writer.new.before ≡ writer.old.before) }
 {

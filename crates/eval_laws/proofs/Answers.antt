@@ -18,14 +18,15 @@ use Rattle.eval_laws.specs.DeviceWeights.{device_weight, event_weight, given_wei
 use Rattle.eval_laws.proofs.DeviceWeights.{event_within}
 use Rattle.eval_rules.specs.Outcomes.{outcome}
 use Rattle.eval_rules.specs.declared.outcome.Outcome.{Outcome}
-use Rattle.eval_laws.specs.Weights.{command_weight, note_weight, outcome_weight}
+use Rattle.eval_laws.specs.Weights.{command_weight, most_about_a_block, note_weight, outcome_weight}
 use Rattle.eval_effects.specs.Items.{item_name, label_item}
-use Rattle.engine_answers.specs.Lines.{note_line, pair_line, run_line, text_line}
+use Rattle.engine_answers.specs.Lines.{block_note_lines, note_line, pair_line, run_line, text_line}
 use Rattle.engine_ends.specs.EventLine.{event_line}
 use Rattle.engine_answers.specs.Inner.{shown_line}
 use Rattle.engine_answers.specs.Items.{ItemLine, env_lines, item_lines, label_lines, member_lines, node_lines, value_lines}
 use Rattle.engine_answers.specs.Answers.{answer, lines_with}
 use Rattle.engine_answers.proofs.InFront.{env_alone}
+use Rattle.eval_laws.proofs.BlockNotes.{about_a_block_short}
 use Rattle.eval_laws.proofs.Lines.{alone, escape_short, line_length, lines_short, note_line_short, pair_line_short, run_line_short, shown_line_short, text_line_short}
 use Rattle.eval_laws.proofs.Nodes.{following, following_items, node_short}
 use Rattle.eval_laws.proofs.Priorities.{outcome_small}
@@ -75,17 +76,18 @@ items_short profile o fits =
     let attrs = following_items to_env (value_lines (codes "attr") o.attrs) _ _ env (each_short pair_weight (λ pair. ((item_name (codes "attr") pair.0, pair.1), pair_line (codes "attr") pair)) (λ p. pair_line_short (codes "attr") p (omega arith)) o.attrs) in
     following_items to_attrs (value_lines (codes "sysctl") o.sysctls) _ _ attrs (each_short pair_weight (λ pair. ((item_name (codes "sysctl") pair.0, pair.1), pair_line (codes "sysctl") pair)) (λ p. pair_line_short (codes "sysctl") p (omega arith)) o.sysctls)
 
-pub answer_short : (event : EventValue) (o : Outcome) → IfSome o.priority (λ z. unsigned_abs z ≤ 2 ^ 31) → length (answer event o) ≤ 8 * outcome_weight o + 4 * event_weight event + 64
+pub answer_short : (event : EventValue) (o : Outcome) → IfSome o.priority (λ z. unsigned_abs z ≤ 2 ^ 31) → length (answer event o) ≤ 8 * outcome_weight o + 4 * event_weight event + 64 + most_about_a_block event.profile
 unfolding lines_with outcome_weight
 answer_short event o fits =
     let items = following _ _ _ _ (event_line_short event) (items_short event.profile o fits) in
     let runs = following _ _ _ _ items (lines_short command_weight run_line run_line_short o.runs) in
-    let notes = following _ _ _ _ runs (lines_short note_weight note_line note_line_short o.notes) in
+    let about = following _ (block_note_lines event) _ (most_about_a_block event.profile) runs (about_a_block_short event) in
+    let notes = following _ _ _ _ about (lines_short note_weight note_line note_line_short o.notes) in
     let whole = following _ (newline ∷ []) _ 1 notes (omega arith) in
     omega (arith, whole)
 
 pub block_answer_short : (profile : Profile) (block : Text) (event : EventValue) (o : Outcome) → block_gives block ≡ Ok event → IfSome o.priority (λ z. unsigned_abs z ≤ 2 ^ 31)
-    → length (answer (by_profile profile event) o) ≤ 8 * outcome_weight o + 4 * length block + 64
+    → length (answer (by_profile profile event) o) ≤ 8 * outcome_weight o + 4 * length block + 64 + most_about_a_block profile
 block_answer_short profile block event o given fits =
     let a = answer_short (by_profile profile event) o fits in
     let b = event_within block event given in
@@ -94,6 +96,6 @@ block_answer_short profile block event o given fits =
 
 pub files_answer_short : (read profile : Profile) (files : List SourceFile) (known : Known) (block : Text) (event : EventValue) → block_gives block ≡ Ok event
     → length (answer (by_profile profile event) (outcome (set_of_as read files).rules known (by_profile profile event)))
-    ≤ 8 * outcome_weight (outcome (set_of_as read files).rules known (by_profile profile event)) + 4 * length block + 64
+    ≤ 8 * outcome_weight (outcome (set_of_as read files).rules known (by_profile profile event)) + 4 * length block + 64 + most_about_a_block profile
 files_answer_short read profile files known block event given =
     block_answer_short profile block event (outcome (set_of_as read files).rules known (by_profile profile event)) given (outcome_small read files known (by_profile profile event))

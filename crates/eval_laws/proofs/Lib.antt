@@ -46,6 +46,7 @@ pub mod Weighing
 pub mod Small
 pub mod Priorities
 pub mod Lines
+pub mod BlockNotes
 pub mod Answers
 pub mod Nodes
 pub mod Changing

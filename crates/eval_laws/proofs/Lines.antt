@@ -123,7 +123,7 @@ kind_long AttributeNotFound = omega arith
 kind_long BuiltinNeeds = omega arith
 kind_long ConstantNotGiven = omega arith
 
-word_short : (word : Text) → length (word_part word) ≤ 4 * length word + 2
+pub word_short : (word : Text) → length (word_part word) ≤ 4 * length word + 2
 word_short word = by (length word == 0)
   where
     by : (none : Bool) → length (if none then [] else codes ": " ++ escape_text word) ≤ 4 * length word + 2

@@ -1,6 +1,8 @@
 -- What an answer weighs: the length of each of its texts, and one more for each. Numbers and switches weigh nothing.
 use Rattle.std.specs.Prelude.{ℕ, ◌+◌}
 use Rattle.std.specs.List.{sum_by}
+use Rattle.text_bytes.specs.declared.profile.Profile.{Profile}
+use Rattle.text_bytes.specs.declared.profile.Profile.TheVariants.{Manual, Udev}
 use Rattle.rule_types.specs.Names.{run_name}
 use Rattle.eval_laws.specs.DeviceWeights.{given_weight, pairs_weight, text_weight, texts_weight}
 use Rattle.eval_state.specs.Notes.{text_of}
@@ -23,3 +25,8 @@ outcome_weight o =
     + pairs_weight o.labels + texts_weight o.links + texts_weight o.tags
     + pairs_weight o.env + pairs_weight o.attrs + pairs_weight o.sysctls
     + sum_by command_weight o.runs + sum_by note_weight o.notes
+
+-- how many bytes the lines of notes about a block have at most, by a profile: by the manual there are none
+abbrev pub most_about_a_block : Profile → ℕ
+most_about_a_block Manual = 0
+most_about_a_block Udev = 480

@@ -36,6 +36,7 @@ use Rattle.device_core.specs.Lines.{kind_of, row_of, begins_answer}
 use Rattle.device_core.specs.Parts.{pair_of, number_below, answer_of, is_device_path, is_parent_path}
 use Rattle.device_core.specs.Parts as device_core_parts
 use Rattle.device_core.specs.RunBlocks.{line_of_excess}
+use Rattle.device_notes.specs.Notes.{block_notes}
 use Rattle.hwdb_core.specs.Sources.{are_few}
 use Rattle.text_bytes.specs.Numbers.{decimal_below}
 use Rattle.text_bytes.specs.Texts.{split_once}
@@ -115,7 +116,7 @@ use Rattle.engine_courses.specs.WhyLines.{why_line, unread_text, reported_from, 
 use Rattle.engine_courses.specs.Questions.{question_answer}
 use Rattle.engine_answers.specs.Answers.{lines_with}
 use Rattle.engine_answers.specs.Items.{node_lines, item_lines}
-use Rattle.engine_answers.specs.Lines.{text_line, pair_line, run_line, note_line}
+use Rattle.engine_answers.specs.Lines.{text_line, pair_line, run_line, block_note_line, note_line}
 use Rattle.engine_ends.specs.EventLine.{event_line}
 use Rattle.eval_courses.specs.Fates.{fate, fates_from, keys_reached}
 use Rattle.engine_unused.specs.Rows.{counted, with_fates}
@@ -172,7 +173,7 @@ reporting = tt
 
 -- those by which an answer is written
 unfoldable writing : ⊤
-unfolding lines_with node_lines item_lines text_line pair_line run_line note_line event_line
+unfolding lines_with node_lines item_lines text_line pair_line run_line block_notes block_note_line note_line event_line
 writing = tt
 
 -- those by which files are checked

@@ -1,6 +1,7 @@
 //! Examples of what udev does and the manual does not say.
 ghost use Rattle.std.specs.Prelude.{◌≡◌, ◌∷◌, [], codes};
 ghost use Rattle.example_laws.specs.Answered.{answered, answered_as_udev, text};
+ghost use Rattle.example_laws.specs.Reported.{sourced_as_udev};
 
 /// The same rule by the manual and as udev: links are cleaned, a mode is a number, an empty owner is none, and a command is made at its
 /// rule.
@@ -163,4 +164,23 @@ pub fn a_look_up_that_finds_nothing_tells_what_it_needs()
         ≡ codes "event add /p/c/i\nenv ACTION=add\nenv DEVPATH=/p/c/i\nenv SUBSYSTEM=usb\nnote r.rules:1: builtin needs: hwdb: MODALIAS\n\n" }
     ensures manual { answered (codes "IMPORT{builtin}=\"hwdb\"") (codes "C: add\nP: /c\nU: pci")
         ≡ codes "event add /c\nenv ACTION=add\nenv DEVPATH=/c\nenv SUBSYSTEM=pci\n\n" }
+{}
+
+/// For udev an answer has notes about the block itself, before those of rules: of an action that udev does not have, of a path with
+/// `/sys` at its start, and under `add` of a property that udev stores later.
+pub fn udev_notes_what_is_odd_about_a_block()
+    ensures two { answered_as_udev (codes "IMPORT{db}=\"A\"") (codes "C: plug\nP: /sys/d")
+        ≡ text (
+        codes "event plug /sys/d" ∷ codes "env ACTION=plug" ∷ codes "env DEVPATH=/sys/d" ∷ codes "note -: unknown action: plug"
+        ∷ codes "note -: path begins with /sys: /sys/d" ∷ codes "note r.rules:1: import not run: db" ∷ codes "" ∷ []) }
+    ensures stored { answered_as_udev (codes "RUN+=\"r\"") (codes "C: add\nP: /d\nE: USEC_INITIALIZED=7")
+        ≡ text (
+        codes "event add /d" ∷ codes "env ACTION=add" ∷ codes "env DEVPATH=/d" ∷ codes "env USEC_INITIALIZED=7" ∷ codes "run program r"
+        ∷ codes "note -: stored by udev: USEC_INITIALIZED" ∷ codes "" ∷ []) }
+    ensures later { answered_as_udev [] (codes "C: change\nP: /d\nE: USEC_INITIALIZED=7")
+        ≡ codes "event change /d\nenv ACTION=change\nenv DEVPATH=/d\nenv USEC_INITIALIZED=7\n\n" }
+    ensures sourced { sourced_as_udev [] (codes "C: plug\nP: /d")
+        ≡ codes "event plug /d\n-: env ACTION=plug\n-: env DEVPATH=/d\nnote -: unknown action: plug\n\n" }
+    ensures manual { answered [] (codes "C: plug\nP: /sys/d")
+        ≡ codes "event plug /sys/d\nenv ACTION=plug\nenv DEVPATH=/sys/d\n\n" }
 {}

@@ -39,6 +39,11 @@ object_after old k ms =
     let parts : (((old ++ token.key k ∷ []) ++ token.begin_object ∷ []) ++ member_tokens ms) ++ token.end_object ∷ [] ≡ old ++ token.key k ∷ (token.begin_object ∷ (member_tokens ms ++ token.end_object ∷ [])) = simp append_assoc in
     parts ∙ ap (λ (ts : List Token). old ++ token.key k ∷ ts) (object_listed ms ∙ sym (append-nil (json_tokens (object_of ms))))
 
+-- values, as they are written after others
+pub values_after : (old : List Token) (first second : List Json) → (old ++ value_tokens first) ++ value_tokens second ≡ old ++ value_tokens (first ++ second)
+values_after old first second =
+    append_assoc old (value_tokens first) (value_tokens second) ∙ ap (λ (ts : List Token). old ++ ts) (sym (flat_map-append json_tokens first second))
+
 -- one member's tokens
 abbrev one : List ℕ × Json → List Token
 one m = token.key m.0 ∷ json_tokens m.1

@@ -1,6 +1,6 @@
-use Rattle.std.proofs.Common.{codes, map}
+use Rattle.std.proofs.Common.{codes}
 use Rattle.text_json.proofs.Listed.{array_after}
-use Rattle.engine_json.specs.Members.{note_value}
+use Rattle.engine_json.specs.Members.{note_values}
 use Rattle.engine_json.proofs.answers.write_note_member.Goals as goal
 
 pub returns-clause-tokens : goal.returns-clause-tokens
@@ -11,4 +11,4 @@ returns-clause-tokens c =
       c.in_ok-begin_array.ensures.ok,
       c.in_ok-key.ensures.ok,
     )
-    (array_after c.args.writer.now.tokens (codes "notes") (map note_value c.args.notes.now))
+    (array_after c.args.writer.now.tokens (codes "notes") (note_values c.args.event.now c.args.notes.now))

@@ -3,7 +3,7 @@ use Rattle.text_json.specs.Told.{told}
 use Rattle.text_json.specs.Values.{array_of}
 use Rattle.text_json.proofs.Listed.{four_after}
 use Rattle.engine_json.specs.Answers.{answer_members}
-use Rattle.engine_json.specs.Members.{item_members, note_value, run_value, why_values}
+use Rattle.engine_json.specs.Members.{item_members, note_values, run_value, why_values}
 use Rattle.engine_json.proofs.answers.write_plain.Goals as goal
 
 pub returns-clause-tokens : goal.returns-clause-tokens
@@ -20,5 +20,5 @@ returns-clause-tokens c =
     (four_after c.args.writer.now.tokens
     (((codes "event", told c.args.event.now.action) ∷ (codes "path", told c.args.event.now.device.path) ∷ []) ++ item_members (λ item value. value) c.args.event.now.profile c.args.outcome.now)
     ((codes "run", array_of (map run_value c.args.outcome.now.runs)) ∷ [])
-    ((codes "notes", array_of (map note_value c.args.outcome.now.notes)) ∷ [])
+    ((codes "notes", array_of (note_values c.args.event.now c.args.outcome.now.notes)) ∷ [])
     ((codes "why", array_of (why_values c.args.why.now)) ∷ []))

@@ -4,7 +4,7 @@ use Rattle.text_json.specs.Values.{array_of}
 use Rattle.text_json.proofs.Listed.{four_after}
 use Rattle.eval_sources.specs.Sources.{source_in}
 use Rattle.engine_json.specs.Answers.{answer_members}
-use Rattle.engine_json.specs.Members.{item_members, note_value, sourced, sourced_runs, why_values}
+use Rattle.engine_json.specs.Members.{item_members, note_values, sourced, sourced_runs, why_values}
 use Rattle.engine_json.proofs.answers.write_sourced.Goals as goal
 
 pub returns-clause-tokens : goal.returns-clause-tokens
@@ -22,5 +22,5 @@ returns-clause-tokens c =
     (four_after c.args.writer.now.tokens
     (((codes "event", told c.args.event.now.action) ∷ (codes "path", told c.args.event.now.device.path) ∷ []) ++ item_members (λ item value. sourced (source_in c.args.found.now.sources None item) value) c.args.event.now.profile c.args.found.now.outcome)
     ((codes "run", array_of (sourced_runs c.args.found.now.commands.items)) ∷ [])
-    ((codes "notes", array_of (map note_value c.args.found.now.outcome.notes)) ∷ [])
+    ((codes "notes", array_of (note_values c.args.event.now c.args.found.now.outcome.notes)) ∷ [])
     ((codes "why", array_of (why_values c.args.why.now)) ∷ []))

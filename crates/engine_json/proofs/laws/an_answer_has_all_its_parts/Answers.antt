@@ -5,4 +5,4 @@ use Rattle.engine_json.proofs.laws.an_answer_has_all_its_parts.Goals as goal
 
 pub returns : goal.returns
 unfolding answer_members item_members node_members label_value note_value run_value
-returns c event = refl
+returns c event none = rw none refl

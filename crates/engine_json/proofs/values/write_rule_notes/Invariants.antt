@@ -1,7 +1,7 @@
 use Rattle.std.proofs.Common.{◌≡◌, ◌++◌, map, take}
 use Rattle.text_json.specs.Listed.{value_tokens}
 use Rattle.engine_json.specs.Members.{note_value}
-use Rattle.engine_json.proofs.values.write_notes.Given as goal
+use Rattle.engine_json.proofs.values.write_rule_notes.Given as goal
 
 abbrev pub invariant-loop-note : goal.invariant-loop-note
 invariant-loop-note l = record {

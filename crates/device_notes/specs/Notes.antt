@@ -1,0 +1,64 @@
+-- Notes about a block: what in it udev would have been told otherwise, whatever the rules are. By the manual there are none.
+use Rattle.std.specs.Prelude.{Bool, false, not, ◌&&◌, if◌then◌else◌, nat_eq, List, [], ◌∷◌, ◌++◌, Option, Some, None, codes}
+use Rattle.std.specs.List.{starts_with}
+use Rattle.text_bytes.specs.Texts.{is_empty, word_of}
+use Rattle.text_bytes.specs.declared.profile.Profile.{Profile}
+use Rattle.text_bytes.specs.declared.profile.Profile.TheVariants.{Manual, Udev}
+use Rattle.text_tables.specs.Texts.{Text, is_among, same_text}
+use Rattle.text_tables.specs.Pairs.{value_of}
+use Rattle.device_core.specs.Values.{EventValue}
+use Rattle.device_notes.specs.declared.kinds.BlockNoteKind.{BlockNoteKind}
+use Rattle.device_notes.specs.declared.kinds.BlockNoteKind.TheVariants.{PathBeginsWithSys, StoredByUdev, UnknownAction}
+use Rattle.device_notes.specs.declared.notes.BlockNote.{BlockNote}
+
+-- the text of each kind of note
+abbrev pub text_of : BlockNoteKind → Text
+text_of UnknownAction = codes "unknown action"
+text_of PathBeginsWithSys = codes "path begins with /sys"
+text_of StoredByUdev = codes "stored by udev"
+
+-- the actions that udev has, as udevadm(8) lists them for `trigger --action`
+abbrev pub actions : List Text
+actions = codes "add" ∷ codes "remove" ∷ codes "change" ∷ codes "move" ∷ codes "online" ∷ codes "offline" ∷ codes "bind" ∷ codes "unbind" ∷ []
+
+-- whether udev has no such action
+abbrev pub is_unknown_action : Text → Bool
+is_unknown_action action = not (is_among actions action)
+
+-- whether a path begins with the folder that it is below
+abbrev pub begins_with_sys : Text → Bool
+begins_with_sys path = starts_with nat_eq path (codes "/sys/")
+
+-- whether there is a value that is not empty: an empty one is no property for udev
+abbrev pub is_filled : Option Text → Bool
+is_filled None = false
+is_filled (Some value) = not (is_empty value)
+
+-- whether the device of an event is new, and has the property that udev stores of each device once it has handled the first
+-- event of it: the kernel sends none of this name, so the block has what is stored of a device that udev knows already
+abbrev pub is_stored_by_udev : EventValue → Bool
+is_stored_by_udev event = same_text event.action (codes "add") && is_filled (value_of event.device.env (codes "USEC_INITIALIZED"))
+
+-- the note of a kind about a text
+abbrev pub note_about : BlockNoteKind → Text → BlockNote
+note_about kind text = record { kind = kind; word = word_of text }
+
+-- this note, if it is so
+abbrev pub note_if : Bool → BlockNoteKind → Text → List BlockNote
+note_if is_so kind text = if is_so then note_about kind text ∷ [] else []
+
+-- the notes about a block over which rules are evaluated as by udev
+abbrev pub udev_notes : EventValue → List BlockNote
+udev_notes event =
+    note_if (is_unknown_action event.action) UnknownAction event.action
+    ++ note_if (begins_with_sys event.device.path) PathBeginsWithSys event.device.path
+    ++ note_if (is_stored_by_udev event) StoredByUdev (codes "USEC_INITIALIZED")
+
+-- the notes about a block by a profile
+abbrev pub notes_by : Profile → EventValue → List BlockNote
+notes_by Manual event = []
+notes_by Udev event = udev_notes event
+
+-- the notes about the block of an event
+unfoldable pub block_notes : EventValue → List BlockNote
+block_notes event = notes_by event.profile event

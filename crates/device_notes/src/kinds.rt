@@ -1,0 +1,28 @@
+//! What a note about a block says.
+ghost use Rattle.std.specs.Prelude.{◌≡◌};
+ghost use Rattle.device_notes.specs.Notes.{text_of};
+
+/// What is noted of a block, and what the word of its note then is.
+#[derive(Clone, Copy, PartialEq, Eq)]
+pub enum BlockNoteKind {
+    /// The action is none that udev has; the word is the action.
+    UnknownAction,
+    /// The path of the event device is written with `/sys` at its start; the word is the path.
+    PathBeginsWithSys,
+    /// The action is `add`, and the event device has the property that udev stores once it has handled a device; the word
+    /// is the name of the property.
+    StoredByUdev,
+}
+
+impl BlockNoteKind {
+    /// The text of a note, which never changes.
+    pub fn text(self) -> &'static [u8]
+        ensures { result.now ≡ text_of self }
+    {
+        match self {
+            BlockNoteKind::UnknownAction => b"unknown action",
+            BlockNoteKind::PathBeginsWithSys => b"path begins with /sys",
+            BlockNoteKind::StoredByUdev => b"stored by udev",
+        }
+    }
+}

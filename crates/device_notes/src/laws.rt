@@ -1,0 +1,48 @@
+//! What is true of the notes about a block. Each function here is empty: its contract is the law.
+ghost use Rattle.std.specs.Prelude.{◌≡◌, ◌≢◌, ◌↔◌, ◌⊎◌, ◌∷◌, ◌++◌, ℕ, [], Some, codes};
+ghost use Rattle.text_bytes.specs.declared.profile.Profile.TheVariants.{Manual, Udev};
+ghost use Rattle.text_tables.specs.Texts.{Text};
+ghost use Rattle.text_tables.specs.Pairs.{value_of};
+ghost use Rattle.device_core.specs.Values.{EventValue};
+ghost use Rattle.device_notes.specs.Laws.{IsNoneOf, notes_of};
+ghost use Rattle.device_notes.specs.Notes.{block_notes, note_about};
+ghost use Rattle.device_notes.specs.declared.kinds.BlockNoteKind.TheVariants.{PathBeginsWithSys, StoredByUdev, UnknownAction};
+
+/// For udev the action of a block is noted if and only if it is none of the eight that udev has, and then once.
+pub fn an_action_that_udev_does_not_have_is_noted()
+    ensures noted { (event : EventValue) → event.profile ≡ Udev
+        → (notes_of UnknownAction event ≡ note_about UnknownAction event.action ∷ [])
+        ↔ IsNoneOf event.action (codes "add" ∷ codes "remove" ∷ codes "change" ∷ codes "move" ∷ codes "online" ∷ codes "offline" ∷ codes "bind" ∷ codes "unbind" ∷ []) }
+    ensures once { (event : EventValue)
+        → (notes_of UnknownAction event ≡ []) ⊎ (notes_of UnknownAction event ≡ note_about UnknownAction event.action ∷ []) }
+{}
+
+/// For udev the path of the event device is noted if and only if it is written with `/sys` at its start, and then once.
+pub fn a_path_that_begins_with_sys_is_noted()
+    ensures noted { (event : EventValue) → event.profile ≡ Udev
+        → (notes_of PathBeginsWithSys event ≡ note_about PathBeginsWithSys event.device.path ∷ [])
+        ↔ ((below : Text) × (event.device.path ≡ codes "/sys/" ++ below)) }
+    ensures once { (event : EventValue)
+        → (notes_of PathBeginsWithSys event ≡ []) ⊎ (notes_of PathBeginsWithSys event ≡ note_about PathBeginsWithSys event.device.path ∷ []) }
+{}
+
+/// For udev the property USEC_INITIALIZED of the event device is noted if and only if the action is `add` and it is there with a
+/// value, and then once.
+pub fn a_property_that_udev_stores_is_noted()
+    ensures noted { (event : EventValue) → event.profile ≡ Udev
+        → (notes_of StoredByUdev event ≡ note_about StoredByUdev (codes "USEC_INITIALIZED") ∷ [])
+        ↔ ((event.action ≡ codes "add") × ((byte : ℕ) × (following : Text) × (value_of event.device.env (codes "USEC_INITIALIZED") ≡ Some (byte ∷ following)))) }
+    ensures once { (event : EventValue)
+        → (notes_of StoredByUdev event ≡ []) ⊎ (notes_of StoredByUdev event ≡ note_about StoredByUdev (codes "USEC_INITIALIZED") ∷ []) }
+{}
+
+/// The notes about a block are those of its action, of its path and of what udev stores, in this order.
+pub fn notes_about_a_block_are_in_order()
+    ensures { (event : EventValue)
+        → block_notes event ≡ notes_of UnknownAction event ++ notes_of PathBeginsWithSys event ++ notes_of StoredByUdev event }
+{}
+
+/// By the manual nothing about a block is noted.
+pub fn nothing_about_a_block_is_noted_by_the_manual()
+    ensures { (event : EventValue) → event.profile ≡ Manual → block_notes event ≡ [] }
+{}

@@ -1,0 +1,76 @@
+"""Notes about a block itself, which an answer of `--udev` has: an action that udev does not have, a path with `/sys` at its
+start, and under `add` a property that udev stores later.
+
+What is wanted follows from docs/behaviour.md; nothing here was taken from the program.
+"""
+from tables.kinds.answered import escaped
+from tables.kinds.compared import NEW, OLD, placed
+from tables.kinds.row import Row, as_bytes
+
+STORED = "USEC_INITIALIZED"
+STORED_NOTE = f"note -: stored by udev: {STORED}"
+
+
+def unknown(action):
+    return f"note -: unknown action: {action}"
+
+
+def misplaced(path):
+    return f"note -: path begins with /sys: {path}"
+
+
+def block(action, path, *lines):
+    """A block of an action at a path, with these lines."""
+    return b"".join(as_bytes(line) + b"\n" for line in (f"C: {action}", f"P: {path}", *lines)) + b"\n"
+
+
+def answer(action, path, *lines):
+    """The answer to it, with these lines in addition to the event, ACTION and DEVPATH."""
+    own = [b"event %s %s" % (escaped(action), escaped(path)), b"env ACTION=" + escaped(action), b"env DEVPATH=" + escaped(path)]
+    return b"".join(line + b"\n" for line in [*own, *(as_bytes(line) for line in lines)]) + b"\n"
+
+
+def noted(name, *asked, rules="", words=("--udev",)):
+    """A run over some blocks. Each thing asked is an action, a path, lines of the block after it, and the lines that its
+    answer has in addition."""
+    return Row(name, ["events", *words, "-r", "none", "r.rules"], {"r.rules": rules}, b"".join(block(action, path, *lines) for action, path, lines, _ in asked),
+               b"".join(answer(action, path, *wanted) for action, path, _, wanted in asked))
+
+
+ACTIONS = [
+    noted("each action that udev has", *((action, "/d", [], []) for action in "add remove change move online offline bind unbind".split())),
+    noted("actions that udev does not have", *((action, "/d", [], [unknown(action)]) for action in ["plug", "Add", "adds", "ad", "add ", "add|change", "*", "none"])),
+    noted("an action is shown in 32 bytes, escaped", ("a" * 40, "/d", [], [unknown("a" * 32)]), ("a\x01\\b", "/d", [], [unknown(r"a\x01\x5Cb")])),
+]
+
+PATHS = [
+    noted("a path with /sys at its start", ("add", "/sys/devices/x", [], [misplaced("/sys/devices/x")]), ("change", "/sys/d", [], [misplaced("/sys/d")])),
+    noted("other paths", *(("add", path, [], []) for path in ["/sys", "/sysx/d", "/devices/sys/d", "/d/sys"])),
+    noted("a path is shown in 32 bytes, escaped", ("add", "/sys/" + "d" * 40, [], [misplaced("/sys/" + "d" * 27)]), ("add", "/sys/\\", [], [misplaced(r"/sys/\x5C")])),
+    noted("a path is noted once, whatever its parents", ("add", "/sys/a/b", ["P: /sys/a", "P: /sys"], [misplaced("/sys/a/b")])),
+]
+
+STORES = [
+    noted("under add a property that udev stores later", ("add", "/d", [f"E: {STORED}=7"], [f"env {STORED}=7", STORED_NOTE])),
+    noted("under other actions it is there", *((action, "/d", [f"E: {STORED}=7"], [f"env {STORED}=7"]) for action in ["change", "remove", "bind"])),
+    noted("without a value it is no property", ("add", "/d", [f"E: {STORED}="], [])),
+    noted("another property", ("add", "/d", ["E: INITIALIZED=7"], ["env INITIALIZED=7"]), ("add", "/d", ["E: usec_initialized=7"], ["env usec_initialized=7"])),
+    noted("one of a parent, and one in a line that says what is stored", ("add", "/a/d", ["P: /a", f"E: {STORED}=7"], []), ("add", "/d", [f"B: {STORED}=7"], [])),
+    noted("one that a rule sets", ("add", "/d", [], [f"env {STORED}=7"]), rules=f'ENV{{{STORED}}}="7"\n'),
+    noted("one that a rule removes", ("add", "/d", [f"E: {STORED}=7"], [STORED_NOTE]), rules=f'ENV{{{STORED}}}=""\n'),
+]
+
+TOGETHER = [
+    noted("several notes are in order, before those of rules", ("plug", "/sys/d", [], ["run program r", unknown("plug"), misplaced("/sys/d"), "note r.rules:1: import not run: db"]),
+          ("add", "/sys/d", [f"E: {STORED}=7"], [f"env {STORED}=7", "run program r", misplaced("/sys/d"), STORED_NOTE, "note r.rules:1: import not run: db"]),
+          rules='IMPORT{db}!="A", RUN+="r"\n'),
+    noted("by the manual there are none", ("plug", "/sys/d", [], []), ("add", "/sys/d", [f"E: {STORED}=7"], [f"env {STORED}=7"]), words=()),
+    Row("with --sources they stay as they are", "events --udev --sources -r none r.rules", {"r.rules": 'TAG+="t", IMPORT{db}!="A"\n'}, block("plug", "/d"),
+        f"event plug /d\nr.rules:1: tag t\n-: env ACTION=plug\n-: env DEVPATH=/d\n{unknown('plug')}\nnote r.rules:1: import not run: db\n\n"),
+    Row("with --why they come before what rules met", "events --udev --why r.rules:1 -r none r.rules", {"r.rules": 'KERNEL=="d", TAG+="t"\n'}, block("plug", "/d"),
+        f"event plug /d\ntag t\nenv ACTION=plug\nenv DEVPATH=/d\n{unknown('plug')}\nwhy r.rules:1: KERNEL==\"d\": holds, d\nwhy r.rules:1: reached its end: tag t added\n\n"),
+    Row("with --questions there are none", "events --udev --questions -r none r.rules", {"r.rules": ""}, block("plug", "/sys/d"), "event plug /sys/d\n\n"),
+    Row("compare leaves them out", f"compare --udev {OLD} {NEW}", {placed(OLD): "", placed(NEW): 'TAG+="t"\n'}, block("plug", "/sys/d"), "event plug /sys/d\n+tag t\n\n", status=1),
+]
+
+ROWS = ACTIONS + PATHS + STORES + TOGETHER

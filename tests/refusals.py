@@ -117,7 +117,6 @@ REPORTED_FILES = {"w.rules": REPORTED_RULES, f"{SECOND}/usb.hwdb": "usb:v1D6B*\n
 REPORTED = "C: add\nP: /a/sda\nU: block\nQ: /bin/id sda\nR: 0 ab cd\nP: /a\nU: usb\nE: MODALIAS=usb:v1D6Bp0002\n"
 REPORTED_MESSAGE = "w.rules:5: V6 bad substitution: $nope\n"
 ROOT_NOTE = "devdry: .: its rules are not read beside a FILE that is named: --with FILE reads FILE among them\n"
-ROOT_NOTED = ROOT_NOTE + REPORTED_MESSAGE
 REPORTED_ANSWER = """\
 event add /a/sda
 owner root
@@ -288,12 +287,13 @@ class Row:
     """A run: its words, the files that it finds, its input, and its result if memory is ample.
 
     `line` is the last line of the error output if the run fails. An output or a line of None is that of the run itself.
-    `each_byte` says whether calls that move single bytes are refused, too.
+    `each_byte` says whether calls that move single bytes are refused, too. `note` is what the messages begin with if the root
+    can be looked at.
     """
 
-    def __init__(self, name, words, files=(), events="", output="", messages="", line="", status=0, each_byte=False):
+    def __init__(self, name, words, files=(), events="", output="", messages="", line="", status=0, each_byte=False, note=""):
         self.name, self.words, self.files = name, words, dict(files)
-        self.events, self.output, self.messages, self.line = map(as_bytes, (events, output, messages, line))
+        self.events, self.output, self.messages, self.line, self.note = map(as_bytes, (events, output, note + messages, line, note))
         self.status, self.each_byte = status, each_byte
         self.goes_on = words[0] == "files" or bool({"--all", "--udev"} & set(words))
 
@@ -347,10 +347,10 @@ ROWS = [
         "the sources of lines", ["events", "-r", ".", "--sources", "w.rules"], REPORTED_FILES, REPORTED, REPORTED_SOURCES + "\n", REPORTED_MESSAGE),
     Row(
         "--why", ["events", "-r", ".", "--why", "w.rules", "w.rules"], REPORTED_FILES, REPORTED,
-        REPORTED_ANSWER + REPORTED_WHY + "\n", ROOT_NOTED),
+        REPORTED_ANSWER + REPORTED_WHY + "\n", REPORTED_MESSAGE, note=ROOT_NOTE),
     Row(
         "--sources and --why, over two blocks", ["events", "-r", ".", "--why", "w.rules", "--sources", "w.rules"], REPORTED_FILES, REPORTED + "\n" + REPORTED,
-        (REPORTED_SOURCES + REPORTED_WHY + "\n") * 2, ROOT_NOTED),
+        (REPORTED_SOURCES + REPORTED_WHY + "\n") * 2, REPORTED_MESSAGE, note=ROOT_NOTE),
     Row(
         "--questions", ["events", "-r", ".", "--questions", "w.rules"], REPORTED_FILES, REPORTED.replace("Q: /bin/id sda\nR: 0 ab cd\n", "") + "\n" + REPORTED,
         "event add /a/sda\nQ: /bin/id sda\n\nevent add /a/sda\n\n", REPORTED_MESSAGE),
@@ -360,8 +360,8 @@ ROWS = [
     Row(
         "names by .link files", ["events", "--udev", "-r", ".", "i.rules"], LINK_FILES, INTERFACE, INTERFACE_ANSWER, INTERFACE_MESSAGE),
     Row(
-        "--why with a line that has no rule", ["events", "-r", ".", "--why", "w.rules:9", "w.rules"], REPORTED_FILES, REPORTED, "", ROOT_NOTED,
-        "devdry: --why w.rules:9: no such rule, the nearest is w.rules:5\n", 2),
+        "--why with a line that has no rule", ["events", "-r", ".", "--why", "w.rules:9", "w.rules"], REPORTED_FILES, REPORTED, "", REPORTED_MESSAGE,
+        "devdry: --why w.rules:9: no such rule, the nearest is w.rules:5\n", 2, note=ROOT_NOTE),
     Row(
         "faulty rules", ["verify", "v.rules"], {"v.rules": FAULTY_RULES},
         output="1 files checked, 0 good, 1 bad\n", messages=FAULTY_RULES_REPORTED, status=1),
@@ -435,10 +435,10 @@ ROWS = [
     Row("a faulty database file as JSON", ["update", "--format", "json", "--ignore", "H5", "s.hwdb"], {"s.hwdb": "m1\n\nm2\n =x\n"}, output=None, line=None),
     Row(
         "as udev does, with sources and what rules met", ["events", "--udev", "--sources", "--why", "w.rules", "-r", ".", "w.rules"], REPORTED_FILES, REPORTED,
-        None, ROOT_NOTE),
+        None, note=ROOT_NOTE),
     Row(
         "answers as JSON, with sources and what rules met", ["events", "--format=json", "--sources", "--why", "w.rules", "-r", ".", "w.rules"], REPORTED_FILES,
-        REPORTED + "\n" + REPORTED, None, ROOT_NOTED),
+        REPORTED + "\n" + REPORTED, None, REPORTED_MESSAGE, note=ROOT_NOTE),
     Row(
         "two roots compared as JSON", ["compare", "--format=json", "old", "new"], {f"old/{RULES}": 'MODE="0600"\n', f"new/{RULES}": 'TAG+="a"\n'},
         "C: add\nP: /d\n", '{"event":"add","path":"/d","gone":["mode 0600"],"come":["tag a"]}\n', status=1),
@@ -528,8 +528,10 @@ def refuse_growths(runs, row):
 
 
 def goes_on_whole(done, row, call):
-    """Whether a run did everything although this call was refused: the look at a name in a folder, or, where a run goes on, a
-    folder that is only counted."""
+    """Whether a run did everything although this call was refused: the look at a name in a folder, or at the root, which is
+    then not noted, or, where a run goes on, a folder that is only counted."""
+    if call == "look" and (done.returncode, done.stdout, row.note + done.stderr) == (row.status, row.output, row.messages + row.line):
+        return True
     return is_whole(done, row) and (call == "look" or row.goes_on and call in ("open", "list"))
 
 

@@ -38,5 +38,5 @@ def why(name, rules, lines, wanted, *courses, path="/d", asked=("r.rules",), mes
         {"r.rules": b"".join(as_bytes(rule) + b"\n" for rule in rules), **dict(files)},
         input=block(path, *lines),
         output=answered[:-1] + reported + b"\n",
-        messages=noted + messages,
+        messages=noted + as_bytes(messages),
     )

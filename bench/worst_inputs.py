@@ -209,6 +209,9 @@ LINKS = [
 BLOCKS = [
     Case("rules that no block met", 10_000, lambda n: told("--unused", each('ENV{A}=="1", ENV{B#}=="#", RESULT=="#", NAME="n"\n', n))),
     Case("blocks that meet no rule", 5_000, lambda n: (["events", "-r", "none", "--unused", "r.rules"], {"r.rules": each('ENV{B#}=="#", NAME="n"\n', 20)}, (DEVICE + "\n") * n)),
+    Case("properties as JSON", 2_000, lambda n: told("--format=json", each('ENV{P#}="#"\n', n)), 12),
+    Case("properties as JSON with their sources", 2_000,
+         lambda n: (["events", "-r", "none", "--format=json", "--sources", "r.rules"], {"r.rules": each('ENV{P#}="#"\n', n)}, DEVICE + "\n"), 12),
     Case("questions", 3_000, lambda n: (["events", "-r", "none", "--questions", "r.rules"], {"r.rules": each('PROGRAM!="p#"\n', n)}, DEVICE)),
     *(Case(f"blocks full of {template[0]} lines", 10, lambda n, template=template: events("", full(template) * n))
       for template in ["E: #=1\n", "A: #=1\n", "G: #\n", "S: #\n", "B: #=1\n", "K: #=1\n", "Q: #\nR: 0\n"]),
@@ -237,6 +240,9 @@ DATABASE = [
         **{f"etc/udev/rules.d/b{number:05}.rules": "" for number in range(n)},
         **{f"run/udev/rules.d/a{number:05}.rules": "" for number in range(n)}}, "")),
     Case("rules files below a root, each behind 39 links with 1,600 names", 2, linked),
+    Case("options of a file", 5_000, lambda n: (["verify", "--options", "o", "r"], {"r": "", "o": "--ignore=S2\n" * n}, "")),
+    Case("lines of the standard input as rules", 10_000, lambda n: (["verify", "-"], {}, "x\n" * n)),
+    Case("lines with what no editor shows", 50_000, lambda n: (["verify", "--lint", "r"], {"r": "# \u00a0\r\n" * n}, "")),
     Case("named files", 2_000, lambda n: (["verify", *["r"] * n], {"r": ""}, "")),
 ]
 

@@ -530,7 +530,8 @@ def refuse_growths(runs, row):
 def goes_on_whole(done, row, call):
     """Whether a run did everything although this call was refused: the look at a name in a folder, or at the root, which is
     then not noted, or, where a run goes on, a folder that is only counted."""
-    if call == "look" and (done.returncode, done.stdout, row.note + done.stderr) == (row.status, row.output, row.messages + row.line):
+    is_unnoted = (done.returncode, done.stdout, row.note + done.stderr) == (row.status, row.output, row.messages + row.line)
+    if row.note and is_unnoted and call in ("look", "open"):
         return True
     return is_whole(done, row) and (call == "look" or row.goes_on and call in ("open", "list"))
 

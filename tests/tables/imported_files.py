@@ -10,6 +10,7 @@ from tables.kinds.why import of
 RULE = 'IMPORT{file}=="/run/x", ENV{YES}="1"\nIMPORT{file}!="/run/x", ENV{NO}="1"\n'
 BLOCK = "C: add\nP: /devices/x\n"
 MOST = 65_536
+ROOT_NOTE = "devdry: mnt: its rules are not read beside a FILE that is named: --with FILE reads FILE among them\n"
 
 
 def answer(*lines):
@@ -88,7 +89,7 @@ def reported(name, files, lines, *courses, rules=RULE, udev=" --udev"):
     """What rules met."""
     told = "".join(f"why r.rules:{line.decode()}\n" for course in courses for line in course)
     placed = {f"mnt{path}": text for path, text in files.items()}
-    return Row(name, f"events{udev} -r mnt --why r.rules r.rules", {"r.rules": rules, "mnt/none": "", **placed}, BLOCK, answer(*lines)[:-1] + told + "\n")
+    return Row(name, f"events{udev} -r mnt --why r.rules r.rules", {"r.rules": rules, "mnt/none": "", **placed}, BLOCK, answer(*lines)[:-1] + told + "\n", ROOT_NOTE)
 
 
 WHY = [

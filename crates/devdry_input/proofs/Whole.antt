@@ -44,6 +44,7 @@ one_piece text piece before now later r g =
     }
 
 pub more : (made : ℕ) (text next : Text) (before now later : SourceState) → AfterReads made text before now → Adds true text next now later → AfterReads (made + 1) next before later
+unfolding one_piece
 more made text next before now later a d = rw d.added (record {
   reads = one_piece text d.piece before now later a.reads d.gives;
   count = length-append a.reads.read (d.piece ∷ []) ∙ ap (λ n. n + 1) a.count;

@@ -1,8 +1,8 @@
 -- Which of the words that clap takes `devdry` itself refuses, and what it says about them.
 use Rattle.std.specs.Prelude.{◌&&◌, ◌||◌, ◌++◌, List, [], ◌∷◌, Bool, Option, Some, None, if◌then◌else◌, find, flat_map, is_some, map, nat_eq, not}
-use Rattle.std.specs.Prelude.{option_map_or, unwrap_or, codes, false, true}
+use Rattle.std.specs.Prelude.{unwrap_or, codes, false, true}
 use Rattle.std.specs.List.{ends_with, list_any}
-use Rattle.std.specs.Option.{is_none}
+use Rattle.std.specs.Option.{is_none, option_map_or}
 use Rattle.std.specs.Str.{bytes_eq}
 use Rattle.clap.specs.Words.{Row, Text, first_of}
 use Rattle.text_bytes.specs.Kinds.{suffix_of}

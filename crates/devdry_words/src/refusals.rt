@@ -2,7 +2,8 @@
 //!
 //! A rule of one argument on another would cost what `clap` proves about the words that it takes, and so would
 //! values split at commas, so these few cases are looked at here.
-ghost use Rattle.std.specs.Prelude.{◌≡◌, false, option_map_or};
+ghost use Rattle.std.specs.Option.{option_map_or};
+ghost use Rattle.std.specs.Prelude.{◌≡◌, false};
 ghost use Rattle.clap.specs.Words.{found_of, rows_of};
 ghost use Rattle.devdry_words.specs.Named.{IsUsageOf};
 ghost use Rattle.devdry_words.specs.Refusals.{answers_blocks, asks_all, asks_both, breaks_json, is_for_answers, is_strict, lacks_answer_format, links_as_rules};

@@ -8,7 +8,7 @@
   (interactive)
   (compile (format (if (string-suffix-p ".hwdb" buffer-file-name)
                        "devdry update --strict --ignore comments --format=gcc %s > /dev/null"
-                     "devdry verify --no-summary --format=gcc %s")
+                     "devdry verify --strict --no-summary --ignore comments --format=gcc %s")
                    (shell-quote-argument buffer-file-name))))
 (provide 'devdry)
 ;;; devdry.el ends here

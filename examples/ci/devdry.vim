@@ -3,5 +3,5 @@ if exists("current_compiler")
   finish
 endif
 let current_compiler = "devdry"
-CompilerSet makeprg=devdry\ verify\ --no-summary\ --ignore\ comments\ --format=gcc\ %:S
+CompilerSet makeprg=devdry\ verify\ --strict\ --no-summary\ --ignore\ comments\ --format=gcc\ %:S
 CompilerSet errorformat=%f:%l:%c:\ %trror:\ %m,%f:%l:%c:\ %tarning:\ %m,%-G%.%#

@@ -3,6 +3,7 @@ ghost use Rattle.std.specs.Prelude.{◌≡◌, ◌++◌, Some, OnOk, drop, map};
 ghost use Rattle.json.specs.Tree.{json_tokens};
 ghost use Rattle.text_bytes.specs.Lines.{lines};
 ghost use Rattle.text_json.specs.Listed.{value_tokens};
+ghost use Rattle.device_notes.specs.Notes.{block_notes};
 ghost use Rattle.engine_json.specs.Members.{block_note_value, label_value, note_value, note_values, run_value, sourced, sourced_runs, why_values};
 
 use crate::shape::write_source;

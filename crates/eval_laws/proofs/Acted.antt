@@ -310,10 +310,10 @@ module _ (event : EventValue) where
     not_run_within : (type : ImportType) → Within event (n + most) (not_run r type s).0
     not_run_within type = notes ImportNotRun (import_name type)
 
-    found_within : (found : Option RootFile) → most_set + (length r.file + 280) ≤ most → Within event (n + most) (from_found r found s).0
-    found_within None light = not_run_within import_of.File
-    found_within (Some Absent) light = stays
-    found_within (Some (Read bytes)) light = by (nat_le (length bytes) most_set) refl
+    file_within : (found : Option RootFile) → most_set + (length r.file + 280) ≤ most → Within event (n + most) (from_found r found s).0
+    file_within None light = not_run_within import_of.File
+    file_within (Some Absent) light = stays
+    file_within (Some (Read bytes)) light = by (nat_le (length bytes) most_set) refl
       where
         by : (b : Bool) → nat_le (length bytes) most_set ≡ b
             → Within event (n + most) (if◌then◌else◌ {A = Scene × Bool} b (with_env (properties_set s.state.env (file_properties bytes)) s, true) (not_run r import_of.File s)).0
@@ -380,7 +380,7 @@ module _ (event : EventValue) where
         on_text_within d (from_program r) (import_text most_command_bytes template s.state) (λ command. program_within command short)
     import_within Manual d known (import.File template) is light short = not_run_within import_of.File
     import_within Udev d known (import.File template) is light short =
-        on_text_within d (from_file known r) (import_text most_path_bytes template s.state) (λ path. found_within (known.file path) (file_room (entries_weight known.entries) is light))
+        on_text_within d (from_file known r) (import_text most_path_bytes template s.state) (λ path. file_within (known.file path) (file_room (entries_weight known.entries) is light))
     import_within Manual d known (import.Cmdline name) is light short = not_run_within import_of.Cmdline
     import_within Udev d known (import.Cmdline name) is light short = cmdline_within name short
     import_within Manual d known (import.Db name) is light short = not_run_within import_of.Db

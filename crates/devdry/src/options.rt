@@ -51,7 +51,7 @@ fn run_named<D: Disk, I: Source, W: Sink, E: Sink>(
     output: &mut W,
     error: &mut E,
 ) -> u8
-    ensures { MatchOption (option_map (λ p. p.now) named)
+    ensures { MatchOption (option_map (λ p. p.now) named.entry)
         (RunsAlone terminals (D.may_answer disk.now) (map string_bytes words.now) result
         (record { input = I.shown input.old; out = W.shown output.old; err = E.shown error.old })
         (record { input = I.shown input.new; out = W.shown output.new; err = E.shown error.new }))

@@ -1,7 +1,7 @@
 //! Runs that name the standard input as a file.
 ghost use Rattle.std.specs.List.{list_any};
 ghost use Rattle.std.specs.Prelude.{◌≡◌, MatchOption, map, option_map};
-ghost use Rattle.text_tables.specs.Texts.{same_text};
+ghost use Rattle.text_tables.specs.Texts.{is_among, same_text};
 ghost use Rattle.devdry.specs.Piping.{ReportsInputFault, input_named, input_of, names_input};
 ghost use Rattle.devdry.specs.Runs.{RunsPiped, RunsWithInput};
 
@@ -14,17 +14,24 @@ use std::alloc::Global;
 const READ_FAILED: &[u8] = b"devdry: read failed\n";
 
 /// Whether one of these files has a name, as it stands among them.
-fn has_name(files: &[&str], name: &str) -> bool
+fn is_named(files: &[&str], name: &str) -> bool
     ensures { result ≡ list_any (λ f. same_text name.now f.now) files.now }
 {
     files.iter().any(|file| name.as_bytes() == file.as_bytes())
+}
+
+/// Whether one of these files has a name.
+fn is_among(files: &[&str], name: &str) -> bool
+    ensures { result ≡ is_among (map (λ f. f.now) files.now) name.now }
+{
+    is_named(files, name)
 }
 
 /// Whether a line names the standard input as a file.
 fn names_input(line: &Line<'_>) -> bool
     ensures { result ≡ names_input line.now }
 {
-    has_name(&line.files, line.input_name)
+    is_among(&line.files, line.input_name)
 }
 
 /// The name of the standard input as a file, if a line names it as one.

@@ -22,15 +22,15 @@ returns-in-Ok g c input out =
     let hint = c.args.hint.now in
     let fails = FailsAt (λ f. f ≡ c.args.fault.now) in
     let before : Streams = record { input = input; out = out; err = g.E.Sink.shown c.args.error.now } in
-    let now : Streams = record { input = input; out = out; err = g.E.Sink.shown c.report_read_fault.new.error } in
+    let now : Streams = record { input = input; out = out; err = g.E.Sink.shown c.report_read_fault-in-Ok.new.error } in
     let is : is_empty hint ≡ false = search rules in
-    let status = c.report_read_fault.result in
+    let status = c.report_read_fault-in-Ok.result in
     subst (λ b. MatchBool b (fails status before now) (RunsAfter hint 0 fails status before now)) (sym is)
     (inl (record {
       err = g.E.Sink.shown c.hand_on.new.sink;
       hands_on = c.in-Ok.ensures.whole;
       own = status;
-      runs = record { fault = c.args.fault.now; is_fault = refl; reports = c.report_read_fault.ensures; unread = refl; untouched = refl };
+      runs = record { fault = c.args.fault.now; is_fault = refl; reports = c.report_read_fault-in-Ok.ensures; unread = refl; untouched = refl };
       status_is = least_of status;
     }))
   where

@@ -11,15 +11,15 @@ returns-in-Ok g c =
     let notes = c.args.notes.now in
     let does = RunsFinding (g.D.Disk.may_answer c.args.disk.now) c.args.line.now c.args.files.items c.args.index in
     let before : Streams = record { input = g.I.Source.shown c.args.input.now; out = g.W.Sink.shown c.args.output.now; err = g.E.Sink.shown c.args.error.now } in
-    let now : Streams = record { input = g.I.Source.shown c.serve_read.new.input; out = g.W.Sink.shown c.serve_read.new.output; err = g.E.Sink.shown c.serve_read.new.error } in
+    let now : Streams = record { input = g.I.Source.shown c.serve_read-in-Ok.new.input; out = g.W.Sink.shown c.serve_read-in-Ok.new.output; err = g.E.Sink.shown c.serve_read-in-Ok.new.error } in
     let is : is_empty notes ≡ false = search rules in
-    let status = c.serve_read.result in
+    let status = c.serve_read-in-Ok.result in
     subst (λ b. MatchBool b (does status before now) (RunsAfter notes 0 does status before now)) (sym is)
     (inl (record {
       err = g.E.Sink.shown c.hand_on.new.sink;
       hands_on = c.in-Ok.ensures.whole;
       own = status;
-      runs = c.serve_read.ensures;
+      runs = c.serve_read-in-Ok.ensures;
       status_is = least_of status;
     }))
   where

@@ -4,7 +4,7 @@ use Rattle.engine_ends.specs.declared.line.AccountFile.{AccountFile}
 use Rattle.engine_ends.specs.declared.line.Line.{Line}
 use Rattle.devdry_files.specs.Answers.{Answer}
 use Rattle.devdry_files.specs.Answers.Answer.{Content, NoContent}
-use Rattle.devdry_files.specs.Faults.{IsUnread}
+use Rattle.devdry_files.specs.Faults.{IsUnread, IsUnreadable}
 use Rattle.devdry_files.specs.Inside.{MayInside}
 use Rattle.devdry_files.specs.declared.disk.DiskFault.TheVariants.{Absent}
 
@@ -34,10 +34,14 @@ pub record AreAccountsRead (may : Answer → Type 0) (named line : Line) : Type 
   pub groups : IsAccountRead may named.root.now named.groups line.groups
   pub rest : line ≡ record named { users = line.users; groups = line.groups }
 
+-- the disk may say that it can't read the file at the path: that of the root has to be there for that, one that is named has not
+abbrev pub IsAccountUnread : (Answer → Type 0) → List ℕ → AccountFile → List ℕ → Type 0
+IsAccountUnread may root file path = MatchBool file.of_root (IsUnreadable (MayInside may root) path) (IsUnread may path)
+
 -- the path is that of the file that is named, which the disk may say that it can't read
 abbrev pub IsFaultyAccount : (Answer → Type 0) → List ℕ → Option AccountFile → List ℕ → Type 0
 IsFaultyAccount may root None path = ⊥
-IsFaultyAccount may root (Some file) path = (path ≡ account_place root file) × IsUnread (MayOf may root file) path
+IsFaultyAccount may root (Some file) path = (path ≡ account_place root file) × IsAccountUnread may root file path
 
 -- the first of the files of users and groups that a line names which the disk may say that it can't read
 abbrev pub IsFaultyAccounts : (Answer → Type 0) → Line → List ℕ → Type 0

@@ -22,9 +22,13 @@ HasPath P Memory = ⊤
 abbrev pub IsUnlisted : (Answer → Type 0) → List ℕ → Type 0
 IsUnlisted may path = may (NoListing path Unreadable) ⊎ may (NoListing path NotUtf8)
 
--- the disk may say that nothing is at the path, or that it can't read what is there, for one reason or the other
+-- the disk may say that it can't read what is at the path, for one reason or the other
+abbrev pub IsUnreadable : (Answer → Type 0) → List ℕ → Type 0
+IsUnreadable may path = may (NoContent path Unreadable) ⊎ may (NoContent path NotUtf8)
+
+-- the disk may say that nothing is at the path, or that it can't read what is there
 abbrev pub IsUnread : (Answer → Type 0) → List ℕ → Type 0
-IsUnread may path = may (NoContent path Absent) ⊎ (may (NoContent path Unreadable) ⊎ may (NoContent path NotUtf8))
+IsUnread may path = may (NoContent path Absent) ⊎ IsUnreadable may path
 
 -- the first of the items that is faulty, with the path of its fault; each before it was read
 abbrev pub FirstFaulty : {T : Type 0} → (T → Type 0) → (T → List ℕ → Type 0) → List T → List ℕ → Type 0

@@ -1,7 +1,7 @@
 //! Reads the files of users and groups that a line names.
 ghost use Rattle.std.specs.Prelude.{◌≡◌, ◌++◌, ℕ, IfErr, IfOk, List, false, string_bytes, true};
 ghost use Rattle.devdry_files.specs.AccountFiles.{AreAccountsRead, IsAccountRead, IsFaultyAccount, IsFaultyAccounts, IsFileRead, account_place};
-ghost use Rattle.devdry_files.specs.Faults.{HasPath, IsUnread};
+ghost use Rattle.devdry_files.specs.Faults.{HasPath, IsUnread, IsUnreadable};
 ghost use Rattle.devdry_files.specs.Inside.{MayInside};
 
 use crate::disk::{Disk, DiskFault};
@@ -82,7 +82,7 @@ fn read_of_root<'a, D: Disk>(
     requires { file.of_root ≡ true }
     ensures file { IfOk result (IsFileRead (D.may_answer disk.now) root.now file.entry) }
     ensures fault { IfErr result (HasPath (λ path. (path ≡ root.now ++ file.entry.path.now)
-        × IsUnread (MayInside (D.may_answer disk.now) root.now) path)) }
+        × IsUnreadable (MayInside (D.may_answer disk.now) root.now) path)) }
 {
     let path = path_below(alloc, root, file.path)?;
     let inside = RootedDisk::new(disk, root);

@@ -7,7 +7,8 @@ use Rattle.device_core.specs.Values.{DeviceValue, most_devices}
 use Rattle.device_core.specs.Lines.{Row}
 use Rattle.device_core.specs.Parts.{is_parent_path, is_device_path}
 use Rattle.text_bytes.specs.Texts.{is_empty}
-use Rattle.device_core.specs.Steps.{Sofar, if_ok, begun, unasked, settled, path_step, device_step, above_step, pair_step, command_step, answer_step, output_step, row_step, plain_row, then_row, line_step}
+use Rattle.device_core.specs.Blocks.{BehindValue, behind_after}
+use Rattle.device_core.specs.Steps.{Sofar, if_ok, begun, unasked, settled, path_step, device_step, above_step, pair_step, command_step, answer_step, output_step, row_step, plain_row, then_row, line_step, with_behind}
 use Rattle.device_core.specs.declared.lines.LineKind.{LineKind}
 use Rattle.device_core.specs.declared.lines.LineKind.TheVariants.{Action, Device, Field, Constant, Command, Answer, Output}
 use Rattle.device_core.specs.declared.faults.BlockFaultKind.{BlockFaultKind}
@@ -52,9 +53,13 @@ few_row s Command rest answered few = few_if (λ c. record (settled s) { asked =
 few_row s Answer rest answered few = few_if (λ p. record (settled s) { pending = Some p; asked = None }) (λ _. few) (answer_step s.asked rest)
 few_row s Output rest answered few = few_if (λ p. record s { pending = Some p; asked = None }) (λ _. few) (output_step s.pending rest)
 
+few_behind : (b : BehindValue) (r : Result Sofar BlockFaultKind) → IfOk r IsFew → IfOk (if_ok (with_behind b) r) IsFew
+few_behind b (Ok t) few = few
+few_behind b (Err kind) few = tt
+
 few_line : (s : Sofar) (answered : Bool) (row : Result Row BlockFaultKind) → IsFew s → IfOk (then_row s answered row) IsFew
 few_line s answered (Err kind) few = tt
-few_line s answered (Ok row) few = few_row s row.0 row.1 answered few
+few_line s answered (Ok row) few = few_behind (behind_after s.behind row.0 row.1) (row_step s row.0 row.1 answered) (few_row s row.0 row.1 answered few)
 
 -- a line more leaves them few
 pub few_step : (s : Sofar) (line : Text) (answered : Bool) (t : Sofar) → line_step s line answered ≡ Ok t → IsFew s → IsFew t

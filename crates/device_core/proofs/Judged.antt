@@ -1,6 +1,7 @@
 -- The one-pass reader answers what the definition of a block says.
 use Rattle.std.proofs.Common.{◌≡◌, ℕ, ◌+◌, Bool, true, false, not, ◌&&◌, ◌||◌, List, [], ◌∷◌, ◌++◌, length, Option, Some, None, is_some, is_none, Result, Ok, Err, unwrap_or, nat_le, nat_eq, refl, ap, sym, ◌∙◌, subst, if◌then◌else◌, arith}
 use Rattle.std.proofs.lemmas.List.{append-nil, length-append}
+use Rattle.std.proofs.lemmas.List.Sums.{fold-append}
 use Rattle.std.specs.Option.{option_to_list}
 use Rattle.std.specs.List.{zip}
 use Rattle.text_bytes.specs.Texts.{first, is_empty}
@@ -10,9 +11,9 @@ use Rattle.text_tables.specs.Pairs.{Pair as NameAndValue, named}
 use Rattle.device_core.specs.Lines.{Row, row_of, kind_of, begins_answer}
 use Rattle.device_core.specs.Parts.{pair_of, number_of, answer_of, is_device_path, is_parent_path}
 use Rattle.device_core.specs.Values.{NumberValue, DeviceValue, AnswerValue}
-use Rattle.device_core.specs.Blocks.{is_kind, texts, pairs, answers, change_last, programs, groups, devices, event}
+use Rattle.device_core.specs.Blocks.{BehindValue, behind_after, behind_in, is_kind, nothing_behind, texts, pairs, answers, change_last, programs, groups, devices, event}
 use Rattle.device_core.specs.Faults.{device_above, follows_command, follows_answer, is_wrong_number, is_half_field, has_field, has_name, first_of, row_fault, has_nul, line_fault, fault_unless, unless_faulty, given_with, given_below, given_by}
-use Rattle.device_core.specs.Steps.{if_ok, once_step, number_step, number_once, pair_step, with_pair, member_step, field_step, Sofar, bare_device, begun, unasked, settled, path_step, device_step, above_step, command_step, answer_step, output_step, with_answer, row_step, plain_row, known_row, line_step, then_row, first_step, action_in, action_by, nothing_read, then_steps, steps, finished_event, with_devices, then_finished, after_first, read_lines}
+use Rattle.device_core.specs.Steps.{if_ok, once_step, number_step, number_once, pair_step, with_pair, member_step, field_step, Sofar, bare_device, begun, unasked, settled, path_step, device_step, above_step, command_step, answer_step, output_step, with_answer, row_step, plain_row, known_row, line_step, then_row, first_step, action_in, action_by, nothing_read, then_steps, steps, finished_event, with_devices, then_finished, after_first, read_lines, with_behind}
 use Rattle.device_core.specs.declared.lines.DeviceField.{DeviceField}
 use Rattle.device_core.specs.declared.lines.DeviceField.TheVariants.{Subsystem, Driver, Node, Devnum, Attribute, Property, Stored, Tag, Link}
 use Rattle.device_core.specs.declared.lines.LineKind.{LineKind}
@@ -293,16 +294,49 @@ waits_by : (asked : Option Text) (line : Text) (below : List Text) (kind : LineK
 waits_by None line below kind rest next e = none_waits kind
 waits_by (Some command) line below kind rest next e = subst (λ (k : LineKind). NoneWaits (Some command) k) (sym (is_answer line below kind rest next e)) tt
 
-line_by : (above : List Row) (action : Text) (s : Sofar) (line : Text) (below : List Text) → Holds above action s → IsNext s.asked (line ∷ below) → (t : Bool) (o : Option Row) → row_of line ≡ o
-    → Agrees (above ++ option_to_list o) action below (if t then Some Nul else fault_unless above o below) (then_row s (begins_answer below) (if t then Err Nul else known_row o))
-line_by above action s line below h next true o e = refl
-line_by above action s line below h next false None e = refl
-line_by above action s line below h next false (Some row) e = row_agrees above action s row.0 row.1 below h (waits_by s.asked line below row.0 row.1 next e)
+-- what the reader does with a line is what the definition says of it, and so is what it knows of properties behind commands
+abbrev LineAgrees : List Row → Text → List Text → Option BlockFaultKind → Result Sofar BlockFaultKind → Type 0
+LineAgrees above action below fault (Err kind) = fault ≡ Some kind
+LineAgrees above action below fault (Ok t) = (fault ≡ None) × Holds above action t × IsNext t.asked below × (t.behind ≡ behind_in above)
 
-line_agrees : (above : List Row) (action : Text) (s : Sofar) (line : Text) (below : List Text) → Holds above action s → IsNext s.asked (line ∷ below)
-    → Agrees (above ++ option_to_list (row_of line)) action below (line_fault above line below) (line_step s line (begins_answer below))
+still_holds : (above : List Row) (action : Text) (t : Sofar) (b : BehindValue) → Holds above action t → Holds above action (record t { behind = b })
+still_holds above action t b h = record {
+  begun_are = h.begun_are;
+  acted = h.acted;
+  devices_are = h.devices_are;
+  alone = h.alone;
+  constants_are = h.constants_are;
+  answered = h.answered;
+  asked_are = h.asked_are;
+  as_many = h.as_many;
+  programs_are = h.programs_are;
+  follows = h.follows;
+  fresh = h.fresh;
+  prints = h.prints;
+  apart = h.apart;
+}
+
+line_with : (above : List Row) (action : Text) (below : List Text) (fault : Option BlockFaultKind) (b : BehindValue) → b ≡ behind_in above
+    → (r : Result Sofar BlockFaultKind) → Agrees above action below fault r → LineAgrees above action below fault (if_ok (with_behind b) r)
+line_with above action below fault b is (Err kind) agrees = agrees
+line_with above action below fault b is (Ok t) agrees = (agrees.0, still_holds above action t b agrees.1, agrees.2, is)
+
+behind_more : (above : List Row) (row : Row) → behind_in (above ++ row ∷ []) ≡ behind_after (behind_in above) row.0 row.1
+unfolding behind_in
+behind_more above row = fold-append (λ (b : BehindValue) (r : Row). behind_after b r.0 r.1) nothing_behind above (row ∷ [])
+
+line_by : (above : List Row) (action : Text) (s : Sofar) (line : Text) (below : List Text) → Holds above action s → IsNext s.asked (line ∷ below) → s.behind ≡ behind_in above → (t : Bool) (o : Option Row) → row_of line ≡ o
+    → LineAgrees (above ++ option_to_list o) action below (if t then Some Nul else fault_unless above o below) (then_row s (begins_answer below) (if t then Err Nul else known_row o))
+line_by above action s line below h next b true o e = refl
+line_by above action s line below h next b false None e = refl
+line_by above action s line below h next b false (Some row) e =
+    line_with (above ++ row ∷ []) action below (row_fault above row.0 row.1 below) (behind_after s.behind row.0 row.1) (ap (λ v. behind_after v row.0 row.1) b ∙ sym (behind_more above row))
+    (row_step s row.0 row.1 (begins_answer below)) (row_agrees above action s row.0 row.1 below h (waits_by s.asked line below row.0 row.1 next e))
+
+line_agrees : (above : List Row) (action : Text) (s : Sofar) (line : Text) (below : List Text) → Holds above action s → IsNext s.asked (line ∷ below) → s.behind ≡ behind_in above
+    → LineAgrees (above ++ option_to_list (row_of line)) action below (line_fault above line below) (line_step s line (begins_answer below))
 unfolding line_fault line_step plain_row
-line_agrees above action s line below h next = line_by above action s line below h next (has_nul line) (row_of line) refl
+line_agrees above action s line below h next b = line_by above action s line below h next b (has_nul line) (row_of line) refl
 
 -- a line without a fault is one of the rows above the next
 counted_by : (above : List Row) (below : List Text) (t : Bool) (o : Option Row) → (if t then Some Nul else fault_unless above o below) ≡ None → length (above ++ option_to_list o) ≡ length above + 1
@@ -316,8 +350,8 @@ counted above line below e = counted_by above below (has_nul line) (row_of line)
 
 -- ---- the end
 
-module _ (above : List Row) (action : Text) (s : Sofar) (h : Holds above action s) where
-  event_is : s.asked ≡ None → (device : DeviceValue) (parents : List DeviceValue) → event above device parents ≡ record { action = action; device = device; parents = parents; programs = (settled s).programs; constants = s.constants; profile = Manual }
+module _ (above : List Row) (action : Text) (s : Sofar) (h : Holds above action s) (b : s.behind ≡ behind_in above) where
+  event_is : s.asked ≡ None → (device : DeviceValue) (parents : List DeviceValue) → event above device parents ≡ record { action = action; device = device; parents = parents; programs = (settled s).programs; constants = s.constants; misplaced = s.behind.property; profile = Manual }
   unfolding event programs
   event_is idle device parents =
       let commands : texts Command above ≡ h.answered = h.asked_are ∙ ap (λ o. h.answered ++ option_to_list o) idle ∙ append-nil h.answered in
@@ -327,6 +361,7 @@ module _ (above : List Row) (action : Text) (s : Sofar) (h : Holds above action 
         parents = parents;
         programs = (ap (λ cs. zip cs (answers above)) commands ∙ h.programs_are) i;
         constants = h.constants_are i;
+        misplaced = (sym b i).property;
         profile = Manual;
       }
 
@@ -345,27 +380,27 @@ idle_end (Some command) next = cc
 
 step_on : (above more : List Row) (action : Text) (n : ℕ) (line : Text) (below : List Text) (fault : Option BlockFaultKind) → n ≡ length above
     → (fault ≡ None → length more ≡ length above + 1)
-    → ((t : Sofar) → n + 1 ≡ length more → Holds more action t → IsNext t.asked below → then_finished action (steps t (n + 1) below) ≡ given_below more below)
-    → (r : Result Sofar BlockFaultKind) → Agrees more action below fault r
+    → ((t : Sofar) → n + 1 ≡ length more → Holds more action t → IsNext t.asked below → t.behind ≡ behind_in more → then_finished action (steps t (n + 1) below) ≡ given_below more below)
+    → (r : Result Sofar BlockFaultKind) → LineAgrees more action below fault r
     → then_finished action (then_steps (n + 1) (λ t. steps t (n + 1) below) r) ≡ unless_faulty (length above + 1) fault (given_below more below)
 step_on above more action n line below fault e grown rest (Err kind) agrees = rw (agrees, e) refl
 step_on above more action n line below fault e grown rest (Ok t) agrees =
     let count : n + 1 ≡ length more = ap (λ m. m + 1) e ∙ sym (grown agrees.0) in
-    rest t count agrees.1 agrees.2 ∙ ap (λ f. unless_faulty (length above + 1) f (given_below more below)) (sym agrees.0)
+    rest t count agrees.1 agrees.2 agrees.3 ∙ ap (λ f. unless_faulty (length above + 1) f (given_below more below)) (sym agrees.0)
 
-lines_agree : (lines : List Text) (above : List Row) (action : Text) (s : Sofar) (n : ℕ) → n ≡ length above → Holds above action s → IsNext s.asked lines → then_finished action (steps s n lines) ≡ given_below above lines
+lines_agree : (lines : List Text) (above : List Row) (action : Text) (s : Sofar) (n : ℕ) → n ≡ length above → Holds above action s → IsNext s.asked lines → s.behind ≡ behind_in above → then_finished action (steps s n lines) ≡ given_below above lines
 unfolding steps given_below finished_event
-lines_agree [] above action s n e h next = end_agrees above action s h n e (idle_end s.asked next)
-lines_agree (line ∷ below) above action s n e h next =
+lines_agree [] above action s n e h next b = end_agrees above action s h b n e (idle_end s.asked next)
+lines_agree (line ∷ below) above action s n e h next b =
     step_on above (above ++ option_to_list (row_of line)) action n line below (line_fault above line below) e (counted above line below)
-    (λ t m holds follows. lines_agree below (above ++ option_to_list (row_of line)) action t (n + 1) m holds follows)
-    (line_step s line (begins_answer below)) (line_agrees above action s line below h next)
+    (λ t m holds follows known. lines_agree below (above ++ option_to_list (row_of line)) action t (n + 1) m holds follows known)
+    (line_step s line (begins_answer below)) (line_agrees above action s line below h next b)
 
 -- ---- the first line
 
 abbrev pub FirstAgrees : List Row → Option BlockFaultKind → Result Text BlockFaultKind → Type 0
 FirstAgrees rows fault (Err kind) = fault ≡ Some kind
-FirstAgrees rows fault (Ok action) = (fault ≡ None) × Holds rows action nothing_read × (length rows ≡ 1)
+FirstAgrees rows fault (Ok action) = (fault ≡ None) × Holds rows action nothing_read × (length rows ≡ 1) × (nothing_behind ≡ behind_in rows)
 
 first_holds : (rest : Text) → Holds ((Action, rest) ∷ []) rest nothing_read
 unfolding texts pairs answers devices groups follows_command follows_answer
@@ -386,8 +421,9 @@ first_holds rest = record {
 }
 
 first_action : (rest : Text) (empty : Bool) → FirstAgrees ((Action, rest) ∷ []) (first_of ((empty, NoAction) ∷ (false, NoDevice) ∷ (false, TooDeep) ∷ (false, Path) ∷ (false, Number) ∷ (empty, Pair) ∷ (false, Twice) ∷ [])) (if empty then Err NoAction else Ok rest)
+unfolding behind_in
 first_action rest true = refl
-first_action rest false = (refl, first_holds rest, refl)
+first_action rest false = (refl, first_holds rest, refl, refl)
 
 first_row : (kind : LineKind) (rest : Text) (below : List Text) → FirstAgrees ((kind, rest) ∷ []) (row_fault [] kind rest below) (action_by kind rest)
 unfolding row_fault texts follows_command follows_answer
@@ -410,7 +446,7 @@ first_agrees line below = first_by below (has_nul line) (row_of line)
 
 first_on : (lines : List Text) (rows : List Row) (fault : Option BlockFaultKind) (r : Result Text BlockFaultKind) → FirstAgrees rows fault r → after_first lines r ≡ unless_faulty 1 fault (given_below rows lines)
 first_on lines rows fault (Err kind) agrees = rw agrees refl
-first_on lines rows fault (Ok action) agrees = lines_agree lines rows action nothing_read 1 (sym agrees.2) agrees.1 tt ∙ ap (λ f. unless_faulty 1 f (given_below rows lines)) (sym agrees.0)
+first_on lines rows fault (Ok action) agrees = lines_agree lines rows action nothing_read 1 (sym agrees.2) agrees.1 tt agrees.3 ∙ ap (λ f. unless_faulty 1 f (given_below rows lines)) (sym agrees.0)
 
 -- the reader gives what the lines give
 pub read_is : (lines : List Text) → read_lines lines ≡ given_by lines

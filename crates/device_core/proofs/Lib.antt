@@ -1,3 +1,4 @@
+pub mod Commanded
 pub mod Law
 pub mod Excess
 pub mod Chunks

@@ -1,6 +1,6 @@
 -- What the lines of a block say. A line belongs to the last `P:` at or above it: the lines are cut
 -- before each `P:`, and each group that begins with one describes a device.
-use Rattle.std.specs.Prelude.{Bool, List, [], ◌∷◌, ◌++◌, ◌==◌, Option, Some, None, unwrap_or, map, fold, if◌then◌else◌}
+use Rattle.std.specs.Prelude.{Bool, false, true, ◌&&◌, List, [], ◌∷◌, ◌++◌, ◌==◌, Option, Some, None, is_none, option_map, unwrap_or, map, fold, if◌then◌else◌}
 use Rattle.std.specs.Option.{option_to_list}
 use Rattle.std.specs.List.{filter_map, zip}
 use Rattle.text_bytes.specs.Texts.{first}
@@ -10,6 +10,7 @@ use Rattle.text_tables.specs.Pairs.{Pair}
 use Rattle.device_core.specs.Lines.{Row, letter_of}
 use Rattle.device_core.specs.Parts.{pair_of, number_of, answer_of}
 use Rattle.device_core.specs.Values.{NumberValue, DeviceValue, AnswerValue, EventValue, with_line}
+use Rattle.device_core.specs.declared.lines.DeviceField.{DeviceField}
 use Rattle.device_core.specs.declared.lines.DeviceField.TheVariants.{Subsystem, Driver, Node, Devnum, Attribute, Property, Stored, Tag, Link}
 use Rattle.device_core.specs.declared.lines.LineKind.{LineKind}
 use Rattle.device_core.specs.declared.lines.LineKind.TheVariants.{Action, Device, Field, Constant, Command, Answer, Output}
@@ -83,6 +84,32 @@ devices rows = map device (groups rows)
 unfoldable pub programs : List Row → List (Text × AnswerValue)
 programs rows = zip (texts Command rows) (answers rows)
 
+-- what the lines about the last device have: whether there is a command, and the name of the first property behind one
+pub record BehindValue : Type 0 where
+  pub has_command : Bool
+  pub property : Option Text
+
+-- no command, and nothing behind one
+abbrev pub nothing_behind : BehindValue
+nothing_behind = record { has_command = false; property = None }
+
+-- that, after one more line about the device: a property counts if it is the first behind a command
+abbrev pub behind_field : BehindValue → DeviceField → Text → BehindValue
+behind_field behind Property rest =
+    if behind.has_command && is_none behind.property then record { has_command = true; property = option_map (λ pair. pair.0) (pair_of rest) } else behind
+behind_field behind _ rest = behind
+
+-- that, after one more line: a device begins anew
+abbrev pub behind_after : BehindValue → LineKind → Text → BehindValue
+behind_after behind Device rest = nothing_behind
+behind_after behind Command rest = record { has_command = true; property = behind.property }
+behind_after behind (Field field) rest = behind_field behind field rest
+behind_after behind _ rest = behind
+
+-- that, after all lines
+unfoldable pub behind_in : List Row → BehindValue
+behind_in rows = fold (λ behind row. behind_after behind row.0 row.1) nothing_behind rows
+
 -- the event with these devices that lines describe, none of which is faulty; rules are evaluated by the manual
 unfoldable pub event : List Row → DeviceValue → List DeviceValue → EventValue
 event rows device parents = record {
@@ -91,5 +118,6 @@ event rows device parents = record {
   parents = parents;
   programs = programs rows;
   constants = pairs Constant rows;
+  misplaced = (behind_in rows).property;
   profile = Manual;
 }

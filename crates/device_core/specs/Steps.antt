@@ -11,11 +11,13 @@ use Rattle.text_tables.specs.Pairs.{Pair as NameAndValue, named, with_value}
 use Rattle.device_core.specs.Lines.{Row, row_of, begins_answer}
 use Rattle.device_core.specs.Parts.{pair_of, number_of, answer_of, is_device_path, is_parent_path}
 use Rattle.device_core.specs.Values.{NumberValue, DeviceValue, AnswerValue, EventValue, with_line}
+use Rattle.device_core.specs.Blocks.{BehindValue, behind_after, nothing_behind}
 use Rattle.device_core.specs.Faults.{has_nul}
 use Rattle.device_core.specs.declared.lines.DeviceField.{DeviceField}
 use Rattle.device_core.specs.declared.lines.DeviceField.TheVariants.{Subsystem, Driver, Node, Devnum, Attribute, Property, Stored, Tag, Link}
 use Rattle.device_core.specs.declared.lines.LineKind.{LineKind}
 use Rattle.device_core.specs.declared.lines.LineKind.TheVariants.{Action, Device, Field, Constant, Command, Answer, Output}
+use Rattle.device_core.specs.declared.behind.Behind.{Behind}
 use Rattle.device_core.specs.declared.draft.Draft.{Draft}
 use Rattle.device_core.specs.declared.faults.BlockFault.{BlockFault}
 use Rattle.device_core.specs.declared.faults.BlockFaultKind.{BlockFaultKind}
@@ -91,6 +93,11 @@ pub record Sofar : Type 0 where
   pub pending : Option (Text × AnswerValue)
   pub asked : Option Text
   pub constants : List NameAndValue
+  pub behind : BehindValue
+
+-- what a contract sees of the lines about the last device
+abbrev pub behind : Behind → BehindValue
+behind b = record { has_command = b.has_command; property = option_map (λ t. t.now) b.property }
 
 -- what a contract sees of a draft
 abbrev pub sofar : Draft → Sofar
@@ -101,6 +108,7 @@ sofar d = record {
   pending = option_map (λ p. (p.0.now, p.1)) d.pending;
   asked = option_map (λ t. t.now) d.asked;
   constants = d.constants;
+  behind = behind d.behind;
 }
 
 -- answers with one that was apart, if there is one
@@ -180,10 +188,14 @@ known_row (Some row) = Ok row
 unfoldable pub plain_row : Text → Result Row BlockFaultKind
 plain_row line = if has_nul line then Err Nul else known_row (row_of line)
 
+-- the lines so far, with what the last device has of properties behind commands
+abbrev pub with_behind : BehindValue → Sofar → Sofar
+with_behind behind s = record s { behind = behind }
+
 -- a line by its kind after the lines so far
 abbrev pub then_row : Sofar → Bool → Result Row BlockFaultKind → Result Sofar BlockFaultKind
 then_row s answered (Err kind) = Err kind
-then_row s answered (Ok row) = row_step s row.0 row.1 answered
+then_row s answered (Ok row) = if_ok (with_behind (behind_after s.behind row.0 row.1)) (row_step s row.0 row.1 answered)
 
 -- one line after those so far; whether the next one begins as an answer
 unfoldable pub line_step : Sofar → Text → Bool → Result Sofar BlockFaultKind
@@ -206,7 +218,7 @@ first_step line = action_in (plain_row line)
 
 -- nothing has been read after the first line
 abbrev pub nothing_read : Sofar
-nothing_read = record { closed = []; last = None; programs = []; pending = None; asked = None; constants = [] }
+nothing_read = record { closed = []; last = None; programs = []; pending = None; asked = None; constants = []; behind = nothing_behind }
 
 -- as `Fails` and `Gives`, with a line
 abbrev pub unless_memory : BlockFaultKind → Type 0 → Type 0
@@ -237,7 +249,7 @@ some_devices (device ∷ parents) = Ok (device ∷ parents)
 abbrev pub with_devices : Text → Sofar → ℕ → List DeviceValue → Result EventValue BlockFault
 with_devices action s count [] = Err (record { line = count; kind = NoDevice })
 with_devices action s count (device ∷ parents) =
-    Ok (record { action = action; device = device; parents = parents; programs = s.programs; constants = s.constants; profile = Manual })
+    Ok (record { action = action; device = device; parents = parents; programs = s.programs; constants = s.constants; misplaced = s.behind.property; profile = Manual })
 
 -- the event of all lines
 unfoldable pub finished_event : Text → Sofar → ℕ → Result EventValue BlockFault

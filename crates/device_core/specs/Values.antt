@@ -51,13 +51,15 @@ abbrev pub with_line : Text → AnswerValue → AnswerValue
 with_line line answer = record answer { text = answer.text ++ carriage_return ∷ line }
 
 -- an event: its action, its device, the parents of that from the nearest on, the answers of programs under their
--- commands, the constants, and the profile by which rules are evaluated over it
+-- commands, the constants, the first property behind a command below the last `P:`, and the profile by which rules are
+-- evaluated over it
 pub record EventValue : Type 0 where
   pub action : Text
   pub device : DeviceValue
   pub parents : List DeviceValue
   pub programs : List (Text × AnswerValue)
   pub constants : List Pair
+  pub misplaced : Option Text
   pub profile : Profile
 
 -- the devices of an event: its own, then the parents

@@ -7,6 +7,7 @@ ghost use Rattle.std.specs.Option.{option_to_list};
 ghost use Rattle.device_core.specs.Steps.{Gives, if_ok, above_step, path_step, device_step, command_step, answer_step, output_step};
 ghost use Rattle.device_core.specs.Steps.{row_step, sofar, nothing_read, with_pending};
 
+use crate::behind::{Behind, nothing_behind};
 use crate::devices::Device;
 use crate::faults::BlockFaultKind;
 use crate::fields::{add_field, add_pair, bare_device};
@@ -28,6 +29,7 @@ pub(crate) struct Draft<'a> {
     pub(crate) pending: Option<(&'a [u8], ProgramAnswer<'a>)>,
     pub(crate) asked: Option<&'a [u8]>,
     pub(crate) constants: Pairs<'a>,
+    pub(crate) behind: Behind<'a>,
 }
 
 /// No line so far.
@@ -41,6 +43,7 @@ pub(crate) fn new_draft<'a>(alloc: Global) -> Draft<'a>
         pending: None,
         asked: None,
         constants: Pairs::new(alloc),
+        behind: nothing_behind(),
     }
 }
 

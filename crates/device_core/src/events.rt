@@ -2,7 +2,7 @@
 //!
 //! The event device is kept apart from its parents, so that an event without a device need not be considered. Only
 //! `read_block` makes an event.
-ghost use Rattle.std.specs.Prelude.{◌≡◌, ◌<◌, ◌≤◌, length, option_copied, slice_get};
+ghost use Rattle.std.specs.Prelude.{◌≡◌, ◌<◌, ◌≤◌, length, option_copied, option_map, slice_get};
 ghost use Rattle.device_core.specs.Values.{by_profile, chain, most_devices};
 
 use crate::devices::Device;
@@ -19,11 +19,12 @@ pub struct Event<'a> {
     pub(crate) parents: Vec<Device<'a>>,
     pub(crate) programs: Table<'a, ProgramAnswer<'a>>,
     pub(crate) constants: Pairs<'a>,
+    pub(crate) misplaced: Option<&'a [u8]>,
     pub(crate) profile: Profile,
 }
 
 impl<'a> Model for Event<'a> {
-    ghost use Rattle.std.specs.Prelude.{◌<◌, length};
+    ghost use Rattle.std.specs.Prelude.{◌<◌, length, option_map};
     ghost use Rattle.device_core.specs.Values.{EventValue, most_devices};
 
     ghost Value = { EventValue };
@@ -34,6 +35,7 @@ impl<'a> Model for Event<'a> {
       parents = e.parents.items;
       programs = e.programs;
       constants = e.constants;
+      misplaced = option_map (λ t. t.now) e.misplaced;
       profile = e.profile;
     } };
 
@@ -94,6 +96,14 @@ impl<'a> Event<'a> {
         ensures { result.now ≡ self.now.constants }
     {
         &self.constants
+    }
+
+    /// The name of the first property that stands behind a command, below the last `P:`. If there is a parent, the
+    /// property is one of the farthest.
+    pub fn misplaced(&self) -> Option<&'a [u8]>
+        ensures { option_map (λ t. t.now) result ≡ self.now.misplaced }
+    {
+        self.misplaced
     }
 
     /// The profile by which rules are evaluated over the event: the manual, unless `with_profile` said otherwise.

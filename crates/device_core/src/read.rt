@@ -60,7 +60,10 @@ fn add_line<'a>(
     ensures { Gives (λ _. sofar draft.new) result (line_step (sofar draft.old) line.now (begins_answer (lines below.now))) }
 {
     let (kind, rest) = plain_row(line, may_have_nul)?;
-    add_row(alloc, draft, kind, rest, begins_answer(below))
+    let behind = draft.behind.after(kind, rest);
+    add_row(alloc, draft, kind, rest, begins_answer(below))?;
+    draft.behind = behind;
+    Ok(())
 }
 
 /// The lines after the first, and how many lines there are in all.
@@ -124,6 +127,7 @@ fn finish<'a>(action: &'a [u8], draft: Draft<'a>, count: usize) -> Result<Event<
         pending,
         constants,
         asked: _,
+        behind,
     } = draft;
     if settle(&mut programs, pending).is_err() {
         return Err(BlockFault {
@@ -139,6 +143,7 @@ fn finish<'a>(action: &'a [u8], draft: Draft<'a>, count: usize) -> Result<Event<
             parents: devices,
             programs,
             constants,
+            misplaced: behind.property,
             profile: Profile::Manual,
         }),
         Err(kind) => {

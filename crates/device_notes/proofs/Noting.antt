@@ -1,5 +1,7 @@
 -- The notes of a kind: one if it is so, else none.
-use Rattle.std.proofs.Common.{◌≡◌, ◌≢◌, ◌↔◌, ◌⊎◌, inl, inr, ℕ, Bool, true, false, not, ◌&&◌, ◌||◌, List, [], ◌∷◌, ◌++◌, Option, Some, None, codes, drop, length, filter, refl, ap, sym, ◌∙◌}
+use Rattle.std.proofs.Common.{◌≡◌, ◌≢◌, ◌↔◌, ◌⊎◌, inl, inr, ℕ, Bool, true, false, not, ◌&&◌, ◌||◌, List, [], ◌∷◌, ◌++◌, Option, Some, None, unwrap_or, codes, drop, length, filter, refl, ap, sym, ◌∙◌}
+use Rattle.std.proofs.lemmas.List.{append-nil}
+use Rattle.std.proofs.lemmas.List.Elements.{filter-append}
 use Rattle.std.specs.Cmp.Lexicographic.{bytes_decides}
 use Rattle.std.proofs.lemmas.Bool.{true≢false}
 use Rattle.std.proofs.lemmas.Bool.Decides.{Decides-eqb}
@@ -8,49 +10,63 @@ use Rattle.text_bytes.specs.declared.profile.Profile.{Profile}
 use Rattle.text_bytes.specs.declared.profile.Profile.TheVariants.{Manual, Udev}
 use Rattle.text_tables.specs.Texts.{Text, is_among, same_text}
 use Rattle.text_tables.specs.Pairs.{value_of}
-use Rattle.device_core.specs.Values.{EventValue}
+use Rattle.text_bytes.specs.Texts.{is_empty}
+use Rattle.device_core.specs.Values.{DeviceValue, EventValue}
 use Rattle.device_notes.specs.Laws.{IsNoneOf, notes_of, same_kind}
-use Rattle.device_notes.specs.Notes.{begins_with_sys, block_notes, is_filled, is_stored_by_udev, is_unknown_action, note_about, note_if, notes_by}
+use Rattle.device_notes.specs.Notes.{begins_with_sys, block_notes, is_behind_commands, is_filled, is_stored_by_udev, is_unknown_action, note_about, note_if, notes_by}
 use Rattle.device_notes.specs.declared.kinds.BlockNoteKind.{BlockNoteKind}
-use Rattle.device_notes.specs.declared.kinds.BlockNoteKind.TheVariants.{PathBeginsWithSys, StoredByUdev, UnknownAction}
+use Rattle.device_notes.specs.declared.kinds.BlockNoteKind.TheVariants.{BehindCommands, PathBeginsWithSys, StoredByUdev, UnknownAction}
 use Rattle.device_notes.specs.declared.notes.BlockNote.{BlockNote}
 
 -- the notes, by what is so
-abbrev three : Bool → Bool → Bool → Text → Text → Text → List BlockNote
-three a b c u v w = note_if a UnknownAction u ++ note_if b PathBeginsWithSys v ++ note_if c StoredByUdev w
+abbrev four : Bool → Bool → Bool → Bool → Text → Text → Text → Text → List BlockNote
+four a b c d u v w x = note_if a UnknownAction u ++ note_if b PathBeginsWithSys v ++ note_if c StoredByUdev w ++ note_if d BehindCommands x
 
 abbrev of_kind : BlockNoteKind → List BlockNote → List BlockNote
 of_kind kind notes = filter (λ note. same_kind kind note.kind) notes
 
-action_alone : (a b c : Bool) (u v w : Text) → of_kind UnknownAction (three a b c u v w) ≡ note_if a UnknownAction u
-action_alone true true true u v w = refl
-action_alone true true false u v w = refl
-action_alone true false true u v w = refl
-action_alone true false false u v w = refl
-action_alone false true true u v w = refl
-action_alone false true false u v w = refl
-action_alone false false true u v w = refl
-action_alone false false false u v w = refl
+parts : (kind : BlockNoteKind) (us vs ws xs : List BlockNote) → of_kind kind (us ++ vs ++ ws ++ xs) ≡ of_kind kind us ++ of_kind kind vs ++ of_kind kind ws ++ of_kind kind xs
+parts kind us vs ws xs =
+    let first : of_kind kind (us ++ vs) ≡ of_kind kind us ++ of_kind kind vs = filter-append (λ note. same_kind kind note.kind) us vs in
+    let second : of_kind kind (us ++ vs ++ ws) ≡ of_kind kind (us ++ vs) ++ of_kind kind ws = filter-append (λ note. same_kind kind note.kind) (us ++ vs) ws in
+    let third : of_kind kind (us ++ vs ++ ws ++ xs) ≡ of_kind kind (us ++ vs ++ ws) ++ of_kind kind xs = filter-append (λ note. same_kind kind note.kind) (us ++ vs ++ ws) xs in
+    third ∙ ap (λ notes. notes ++ of_kind kind xs) (second ∙ ap (λ notes. notes ++ of_kind kind ws) first)
 
-path_alone : (a b c : Bool) (u v w : Text) → of_kind PathBeginsWithSys (three a b c u v w) ≡ note_if b PathBeginsWithSys v
-path_alone true true true u v w = refl
-path_alone true true false u v w = refl
-path_alone true false true u v w = refl
-path_alone true false false u v w = refl
-path_alone false true true u v w = refl
-path_alone false true false u v w = refl
-path_alone false false true u v w = refl
-path_alone false false false u v w = refl
+mine : (kind : BlockNoteKind) → same_kind kind kind ≡ true → (is_so : Bool) (text : Text) → of_kind kind (note_if is_so kind text) ≡ note_if is_so kind text
+mine kind same true text = rw same refl
+mine kind same false text = refl
 
-stored_alone : (a b c : Bool) (u v w : Text) → of_kind StoredByUdev (three a b c u v w) ≡ note_if c StoredByUdev w
-stored_alone true true true u v w = refl
-stored_alone true true false u v w = refl
-stored_alone true false true u v w = refl
-stored_alone true false false u v w = refl
-stored_alone false true true u v w = refl
-stored_alone false true false u v w = refl
-stored_alone false false true u v w = refl
-stored_alone false false false u v w = refl
+none_other : (kind other : BlockNoteKind) → same_kind kind other ≡ false → (is_so : Bool) (text : Text) → of_kind kind (note_if is_so other text) ≡ []
+none_other kind other differs true text = rw differs refl
+none_other kind other differs false text = refl
+
+module _ (a b c d : Bool) (u v w x : Text) where
+  action_alone : of_kind UnknownAction (four a b c d u v w x) ≡ note_if a UnknownAction u
+  action_alone =
+      parts UnknownAction (note_if a UnknownAction u) (note_if b PathBeginsWithSys v) (note_if c StoredByUdev w) (note_if d BehindCommands x)
+      ∙ (λ i. mine UnknownAction refl a u i ++ none_other UnknownAction PathBeginsWithSys refl b v i ++ none_other UnknownAction StoredByUdev refl c w i ++ none_other UnknownAction BehindCommands refl d x i)
+      ∙ append-nil (note_if a UnknownAction u ++ [] ++ []) ∙ append-nil (note_if a UnknownAction u ++ []) ∙ append-nil (note_if a UnknownAction u)
+
+  path_alone : of_kind PathBeginsWithSys (four a b c d u v w x) ≡ note_if b PathBeginsWithSys v
+  path_alone =
+      parts PathBeginsWithSys (note_if a UnknownAction u) (note_if b PathBeginsWithSys v) (note_if c StoredByUdev w) (note_if d BehindCommands x)
+      ∙ (λ i. none_other PathBeginsWithSys UnknownAction refl a u i ++ mine PathBeginsWithSys refl b v i ++ none_other PathBeginsWithSys StoredByUdev refl c w i ++ none_other PathBeginsWithSys BehindCommands refl d x i)
+      ∙ append-nil (note_if b PathBeginsWithSys v ++ []) ∙ append-nil (note_if b PathBeginsWithSys v)
+
+  stored_alone : of_kind StoredByUdev (four a b c d u v w x) ≡ note_if c StoredByUdev w
+  stored_alone =
+      parts StoredByUdev (note_if a UnknownAction u) (note_if b PathBeginsWithSys v) (note_if c StoredByUdev w) (note_if d BehindCommands x)
+      ∙ (λ i. none_other StoredByUdev UnknownAction refl a u i ++ none_other StoredByUdev PathBeginsWithSys refl b v i ++ mine StoredByUdev refl c w i ++ none_other StoredByUdev BehindCommands refl d x i)
+      ∙ append-nil (note_if c StoredByUdev w)
+
+  behind_alone : of_kind BehindCommands (four a b c d u v w x) ≡ note_if d BehindCommands x
+  behind_alone =
+      parts BehindCommands (note_if a UnknownAction u) (note_if b PathBeginsWithSys v) (note_if c StoredByUdev w) (note_if d BehindCommands x)
+      ∙ (λ i. none_other BehindCommands UnknownAction refl a u i ++ none_other BehindCommands PathBeginsWithSys refl b v i ++ none_other BehindCommands StoredByUdev refl c w i ++ mine BehindCommands refl d x i)
+
+  in_order_by : four a b c d u v w x
+      ≡ of_kind UnknownAction (four a b c d u v w x) ++ of_kind PathBeginsWithSys (four a b c d u v w x) ++ of_kind StoredByUdev (four a b c d u v w x) ++ of_kind BehindCommands (four a b c d u v w x)
+  in_order_by = sym (λ i. action_alone i ++ path_alone i ++ stored_alone i ++ behind_alone i)
 
 -- a kind's notes by both profiles
 module _ (kind : BlockNoteKind) (text : Text) where
@@ -67,7 +83,7 @@ module _ (kind : BlockNoteKind) (text : Text) where
   at_most_one false = inl refl
 
 -- what decides each kind, by a profile
-abbrev so_by : Profile → Bool → Bool
+abbrev pub so_by : Profile → Bool → Bool
 so_by Manual is_so = false
 so_by Udev is_so = is_so
 
@@ -77,7 +93,8 @@ action_notes event = by event.profile
   where
     by : (profile : Profile) → of_kind UnknownAction (notes_by profile event) ≡ note_if (so_by profile (is_unknown_action event.action)) UnknownAction event.action
     by Manual = refl
-    by Udev = action_alone (is_unknown_action event.action) (begins_with_sys event.device.path) (is_stored_by_udev event) event.action event.device.path (codes "USEC_INITIALIZED")
+    by Udev = action_alone (is_unknown_action event.action) (begins_with_sys event.device.path) (is_stored_by_udev event) (is_behind_commands event)
+        event.action event.device.path (codes "USEC_INITIALIZED") (unwrap_or event.misplaced [])
 
 pub path_notes : (event : EventValue) → notes_of PathBeginsWithSys event ≡ note_if (so_by event.profile (begins_with_sys event.device.path)) PathBeginsWithSys event.device.path
 unfolding block_notes
@@ -85,7 +102,8 @@ path_notes event = by event.profile
   where
     by : (profile : Profile) → of_kind PathBeginsWithSys (notes_by profile event) ≡ note_if (so_by profile (begins_with_sys event.device.path)) PathBeginsWithSys event.device.path
     by Manual = refl
-    by Udev = path_alone (is_unknown_action event.action) (begins_with_sys event.device.path) (is_stored_by_udev event) event.action event.device.path (codes "USEC_INITIALIZED")
+    by Udev = path_alone (is_unknown_action event.action) (begins_with_sys event.device.path) (is_stored_by_udev event) (is_behind_commands event)
+        event.action event.device.path (codes "USEC_INITIALIZED") (unwrap_or event.misplaced [])
 
 pub stored_notes : (event : EventValue) → notes_of StoredByUdev event ≡ note_if (so_by event.profile (is_stored_by_udev event)) StoredByUdev (codes "USEC_INITIALIZED")
 unfolding block_notes
@@ -93,7 +111,37 @@ stored_notes event = by event.profile
   where
     by : (profile : Profile) → of_kind StoredByUdev (notes_by profile event) ≡ note_if (so_by profile (is_stored_by_udev event)) StoredByUdev (codes "USEC_INITIALIZED")
     by Manual = refl
-    by Udev = stored_alone (is_unknown_action event.action) (begins_with_sys event.device.path) (is_stored_by_udev event) event.action event.device.path (codes "USEC_INITIALIZED")
+    by Udev = stored_alone (is_unknown_action event.action) (begins_with_sys event.device.path) (is_stored_by_udev event) (is_behind_commands event)
+        event.action event.device.path (codes "USEC_INITIALIZED") (unwrap_or event.misplaced [])
+
+pub behind_notes : (event : EventValue) → notes_of BehindCommands event ≡ note_if (so_by event.profile (is_behind_commands event)) BehindCommands (unwrap_or event.misplaced [])
+unfolding block_notes
+behind_notes event = by event.profile
+  where
+    by : (profile : Profile) → of_kind BehindCommands (notes_by profile event) ≡ note_if (so_by profile (is_behind_commands event)) BehindCommands (unwrap_or event.misplaced [])
+    by Manual = refl
+    by Udev = behind_alone (is_unknown_action event.action) (begins_with_sys event.device.path) (is_stored_by_udev event) (is_behind_commands event)
+        event.action event.device.path (codes "USEC_INITIALIZED") (unwrap_or event.misplaced [])
+
+-- where a property stands behind commands, that is so exactly if there is a parent
+pub behind_is : (event : EventValue) (name : Text) → event.misplaced ≡ Some name → (is_behind_commands event ≡ true) ↔ (event.parents ≢ [])
+behind_is event name is = rw is (by event.parents)
+  where
+    by : (parents : List DeviceValue) → ((not (is_empty parents) && true) ≡ true) ↔ (parents ≢ [])
+    by [] = ((λ h. absurd (true≢false (sym h))), λ differs. absurd (differs refl))
+    by (device ∷ devices) = ((λ h. λ e. cc), λ differs. refl)
+
+-- where none does, it is not so
+pub none_behind : (event : EventValue) → event.misplaced ≡ None → is_behind_commands event ≡ false
+none_behind event is = rw is (by (not (is_empty event.parents)))
+  where
+    by : (t : Bool) → (t && false) ≡ false
+    by true = refl
+    by false = refl
+
+pub none_by : (profile : Profile) → so_by profile false ≡ false
+none_by Manual = refl
+none_by Udev = refl
 
 -- for udev a kind's note is there exactly if what decides it is so
 pub noted : (kind : BlockNoteKind) (text : Text) (event : EventValue) (is_so : Bool) → event.profile ≡ Udev → notes_of kind event ≡ note_if (so_by event.profile is_so) kind text
@@ -147,23 +195,15 @@ stored_is event = by (same_text event.action (codes "add")) refl (filled_is (val
     by true e filled = ((λ h. ((bytes_decides event.action (codes "add")).0 e, filled.0 h)), λ found. filled.1 found.1)
     by false e filled = ((λ h. absurd (true≢false (sym h))), λ found. absurd (true≢false (sym ((bytes_decides event.action (codes "add")).1 found.0) ∙ e)))
 
-in_order_by : (a b c : Bool) (u v w : Text) → three a b c u v w ≡ of_kind UnknownAction (three a b c u v w) ++ of_kind PathBeginsWithSys (three a b c u v w) ++ of_kind StoredByUdev (three a b c u v w)
-in_order_by true true true u v w = refl
-in_order_by true true false u v w = refl
-in_order_by true false true u v w = refl
-in_order_by true false false u v w = refl
-in_order_by false true true u v w = refl
-in_order_by false true false u v w = refl
-in_order_by false false true u v w = refl
-in_order_by false false false u v w = refl
-
-pub in_order : (event : EventValue) → block_notes event ≡ notes_of UnknownAction event ++ notes_of PathBeginsWithSys event ++ notes_of StoredByUdev event
+pub in_order : (event : EventValue) → block_notes event ≡ notes_of UnknownAction event ++ notes_of PathBeginsWithSys event ++ notes_of StoredByUdev event ++ notes_of BehindCommands event
 unfolding block_notes
 in_order event = by event.profile
   where
     by : (profile : Profile) → notes_by profile event ≡ of_kind UnknownAction (notes_by profile event) ++ of_kind PathBeginsWithSys (notes_by profile event) ++ of_kind StoredByUdev (notes_by profile event)
+        ++ of_kind BehindCommands (notes_by profile event)
     by Manual = refl
-    by Udev = in_order_by (is_unknown_action event.action) (begins_with_sys event.device.path) (is_stored_by_udev event) event.action event.device.path (codes "USEC_INITIALIZED")
+    by Udev = in_order_by (is_unknown_action event.action) (begins_with_sys event.device.path) (is_stored_by_udev event) (is_behind_commands event)
+        event.action event.device.path (codes "USEC_INITIALIZED") (unwrap_or event.misplaced [])
 
 pub none_by_the_manual : (event : EventValue) → event.profile ≡ Manual → block_notes event ≡ []
 unfolding block_notes

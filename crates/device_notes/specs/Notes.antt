@@ -1,5 +1,6 @@
 -- Notes about a block: what in it udev would have been told otherwise, whatever the rules are. By the manual there are none.
 use Rattle.std.specs.Prelude.{Bool, false, not, ◌&&◌, if◌then◌else◌, nat_eq, List, [], ◌∷◌, ◌++◌, Option, Some, None, codes}
+use Rattle.std.specs.Prelude.{is_some, unwrap_or}
 use Rattle.std.specs.List.{starts_with}
 use Rattle.text_bytes.specs.Texts.{is_empty, word_of}
 use Rattle.text_bytes.specs.declared.profile.Profile.{Profile}
@@ -8,7 +9,7 @@ use Rattle.text_tables.specs.Texts.{Text, is_among, same_text}
 use Rattle.text_tables.specs.Pairs.{value_of}
 use Rattle.device_core.specs.Values.{EventValue}
 use Rattle.device_notes.specs.declared.kinds.BlockNoteKind.{BlockNoteKind}
-use Rattle.device_notes.specs.declared.kinds.BlockNoteKind.TheVariants.{PathBeginsWithSys, StoredByUdev, UnknownAction}
+use Rattle.device_notes.specs.declared.kinds.BlockNoteKind.TheVariants.{BehindCommands, PathBeginsWithSys, StoredByUdev, UnknownAction}
 use Rattle.device_notes.specs.declared.notes.BlockNote.{BlockNote}
 
 -- the text of each kind of note
@@ -16,6 +17,7 @@ abbrev pub text_of : BlockNoteKind → Text
 text_of UnknownAction = codes "unknown action"
 text_of PathBeginsWithSys = codes "path begins with /sys"
 text_of StoredByUdev = codes "stored by udev"
+text_of BehindCommands = codes "property behind commands"
 
 -- the actions that udev has, as udevadm(8) lists them for `trigger --action`
 abbrev pub actions : List Text
@@ -39,6 +41,11 @@ is_filled (Some value) = not (is_empty value)
 abbrev pub is_stored_by_udev : EventValue → Bool
 is_stored_by_udev event = same_text event.action (codes "add") && is_filled (value_of event.device.env (codes "USEC_INITIALIZED"))
 
+-- whether a property of the farthest parent stands behind commands: at the end of a block it is most likely meant for the device,
+-- and without a parent it is the device's
+abbrev pub is_behind_commands : EventValue → Bool
+is_behind_commands event = not (is_empty event.parents) && is_some event.misplaced
+
 -- the note of a kind about a text
 abbrev pub note_about : BlockNoteKind → Text → BlockNote
 note_about kind text = record { kind = kind; word = word_of text }
@@ -53,6 +60,7 @@ udev_notes event =
     note_if (is_unknown_action event.action) UnknownAction event.action
     ++ note_if (begins_with_sys event.device.path) PathBeginsWithSys event.device.path
     ++ note_if (is_stored_by_udev event) StoredByUdev (codes "USEC_INITIALIZED")
+    ++ note_if (is_behind_commands event) BehindCommands (unwrap_or event.misplaced [])
 
 -- the notes about a block by a profile
 abbrev pub notes_by : Profile → EventValue → List BlockNote

@@ -12,6 +12,9 @@ pub enum BlockNoteKind {
     /// The action is `add`, and the event device has the property that udev stores once it has handled a device; the word
     /// is the name of the property.
     StoredByUdev,
+    /// A property stands at the end of the block, behind commands, where it is one of the farthest parent; the word is the
+    /// name of the property.
+    BehindCommands,
 }
 
 impl BlockNoteKind {
@@ -23,6 +26,7 @@ impl BlockNoteKind {
             BlockNoteKind::UnknownAction => b"unknown action",
             BlockNoteKind::PathBeginsWithSys => b"path begins with /sys",
             BlockNoteKind::StoredByUdev => b"stored by udev",
+            BlockNoteKind::BehindCommands => b"property behind commands",
         }
     }
 }

@@ -1,18 +1,19 @@
 //! What is true of the notes about a block. Each function here is empty: its contract is the law.
-ghost use Rattle.std.specs.Prelude.{◌≡◌, ◌≢◌, ◌↔◌, ◌⊎◌, ◌∷◌, ◌++◌, ℕ, [], Some, codes};
+ghost use Rattle.std.specs.Prelude.{◌≡◌, ◌≢◌, ◌↔◌, ◌⊎◌, ◌∷◌, ◌++◌, ℕ, [], None, Some, codes, unwrap_or};
 ghost use Rattle.text_bytes.specs.declared.profile.Profile.TheVariants.{Manual, Udev};
 ghost use Rattle.text_tables.specs.Texts.{Text};
 ghost use Rattle.text_tables.specs.Pairs.{value_of};
 ghost use Rattle.device_core.specs.Values.{EventValue};
 ghost use Rattle.device_notes.specs.Laws.{IsNoneOf, notes_of};
 ghost use Rattle.device_notes.specs.Notes.{block_notes, note_about};
-ghost use Rattle.device_notes.specs.declared.kinds.BlockNoteKind.TheVariants.{PathBeginsWithSys, StoredByUdev, UnknownAction};
+ghost use Rattle.device_notes.specs.declared.kinds.BlockNoteKind.TheVariants.{BehindCommands, PathBeginsWithSys, StoredByUdev, UnknownAction};
 
 /// For udev the action of a block is noted if and only if it is none of the eight that udev has, and then once.
 pub fn an_action_that_udev_does_not_have_is_noted()
     ensures noted { (event : EventValue) → event.profile ≡ Udev
         → (notes_of UnknownAction event ≡ note_about UnknownAction event.action ∷ [])
-        ↔ IsNoneOf event.action (codes "add" ∷ codes "remove" ∷ codes "change" ∷ codes "move" ∷ codes "online" ∷ codes "offline" ∷ codes "bind" ∷ codes "unbind" ∷ []) }
+        ↔ IsNoneOf event.action (codes "add" ∷ codes "remove" ∷ codes "change" ∷ codes "move" ∷ codes "online" ∷ codes "offline"
+        ∷ codes "bind" ∷ codes "unbind" ∷ []) }
     ensures once { (event : EventValue)
         → (notes_of UnknownAction event ≡ []) ⊎ (notes_of UnknownAction event ≡ note_about UnknownAction event.action ∷ []) }
 {}
@@ -31,15 +32,28 @@ pub fn a_path_that_begins_with_sys_is_noted()
 pub fn a_property_that_udev_stores_is_noted()
     ensures noted { (event : EventValue) → event.profile ≡ Udev
         → (notes_of StoredByUdev event ≡ note_about StoredByUdev (codes "USEC_INITIALIZED") ∷ [])
-        ↔ ((event.action ≡ codes "add") × ((byte : ℕ) × (following : Text) × (value_of event.device.env (codes "USEC_INITIALIZED") ≡ Some (byte ∷ following)))) }
+        ↔ ((event.action ≡ codes "add")
+        × ((byte : ℕ) × (following : Text) × (value_of event.device.env (codes "USEC_INITIALIZED") ≡ Some (byte ∷ following)))) }
     ensures once { (event : EventValue)
         → (notes_of StoredByUdev event ≡ []) ⊎ (notes_of StoredByUdev event ≡ note_about StoredByUdev (codes "USEC_INITIALIZED") ∷ []) }
 {}
 
-/// The notes about a block are those of its action, of its path and of what udev stores, in this order.
+/// For udev a property behind commands is noted if and only if there is one below the last `P:`, and a parent, whose property it
+/// is; then it is noted once, by its name.
+pub fn a_property_behind_commands_is_noted()
+    ensures noted { (event : EventValue) (name : Text) → event.profile ≡ Udev → event.misplaced ≡ Some name
+        → (notes_of BehindCommands event ≡ note_about BehindCommands name ∷ []) ↔ (event.parents ≢ []) }
+    ensures none { (event : EventValue) → event.misplaced ≡ None → notes_of BehindCommands event ≡ [] }
+    ensures once { (event : EventValue) → (notes_of BehindCommands event ≡ [])
+        ⊎ (notes_of BehindCommands event ≡ note_about BehindCommands (unwrap_or event.misplaced []) ∷ []) }
+{}
+
+/// The notes about a block are those of its action, of its path, of what udev stores and of properties behind commands, in this
+/// order.
 pub fn notes_about_a_block_are_in_order()
     ensures { (event : EventValue)
-        → block_notes event ≡ notes_of UnknownAction event ++ notes_of PathBeginsWithSys event ++ notes_of StoredByUdev event }
+        → block_notes event
+        ≡ notes_of UnknownAction event ++ notes_of PathBeginsWithSys event ++ notes_of StoredByUdev event ++ notes_of BehindCommands event }
 {}
 
 /// By the manual nothing about a block is noted.

@@ -7,8 +7,8 @@ mod notes;
 
 pub use kinds::BlockNoteKind;
 pub use laws::{
-    a_path_that_begins_with_sys_is_noted, a_property_that_udev_stores_is_noted,
-    an_action_that_udev_does_not_have_is_noted, notes_about_a_block_are_in_order,
-    nothing_about_a_block_is_noted_by_the_manual,
+    a_path_that_begins_with_sys_is_noted, a_property_behind_commands_is_noted,
+    a_property_that_udev_stores_is_noted, an_action_that_udev_does_not_have_is_noted,
+    notes_about_a_block_are_in_order, nothing_about_a_block_is_noted_by_the_manual,
 };
 pub use notes::{BlockNote, block_notes};

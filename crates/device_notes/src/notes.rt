@@ -1,7 +1,8 @@
 //! The notes about a block.
 ghost use Rattle.std.specs.Prelude.{◌≡◌, ◌++◌, IfOk, OnOk, map, option_map};
 ghost use Rattle.text_tables.specs.Texts.{is_among};
-ghost use Rattle.device_notes.specs.Notes.{actions, begins_with_sys, block_notes, is_filled, is_stored_by_udev, is_unknown_action, note_if, udev_notes};
+ghost use Rattle.device_notes.specs.Notes.{actions, begins_with_sys, block_notes, is_behind_commands, is_filled};
+ghost use Rattle.device_notes.specs.Notes.{is_stored_by_udev, is_unknown_action, note_if, udev_notes};
 
 use crate::kinds::BlockNoteKind;
 use device_core::Event;
@@ -68,6 +69,13 @@ fn is_stored_by_udev(event: &Event<'_>) -> bool
     event.action() == b"add".as_slice() && is_filled(event.device().env().get(STORED))
 }
 
+/// Whether a property of the farthest parent stands behind commands.
+fn is_behind_commands(event: &Event<'_>) -> bool
+    ensures { result ≡ is_behind_commands event.now }
+{
+    !event.parents().is_empty() && event.misplaced().is_some()
+}
+
 /// Adds a note about a text, if it is so.
 fn push_if(
     alloc: Global,
@@ -114,6 +122,13 @@ fn udev_notes(alloc: Global, event: &Event<'_>) -> Result<Vec<BlockNote>, AllocE
         is_stored,
         BlockNoteKind::StoredByUdev,
         STORED,
+    )?;
+    push_if(
+        alloc,
+        &mut notes,
+        is_behind_commands(event),
+        BlockNoteKind::BehindCommands,
+        event.misplaced().unwrap_or(b""),
     )?;
     Ok(notes)
 }

@@ -32,5 +32,6 @@ filled_event command = record {
   parents = [];
   programs = (command, record { status = 0; text = [] }) ∷ [];
   constants = [];
+  misplaced = None;
   profile = Manual;
 }

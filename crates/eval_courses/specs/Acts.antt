@@ -150,7 +150,8 @@ import_report (import.Db name) s noted env = stored_report s.event.profile s env
 -- what an act met, by whether it left a note and the properties after it
 abbrev pub act_kind_report : ActKind → State → (noted : Bool) → List Pair → Text
 act_kind_report (act_kind.Test mask template) s noted env = on_rendered (path_report (is_some mask) s.event) (test_text template s)
-act_kind_report (act_kind.Program template) s noted env = on_rendered (λ command. answer_report command (value_of s.event.programs command)) (program_text template s)
+act_kind_report (act_kind.Program template) s noted env =
+    on_rendered (λ command. answer_report command (value_of s.event.programs command)) (program_text template s)
 act_kind_report (act_kind.Import from) s noted env = import_report from s noted env
 
 -- whether a scene has other notes than one before it

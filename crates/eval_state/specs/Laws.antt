@@ -1,5 +1,5 @@
 -- An event of a device in a folder, of which examples speak.
-use Rattle.std.specs.Prelude.{Bool, [], ◌∷◌, codes}
+use Rattle.std.specs.Prelude.{Bool, None, [], ◌∷◌, codes}
 use Rattle.text_bytes.specs.declared.profile.Profile.TheVariants.{Udev}
 use Rattle.text_tables.specs.Texts.{Text}
 use Rattle.device_core.specs.Values.{EventValue, described}
@@ -13,6 +13,7 @@ with_folders = record {
   parents = described (codes "/d") (codes "m") ((codes "v", codes "1") ∷ []) ∷ [];
   programs = [];
   constants = [];
+  misplaced = None;
   profile = Udev;
 }
 

@@ -249,7 +249,15 @@ some_devices (device ∷ parents) = Ok (device ∷ parents)
 abbrev pub with_devices : Text → Sofar → ℕ → List DeviceValue → Result EventValue BlockFault
 with_devices action s count [] = Err (record { line = count; kind = NoDevice })
 with_devices action s count (device ∷ parents) =
-    Ok (record { action = action; device = device; parents = parents; programs = s.programs; constants = s.constants; misplaced = s.behind.property; profile = Manual })
+    Ok (record {
+      action = action;
+      device = device;
+      parents = parents;
+      programs = s.programs;
+      constants = s.constants;
+      misplaced = s.behind.property;
+      profile = Manual;
+    })
 
 -- the event of all lines
 unfoldable pub finished_event : Text → Sofar → ℕ → Result EventValue BlockFault

@@ -78,7 +78,8 @@ pub(crate) fn turn_told<A: Answering, L: Listener, R: Source, W: Sink>(
     input: &mut R,
     output: &mut W,
 ) -> Result<TurnOutcome, TurnFault>
-    ensures ok { IfOk result (λ after_turn. TurnsTold (answer_of A.answers session.old.answering) (IsTold (L.says listener.old) (L.says listener.new)) after_turn.more after_turn.finds
+    ensures ok { IfOk result (λ after_turn.
+        TurnsTold (answer_of A.answers session.old.answering) (IsTold (L.says listener.old) (L.says listener.new)) after_turn.more after_turn.finds
         (record { session = session.old; input = R.shown input.old; output = W.shown output.old })
         (record { session = session.new; input = R.shown input.new; output = W.shown output.new })) }
     ensures err { IfErr result (λ fault. TurnFailsBy (answer_of A.answers session.old.answering) fault

@@ -1,5 +1,6 @@
 -- The lines of `--unused`: the rules that no event met.
-use Rattle.std.specs.Prelude.{ℕ, Bool, not, ◌==◌, ◌||◌, nat_eq, max, if◌then◌else◌, List, [], ◌∷◌, ◌++◌, map, filter_map, fold, slice_index_or, Option, Some, None, codes, decimal}
+use Rattle.std.specs.Prelude.{ℕ, Bool, not, ◌==◌, ◌||◌, nat_eq, max, if◌then◌else◌, List, [], ◌∷◌, ◌++◌, map, filter_map, fold}
+use Rattle.std.specs.Prelude.{slice_index_or, Option, Some, None, codes, decimal}
 use Rattle.std.specs.List.{ends_with, prefix_len}
 use Rattle.text_bytes.specs.Kinds.{suffix_of}
 use Rattle.text_bytes.specs.Names.{newline}

@@ -3,7 +3,8 @@ ghost use Rattle.std.specs.Prelude.{◌≡◌, ◌++◌, None, IfOk, map, option
 ghost use Rattle.hwdb_lookup.specs.Query.{shown};
 ghost use Rattle.text_bytes.specs.declared.profile.Profile.TheVariants.{Udev};
 ghost use Rattle.eval_acts.specs.LookUps.{candidate_with, is_last};
-ghost use Rattle.eval_acts.specs.LookUpNeeds.{device_needs, devices_seen, has_modalias, is_input_device, lookup_needs, modalias_word, modalias_words, parent_seen};
+ghost use Rattle.eval_acts.specs.LookUpNeeds.{device_needs, devices_seen, has_modalias, is_input_device, lookup_needs};
+ghost use Rattle.eval_acts.specs.LookUpNeeds.{modalias_word, modalias_words, parent_seen};
 
 use crate::candidates::seen_by_udev;
 use builtin_devices::{is_text, word_about};

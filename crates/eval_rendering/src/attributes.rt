@@ -6,7 +6,8 @@ ghost use Rattle.text_tables.specs.Pairs.{value_of};
 ghost use Rattle.eval_state.specs.Chains.{device_at};
 ghost use Rattle.eval_state.specs.Named.{named_place};
 ghost use Rattle.eval_state.specs.Texts.{or_empty};
-ghost use Rattle.eval_rendering.specs.Pieces.{as_read, attribute, attribute_as, attribute_named, attribute_of, attribute_read, cut_off, ends_line, has_long, is_long};
+ghost use Rattle.eval_rendering.specs.Pieces.{as_read, attribute, attribute_as, attribute_named, attribute_of, attribute_read};
+ghost use Rattle.eval_rendering.specs.Pieces.{cut_off, ends_line, has_long, is_long};
 ghost use Rattle.eval_rendering.specs.Paths.{read_value};
 ghost use Rattle.eval_rendering.specs.Pieces.{named_attribute, selected_device};
 

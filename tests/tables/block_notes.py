@@ -1,5 +1,5 @@
 """Notes about a block itself, which an answer of `--udev` has: an action that udev does not have, a path with `/sys` at its
-start, and under `add` a property that udev stores later.
+start, under `add` a property that udev stores later, and a property of the farthest parent behind commands.
 
 What is wanted follows from docs/behaviour.md; nothing here was taken from the program.
 """
@@ -17,6 +17,10 @@ def unknown(action):
 
 def misplaced(path):
     return f"note -: path begins with /sys: {path}"
+
+
+def late(name):
+    return f"note -: misplaced property: {name}"
 
 
 def block(action, path, *lines):
@@ -60,11 +64,25 @@ STORES = [
     noted("one that a rule removes", ("add", "/d", [f"E: {STORED}=7"], [STORED_NOTE]), rules=f'ENV{{{STORED}}}=""\n'),
 ]
 
+PARENT = ["P: /a", "Q: x", "R: 0 1"]
+
+BEHIND = [
+    noted("a property behind a command of the farthest parent", ("add", "/a/d", [*PARENT, "E: ID_FS_LABEL=x"], [late("ID_FS_LABEL")])),
+    noted("the first of them is named, in 32 bytes", ("add", "/a/d", [*PARENT, "A: n=1", f"E: {'N' * 40}=1", "Q: y", "R: 0", "E: B=2"], [late("N" * 32)])),
+    noted("behind further lines of an answer, and behind constants", ("add", "/a/d", [*PARENT, "O: 2", "K: arch=x", "E: A=1"], [late("A")])),
+    noted("a property before the commands, and an attribute or a tag behind them", ("add", "/a/d", ["P: /a", "E: A=1", "Q: x", "R: 0", "A: n=1", "G: t"], [])),
+    noted("a property of the device behind a command", ("add", "/a/d", ["Q: x", "R: 0", "E: A=1", "P: /a"], ["env A=1"])),
+    noted("without a parent it is the device's", ("add", "/d", ["Q: x", "R: 0", "E: A=1"], ["env A=1"])),
+    noted("the commands of a device above do not count", ("add", "/a/b/d", ["P: /a/b", "Q: x", "R: 0", "E: A=1", "P: /a", "E: B=1"], [])),
+    noted("a line of a stored property is none", ("add", "/a/d", [*PARENT, "B: A=1"], [])),
+]
+
 TOGETHER = [
     noted("several notes are in order, before those of rules", ("plug", "/sys/d", [], ["run program r", unknown("plug"), misplaced("/sys/d"), "note r.rules:1: import not run: db"]),
           ("add", "/sys/d", [f"E: {STORED}=7"], [f"env {STORED}=7", "run program r", misplaced("/sys/d"), STORED_NOTE, "note r.rules:1: import not run: db"]),
           rules='IMPORT{db}!="A", RUN+="r"\n'),
-    noted("by the manual there are none", ("plug", "/sys/d", [], []), ("add", "/sys/d", [f"E: {STORED}=7"], [f"env {STORED}=7"]), words=()),
+    noted("a misplaced property comes last", ("plug", "/sys/d", ["P: /sys", "Q: x", "R: 0", "E: A=1"], [unknown("plug"), misplaced("/sys/d"), late("A")])),
+    noted("by the manual there are none", ("add", "/a/d", [*PARENT, "E: A=1"], []), ("plug", "/sys/d", [], []), ("add", "/sys/d", [f"E: {STORED}=7"], [f"env {STORED}=7"]), words=()),
     Row("with --sources they stay as they are", "events --udev --sources -r none r.rules", {"r.rules": 'TAG+="t", IMPORT{db}!="A"\n'}, block("plug", "/d"),
         f"event plug /d\nr.rules:1: tag t\n-: env ACTION=plug\n-: env DEVPATH=/d\n{unknown('plug')}\nnote r.rules:1: import not run: db\n\n"),
     Row("with --why they come before what rules met", "events --udev --why r.rules:1 -r none r.rules", {"r.rules": 'KERNEL=="d", TAG+="t"\n'}, block("plug", "/d"),
@@ -73,4 +91,4 @@ TOGETHER = [
     Row("compare leaves them out", f"compare --udev {OLD} {NEW}", {placed(OLD): "", placed(NEW): 'TAG+="t"\n'}, block("plug", "/sys/d"), "event plug /sys/d\n+tag t\n\n", status=1),
 ]
 
-ROWS = ACTIONS + PATHS + STORES + TOGETHER
+ROWS = ACTIONS + PATHS + STORES + BEHIND + TOGETHER

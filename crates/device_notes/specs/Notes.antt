@@ -17,7 +17,7 @@ abbrev pub text_of : BlockNoteKind → Text
 text_of UnknownAction = codes "unknown action"
 text_of PathBeginsWithSys = codes "path begins with /sys"
 text_of StoredByUdev = codes "stored by udev"
-text_of BehindCommands = codes "property behind commands"
+text_of BehindCommands = codes "misplaced property"
 
 -- the actions that udev has, as udevadm(8) lists them for `trigger --action`
 abbrev pub actions : List Text

@@ -26,7 +26,7 @@ impl BlockNoteKind {
             BlockNoteKind::UnknownAction => b"unknown action",
             BlockNoteKind::PathBeginsWithSys => b"path begins with /sys",
             BlockNoteKind::StoredByUdev => b"stored by udev",
-            BlockNoteKind::BehindCommands => b"property behind commands",
+            BlockNoteKind::BehindCommands => b"misplaced property",
         }
     }
 }

@@ -1,14 +1,14 @@
 -- How long the lines of notes about a block are.
-use Rattle.std.proofs.Common.{◌≡◌, ℕ, ◌+◌, ◌≤◌, Bool, true, false, List, ◌∷◌, ◌++◌, [], length, take, codes, flat_map, append-nil, min, ap, sym, subst, arith}
+use Rattle.std.proofs.Common.{◌≡◌, ℕ, ◌+◌, ◌≤◌, Bool, true, false, List, ◌∷◌, ◌++◌, [], length, take, codes, flat_map, append-nil, min, unwrap_or, ap, sym, subst, arith}
 use Rattle.std.proofs.lemmas.List.{length-append, length-take}
 use Rattle.std.proofs.lemmas.List.Concat.{flat_map-append}
 use Rattle.text_bytes.specs.declared.profile.Profile.{Profile}
 use Rattle.text_bytes.specs.declared.profile.Profile.TheVariants.{Manual, Udev}
 use Rattle.text_tables.specs.Texts.{Text}
 use Rattle.device_core.specs.Values.{EventValue}
-use Rattle.device_notes.specs.Notes.{begins_with_sys, block_notes, is_stored_by_udev, is_unknown_action, note_about, note_if, notes_by, text_of}
+use Rattle.device_notes.specs.Notes.{begins_with_sys, block_notes, is_behind_commands, is_stored_by_udev, is_unknown_action, note_about, note_if, notes_by, text_of}
 use Rattle.device_notes.specs.declared.kinds.BlockNoteKind.{BlockNoteKind}
-use Rattle.device_notes.specs.declared.kinds.BlockNoteKind.TheVariants.{PathBeginsWithSys, StoredByUdev, UnknownAction}
+use Rattle.device_notes.specs.declared.kinds.BlockNoteKind.TheVariants.{BehindCommands, PathBeginsWithSys, StoredByUdev, UnknownAction}
 use Rattle.device_notes.specs.declared.notes.BlockNote.{BlockNote}
 use Rattle.engine_ends.specs.Places.{word_part}
 use Rattle.engine_answers.specs.Lines.{block_note_line, block_note_lines}
@@ -19,6 +19,7 @@ kind_short : (kind : BlockNoteKind) → length (text_of kind) ≤ 21
 kind_short UnknownAction = omega arith
 kind_short PathBeginsWithSys = omega arith
 kind_short StoredByUdev = omega arith
+kind_short BehindCommands = omega arith
 
 kept_short : (text : Text) → length (take 32 text) ≤ 32
 kept_short text = let a = length-take 32 text in omega (arith, a)
@@ -38,15 +39,17 @@ if_short : (is_so : Bool) (kind : BlockNoteKind) (text : Text) → length (flat_
 if_short true kind text = subst (λ (t : Text). length t ≤ 160) (sym (append-nil (block_note_line (note_about kind text)))) (one_short kind text)
 if_short false kind text = omega arith
 
-module _ (first second third : List BlockNote) where
-  three_short : length (flat_map block_note_line first) ≤ 160 → length (flat_map block_note_line second) ≤ 160 → length (flat_map block_note_line third) ≤ 160
-      → length (flat_map block_note_line (first ++ second ++ third)) ≤ 480
-  three_short a b c =
+module _ (first second third fourth : List BlockNote) where
+  four_short : length (flat_map block_note_line first) ≤ 160 → length (flat_map block_note_line second) ≤ 160 → length (flat_map block_note_line third) ≤ 160 → length (flat_map block_note_line fourth) ≤ 160
+      → length (flat_map block_note_line (first ++ second ++ third ++ fourth)) ≤ 640
+  four_short a b c h =
+      let i : length (flat_map block_note_line (first ++ second ++ third ++ fourth)) ≡ length (flat_map block_note_line (first ++ second ++ third) ++ flat_map block_note_line fourth) = ap length (flat_map-append block_note_line (first ++ second ++ third) fourth) in
+      let j = length-append (flat_map block_note_line (first ++ second ++ third)) (flat_map block_note_line fourth) in
       let d : length (flat_map block_note_line (first ++ second ++ third)) ≡ length (flat_map block_note_line (first ++ second) ++ flat_map block_note_line third) = ap length (flat_map-append block_note_line (first ++ second) third) in
       let e : length (flat_map block_note_line (first ++ second)) ≡ length (flat_map block_note_line first ++ flat_map block_note_line second) = ap length (flat_map-append block_note_line first second) in
       let f = length-append (flat_map block_note_line (first ++ second)) (flat_map block_note_line third) in
       let g = length-append (flat_map block_note_line first) (flat_map block_note_line second) in
-      omega (arith, a, b, c, d, e, f, g)
+      omega (arith, a, b, c, d, e, f, g, h, i, j)
 
 pub about_a_block_short : (event : EventValue) → length (block_note_lines event) ≤ most_about_a_block event.profile
 unfolding block_notes
@@ -55,7 +58,7 @@ about_a_block_short event = by event.profile
     by : (profile : Profile) → length (flat_map block_note_line (notes_by profile event)) ≤ most_about_a_block profile
     by Manual = omega arith
     by Udev =
-        three_short (note_if (is_unknown_action event.action) UnknownAction event.action) (note_if (begins_with_sys event.device.path) PathBeginsWithSys event.device.path)
-        (note_if (is_stored_by_udev event) StoredByUdev (codes "USEC_INITIALIZED"))
+        four_short (note_if (is_unknown_action event.action) UnknownAction event.action) (note_if (begins_with_sys event.device.path) PathBeginsWithSys event.device.path)
+        (note_if (is_stored_by_udev event) StoredByUdev (codes "USEC_INITIALIZED")) (note_if (is_behind_commands event) BehindCommands (unwrap_or event.misplaced []))
         (if_short (is_unknown_action event.action) UnknownAction event.action) (if_short (begins_with_sys event.device.path) PathBeginsWithSys event.device.path)
-        (if_short (is_stored_by_udev event) StoredByUdev (codes "USEC_INITIALIZED"))
+        (if_short (is_stored_by_udev event) StoredByUdev (codes "USEC_INITIALIZED")) (if_short (is_behind_commands event) BehindCommands (unwrap_or event.misplaced []))

@@ -29,7 +29,7 @@ use Rattle.engine_formats.specs.Remarks.{code_of, heading_parts}
 use Rattle.devdry_words.specs.Refusals.{known_codes, listed, refusal_of, unknown_part}
 use Rattle.devdry_options.specs.Names.{flag_names, repeated_names, valued_names}
 use Rattle.devdry_words.specs.Options.{options_in, with_options}
-use Rattle.devdry_words.specs.Requests.{added_of}
+use Rattle.devdry_words.specs.Requests.{added_of, side_files, side_root}
 use Rattle.devdry_words.specs.Values.{cut_at_commas, is_set, texts_of, text_of}
 
 abbrev query_words : List Text

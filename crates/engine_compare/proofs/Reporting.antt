@@ -1,12 +1,13 @@
 -- Where nothing is reported for an event.
 use Rattle.std.proofs.Common.{◌≡◌, ◌↔◌, ℕ, ◌+◌, ◌==◌, ◌&&◌, Bool, true, false, cond, List, [], ◌∷◌, ◌++◌, codes, filter, length, map, refl, ap, ap₂, sym, ◌∙◌, append_assoc, arith}
 use Rattle.std.proofs.lemmas.Bool.{eqb-true}
+use Rattle.std.proofs.lemmas.List.{append-nil}
 use Rattle.text_bytes.specs.Lines.{lines}
 use Rattle.text_bytes.specs.Names.{newline}
 use Rattle.text_tables.specs.Texts.{Text}
 use Rattle.device_core.specs.Values.{EventValue}
 use Rattle.engine_ends.specs.EventLine.{event_line}
-use Rattle.text_tallies.specs.Surplus.{line_of, surplus, surplus_by, times}
+use Rattle.text_tallies.specs.Surplus.{ShownLine, line_of, surplus, surplus_by, times}
 use Rattle.engine_compare.specs.Differences.{ShownAnswer, after_first, beside, compared_lines, differences, is_compared, marked_lines, more_shown, reported_for, shown_lines, shown_of}
 use Rattle.engine_compare.specs.Objects.{compared, differences_in_json, differences_object, object_for}
 use Rattle.json.specs.Json.{Json}
@@ -67,6 +68,21 @@ beside_lines (line ∷ lines) (other ∷ others) = by (is_compared line) (beside
 
 pub lines_shown : (answer : ShownAnswer) → map line_of (shown_lines answer) ≡ compared_lines answer.0
 lines_shown answer = beside_lines (after_first (lines answer.0)) (after_first (lines answer.1))
+
+-- where nothing is left to read, all lines were read
+pub all_read : (read : List ShownLine) (rest : List ℕ) (others : List Text) (whole : List ShownLine) → (length rest == 0) ≡ true
+    → read ++ filter (λ line. is_compared (line_of line)) (beside (lines rest) others) ≡ whole → read ≡ whole
+all_read read [] others whole e h = sym (append-nil read) ∙ h
+all_read read (b ∷ rest) others whole e h = let none : length (b ∷ rest) ≡ 0 = eqb-true (length (b ∷ rest)) 0 e in absurd (omega (arith, none))
+
+-- the parts of lines that are pairs
+pub firsts : {I : Type 0} (f : I → ShownLine) (items : List I) → map (λ i. line_of (f i)) items ≡ map line_of (map f items)
+firsts f [] = refl
+firsts f (item ∷ items) = ap (λ more. line_of (f item) ∷ more) (firsts f items)
+
+pub seconds : {I : Type 0} (f : I → ShownLine) (items : List I) → map (λ i. shown_of (f i)) items ≡ map shown_of (map f items)
+seconds f [] = refl
+seconds f (item ∷ items) = ap (λ more. shown_of (f item) ∷ more) (seconds f items)
 
 none_mapped : {A B : Type 0} (f : A → B) (items : List A) → map f items ≡ [] → items ≡ []
 none_mapped f [] h = refl

@@ -48,7 +48,6 @@ fn shown_or<'a>(shown: &'a Option<Bytes>, answer: &'a [u8]) -> &'a [u8]
 }
 
 /// What appears and disappears between two answers to an event.
-#[tactic(auto, using(crate::proofs::Reporting::same_compared))]
 fn answer_of<A: Side, B: Side>(
     alloc: Global,
     json: bool,

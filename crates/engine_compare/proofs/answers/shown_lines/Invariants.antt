@@ -6,7 +6,7 @@ use Rattle.engine_compare.proofs.answers.shown_lines.Given as goal
 
 abbrev pub invariant-loop-rest : goal.invariant-loop-rest
 invariant-loop-rest l =
-    map {B = ShownLine} (λ p. (p.0.now, p.1.now)) l.lines.items ++ filter (λ p. is_compared (line_of p)) (beside (lines l.rest) (lines l.others)) ≡ shown_lines (l.compared, l.shown)
+    map {B = ShownLine} (λ p. (p.0.now, p.1.now)) l.lines.items ++ filter (λ p. is_compared (line_of p)) (beside (lines l.rest) (lines l.others)) ≡ shown_lines (l.answer.0.now, l.answer.1.now)
 
 abbrev pub decreases-loop-rest : goal.decreases-loop-rest
 decreases-loop-rest l = length l.rest

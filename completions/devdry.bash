@@ -89,7 +89,10 @@ _devdry() {
         update) suffix=.hwdb options='--options -r --root -s --strict --all --format --color --ignore --lint --stdin-name -h --help -V --version' ;;
         events) suffix=.rules options='--options -r --root --with --all --format --sources --why --unused --questions --index --udev -h --help -V --version' ;;
         files) suffix='' options='--options -r --root --with -h --help -V --version' ;;
-        compare) suffix='' options='--options --with --all --format --index --udev -h --help -V --version' ;;
+        compare)
+            suffix='' options='--options --with --all --format --sources --index --udev --rules -h --help -V --version'
+            case " ${COMP_WORDS[*]} " in *' --rules '*) suffix=.rules ;; esac
+            ;;
         explain) suffix='' options='-h --help -V --version' ;;
         help)
             [ "$COMP_CWORD" -gt 2 ] || _devdry_words verify query update events files compare explain help

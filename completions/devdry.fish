@@ -30,6 +30,8 @@ complete -c devdry -n '__fish_seen_subcommand_from events compare' -l format -x 
 complete -c devdry -n '__fish_seen_subcommand_from verify update' -l color -x -a 'auto always never' -d 'When messages for people are in colors'
 complete -c devdry -n '__fish_seen_subcommand_from verify update' -l ignore -x -a "V S H W D L I $codes comments" -d 'Leave out the messages of these codes'
 complete -c devdry -n '__fish_seen_subcommand_from compare' -a '(__fish_complete_directories)'
+complete -c devdry -n '__fish_seen_subcommand_from compare' -l rules -d 'OLD and NEW are rules files, or folders of them'
+complete -c devdry -n '__fish_seen_subcommand_from compare; and __fish_contains_opt rules' -k -a '(__fish_complete_suffix .rules)'
 complete -c devdry -n '__fish_seen_subcommand_from explain' -a "$codes I1 I2"
 
 complete -c devdry -n '__fish_seen_subcommand_from verify' -s s -l strict -d 'Make every check: --lint, --udev, --all, users and groups of the root'
@@ -44,7 +46,7 @@ complete -c devdry -n '__fish_seen_subcommand_from verify' -l groups -r -F -d 'W
 complete -c devdry -n '__fish_seen_subcommand_from events compare' -l udev -d 'Read and evaluate rules as udev itself does'
 complete -c devdry -n '__fish_seen_subcommand_from verify events' -k -a '(__fish_complete_suffix .rules)'
 
-complete -c devdry -n '__fish_seen_subcommand_from query events' -l sources -d 'Say where each line comes from'
+complete -c devdry -n '__fish_seen_subcommand_from query events compare' -l sources -d 'Say where each line comes from'
 complete -c devdry -n '__fish_seen_subcommand_from events' -l why -r -k -a '(__fish_complete_suffix .rules)' -d 'Say what the rules of this file, or the one of this line, met'
 complete -c devdry -n '__fish_seen_subcommand_from events' -l unused -d 'Report, after the last answer, the rules that no block reached or met'
 complete -c devdry -n '__fish_seen_subcommand_from events' -l questions -d 'Print the commands that the blocks do not answer, in place of answers'

@@ -163,9 +163,46 @@ IN_JSON = [
         f'{{"event":"add","path":"{D}","gone":[],"come":["tag t"]}}\n', "[OLD] r.rules:1: V2 unknown key: FOO\n", 1),
 ]
 
+# Each line after where it comes from, which is not compared.
+MOVED = {placed(OLD): 'MODE="0620", SYMLINK+="a b"\nTAG+="t"\n', placed(NEW): '# c\nTAG+="t"\nSYMLINK+="b c"\nMODE="0600"\n'}
+SOURCED = [
+    Row("each line after its rule", ["compare", "--sources", OLD, NEW], MOVED, block(D),
+        START + "-r.rules:1: mode 0620\n-r.rules:1: link a\n+r.rules:4: mode 0600\n+r.rules:3: link c\n\n", status=1),
+    Row("a rule that was moved is no difference", ["compare", "--sources", OLD, NEW], {placed(OLD): 'TAG+="t"\n', placed(NEW): '\nTAG+="t"\n'}, block(D)),
+    Row("a rule in another file is no difference", ["compare", "--sources", OLD, NEW], {placed(OLD): 'TAG+="t"\n', placed(NEW, "s.rules"): 'TAG+="t"\n'}, block(D)),
+    Row("what comes from the block", ["compare", "--sources", OLD, NEW], {placed(OLD): "# none\n", placed(NEW): 'ENV{A}=""\n'}, block(D, "E: A=1"), START + "--: env A=1\n\n", status=1),
+    Row("of equal commands the last", ["compare", "--sources", OLD, NEW], {placed(OLD): 'RUN+="/bin/%k"\nRUN+="/bin/d"\n', placed(NEW): 'RUN+="/bin/d"\n'}, block(D),
+        START + "-r.rules:2: run program /bin/d\n\n", status=1),
+    Row("notes are not compared, whatever their file is called", ["compare", "--sources", OLD, NEW], {placed(OLD, "note a.rules"): 'IMPORT{db}!="A", TAG+="t"\n',
+        placed(NEW, "note a.rules"): '\nIMPORT{db}!="B", TAG+="u"\n'}, block(D), START + "-note a.rules:1: tag t\n+note a.rules:2: tag u\n\n", status=1),
+    Row("sources in an object", ["compare", "--sources", "--format=json", OLD, NEW], MOVED, block(D),
+        f'{{"event":"add","path":"{D}","gone":["r.rules:1: mode 0620","r.rules:1: link a"],"come":["r.rules:4: mode 0600","r.rules:3: link c"]}}\n', status=1),
+    Row("each root has its own file", ["compare", "--sources", "--udev", OLD, NEW], {placed(OLD, "a.rules"): 'TAG+="t"\n', placed(NEW, "b.rules"): 'TAG+="u"\n'}, block(D),
+        START + "-a.rules:1: tag t\n+b.rules:1: tag u\n\n", status=1),
+]
+
+# Rules files, and folders of them, in place of roots.
+RULES = [
+    Row("two rules files", ["compare", "--rules", "a.rules", "b.rules"], {"a.rules": 'TAG+="t"\n', "b.rules": 'TAG+="u"\n'}, block(D), START + "-tag t\n+tag u\n\n", status=1),
+    Row("two rules files that say the same", ["compare", "--rules", "a.rules", "b.rules"], {"a.rules": 'TAG+="t"\n', "b.rules": '# c\nTAG="t"\n'}, block(D)),
+    Row("two folders, their rules files by name", ["compare", "--rules", "--sources", "a", "b"], {"a/2.rules": 'TAG="t"\n', "a/1.rules": 'TAG="u"\n', "a/README": 'TAG="v"\n', "b/1.rules": 'TAG+="w"\n'},
+        block(D), START + "-a/2.rules:1: tag t\n+b/1.rules:1: tag w\n\n", status=1),
+    Row("a folder and a file", ["compare", "--rules", "a", "b.rules"], {"a/1.rules": 'TAG+="t"\n', "b.rules": 'TAG+="t"\n'}, block(D)),
+    Row("a file that does not end as rules do", ["compare", "--rules", "a", "b"], {"a": 'TAG+="t"\n', "b": 'TAG+="u"\n'}, block(D), START + "-tag t\n+tag u\n\n", status=1),
+    Row("messages have the paths", ["compare", "--rules", "a.rules", "b.rules"], {"a.rules": 'FOO="1"\n', "b.rules": 'BAR="1"\n'}, block(D),
+        messages="[OLD] a.rules:1: V2 unknown key: FOO\n[NEW] b.rules:1: V2 unknown key: BAR\n"),
+    Row("with an index", ["compare", "--rules", "--index", "i", "a.rules", "b.rules"], {"a.rules": "# none\n", "b.rules": 'IMPORT{builtin}="hwdb abc"\n', "i": WITHOUT_FILE}, block(D),
+        START + "+env K=V\n\n", status=1),
+    Row("a file that is not there", ["compare", "--rules", "a.rules", "b.rules"], {"b.rules": 'TAG+="t"\n'}, block(D), START + "+tag t\n\n", "devdry: cannot read a.rules: no such file\n", 3),
+    Row("an empty name", ["compare", "--rules", "", "b.rules"], {"b.rules": 'TAG+="t"\n'}, block(D), "",
+        "error: an empty value of '<OLD>' or '<NEW>' names no folder; '/' is that of the running system\n\nFor more information, try '--help'.\n", 2),
+]
+
 ROWS = [
     *CHANGES,
     *IN_JSON,
+    *SOURCED,
+    *RULES,
     *NOTES,
     *EVENTS,
     *ROOTS,

@@ -12,7 +12,7 @@ COMMANDS = {
     "events": ("[FILE]...", ["--all", "--sources", "--questions", "--udev"],
                {"--root": "<DIR>", "--why": "<FILE[:LINE]>", "--index": "<FILE>", "--with": "<FILE>"}),
     "files": ("", [], {"--root": "<DIR>", "--with": "<FILE>"}),
-    "compare": ("<OLD> <NEW>", ["--all", "--udev"], {"--index": "<FILE>", "--with": "<FILE>"}),
+    "compare": ("<OLD> <NEW>", ["--all", "--sources", "--udev", "--rules"], {"--index": "<FILE>", "--with": "<FILE>"}),
 }
 # the letter that an option may be written as
 LETTERS = {"--root": "-r", "--strict": "-s"}

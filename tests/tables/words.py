@@ -229,8 +229,10 @@ Options:
       --with <FILE>      Rules or database file to read among those of NEW, by its name
       --all              Go on where a file can't be read, and fail where there is none
       --format <FORMAT>  How answers are written: plain or json
+      --sources          Say where each line comes from
       --index <FILE>     Index to read in place of the database's folders
       --udev             Read and evaluate rules as udev itself does
+      --rules            OLD and NEW are rules files, or folders of them
   -h, --help             Print help
   -V, --version          Print version
 
@@ -302,6 +304,20 @@ LINKS_AS_RULES = """\
 error: the argument '--links' cannot be used with '--with <FILE>', '--udev', '--users <FILE>', '--groups <FILE>' or '--strict'
 
 Usage: devdry verify --links [FILE]...
+
+For more information, try '--help'.
+"""
+
+INPUT_TWICE = """\
+error: '-' can't be '[FILE]...' where the standard input has event blocks or modaliases
+
+For more information, try '--help'.
+"""
+
+ADDED_TO_RULES = """\
+error: the argument '--with <FILE>' cannot be used with '--rules'
+
+Usage: devdry compare --rules <OLD> <NEW>
 
 For more information, try '--help'.
 """
@@ -488,7 +504,10 @@ NOT_UNDERSTOOD = [
     ("compare --format=sarif a b", NO_ANSWER_FORMAT.replace("gcc", "sarif")),
     ("events --unused --format=json a.rules", LINES_BESIDE_JSON),
     ("events --format json --questions", LINES_BESIDE_JSON),
-    ("compare --sources a b", "error: unexpected argument '--sources' found\n"),
+    ("compare --rules --with=a.rules a b", ADDED_TO_RULES),
+    ("compare --rules a.rules -", INPUT_TWICE),
+    ("compare --rules - a.rules", INPUT_TWICE),
+    ("events --rules a", "error: unexpected argument '--rules' found\n"),
     ("query --format json m", "error: unexpected argument '--format' found\n"),
     ("events --ignore V6", "error: unexpected argument '--ignore' found\n"),
     ("update --format=xml a.hwdb", NO_SUCH_FORMAT),

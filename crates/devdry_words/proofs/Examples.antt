@@ -18,7 +18,7 @@ use Rattle.engine_ends.specs.declared.line.Color.TheVariants.{Auto, Always, Neve
 use Rattle.engine_ends.specs.declared.line.Format.{Format}
 use Rattle.engine_ends.specs.declared.line.Format.TheVariants.{Plain, Gcc, Github, Gitlab, Json, Sarif, Human, HumanInColor}
 use Rattle.devdry_words.specs.declared.refusals.Refusal.{Refusal}
-use Rattle.devdry_words.specs.declared.refusals.Refusal.TheVariants.{TwoDatabases, LinksAsRules, AddedToNamed, AddedToIndex, TwoAnswers, LinesBesideJson, InputTwice, UnreadInput, EmptyRoot, EmptySide, NoUdev, UnknownFormat, NoAnswerFormat, UnknownColor, UnknownPart, NotRules, NotFile}
+use Rattle.devdry_words.specs.declared.refusals.Refusal.TheVariants.{TwoDatabases, LinksAsRules, AddedToNamed, AddedToRules, AddedToIndex, TwoAnswers, LinesBesideJson, InputTwice, UnreadInput, EmptyRoot, EmptySide, NoUdev, UnknownFormat, NoAnswerFormat, UnknownColor, UnknownPart, NotRules, NotFile}
 use Rattle.engine_ends.specs.declared.line.Verb.TheVariants.{Update, Verify, Events}
 use Rattle.devdry_words.specs.Lines.{asks_every, class_codes, codes_with, color_name, color_named, color_of, files_of, format_name, format_named, format_of, is_set_or_every, profile_of}
 use Rattle.text_bytes.specs.Texts.{split_once}
@@ -29,7 +29,7 @@ use Rattle.engine_formats.specs.Remarks.{code_of, heading_parts}
 use Rattle.devdry_words.specs.Refusals.{known_codes, listed, refusal_of, unknown_part}
 use Rattle.devdry_options.specs.Names.{flag_names, repeated_names, valued_names}
 use Rattle.devdry_words.specs.Options.{options_in, with_options}
-use Rattle.devdry_words.specs.Requests.{added_of}
+use Rattle.devdry_words.specs.Requests.{added_of, side_files, side_root}
 use Rattle.devdry_words.specs.Values.{cut_at_commas, is_set, texts_of, text_of}
 
 abbrev query_words : List Text
@@ -317,6 +317,24 @@ two_roots_are_taken = refl
 added_to_named_files_is_refused : refused (codes "events" ∷ codes "--with=a.hwdb" ∷ codes "b.rules" ∷ []) ≡ Some (Some AddedToNamed)
 unfolding clap_on_literals devdry
 added_to_named_files_is_refused = refl
+
+added_to_rules_is_refused : refused (codes "compare" ∷ codes "--rules" ∷ codes "--with=a.rules" ∷ codes "b.rules" ∷ codes "c.rules" ∷ []) ≡ Some (Some AddedToRules)
+unfolding clap_on_literals devdry
+added_to_rules_is_refused = refl
+
+input_as_rules_is_refused : refused (codes "compare" ∷ codes "b.rules" ∷ codes "-" ∷ codes "--rules" ∷ []) ≡ Some (Some InputTwice)
+unfolding clap_on_literals devdry
+input_as_rules_is_refused = refl
+
+rules_are_sides : option_map {U = Text × (List Text × (Text × List Text))} (λ p. (side_root (codes "OLD") p.1, (side_files (codes "OLD") p.1, (side_root (codes "NEW") p.1, side_files (codes "NEW") p.1)))) (subcommand_of devdry (codes "compare" ∷ codes "--rules" ∷ codes "a.rules" ∷ codes "b" ∷ []))
+    ≡ Some ([], (codes "a.rules" ∷ [], ([], codes "b" ∷ [])))
+unfolding clap_on_literals devdry
+rules_are_sides = refl
+
+roots_are_sides : option_map {U = Text × (List Text × (Text × List Text))} (λ p. (side_root (codes "OLD") p.1, (side_files (codes "OLD") p.1, (side_root (codes "NEW") p.1, side_files (codes "NEW") p.1)))) (subcommand_of devdry (codes "compare" ∷ codes "--all" ∷ codes "a" ∷ codes "b" ∷ []))
+    ≡ Some (codes "a", ([], (codes "b", [])))
+unfolding clap_on_literals devdry
+roots_are_sides = refl
 
 added_to_an_index_is_refused : refused (codes "compare" ∷ codes "--with=a.rules" ∷ codes "--with=a.hwdb" ∷ codes "--index=i" ∷ codes "/old" ∷ codes "/new" ∷ []) ≡ Some (Some AddedToIndex)
 unfolding clap_on_literals devdry

@@ -66,17 +66,18 @@ verify_shape = with_rules (codes "verify")
 abbrev pub events_shape : Shape
 events_shape = with_rules (codes "events")
     (option_rule (codes "options") ∷ root_rule ∷ added_rule ∷ flag_rule (codes "all") ∷ option_rule (codes "format") ∷ flag_rule (codes "sources")
-    ∷ repeated_rule (codes "why") ∷ flag_rule (codes "unused") ∷ flag_rule (codes "questions") ∷ option_rule (codes "index") ∷ flag_rule (codes "udev") ∷ files_rule ∷ [])
+    ∷ repeated_rule (codes "why") ∷ flag_rule (codes "unused") ∷ flag_rule (codes "questions") ∷ option_rule (codes "index")
+    ∷ flag_rule (codes "udev") ∷ files_rule ∷ [])
 
 -- `files [--options FILE] [-r DIR] [--with FILE]..`
 abbrev pub files_shape : Shape
 files_shape = with_rules (codes "files") (option_rule (codes "options") ∷ root_rule ∷ added_rule ∷ [])
 
--- `compare [--options FILE] [--with FILE].. [--all] [--format FORMAT] [--index FILE] [--udev] OLD NEW`
+-- `compare [--options FILE] [--with FILE].. [--all] [--format FORMAT] [--sources] [--index FILE] [--udev] [--rules] OLD NEW`
 abbrev pub compare_shape : Shape
 compare_shape = with_rules (codes "compare")
-    (option_rule (codes "options") ∷ added_rule ∷ flag_rule (codes "all") ∷ option_rule (codes "format") ∷ option_rule (codes "index")
-    ∷ flag_rule (codes "udev") ∷ required_rule (codes "OLD") ∷ required_rule (codes "NEW") ∷ [])
+    (option_rule (codes "options") ∷ added_rule ∷ flag_rule (codes "all") ∷ option_rule (codes "format") ∷ flag_rule (codes "sources")
+    ∷ option_rule (codes "index") ∷ flag_rule (codes "udev") ∷ flag_rule (codes "rules") ∷ required_rule (codes "OLD") ∷ required_rule (codes "NEW") ∷ [])
 
 -- `explain CODE`
 abbrev pub explain_shape : Shape

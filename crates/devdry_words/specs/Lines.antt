@@ -119,11 +119,17 @@ class_codes letter = option_map codes_with (find (λ l. bytes_eq letter l) class
 abbrev pub codes_named : Text → List Text
 codes_named part = unwrap_or (class_codes part) (part ∷ [])
 
--- the line is that of the verb, below the root, with the added files, and its other fields are the values of the matches
-pub record Reads (verb : Verb) (root : Text) (added : List Text) (rows : List Row) (line : Line) : Type 0 where
+-- whether all is asked for: by `--all`, by a check of everything, or where rules files or folders of them are compared, which are
+-- read like that
+abbrev pub asks_all_of : Verb → List Row → Bool
+asks_all_of verb rows = is_set_or_every verb (codes "all") rows || is_set (codes "rules") rows
+
+-- the line is that of the verb, below the root, with the added and the named files, and its other fields are the values of the
+-- matches
+pub record Reads (verb : Verb) (root : Text) (added named : List Text) (rows : List Row) (line : Line) : Type 0 where
   pub verb_is : line.verb ≡ verb
   pub root_is : line.root.now ≡ root
-  pub files : map (λ f. f.now) line.files.items ≡ files_of rows
+  pub files : map (λ f. f.now) line.files.items ≡ named
   pub added_are : map (λ f. f.now) line.added.items ≡ added
   pub input_name : line.input_name.now ≡ input_name_of rows
   pub index : option_map (λ i. i.now) line.index ≡ first_of (codes "index") rows
@@ -139,7 +145,7 @@ pub record Reads (verb : Verb) (root : Text) (added : List Text) (rows : List Ro
   pub checks_links : line.checks_links ≡ is_set (codes "links") rows
   pub format : line.format ≡ unwrap_or (format_of rows) Plain
   pub color : line.color ≡ unwrap_or (color_of rows) Auto
-  pub all : line.all ≡ is_set_or_every verb (codes "all") rows
+  pub all : line.all ≡ asks_all_of verb rows
   pub ignored : map (λ c. c.now) line.ignored.items ≡ flat_map codes_named (flat_map cut_at_commas (texts_of (codes "ignore") rows))
   pub profile : line.profile ≡ profile_of verb rows
   pub users : IsUnreadFile (account_path (asks_every verb rows) (first_of (codes "users") rows) (codes "/etc/passwd")) line.users

@@ -12,7 +12,8 @@ use Rattle.engine_ends.specs.declared.line.Format.TheVariants.{Plain, Json}
 use Rattle.engine_formats.specs.Codes.{remark_of, remarks}
 use Rattle.engine_formats.specs.Remarks.{code_of}
 use Rattle.devdry_words.specs.declared.refusals.Refusal.{Refusal}
-use Rattle.devdry_words.specs.declared.refusals.Refusal.TheVariants.{TwoDatabases, LinksAsRules, AddedToNamed, AddedToIndex, TwoAnswers, LinesBesideJson, InputTwice, UnreadInput}
+use Rattle.devdry_words.specs.declared.refusals.Refusal.TheVariants.{TwoDatabases, LinksAsRules, AddedToNamed, AddedToRules, AddedToIndex, TwoAnswers}
+use Rattle.devdry_words.specs.declared.refusals.Refusal.TheVariants.{LinesBesideJson, InputTwice, UnreadInput}
 use Rattle.devdry_words.specs.declared.refusals.Refusal.TheVariants.{EmptyRoot, EmptySide, NoUdev, UnknownFormat, NoAnswerFormat, UnknownColor, UnknownPart, NotRules, NotFile}
 use Rattle.devdry_words.specs.Lines.{class_codes, color_of, format_of, is_input}
 use Rattle.devdry_words.specs.Values.{cut_at_commas, has_value, is_empty_text, is_set, text_of, texts_of}
@@ -21,9 +22,14 @@ use Rattle.devdry_words.specs.Values.{cut_at_commas, has_value, is_empty_text, i
 abbrev pub names_input : List Row → Bool
 names_input rows = list_any is_input (texts_of (codes "FILE") rows)
 
--- the standard input is named as a file, and something else is read from it: the blocks of `events`, or modaliases
+-- the standard input is to be one of the rules files that `compare` compares
+abbrev pub compares_input : List Row → Bool
+compares_input rows = is_set (codes "rules") rows && (is_input (text_of (codes "OLD") rows) || is_input (text_of (codes "NEW") rows))
+
+-- the standard input is named as a file, and something else is read from it: the blocks of `events` and `compare`, or modaliases
 abbrev pub reads_twice : Text → List Row → Bool
-reads_twice name rows = names_input rows && (bytes_eq name (codes "events") || is_input (text_of (codes "MODALIAS") rows))
+reads_twice name rows =
+    names_input rows && (bytes_eq name (codes "events") || is_input (text_of (codes "MODALIAS") rows)) || compares_input rows
 
 -- the standard input has a name as a file, and is not named as one
 abbrev pub lacks_input : List Row → Bool
@@ -41,6 +47,10 @@ links_as_rules rows = is_set (codes "links") rows && (has_value (codes "with") r
 -- a file is added to those of the folders, and others are named to be read in place of these
 abbrev pub adds_to_named : List Row → Bool
 adds_to_named rows = has_value (codes "with") rows && has_value (codes "FILE") rows
+
+-- a file is added to those of a root, and rules are compared in place of roots
+abbrev pub adds_to_rules : List Row → Bool
+adds_to_rules rows = has_value (codes "with") rows && is_set (codes "rules") rows
 
 -- a path ends as those of database files do
 abbrev pub is_of_database : Text → Bool
@@ -140,13 +150,14 @@ abbrev pub refusal_of : Text → List Row → Option Refusal
 refusal_of name rows = if names_two name rows then Some TwoDatabases
     else (if links_as_rules rows then Some LinksAsRules
     else (if adds_to_named rows then Some AddedToNamed
+    else (if adds_to_rules rows then Some AddedToRules
     else (if asks_both rows then Some TwoAnswers
     else (if breaks_json rows then Some LinesBesideJson
     else (if reads_twice name rows then Some InputTwice
     else (if lacks_input rows then Some UnreadInput
     else (if lacks_root name rows then Some EmptyRoot
     else (if lacks_side rows then Some EmptySide
-    else (if lacks_udev name rows then Some NoUdev else unknown_value name rows)))))))))
+    else (if lacks_udev name rows then Some NoUdev else unknown_value name rows))))))))))
 
 -- what is said about a value that its argument does not take, by what comes before and after the value
 abbrev pub invalid_value : Text → Text → Text
@@ -191,6 +202,8 @@ abbrev pub said_of : Refusal → List Row → Text
 said_of TwoDatabases rows = codes "error: the argument '--index <FILE>' cannot be used with '[FILE]...'\n\nUsage: devdry query --index <FILE> <MODALIAS>\n\nFor more information, try '--help'.\n"
 said_of LinksAsRules rows = codes "error: the argument '--links' cannot be used with '--with <FILE>', '--udev', '--users <FILE>', '--groups <FILE>' or '--strict'\n\nUsage: devdry verify --links [FILE]...\n\nFor more information, try '--help'.\n"
 said_of AddedToNamed rows = codes "error: the argument '--with <FILE>' cannot be used with '[FILE]...'\n\nFor more information, try '--help'.\n"
+said_of AddedToRules rows =
+    codes "error: the argument '--with <FILE>' cannot be used with '--rules'\n\nUsage: devdry compare --rules <OLD> <NEW>\n\nFor more information, try '--help'.\n"
 said_of AddedToIndex rows = codes "error: the argument '--with <FILE>' cannot add to the database with '--index <FILE>'\n\nFor more information, try '--help'.\n"
 said_of TwoAnswers rows = codes "error: the argument '--questions' cannot be used with '--sources', '--why <FILE[:LINE]>' or '--unused'\n\nUsage: devdry events --questions [FILE]...\n\nFor more information, try '--help'.\n"
 said_of LinesBesideJson rows = codes "error: the argument '--format=json' cannot be used with '--unused' or '--questions'\n\nUsage: devdry events --format=json [FILE]...\n\nFor more information, try '--help'.\n"

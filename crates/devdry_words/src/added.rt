@@ -2,9 +2,9 @@
 ghost use Rattle.std.specs.Prelude.{◌≡◌, [], false, find, map, not, option_map, unwrap_or};
 ghost use Rattle.clap.specs.Words.{found_of, rows_of, rule_of};
 ghost use Rattle.devdry_words.specs.Commands.{added_rule};
-ghost use Rattle.devdry_words.specs.Refusals.{adds_to_index, adds_to_named, first_unaddable, is_addable, is_of_database, is_of_rules, unaddable};
+ghost use Rattle.devdry_words.specs.Refusals.{adds_to_index, adds_to_named, adds_to_rules, first_unaddable, is_addable, is_of_database, is_of_rules, unaddable};
 
-use crate::values::{every_value, has_value, value};
+use crate::values::{every_value, has_value, is_given, value};
 use clap::{Arg, ArgAction, ArgMatches};
 use std::alloc::Global;
 use text_bytes::FileKind;
@@ -36,6 +36,13 @@ pub(crate) fn adds_to_named(matches: &ArgMatches<'_>) -> bool
     ensures { result ≡ adds_to_named (rows_of (found_of matches.now)) }
 {
     has_value(matches, "with") & has_value(matches, "FILE")
+}
+
+/// Whether matches add files to those of a root, and compare rules in place of roots.
+pub(crate) fn adds_to_rules(matches: &ArgMatches<'_>) -> bool
+    ensures { result ≡ adds_to_rules (rows_of (found_of matches.now)) }
+{
+    has_value(matches, "with") & is_given(matches, "rules")
 }
 
 /// Whether a path ends as those of database files do.

@@ -228,6 +228,16 @@ pub(crate) fn modalias_argument<'a>(alloc: Global) -> Arg<'a>
     )
 }
 
+/// `--rules` of `compare`.
+pub(crate) fn rules_flag<'a>(alloc: Global) -> Arg<'a>
+    ensures { (rule_of result ≡ flag_rule (codes "rules")) × (result.global ≡ false) }
+{
+    Arg::new(alloc, "rules")
+        .long("rules")
+        .action(ArgAction::SetTrue)
+        .help("OLD and NEW are rules files, or folders of them")
+}
+
 /// OLD of `compare`, the root of the system before.
 pub(crate) fn old_argument<'a>(alloc: Global) -> Arg<'a>
     ensures { (rule_of result ≡ required_rule (codes "OLD")) × (result.global ≡ false) }

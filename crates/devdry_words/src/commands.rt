@@ -12,7 +12,7 @@ use crate::arguments::{
     all_flag, code_argument, color_option, files_argument, format_option, groups_option,
     ignore_option, index_option, links_flag, lint_flag, modalias_argument, new_argument,
     no_style_flag, no_summary_flag, old_argument, options_option, questions_flag, root_option,
-    sources_flag, strict_flag, udev_flag, unused_flag, users_option, why_option,
+    rules_flag, sources_flag, strict_flag, udev_flag, unused_flag, users_option, why_option,
 };
 use crate::endings;
 use crate::piped::input_name_option;
@@ -167,8 +167,10 @@ fn compare_command<'a>(alloc: Global) -> Result<Command<'a>, AllocError>
         .arg(with_option(alloc, ADDED_AFTER))?
         .arg(all_flag(alloc))?
         .arg(format_option(alloc, ANSWER_FORMATS))?
+        .arg(sources_flag(alloc))?
         .arg(index_option(alloc))?
         .arg(udev_flag(alloc, EVALUATE_AS_UDEV))?
+        .arg(rules_flag(alloc))?
         .arg(old_argument(alloc))?
         .arg(new_argument(alloc))
 }

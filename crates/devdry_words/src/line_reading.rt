@@ -2,10 +2,10 @@
 ghost use Rattle.std.specs.Prelude.{◌≡◌, [], IfOk, map};
 ghost use Rattle.clap.specs.Words.{first_of, found_of, rows_of};
 ghost use Rattle.devdry_words.specs.Lines.{IsUnreadFile, Reads, account_path, asks_every, color_named, color_of, format_named, format_of};
-ghost use Rattle.devdry_words.specs.Lines.{is_set_or_every, profile_of};
+ghost use Rattle.devdry_words.specs.Lines.{asks_all_of, is_set_or_every, profile_of};
 
 use crate::ignored::ignored_codes;
-use crate::piped::{files_of, input_name_of};
+use crate::piped::input_name_of;
 use crate::values::{is_given, text, texts, value};
 use clap::ArgMatches;
 use engine_ends::{AccountFile, Color, Format, Line, Verb};
@@ -120,20 +120,29 @@ fn account_file<'a>(
     }
 }
 
-/// The line of a verb below a root, with these added files, and otherwise with these matches.
+/// Whether all is asked for: also where rules files or folders of them are compared.
+fn asks_all_of(verb: Verb, matches: &ArgMatches<'_>) -> bool
+    ensures { result ≡ asks_all_of verb (rows_of (found_of matches.now)) }
+{
+    is_given_or_every(verb, matches, "all") || is_given(matches, "rules")
+}
+
+/// The line of a verb below a root, with these added and named files, and otherwise with these matches.
 pub(crate) fn line_with<'a>(
     alloc: Global,
     verb: Verb,
     root: &'a str,
     added: Vec<&'a str>,
+    files: Vec<&'a str>,
     matches: &ArgMatches<'a>,
 ) -> Result<Line<'a>, AllocError>
-    ensures { IfOk result (Reads verb root.entry.now (map (λ f. f.now) added.entry.items) (rows_of (found_of matches.now))) }
+    ensures { IfOk result (Reads verb root.entry.now (map (λ f. f.now) added.entry.items) (map (λ f. f.now) files.entry.items)
+        (rows_of (found_of matches.now))) }
 {
     Ok(Line {
         verb,
         root,
-        files: files_of(alloc, matches)?,
+        files,
         added,
         input_name: input_name_of(matches),
         index: value(matches, "index"),
@@ -149,7 +158,7 @@ pub(crate) fn line_with<'a>(
         checks_links: is_given(matches, "links"),
         format: format_of(matches).unwrap_or(Format::Plain),
         color: color_of(matches).unwrap_or(Color::Auto),
-        all: is_given_or_every(verb, matches, "all"),
+        all: asks_all_of(verb, matches),
         ignored: ignored_codes(alloc, matches)?,
         profile: profile_of(verb, matches),
         users: account_file(alloc, verb, matches, "users", "/etc/passwd"),

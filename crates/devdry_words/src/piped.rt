@@ -5,9 +5,9 @@ ghost use Rattle.std.specs.Str.{bytes_eq};
 ghost use Rattle.clap.specs.Words.{found_of, rows_of, rule_of};
 ghost use Rattle.devdry_words.specs.Commands.{option_rule};
 ghost use Rattle.devdry_words.specs.Lines.{file_named, files_of, input_name_of, is_input};
-ghost use Rattle.devdry_words.specs.Refusals.{lacks_input, names_input, reads_twice};
+ghost use Rattle.devdry_words.specs.Refusals.{compares_input, lacks_input, names_input, reads_twice};
 
-use crate::values::{every_value, text, texts, value};
+use crate::values::{every_value, is_given, text, texts, value};
 use clap::{Arg, ArgMatches};
 use std::alloc::{AllocError, Global};
 
@@ -95,11 +95,19 @@ fn names_input(matches: &ArgMatches<'_>) -> bool
     }
 }
 
+/// Whether matches name the standard input as one of the rules files that `compare` compares.
+fn compares_input(matches: &ArgMatches<'_>) -> bool
+    ensures { result ≡ compares_input (rows_of (found_of matches.now)) }
+{
+    is_given(matches, "rules") & (is_input(text(matches, "OLD")) | is_input(text(matches, "NEW")))
+}
+
 /// Whether the matches of a subcommand name the standard input as a file, and read something else from it.
 pub(crate) fn reads_twice(name: &str, matches: &ArgMatches<'_>) -> bool
     ensures { result ≡ reads_twice name.now (rows_of (found_of matches.now)) }
 {
-    names_input(matches) & ((name == "events") | is_input(text(matches, "MODALIAS")))
+    (names_input(matches) & ((name == "events") | is_input(text(matches, "MODALIAS"))))
+        | compares_input(matches)
 }
 
 /// Whether matches give the standard input a name, and do not name it as a file.

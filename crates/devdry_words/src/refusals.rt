@@ -9,7 +9,7 @@ ghost use Rattle.devdry_words.specs.Named.{IsUsageOf};
 ghost use Rattle.devdry_words.specs.Refusals.{answers_blocks, asks_all, asks_both, breaks_json, is_for_answers, is_strict, lacks_answer_format, links_as_rules};
 ghost use Rattle.devdry_words.specs.Refusals.{lacks_root, lacks_side, lacks_udev, names_two, refusal_of, said_of, unknown_value, wrong_added};
 
-use crate::added::{adds_to_index, adds_to_named, unaddable, unaddable_text};
+use crate::added::{adds_to_index, adds_to_named, adds_to_rules, unaddable, unaddable_text};
 use crate::ignored::{unknown_part, unknown_text};
 use crate::line_reading::{color_of, format_of};
 use crate::piped::{lacks_input, reads_twice};
@@ -30,6 +30,13 @@ const LINKS_AS_RULES: &str =
     "error: the argument '--links' cannot be used with '--with <FILE>', '--udev', '--users <FILE>', '--groups <FILE>' or '--strict'
 
 Usage: devdry verify --links [FILE]...
+
+For more information, try '--help'.
+";
+
+const ADDED_TO_RULES: &str = "error: the argument '--with <FILE>' cannot be used with '--rules'
+
+Usage: devdry compare --rules <OLD> <NEW>
 
 For more information, try '--help'.
 ";
@@ -128,6 +135,8 @@ pub(crate) enum Refusal {
     LinksAsRules,
     /// A file is added to those of the folders, and others are named to be read in place of these.
     AddedToNamed,
+    /// A file is added to those of a root, and rules are compared in place of roots.
+    AddedToRules,
     /// A file is added to those of the database, and an index is named to be read in place of these.
     AddedToIndex,
     /// Events are to give questions in place of answers, and are to say more of their answers.
@@ -303,6 +312,8 @@ pub(crate) fn refusal_of(name: &str, matches: &ArgMatches<'_>) -> Option<Refusal
         Some(Refusal::LinksAsRules)
     } else if adds_to_named(matches) {
         Some(Refusal::AddedToNamed)
+    } else if adds_to_rules(matches) {
+        Some(Refusal::AddedToRules)
     } else if asks_both(matches) {
         Some(Refusal::TwoAnswers)
     } else if breaks_json(matches) {
@@ -330,6 +341,7 @@ pub(crate) fn usage_of(alloc: Global, refusal: Refusal, matches: &ArgMatches<'_>
         Refusal::TwoDatabases => usage(alloc, TWO_DATABASES),
         Refusal::LinksAsRules => usage(alloc, LINKS_AS_RULES),
         Refusal::AddedToNamed => usage(alloc, ADDED_TO_NAMED),
+        Refusal::AddedToRules => usage(alloc, ADDED_TO_RULES),
         Refusal::AddedToIndex => usage(alloc, ADDED_TO_INDEX),
         Refusal::TwoAnswers => usage(alloc, TWO_ANSWERS),
         Refusal::LinesBesideJson => usage(alloc, LINES_BESIDE_JSON),

@@ -1,12 +1,13 @@
 //! The subcommands by their names, and what each of them asks for.
-ghost use Rattle.std.specs.Prelude.{◌≡◌, IfOk, MatchResult, codes};
+ghost use Rattle.std.specs.Prelude.{◌≡◌, IfOk, MatchResult, codes, map};
 ghost use Rattle.clap.specs.Words.{found_of, rows_of};
 ghost use Rattle.devdry_words.specs.Lines.{name_of};
 ghost use Rattle.devdry_words.specs.Named.{IsSubcommandName};
-ghost use Rattle.devdry_words.specs.Requests.{AsksFor, subcommand_name};
+ghost use Rattle.devdry_words.specs.Requests.{AsksFor, side_files, side_root, subcommand_name};
 
 use crate::line_reading::line_with;
-use crate::values::{text, texts};
+use crate::piped::files_of;
+use crate::values::{is_given, text, texts};
 use clap::ArgMatches;
 use engine_ends::{Request, Verb};
 use std::alloc::{AllocError, Global};
@@ -50,7 +51,8 @@ pub(crate) fn run_request<'a>(
 {
     let root = text(matches, "root");
     let added = texts(alloc, matches, "with")?;
-    Ok(Request::Run(line_with(alloc, verb, root, added, matches)?))
+    let files = files_of(alloc, matches)?;
+    Ok(Request::Run(line_with(alloc, verb, root, added, files, matches)?))
 }
 
 /// What `files` asks for with these matches.
@@ -62,8 +64,35 @@ pub(crate) fn files_request<'a>(
 {
     let root = text(matches, "root");
     let added = texts(alloc, matches, "with")?;
-    let line = line_with(alloc, Verb::Events, root, added, matches)?;
+    let files = files_of(alloc, matches)?;
+    let line = line_with(alloc, Verb::Events, root, added, files, matches)?;
     Ok(Request::Files(line))
+}
+
+/// The root of a side of `compare`: what is named, or none where rules are compared.
+fn side_root<'a>(id: &str, matches: &ArgMatches<'a>) -> &'a str
+    ensures { result.now ≡ side_root id.now (rows_of (found_of matches.now)) }
+{
+    if is_given(matches, "rules") {
+        ""
+    } else {
+        text(matches, id)
+    }
+}
+
+/// The files of a side of `compare`: what is named where rules are compared, or none.
+fn side_files<'a>(
+    alloc: Global,
+    id: &str,
+    matches: &ArgMatches<'a>,
+) -> Result<Vec<&'a str>, AllocError>
+    ensures { IfOk result (λ files. map (λ f. f.now) files.items ≡ side_files id.now (rows_of (found_of matches.now))) }
+{
+    let mut files = Vec::new(alloc);
+    if is_given(matches, "rules") {
+        files.push(text(matches, id))?;
+    }
+    Ok(files)
 }
 
 /// What `compare` asks for with these matches: files are added to those of the new root alone.
@@ -73,9 +102,12 @@ pub(crate) fn compare_request<'a>(
 ) -> Result<Request<'a>, AllocError>
     ensures { IfOk result (AsksFor (codes "compare") (rows_of (found_of matches.now))) }
 {
-    let (old, new) = (text(matches, "OLD"), text(matches, "NEW"));
+    let (old, new) = (side_root("OLD", matches), side_root("NEW", matches));
+    let old_files = side_files(alloc, "OLD", matches)?;
+    let new_files = side_files(alloc, "NEW", matches)?;
     let added = texts(alloc, matches, "with")?;
-    let before = line_with(alloc, Verb::Events, old, Vec::new(alloc), matches)?;
-    let after = line_with(alloc, Verb::Events, new, added, matches)?;
+    let none = Vec::new(alloc);
+    let before = line_with(alloc, Verb::Events, old, none, old_files, matches)?;
+    let after = line_with(alloc, Verb::Events, new, added, new_files, matches)?;
     Ok(Request::Compare(before, after))
 }

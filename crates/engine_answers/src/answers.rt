@@ -14,7 +14,7 @@ use engine_ends::push_event;
 use eval_rules::{Commands, Outcome};
 use eval_sources::{Sourced, SourcedCommand, evaluate_sources};
 use eval_state::Notes;
-use rule_types::RuleSet;
+use rule_types::Rule;
 use std::alloc::{AllocError, Global};
 use text_bytes::Bytes;
 
@@ -58,7 +58,7 @@ pub fn answer(alloc: Global, event: &Event<'_>, outcome: &Outcome<'_>) -> Result
 /// and those of notes stay as they are.
 pub fn sourced_lines<K: Knowledge>(
     alloc: Global,
-    rules: &RuleSet,
+    rules: &[Rule],
     event: &Event<'_>,
     knowledge: &K,
 ) -> Result<Vec<u8>, AllocError>
@@ -70,7 +70,7 @@ pub fn sourced_lines<K: Knowledge>(
 /// The same; rules and event are borrowed for the same lifetime.
 fn lines_for<'a, K: Knowledge>(
     alloc: Global,
-    rules: &'a RuleSet,
+    rules: &'a [Rule],
     event: &'a Event<'_>,
     knowledge: &K,
 ) -> Result<Vec<u8>, AllocError>

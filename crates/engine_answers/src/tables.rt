@@ -40,7 +40,9 @@ impl<K: Knowledge + Drop> Tables<K> {
             knowledge,
         })
     }
+}
 
+impl<K: Knowledge> Tables<K> {
     /// The rules.
     pub fn rules(&self) -> &[Rule]
         ensures { result.now ≡ self.now.0 }

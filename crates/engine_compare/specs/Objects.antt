@@ -5,8 +5,7 @@ use Rattle.json.specs.Json.{Json}
 use Rattle.text_json.specs.Told.{told}
 use Rattle.text_json.specs.Values.{array_of, object_of, value_line}
 use Rattle.device_core.specs.Values.{EventValue}
-use Rattle.text_tallies.specs.Surplus.{surplus}
-use Rattle.engine_compare.specs.Differences.{compared_lines, differences}
+use Rattle.engine_compare.specs.Differences.{ShownAnswer, differences, more_shown}
 
 -- the event, with the lines that disappear and those that appear
 abbrev pub differences_object : EventValue → List Text → List Text → Json
@@ -22,10 +21,9 @@ abbrev pub object_for : EventValue → List Text → List Text → Text
 object_for event gone come = if length gone == 0 && length come == 0 then [] else value_line (differences_object event gone come)
 
 -- what appears and disappears between an old and a new answer to an event, as an object
-abbrev pub differences_in_json : EventValue → Text → Text → Text
-differences_in_json event old new =
-    object_for event (surplus (compared_lines old) (compared_lines new)) (surplus (compared_lines new) (compared_lines old))
+abbrev pub differences_in_json : EventValue → (old new : ShownAnswer) → Text
+differences_in_json event old new = object_for event (more_shown old new) (more_shown new old)
 
 -- what is reported for an event, as JSON or as lines
-abbrev pub compared : Bool → EventValue → Text → Text → Text
+abbrev pub compared : Bool → EventValue → (old new : ShownAnswer) → Text
 compared json event old new = if json then differences_in_json event old new else differences event old new

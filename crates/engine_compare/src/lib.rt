@@ -6,13 +6,15 @@ mod answers;
 mod compared;
 mod laws;
 mod objects;
+mod sides;
 
 pub use answers::{differences, marked};
 pub use compared::Compared;
 pub use laws::{
-    an_object_has_the_lines_that_disappear_and_appear,
+    an_object_has_the_lines_that_disappear_and_appear, lines_are_reported_as_they_are_shown,
     lines_that_disappear_come_before_those_that_appear,
     no_object_is_reported_where_lines_are_the_same, nothing_is_reported_where_lines_are_the_same,
     the_same_answer_differs_in_nothing,
 };
 pub use objects::differences_in_json;
+pub use sides::Side;

@@ -6,7 +6,7 @@ ghost use Rattle.text_json.specs.Told.{told};
 ghost use Rattle.text_json.specs.Values.{array_of, value_line};
 ghost use Rattle.engine_compare.specs.Objects.{differences_in_json, differences_object, object_for};
 
-use crate::answers::compared_lines;
+use crate::answers::shown_lines;
 use device_core::Event;
 use json::Writer;
 use std::alloc::{AllocError, Global};
@@ -16,17 +16,17 @@ use text_tallies::surplus;
 
 /// What appears and disappears between an old and a new answer to an event, as an object of JSON on one line: `event`,
 /// `path`, `gone` with the old lines that the new answer has less often, and `come` with the new ones that the old answer
-/// has less often. If there are neither, no byte.
+/// has less often, each as it is shown. If there are neither, no byte.
 pub fn differences_in_json(
     alloc: Global,
     event: &Event<'_>,
-    old: &[u8],
-    new: &[u8],
+    old: (&[u8], &[u8]),
+    new: (&[u8], &[u8]),
 ) -> Result<Bytes, AllocError>
-    ensures { IfOk result (λ text. text ≡ differences_in_json event.now old.now new.now) }
+    ensures { IfOk result (λ text. text ≡ differences_in_json event.now (old.entry.0.now, old.entry.1.now) (new.entry.0.now, new.entry.1.now)) }
 {
-    let old_lines = compared_lines(alloc, old)?;
-    let new_lines = compared_lines(alloc, new)?;
+    let old_lines = shown_lines(alloc, old)?;
+    let new_lines = shown_lines(alloc, new)?;
     let gone = surplus(alloc, &old_lines, &new_lines)?;
     let come = surplus(alloc, &new_lines, &old_lines)?;
     object_for(alloc, event, &gone, &come)
@@ -36,10 +36,10 @@ pub fn differences_in_json(
 fn object_for(
     alloc: Global,
     event: &Event<'_>,
-    gone: &[&[u8]],
-    come: &[&[u8]],
+    gone: &[(&[u8], &[u8])],
+    come: &[(&[u8], &[u8])],
 ) -> Result<Bytes, AllocError>
-    ensures { IfOk result (λ text. text ≡ object_for event.now (map (λ l. l.now) gone.now) (map (λ l. l.now) come.now)) }
+    ensures { IfOk result (λ text. text ≡ object_for event.now (map (λ l. l.1.now) gone.now) (map (λ l. l.1.now) come.now)) }
 {
     if gone.is_empty() && come.is_empty() {
         return Ok(Bytes::new(Vec::new(alloc)));
@@ -52,11 +52,11 @@ fn object_for(
 fn object_line(
     alloc: Global,
     event: &Event<'_>,
-    gone: &[&[u8]],
-    come: &[&[u8]],
+    gone: &[(&[u8], &[u8])],
+    come: &[(&[u8], &[u8])],
 ) -> Result<Vec<u8>, AllocError>
     ensures { IfOk result (λ text. text.items
-        ≡ value_line (differences_object event.now (map (λ l. l.now) gone.now) (map (λ l. l.now) come.now))) }
+        ≡ value_line (differences_object event.now (map (λ l. l.1.now) gone.now) (map (λ l. l.1.now) come.now))) }
 {
     let mut writer = Writer::new(Vec::new(alloc));
     write_object(alloc, &mut writer, event, gone, come)?;
@@ -70,11 +70,11 @@ fn write_object(
     alloc: Global,
     writer: &mut Writer,
     event: &Event<'_>,
-    gone: &[&[u8]],
-    come: &[&[u8]],
+    gone: &[(&[u8], &[u8])],
+    come: &[(&[u8], &[u8])],
 ) -> Result<(), AllocError>
     ensures tokens { OnOk result (writer.new.tokens ≡ writer.old.tokens
-        ++ json_tokens (differences_object event.now (map (λ l. l.now) gone.now) (map (λ l. l.now) come.now))) }
+        ++ json_tokens (differences_object event.now (map (λ l. l.1.now) gone.now) (map (λ l. l.1.now) come.now))) }
     ensures before { OnOk result (writer.new.before ≡ writer.old.before) }
 {
     writer.begin_object()?;
@@ -86,15 +86,15 @@ fn write_object(
     Ok(())
 }
 
-/// Writes a member that is an array of lines.
+/// Writes a member that is an array of what is shown for lines.
 fn write_lines(
     alloc: Global,
     writer: &mut Writer,
     key: &str,
-    lines: &[&[u8]],
+    lines: &[(&[u8], &[u8])],
 ) -> Result<(), AllocError>
     ensures tokens { OnOk result (writer.new.tokens ≡ writer.old.tokens
-        ++ member_tokens ((key.now, array_of (map told (map (λ l. l.now) lines.now))) ∷ [])) }
+        ++ member_tokens ((key.now, array_of (map told (map (λ l. l.1.now) lines.now))) ∷ [])) }
     ensures before { OnOk result (writer.new.before ≡ writer.old.before) }
 {
     writer.key(key)?;
@@ -104,13 +104,17 @@ fn write_lines(
     Ok(())
 }
 
-/// Writes lines one after another.
-fn write_each_line(alloc: Global, writer: &mut Writer, lines: &[&[u8]]) -> Result<(), AllocError>
-    ensures tokens { OnOk result (writer.new.tokens ≡ writer.old.tokens ++ value_tokens (map told (map (λ l. l.now) lines.now))) }
+/// Writes what is shown for lines, one after another.
+fn write_each_line(
+    alloc: Global,
+    writer: &mut Writer,
+    lines: &[(&[u8], &[u8])],
+) -> Result<(), AllocError>
+    ensures tokens { OnOk result (writer.new.tokens ≡ writer.old.tokens ++ value_tokens (map told (map (λ l. l.1.now) lines.now))) }
     ensures before { OnOk result (writer.new.before ≡ writer.old.before) }
 {
-    for line in lines {
-        write_told_value(alloc, writer, line)?;
+    for (_, shown) in lines {
+        write_told_value(alloc, writer, shown)?;
     }
     Ok(())
 }

@@ -14,14 +14,13 @@ use Rattle.rule_types.specs.Rules.{Rule}
 use Rattle.device_core.specs.Values.{EventValue}
 use Rattle.builtin_core.specs.Builtins.{Held, known_by}
 use Rattle.builtin_knowledge.specs.Knowledge.{FilesFound}
-use Rattle.engine_answers.specs.Answers.{answer_by}
 use Rattle.engine_sessions.specs.Findings.{FindsAll}
 use Rattle.engine_sessions.specs.Serves.{Serves}
 use Rattle.engine_sessions.specs.Sessions.{answers_as}
 use Rattle.engine_sessions.proofs.Serving.{reports_serve}
 use Rattle.engine_sessions.proofs.FindServing.{finds_serve}
 use Rattle.engine_compare.specs.Objects.{compared}
-use Rattle.engine_core.specs.Comparing.{ComparesBy, both_messages, compare_outcome, differences_by}
+use Rattle.engine_core.specs.Comparing.{ComparesBy, both_messages, compare_outcome, compared_answer, differences_by}
 
 pub compares_serve : (old_line new_line : Line) (old_found new_found : FilesFound) (old new : Result OpeningValue RunOutcome) (status : ℕ) (before now : Streams)
     → ComparesBy old_line new_line old_found new_found old new status before now → Serves (compare_outcome old_line new_line old_found new_found old new) status before now
@@ -62,9 +61,9 @@ new_refused old_line new_line old_found new_found (Index fault) old new value st
     rw (e, is) (record { delivers = r.delivers (refused_index fault) refl; faults = r.faults; unread = r.unread })
 new_refused old_line new_line old_found new_found Memory old new value status before now e is r = old_refused old_line new_line old_found new_found Memory old new status before now tt r
 
--- rules, and what the builtins hold
+-- whether with sources, rules, and what the builtins hold
 abbrev pub Tables : Type 0
-Tables = List Rule × Held
+Tables = Bool × (List Rule × Held)
 
 -- whether in JSON, and two tables
 abbrev pub Both : Type 0
@@ -73,7 +72,7 @@ Both = Bool × (Tables × Tables)
 -- what comes and goes between two tables
 abbrev pub reported_by : Both → EventValue → Text
 reported_by both event =
-    compared both.0 event (answer_by both.1.0.0 (known_by both.1.0.1) event) (answer_by both.1.1.0 (known_by both.1.1.1) event)
+    compared both.0 event (compared_answer both.1.0.0 both.1.0.1.0 (known_by both.1.0.1.1) event) (compared_answer both.1.1.0 both.1.1.1.0 (known_by both.1.1.1.1) event)
 
 pub finds_both : (line : Line) (messages said : Text) (both tables : Both) (status : ℕ) (before now : Streams)
     → messages ≡ said → both ≡ tables → FindsAll messages (answers_as line.profile (reported_by both)) status before now

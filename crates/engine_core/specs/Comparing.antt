@@ -1,13 +1,14 @@
 -- What a comparison says: its outcome, as a function of the two command lines, the files passed in and what was found at
 -- paths of the root for each, the outcome of opening an index, and the input.
-use Rattle.std.specs.Prelude.{ℕ, List, ◌++◌, Option, Result, Ok, Err, codes}
+use Rattle.std.specs.Prelude.{ℕ, Bool, if◌then◌else◌, List, ◌++◌, Option, Result, Ok, Err, codes}
 use Rattle.text_bytes.specs.declared.source_file.SourceFile.{SourceFile}
 use Rattle.text_tables.specs.Texts.{Text}
 use Rattle.index_reading.specs.declared.fault.IndexFault.{IndexFault}
 use Rattle.index_reading.specs.Contents.{Contents}
 use Rattle.device_core.specs.Values.{EventValue}
-use Rattle.builtin_knowledge.specs.Knowledge.{FilesFound}
-use Rattle.engine_answers.specs.Answers.{answer_by}
+use Rattle.builtin_knowledge.specs.Knowledge.{FilesFound, Known}
+use Rattle.rule_types.specs.Rules.{Rule}
+use Rattle.engine_answers.specs.Answers.{answer_by, sourced_lines}
 use Rattle.engine_core.specs.Outcomes.{is_json, known_for}
 use Rattle.engine_ends.specs.declared.line.Line.{Line}
 use Rattle.engine_ends.specs.Delivery.{RunOutcome}
@@ -18,13 +19,21 @@ use Rattle.engine_sessions.specs.Findings.{FindsAll, found}
 use Rattle.engine_sessions.specs.Outcomes.{input_outcome}
 use Rattle.engine_sessions.specs.Serves.{Reports, Serves}
 use Rattle.engine_sessions.specs.Sessions.{answers_as}
-use Rattle.engine_compare.specs.Differences.{marked_text}
+use Rattle.engine_compare.specs.Differences.{ShownAnswer, marked_text}
 use Rattle.engine_compare.specs.Objects.{compared}
 
--- what appears and disappears between the answers to an event by two lines and their openings, in the old line's format
+-- an answer to an event, and the answer as it is shown: with sources each line is after the place of the rule that it comes from
+abbrev pub compared_answer : (sources : Bool) → List Rule → Known → EventValue → ShownAnswer
+compared_answer sources rules known event =
+    (answer_by rules known event, if sources then sourced_lines rules known event else answer_by rules known event)
+
+-- what appears and disappears between the answers to an event by two lines and their openings, in the old line's format, and with
+-- sources if that asks for them
 abbrev pub differences_by : (old_line new_line : Line) → (old_found new_found : FilesFound) → (old new : OpeningValue) → EventValue → Text
 differences_by old_line new_line old_found new_found old new event =
-    compared (is_json old_line.format) event (answer_by old.rules (known_for old_line old_found old) event) (answer_by new.rules (known_for new_line new_found new) event)
+    compared (is_json old_line.format) event
+    (compared_answer old_line.sources old.rules (known_for old_line old_found old) event)
+    (compared_answer old_line.sources new.rules (known_for new_line new_found new) event)
 
 -- the messages about both sides: those about the old rules, each line after `[OLD] `, and then those about the new ones, each
 -- after `[NEW] `

@@ -10,9 +10,9 @@ ghost use Rattle.engine_sessions.specs.Sessions.{answers_as};
 
 use crate::events::is_json;
 use crate::shared::Shared;
+use crate::sides::ComparedTables;
 use builtin_core::Builtins;
 use builtin_knowledge::RootFiles;
-use engine_answers::Tables;
 use engine_compare::{Compared, marked};
 use engine_ends::{Line, Sink, Source, report_out_of_memory};
 use engine_reports::{
@@ -31,8 +31,8 @@ use text_bytes::SourceFile;
 /// the profile of the old line, which is that of the new one if a command line made both, and what was found at paths of
 /// each root is passed in. Messages about the old
 /// rules go to `error`, each after `[OLD] `, and then those about the new ones, each after `[NEW] `; to `output`, for
-/// each block of `input` whose answers differ, what appears and disappears, in the old line's format, written and flushed
-/// before the next read.
+/// each block of `input` whose answers differ, what appears and disappears, in the old line's format, and if the old line asks
+/// for sources each line after the place of the rule that it comes from, written and flushed before the next read.
 /// If `index` is passed in, both sides ask it, and no file of a database is read.
 ///
 /// The status is 0; 1 if anything appears or disappears, if a block is faulty, if the files of a side hold more
@@ -157,8 +157,11 @@ fn compare_rules<L: Lookup + Drop, M: Lookup + Drop, R: Source, W: Sink, E: Sink
 {
     let old_builtins = Builtins::new(old_lookup, &old_line.links, old_found);
     let new_builtins = Builtins::new(new_lookup, &new_line.links, new_found);
-    let json = is_json(old_line.format);
-    match both_tables(alloc, json, old, old_builtins, new, new_builtins) {
+    let asked = Asked {
+        json: is_json(old_line.format),
+        sources: old_line.sources,
+    };
+    match both_tables(alloc, asked, old, old_builtins, new, new_builtins) {
         Ok((messages, tables)) => find_after_messages(
             alloc,
             old_line.profile,
@@ -172,10 +175,17 @@ fn compare_rules<L: Lookup + Drop, M: Lookup + Drop, R: Source, W: Sink, E: Sink
     }
 }
 
-/// The messages about both sides, and the tables of both, for differences as JSON or as lines.
+/// How differences are written: whether as JSON, and whether with the rules that their lines come from.
+#[derive(Clone, Copy)]
+struct Asked {
+    json: bool,
+    sources: bool,
+}
+
+/// The messages about both sides, and the tables of both, for differences as they are asked for.
 fn both_tables<'l, 'm, L: Lookup + Drop, M: Lookup + Drop>(
     alloc: Global,
-    json: bool,
+    asked: Asked,
     old: RulesRead,
     old_builtins: Builtins<'l, L>,
     new: RulesRead,
@@ -183,16 +193,16 @@ fn both_tables<'l, 'm, L: Lookup + Drop, M: Lookup + Drop>(
 ) -> Result<
     (
         Vec<u8>,
-        Compared<Tables<Builtins<'l, L>>, Tables<Builtins<'m, M>>>,
+        Compared<ComparedTables<Builtins<'l, L>>, ComparedTables<Builtins<'m, M>>>,
     ),
     AllocError,
 >
     ensures messages { IfOk result (λ both. both.0.items ≡ both_messages old.messages.items new.messages.items) }
     ensures tables { IfOk result (λ both. both.1 ≡ (
-      json,
+      asked.json,
       (
-        (old.rules.rules, old_builtins.entry),
-        (new.rules.rules, new_builtins.entry),
+        (asked.sources, (old.rules.rules, old_builtins.entry)),
+        (asked.sources, (new.rules.rules, new_builtins.entry)),
       ),
     )) }
 {
@@ -206,9 +216,10 @@ fn both_tables<'l, 'm, L: Lookup + Drop, M: Lookup + Drop>(
     } = new;
     let mut messages = marked(alloc, b"[OLD] ", &on_old)?;
     messages.append(&mut marked(alloc, b"[NEW] ", &on_new)?)?;
-    let old_tables = Tables::new(alloc, old_rules.into_rules(), old_builtins)?;
-    let new_tables = Tables::new(alloc, new_rules.into_rules(), new_builtins)?;
-    Ok((messages, Compared::new(json, old_tables, new_tables)))
+    let sources = asked.sources;
+    let old_tables = ComparedTables::new(alloc, sources, old_rules.into_rules(), old_builtins)?;
+    let new_tables = ComparedTables::new(alloc, sources, new_rules.into_rules(), new_builtins)?;
+    Ok((messages, Compared::new(asked.json, old_tables, new_tables)))
 }
 
 /// The rules and the messages about the files passed in, with an index that others also ask. No file of a database

@@ -14,6 +14,7 @@ mod events;
 mod reported;
 mod serving;
 mod shared;
+mod sides;
 
 pub use asked::AskedTables;
 pub use comparing::serve_compare;

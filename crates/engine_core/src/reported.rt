@@ -104,7 +104,7 @@ fn lines_reported<K: Knowledge>(
     ensures { IfOk result (λ lines. lines.items ≡ lines_reported sources rules.now (K.known knowledge.now) event.now) }
 {
     if sources {
-        return sourced_lines(alloc, rules, event, knowledge);
+        return sourced_lines(alloc, rules.rules(), event, knowledge);
     }
     let outcome = evaluate_plain(alloc, rules, event, knowledge)?;
     let said = answer_lines(alloc, event, &outcome);

@@ -186,7 +186,7 @@ fn sourced_answer<'a, K: Knowledge>(
 ) -> Result<Vec<u8>, AllocError>
     ensures { IfOk result (λ text. text.items ≡ value_line (sourced_object why.now rules.now (K.known knowledge.now) event.now)) }
 {
-    let found = evaluate_sources(alloc, rules, event, knowledge)?;
+    let found = evaluate_sources(alloc, rules.rules(), event, knowledge)?;
     let said = sourced_line(alloc, why, event, &found);
     drop(found);
     said

@@ -13,7 +13,7 @@ use builtin_knowledge::Knowledge;
 use device_core::Event;
 use eval_rules::{Outcome, finish, run_watched};
 use eval_state::Scene;
-use rule_types::{Rule, RuleSet};
+use rule_types::Rule;
 use std::alloc::{AllocError, Global};
 
 /// The outcome of an event, and where it comes from.
@@ -53,7 +53,7 @@ fn run_sourced<'a, K: Knowledge>(
 /// command comes from the rule that added it.
 pub fn evaluate_sources<'a, K: Knowledge>(
     alloc: Global,
-    rules: &'a RuleSet,
+    rules: &'a [Rule],
     event: &'a Event<'_>,
     knowledge: &K,
 ) -> Result<Sourced<'a>, AllocError>
@@ -62,7 +62,7 @@ pub fn evaluate_sources<'a, K: Knowledge>(
     ensures commands { IfOk result (λ s. s.commands.items ≡ event_commands rules.now (K.known knowledge.now) event.now) }
 {
     let mut scene = Scene::new(alloc, event)?;
-    match run_sourced(alloc, rules.rules(), knowledge, &mut scene) {
+    match run_sourced(alloc, rules, knowledge, &mut scene) {
         Ok((sources, commands)) => {
             let outcome = finish(alloc, scene)?;
             Ok(Sourced {

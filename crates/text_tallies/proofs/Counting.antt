@@ -1,5 +1,6 @@
 -- How often lines are in lists.
-use Rattle.std.proofs.Common.{◌≡◌, ◌↔◌, ℕ, ◌+◌, ◌-◌, ◌<◌, ◌≤◌, Bool, true, false, cond, ◌||◌, nat_lt, List, [], ◌∷◌, ◌++◌, refl, ap, sym, ◌∙◌, arith, add-zero, zero-add, append_assoc, append-nil}
+use Rattle.std.proofs.Common.{◌≡◌, ◌↔◌, ℕ, ◌+◌, ◌-◌, ◌<◌, ◌≤◌, Bool, true, false, cond, ◌||◌, nat_lt, List, [], ◌∷◌, ◌++◌, map, refl, ap, ap₂, sym, ◌∙◌, arith, add-zero, zero-add, append_assoc, append-nil}
+use Rattle.std.proofs.lemmas.List.{map-append}
 use Rattle.std.proofs.lemmas.Bool.{ltb-true, ltb-false, lt-ltb, le-ltb}
 use Rattle.std.proofs.lemmas.List.Sums.{sum_by-cons, sum_by-append, sum_by_push}
 use Rattle.std.specs.Cmp.Lexicographic.{bytes_decides}
@@ -30,7 +31,7 @@ picked : (text other : Text) (left_out : Bool) → times text (cond left_out [] 
 picked text other true = refl
 picked text other false = times-cons text other [] ∙ add-zero (one_if (same_text text other))
 
-picked_same : (text other : Text) (before others : List Text) → same_text text other ≡ true → times text (unless_fewer before other others) ≡ cond (nat_lt (times text before) (times text others)) 0 1
+picked_same : (text other : Text) (before others : List Text) → same_text text other ≡ true → times text (unless_fewer before other other others) ≡ cond (nat_lt (times text before) (times text others)) 0 1
 picked_same text other before others h =
     picked text other (nat_lt (times other before) (times other others))
     ∙ ap (λ b. cond (nat_lt (times other before) (times other others)) 0 (one_if b)) h
@@ -40,7 +41,7 @@ either_way : (b : Bool) (n : ℕ) → cond b n n ≡ n
 either_way true n = refl
 either_way false n = refl
 
-picked_other : (text other : Text) (before others : List Text) → same_text text other ≡ false → times text (unless_fewer before other others) ≡ 0
+picked_other : (text other : Text) (before others : List Text) → same_text text other ≡ false → times text (unless_fewer before other other others) ≡ 0
 picked_other text other before others h =
     picked text other (nat_lt (times other before) (times other others))
     ∙ ap (λ b. cond (nat_lt (times other before) (times other others)) 0 (one_if b)) h
@@ -58,24 +59,24 @@ step_other : (before others following : ℕ) → 0 + (following - (others - (bef
 step_other before others following = omega arith
 
 -- texts after others are more as often as all of them are more than those of the other list
-pub counted_after : (before texts others : List Text) (text : Text) → times text (surplus_after before texts others) ≡ times text texts - (times text others - times text before)
+pub counted_after : (before texts others : List Text) (text : Text) → times text (surplus_after (λ t. t) before texts others) ≡ times text texts - (times text others - times text before)
 counted_after before [] others text = omega arith
 counted_after before (other ∷ texts) others text = by (same_text text other) refl
     (counted_after (before ++ other ∷ []) texts others text ∙ ap (λ n. times text texts - (times text others - n)) (times-push text other before))
   where
-    split : times text (surplus_after (before ++ other ∷ []) texts others) ≡ times text texts - (times text others - (times text before + one_if (same_text text other)))
-        → times text (surplus_after before (other ∷ texts) others) ≡ times text (unless_fewer before other others) + (times text texts - (times text others - (times text before + one_if (same_text text other))))
-    split rest = times-append text (unless_fewer before other others) (surplus_after (before ++ other ∷ []) texts others) ∙ ap (λ n. times text (unless_fewer before other others) + n) rest
+    split : times text (surplus_after (λ t. t) (before ++ other ∷ []) texts others) ≡ times text texts - (times text others - (times text before + one_if (same_text text other)))
+        → times text (surplus_after (λ t. t) before (other ∷ texts) others) ≡ times text (unless_fewer before other other others) + (times text texts - (times text others - (times text before + one_if (same_text text other))))
+    split rest = times-append text (unless_fewer before other other others) (surplus_after (λ t. t) (before ++ other ∷ []) texts others) ∙ ap (λ n. times text (unless_fewer before other other others) + n) rest
 
-    by : (b : Bool) → same_text text other ≡ b → times text (surplus_after (before ++ other ∷ []) texts others) ≡ times text texts - (times text others - (times text before + one_if (same_text text other)))
-        → times text (surplus_after before (other ∷ texts) others) ≡ times text (other ∷ texts) - (times text others - times text before)
+    by : (b : Bool) → same_text text other ≡ b → times text (surplus_after (λ t. t) (before ++ other ∷ []) texts others) ≡ times text texts - (times text others - (times text before + one_if (same_text text other)))
+        → times text (surplus_after (λ t. t) before (other ∷ texts) others) ≡ times text (other ∷ texts) - (times text others - times text before)
     by true h rest =
-        split rest ∙ ap (λ b. times text (unless_fewer before other others) + (times text texts - (times text others - (times text before + one_if b)))) h
+        split rest ∙ ap (λ b. times text (unless_fewer before other other others) + (times text texts - (times text others - (times text before + one_if b)))) h
         ∙ ap (λ n. n + (times text texts - (times text others - (times text before + 1)))) (picked_same text other before others h)
         ∙ step_same (times text before) (times text others) (times text texts)
         ∙ ap (λ n. n - (times text others - times text before)) (sym (times-cons text other texts ∙ ap (λ b. one_if b + times text texts) h))
     by false h rest =
-        split rest ∙ ap (λ b. times text (unless_fewer before other others) + (times text texts - (times text others - (times text before + one_if b)))) h
+        split rest ∙ ap (λ b. times text (unless_fewer before other other others) + (times text texts - (times text others - (times text before + one_if b)))) h
         ∙ ap (λ n. n + (times text texts - (times text others - (times text before + 0)))) (picked_other text other before others h)
         ∙ step_other (times text before) (times text others) (times text texts)
         ∙ ap (λ n. n - (times text others - times text before)) (sym (times-cons text other texts ∙ ap (λ b. one_if b + times text texts) h))
@@ -132,9 +133,20 @@ pub nothing_differs : (old new : List Text) → ((surplus old new ≡ []) × (su
 nothing_differs old new = (both_empty old new, λ same. (same_lines old new same, same_lines new old (λ text. sym (same text))))
 
 -- a text at the end
-pub following-push : (before texts others : List Text) (text : Text) → surplus_after before (texts ++ text ∷ []) others ≡ surplus_after before texts others ++ unless_fewer (before ++ texts) text others
-following-push before [] others text = append-nil (unless_fewer before text others) ∙ ap (λ t. unless_fewer t text others) (sym (append-nil before))
+pub following-push : (before texts others : List Text) (text : Text) → surplus_after (λ t. t) before (texts ++ text ∷ []) others ≡ surplus_after (λ t. t) before texts others ++ unless_fewer (before ++ texts) text text others
+following-push before [] others text = append-nil (unless_fewer before text text others) ∙ ap (λ t. unless_fewer t text text others) (sym (append-nil before))
 following-push before (other ∷ texts) others text =
-    ap (λ more. unless_fewer before other others ++ more) (following-push (before ++ other ∷ []) texts others text)
-    ∙ sym (append_assoc (unless_fewer before other others) (surplus_after (before ++ other ∷ []) texts others) (unless_fewer ((before ++ other ∷ []) ++ texts) text others))
-    ∙ ap (λ all. (unless_fewer before other others ++ surplus_after (before ++ other ∷ []) texts others) ++ unless_fewer all text others) (append_assoc before (other ∷ []) texts)
+    ap (λ more. unless_fewer before other other others ++ more) (following-push (before ++ other ∷ []) texts others text)
+    ∙ sym (append_assoc (unless_fewer before other other others) (surplus_after (λ t. t) (before ++ other ∷ []) texts others) (unless_fewer ((before ++ other ∷ []) ++ texts) text text others))
+    ∙ ap (λ all. (unless_fewer before other other others ++ surplus_after (λ t. t) (before ++ other ∷ []) texts others) ++ unless_fewer all text text others) (append_assoc before (other ∷ []) texts)
+
+-- the items whose texts are more have the texts that are more
+pub chosen : {A : Type 0} (text : A → Text) (before : List Text) (items : List A) (others : List Text) → map text (surplus_after text before items others) ≡ surplus_after (λ t. t) before (map text items) others
+chosen text before [] others = refl
+chosen text before (item ∷ items) others =
+    map-append text (unless_fewer before (text item) item others) (surplus_after text (before ++ text item ∷ []) items others)
+    ∙ ap₂ (λ first later. first ++ later) (by (nat_lt (times (text item) before) (times (text item) others))) (chosen text (before ++ text item ∷ []) items others)
+  where
+    by : (b : Bool) → map text (cond b [] (item ∷ [])) ≡ cond b [] (text item ∷ [])
+    by true = refl
+    by false = refl

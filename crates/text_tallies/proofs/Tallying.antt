@@ -7,7 +7,7 @@ use Rattle.text_tables.specs.Texts.{Text, same_text}
 use Rattle.text_tables.specs.Pairs.{value_of, with_value}
 use Rattle.text_tables.proofs.Found.{value_set}
 use Rattle.text_tables.proofs.Partway.{left_at}
-use Rattle.text_tallies.specs.Surplus.{times, surplus_after, surplus}
+use Rattle.text_tallies.specs.Surplus.{times, surplus_after, surplus_by}
 use Rattle.text_tallies.specs.Tallies.{left_of, Tallies}
 use Rattle.text_tallies.proofs.Counting.{is_same, one_if, times-push}
 
@@ -58,16 +58,16 @@ taken_one tally next line left l e text = ap (λ (n : List (Text × ℕ)). left_
     by true h = ap (λ n. n - 1) (l ∙ ap (left_of tally) (sym (is_same text line h)))
     by false h = less_none (left_of tally text)
 
--- Some lines are gone past: of each line so many are left as the other list has more, and what is reported so far and what is still to come
--- is all that is to be reported.
-pub record Proceeds (tally : List (Text × ℕ)) (reported past rest whole others : List Text) : Type 0 where
+-- Some items are gone past: of each text so many are left as the other list has more, and what is reported so far and what is still to
+-- come is all that is to be reported.
+pub record Proceeds {A : Type 0} (key : A → Text) (tally : List (Text × ℕ)) (reported : List A) (past : List Text) (rest whole : List A) (others : List Text) : Type 0 where
   pub left : (text : Text) → left_of tally text ≡ times text others - times text past
-  pub so_far : reported ++ surplus_after past rest others ≡ whole
+  pub so_far : reported ++ surplus_after key past rest others ≡ whole
 
-pub advance_start : (tally : List (Text × ℕ)) (reported lines others : List Text) → reported ≡ [] → Tallies tally others → Proceeds tally reported [] lines (surplus lines others) others
-advance_start tally reported lines others e t = record {
+pub advance_start : {A : Type 0} (key : A → Text) (tally : List (Text × ℕ)) (reported lines : List A) (others : List Text) → reported ≡ [] → Tallies tally others → Proceeds key tally reported [] lines (surplus_by key lines others) others
+advance_start key tally reported lines others e t = record {
   left = λ text. t text ∙ less_none (times text others);
-  so_far = ap (λ reported. reported ++ surplus lines others) e;
+  so_far = ap (λ reported. reported ++ surplus_by key lines others) e;
 }
   where
     less_none : (n : ℕ) → n ≡ n - 0
@@ -83,24 +83,25 @@ left_is others past = by (cases_lt past others)
 less_more : (others past one : ℕ) → (others - past) - one ≡ others - (past + one)
 less_more others past one = omega arith
 
-pub advance_more : (tally next : List (Text × ℕ)) (reported more past rest whole others : List Text) (line : Text) (there : Bool) → Proceeds tally reported past (line ∷ rest) whole others
-    → there ≡ nat_lt 0 (left_of tally line) → ((text : Text) → left_of next text ≡ left_of tally text - cond (same_text text line) 1 0) → more ≡ reported ++ cond there [] (line ∷ [])
-    → Proceeds next more (past ++ line ∷ []) rest whole others
-advance_more tally next reported more past rest whole others line there g t l e = record {
+pub advance_more : {A : Type 0} (key : A → Text) (tally next : List (Text × ℕ)) (reported more : List A) (past : List Text) (rest whole : List A) (others : List Text) (line : A) (there : Bool)
+    → Proceeds key tally reported past (line ∷ rest) whole others
+    → there ≡ nat_lt 0 (left_of tally (key line)) → ((text : Text) → left_of next text ≡ left_of tally text - cond (same_text text (key line)) 1 0) → more ≡ reported ++ cond there [] (line ∷ [])
+    → Proceeds key next more (past ++ key line ∷ []) rest whole others
+advance_more {A = A} key tally next reported more past rest whole others line there g t l e = record {
   left = λ text.
-      l text ∙ ap (λ n. n - one_if (same_text text line)) (g.left text) ∙ less_more (times text others) (times text past) (one_if (same_text text line))
-      ∙ ap (λ n. times text others - n) (sym (times-push text line past));
+      l text ∙ ap (λ n. n - one_if (same_text text (key line))) (g.left text) ∙ less_more (times text others) (times text past) (one_if (same_text text (key line)))
+      ∙ ap (λ n. times text others - n) (sym (times-push text (key line) past));
   so_far =
       ap (λ reported. reported ++ following) e ∙ append_assoc reported (cond there [] (line ∷ [])) following
-      ∙ ap (λ b. reported ++ (cond b [] (line ∷ []) ++ following)) (t ∙ ap (λ n. nat_lt 0 n) (g.left line) ∙ left_is (times line others) (times line past))
+      ∙ ap (λ b. reported ++ (cond b [] (line ∷ []) ++ following)) (t ∙ ap (λ n. nat_lt 0 n) (g.left (key line)) ∙ left_is (times (key line) others) (times (key line) past))
       ∙ g.so_far;
 }
   where
-    following : List Text
-    following = surplus_after (past ++ line ∷ []) rest others
+    following : List A
+    following = surplus_after key (past ++ key line ∷ []) rest others
 
-pub advance_end : (tally : List (Text × ℕ)) (reported past whole others : List Text) → Proceeds tally reported past [] whole others → reported ≡ whole
-advance_end tally reported past whole others g = sym (append-nil reported) ∙ g.so_far
+pub advance_end : {A : Type 0} (key : A → Text) (tally : List (Text × ℕ)) (reported : List A) (past : List Text) (whole : List A) (others : List Text) → Proceeds key tally reported past [] whole others → reported ≡ whole
+advance_end key tally reported past whole others g = sym (append-nil reported) ∙ g.so_far
 
 -- the lines gone past with the next one, and those before it
 pub past_more : {A : Type 0} (f : A → Text) (lines : List A) (at : ℕ) (next : A) → at < length lines → map f (take (at + 1) lines) ≡ map f (take at lines) ++ f (get_or lines at next) ∷ []
@@ -119,21 +120,24 @@ counts_more f tally lines at line t h room = by (count_by-le-length (same_text l
     by : times line (map f (take at lines)) ≤ length (map f (take at lines)) → length (map f (take at lines)) ≡ length (take at lines) → length (take at lines) ≡ min at (length lines) → left_of tally line + 1 < 2 ^ 64
     by k l m = omega (arith, t line, k, l, m)
 
-pub advance_item : {A : Type 0} (f : A → Text) (tally next : List (Text × ℕ)) (reported more whole others : List Text) (lines : List A) (at : ℕ) (item : A) (there : Bool)
-    → Proceeds tally reported (map f (take at lines)) (map f (drop at lines)) whole others → at < length lines
-    → there ≡ nat_lt 0 (left_of tally (f (get_or lines at item))) → ((text : Text) → left_of next text ≡ left_of tally text - cond (same_text text (f (get_or lines at item))) 1 0)
-    → more ≡ reported ++ cond there [] (f (get_or lines at item) ∷ []) → Proceeds next more (map f (take (at + 1) lines)) (map f (drop (at + 1) lines)) whole others
-advance_item f tally next reported more whole others lines at item there g h t l e =
-    subst (λ past. Proceeds next more past (map f (drop (at + 1) lines)) whole others) (sym (past_more f lines at item h))
-    (advance_more tally next reported more (map f (take at lines)) (map f (drop (at + 1) lines)) whole others (f (get_or lines at item)) there
-    (subst (λ rest. Proceeds tally reported (map f (take at lines)) rest whole others) (left_at f lines at item h) g) t l e)
+pub advance_item : {I A : Type 0} (f : I → A) (key : A → Text) (tally next : List (Text × ℕ)) (reported more whole : List A) (others : List Text) (lines : List I) (at : ℕ) (item : I) (there : Bool)
+    → Proceeds key tally reported (map (λ i. key (f i)) (take at lines)) (map f (drop at lines)) whole others → at < length lines
+    → there ≡ nat_lt 0 (left_of tally (key (f (get_or lines at item)))) → ((text : Text) → left_of next text ≡ left_of tally text - cond (same_text text (key (f (get_or lines at item)))) 1 0)
+    → more ≡ reported ++ cond there [] (f (get_or lines at item) ∷ []) → Proceeds key next more (map (λ i. key (f i)) (take (at + 1) lines)) (map f (drop (at + 1) lines)) whole others
+advance_item f key tally next reported more whole others lines at item there g h t l e =
+    subst (λ past. Proceeds key next more past (map f (drop (at + 1) lines)) whole others) (sym (past_more (λ i. key (f i)) lines at item h))
+    (advance_more key tally next reported more (map (λ i. key (f i)) (take at lines)) (map f (drop (at + 1) lines)) whole others (f (get_or lines at item)) there
+    (subst (λ rest. Proceeds key tally reported (map (λ i. key (f i)) (take at lines)) rest whole others) (left_at f lines at item h) g) t l e)
 
-pub advance_out : {A : Type 0} (f : A → Text) (tally : List (Text × ℕ)) (reported past whole others : List Text) (lines : List A) (at : ℕ) → length lines ≤ at → Proceeds tally reported past (map f (drop at lines)) whole others → reported ≡ whole
-advance_out f tally reported past whole others lines at h g = advance_end tally reported past whole others (subst (λ rest. Proceeds tally reported past rest whole others) (ap (map f) (drop_of_length-le lines h)) g)
+pub advance_out : {I A : Type 0} (f : I → A) (key : A → Text) (tally : List (Text × ℕ)) (reported whole : List A) (others : List Text) (lines : List I) (at : ℕ) → length lines ≤ at
+    → Proceeds key tally reported (map (λ i. key (f i)) (take at lines)) (map f (drop at lines)) whole others → reported ≡ whole
+advance_out f key tally reported whole others lines at h g =
+    advance_end key tally reported (map (λ i. key (f i)) (take at lines)) whole others
+    (subst (λ rest. Proceeds key tally reported (map (λ i. key (f i)) (take at lines)) rest whole others) (ap (map f) (drop_of_length-le lines h)) g)
 
 -- a line that is not one of those left is reported
-pub reported_line : {A : Type 0} (f : A → Text) (reported more : List A) (line : A) (there : Bool) → there ≡ false → more ≡ reported ++ line ∷ [] → map f more ≡ map f reported ++ cond there [] (f line ∷ [])
+pub reported_line : {I A : Type 0} (f : I → A) (reported more : List I) (line : I) (there : Bool) → there ≡ false → more ≡ reported ++ line ∷ [] → map f more ≡ map f reported ++ cond there [] (f line ∷ [])
 reported_line f reported more line there n e = ap (map f) e ∙ map-append f reported (line ∷ []) ∙ ap (λ b. map f reported ++ cond b [] (f line ∷ [])) (sym n)
 
-pub passed_line : {A : Type 0} (f : A → Text) (reported more : List A) (line : Text) (there : Bool) → there ≡ true → more ≡ reported → map f more ≡ map f reported ++ cond there [] (line ∷ [])
+pub passed_line : {I A : Type 0} (f : I → A) (reported more : List I) (line : A) (there : Bool) → there ≡ true → more ≡ reported → map f more ≡ map f reported ++ cond there [] (line ∷ [])
 passed_line f reported more line there n e = ap (map f) e ∙ sym (append-nil (map f reported)) ∙ ap (λ b. map f reported ++ cond b [] (line ∷ [])) (sym n)

@@ -1,7 +1,7 @@
 //! Laws of the texts that one list has more often than another. Each is the contract of a function with an empty body.
-ghost use Rattle.std.specs.Prelude.{◌≡◌, ◌↔◌, ◌+◌, ◌-◌, ◌≤◌, true, false, List, [], ◌∷◌, ◌++◌};
+ghost use Rattle.std.specs.Prelude.{◌≡◌, ◌↔◌, ◌+◌, ◌-◌, ◌≤◌, true, false, List, [], ◌∷◌, ◌++◌, codes, map};
 ghost use Rattle.text_tables.specs.Texts.{Text, is_among};
-ghost use Rattle.text_tallies.specs.Surplus.{surplus, times, unless_fewer};
+ghost use Rattle.text_tallies.specs.Surplus.{ShownLine, line_of, surplus, surplus_by, times, unless_fewer};
 
 /// A line is reported as many times as its list has it more often than the other list.
 pub fn lines_are_reported_as_often_as_they_are_more()
@@ -13,6 +13,18 @@ pub fn lines_are_reported_as_often_as_they_are_more()
 pub fn differences_lead_from_old_to_new()
     ensures taken { (old new : List Text) (text : Text) → times text (surplus old new) ≤ times text old }
     ensures put { (old new : List Text) (text : Text) → (times text old - times text (surplus old new)) + times text (surplus new old) ≡ times text new }
+{}
+
+/// Whatever is shown for lines, those are reported that are more.
+pub fn lines_are_chosen_whatever_is_shown()
+    ensures { (lines : List ShownLine) (others : List Text) → map line_of (surplus_by line_of lines others) ≡ surplus (map line_of lines) others }
+{}
+
+/// What is shown for lines is reported in their place, by an example: of two equal lines the last one.
+pub fn what_is_shown_is_reported()
+    ensures { surplus_by line_of
+        ((codes "a", codes "1: a") ∷ (codes "b", codes "2: b") ∷ (codes "a", codes "3: a") ∷ (codes "c", codes "4: c") ∷ [])
+        (codes "c" ∷ codes "a" ∷ []) ≡ (codes "b", codes "2: b") ∷ (codes "a", codes "3: a") ∷ [] }
 {}
 
 /// No line both disappears and appears.
@@ -28,5 +40,5 @@ pub fn nothing_differs_where_lines_are_the_same()
 /// Lines are reported in the order of their list, and of equal ones the last: a line at the end of a list
 /// is reported after the others, unless those before it have it less often than the other list.
 pub fn the_last_of_equal_lines_are_reported()
-    ensures { (texts others : List Text) (text : Text) → surplus (texts ++ text ∷ []) others ≡ surplus texts others ++ unless_fewer texts text others }
+    ensures { (texts others : List Text) (text : Text) → surplus (texts ++ text ∷ []) others ≡ surplus texts others ++ unless_fewer texts text text others }
 {}

@@ -7,8 +7,9 @@ mod laws;
 mod tallies;
 
 pub use laws::{
-    differences_lead_from_old_to_new, lines_are_reported_as_often_as_they_are_more,
-    no_line_disappears_and_appears, nothing_differs_where_lines_are_the_same,
-    the_last_of_equal_lines_are_reported,
+    differences_lead_from_old_to_new, lines_are_chosen_whatever_is_shown,
+    lines_are_reported_as_often_as_they_are_more, no_line_disappears_and_appears,
+    nothing_differs_where_lines_are_the_same, the_last_of_equal_lines_are_reported,
+    what_is_shown_is_reported,
 };
 pub use tallies::{count_one, surplus};

@@ -5,37 +5,43 @@
 ghost use Rattle.std.specs.Prelude.{◌≡◌, ◌+◌, ◌-◌, ◌^◌, ◌<◌, if◌then◌else◌, nat_lt, map, IfOk, OnOk, OnErr};
 ghost use Rattle.text_tables.specs.Pairs.{with_value};
 ghost use Rattle.text_tables.specs.Texts.{Text, same_text};
-ghost use Rattle.text_tallies.specs.Surplus.{surplus};
+ghost use Rattle.text_tallies.specs.Surplus.{ShownLine, line_of, surplus_by};
 ghost use Rattle.text_tallies.specs.Tallies.{left_of, Tallies};
 
 use std::alloc::{AllocError, Global};
 use text_tables::Table;
 
-/// The lines that a list has more often than another, in its order; of equal lines the last ones.
+/// The lines that a list has more often than another, in its order; of equal lines the last ones. Each line comes with what
+/// is shown for it, which is not compared.
 pub fn surplus<'a>(
     alloc: Global,
-    lines: &[&'a [u8]],
-    others: &[&'a [u8]],
-) -> Result<Vec<&'a [u8]>, AllocError>
-    ensures { IfOk result (λ more. map (λ l. l.now) more.items ≡ surplus (map (λ l. l.now) lines.now) (map (λ l. l.now) others.now)) }
+    lines: &[(&'a [u8], &'a [u8])],
+    others: &[(&'a [u8], &'a [u8])],
+) -> Result<Vec<(&'a [u8], &'a [u8])>, AllocError>
+    ensures { IfOk result (λ more. map {B = ShownLine} (λ l. (l.0.now, l.1.now)) more.items
+        ≡ surplus_by line_of (map (λ l. (l.0.now, l.1.now)) lines.now) (map (λ l. l.0.now) others.now)) }
 {
     let mut tally = tally_of(alloc, others)?;
     let mut more = Vec::new(alloc);
     for line in lines {
-        if !take_one(&mut tally, line)? {
+        let (text, _) = *line;
+        if !take_one(&mut tally, text)? {
             more.push(*line)?;
         }
     }
     Ok(more)
 }
 
-/// How often each line is in a list.
-fn tally_of<'a>(alloc: Global, lines: &[&'a [u8]]) -> Result<Table<'a, usize>, AllocError>
-    ensures { IfOk result (λ tally. Tallies tally (map (λ l. l.now) lines.now)) }
+/// How often each line is in a list, whatever is shown for it.
+fn tally_of<'a>(
+    alloc: Global,
+    lines: &[(&'a [u8], &'a [u8])],
+) -> Result<Table<'a, usize>, AllocError>
+    ensures { IfOk result (λ tally. Tallies tally (map (λ l. l.0.now) lines.now)) }
 {
     let mut tally = Table::new(alloc);
-    for line in lines {
-        count_one(&mut tally, line)?;
+    for (text, _) in lines {
+        count_one(&mut tally, text)?;
     }
     Ok(tally)
 }

@@ -15,7 +15,9 @@ returns c =
     let second = one_more _ _ _ _ _ first c.with_option.ensures c.in_ok-arg-2.ensures in
     let third = one_more _ _ _ _ _ second c.all_flag.ensures c.in_ok-arg-3.ensures in
     let fourth = one_more _ _ _ _ _ third c.format_option.ensures c.in_ok-arg-4.ensures in
-    let fifth = one_more _ _ _ _ _ fourth c.index_option.ensures c.in_ok-arg-5.ensures in
-    let sixth = one_more _ _ _ _ _ fifth c.udev_flag.ensures c.in_ok-arg-6.ensures in
-    let seventh = one_more _ _ _ _ _ sixth c.old_argument.ensures c.in_ok-arg-7.ensures in
-    IfOk-weaker c.arg-8.result _ _ (λ m h. one_more _ _ _ _ _ seventh c.new_argument.ensures h) c.arg-8.ensures
+    let fifth = one_more _ _ _ _ _ fourth c.sources_flag.ensures c.in_ok-arg-5.ensures in
+    let sixth = one_more _ _ _ _ _ fifth c.index_option.ensures c.in_ok-arg-6.ensures in
+    let seventh = one_more _ _ _ _ _ sixth c.udev_flag.ensures c.in_ok-arg-7.ensures in
+    let eighth = one_more _ _ _ _ _ seventh c.rules_flag.ensures c.in_ok-arg-8.ensures in
+    let ninth = one_more _ _ _ _ _ eighth c.old_argument.ensures c.in_ok-arg-9.ensures in
+    IfOk-weaker c.arg-10.result _ _ (λ m h. one_more _ _ _ _ _ ninth c.new_argument.ensures h) c.arg-10.ensures

@@ -6,7 +6,7 @@ pub returns : goal.returns
 returns c = record {
   verb_is = refl;
   root_is = refl;
-  files = c.in_ok-files_of.ensures;
+  files = refl;
   added_are = refl;
   input_name = c.input_name_of.ensures;
   index = c.value.ensures;
@@ -22,7 +22,7 @@ returns c = record {
   checks_links = c.is_given-7.ensures;
   format = search rules;
   color = search rules;
-  all = c.is_given_or_every-2.ensures;
+  all = c.asks_all_of.ensures;
   ignored = c.in_ok-ignored_codes.ensures;
   profile = c.profile_of.ensures;
   users = c.account_file.ensures;

@@ -11,4 +11,4 @@ returns-clause-tokens c =
       c.in_ok-begin_array.ensures.ok,
       c.in_ok-key.ensures.ok,
     )
-    (array_after c.args.writer.now.tokens c.args.key.now (map told (map (λ l. l.now) c.args.lines.now)))
+    (array_after c.args.writer.now.tokens c.args.key.now (map told (map (λ l. l.1.now) c.args.lines.now)))

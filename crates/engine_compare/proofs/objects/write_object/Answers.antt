@@ -20,5 +20,5 @@ returns-clause-tokens c =
     (four_after c.args.writer.now.tokens
     ((codes "event", told c.args.event.now.action) ∷ [])
     ((codes "path", told c.args.event.now.device.path) ∷ [])
-    ((codes "gone", array_of (map told (map (λ l. l.now) c.args.gone.now))) ∷ [])
-    ((codes "come", array_of (map told (map (λ l. l.now) c.args.come.now))) ∷ []))
+    ((codes "gone", array_of (map told (map (λ l. l.1.now) c.args.gone.now))) ∷ [])
+    ((codes "come", array_of (map told (map (λ l. l.1.now) c.args.come.now))) ∷ []))

@@ -13,8 +13,8 @@ returns-in-Ok g c =
     let tables : c.in-Ok.tables ≡ (
       is_json c.args.old_line.now.format,
       (
-        (old.rules, record { links = c.args.old_line.now.links.items; files = c.args.old_found.now; entries = old.entries }),
-        (new.rules, record { links = c.args.new_line.now.links.items; files = c.args.new_found.now; entries = new.entries }),
+        (c.args.old_line.now.sources, (old.rules, record { links = c.args.old_line.now.links.items; files = c.args.old_found.now; entries = old.entries })),
+        (c.args.old_line.now.sources, (new.rules, record { links = c.args.new_line.now.links.items; files = c.args.new_found.now; entries = new.entries })),
       ),
     ) = search rules in
     finds_both c.args.old_line.now _ _ c.in-Ok.tables _ _ _ _ messages tables c.find_after_messages.ensures.steps

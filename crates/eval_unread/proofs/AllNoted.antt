@@ -108,10 +108,6 @@ module _ (known : Known) where
           ∙ through
           ∙ append_assoc notes (rule_unread known r s) (rules_unread known (sought_after (apply known r s).1 r) rs (apply known r s).0)
 
-  -- all that was noted
-  pub all_noted : (rules : List Rule) (s t : Scene) (before after found : List Note) → before ≡ [] → (t, after) ≡ run_watched noting known None rules (s, before) → found ≡ after → found ≡ rules_unread known None rules s
-  all_noted rules s t before after found none is taken =
-      taken
-      ∙ ap (λ (at : Scene × List Note). at.1) is
-      ∙ ap (λ (left : List Note). (run_watched noting known None rules (s, left)).1) none
-      ∙ rules_are rules None s []
+  -- all that was noted, after what was there
+  pub all_noted : (rules : List Rule) (s t : Scene) (before after found : List Note) → (t, after) ≡ run_watched noting known None rules (s, before) → found ≡ after → found ≡ before ++ rules_unread known None rules s
+  all_noted rules s t before after found is taken = taken ∙ ap (λ (at : Scene × List Note). at.1) is ∙ rules_are rules None s before

@@ -2,6 +2,8 @@
 -- that the block does not have. Their substitutions are empty.
 use Rattle.std.specs.Prelude.{Bool, not, if◌then◌else◌, List, [], ◌∷◌, ◌++◌, Option, None}
 use Rattle.rule_templates.specs.declared.piece.Piece.{Piece}
+use Rattle.text_bytes.specs.declared.profile.Profile.{Profile}
+use Rattle.text_bytes.specs.declared.profile.Profile.TheVariants.{Manual, Udev}
 use Rattle.text_tables.specs.Texts.{Text}
 use Rattle.rule_types.specs.declared.roles.Target.{Target}
 use Rattle.rule_types.specs.declared.roles.Target.TheVariants as target
@@ -20,7 +22,9 @@ use Rattle.eval_assignments.specs.Names.{is_interface}
 use Rattle.eval_assignments.specs.Steps.{lacks_number, set_step}
 use Rattle.eval_rules.specs.Idle.{is_idle}
 use Rattle.eval_rules.specs.Jumps.{is_passed, sought_after}
+use Rattle.eval_rules.specs.Outcomes.{outcome}
 use Rattle.eval_rules.specs.Steps.{Went, apply, before_sets}
+use Rattle.eval_rules.specs.declared.outcome.Outcome.{Outcome}
 
 -- whether udev renders a text that is assigned to a key: a name only if the device is an interface, one for the node, its links
 -- or its labels only if it has a number
@@ -60,6 +64,19 @@ rules_unread known sought (r ∷ rs) s =
     if is_passed sought r then rules_unread known sought rs s
     else rule_unread known r s ++ rules_unread known (sought_after (apply known r s).1 r) rs (apply known r s).0
 
--- the notes of the assignments of all rules at an event
+-- the notes of the assignments of all rules at an event: by the manual there are none, as it knows no names of other devices
+abbrev pub unread_by : Profile → List Rule → Known → EventValue → List Note
+unread_by Manual rules known event = []
+unread_by Udev rules known event = rules_unread known None rules (start event)
+
+-- the notes of the assignments of all rules at an event, by its profile
 abbrev pub unread : List Rule → Known → EventValue → List Note
-unread rules known event = rules_unread known None rules (start event)
+unread rules known event = unread_by event.profile rules known event
+
+-- an outcome with more notes after its own
+abbrev pub with_notes : List Note → Outcome → Outcome
+with_notes more o = record o { notes = o.notes ++ more }
+
+-- the whole outcome of an event, as its answer tells it: the notes of the assignments of all rules come after its own
+abbrev pub whole_outcome : List Rule → Known → EventValue → Outcome
+whole_outcome rules known event = with_notes (unread rules known event) (outcome rules known event)

@@ -1,6 +1,7 @@
 //! What assignments of all rules ask for and is not read.
-ghost use Rattle.std.specs.Prelude.{◌≡◌, IfOk};
-ghost use Rattle.eval_unread.specs.Unread.{unread};
+ghost use Rattle.std.specs.Prelude.{◌≡◌, ◌++◌, IfOk, None};
+ghost use Rattle.eval_state.specs.Scenes.{start};
+ghost use Rattle.eval_unread.specs.Unread.{rules_unread};
 
 use crate::sets::set_each;
 use builtin_knowledge::Knowledge;
@@ -12,7 +13,7 @@ use rule_types::{Act, Rule};
 use std::alloc::{AllocError, Global};
 use std::marker::Model;
 
-/// The notes that assignments left while it watched them.
+/// The notes that were there, and those that assignments left while it watched them.
 #[derive(Drop)]
 struct Noted {
     notes: Notes,
@@ -64,19 +65,17 @@ impl<'a> Watch<'a> for Noted {
     }
 }
 
-/// The notes on attributes that the texts of assignments ask for, that udev (systemd 257) would read and that a dry run does not:
-/// those of devices that the block does not have, of each assignment that is made the first. Their substitutions are empty. By
-/// the manual there are none.
-pub fn unread<'a, K: Knowledge>(
+/// Notes, and after them those of the assignments of rules at an event.
+pub(crate) fn noted_after<'a, K: Knowledge>(
     alloc: Global,
     rules: &'a [Rule],
     event: &'a Event<'_>,
     knowledge: &K,
+    notes: Notes,
 ) -> Result<Notes, AllocError>
-    ensures { IfOk result (λ notes. notes ≡ unread rules.now (K.known knowledge.now) event.now) }
+    ensures { IfOk result (λ all. all ≡ notes ++ rules_unread (K.known knowledge.now) None rules.now (start event.now)) }
 {
     let mut scene = Scene::new(alloc, event)?;
-    let notes = Notes::new(alloc);
     let mut noted = Noted { notes };
     let went = run_watched(alloc, rules, knowledge, &mut noted, &mut scene);
     drop(scene);

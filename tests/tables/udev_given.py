@@ -172,8 +172,8 @@ WHY = [
 SOURCED = [
     Row("a note on an attribute of another device beside sources", "events --udev -r none --sources r.rules", {"r.rules": 'TAG+="t$attr{[d/i]m}"\n'}, "C: add\nP: /d\n",
         "event add /d\nr.rules:1: tag t\n-: env ACTION=add\n-: env DEVPATH=/d\nnote r.rules:1: attribute not read: [d/i]m\n\n"),
-    *(in_json(f"a note on an attribute of another device, as JSON{' with sources' * sourced}", ['TAG+="t$attr{[d/i]m}"', 'CONST{virt}!="kvm"'],
-              ([], {"tags": [{"value": "t", "file": "r.rules", "line": 1} if sourced else "t"],
+    *(in_json(f"a note on an attribute of another device, as JSON{' with sources' * sourced}", ['TAG+="t$attr{[d/i]m}"', 'CONST{virt}!="kvm", TAG+="v"'],
+              ([], {"tags": [{"value": tag, "file": "r.rules", "line": number} if sourced else tag for tag, number in (("t", 1), ("v", 2))],
                     "notes": [{"file": "r.rules", "line": 2, "text": "constant not given", "word": "virt"},
                               {"file": "r.rules", "line": 1, "text": "attribute not read", "word": "[d/i]m"}]}),
               words=["--udev", *["--sources"] * sourced], sourced=sourced) for sourced in (False, True)),

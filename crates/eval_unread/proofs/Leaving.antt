@@ -1,5 +1,5 @@
 -- Which assignment leaves a note: first in a text, then in a rule, then in all rules.
-use Rattle.std.proofs.Common.{◌≡◌, ◌×◌, ◌⊎◌, inl, inr, Bool, true, false, cond, ◌&&◌, is_none, List, [], ◌∷◌, ◌++◌, Option, Some, None, fold, refl, ap, subst, sym, ◌∙◌}
+use Rattle.std.proofs.Common.{◌≡◌, ◌⊎◌, inl, inr, Bool, true, false, cond, ◌&&◌, is_none, List, [], ◌∷◌, ◌++◌, Option, Some, None, fold, refl, ap, subst, sym, ◌∙◌}
 use Rattle.std.specs.List.{list_all}
 use Rattle.std.specs.Option.{option_or}
 use Rattle.text_tables.specs.Texts.{Text}
@@ -96,7 +96,7 @@ module _ (note : Note) (r : Rule) where
   -- the only note on an attribute that is not read
   only_note : (o : Option Text) → IsAmong note (unread_notes r o) → (name : Text) × (o ≡ Some name) × (note ≡ note_about r AttributeNotRead name)
   only_note None h = absurd (among_none note h)
-  only_note (Some name) h = (name, (refl, among_one note (note_about r AttributeNotRead name) h))
+  only_note (Some name) h = (name, refl, among_one note (note_about r AttributeNotRead name) h)
 
   note_is_only : (o : Option Text) (name : Text) → o ≡ Some name → note ≡ note_about r AttributeNotRead name → IsAmong note (unread_notes r o)
   note_is_only o name e is =
@@ -120,7 +120,7 @@ module _ (note : Note) (r : Rule) where
           → (IsAmong note (unread_from r sets (set_step r s a)) → SetLeaves sets (set_step r s a)) → SetLeaves (a ∷ sets) s
       by (inl own) later =
           let found = only_note (unread_of s a) own in
-          record { before = []; assignment = a; after = sets; are = refl; name = found.0; asks = asks_here s a found.0 found.1.0; is = found.1.1 }
+          record { before = []; assignment = a; after = sets; are = refl; name = found.0; asks = asks_here s a found.0 found.1; is = found.2 }
       by (inr more) later =
           let rest = later more in
           record {
@@ -149,7 +149,7 @@ module _ (note : Note) (r : Rule) where
         Left = (is_idle r s.state.event ≡ false) × ((before_sets known r s).1 ≡ true) × SetLeaves r.sets (before_sets known r s).0
 
         after : is_idle r s.state.event ≡ false → (b : Bool) → (before_sets known r s).1 ≡ b → IsAmong note (cond b (unread_from r r.sets (before_sets known r s).0) []) → Left
-        after e true f h = (e, (f, sets_left r.sets (before_sets known r s).0 h))
+        after e true f h = (e, f, sets_left r.sets (before_sets known r s).0 h)
         after e false f h = absurd (among_none note h)
 
         by : (b : Bool) → is_idle r s.state.event ≡ b → IsAmong note (cond b [] (unread_after r (before_sets known r s))) → Left
@@ -198,7 +198,7 @@ module _ (note : Note) (known : Known) where
   unfolding sought_past run
   own_leaves r rs sought s entered h =
       let own = rule_left note r known s h in
-      let one = own.1.1 in
+      let one = own.2 in
       record {
         rule = r;
         assignment = one.assignment;
@@ -209,7 +209,7 @@ module _ (note : Note) (known : Known) where
           are = refl;
           entered = entered;
           counts = own.0;
-          goes_on = own.1.0;
+          goes_on = own.1;
           before = one.before;
           after = one.after;
           sets_are = one.are;

@@ -3,4 +3,4 @@ pub mod More
 pub mod Unasked
 pub mod Among
 pub mod Leaving
-pub mod Kinds
+pub mod NeedsNumber

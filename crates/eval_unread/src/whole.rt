@@ -46,7 +46,6 @@ fn with_noted<'o, K: Knowledge>(
 ///
 /// `asks` says whether the rules ask for attributes of other devices at all, as `ask_others` has it: if not, they are not
 /// evaluated again. If memory runs out, the outcome is dropped.
-#[tactic(auto, using(crate::proofs::Unasked::none_unread))]
 pub fn with_unread<'o, K: Knowledge>(
     alloc: Global,
     asks: bool,

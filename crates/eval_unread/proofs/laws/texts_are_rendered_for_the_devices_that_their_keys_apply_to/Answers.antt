@@ -1,7 +1,7 @@
 use Rattle.std.proofs.Common.{refl}
 use Rattle.rule_types.specs.declared.roles.Target.TheVariants as target
 use Rattle.eval_assignments.specs.Steps.{lacks_number}
-use Rattle.eval_unread.proofs.Kinds.{needs_none, needs_number}
+use Rattle.eval_unread.proofs.NeedsNumber.{needs_none, needs_number}
 use Rattle.eval_unread.proofs.laws.texts_are_rendered_for_the_devices_that_their_keys_apply_to.Goals as goal
 
 pub returns : goal.returns

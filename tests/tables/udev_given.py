@@ -1,8 +1,9 @@
 """`events --udev`: what a block gives beside the devices: constants, the kernel's command line, attributes of devices that are not
 in it, and answers of builtins. udevadm 257 was asked about CASES; what is in NOTED udevadm can't be asked about, or leaves in notes.
 """
+from tables.kinds.json_answers import in_json
 from tables.kinds.row import Row
-from tables.kinds.udev_blocks import DISK, THING, answer_lines
+from tables.kinds.udev_blocks import DISK, NET, THING, answer_lines
 from tables.kinds.udev_events import answered_as_udev
 from tables.kinds.why import of, why
 from tables.questions import asks
@@ -99,6 +100,34 @@ NOTED = [
 ]
 
 
+# What the text of an assignment asks for and the block does not have: the note comes after all others.
+UNREAD = [
+    ('an attribute of another device in a property', 'ENV{A}="$attr{[dmi/id]modalias}|"\nENV{B}="%s{[net/lo]mtu}|$attr{serial}|"\n', DISK,
+     ['env A=|', 'env B=||', 'note r.rules:1: attribute not read: [dmi/id]modalias', 'note r.rules:2: attribute not read: [net/lo]mtu']),
+    ('the first of an assignment', 'ENV{A}="$attr{model}$attr{[usb/usb1]none}$attr{../x}$attr{[dmi/id]y}"\n', DISK,
+     ['env A=Disk', 'note r.rules:1: attribute not read: ../x']),
+    ('one of each assignment of a rule, by kind, those of one kind as they are written',
+     'RUN+="/bin/a $attr{../r}", ENV{B}="$attr{[d/i]b}|", SYMLINK+="l$attr{[d/i]l}", ENV{A}="$attr{[d/i]a}|", TAG+="t$attr{[d/i]t}", ATTR{model}="$attr{./../u}"\n', DISK,
+     ['link l', 'tag t', 'env A=|', 'env B=|', 'attr model=', 'run program /bin/a ', 'note r.rules:1: attribute not read: [d/i]t', 'note r.rules:1: attribute not read: [d/i]b',
+      'note r.rules:1: attribute not read: [d/i]a', 'note r.rules:1: attribute not read: [d/i]l', 'note r.rules:1: attribute not read: ./../u',
+      'note r.rules:1: attribute not read: ../r']),
+    ('a rule that does not reach its assignments', 'KERNEL=="none", ENV{A}="$attr{[dmi/id]x}"\nGOTO="e"\nENV{B}="$attr{[dmi/id]y}"\nLABEL="e", ENV{C}="$attr{[dmi/id]z}|"\n', DISK,
+     ['env C=|', 'note r.rules:4: attribute not read: [dmi/id]z']),
+    ('a key that is final', 'RUN:="/bin/a $attr{[dmi/id]x}"\nRUN+="/bin/b $attr{[dmi/id]y}"\n', DISK,
+     ['run program /bin/a ', 'note r.rules:1: attribute not read: [dmi/id]x']),
+    ('a device without a number has no text for its node', 'OWNER="$attr{[dmi/id]o}"\nSYMLINK+="$attr{[dmi/id]l}"\nSECLABEL{m}="$attr{[dmi/id]s}", ENV{A}="$attr{[dmi/id]e}|"\n', THING,
+     ['env A=|', 'note r.rules:1: no device number: OWNER', 'note r.rules:2: no device number: SYMLINK', 'note r.rules:3: no device number: SECLABEL{m}',
+      'note r.rules:3: attribute not read: [dmi/id]e']),
+    ('a device that is no interface has no text for its name', 'NAME="n$attr{[dmi/id]n}", ENV{A}="1"\n', DISK, ['env A=1', 'note r.rules:1: name ignored: n']),
+    ('a name of an interface', 'NAME="n$attr{[dmi/id]n}"\n', NET, ['name n', 'note r.rules:1: attribute not read: [dmi/id]n']),
+    ('after the notes of other rules', 'ENV{A}="$attr{[dmi/id]x}|"\nCONST{virt}!="kvm", ENV{B}="1"\n', THING,
+     ['env A=|', 'env B=1', 'note r.rules:2: constant not given: virt', 'note r.rules:1: attribute not read: [dmi/id]x']),
+    ('what the block has, gives or denies', 'ENV{A}="$attr{[usb/usb1]none}|$attr{[dmi/id]modalias}|$attr{../../none}|$attr{./none}|$attr{[usb]x}|$attr{[dmi/id]}|"\n', ELSEWHERE,
+     ['env A=|dmi:x y/z|||||']),
+    ('a name is shown in 32 bytes', 'ENV{A}="$attr{[dmi/id]' + "x" * 40 + '}|"\n', DISK, ['env A=|', 'note r.rules:1: attribute not read: [dmi/id]' + "x" * 24]),
+]
+
+
 def by_the_manual(name, rules, block, *lines):
     """The same rules and block without --udev."""
     return Row(name, "events -r none r.rules", {"r.rules": rules}, block, b"".join(line + b"\n" for line in answer_lines(block, list(lines))) + b"\n")
@@ -108,6 +137,7 @@ MANUAL = [
     by_the_manual("by the manual a constant that is not given leaves no note", 'CONST{virt}!="kvm", ENV{A}="1"\n', THING, 'env A=1'),
     by_the_manual("by the manual no attribute in a command is of another device", 'IMPORT{builtin}!="hwdb x$attr{[dmi/id]y}", ENV{A}="1"\n', THING,
                   'env A=1'),
+    by_the_manual("by the manual a text asks for no attribute of another device", 'ENV{A}="$attr{[dmi/id]y}|$attr{../serial}|"\n', THING, 'env A=||'),
     by_the_manual("by the manual the name of an attribute is no path", 'ATTR{../serial}!="7", ENV{A}="$attr{../serial}|$attr{subsystem}|"\n', THING, 'env A=||'),
     by_the_manual("by the manual no command line is looked at", 'IMPORT{cmdline}!="nomodeset", ENV{A}="1"\n', asked_line("nomodeset"), 'env A=1',
                   'note r.rules:1: import not run: cmdline'),
@@ -135,6 +165,18 @@ WHY = [
         udev=True),
     why("IMPORT{cmdline} without a command line", ['IMPORT{cmdline}!="a"'], [], ["note r.rules:1: import not run: cmdline"],
         of(1, 'IMPORT{cmdline}!="a": holds, not run', "reached its end"), udev=True),
+    why("the text of an assignment asks for an attribute of another device", ['TAG+="t$attr{[d/i]m}"'], [], ["tag t", "note r.rules:1: attribute not read: [d/i]m"],
+        of(1, "reached its end: tag t added"), udev=True),
 ]
 
-ROWS = answered_as_udev(CASES) + answered_as_udev(NOTED) + MANUAL + QUESTIONS + WHY
+SOURCED = [
+    Row("a note on an attribute of another device beside sources", "events --udev -r none --sources r.rules", {"r.rules": 'TAG+="t$attr{[d/i]m}"\n'}, "C: add\nP: /d\n",
+        "event add /d\nr.rules:1: tag t\n-: env ACTION=add\n-: env DEVPATH=/d\nnote r.rules:1: attribute not read: [d/i]m\n\n"),
+    *(in_json(f"a note on an attribute of another device, as JSON{' with sources' * sourced}", ['TAG+="t$attr{[d/i]m}"', 'CONST{virt}!="kvm", TAG+="v"'],
+              ([], {"tags": [{"value": tag, "file": "r.rules", "line": number} if sourced else tag for tag, number in (("t", 1), ("v", 2))],
+                    "notes": [{"file": "r.rules", "line": 2, "text": "constant not given", "word": "virt"},
+                              {"file": "r.rules", "line": 1, "text": "attribute not read", "word": "[d/i]m"}]}),
+              words=["--udev", *["--sources"] * sourced], sourced=sourced) for sourced in (False, True)),
+]
+
+ROWS = answered_as_udev(CASES) + answered_as_udev(NOTED) + answered_as_udev(UNREAD) + MANUAL + QUESTIONS + WHY + SOURCED

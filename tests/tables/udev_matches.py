@@ -82,7 +82,7 @@ CASES = [
       'ATTR{../../none}!="x", ENV{C}="1"\n' +
       'ATTR{./none}!="x", ENV{D}="1"\n'),
      DISK,
-     ['env A=7|Disk|7|||', 'env B=1']),
+     ['env A=7|Disk|7|||', 'env B=1', 'note r.rules:1: attribute not read: ../serial']),
     ('a path to what the block does not have',
      ('ATTR{../serial}!="7", ENV{A}="1"\n' +
       'ATTR{../../../../x}!="7", ENV{B}="1"\n' +
@@ -117,7 +117,7 @@ CASES = [
     ('$attr of a device of the chain',
      'ENV{H}="$attr{[usb/usb1]serial}|$attr{[usb/usb1]none}|$attr{[usb/none]serial}|$attr{[usb]x}|"\n',
      DISK,
-     ['env H=7||||']),
+     ['env H=7||||', 'note r.rules:1: attribute not read: [usb/none]serial']),
     ('the name of an attribute is rendered',
      ('ATTR{$kernel}=="x", ENV{A}="1"\n' +
       'ATTR{x%ny}=="1", ENV{B}="1"\n' +

@@ -6,11 +6,11 @@ use Rattle.text_tables.specs.Pairs.{Pair}
 use Rattle.builtin_knowledge.specs.Knowledge.{Known}
 use Rattle.rule_types.specs.Rules.{Rule}
 use Rattle.device_core.specs.Values.{EventValue}
-use Rattle.eval_rules.specs.Outcomes.{outcome}
 use Rattle.eval_rules.specs.declared.outcome.Command.{Command}
 use Rattle.eval_rules.specs.declared.outcome.Outcome.{Outcome}
 use Rattle.eval_sources.specs.Sources.{Source, source_of}
 use Rattle.eval_sources.specs.Reported.{event_commands, stages}
+use Rattle.eval_unread.specs.Unread.{whole_outcome}
 use Rattle.engine_ends.specs.Places.{place_of}
 use Rattle.engine_answers.specs.Lines.{block_note_lines, note_lines, run_line}
 use Rattle.engine_ends.specs.EventLine.{event_line}
@@ -37,9 +37,9 @@ answer_lines event outcome = lines_with (λ item. []) (flat_map run_line outcome
 abbrev pub answer : EventValue → Outcome → Text
 answer event outcome = answer_lines event outcome ++ newline ∷ []
 
--- the answer to an event by rules and what is known: its outcome, as lines
+-- the answer to an event by rules and what is known: its whole outcome, as lines
 abbrev pub answer_by : List Rule → Known → EventValue → Text
-answer_by rules known event = answer event (outcome rules known event)
+answer_by rules known event = answer event (whole_outcome rules known event)
 
 -- the lines of commands, each beside the rule that added it
 abbrev pub command_lines : List (Command × Rule) → List (Source × Text)
@@ -50,7 +50,7 @@ command_lines commands = map (λ c. (Some c.1, run_line c.0)) commands
 abbrev pub lines_by : (Source → Text) → List Rule → Known → EventValue → Text
 lines_by part rules known event =
     lines_with (λ item. part (source_of (stages rules known event) item)) (lines_after part (command_lines (event_commands rules known event)))
-    event (outcome rules known event)
+    event (whole_outcome rules known event)
 
 -- where a line comes from, `FILE:LINE: `, or `-: ` if it comes from no rule
 abbrev pub source_part : Source → Text

@@ -3,6 +3,7 @@ ghost use Rattle.std.specs.Prelude.{◌≡◌, ◌++◌, flat_map, None, IfOk, O
 ghost use Rattle.engine_answers.specs.Answers.{answer, answer_lines, command_lines, lines_after, lines_with, source_part, sourced_lines};
 ghost use Rattle.engine_answers.specs.Lines.{block_note_line, block_note_lines, note_lines, run_line};
 ghost use Rattle.eval_sources.specs.Sources.{source_in};
+ghost use Rattle.eval_unread.specs.Others.{ask_others};
 
 use crate::front::{Nothing, push_source};
 use crate::items::push_items;
@@ -12,8 +13,9 @@ use device_core::Event;
 use device_notes::{BlockNote, block_notes};
 use engine_ends::push_event;
 use eval_rules::{Commands, Outcome};
-use eval_sources::{Sourced, SourcedCommand, evaluate_sources};
+use eval_sources::{Sourced, SourcedCommand};
 use eval_state::Notes;
+use eval_unread::evaluate_whole_sources;
 use rule_types::Rule;
 use std::alloc::{AllocError, Global};
 use text_bytes::Bytes;
@@ -55,28 +57,33 @@ pub fn answer(alloc: Global, event: &Event<'_>, outcome: &Outcome<'_>) -> Result
 
 /// The lines of the answer to an event by the rules as they are read, each after the place of the rule that it comes
 /// from: `FILE:LINE: `, or `-: ` if what it is about is in the block or is set when the event starts. The first line
-/// and those of notes stay as they are.
+/// and those of notes stay as they are. `asks` says whether the rules ask for attributes of other devices, as
+/// `eval_unread::ask_others` has it.
 pub fn sourced_lines<K: Knowledge>(
     alloc: Global,
+    asks: bool,
     rules: &[Rule],
     event: &Event<'_>,
     knowledge: &K,
 ) -> Result<Vec<u8>, AllocError>
+    requires { asks ≡ ask_others rules.now }
     ensures { IfOk result (λ lines. lines.items ≡ sourced_lines rules.now (K.known knowledge.now) event.now) }
 {
-    lines_for(alloc, rules, event, knowledge)
+    lines_for(alloc, asks, rules, event, knowledge)
 }
 
 /// The same; rules and event are borrowed for the same lifetime.
 fn lines_for<'a, K: Knowledge>(
     alloc: Global,
+    asks: bool,
     rules: &'a [Rule],
     event: &'a Event<'_>,
     knowledge: &K,
 ) -> Result<Vec<u8>, AllocError>
+    requires { asks ≡ ask_others rules.now }
     ensures { IfOk result (λ lines. lines.items ≡ sourced_lines rules.now (K.known knowledge.now) event.now) }
 {
-    let found = evaluate_sources(alloc, rules, event, knowledge)?;
+    let found = evaluate_whole_sources(alloc, asks, rules, event, knowledge)?;
     let said = lines_of(alloc, event, &found);
     drop(found);
     said

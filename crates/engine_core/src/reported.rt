@@ -3,6 +3,7 @@
 ghost use Rattle.std.specs.Prelude.{◌≡◌, ◌++◌, ◌∷◌, [], IfOk, map};
 ghost use Rattle.text_bytes.specs.Names.{newline};
 ghost use Rattle.engine_courses.specs.WhyLines.{why_lines};
+ghost use Rattle.eval_unread.specs.Others.{ask_others};
 ghost use Rattle.engine_json.specs.Answers.{json_answer};
 ghost use Rattle.engine_core.specs.Reported.{lines_reported, reported_by};
 
@@ -12,7 +13,7 @@ use engine_answers::{answer_lines, sourced_lines};
 use engine_courses::push_why_lines;
 use engine_json::json_answer;
 use engine_sessions::Answering;
-use eval_rules::evaluate_plain;
+use eval_unread::{ask_others, evaluate_whole};
 use rule_core::ReadRules;
 use rule_types::{Rule, RuleSet};
 use std::alloc::{AllocError, Global};
@@ -20,18 +21,20 @@ use std::marker::Model;
 use text_bytes::Bytes;
 
 /// Rules and what is known beyond an event, by which events are answered, and what is reported in addition: the rule that each line
-/// comes from, and what rules met.
+/// comes from, and what rules met. Whether the rules ask for attributes of other devices is looked for once, and not at each event.
 #[derive(Drop)]
 pub struct ReportedTables<'b, 'a, K: Knowledge> {
     json: bool,
     sources: bool,
+    asks: bool,
     why: &'b [&'a str],
     rules: ReadRules,
     knowledge: K,
 }
 
 impl<'b, 'a, K: Knowledge> Model for ReportedTables<'b, 'a, K> {
-    ghost use Rattle.std.specs.Prelude.{map};
+    ghost use Rattle.std.specs.Prelude.{◌≡◌, map};
+    ghost use Rattle.eval_unread.specs.Others.{ask_others};
     ghost use Rattle.engine_core.specs.Reported.{ReportedValue};
 
     ghost Value = { ReportedValue × K };
@@ -46,6 +49,8 @@ impl<'b, 'a, K: Knowledge> Model for ReportedTables<'b, 'a, K> {
       },
       t.knowledge,
     ) };
+
+    ghost invariant = { λ t. t.asks ≡ ask_others t.rules.rules };
 }
 
 impl<'b, 'a, K: Knowledge + Drop> ReportedTables<'b, 'a, K> {
@@ -69,9 +74,11 @@ impl<'b, 'a, K: Knowledge + Drop> ReportedTables<'b, 'a, K> {
           knowledge,
         ) }
     {
+        let asks = ask_others(rules.rules().rules());
         ReportedTables {
             json,
             sources,
+            asks,
             why,
             rules,
             knowledge,
@@ -97,16 +104,18 @@ impl<'b, 'a, K: Knowledge + Drop> ReportedTables<'b, 'a, K> {
 fn lines_reported<K: Knowledge>(
     alloc: Global,
     sources: bool,
+    asks: bool,
     rules: &RuleSet,
     knowledge: &K,
     event: &Event<'_>,
 ) -> Result<Vec<u8>, AllocError>
+    requires { asks ≡ ask_others rules.now }
     ensures { IfOk result (λ lines. lines.items ≡ lines_reported sources rules.now (K.known knowledge.now) event.now) }
 {
     if sources {
-        return sourced_lines(alloc, rules.rules(), event, knowledge);
+        return sourced_lines(alloc, asks, rules.rules(), event, knowledge);
     }
-    let outcome = evaluate_plain(alloc, rules, event, knowledge)?;
+    let outcome = evaluate_whole(alloc, asks, rules, event, knowledge)?;
     let said = answer_lines(alloc, event, &outcome);
     drop(outcome);
     said
@@ -116,15 +125,17 @@ fn lines_reported<K: Knowledge>(
 fn answer_in_lines<K: Knowledge>(
     alloc: Global,
     sources: bool,
+    asks: bool,
     why: &[&str],
     rules: &ReadRules,
     knowledge: &K,
     event: &Event<'_>,
 ) -> Result<Bytes, AllocError>
+    requires { asks ≡ ask_others rules.now.rules }
     ensures { IfOk result (λ text. text ≡ lines_reported sources rules.now.rules (K.known knowledge.now) event.now
         ++ why_lines (map (λ w. w.now) why.now) rules.now.messages rules.now.rules (K.known knowledge.now) event.now ++ newline ∷ []) }
 {
-    let mut lines = lines_reported(alloc, sources, rules.rules(), knowledge, event)?;
+    let mut lines = lines_reported(alloc, sources, asks, rules.rules(), knowledge, event)?;
     push_why_lines(alloc, &mut lines, why, rules, event, knowledge)?;
     lines.push(b'\n')?;
     Ok(Bytes::new(lines))
@@ -134,18 +145,20 @@ fn answer_in_lines<K: Knowledge>(
 fn answer_in_json<K: Knowledge>(
     alloc: Global,
     sources: bool,
+    asks: bool,
     why: &[&str],
     rules: &ReadRules,
     knowledge: &K,
     event: &Event<'_>,
 ) -> Result<Bytes, AllocError>
+    requires { asks ≡ ask_others rules.now.rules }
     ensures { IfOk result (λ text. text ≡ json_answer sources
         (why_lines (map (λ w. w.now) why.now) rules.now.messages rules.now.rules (K.known knowledge.now) event.now)
         rules.now.rules (K.known knowledge.now) event.now) }
 {
     let mut met = Vec::new(alloc);
     push_why_lines(alloc, &mut met, why, rules, event, knowledge)?;
-    json_answer(alloc, sources, &met, rules.rules(), event, knowledge)
+    json_answer(alloc, sources, asks, &met, rules.rules(), event, knowledge)
 }
 
 /// The answer to an event, with what is asked for in addition.
@@ -153,11 +166,13 @@ fn reported_by<K: Knowledge>(
     alloc: Global,
     json: bool,
     sources: bool,
+    asks: bool,
     why: &[&str],
     rules: &ReadRules,
     knowledge: &K,
     event: &Event<'_>,
 ) -> Result<Bytes, AllocError>
+    requires { asks ≡ ask_others rules.now.rules }
     ensures { IfOk result (λ text. text ≡ reported_by (record {
       json = json;
       sources = sources;
@@ -167,9 +182,9 @@ fn reported_by<K: Knowledge>(
     }) (K.known knowledge.now) event.now) }
 {
     if json {
-        answer_in_json(alloc, sources, why, rules, knowledge, event)
+        answer_in_json(alloc, sources, asks, why, rules, knowledge, event)
     } else {
-        answer_in_lines(alloc, sources, why, rules, knowledge, event)
+        answer_in_lines(alloc, sources, asks, why, rules, knowledge, event)
     }
 }
 
@@ -183,6 +198,7 @@ impl<'b, 'a, K: Knowledge> Answering for ReportedTables<'b, 'a, K> {
             alloc,
             self.json,
             self.sources,
+            self.asks,
             self.why,
             &self.rules,
             &self.knowledge,

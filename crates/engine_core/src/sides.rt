@@ -4,7 +4,7 @@ ghost use Rattle.engine_core.specs.Comparing.{compared_answer};
 
 use builtin_knowledge::Knowledge;
 use device_core::Event;
-use engine_answers::{Tables, sourced_lines};
+use engine_answers::Tables;
 use engine_compare::Side;
 use engine_sessions::Answering;
 use rule_types::RuleSet;
@@ -59,8 +59,7 @@ impl<K: Knowledge> Side for ComparedTables<K> {
         if !self.sources {
             return Ok(None);
         }
-        let tables = &self.tables;
-        let lines = sourced_lines(alloc, tables.rules(), event, tables.knowledge())?;
+        let lines = self.tables.sourced_lines(alloc, event)?;
         Ok(Some(Bytes::new(lines)))
     }
 }

@@ -7,10 +7,10 @@ use Rattle.text_json.specs.Values.{array_of, object_of, value_line}
 use Rattle.builtin_knowledge.specs.Knowledge.{Known}
 use Rattle.rule_types.specs.Rules.{Rule}
 use Rattle.device_core.specs.Values.{EventValue}
-use Rattle.eval_rules.specs.Outcomes.{outcome}
 use Rattle.eval_rules.specs.declared.outcome.Outcome.{Outcome}
 use Rattle.eval_sources.specs.Sources.{source_of}
 use Rattle.eval_sources.specs.Reported.{event_commands, stages}
+use Rattle.eval_unread.specs.Unread.{whole_outcome}
 use Rattle.engine_json.specs.Members.{Member, Shape, item_members, note_values, run_value, sourced, sourced_runs, why_values}
 
 -- the members of an answer, by how its items are written, its commands and the lines of `--why`
@@ -30,9 +30,9 @@ plain_object why event outcome = object_of (answer_members (λ item value. value
 abbrev pub sourced_object : Text → List Rule → Known → EventValue → Json
 sourced_object why rules known event =
     object_of (answer_members (λ item value. sourced (source_of (stages rules known event) item) value)
-    (sourced_runs (event_commands rules known event)) why event (outcome rules known event))
+    (sourced_runs (event_commands rules known event)) why event (whole_outcome rules known event))
 
 -- the same with sources or without, as a line
 abbrev pub json_answer : Bool → Text → List Rule → Known → EventValue → Text
 json_answer sources why rules known event =
-    value_line (if sources then sourced_object why rules known event else plain_object why event (outcome rules known event))
+    value_line (if sources then sourced_object why rules known event else plain_object why event (whole_outcome rules known event))

@@ -4,8 +4,9 @@ ghost use Rattle.json.specs.Tree.{json_tokens};
 ghost use Rattle.text_json.specs.Listed.{member_tokens};
 ghost use Rattle.text_json.specs.Told.{told};
 ghost use Rattle.text_json.specs.Values.{array_of, object_of, value_line};
-ghost use Rattle.eval_rules.specs.Outcomes.{outcome};
 ghost use Rattle.eval_sources.specs.Sources.{source_in};
+ghost use Rattle.eval_unread.specs.Others.{ask_others};
+ghost use Rattle.eval_unread.specs.Unread.{whole_outcome};
 ghost use Rattle.engine_json.specs.Answers.{answer_members, json_answer, plain_object, sourced_object};
 ghost use Rattle.engine_json.specs.Members.{item_members, note_values, run_value, sourced, sourced_runs, why_values};
 
@@ -14,9 +15,10 @@ use crate::shape::{AsIs, Shape};
 use crate::values::{write_notes, write_runs, write_sourced_runs, write_why};
 use builtin_knowledge::Knowledge;
 use device_core::Event;
-use eval_rules::{Commands, Outcome, evaluate_plain};
-use eval_sources::{Sourced, SourcedCommand, evaluate_sources};
+use eval_rules::{Commands, Outcome};
+use eval_sources::{Sourced, SourcedCommand};
 use eval_state::Notes;
+use eval_unread::{evaluate_whole, evaluate_whole_sources};
 use json::Writer;
 use rule_types::RuleSet;
 use std::alloc::{AllocError, Global};
@@ -179,14 +181,16 @@ fn sourced_line(
 /// The line of an event by the rules as they are read, each value with where it comes from.
 fn sourced_answer<'a, K: Knowledge>(
     alloc: Global,
+    asks: bool,
     why: &[u8],
     rules: &'a RuleSet,
     event: &'a Event<'_>,
     knowledge: &K,
 ) -> Result<Vec<u8>, AllocError>
+    requires { asks ≡ ask_others rules.now }
     ensures { IfOk result (λ text. text.items ≡ value_line (sourced_object why.now rules.now (K.known knowledge.now) event.now)) }
 {
-    let found = evaluate_sources(alloc, rules.rules(), event, knowledge)?;
+    let found = evaluate_whole_sources(alloc, asks, rules.rules(), event, knowledge)?;
     let said = sourced_line(alloc, why, event, &found);
     drop(found);
     said
@@ -195,14 +199,16 @@ fn sourced_answer<'a, K: Knowledge>(
 /// The line of an event by the rules as they are read.
 fn plain_answer<K: Knowledge>(
     alloc: Global,
+    asks: bool,
     why: &[u8],
     rules: &RuleSet,
     event: &Event<'_>,
     knowledge: &K,
 ) -> Result<Vec<u8>, AllocError>
-    ensures { IfOk result (λ text. text.items ≡ value_line (plain_object why.now event.now (outcome rules.now (K.known knowledge.now) event.now))) }
+    requires { asks ≡ ask_others rules.now }
+    ensures { IfOk result (λ text. text.items ≡ value_line (plain_object why.now event.now (whole_outcome rules.now (K.known knowledge.now) event.now))) }
 {
-    let outcome = evaluate_plain(alloc, rules, event, knowledge)?;
+    let outcome = evaluate_whole(alloc, asks, rules, event, knowledge)?;
     let said = plain_line(alloc, why, event, &outcome);
     drop(outcome);
     said
@@ -212,22 +218,25 @@ fn plain_answer<K: Knowledge>(
 /// `name`, `owner`, `group`, `mode`, `priority`, `watch`, `persist`, `labels`, `links`, `tags`, `env`, `attr`, `sysctl`,
 /// `run`, `notes` and `why`, in this order; up to `persist` only those that were assigned, and the others always. `why` are
 /// the lines of `--why`. With `sources` each value of an item and each command is the member `value` of an object that has
-/// the `file` and the `line` of its rule, if it comes from one.
+/// the `file` and the `line` of its rule, if it comes from one. `asks` says whether the rules ask for attributes of other
+/// devices, as `eval_unread::ask_others` has it.
 pub fn json_answer<K: Knowledge>(
     alloc: Global,
     sources: bool,
+    asks: bool,
     why: &[u8],
     rules: &RuleSet,
     event: &Event<'_>,
     knowledge: &K,
 ) -> Result<Bytes, AllocError>
+    requires { asks ≡ ask_others rules.now }
     ensures { IfOk result (λ text. text ≡ json_answer sources why.now rules.now (K.known knowledge.now) event.now) }
 {
     if sources {
-        let text = sourced_answer(alloc, why, rules, event, knowledge)?;
+        let text = sourced_answer(alloc, asks, why, rules, event, knowledge)?;
         Ok(Bytes::new(text))
     } else {
-        let text = plain_answer(alloc, why, rules, event, knowledge)?;
+        let text = plain_answer(alloc, asks, why, rules, event, knowledge)?;
         Ok(Bytes::new(text))
     }
 }

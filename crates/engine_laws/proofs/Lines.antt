@@ -15,6 +15,7 @@ use Rattle.eval_state.specs.declared.state.State.{State}
 use Rattle.eval_rules.specs.Jumps.{run_all}
 use Rattle.eval_rules.specs.Outcomes.{command, commands, made_command, outcome, outcome_of, run_text}
 use Rattle.eval_rules.specs.declared.outcome.Command.{Command}
+use Rattle.eval_unread.specs.Unread.{whole_outcome}
 use Rattle.eval_sources.specs.Sources.{Source}
 use Rattle.eval_sources.specs.Reported.{event_commands, sourced_commands, sourced_made}
 use Rattle.engine_answers.specs.Lines.{run_line}
@@ -69,8 +70,8 @@ event_lines rules known event =
     ∙ ap (λ rest. flat_map run_line (commands end.state end.runs) ++ rest) (made_lines end.made)
     ∙ sym (flat_map-append run_line (commands end.state end.runs) (map made_command end.made))
 
-pub lines_alone : (rules : List Rule) (known : Known) (event : EventValue) → lines_by nothing rules known event ≡ answer_lines event (outcome rules known event)
+pub lines_alone : (rules : List Rule) (known : Known) (event : EventValue) → lines_by nothing rules known event ≡ answer_lines event (whole_outcome rules known event)
 lines_alone rules known event =
     let as_text : Source × Text → Text = λ (l : Source × Text). nothing l.0 ++ l.1 in
     let beside : Command × Rule → Source × Text = λ (c : Command × Rule). (Some c.1, run_line c.0) in
-    ap (λ runs. lines_with (λ item. []) runs event (outcome rules known event)) (flat_map-map as_text beside (event_commands rules known event) ∙ event_lines rules known event)
+    ap (λ runs. lines_with (λ item. []) runs event (whole_outcome rules known event)) (flat_map-map as_text beside (event_commands rules known event) ∙ event_lines rules known event)

@@ -12,7 +12,8 @@ ghost use Rattle.eval_state.specs.declared.made_runs.MadeRun.{MadeRun};
 ghost use Rattle.eval_state.specs.declared.scene.Scene.{Scene};
 ghost use Rattle.eval_state.specs.declared.state.State.{State};
 ghost use Rattle.eval_rules.specs.Jumps.{run_all};
-ghost use Rattle.eval_rules.specs.Outcomes.{command, made_command, outcome, outcome_of, run_text};
+ghost use Rattle.eval_rules.specs.Outcomes.{command, made_command, outcome_of, run_text};
+ghost use Rattle.eval_unread.specs.Unread.{whole_outcome};
 ghost use Rattle.eval_effects.specs.Items.{items};
 ghost use Rattle.eval_sources.specs.Sources.{Stage, is_present_throughout, source_of};
 ghost use Rattle.eval_effects.specs.Items.{is_present};
@@ -25,7 +26,7 @@ ghost use Rattle.engine_laws.specs.Told.{is_told, with_sorted};
 /// answer, each once and in their order.
 pub fn without_their_sources_the_lines_are_the_answer()
     ensures { (rules : List Rule) (known : Known) (event : EventValue)
-        → lines_by (λ source. []) rules known event ≡ answer_lines event (outcome rules known event) }
+        → lines_by (λ source. []) rules known event ≡ answer_lines event (whole_outcome rules known event) }
 {}
 
 /// An item comes from a rule if and only if it is there at the end and was not there like this at all stages from

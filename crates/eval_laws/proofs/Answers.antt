@@ -16,7 +16,7 @@ use Rattle.device_core.specs.Faults.{block_gives}
 use Rattle.device_core.specs.Values.{DeviceValue, EventValue, by_profile}
 use Rattle.eval_laws.specs.DeviceWeights.{device_weight, event_weight, given_weight, pair_weight, text_weight}
 use Rattle.eval_laws.proofs.DeviceWeights.{event_within}
-use Rattle.eval_rules.specs.Outcomes.{outcome}
+use Rattle.eval_unread.specs.Unread.{whole_outcome}
 use Rattle.eval_rules.specs.declared.outcome.Outcome.{Outcome}
 use Rattle.eval_laws.specs.Weights.{command_weight, most_about_a_block, note_weight, outcome_weight}
 use Rattle.eval_effects.specs.Items.{item_name, label_item}
@@ -95,7 +95,7 @@ block_answer_short profile block event o given fits =
     omega (arith, a, b, c)
 
 pub files_answer_short : (read profile : Profile) (files : List SourceFile) (known : Known) (block : Text) (event : EventValue) → block_gives block ≡ Ok event
-    → length (answer (by_profile profile event) (outcome (set_of_as read files).rules known (by_profile profile event)))
-    ≤ 8 * outcome_weight (outcome (set_of_as read files).rules known (by_profile profile event)) + 4 * length block + 64 + most_about_a_block profile
+    → length (answer (by_profile profile event) (whole_outcome (set_of_as read files).rules known (by_profile profile event)))
+    ≤ 8 * outcome_weight (whole_outcome (set_of_as read files).rules known (by_profile profile event)) + 4 * length block + 64 + most_about_a_block profile
 files_answer_short read profile files known block event given =
-    block_answer_short profile block event (outcome (set_of_as read files).rules known (by_profile profile event)) given (outcome_small read files known (by_profile profile event))
+    block_answer_short profile block event (whole_outcome (set_of_as read files).rules known (by_profile profile event)) given (outcome_small read files known (by_profile profile event))

@@ -42,6 +42,7 @@ pub mod Starts
 pub mod Stepped
 pub mod Scenes
 pub mod Acted
+pub mod UnreadWeights
 pub mod Weighing
 pub mod Small
 pub mod Priorities

@@ -1,7 +1,9 @@
 -- What an answer weighs at most.
-use Rattle.std.proofs.Common.{◌≡◌, ℕ, ◌+◌, ◌≤◌, Bool, true, false, cond, List, length, Option, Some, None, Ok, arith}
+use Rattle.std.proofs.Common.{◌≡◌, ℕ, ◌+◌, ◌*◌, ◌≤◌, Bool, true, false, cond, List, length, Option, Some, None, Ok, arith}
 use Rattle.std.proofs.lemmas.List.Sums.{sum_by-cons}
+use Rattle.std.specs.List.{sum_by}
 use Rattle.text_bytes.specs.declared.profile.Profile.{Profile}
+use Rattle.text_bytes.specs.declared.profile.Profile.TheVariants.{Manual, Udev}
 use Rattle.text_tables.specs.Texts.{Text}
 use Rattle.builtin_knowledge.specs.Knowledge.{Known}
 use Rattle.rule_types.specs.Rules.{Rule}
@@ -12,13 +14,16 @@ use Rattle.eval_laws.proofs.DeviceWeights.{event_within}
 use Rattle.eval_state.specs.Scenes.{start}
 use Rattle.eval_rules.specs.Jumps.{run}
 use Rattle.eval_rules.specs.Outcomes.{outcome}
-use Rattle.eval_laws.specs.Weights.{outcome_weight}
-use Rattle.eval_laws.specs.Allowances.{most_weight}
+use Rattle.eval_unread.specs.Unread.{unread, unread_by, whole_outcome}
+use Rattle.eval_laws.specs.Weights.{note_weight, outcome_weight}
+use Rattle.eval_laws.specs.Allowances.{most_weight, notes_allowance, rules_allowance}
 use Rattle.eval_laws.proofs.Starts.{start_within}
 use Rattle.eval_laws.proofs.Ruled.{run_within}
 use Rattle.eval_laws.proofs.Ends.{outcome_light}
+use Rattle.eval_laws.proofs.Scenes.{note_light}
+use Rattle.eval_laws.proofs.UnreadWeights.{more_weigh, rules_light}
 
-answer_within : (len : ℕ) (rules : List Rule) (known : Known) (event : EventValue) → event_weight event ≤ len → outcome_weight (outcome rules known event) ≤ most_weight event.profile len known.entries rules
+answer_within : (len : ℕ) (rules : List Rule) (known : Known) (event : EventValue) → event_weight event ≤ len → outcome_weight (outcome rules known event) ≤ 4 * len + 128 + rules_allowance event.profile len known.entries rules
 answer_within len rules known event short =
     let a = (run_within event len short known rules None (event_weight event + 50) (start event) (start_within event)).light in
     let b = outcome_light (run known None rules (start event)) in
@@ -47,9 +52,17 @@ weight_by profile event =
     let c = sum_by-cons device_weight changed event.parents in
     omega (arith, a, b, c)
 
+-- what the notes of assignments add by a profile
+notes_within : (profile : Profile) (rules : List Rule) (known : Known) (event : EventValue) → sum_by note_weight (unread_by profile rules known event) ≤ notes_allowance profile rules
+notes_within Manual rules known event = omega arith
+notes_within Udev rules known event = rules_light note_weight (λ r. length r.file + 280) note_light known rules None (start event)
+
 pub block_answer : (profile : Profile) (rules : List Rule) (known : Known) (block : Text) (event : EventValue) → block_gives block ≡ Ok event
-    → outcome_weight (outcome rules known (by_profile profile event)) ≤ most_weight profile (length block) known.entries rules
+    → outcome_weight (whole_outcome rules known (by_profile profile event)) ≤ most_weight profile (length block) known.entries rules
 block_answer profile rules known block event given =
     let a = weight_by profile event in
     let b = event_within block event given in
-    answer_within (length block) rules known (by_profile profile event) (omega (arith, a, b))
+    let own = answer_within (length block) rules known (by_profile profile event) (omega (arith, a, b)) in
+    let notes = notes_within profile rules known (by_profile profile event) in
+    let whole = more_weigh (unread rules known (by_profile profile event)) (outcome rules known (by_profile profile event)) in
+    omega (arith, own, notes, whole)

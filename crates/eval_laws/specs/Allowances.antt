@@ -85,6 +85,15 @@ rule_allowance profile len entries r =
 abbrev pub rules_allowance : Profile → ℕ → List Entry → List Rule → ℕ
 rules_allowance profile len entries rules = sum_by (rule_allowance profile len entries) rules
 
+-- the notes on attributes that the assignments of a rule ask for and that are not read: at most one for each
+abbrev pub unread_allowance : Rule → ℕ
+unread_allowance r = sum_by (λ a. length r.file + 280) r.sets
+
+-- the same by a profile
+abbrev pub notes_allowance : Profile → List Rule → ℕ
+notes_allowance Manual rules = 0
+notes_allowance Udev rules = sum_by unread_allowance rules
+
 -- the most that an answer weighs: what the event brings, and what the rules may add
 abbrev pub most_weight : Profile → ℕ → List Entry → List Rule → ℕ
-most_weight profile len entries rules = 4 * len + 128 + rules_allowance profile len entries rules
+most_weight profile len entries rules = 4 * len + 128 + rules_allowance profile len entries rules + notes_allowance profile rules

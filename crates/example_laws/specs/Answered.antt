@@ -9,7 +9,6 @@ use Rattle.text_bytes.specs.declared.source_file.SourceFile.{SourceFile}
 use Rattle.text_tables.specs.Texts.{Text}
 use Rattle.hwdb_lookup.specs.declared.entry.Entry.{Entry}
 use Rattle.hwdb_core.specs.Sources.{entries_of}
-use Rattle.rule_types.specs.Rules.{Rule}
 use Rattle.rule_core.specs.Ends.{file_as_read}
 use Rattle.rule_core.specs.Rules.{ReadRules, set_of_as}
 use Rattle.device_core.specs.Faults.{block_gives}
@@ -18,8 +17,7 @@ use Rattle.device_core.specs.Values.{EventValue, by_profile}
 use Rattle.device_core.specs.declared.faults.BlockFault.{BlockFault}
 use Rattle.builtin_knowledge.specs.Knowledge.{Known}
 use Rattle.builtin_devices.specs.Outcomes.{failing}
-use Rattle.eval_rules.specs.Outcomes.{outcome}
-use Rattle.engine_answers.specs.Answers.{answer}
+use Rattle.engine_answers.specs.Answers.{answer_by}
 
 -- the text of lines, each with its newline
 abbrev pub text : List Text → Text
@@ -56,13 +54,9 @@ abbrev pub answer_to : (EventValue → Text) → Profile → Result EventValue B
 answer_to answering by (Ok event) = answering (by_profile by event)
 answer_to answering by (Err fault) = fault_text fault
 
--- the answer to an event, by rules and entries
-abbrev pub plain_answer : List Rule → Known → EventValue → Text
-plain_answer rules known event = answer event (outcome rules known event)
-
 -- what `events` answers, by a profile, the text of a rules file, that of a file of a database, and that of a block
 unfoldable pub answered_by : Profile → Text → Text → Text → Text
-answered_by by rules database block = answer_to (plain_answer (read_by by rules).rules (only_entries (entries_in database))) by (block_gives block)
+answered_by by rules database block = answer_to (answer_by (read_by by rules).rules (only_entries (entries_in database))) by (block_gives block)
 
 -- what it answers by the manual
 abbrev pub answered_with_database : Text → Text → Text → Text

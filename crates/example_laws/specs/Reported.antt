@@ -8,7 +8,7 @@ use Rattle.rule_core.specs.Rules.{ReadRules}
 use Rattle.device_core.specs.Faults.{block_gives}
 use Rattle.device_core.specs.Values.{EventValue}
 use Rattle.builtin_knowledge.specs.Knowledge.{Known}
-use Rattle.eval_rules.specs.Outcomes.{outcome}
+use Rattle.eval_unread.specs.Unread.{whole_outcome}
 use Rattle.engine_answers.specs.Answers.{answer_lines, sourced_lines}
 use Rattle.engine_courses.specs.Asked.{unknown}
 use Rattle.engine_courses.specs.WhyLines.{why_lines}
@@ -24,7 +24,7 @@ sourced_answer read known event = sourced_lines read.rules known event ++ newlin
 -- the answer to an event with what each rule met
 abbrev pub explained_answer : ReadRules → Known → EventValue → Text
 explained_answer read known event =
-    answer_lines event (outcome read.rules known event)
+    answer_lines event (whole_outcome read.rules known event)
     ++ why_lines (codes "r.rules" ∷ []) read.messages read.rules known event
     ++ newline ∷ []
 

@@ -184,3 +184,23 @@ pub fn udev_notes_what_is_odd_about_a_block()
     ensures manual { answered [] (codes "C: plug\nP: /sys/d")
         ≡ codes "event plug /sys/d\nenv ACTION=plug\nenv DEVPATH=/sys/d\n\n" }
 {}
+
+/// For udev the text of an assignment that asks for an attribute of a device that the block does not have leaves a note after all
+/// others: about the first such attribute, if the assignment is reached and its text is rendered. By the manual it leaves none.
+pub fn an_assignment_that_asks_for_another_device_is_noted_for_udev()
+    ensures udev { answered_as_udev
+        (text (
+        codes "ENV{A}=\"$attr{a}$attr{../x}$attr{[u/g]b}|\", SYMLINK+=\"$attr{[u/g]l}\"" ∷ codes "KERNEL==\"none\", ENV{B}=\"$attr{[u/g]c}\""
+        ∷ codes "RUN+=\"r$attr{[u/g]d}\", CONST{virt}!=\"kvm\"" ∷ []))
+        (codes "C: add\nP: /d\nA: a=1")
+        ≡ text (
+        codes "event add /d" ∷ codes "env A=1|" ∷ codes "env ACTION=add" ∷ codes "env DEVPATH=/d" ∷ codes "run program r"
+        ∷ codes "note r.rules:1: no device number: SYMLINK" ∷ codes "note r.rules:3: constant not given: virt"
+        ∷ codes "note r.rules:1: attribute not read: ../x" ∷ codes "note r.rules:3: attribute not read: [u/g]d" ∷ codes "" ∷ []) }
+    ensures sourced { sourced_as_udev (codes "TAG+=\"t$attr{[u/g]b}\"") (codes "C: add\nP: /d")
+        ≡ text (
+        codes "event add /d" ∷ codes "r.rules:1: tag t" ∷ codes "-: env ACTION=add" ∷ codes "-: env DEVPATH=/d"
+        ∷ codes "note r.rules:1: attribute not read: [u/g]b" ∷ codes "" ∷ []) }
+    ensures manual { answered (codes "ENV{A}=\"$attr{../x}|\"") (codes "C: add\nP: /d")
+        ≡ codes "event add /d\nenv A=|\nenv ACTION=add\nenv DEVPATH=/d\n\n" }
+{}

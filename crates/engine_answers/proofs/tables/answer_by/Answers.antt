@@ -1,4 +1,11 @@
+use Rattle.std.proofs.Common.{ap, ◌∙◌}
+use Rattle.std.proofs.lemmas.Result.{IfOk-weaker}
+use Rattle.eval_unread.specs.Unread.{unread, with_notes}
+use Rattle.engine_answers.specs.Answers.{answer}
 use Rattle.engine_answers.proofs.tables.answer_by.Goals as goal
 
 pub returns : goal.returns
-returns g c = rw (← c.in_ok-outcome.ensures) c.answer-said.ensures
+returns g c =
+    let notes = unread c.args.program.now (g.K.Knowledge.known c.args.knowledge.now) c.args.event.now in
+    let whole = c.in_ok-outcome.ensures ∙ ap (with_notes notes) c.in_ok-own.ensures in
+    IfOk-weaker c.answer-said.result _ _ (λ text e. e ∙ ap (answer c.args.event.now) whole) c.answer-said.ensures

@@ -1,9 +1,9 @@
 use Rattle.std.proofs.Common.{ap, ◌∙◌}
 use Rattle.std.proofs.lemmas.Result.{IfOk-weaker}
 use Rattle.text_json.specs.Values.{object_of, value_line}
-use Rattle.eval_rules.specs.Outcomes.{outcome}
 use Rattle.eval_sources.specs.Sources.{source_of}
 use Rattle.eval_sources.specs.Reported.{stages}
+use Rattle.eval_unread.specs.Unread.{whole_outcome}
 use Rattle.engine_json.specs.Answers.{answer_members}
 use Rattle.engine_json.specs.Members.{sourced, sourced_runs}
 use Rattle.engine_json.proofs.Sourced.{values_are}
@@ -16,5 +16,5 @@ returns g c =
     let rest =
     values_are _ _ runs c.args.why.now c.args.event.now c.in_ok-found.found.outcome c.in_ok-found.ensures.sources
     ∙ ap (λ o. answer_members (λ item value. sourced (source item) value) runs c.args.why.now c.args.event.now o) c.in_ok-found.ensures.outcome
-    ∙ ap (λ commands. answer_members (λ item value. sourced (source item) value) (sourced_runs commands) c.args.why.now c.args.event.now (outcome c.args.rules.now (g.K.Knowledge.known c.args.knowledge.now) c.args.event.now)) c.in_ok-found.ensures.commands in
+    ∙ ap (λ commands. answer_members (λ item value. sourced (source item) value) (sourced_runs commands) c.args.why.now c.args.event.now (whole_outcome c.args.rules.now (g.K.Knowledge.known c.args.knowledge.now) c.args.event.now)) c.in_ok-found.ensures.commands in
     IfOk-weaker c.sourced_line-said.result _ _ (λ text e. e ∙ ap (λ members. value_line (object_of members)) rest) c.sourced_line-said.ensures

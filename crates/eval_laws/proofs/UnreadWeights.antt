@@ -1,0 +1,119 @@
+-- How many the notes are that assignments leave on attributes that are not read, and what they weigh.
+use Rattle.std.proofs.Common.{◌≡◌, ℕ, ◌+◌, ◌≤◌, Bool, true, false, cond, List, [], ◌∷◌, ◌++◌, length, Option, Some, None, refl, arith}
+use Rattle.std.proofs.lemmas.List.{length-append}
+use Rattle.std.proofs.lemmas.List.Sums.{sum_by-append, sum_by-cons}
+use Rattle.std.specs.List.{sum_by}
+use Rattle.text_bytes.specs.declared.profile.Profile.{Profile}
+use Rattle.text_bytes.specs.declared.profile.Profile.TheVariants.{Manual, Udev}
+use Rattle.text_tables.specs.Texts.{Text}
+use Rattle.rule_types.specs.declared.part.Assignment.{Assignment}
+use Rattle.rule_types.specs.Rules.{Rule}
+use Rattle.device_core.specs.Values.{EventValue}
+use Rattle.builtin_knowledge.specs.Knowledge.{Known}
+use Rattle.eval_state.specs.Notes.{note_about}
+use Rattle.eval_state.specs.Scenes.{start}
+use Rattle.eval_state.specs.declared.note_kind.NoteKind.{NoteKind}
+use Rattle.eval_state.specs.declared.note_kind.NoteKind.TheVariants.{AttributeNotRead}
+use Rattle.eval_state.specs.declared.notes.Note.{Note}
+use Rattle.eval_state.specs.declared.scene.Scene.{Scene}
+use Rattle.eval_acts.specs.Unread.{unread_notes}
+use Rattle.eval_assignments.specs.Steps.{set_step}
+use Rattle.eval_rules.specs.Idle.{is_idle}
+use Rattle.eval_rules.specs.Jumps.{is_passed, sought_after}
+use Rattle.eval_rules.specs.Outcomes.{outcome}
+use Rattle.eval_rules.specs.Steps.{Went, apply, before_sets}
+use Rattle.eval_rules.specs.declared.outcome.Outcome.{Outcome}
+use Rattle.eval_unread.specs.Unread.{rule_unread, rules_unread, unread, unread_after, unread_by, unread_from, unread_of, whole_outcome, with_notes}
+use Rattle.eval_laws.specs.Counts.{most_notes, most_told}
+use Rattle.eval_laws.specs.Weights.{note_weight, outcome_weight}
+use Rattle.eval_laws.proofs.Counted.{notes_counted}
+
+module _ (w : Note → ℕ) (c : Rule → ℕ) (light : (r : Rule) (kind : NoteKind) (text : Text) → w (note_about r kind text) ≤ c r) where
+  -- at most one note for each assignment
+  abbrev pub most_unread : Rule → ℕ
+  most_unread r = sum_by (λ (a : Assignment). c r) r.sets
+
+  one_light : (r : Rule) (o : Option Text) → sum_by w (unread_notes r o) ≤ c r
+  one_light r None = omega arith
+  one_light r (Some name) = let a = light r AttributeNotRead name in let b = sum_by-cons w (note_about r AttributeNotRead name) [] in omega (arith, a, b)
+
+  sets_light : (r : Rule) (sets : List Assignment) (s : Scene) → sum_by w (unread_from r sets s) ≤ sum_by (λ (a : Assignment). c r) sets
+  sets_light r [] s = omega arith
+  sets_light r (a ∷ sets) s =
+      let one = one_light r (unread_of s a) in
+      let more = sets_light r sets (set_step r s a) in
+      let both = sum_by-append w (unread_notes r (unread_of s a)) (unread_from r sets (set_step r s a)) in
+      let all = sum_by-cons (λ (b : Assignment). c r) a sets in
+      omega (arith, one, more, both, all)
+
+  rule_light : (known : Known) (r : Rule) (s : Scene) → sum_by w (rule_unread known r s) ≤ most_unread r
+  unfolding rule_unread
+  rule_light known r s = by (is_idle r s.state.event)
+    where
+      after : (went : Went) → sum_by w (unread_after r went) ≤ most_unread r
+      after went = on went.1
+        where
+          on : (b : Bool) → sum_by w (cond b (unread_from r r.sets went.0) []) ≤ most_unread r
+          on true = sets_light r r.sets went.0
+          on false = omega arith
+
+      by : (b : Bool) → sum_by w (cond b [] (unread_after r (before_sets known r s))) ≤ most_unread r
+      by true = omega arith
+      by false = after (before_sets known r s)
+
+  pub rules_light : (known : Known) (rules : List Rule) (sought : Option Text) (s : Scene) → sum_by w (rules_unread known sought rules s) ≤ sum_by most_unread rules
+  unfolding rules_unread
+  rules_light known [] sought s = omega arith
+  rules_light known (r ∷ rs) sought s =
+      by (is_passed sought r) (rules_light known rs sought s) (rules_light known rs (sought_after (apply known r s).1 r) (apply known r s).0)
+    where
+      later : List Note
+      later = rules_unread known (sought_after (apply known r s).1 r) rs (apply known r s).0
+
+      by : (b : Bool) → sum_by w (rules_unread known sought rs s) ≤ sum_by most_unread rs → sum_by w later ≤ sum_by most_unread rs
+          → sum_by w (cond b (rules_unread known sought rs s) (rule_unread known r s ++ later)) ≤ sum_by most_unread (r ∷ rs)
+      by true over through = let all = sum_by-cons most_unread r rs in omega (arith, over, all)
+      by false over through =
+          let own = rule_light known r s in
+          let both = sum_by-append w (rule_unread known r s) later in
+          let all = sum_by-cons most_unread r rs in
+          omega (arith, own, through, both, all)
+
+  pub unread_light : (rules : List Rule) (known : Known) (event : EventValue) → sum_by w (unread rules known event) ≤ sum_by most_unread rules
+  unread_light rules known event = by event.profile
+    where
+      by : (p : Profile) → sum_by w (unread_by p rules known event) ≤ sum_by most_unread rules
+      by Manual = omega arith
+      by Udev = rules_light known rules None (start event)
+
+-- what an outcome weighs with more notes
+pub more_weigh : (more : List Note) (o : Outcome) → outcome_weight (with_notes more o) ≡ outcome_weight o + sum_by note_weight more
+unfolding outcome_weight
+more_weigh more o = let a = sum_by-append note_weight o.notes more in omega (arith, a)
+
+-- ---- how many there are
+
+ones : {X : Type 0} (xs : List X) → sum_by (λ (x : X). 1) xs ≡ length xs
+ones [] = refl
+ones (x ∷ xs) = let a = sum_by-cons (λ y. 1) x xs in let b = ones xs in omega (arith, a, b)
+
+-- a note for each assignment beside those of the outcome
+told_more : (rules : List Rule) → sum_by most_notes rules + sum_by (λ (r : Rule). sum_by (λ (a : Assignment). 1) r.sets) rules ≤ sum_by most_told rules
+told_more [] = omega arith
+told_more (r ∷ rs) =
+    let rest = told_more rs in
+    let sets = ones r.sets in
+    let own = sum_by-cons most_notes r rs in
+    let more = sum_by-cons (λ (q : Rule). sum_by (λ (a : Assignment). 1) q.sets) r rs in
+    let all = sum_by-cons most_told r rs in
+    omega (arith, rest, sets, own, more, all)
+
+pub told_counted : (rules : List Rule) (known : Known) (event : EventValue) → length (whole_outcome rules known event).notes ≤ sum_by most_told rules
+told_counted rules known event =
+    let own = notes_counted rules known event in
+    let notes = unread rules known event in
+    let more = unread_light (λ note. 1) (λ r. 1) (λ r kind text. omega arith) rules known event in
+    let count = ones notes in
+    let both = length-append (outcome rules known event).notes notes in
+    let all = told_more rules in
+    omega (arith, own, more, count, both, all)

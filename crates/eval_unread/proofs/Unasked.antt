@@ -1,0 +1,127 @@
+-- Rules that ask for no attribute of another device leave no notes by their assignments.
+use Rattle.std.proofs.Common.{◌≡◌, Bool, true, false, cond, ◌&&◌, ◌||◌, List, [], ◌∷◌, ◌++◌, Option, Some, None, append-nil, refl, ap, sym, ◌∙◌}
+use Rattle.std.specs.List.{list_any}
+use Rattle.std.specs.Option.{option_or}
+use Rattle.text_bytes.specs.Names.{dot, open_bracket}
+use Rattle.text_bytes.specs.Texts.{begins_with}
+use Rattle.text_bytes.specs.declared.profile.Profile.{Profile}
+use Rattle.text_bytes.specs.declared.profile.Profile.TheVariants.{Manual, Udev}
+use Rattle.text_tables.specs.Texts.{Text}
+use Rattle.rule_templates.specs.declared.piece.Piece.{Piece}
+use Rattle.rule_templates.specs.declared.piece.Piece.TheVariants as piece
+use Rattle.rule_types.specs.declared.part.Assignment.{Assignment}
+use Rattle.rule_types.specs.declared.part.Change.{Change}
+use Rattle.rule_types.specs.declared.part.Change.TheVariants as change
+use Rattle.rule_types.specs.Rules.{Rule}
+use Rattle.device_core.specs.Values.{EventValue}
+use Rattle.builtin_knowledge.specs.Knowledge.{Known}
+use Rattle.eval_state.specs.Scenes.{start}
+use Rattle.eval_state.specs.declared.notes.Note.{Note}
+use Rattle.eval_state.specs.declared.scene.Scene.{Scene}
+use Rattle.eval_matching.specs.Attributes.{is_not_read, is_not_read_by}
+use Rattle.eval_acts.specs.Unread.{first_unread, unread_in, unread_notes}
+use Rattle.eval_assignments.specs.Finality.{final_key, is_settled}
+use Rattle.eval_assignments.specs.Steps.{set_step}
+use Rattle.eval_rules.specs.Idle.{is_idle}
+use Rattle.eval_rules.specs.Jumps.{is_passed, sought_after}
+use Rattle.eval_rules.specs.Steps.{Went, apply, before_sets}
+use Rattle.eval_rules.specs.declared.outcome.Outcome.{Outcome}
+use Rattle.eval_unread.specs.Others.{ask_others, change_asks, is_of_others, piece_asks, rule_asks}
+use Rattle.eval_unread.specs.Unread.{is_rendered_for, rendered_pieces, rule_unread, rules_unread, unread, unread_after, unread_by, unread_from, unread_of, with_notes}
+
+-- the first of two that are both false, and the second
+neither : (a b : Bool) → (a || b) ≡ false → (a ≡ false) × (b ≡ false)
+neither true b h = absurd (cc)
+neither false b h = (refl, h)
+
+name_read : (name : Text) (event : EventValue) → is_of_others name ≡ false → is_not_read name event ≡ false
+unfolding is_not_read
+name_read name event h = by event.profile
+  where
+    both : (a b x y : Bool) → a ≡ false → b ≡ false → ((a && x) || (b && y)) ≡ false
+    both true b x y p q = absurd (cc)
+    both false true x y p q = absurd (cc)
+    both false false x y p q = refl
+
+    by : (p : Profile) → is_not_read_by p name event ≡ false
+    by Manual = refl
+    by Udev =
+        let no = neither (begins_with open_bracket name) (begins_with dot name) h in
+        both (begins_with open_bracket name) (begins_with dot name) _ _ no.0 no.1
+
+piece_read : (event : EventValue) (p : Piece) → piece_asks p ≡ false → unread_in event p ≡ None
+piece_read event (piece.Attr name) h = ap (λ (b : Bool). cond b (Some name) None) (name_read name event h)
+piece_read event other h = refl
+
+pieces_read : (event : EventValue) (pieces : List Piece) → list_any piece_asks pieces ≡ false → first_unread event pieces ≡ None
+unfolding first_unread
+pieces_read event [] h = refl
+pieces_read event (p ∷ pieces) h =
+    let no = neither (piece_asks p) (list_any piece_asks pieces) h in
+    ap (λ (o : Option Text). option_or o (first_unread event pieces)) (piece_read event p no.0) ∙ pieces_read event pieces no.1
+
+rendered_read : (event : EventValue) (c : Change) → change_asks c ≡ false → first_unread event (rendered_pieces c event.device) ≡ None
+unfolding first_unread
+rendered_read event (change.Option known) h = refl
+rendered_read event (change.Text about template) h = by (is_rendered_for about event.device)
+  where
+    by : (b : Bool) → first_unread event (cond b template.pieces []) ≡ None
+    by true = pieces_read event template.pieces h
+    by false = refl
+rendered_read event (change.Run braces template) h = pieces_read event template.pieces h
+
+assignment_read : (s : Scene) (a : Assignment) → change_asks a.change ≡ false → unread_of s a ≡ None
+assignment_read s a h = by (is_settled (final_key s.state.event.profile a.change) s.finals)
+  where
+    by : (b : Bool) → cond b None (first_unread s.state.event (rendered_pieces a.change s.state.event.device)) ≡ None
+    by true = refl
+    by false = rendered_read s.state.event a.change h
+
+sets_read : (r : Rule) (sets : List Assignment) (s : Scene) → list_any (λ (a : Assignment). change_asks a.change) sets ≡ false → unread_from r sets s ≡ []
+sets_read r [] s h = refl
+sets_read r (a ∷ sets) s h =
+    let no = neither (change_asks a.change) (list_any (λ (a : Assignment). change_asks a.change) sets) h in
+    ap (λ (o : Option Text). unread_notes r o ++ unread_from r sets (set_step r s a)) (assignment_read s a no.0) ∙ sets_read r sets (set_step r s a) no.1
+
+rule_read : (known : Known) (r : Rule) (s : Scene) → rule_asks r ≡ false → rule_unread known r s ≡ []
+unfolding rule_unread
+rule_read known r s h = by (is_idle r s.state.event)
+  where
+    after : (went : Went) → unread_after r went ≡ []
+    after went = on went.1
+      where
+        on : (b : Bool) → cond b (unread_from r r.sets went.0) [] ≡ []
+        on true = sets_read r r.sets went.0 h
+        on false = refl
+
+    by : (b : Bool) → cond b [] (unread_after r (before_sets known r s)) ≡ []
+    by true = refl
+    by false = after (before_sets known r s)
+
+rules_read : (known : Known) (rules : List Rule) (sought : Option Text) (s : Scene) → ask_others rules ≡ false → rules_unread known sought rules s ≡ []
+unfolding rules_unread
+rules_read known [] sought s h = refl
+rules_read known (r ∷ rs) sought s h =
+    let no = neither (rule_asks r) (ask_others rs) h in
+    by (is_passed sought r) (rules_read known rs sought s no.1) (rules_read known rs (sought_after (apply known r s).1 r) (apply known r s).0 no.1) (rule_read known r s no.0)
+  where
+    by : (b : Bool) → rules_unread known sought rs s ≡ [] → rules_unread known (sought_after (apply known r s).1 r) rs (apply known r s).0 ≡ [] → rule_unread known r s ≡ []
+        → cond b (rules_unread known sought rs s) (rule_unread known r s ++ rules_unread known (sought_after (apply known r s).1 r) rs (apply known r s).0) ≡ []
+    by true over through own = over
+    by false over through own = ap (λ (notes : List Note). notes ++ rules_unread known (sought_after (apply known r s).1 r) rs (apply known r s).0) own ∙ through
+
+-- rules that ask for no attribute of another device leave no note
+pub none_unread : (rules : List Rule) (known : Known) (event : EventValue) → ask_others rules ≡ false → unread rules known event ≡ []
+none_unread rules known event h = by event.profile
+  where
+    by : (p : Profile) → unread_by p rules known event ≡ []
+    by Manual = refl
+    by Udev = rules_read known rules None (start event) h
+
+-- by the manual there is none
+pub manual_unread : (rules : List Rule) (known : Known) (event : EventValue) → event.profile ≡ Manual → unread rules known event ≡ []
+manual_unread rules known event manual = ap (λ (p : Profile). unread_by p rules known event) manual
+
+-- an outcome with no more notes
+pub same_outcome : (o : Outcome) (more : List Note) → more ≡ [] → o ≡ with_notes more o
+same_outcome o more none = sym (ap (λ (notes : List Note). with_notes notes o) none ∙ ap (λ (notes : List Note). record o { notes = notes }) (append-nil o.notes))

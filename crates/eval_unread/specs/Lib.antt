@@ -1,0 +1,4 @@
+pub mod Unread
+pub mod Others
+pub mod Inner
+pub mod Laws

@@ -1,0 +1,38 @@
+-- Rules that ask for attributes of other devices: the only ones whose assignments can leave notes.
+use Rattle.std.specs.Prelude.{Bool, false, ◌||◌, List, []}
+use Rattle.std.specs.List.{list_any}
+use Rattle.text_bytes.specs.Names.{dot, open_bracket}
+use Rattle.text_bytes.specs.Texts.{begins_with}
+use Rattle.text_tables.specs.Texts.{Text}
+use Rattle.rule_templates.specs.declared.piece.Piece.{Piece}
+use Rattle.rule_templates.specs.declared.piece.Piece.TheVariants as piece
+use Rattle.rule_types.specs.declared.part.Change.{Change}
+use Rattle.rule_types.specs.declared.part.Change.TheVariants as change
+use Rattle.rule_types.specs.Rules.{Rule}
+
+-- whether a name may lead to another device: it begins with `[` or with `.`
+abbrev pub is_of_others : Text → Bool
+is_of_others name = begins_with open_bracket name || begins_with dot name
+
+-- whether a piece is an attribute of such a name
+abbrev pub piece_asks : Piece → Bool
+piece_asks (piece.Attr name) = is_of_others name
+piece_asks other = false
+
+-- the pieces of the text of an assignment, whether it is rendered or not
+abbrev pub pieces_of : Change → List Piece
+pieces_of (change.Option known) = []
+pieces_of (change.Text about template) = template.pieces
+pieces_of (change.Run braces template) = template.pieces
+
+-- whether the text of an assignment asks for such an attribute
+abbrev pub change_asks : Change → Bool
+change_asks c = list_any piece_asks (pieces_of c)
+
+-- whether an assignment of a rule does
+abbrev pub rule_asks : Rule → Bool
+rule_asks r = list_any (λ a. change_asks a.change) r.sets
+
+-- whether an assignment of one of these rules does
+abbrev pub ask_others : List Rule → Bool
+ask_others rules = list_any rule_asks rules

@@ -1,0 +1,61 @@
+//! When an assignment leaves a note, and when none does. Each function here is empty: its contract is the law.
+ghost use Rattle.std.specs.Prelude.{◌≡◌, ◌↔◌, [], false, if◌then◌else◌, is_some, List, None, Option, true};
+ghost use Rattle.text_bytes.specs.declared.profile.Profile.TheVariants.{Manual, Udev};
+ghost use Rattle.text_tables.specs.Texts.{Text};
+ghost use Rattle.rule_templates.specs.Template as templates;
+ghost use Rattle.rule_types.specs.declared.part.Change.TheVariants as change;
+ghost use Rattle.rule_types.specs.declared.roles.Target.TheVariants as target;
+ghost use Rattle.rule_types.specs.declared.rule_option.RuleOption.{RuleOption};
+ghost use Rattle.rule_types.specs.declared.types.RunType.{RunType};
+ghost use Rattle.rule_types.specs.Rules.{Rule};
+ghost use Rattle.device_core.specs.Values.{DeviceValue, EventValue};
+ghost use Rattle.builtin_knowledge.specs.Knowledge.{Known};
+ghost use Rattle.eval_state.specs.Scenes.{start};
+ghost use Rattle.eval_state.specs.declared.notes.Note.{Note};
+ghost use Rattle.eval_assignments.specs.Names.{is_interface};
+ghost use Rattle.eval_unread.specs.Laws.{IsAmong, Leaves};
+ghost use Rattle.eval_unread.specs.Others.{ask_others};
+ghost use Rattle.eval_unread.specs.Unread.{rendered_pieces, unread};
+
+/// For udev there is a note if and only if an assignment leaves it: one that is reached and whose key is not final, and whose
+/// text, if it is rendered for the device, asks for an attribute of a device that the block does not have. It is about the first
+/// such attribute.
+pub fn a_note_is_left_by_an_assignment_that_asks_for_what_is_not_read()
+    ensures { (rules : List Rule) (known : Known) (event : EventValue) (note : Note) → event.profile ≡ Udev
+        → IsAmong note (unread rules known event) ↔ Leaves known None rules (start event) note }
+{}
+
+/// A command is rendered for every device, and so is the text of most keys; that of the keys of a node and of its labels is for a
+/// device with a number, and a name for an interface. An option has no text.
+pub fn texts_are_rendered_for_the_devices_that_their_keys_apply_to()
+    ensures command { (braces : Option RunType) (template : templates.Parts) (device : DeviceValue)
+        → rendered_pieces (change.Run braces template) device ≡ template.pieces }
+    ensures option { (known : RuleOption) (device : DeviceValue) → rendered_pieces (change.Option known) device ≡ [] }
+    ensures name { (template : templates.Parts) (device : DeviceValue)
+        → rendered_pieces (change.Text target.Name template) device ≡ (if is_interface device then template.pieces else []) }
+    ensures owner { (template : templates.Parts) (device : DeviceValue)
+        → rendered_pieces (change.Text target.Owner template) device ≡ (if is_some device.number then template.pieces else []) }
+    ensures group { (template : templates.Parts) (device : DeviceValue)
+        → rendered_pieces (change.Text target.Group template) device ≡ (if is_some device.number then template.pieces else []) }
+    ensures mode { (template : templates.Parts) (device : DeviceValue)
+        → rendered_pieces (change.Text target.Mode template) device ≡ (if is_some device.number then template.pieces else []) }
+    ensures symlink { (template : templates.Parts) (device : DeviceValue)
+        → rendered_pieces (change.Text target.Symlink template) device ≡ (if is_some device.number then template.pieces else []) }
+    ensures seclabel { (name : Text) (template : templates.Parts) (device : DeviceValue)
+        → rendered_pieces (change.Text (target.Seclabel name) template) device ≡ (if is_some device.number then template.pieces else []) }
+    ensures tag { (template : templates.Parts) (device : DeviceValue) → rendered_pieces (change.Text target.Tag template) device ≡ template.pieces }
+    ensures property { (name : Text) (template : templates.Parts) (device : DeviceValue)
+        → rendered_pieces (change.Text (target.Env name) template) device ≡ template.pieces }
+    ensures attribute { (name : Text) (template : templates.Parts) (device : DeviceValue)
+        → rendered_pieces (change.Text (target.Attr name) template) device ≡ template.pieces }
+    ensures parameter { (name : Text) (template : templates.Parts) (device : DeviceValue)
+        → rendered_pieces (change.Text (target.Sysctl name) template) device ≡ template.pieces }
+{}
+
+/// By the manual there is no note, and neither is there one if no assignment asks for an attribute whose name begins with `[` or
+/// with `.`: such rules need not be evaluated again.
+#[tactic(auto, using(crate::proofs::Unasked::manual_unread, crate::proofs::Unasked::none_unread))]
+pub fn rules_that_ask_for_no_other_device_leave_no_note()
+    ensures manual { (rules : List Rule) (known : Known) (event : EventValue) → event.profile ≡ Manual → unread rules known event ≡ [] }
+    ensures unasked { (rules : List Rule) (known : Known) (event : EventValue) → ask_others rules ≡ false → unread rules known event ≡ [] }
+{}

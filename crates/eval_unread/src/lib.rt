@@ -1,0 +1,21 @@
+//! What the texts of assignments ask for and a dry run does not read: attributes that udev reads of devices that the block does
+//! not have. And the whole outcome of an event, as its answer tells it: with the notes on these.
+//!
+//! Rules are evaluated once more, as they were read, by something that watches them, and only if they ask for attributes of other
+//! devices. So evaluating them stays as it is.
+#![tactic(auto)]
+
+mod asked;
+mod laws;
+mod others;
+mod sets;
+mod watching;
+mod whole;
+
+pub use laws::{
+    a_note_is_left_by_an_assignment_that_asks_for_what_is_not_read,
+    rules_that_ask_for_no_other_device_leave_no_note,
+    texts_are_rendered_for_the_devices_that_their_keys_apply_to,
+};
+pub use others::ask_others;
+pub use whole::{evaluate_whole, evaluate_whole_sources, with_unread};

@@ -1,0 +1,62 @@
+//! Whether assignments of rules ask for attributes of other devices. It is asked once for all events: rules of which none does
+//! leave no note.
+ghost use Rattle.std.specs.Prelude.{◌≡◌};
+ghost use Rattle.eval_unread.specs.Others.{ask_others, change_asks, is_of_others, piece_asks, pieces_of, rule_asks};
+
+use rule_templates::Piece;
+use rule_types::{Assignment, Change, Rule};
+use text_bytes::begins_with;
+
+/// Whether a name may lead to another device: it begins with `[` or with `.`.
+fn is_of_others(name: &[u8]) -> bool
+    ensures { result ≡ is_of_others name.now }
+{
+    begins_with(b'[', name) || begins_with(b'.', name)
+}
+
+/// Whether a piece is an attribute of such a name.
+fn piece_asks(piece: &Piece) -> bool
+    ensures { result ≡ piece_asks piece.now }
+{
+    match piece {
+        Piece::Attr(name) => is_of_others(name.as_slice()),
+        _ => false,
+    }
+}
+
+/// The pieces of the text of an assignment, whether it is rendered or not.
+fn pieces_of(change: &Change) -> &[Piece]
+    ensures { result.now ≡ pieces_of change.now }
+{
+    match change {
+        Change::Option(_) => &[],
+        Change::Text(_, template) => template.pieces(),
+        Change::Run(_, template) => template.pieces(),
+    }
+}
+
+/// Whether the text of an assignment asks for such an attribute.
+fn assignment_asks(assignment: &Assignment) -> bool
+    ensures { result ≡ change_asks assignment.now.change }
+{
+    pieces_of(&assignment.change)
+        .iter()
+        .any(|piece| piece_asks(piece))
+}
+
+/// Whether an assignment of a rule does.
+fn rule_asks(rule: &Rule) -> bool
+    ensures { result ≡ rule_asks rule.now }
+{
+    rule.sets()
+        .iter()
+        .any(|assignment| assignment_asks(assignment))
+}
+
+/// Whether the text of an assignment of one of these rules asks by `$attr` for an attribute whose name begins with `[` or with
+/// `.`, as names do that lead to another device.
+pub fn ask_others(rules: &[Rule]) -> bool
+    ensures { result ≡ ask_others rules.now }
+{
+    rules.iter().any(|rule| rule_asks(rule))
+}

@@ -1,0 +1,108 @@
+//! The whole outcome of an event: the notes of assignments come after its own.
+ghost use Rattle.std.specs.Prelude.{◌≡◌, IfOk, None};
+ghost use Rattle.eval_sources.specs.Reported.{event_commands, stages};
+ghost use Rattle.eval_sources.specs.Sources.{Reports};
+ghost use Rattle.eval_state.specs.Scenes.{start};
+ghost use Rattle.eval_unread.specs.Others.{ask_others};
+ghost use Rattle.eval_unread.specs.Unread.{rules_unread, unread, whole_outcome, with_notes};
+
+use crate::watching::noted_after;
+use builtin_knowledge::Knowledge;
+use device_core::Event;
+use eval_rules::{Outcome, evaluate_plain};
+use eval_sources::{Sourced, evaluate_sources};
+use eval_state::Notes;
+use rule_types::{Rule, RuleSet};
+use std::alloc::{AllocError, Global};
+use std::mem;
+use text_bytes::Profile;
+
+/// An outcome with the notes of the assignments of rules at its event after its own.
+fn with_noted<'o, K: Knowledge>(
+    alloc: Global,
+    rules: &[Rule],
+    event: &Event<'_>,
+    knowledge: &K,
+    mut outcome: Outcome<'o>,
+) -> Result<Outcome<'o>, AllocError>
+    ensures { IfOk result (λ all. all ≡ with_notes (rules_unread (K.known knowledge.now) None rules.now (start event.now)) outcome.entry) }
+{
+    let own = mem::replace(&mut outcome.notes, Notes::new(alloc));
+    match noted_after(alloc, rules, event, knowledge, own) {
+        Ok(notes) => {
+            outcome.notes = notes;
+            Ok(outcome)
+        }
+        Err(refused) => {
+            drop(outcome);
+            Err(refused)
+        }
+    }
+}
+
+/// An outcome with the notes on attributes after its own that udev (systemd 257) would read and a dry run does not: those of
+/// devices that the block does not have, for which the text of an assignment asks by `$attr`. Of each assignment that is made
+/// it is the first such attribute; its substitution is empty. By the manual there are none.
+///
+/// `asks` says whether the rules ask for attributes of other devices at all, as `ask_others` has it: if not, they are not
+/// evaluated again. If memory runs out, the outcome is dropped.
+pub fn with_unread<'o, K: Knowledge>(
+    alloc: Global,
+    asks: bool,
+    rules: &[Rule],
+    event: &Event<'_>,
+    knowledge: &K,
+    outcome: Outcome<'o>,
+) -> Result<Outcome<'o>, AllocError>
+    requires { asks ≡ ask_others rules.now }
+    ensures { IfOk result (λ all. all ≡ with_notes (unread rules.now (K.known knowledge.now) event.now) outcome.entry) }
+{
+    if !asks {
+        return Ok(outcome);
+    }
+    match event.profile() {
+        Profile::Manual => Ok(outcome),
+        Profile::Udev => with_noted(alloc, rules, event, knowledge, outcome),
+    }
+}
+
+/// The whole outcome of an event by the rules as they are read: that of `evaluate_plain` with the notes that `with_unread` adds.
+pub fn evaluate_whole<'a, K: Knowledge>(
+    alloc: Global,
+    asks: bool,
+    rules: &'a RuleSet,
+    event: &'a Event<'_>,
+    knowledge: &K,
+) -> Result<Outcome<'a>, AllocError>
+    requires { asks ≡ ask_others rules.now }
+    ensures { IfOk result (λ whole. whole ≡ whole_outcome rules.now (K.known knowledge.now) event.now) }
+{
+    let outcome = evaluate_plain(alloc, rules, event, knowledge)?;
+    with_unread(alloc, asks, rules.rules(), event, knowledge, outcome)
+}
+
+/// The same, with where it comes from, as `evaluate_sources` has it.
+pub fn evaluate_whole_sources<'a, K: Knowledge>(
+    alloc: Global,
+    asks: bool,
+    rules: &'a [Rule],
+    event: &'a Event<'_>,
+    knowledge: &K,
+) -> Result<Sourced<'a>, AllocError>
+    requires { asks ≡ ask_others rules.now }
+    ensures outcome { IfOk result (λ s. s.outcome ≡ whole_outcome rules.now (K.known knowledge.now) event.now) }
+    ensures sources { IfOk result (λ s. Reports (stages rules.now (K.known knowledge.now) event.now) s.sources) }
+    ensures commands { IfOk result (λ s. s.commands.items ≡ event_commands rules.now (K.known knowledge.now) event.now) }
+{
+    let Sourced {
+        outcome,
+        sources,
+        commands,
+    } = evaluate_sources(alloc, rules, event, knowledge)?;
+    let outcome = with_unread(alloc, asks, rules, event, knowledge, outcome)?;
+    Ok(Sourced {
+        outcome,
+        sources,
+        commands,
+    })
+}

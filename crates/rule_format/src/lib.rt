@@ -1,0 +1,16 @@
+//! Rules files with their style mended: commas and blanks between tokens, and nothing else.
+//!
+//! What is proposed for a file is read again, and counts only if it is read as the same rules, line by line, with
+//! nothing left to mend. Where a line is cut, its indentation, its comments and its tokens stay as they are.
+#![tactic(auto)]
+
+mod alike;
+mod faults;
+mod gaps;
+mod lines;
+mod mending;
+mod proposing;
+mod rewriting;
+mod stretches;
+
+pub use mending::mended_rules;

@@ -11,7 +11,8 @@ use Rattle.rule_tokens.specs.declared.kinds.Quote.{Quote}
 use Rattle.rule_tokens.specs.declared.kinds.Quote.TheVariants as quote
 use Rattle.rule_jumps.specs.declared.jumps.Landing.{Landing}
 use Rattle.rule_core.specs.Lines.{joined_lines}
-use Rattle.rule_format.specs.Faults.{is_to_mend, tokens_read}
+use Rattle.rule_core.specs.Written.{WrittenPart}
+use Rattle.rule_format.specs.Faults.{is_to_mend, parts_read}
 use Rattle.rule_format.specs.Proposed.{Landed, landed_in}
 use Rattle.rule_format.specs.WholeLines.{is_comment, whole_lines, written}
 
@@ -49,6 +50,10 @@ same_token s t =
     && (same_operator s.parts.head.operator t.parts.head.operator
     && (same_quote s.parts.quote t.parts.quote && same_text s.parts.value t.parts.value)))
 
+-- whether the tokens of two parts say the same
+abbrev pub same_part : WrittenPart → WrittenPart → Bool
+same_part v w = same_token v.token w.token
+
 -- whether two answers are the same
 abbrev pub same_bool : Bool → Bool → Bool
 same_bool true b = b
@@ -64,7 +69,7 @@ stands_for x y = x.0.line == y.0.line && (same_landing x.1 y.1 && not (is_to_men
 
 -- whether a joined line has the tokens of another in which something was to mend, or else its bytes
 abbrev pub says_same : Landed → Landed → Bool
-says_same x y = if is_to_mend x then pointwise same_token (tokens_read x.0.read) (tokens_read y.0.read) else same_text x.0.text y.0.text
+says_same x y = if is_to_mend x then pointwise same_part (parts_read x.0.read) (parts_read y.0.read) else same_text x.0.text y.0.text
 
 -- whether a joined line is another that was mended
 abbrev pub is_mended_line : Landed → Landed → Bool

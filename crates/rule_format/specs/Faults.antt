@@ -4,11 +4,10 @@ use Rattle.std.specs.List.{list_all}
 use Rattle.file_messages.specs.declared.message.MessageKind.{MessageKind}
 use Rattle.file_messages.specs.declared.message.MessageKind.TheVariants.{CommaExpected, BlankExpected, ReadAsAssign, LabelUnused}
 use Rattle.file_messages.specs.declared.message.MessageKind.TheVariants.{LeadingComma, BlankBeforeComma}
-use Rattle.rule_tokens.specs.Grammar.{Placed}
 use Rattle.rule_jumps.specs.declared.jumps.Landing.{Landing}
 use Rattle.rule_core.specs.Drafts.{Draft}
 use Rattle.rule_core.specs.Rules.{Reading, findings_of}
-use Rattle.rule_core.specs.Written.{tokens_in}
+use Rattle.rule_core.specs.Written.{WrittenPart, tokens_in}
 use Rattle.rule_core.specs.declared.spot.Spot.{Spot}
 use Rattle.rule_format.specs.Gaps.{is_well_spaced}
 
@@ -35,7 +34,7 @@ is_badly_spaced text (Ok d) l = is_faultless d l && not (is_well_spaced text (to
 abbrev pub is_to_mend : Reading × Landing → Bool
 is_to_mend x = is_badly_spaced x.0.text x.0.read x.1
 
--- the tokens of a line, none if it is not a rule
-abbrev pub tokens_read : Result Draft (Spot MessageKind) → List Placed
-tokens_read (Err wrong) = []
-tokens_read (Ok d) = tokens_in d.parts
+-- the tokens of a line with their parts, none if it is not a rule
+abbrev pub parts_read : Result Draft (Spot MessageKind) → List WrittenPart
+parts_read (Err wrong) = []
+parts_read (Ok d) = d.parts

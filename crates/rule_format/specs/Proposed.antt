@@ -1,10 +1,11 @@
 -- A rules file with its commas and blanks mended, before it is compared with what it was.
-use Rattle.std.specs.Prelude.{ℕ, ◌+◌, ◌==◌, if◌then◌else◌, List, [], ◌∷◌, ◌++◌, map}
+use Rattle.std.specs.Prelude.{ℕ, ◌+◌, ◌==◌, if◌then◌else◌, List, [], ◌∷◌, ◌++◌, drop, map}
 use Rattle.text_bytes.specs.declared.profile.Profile.TheVariants.{Manual}
 use Rattle.rule_jumps.specs.declared.jumps.Landing.{Landing}
 use Rattle.rule_core.specs.Lines.{joined_lines}
 use Rattle.rule_core.specs.Rules.{Reading, landed, reading_of}
-use Rattle.rule_format.specs.Faults.{is_to_mend, tokens_read}
+use Rattle.rule_core.specs.Written.{tokens_in}
+use Rattle.rule_format.specs.Faults.{is_to_mend, parts_read}
 use Rattle.rule_format.specs.Rewritten.{rewritten_from}
 use Rattle.rule_format.specs.Stretches.{stretches}
 use Rattle.rule_format.specs.WholeLines.{ends_joined, given_size, whole_lines}
@@ -19,7 +20,7 @@ landed_in bytes = landed (map (reading_of Manual) (joined_lines Manual bytes).li
 
 -- the lines that make a joined line: mended if that is to be mended, else as they stand
 abbrev pub mended_run : Landed → List ℕ → List ℕ
-mended_run x run = if is_to_mend x then rewritten_from x.0.text (stretches x.0.text (tokens_read x.0.read)) 0 (whole_lines run) else run
+mended_run x run = if is_to_mend x then rewritten_from x.0.text (stretches x.0.text (tokens_in (parts_read x.0.read))) 0 (whole_lines run) else run
 
 -- what is written for a run that has ended, and gives so many bytes: one that gives any is the first of the joined lines still to come
 abbrev pub run_written : List Landed → List ℕ → ℕ → List ℕ
@@ -28,8 +29,7 @@ run_written (x ∷ xs) run size = if size == 0 then run else mended_run x run
 
 -- the joined lines still to come after such a run
 abbrev pub lines_left : List Landed → ℕ → List Landed
-lines_left [] size = []
-lines_left (x ∷ xs) size = if size == 0 then x ∷ xs else xs
+lines_left xs size = if size == 0 then xs else drop 1 xs
 
 -- lines of a file, and before them a run that has not ended, which gives so many bytes: of the joined lines these are still to come
 abbrev pub proposed_from : List Landed → List ℕ → ℕ → List (List ℕ) → List ℕ

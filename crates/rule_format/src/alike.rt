@@ -1,10 +1,10 @@
 //! Rules files that are read alike.
-ghost use Rattle.std.specs.Prelude.{◌≡◌, option_map};
+ghost use Rattle.std.specs.Prelude.{◌≡◌, option_map, zip};
 ghost use Rattle.std.specs.Cmp.Lexicographic.{pointwise};
-ghost use Rattle.rule_core.specs.Written.{tokens_in};
 ghost use Rattle.rule_format.specs.Alike.{is_idle, is_mended_line, same_attribute, same_bool, same_if_idle, same_landing, same_operator};
-ghost use Rattle.rule_format.specs.Alike.{same_quote, same_text, same_token, says_same, stands_for};
-ghost use Rattle.rule_format.specs.Faults.{tokens_read};
+ghost use Rattle.rule_format.specs.Alike.{same_part, same_quote, same_text, same_token, says_same, stands_for};
+ghost use Rattle.rule_format.specs.Faults.{parts_read};
+ghost use Rattle.std.specs.List.{list_all};
 ghost use Rattle.rule_format.specs.WholeLines.{whole_lines};
 
 use crate::faults::is_to_mend;
@@ -16,19 +16,16 @@ use rule_jumps::Landing;
 pub(crate) fn are_mended_lines(old: &[LandedReading<'_>], new: &[LandedReading<'_>]) -> bool
     ensures { result ≡ pointwise is_mended_line old.now new.now }
 {
-    let mut rest = new;
-    for line in old {
-        match rest.split_first() {
-            None => return false,
-            Some((own, others)) => {
-                if !is_mended_line(line, own) {
-                    return false;
-                }
-                rest = others;
-            }
-        }
-    }
-    rest.is_empty()
+    old.len() == new.len() && all_mended(old, new)
+}
+
+/// Whether each of these lines is one that was mended, as far as there are both.
+fn all_mended(old: &[LandedReading<'_>], new: &[LandedReading<'_>]) -> bool
+    ensures { result ≡ list_all (λ pair. is_mended_line pair.0 pair.1) (zip old.now new.now) }
+{
+    old.iter()
+        .zip(new)
+        .all(|(line, own)| is_mended_line(line, own))
 }
 
 /// Whether a joined line is one that was mended, as it has to be.
@@ -59,9 +56,9 @@ fn says_same(old: &LandedReading<'_>, new: &LandedReading<'_>) -> bool
     }
 }
 
-/// The tokens of a line, none if it is not a rule.
+/// The tokens of a line with their parts, none if it is not a rule.
 fn parts_of<'r, 'a>(line: &'r LandedReading<'a>) -> &'r [WrittenPart<'a>]
-    ensures { tokens_in result.now ≡ tokens_read line.now.0.read }
+    ensures { result.now ≡ parts_read line.now.0.read }
 {
     match &line.reading.read {
         Err(_) => &[],
@@ -71,21 +68,23 @@ fn parts_of<'r, 'a>(line: &'r LandedReading<'a>) -> &'r [WrittenPart<'a>]
 
 /// Whether tokens say the same, one by one.
 fn same_tokens(old: &[WrittenPart<'_>], new: &[WrittenPart<'_>]) -> bool
-    ensures { result ≡ pointwise same_token (tokens_in old.now) (tokens_in new.now) }
+    ensures { result ≡ pointwise same_part old.now new.now }
 {
-    let mut rest = new;
-    for written in old {
-        match rest.split_first() {
-            None => return false,
-            Some((own, others)) => {
-                if !same_token(&written.token, &own.token) {
-                    return false;
-                }
-                rest = others;
-            }
-        }
-    }
-    rest.is_empty()
+    old.len() == new.len() && all_same(old, new)
+}
+
+/// Whether tokens say the same, one by one, as far as there are both.
+fn all_same(old: &[WrittenPart<'_>], new: &[WrittenPart<'_>]) -> bool
+    ensures { result ≡ list_all (λ pair. same_part pair.0 pair.1) (zip old.now new.now) }
+{
+    old.iter().zip(new).all(|(part, own)| same_part(part, own))
+}
+
+/// Whether the tokens of two parts say the same.
+fn same_part(old: &WrittenPart<'_>, new: &WrittenPart<'_>) -> bool
+    ensures { result ≡ same_part old.now new.now }
+{
+    same_token(&old.token, &new.token)
 }
 
 /// Whether two tokens say the same, wherever they are.
@@ -101,7 +100,7 @@ fn same_token(old: &Token<'_>, new: &Token<'_>) -> bool
 
 /// Whether two attributes are the same, or both are lacking.
 fn same_attribute(old: Option<&[u8]>, new: Option<&[u8]>) -> bool
-    ensures { result ≡ same_attribute (option_map (λ a. a.now) old) (option_map (λ a. a.now) new) }
+    ensures { result ≡ same_attribute (option_map (λ a. a.now) old.entry) (option_map (λ a. a.now) new.entry) }
 {
     match (old, new) {
         (None, None) => true,

@@ -63,9 +63,10 @@ fn add_run(
 fn lines_left<'r, 'a>(lines: &'r [LandedReading<'a>], size: usize) -> &'r [LandedReading<'a>]
     ensures { result.now ≡ lines_left lines.now size }
 {
-    match lines.split_first() {
-        None => lines,
-        Some((_, others)) => { if size == 0 { lines } else { others } }
+    if size == 0 {
+        lines
+    } else {
+        &lines[lines.len().min(1)..]
     }
 }
 

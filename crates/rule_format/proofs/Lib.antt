@@ -1,2 +1,5 @@
 pub mod Cutting
 pub mod Pairs
+pub mod Staying
+pub mod Twice
+pub mod Silence

@@ -6,3 +6,4 @@ pub mod Faults
 pub mod Proposed
 pub mod Alike
 pub mod Mended
+pub mod Laws

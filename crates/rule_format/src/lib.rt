@@ -7,10 +7,16 @@
 mod alike;
 mod faults;
 mod gaps;
+mod laws;
 mod lines;
 mod mending;
 mod proposing;
 mod rewriting;
 mod stretches;
 
+pub use laws::{
+    changed_files_are_mended_whole, comments_stay, files_without_such_messages_stay,
+    joined_lines_say_the_same, mended_files_stay, nothing_is_mended_twice,
+    what_is_reported_is_mended,
+};
 pub use mending::mended_rules;

@@ -3,3 +3,4 @@ pub mod Pairs
 pub mod Staying
 pub mod Twice
 pub mod Silence
+pub mod Computing

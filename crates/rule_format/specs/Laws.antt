@@ -1,6 +1,7 @@
 -- What is true of a rules file whose commas and blanks are mended.
-use Rattle.std.specs.Prelude.{◌≡◌, ⊤, ℕ, Bool, true, false, not, List, [], ◌∷◌, map, Result, Ok, Err}
+use Rattle.std.specs.Prelude.{◌≡◌, ⊤, ℕ, Bool, true, false, not, List, [], ◌∷◌, ◌++◌, map, Result, Ok, Err}
 use Rattle.std.specs.List.{AllByRecursion, list_all}
+use Rattle.text_bytes.specs.Names.{newline}
 use Rattle.text_bytes.specs.declared.profile.Profile.TheVariants.{Udev}
 use Rattle.file_messages.specs.declared.message.MessageKind.{MessageKind}
 use Rattle.file_messages.specs.declared.message.MessageKind.TheVariants.{CommaExpected, BlankExpected, BlankBeforeComma}
@@ -55,3 +56,8 @@ is_silent text tokens = list_all (λ s. not (is_about_spacing s.kind)) (style_fi
 abbrev pub IsSilent : List ℕ → Result Draft (Spot MessageKind) → Type 0
 IsSilent text (Err wrong) = ⊤
 IsSilent text (Ok d) = is_silent text (tokens_in d.parts) ≡ true
+
+-- lines as a text, each ended by a newline
+abbrev pub text : List (List ℕ) → List ℕ
+text [] = []
+text (l ∷ ls) = l ++ newline ∷ text ls

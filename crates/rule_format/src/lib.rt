@@ -5,6 +5,7 @@
 #![tactic(auto)]
 
 mod alike;
+mod examples;
 mod faults;
 mod gaps;
 mod laws;
@@ -14,6 +15,9 @@ mod proposing;
 mod rewriting;
 mod stretches;
 
+pub use examples::{
+    commas_and_blanks_are_mended, continued_lines_keep_their_indentation, other_lines_stay,
+};
 pub use laws::{
     changed_files_are_mended_whole, comments_stay, files_without_such_messages_stay,
     joined_lines_say_the_same, mended_files_stay, nothing_is_mended_twice,

@@ -4,3 +4,4 @@ pub mod Staying
 pub mod Twice
 pub mod Silence
 pub mod Computing
+pub mod SameRules

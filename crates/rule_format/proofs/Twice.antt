@@ -1,5 +1,5 @@
 -- What is read again is what was mended.
-use Rattle.std.proofs.Common.{◌≡◌, ◌⊎◌, inl, inr, ℕ, Bool, true, false, cond, ◌&&◌, ◌||◌, not, ◌==◌, List, ◌∷◌, [], map, Option, Some, None, refl, sym, ◌∙◌, ap, arith}
+use Rattle.std.proofs.Common.{◌≡◌, ◌⊎◌, inl, inr, ℕ, Bool, true, false, cond, ◌&&◌, ◌||◌, not, ◌==◌, List, ◌∷◌, [], map, Option, Some, None, Result, Ok, Err, refl, sym, ◌∙◌, ap, arith}
 use Rattle.std.proofs.lemmas.Bool.{eqb-true}
 use Rattle.std.proofs.lemmas.Slice.Eq.{bytes_eq-Decides}
 use Rattle.std.specs.Prelude.{nat_eq}
@@ -14,9 +14,13 @@ use Rattle.rule_tokens.specs.declared.kinds.Quote.{Quote}
 use Rattle.rule_tokens.specs.declared.kinds.Quote.TheVariants as quote
 use Rattle.rule_jumps.specs.declared.jumps.Landing.{Landing}
 use Rattle.rule_core.specs.Lines.{joined_lines}
-use Rattle.rule_core.specs.Written.{WrittenPart}
+use Rattle.rule_core.specs.Drafts.{Draft}
+use Rattle.rule_core.specs.Written.{WrittenPart, tokens_in}
+use Rattle.rule_core.specs.declared.spot.Spot.{Spot}
+use Rattle.file_messages.specs.declared.message.MessageKind.{MessageKind}
+use Rattle.rule_format.specs.Gaps.{is_well_spaced}
 use Rattle.rule_format.specs.Alike.{is_idle, is_mended, is_mended_line, same_attribute, same_bool, same_if_idle, same_landing, same_operator, same_part, same_quote, same_text, same_token, says_same, stands_for}
-use Rattle.rule_format.specs.Faults.{is_to_mend, parts_read}
+use Rattle.rule_format.specs.Faults.{is_badly_spaced, is_faultless, is_sound, is_to_mend, parts_read}
 use Rattle.rule_format.specs.Laws.{Correspond, IsAsItWas, IsMended, StaysIfIdle, said}
 use Rattle.rule_format.specs.Mended.{mended}
 use Rattle.rule_format.specs.Proposed.{Landed, landed_in, proposed}
@@ -162,13 +166,15 @@ line_is x y h =
     let stands : stands_for x y ≡ true = left (stands_for x y) (says_same x y) h in
     let says : says_same x y ≡ true = right (stands_for x y) (says_same x y) h in
     let ends : (same_landing x.1 y.1 && not (is_to_mend y)) ≡ true = right (x.0.line == y.0.line) (same_landing x.1 y.1 && not (is_to_mend y)) stands in
+    let sound : Bool = is_sound y.0.read y.1 in
     let tokens : Bool = pointwise same_part (parts_read x.0.read) (parts_read y.0.read) in
     let bytes : Bool = same_text x.0.text y.0.text in
     record {
       number = sym (eqb-true x.0.line y.0.line (left (x.0.line == y.0.line) (same_landing x.1 y.1 && not (is_to_mend y)) stands));
       landing = landing_is x.1 y.1 (left (same_landing x.1 y.1) (not (is_to_mend y)) ends);
-      bytes = λ e. sym (text_is x.0.text y.0.text (other (is_to_mend x) tokens bytes says e));
-      tokens = λ e. all_said (parts_read x.0.read) (parts_read y.0.read) (chosen (is_to_mend x) tokens bytes says e);
+      bytes = λ e. sym (text_is x.0.text y.0.text (other (is_to_mend x) (sound && tokens) bytes says e));
+      sound = λ e. left sound tokens (chosen (is_to_mend x) (sound && tokens) bytes says e);
+      tokens = λ e. all_said (parts_read x.0.read) (parts_read y.0.read) (right sound tokens (chosen (is_to_mend x) (sound && tokens) bytes says e));
     }
 
 -- nothing is to mend in it
@@ -178,9 +184,14 @@ is_done x y h =
     let ends : (same_landing x.1 y.1 && not (is_to_mend y)) ≡ true = right (x.0.line == y.0.line) (same_landing x.1 y.1 && not (is_to_mend y)) stands in
     not_true (is_to_mend y) (right (same_landing x.1 y.1) (not (is_to_mend y)) ends)
 
+-- a line that is to be mended has no fault
+pub sound_to_mend : (text : List ℕ) (read : Result Draft (Spot MessageKind)) (l : Landing) → is_badly_spaced text read l ≡ true → is_sound read l ≡ true
+sound_to_mend text (Err wrong) l h = h
+sound_to_mend text (Ok d) l h = left (is_faultless d l) (not (is_well_spaced text (tokens_in d.parts))) h
+
 -- a line is as it is
 line_is_itself : (x : Landed) → IsAsItWas x x
-line_is_itself x = record { number = refl; landing = refl; bytes = λ e. refl; tokens = λ e. refl }
+line_is_itself x = record { number = refl; landing = refl; bytes = λ e. refl; sound = λ e. sound_to_mend x.0.text x.0.read x.1 e; tokens = λ e. refl }
 
 all_done : (xs ys : List Landed) → pointwise is_mended_line xs ys ≡ true → AllByRecursion IsMended ys
 all_done [] [] h = tt
@@ -227,6 +238,23 @@ idle_agree old new h =
     let idle : Bool = pointwise same_if_idle (whole_lines old) (whole_lines new) in
     let lines : Bool = pointwise is_mended_line (landed_in old) (landed_in new) in
     left idle lines (right opened (idle && lines) h)
+
+pub open_agrees : (old new : List ℕ) → is_mended old new ≡ true → (joined_lines Manual old).open_at ≡ (joined_lines Manual new).open_at
+open_agrees old new h =
+    let opened : Bool = option_eq nat_eq (joined_lines Manual old).open_at (joined_lines Manual new).open_at in
+    let idle : Bool = pointwise same_if_idle (whole_lines old) (whole_lines new) in
+    let lines : Bool = pointwise is_mended_line (landed_in old) (landed_in new) in
+    open_is (joined_lines Manual old).open_at (joined_lines Manual new).open_at (left opened (idle && lines) h)
+  where
+    open_is : (a b : Option ℕ) → option_eq nat_eq a b ≡ true → a ≡ b
+    open_is None None h = refl
+    open_is None (Some b) h = cc
+    open_is (Some a) None h = cc
+    open_is (Some a) (Some b) h = ap (λ (n : ℕ). Some n) (eqb-true a b h)
+
+pub open_stays : (bytes : List ℕ) → (joined_lines Manual (mended bytes)).open_at ≡ (joined_lines Manual bytes).open_at
+open_stays bytes =
+    by_check (λ m. (joined_lines Manual m).open_at ≡ (joined_lines Manual bytes).open_at) bytes refl (λ e. sym (open_agrees bytes (proposed bytes) e))
 
 pub none_left : (bytes : List ℕ) → (mended bytes ≡ bytes) ⊎ AllByRecursion IsMended (landed_in (mended bytes))
 none_left bytes =

@@ -12,7 +12,7 @@ use Rattle.rule_tokens.specs.declared.kinds.Quote.TheVariants as quote
 use Rattle.rule_jumps.specs.declared.jumps.Landing.{Landing}
 use Rattle.rule_core.specs.Lines.{joined_lines}
 use Rattle.rule_core.specs.Written.{WrittenPart}
-use Rattle.rule_format.specs.Faults.{is_to_mend, parts_read}
+use Rattle.rule_format.specs.Faults.{is_sound, is_to_mend, parts_read}
 use Rattle.rule_format.specs.Proposed.{Landed, landed_in}
 use Rattle.rule_format.specs.WholeLines.{is_comment, whole_lines, written}
 
@@ -67,9 +67,11 @@ same_landing l k = same_bool l.lost k.lost && same_bool l.unused k.unused
 abbrev pub stands_for : Landed → Landed → Bool
 stands_for x y = x.0.line == y.0.line && (same_landing x.1 y.1 && not (is_to_mend y))
 
--- whether a joined line has the tokens of another in which something was to mend, or else its bytes
+-- whether a joined line has no fault and the tokens of another in which something was to mend, or else the other's bytes
 abbrev pub says_same : Landed → Landed → Bool
-says_same x y = if is_to_mend x then pointwise same_part (parts_read x.0.read) (parts_read y.0.read) else same_text x.0.text y.0.text
+says_same x y =
+    if is_to_mend x then is_sound y.0.read y.1 && pointwise same_part (parts_read x.0.read) (parts_read y.0.read)
+    else same_text x.0.text y.0.text
 
 -- whether a joined line is another that was mended
 abbrev pub is_mended_line : Landed → Landed → Bool

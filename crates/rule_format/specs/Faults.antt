@@ -25,6 +25,11 @@ is_style _ = false
 abbrev pub is_faultless : Draft → Landing → Bool
 is_faultless d l = not l.lost && list_all (λ s. is_style s.kind) d.findings
 
+-- whether a line is a rule about which only style is found
+abbrev pub is_sound : Result Draft (Spot MessageKind) → Landing → Bool
+is_sound (Err wrong) l = false
+is_sound (Ok d) l = is_faultless d l
+
 -- whether a line without a fault has commas or blanks that are not as they should be
 abbrev pub is_badly_spaced : List ℕ → Result Draft (Spot MessageKind) → Landing → Bool
 is_badly_spaced text (Err wrong) l = false

@@ -1,8 +1,10 @@
 -- What is true of a rules file whose commas and blanks are mended.
-use Rattle.std.specs.Prelude.{◌≡◌, ⊤, ℕ, Bool, true, false, not, List, [], ◌∷◌, ◌++◌, map, Result, Ok, Err}
+use Rattle.std.specs.Prelude.{◌≡◌, ⊤, ℕ, Bool, true, false, not, List, [], ◌∷◌, ◌++◌, filter, map, Result, Ok, Err}
 use Rattle.std.specs.List.{AllByRecursion, list_all}
 use Rattle.text_bytes.specs.Names.{newline}
+use Rattle.text_bytes.specs.declared.source_file.SourceFile.{SourceFile}
 use Rattle.text_bytes.specs.declared.profile.Profile.TheVariants.{Udev}
+use Rattle.file_messages.specs.declared.message.Message.{Message}
 use Rattle.file_messages.specs.declared.message.MessageKind.{MessageKind}
 use Rattle.file_messages.specs.declared.message.MessageKind.TheVariants.{CommaExpected, BlankExpected, BlankBeforeComma}
 use Rattle.rule_tokens.specs.Grammar.{Parts, Placed}
@@ -11,7 +13,7 @@ use Rattle.rule_core.specs.Style.{style_findings}
 use Rattle.rule_core.specs.Written.{WrittenPart, tokens_in}
 use Rattle.rule_core.specs.declared.spot.Spot.{Spot}
 use Rattle.rule_format.specs.Alike.{is_idle}
-use Rattle.rule_format.specs.Faults.{is_to_mend, parts_read}
+use Rattle.rule_format.specs.Faults.{is_sound, is_style, is_to_mend, parts_read}
 use Rattle.rule_format.specs.Proposed.{Landed}
 
 -- nothing is to mend in a joined line
@@ -34,11 +36,12 @@ abbrev pub said : WrittenPart → Parts
 said w = w.token.parts
 
 -- A joined line and what it was: it has the same number, the same becomes of its jump and its label, and it has the same bytes unless
--- something was to mend in it, and then the same tokens.
+-- something was to mend in it, and then no fault and the same tokens.
 pub record IsAsItWas (x y : Landed) : Type 0 where
   pub number : y.0.line ≡ x.0.line
   pub landing : y.1 ≡ x.1
   pub bytes : is_to_mend x ≡ false → y.0.text ≡ x.0.text
+  pub sound : is_to_mend x ≡ true → is_sound y.0.read y.1 ≡ true
   pub tokens : is_to_mend x ≡ true → map said (parts_read y.0.read) ≡ map said (parts_read x.0.read)
 
 -- whether a kind of message is about the commas and blanks between tokens and after them
@@ -61,3 +64,11 @@ IsSilent text (Ok d) = is_silent text (tokens_in d.parts) ≡ true
 abbrev pub text : List (List ℕ) → List ℕ
 text [] = []
 text (l ∷ ls) = l ++ newline ∷ text ls
+
+-- a file with other bytes
+abbrev pub with_bytes : SourceFile → List ℕ → SourceFile
+with_bytes f bytes = record f { bytes = bytes }
+
+-- messages without those on style
+abbrev pub but_style : List Message → List Message
+but_style messages = filter (λ m. not (is_style m.kind)) messages

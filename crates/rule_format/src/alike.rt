@@ -7,7 +7,7 @@ ghost use Rattle.rule_format.specs.Faults.{parts_read};
 ghost use Rattle.std.specs.List.{list_all};
 ghost use Rattle.rule_format.specs.WholeLines.{whole_lines};
 
-use crate::faults::is_to_mend;
+use crate::faults::{is_sound, is_to_mend};
 use crate::lines::{WholeLine, WholeLines};
 use rule_core::{LandedReading, Operator, Quote, Token, WrittenPart};
 use rule_jumps::Landing;
@@ -45,12 +45,13 @@ fn stands_for(old: &LandedReading<'_>, new: &LandedReading<'_>) -> bool
         && !is_to_mend(new)
 }
 
-/// Whether a joined line has the tokens of another in which something was to mend, or else its bytes.
+/// Whether a joined line has no fault and the tokens of another in which something was to mend, or else the other's
+/// bytes.
 fn says_same(old: &LandedReading<'_>, new: &LandedReading<'_>) -> bool
     ensures { result ≡ says_same old.now new.now }
 {
     if is_to_mend(old) {
-        same_tokens(parts_of(old), parts_of(new))
+        is_sound(new) && same_tokens(parts_of(old), parts_of(new))
     } else {
         same_text(old.reading.text, new.reading.text)
     }

@@ -1,7 +1,7 @@
 //! Lines of which the commas and blanks are to be mended.
 ghost use Rattle.std.specs.Prelude.{◌≡◌};
 ghost use Rattle.std.specs.List.{list_all};
-ghost use Rattle.rule_format.specs.Faults.{is_faultless, is_style, is_to_mend};
+ghost use Rattle.rule_format.specs.Faults.{is_faultless, is_sound, is_style, is_to_mend};
 
 use crate::gaps::is_well_spaced;
 use file_messages::MessageKind;
@@ -18,6 +18,16 @@ pub(crate) fn is_to_mend(line: &LandedReading<'_>) -> bool
         Ok(draft) => {
             is_faultless(draft, line.landing) && !is_well_spaced(line.reading.text, &draft.parts)
         }
+    }
+}
+
+/// Whether a line is a rule about which only style is found.
+pub(crate) fn is_sound(line: &LandedReading<'_>) -> bool
+    ensures { result ≡ is_sound line.now.0.read line.now.1 }
+{
+    match &line.reading.read {
+        Err(_) => false,
+        Ok(draft) => is_faultless(draft, line.landing),
     }
 }
 

@@ -1,9 +1,12 @@
 //! Laws of files that were mended, each the contract of a function with an empty body.
 ghost use Rattle.std.specs.Prelude.{◌≡◌, ◌⊎◌, ℕ, List};
 ghost use Rattle.std.specs.List.{AllByRecursion};
+ghost use Rattle.text_bytes.specs.declared.profile.Profile.TheVariants.{Manual};
+ghost use Rattle.text_bytes.specs.declared.source_file.SourceFile as files;
 ghost use Rattle.rule_tokens.specs.Grammar.{Placed};
+ghost use Rattle.rule_core.specs.Rules.{file_messages, file_rules};
 ghost use Rattle.rule_format.specs.Gaps.{is_well_spaced};
-ghost use Rattle.rule_format.specs.Laws.{Correspond, IsAsItWas, IsMended, IsSilent, StaysIfIdle, is_silent};
+ghost use Rattle.rule_format.specs.Laws.{but_style, Correspond, IsAsItWas, IsMended, IsSilent, StaysIfIdle, is_silent, with_bytes};
 ghost use Rattle.rule_format.specs.Mended.{mended};
 ghost use Rattle.rule_format.specs.Proposed.{landed_in};
 ghost use Rattle.rule_format.specs.WholeLines.{whole_lines};
@@ -50,4 +53,16 @@ pub fn joined_lines_say_the_same()
 #[tactic(auto, using(crate::proofs::Twice::idle_lines_stay))]
 pub fn comments_stay()
     ensures { (bytes : List ℕ) → Correspond StaysIfIdle (whole_lines bytes) (whole_lines (mended bytes)) }
+{}
+
+/// A file that was mended has the same rules, with the same numbers of their lines.
+#[tactic(auto, using(crate::proofs::SameRules::rules_stay))]
+pub fn rules_stay()
+    ensures { (f : files.SourceFile) → file_rules Manual (with_bytes f (mended f.bytes)) ≡ file_rules Manual f }
+{}
+
+/// The messages about a file that was mended are the same but those on style.
+#[tactic(auto, using(crate::proofs::SameRules::messages_stay))]
+pub fn other_messages_stay()
+    ensures { (f : files.SourceFile) → but_style (file_messages Manual (with_bytes f (mended f.bytes))) ≡ but_style (file_messages Manual f) }
 {}

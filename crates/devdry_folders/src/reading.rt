@@ -123,7 +123,7 @@ fn kinds_needed(verb: Verb) -> &'static [FileKind]
 {
     match verb {
         Verb::Update | Verb::Query => &[FileKind::Hwdb],
-        Verb::Verify | Verb::Events => &[FileKind::Rules],
+        Verb::Verify | Verb::Events | Verb::Mend => &[FileKind::Rules],
     }
 }
 

@@ -49,7 +49,7 @@ fn asks_more(verb: Verb, strict: bool, lint: bool) -> bool
     match verb {
         Verb::Verify => strict,
         Verb::Update => lint,
-        Verb::Query | Verb::Events => false,
+        Verb::Query | Verb::Events | Verb::Mend => false,
     }
 }
 
@@ -91,7 +91,7 @@ fn asks_rules(verb: Verb, strict: bool, why: bool) -> bool
     match verb {
         Verb::Verify => strict,
         Verb::Events => why,
-        Verb::Query | Verb::Update => false,
+        Verb::Query | Verb::Update | Verb::Mend => false,
     }
 }
 

@@ -5,6 +5,7 @@ ghost use Rattle.devdry_options.specs.Names.{flag_names, repeated_names, valued_
 /// Options without a value.
 const FLAGS: &[&str] = &[
     "all",
+    "check",
     "links",
     "lint",
     "no-style",

@@ -36,6 +36,10 @@ required_rule name = record (new_rule name) { required = true }
 abbrev pub files_rule : Rule
 files_rule = record (new_rule (codes "FILE")) { action = Some Append }
 
+-- `FILE..`, one of them or more
+abbrev pub mended_rule : Rule
+mended_rule = record files_rule { required = true }
+
 -- a command of this name with these arguments
 abbrev pub with_rules : Text → List Rule → Shape
 with_rules name rules = record (new_shape name) { rules = rules }
@@ -79,6 +83,10 @@ compare_shape = with_rules (codes "compare")
     (option_rule (codes "options") ∷ added_rule ∷ flag_rule (codes "all") ∷ option_rule (codes "format") ∷ flag_rule (codes "sources")
     ∷ option_rule (codes "index") ∷ flag_rule (codes "udev") ∷ flag_rule (codes "rules") ∷ required_rule (codes "OLD") ∷ required_rule (codes "NEW") ∷ [])
 
+-- `fmt [--options FILE] [--check] [--stdin-name PATH] FILE..`
+abbrev pub fmt_shape : Shape
+fmt_shape = with_rules (codes "fmt") (option_rule (codes "options") ∷ flag_rule (codes "check") ∷ option_rule (codes "stdin-name") ∷ mended_rule ∷ [])
+
 -- `explain CODE`
 abbrev pub explain_shape : Shape
 explain_shape = with_rules (codes "explain") (required_rule (codes "CODE") ∷ [])
@@ -99,5 +107,5 @@ program = record {
 
 -- `devdry` with its subcommands
 unfoldable pub devdry : App
-devdry = with_subcommand (with_subcommand (with_subcommand (with_subcommand (with_subcommand (with_subcommand (with_subcommand program
-    verify_shape) query_shape) update_shape) events_shape) files_shape) compare_shape) explain_shape
+devdry = with_subcommand (with_subcommand (with_subcommand (with_subcommand (with_subcommand (with_subcommand (with_subcommand (with_subcommand program
+    verify_shape) query_shape) update_shape) events_shape) files_shape) compare_shape) fmt_shape) explain_shape

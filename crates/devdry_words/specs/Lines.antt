@@ -12,7 +12,7 @@ use Rattle.engine_ends.specs.declared.line.Format.{Format}
 use Rattle.engine_ends.specs.declared.line.Format.TheVariants.{Plain, Gcc, Github, Gitlab, Json, Sarif, Human, HumanInColor}
 use Rattle.engine_ends.specs.declared.line.Line.{Line}
 use Rattle.engine_ends.specs.declared.line.Verb.{Verb}
-use Rattle.engine_ends.specs.declared.line.Verb.TheVariants.{Update, Query, Verify, Events}
+use Rattle.engine_ends.specs.declared.line.Verb.TheVariants.{Update, Query, Verify, Events, Mend}
 use Rattle.engine_formats.specs.Codes.{remarks}
 use Rattle.engine_formats.specs.Remarks.{code_of}
 use Rattle.text_bytes.specs.declared.profile.Profile.{Profile}
@@ -25,6 +25,7 @@ name_of Update = codes "update"
 name_of Query = codes "query"
 name_of Verify = codes "verify"
 name_of Events = codes "events"
+name_of Mend = codes "fmt"
 
 -- the name of a format, in colors or without
 abbrev pub format_name : Format → Text
@@ -143,6 +144,7 @@ pub record Reads (verb : Verb) (root : Text) (added named : List Text) (rows : L
   pub style : line.style ≡ not (is_set (codes "no-style") rows)
   pub lint : line.lint ≡ is_set_or_every verb (codes "lint") rows
   pub checks_links : line.checks_links ≡ is_set (codes "links") rows
+  pub check : line.check ≡ is_set (codes "check") rows
   pub format : line.format ≡ unwrap_or (format_of rows) Plain
   pub color : line.color ≡ unwrap_or (color_of rows) Auto
   pub all : line.all ≡ asks_all_of verb rows

@@ -3,7 +3,7 @@
 //! An argument that several subcommands take is a function of its own, so that it is the same in each.
 ghost use Rattle.std.specs.Prelude.{◌≡◌, codes, false};
 ghost use Rattle.clap.specs.Words.{rule_of};
-ghost use Rattle.devdry_words.specs.Commands.{files_rule, flag_rule, option_rule, repeated_rule, required_rule, root_rule, strict_rule};
+ghost use Rattle.devdry_words.specs.Commands.{files_rule, flag_rule, mended_rule, option_rule, repeated_rule, required_rule, root_rule, strict_rule};
 
 use clap::{Arg, ArgAction};
 use std::alloc::Global;
@@ -45,6 +45,17 @@ pub(crate) fn strict_flag<'a>(alloc: Global, help: &'a str) -> Arg<'a>
     ensures { (rule_of result ≡ strict_rule) × (result.global ≡ false) }
 {
     flag(alloc, "strict", help).short('s')
+}
+
+/// `--check`: files are listed in place of their mended texts.
+pub(crate) fn check_flag<'a>(alloc: Global) -> Arg<'a>
+    ensures { (rule_of result ≡ flag_rule (codes "check")) × (result.global ≡ false) }
+{
+    flag(
+        alloc,
+        "check",
+        "Only list the files that would change, with status 1",
+    )
 }
 
 /// `--links`: files that name network interfaces are checked in place of rules.
@@ -257,6 +268,16 @@ pub(crate) fn code_argument<'a>(alloc: Global) -> Arg<'a>
     ensures { (rule_of result ≡ required_rule (codes "CODE")) × (result.global ≡ false) }
 {
     required_argument(alloc, "CODE", "Code of a message, as V6")
+}
+
+/// FILE.. of `fmt`, of which there has to be one.
+pub(crate) fn mended_argument<'a>(alloc: Global) -> Arg<'a>
+    ensures { (rule_of result ≡ mended_rule) × (result.global ≡ false) }
+{
+    Arg::new(alloc, "FILE")
+        .action(ArgAction::Append)
+        .required(true)
+        .help("Rules files to mend; -: the standard input")
 }
 
 /// FILE.., the files to read in place of folders.

@@ -4,15 +4,16 @@
 ghost use Rattle.std.specs.Prelude.{◌≡◌, IfOk};
 ghost use Rattle.clap.specs.Words.{app_of};
 ghost use Rattle.devdry_words.specs.Built.{IsCommand};
-ghost use Rattle.devdry_words.specs.Commands.{compare_shape, devdry, events_shape, explain_shape, files_shape, program as program_app, query_shape};
+ghost use Rattle.devdry_words.specs.Commands.{compare_shape, devdry, events_shape, explain_shape, files_shape, fmt_shape, program as program_app, query_shape};
 ghost use Rattle.devdry_words.specs.Commands.{update_shape, verify_shape};
 
 use crate::added::{ADDED_AFTER, ADDED_FILES, ADDED_RULES, with_option};
 use crate::arguments::{
-    all_flag, code_argument, color_option, files_argument, format_option, groups_option,
-    ignore_option, index_option, links_flag, lint_flag, modalias_argument, new_argument,
-    no_style_flag, no_summary_flag, old_argument, options_option, questions_flag, root_option,
-    rules_flag, sources_flag, strict_flag, udev_flag, unused_flag, users_option, why_option,
+    all_flag, check_flag, code_argument, color_option, files_argument, format_option,
+    groups_option, ignore_option, index_option, links_flag, lint_flag, mended_argument,
+    modalias_argument, new_argument, no_style_flag, no_summary_flag, old_argument, options_option,
+    questions_flag, root_option, rules_flag, sources_flag, strict_flag, udev_flag, unused_flag,
+    users_option, why_option,
 };
 use crate::endings;
 use crate::piped::input_name_option;
@@ -25,7 +26,8 @@ const STATUSES: &str = "Status:
      --strict was given, or an event block is faulty, or a
      line of query - is too long, or there are too many rules
      or entries, or the index is refused, or compare found a
-     difference, or files, compare or --all no file
+     difference, or fmt --check a file that would change, or
+     files, compare or --all no file
   2  the command line is wrong
   3  a file, a folder, the input or an output failed
   4  out of memory
@@ -37,6 +39,7 @@ Examples:
   devdry update 20-usb.hwdb > hwdb.index
   devdry query --index hwdb.index usb:v1D6Bp0002
   devdry compare /mnt/old /mnt/new < disk.block
+  devdry fmt 60-mine.rules > mended.rules
   devdry explain V6
 ";
 
@@ -175,6 +178,19 @@ fn compare_command<'a>(alloc: Global) -> Result<Command<'a>, AllocError>
         .arg(new_argument(alloc))
 }
 
+/// The subcommand `fmt`.
+fn fmt_command<'a>(alloc: Global) -> Result<Command<'a>, AllocError>
+    ensures { IfOk result (IsCommand fmt_shape) }
+{
+    Command::new(alloc, "fmt")
+        .about("Mends commas and blanks in rules files")
+        .after_help(endings::FMT)
+        .arg(options_option(alloc))?
+        .arg(check_flag(alloc))?
+        .arg(input_name_option(alloc))?
+        .arg(mended_argument(alloc))
+}
+
 /// The subcommand `explain`.
 fn explain_command<'a>(alloc: Global) -> Result<Command<'a>, AllocError>
     ensures { IfOk result (IsCommand explain_shape) }
@@ -211,5 +227,6 @@ pub(crate) fn devdry_command<'a>(alloc: Global) -> Result<Command<'a>, AllocErro
         .subcommand(events_command(alloc)?)?
         .subcommand(files_command(alloc)?)?
         .subcommand(compare_command(alloc)?)?
+        .subcommand(fmt_command(alloc)?)?
         .subcommand(explain_command(alloc)?)
 }

@@ -89,6 +89,20 @@ Example:
 devdry-compare(1) says more.
 ";
 
+/// What the help of `fmt` ends in.
+pub(crate) const FMT: &str = "Status:
+  0  the files were mended, or with --check none would change
+  1  with --check a file would change
+  2  the command line is wrong
+  3  a file, the input or an output failed
+  4  out of memory
+
+Example:
+  devdry fmt 60-mine.rules > mended.rules
+
+devdry-fmt(1) says more.
+";
+
 /// What the help of `explain` ends in.
 pub(crate) const EXPLAIN: &str = "Status:
   0  the message was explained

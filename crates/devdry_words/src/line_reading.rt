@@ -66,7 +66,7 @@ fn asks_every(verb: Verb, matches: &ArgMatches<'_>) -> bool
 {
     match verb {
         Verb::Verify => is_given(matches, "strict"),
-        Verb::Update | Verb::Query | Verb::Events => false,
+        Verb::Update | Verb::Query | Verb::Events | Verb::Mend => false,
     }
 }
 
@@ -156,6 +156,7 @@ pub(crate) fn line_with<'a>(
         style: !is_given(matches, "no-style"),
         lint: is_given_or_every(verb, matches, "lint"),
         checks_links: is_given(matches, "links"),
+        check: is_given(matches, "check"),
         format: format_of(matches).unwrap_or(Format::Plain),
         color: color_of(matches).unwrap_or(Color::Auto),
         all: asks_all_of(verb, matches),

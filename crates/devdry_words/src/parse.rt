@@ -100,7 +100,7 @@ fn request_of<'a>(alloc: Global, matches: &ArgMatches<'a>) -> Result<Request<'a>
 /// `update [-r DIR] [-s] [--all] [--format FORMAT] [--color WHEN] [--ignore CODES].. [FILE]..`,
 /// `events [-r DIR] [--with FILE].. [--all] [--format FORMAT] [--sources] [--why FILE[:LINE]].. [--unused] [--questions]
 /// [--index FILE] [--udev] [FILE]..`, `files [-r DIR] [--with FILE]..`,
-/// `compare [--with FILE].. [--all] [--format FORMAT] [--index FILE] [--udev] OLD NEW` and `explain CODE`. Each but
+/// `compare [--with FILE].. [--all] [--format FORMAT] [--index FILE] [--udev] OLD NEW`, `fmt [--check] FILE..` and `explain CODE`. Each but
 /// the last also takes `--options FILE`, of which nothing comes here: `options_in` finds the file, and `with_options` puts its
 /// words before the others.
 ///

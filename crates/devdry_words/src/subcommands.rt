@@ -35,6 +35,7 @@ pub(crate) fn subcommand_of(name: &str) -> Subcommand
         "query" => Subcommand::Run(Verb::Query),
         "update" => Subcommand::Run(Verb::Update),
         "events" => Subcommand::Run(Verb::Events),
+        "fmt" => Subcommand::Run(Verb::Mend),
         "files" => Subcommand::Files,
         "compare" => Subcommand::Compare,
         _ => Subcommand::Explain,

@@ -11,7 +11,7 @@ use Rattle.engine_ends.specs.declared.line.Format.{Format}
 use Rattle.engine_ends.specs.declared.line.Format.TheVariants.{Json}
 use Rattle.engine_ends.specs.declared.line.Line.{Line}
 use Rattle.engine_ends.specs.declared.line.Verb.{Verb}
-use Rattle.engine_ends.specs.declared.line.Verb.TheVariants.{Update, Query, Verify, Events}
+use Rattle.engine_ends.specs.declared.line.Verb.TheVariants.{Update, Query, Verify, Events, Mend}
 use Rattle.engine_ends.specs.Delivery.{RunOutcome}
 use Rattle.engine_lookups.specs.Databases.{lookups_by}
 use Rattle.engine_reports.specs.Databases.{database}
@@ -22,6 +22,7 @@ use Rattle.builtin_knowledge.specs.Knowledge.{FilesFound, Known}
 use Rattle.engine_answers.specs.Answers.{answer_by}
 use Rattle.engine_courses.specs.Asked.{unknown}
 use Rattle.engine_core.specs.Checking.{update_said, verify_said}
+use Rattle.engine_core.specs.Mending.{mend_said}
 use Rattle.engine_core.specs.Reported.{ReportedValue, reported_by}
 use Rattle.engine_courses.specs.Questions.{question_answer}
 use Rattle.engine_sessions.specs.Outcomes.{input_outcome}
@@ -93,6 +94,7 @@ abbrev pub before_input : Verb → Line → List SourceFile → Option (Result C
 before_input Query line files opened = Err (query_over line files opened)
 before_input Update line files opened = Err (update_said line files)
 before_input Verify line files opened = Err (verify_said line files)
+before_input Mend line files opened = Err (mend_said line files)
 before_input Events line files opened = asked_of (why_of line) (opening line files opened)
 
 -- the outcome of answers to an input after messages, and of what is said after them, if something is

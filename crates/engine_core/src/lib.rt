@@ -11,6 +11,7 @@ mod asked;
 mod checking;
 mod comparing;
 mod events;
+mod mending;
 mod reported;
 mod serving;
 mod shared;

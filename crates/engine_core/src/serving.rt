@@ -5,6 +5,7 @@ ghost use Rattle.engine_core.specs.Runs.{RunsBy, RunsOver};
 
 use crate::checking::{report_on_index, report_on_verify};
 use crate::events::serve_events;
+use crate::mending::report_on_mending;
 use builtin_knowledge::RootFiles;
 use engine_ends::{Line, Sink, Source, Verb};
 use engine_lookups::serve_lookups;
@@ -22,6 +23,7 @@ use text_bytes::SourceFile;
 ///   an empty one for each line of `input`, written and flushed before the next read;
 /// - for `update` the index of the database, whether there are messages or not;
 /// - for `verify`, as in udevadm(8), how many files are bad;
+/// - for `fmt` the files with their style mended, one after another, or the names of those that this would change;
 /// - for `events` the answer to each block of `input`, written and flushed before the next read. If `line` asks for
 ///   that, the rule that it comes from is before each line, and what rules met is after the lines. If it asks for
 ///   questions, the commands that the rules ask for and the block does not answer are there instead.
@@ -33,7 +35,7 @@ use text_bytes::SourceFile;
 /// `events` answer from it and read no file of the database. Only `events`, and `query` with the modalias `-`, look at
 /// the input.
 ///
-/// The status is 0; 1 if `update` is strict and there is a message, if `verify` finds a bad file, if a block is faulty,
+/// The status is 0; 1 if `update` is strict and there is a message, if `verify` finds a bad file, if `fmt` only lists files and there is one to list, if a block is faulty,
 /// if a line of modaliases is too long, if the files hold more than they may, or if `query` or `events` is passed an
 /// index that fails a check; 2 if a text of `why` asks for neither a rule nor a message's place, and then no input is
 /// read; 3 if the input or an output failed, or the input did not end within 2^48 reads, and only then; 4 if memory ran
@@ -89,6 +91,7 @@ fn serve_verb<R: Source, W: Sink, E: Sink>(
         Verb::Query => deliver_report(report_on_query(alloc, line, files, opened), output, error),
         Verb::Update => deliver_report(report_on_index(alloc, line, files), output, error),
         Verb::Verify => deliver_report(report_on_verify(alloc, line, files), output, error),
+        Verb::Mend => deliver_report(report_on_mending(alloc, line, files), output, error),
         Verb::Events => serve_events(alloc, line, files, found, opened, input, output, error),
     }
 }

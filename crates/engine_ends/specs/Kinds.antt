@@ -2,7 +2,7 @@
 use Rattle.std.specs.Prelude.{Bool, true, false, ◌&&◌, ◌==◌, is_some, not, List, [], ◌∷◌, vec_len}
 use Rattle.engine_ends.specs.declared.line.Line.{Line}
 use Rattle.engine_ends.specs.declared.line.Verb.{Verb}
-use Rattle.engine_ends.specs.declared.line.Verb.TheVariants.{Update, Query, Verify, Events}
+use Rattle.engine_ends.specs.declared.line.Verb.TheVariants.{Update, Query, Verify, Events, Mend}
 use Rattle.text_bytes.specs.declared.source_file.FileKind.{FileKind}
 use Rattle.text_bytes.specs.declared.source_file.FileKind.TheVariants.{Hwdb, Rules}
 
@@ -12,12 +12,14 @@ kind_named Update = Hwdb
 kind_named Query = Hwdb
 kind_named Verify = Rules
 kind_named Events = Rules
+kind_named Mend = Rules
 
 -- the kinds of files that a subcommand reads
 abbrev pub kinds_read : Verb → List FileKind
 kinds_read Update = Hwdb ∷ []
 kinds_read Query = Hwdb ∷ []
 kinds_read Verify = Rules ∷ []
+kinds_read Mend = Rules ∷ []
 kinds_read Events = Rules ∷ Hwdb ∷ []
 
 -- whether two kinds are the same

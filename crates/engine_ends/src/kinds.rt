@@ -15,7 +15,7 @@ impl Verb {
     {
         match self {
             Verb::Update | Verb::Query => FileKind::Hwdb,
-            Verb::Verify | Verb::Events => FileKind::Rules,
+            Verb::Verify | Verb::Events | Verb::Mend => FileKind::Rules,
         }
     }
 
@@ -25,7 +25,7 @@ impl Verb {
     {
         match self {
             Verb::Update | Verb::Query => &[FileKind::Hwdb],
-            Verb::Verify => &[FileKind::Rules],
+            Verb::Verify | Verb::Mend => &[FileKind::Rules],
             Verb::Events => &[FileKind::Rules, FileKind::Hwdb],
         }
     }

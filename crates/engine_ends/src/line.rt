@@ -20,6 +20,8 @@ pub enum Verb {
     Verify,
     /// Answers events.
     Events,
+    /// Mends the style of rules files.
+    Mend,
 }
 
 /// How messages about files, or answers, are written.
@@ -102,6 +104,8 @@ pub struct Line<'a> {
     pub lint: bool,
     /// Whether `verify` checks `.link` files in place of rules.
     pub checks_links: bool,
+    /// Whether `fmt` only lists the files that it would change.
+    pub check: bool,
     /// How `verify` and `update` write messages, and how `events` and `compare` write answers; plain for `query`.
     pub format: Format,
     /// When messages for people are in colors.
@@ -126,7 +130,7 @@ pub struct Line<'a> {
 /// What the words of a command line ask for.
 #[derive(Drop)]
 pub enum Request<'a> {
-    /// A run of one of the four subcommands over the files that it reads.
+    /// A run of one of the five subcommands over the files that it reads.
     Run(Line<'a>),
     /// `files`: which files of the folders count, for the line of `events` that reads them.
     Files(Line<'a>),

@@ -90,6 +90,7 @@ pub(crate) fn line<'a>(alloc: Global, verb: Verb, modalias: &'a str) -> Line<'a>
         style: true,
         lint: false,
         checks_links: false,
+        check: false,
         format: Format::Plain,
         color: Color::Auto,
         all: false,

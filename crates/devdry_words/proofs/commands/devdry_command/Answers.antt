@@ -12,4 +12,5 @@ returns c =
     let fourth = one_more_command _ _ _ _ _ third c.in_ok-events_command.ensures c.in_ok-subcommand-4.ensures in
     let fifth = one_more_command _ _ _ _ _ fourth c.in_ok-files_command.ensures c.in_ok-subcommand-5.ensures in
     let sixth = one_more_command _ _ _ _ _ fifth c.in_ok-compare_command.ensures c.in_ok-subcommand-6.ensures in
-    IfOk-weaker c.subcommand-7.result _ _ (λ m h. one_more_command _ _ _ _ _ sixth c.in_ok-explain_command.ensures h) c.subcommand-7.ensures
+    let seventh = one_more_command _ _ _ _ _ sixth c.in_ok-fmt_command.ensures c.in_ok-subcommand-7.ensures in
+    IfOk-weaker c.subcommand-8.result _ _ (λ m h. one_more_command _ _ _ _ _ seventh c.in_ok-explain_command.ensures h) c.subcommand-8.ensures

@@ -105,12 +105,15 @@ use Rattle.rule_remarks.specs.Rules.{file_remarks}
 use Rattle.rule_remarks.specs.Values.{value_fault}
 use Rattle.engine_reports.specs.Checks as engine_reports_checks
 use Rattle.engine_formats.specs.Codes.{remark_of}
+use Rattle.strsim.specs.Edits.{cost_at, next_row, rows}
 use Rattle.engine_formats.specs.Lines.{gcc_line, plain_line, spot_of}
+use Rattle.engine_formats.specs.Near as engine_formats_near
 use Rattle.engine_formats.specs.Remarks.{heading_parts}
 use Rattle.engine_checks.specs.Ignores.{ignores_in}
 use Rattle.engine_checks.specs.Reported.{file_reported}
 use Rattle.engine_courses.specs.Asked.{unread, unknown_line, unknown}
 use Rattle.engine_courses.specs.Named.{alike}
+use Rattle.engine_courses.specs.Meant.{meant_file}
 use Rattle.engine_courses.specs.Nearest.{least}
 use Rattle.engine_courses.specs.WhyLines.{why_line, unread_text, reported_from, why_lines}
 use Rattle.engine_courses.specs.Questions.{question_answer}
@@ -167,7 +170,7 @@ evaluating = tt
 unfoldable reporting : ⊤
 unfolding run_text effect ending node_items items whole_or_cut shown size_note stages_from source_of Reports property_report
     act_report walk_reports key_reports course wanted_text plain_report result_report device_report up_report
-    partial_report search_reports skipped_text message_line alike unread unknown_line unknown least why_line unread_text reported_from
+    partial_report search_reports skipped_text message_line alike unread unknown_line unknown meant_file engine_formats_near.nearest engine_formats_near.distance rows next_row cost_at least why_line unread_text reported_from
     why_lines question_answer rule_asks rules_ask fate fates_from keys_reached counted with_fates greatest line_on lines_by unmet_text unused_lines
 reporting = tt
 

@@ -166,7 +166,7 @@ Options:
   -r, --root <DIR>         Folder to put before each folder that is read
       --with <FILE>        Rules or database file to read among those of the folders, by its name
       --all                Go on where a file can't be read, and fail where there is none
-      --format <FORMAT>    How answers are written: plain or json
+      --format <FORMAT>    How answers are written: plain, json or human (plain, with advice on faults)
       --sources            Say where each line comes from
       --why <FILE[:LINE]>  Say what the rules of this file, or the one of this line, met
       --unused             Report, after the last answer, the rules that no block reached or met
@@ -228,7 +228,7 @@ Options:
       --options <FILE>   File of options to put before these, one a line, as --lint or --ignore=S2
       --with <FILE>      Rules or database file to read among those of NEW, by its name
       --all              Go on where a file can't be read, and fail where there is none
-      --format <FORMAT>  How answers are written: plain or json
+      --format <FORMAT>  How answers are written: plain, json or human (plain, with advice on faults)
       --index <FILE>     Index to read in place of the database's folders
       --udev             Read and evaluate rules as udev itself does
   -h, --help             Print help
@@ -369,7 +369,7 @@ For more information, try '--help'.
 
 NO_ANSWER_FORMAT = """\
 error: invalid value 'gcc' for '--format <FORMAT>'
-  [possible values: plain, json]
+  [possible values: plain, json, human]
 
 For more information, try '--help'.
 """

@@ -2,6 +2,7 @@
 #![tactic(auto)]
 
 mod answering;
+mod block_advice;
 mod block_faults;
 mod faults;
 mod following;

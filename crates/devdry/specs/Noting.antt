@@ -1,13 +1,11 @@
 -- What there is to tell about files before a run.
-use Rattle.std.specs.Prelude.{◌≡◌, ℕ, Bool, true, false, if◌then◌else◌, List, [], MatchBool, string_bytes}
+use Rattle.std.specs.Prelude.{◌≡◌, ℕ, Bool, true, false, if◌then◌else◌, List, [], MatchBool}
 use Rattle.text_bytes.specs.declared.source_file.SourceFile.{SourceFile}
 use Rattle.engine_ends.specs.declared.line.Line.{Line}
 use Rattle.devdry_files.specs.Answers.{Answer}
 use Rattle.devdry_files.specs.Answers.Answer.{Looked}
 use Rattle.devdry_files.specs.declared.look.Look.{Look}
 use Rattle.devdry_files.specs.declared.look.Look.TheVariants.{Folder}
-use Rattle.devdry_files.specs.declared.fault.ReadFault.{ReadFault}
-use Rattle.devdry_files.specs.declared.fault.ReadFault.TheVariants.{Memory, Path}
 use Rattle.devdry_notes.specs.Asked.{asks_folder, asks_root}
 use Rattle.devdry_notes.specs.Notes.{folder_note, notes_of}
 
@@ -35,11 +33,6 @@ IsNoteAt may path note = (there : Bool) × IsThere may path there × (note ≡ n
 -- the hint on a file at the path: the note on a folder, if the line asks about that; otherwise nothing is looked at
 abbrev pub IsHintAt : (Answer → Type 0) → Line → (path hint : List ℕ) → Type 0
 IsHintAt may line path hint = MatchBool (asks_folder line path) (IsNoteAt may path hint) (hint ≡ [])
-
--- the hint on a file that could not be read
-abbrev pub IsHintOn : (Answer → Type 0) → Line → ReadFault → (hint : List ℕ) → Type 0
-IsHintOn may line (Path path) hint = IsHintAt may line (string_bytes path) hint
-IsHintOn may line Memory hint = hint ≡ []
 
 -- the notes are all that there is to tell about the files that were read for the line
 pub record AreNotesOf (may : Answer → Type 0) (line : Line) (files : List SourceFile) (notes : List ℕ) : Type 0 where

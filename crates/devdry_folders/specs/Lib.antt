@@ -7,5 +7,6 @@ pub mod Indexes
 pub mod Missing
 pub mod SightStatus
 pub mod Surveys
+pub mod Advice
 pub mod Staying
 pub mod Laws

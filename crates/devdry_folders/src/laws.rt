@@ -1,5 +1,5 @@
 //! Laws of what is reported, each the contract of a function with an empty body.
-ghost use Rattle.std.specs.Prelude.{◌≡◌, ◌==◌, [], ℕ, List, if◌then◌else◌, length, nat_eq, not, true};
+ghost use Rattle.std.specs.Prelude.{◌≡◌, ◌==◌, [], ℕ, Bool, List, if◌then◌else◌, length, nat_eq, not, true};
 ghost use Rattle.std.specs.List.{ends_with, find};
 ghost use Rattle.text_bytes.specs.FileOrder.{ordered};
 ghost use Rattle.text_bytes.specs.Kinds.{suffix_of};
@@ -39,8 +39,8 @@ pub fn a_path_leads_to_a_place_inside_its_root<D: Disk>()
 /// passed a file of the kinds that it needs or the index in place of the database, and 1 if it is not, which is then
 /// reported.
 pub fn what_could_not_be_read_makes_the_status()
-    ensures { (needed : List kinds.FileKind) (survey : surveys.Survey) (others : List Elsewhere)
-        → least_status (all_unread survey) (if has_needed needed survey then [] else nothing_lines needed survey.visits.items others)
+    ensures { (needed : List kinds.FileKind) (for_people : Bool) (survey : surveys.Survey) (others : List Elsewhere)
+        → least_status (all_unread for_people survey) (if has_needed needed survey then [] else nothing_lines needed survey.visits.items others)
         ≡ (if lacks_any survey then 3 else if passes_needed needed survey then 0 else 1) }
 {}
 

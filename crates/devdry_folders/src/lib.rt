@@ -5,6 +5,7 @@
 //! the whole report from that.
 #![tactic(auto)]
 
+mod advice;
 mod elsewhere;
 mod files;
 mod indexes;
@@ -19,6 +20,7 @@ mod sights;
 mod unread;
 mod visiting;
 
+pub use advice::advice_at;
 pub use laws::{
     a_path_leads_to_a_place_inside_its_root, no_file_is_reported_where_none_is_handed_on,
     the_file_that_counts_is_the_one_that_is_read, what_could_not_be_read_makes_the_status,

@@ -1,0 +1,62 @@
+-- What people are told about a path that a line asks for and that can't be read.
+use Rattle.std.specs.Prelude.{◌≡◌, ℕ, Bool, if◌then◌else◌, List, [], ◌∷◌, Option, Some, None}
+use Rattle.std.specs.Option.{option_or, option_to_list}
+use Rattle.text_tables.specs.Texts.{same_text}
+use Rattle.engine_ends.specs.declared.line.Line.{Line}
+use Rattle.devdry_files.specs.Answers.{Answer}
+use Rattle.devdry_folders.specs.Surveys.{IsSurveyFor}
+use Rattle.devdry_folders.specs.Unread.{advice_lines}
+use Rattle.devdry_folders.specs.declared.reasons.Reason.{Reason}
+use Rattle.devdry_folders.specs.declared.reasons.Reason.TheVariants.{NotRegular}
+use Rattle.devdry_folders.specs.declared.sights.Met.{Met}
+use Rattle.devdry_folders.specs.declared.sights.Met.TheVariants as met
+use Rattle.devdry_folders.specs.declared.sights.Sight.{Sight}
+use Rattle.devdry_folders.specs.declared.sights.Spot.{Spot}
+use Rattle.devdry_folders.specs.declared.sights.Spot.TheVariants as spot
+use Rattle.devdry_folders.specs.declared.sights.Survey.{Survey}
+use Rattle.devdry_folders.specs.declared.sights.Visit.{Visit}
+
+-- why what is met can't be read, if it can't
+abbrev pub reason_met : Met → Option Reason
+reason_met (met.Unread reason) = Some reason
+reason_met _ = None
+
+-- why what is at a path can't be read, if it can't: a folder that is named is no file
+abbrev pub reason_at : (is_named : Bool) → Spot → Option Reason
+reason_at is_named (spot.Unread reason) = Some reason
+reason_at is_named spot.Folder = if is_named then Some NotRegular else None
+reason_at is_named _ = None
+
+-- a reason if it is about this path
+abbrev pub if_about : (path at : List ℕ) → Option Reason → Option Reason
+if_about path at reason = if same_text at path then reason else None
+
+-- why a path can't be read, by the first of some sights that is of it and can't be
+abbrev pub reason_among : (path : List ℕ) → List Sight → Option Reason
+reason_among path [] = None
+reason_among path (s ∷ sights) = option_or (if_about path s.path (reason_met s.met)) (reason_among path sights)
+
+-- the same by a visit: of the folder, and then of what is in it
+abbrev pub reason_of_visit : (path : List ℕ) → Visit → Option Reason
+reason_of_visit path v = option_or (if_about path v.path (reason_at v.is_named v.scan.spot)) (reason_among path v.scan.sights.items)
+
+-- the same by the first of some visits
+abbrev pub reason_in_visits : (path : List ℕ) → List Visit → Option Reason
+reason_in_visits path [] = None
+reason_in_visits path (v ∷ visits) = option_or (reason_of_visit path v) (reason_in_visits path visits)
+
+-- the same by a survey: the index is looked at last
+abbrev pub reason_in : (path : List ℕ) → Survey → Option Reason
+reason_in path survey = option_or (reason_in_visits path survey.visits.items) (reason_among path (option_to_list survey.index))
+
+-- what people are told about a reason, if there is one
+abbrev pub advice_if : Option Reason → List ℕ
+advice_if None = []
+advice_if (Some reason) = advice_lines reason
+
+-- What people are told about a path: all that the line asks for was visited, and this follows from that. It is nothing if the
+-- path can be read by now.
+pub record IsAdvice (may : Answer → Type 0) (line : Line) (path advice : List ℕ) : Type 0 where
+  pub survey : Survey
+  pub is_survey : IsSurveyFor may line survey
+  pub advice_is : advice ≡ advice_if (reason_in path survey)

@@ -4,6 +4,7 @@ What is wanted follows the reference, docs/behaviour.md; nothing here was taken 
 """
 from tables.folders import RULES
 from tables.kinds.index_bytes import EMPTY
+from tables.kinds.people import FILES
 from tables.kinds.row import Link, Row
 
 GOOD = "1 files checked, 1 good, 0 bad\n"
@@ -84,15 +85,16 @@ ROOTS = [
         messages=is_database("x.hwdb") + beside("a\\x09b")),
 ]
 
+IRREGULAR = FILES["not a regular file"]
 FOLDERS = [
-    Row("a folder given to verify, for people", "verify --format=human d", {"d/a.rules": COMMENT}, messages=is_folder("d") + "devdry: cannot read d\n", status=3),
-    Row("a folder given to update, for people", "update --format=human d/", {"d/a.hwdb": COMMENT}, messages=is_folder("d/") + "devdry: cannot read d/\n",
+    Row("a folder given to verify, for people", "verify --format=human d", {"d/a.rules": COMMENT}, messages=is_folder("d") + "devdry: cannot read d\n" + IRREGULAR, status=3),
+    Row("a folder given to update, for people", "update --format=human d/", {"d/a.hwdb": COMMENT}, messages=is_folder("d/") + "devdry: cannot read d/\n" + IRREGULAR,
         status=3),
     Row("a folder after a file, for people", ["verify", "--format=human", "a.rules", "d\n"], {"a.rules": COMMENT, "d\n/a.rules": COMMENT},
-        messages=is_folder("d\\x0A") + "devdry: cannot read d\\x0A\n", status=3),
-    Row("no file, for people", "verify --format=human d", {}, messages="devdry: cannot read d\n", status=3),
+        messages=is_folder("d\\x0A") + "devdry: cannot read d\\x0A\n" + IRREGULAR, status=3),
+    Row("no file, for people", "verify --format=human d", {}, messages="devdry: cannot read d\n" + FILES["no such file"], status=3),
     Row("a folder given to verify", "verify --lint d", {"d/a.rules": COMMENT}, messages="devdry: cannot read d\n", status=3),
-    Row("a folder that is added, for people", "verify --format=human --with d.rules", {"d.rules/a.rules": COMMENT}, messages="devdry: cannot read d.rules\n",
+    Row("a folder that is added, for people", "verify --format=human --with d.rules", {"d.rules/a.rules": COMMENT}, messages="devdry: cannot read d.rules\n" + IRREGULAR,
         status=3),
     Row("a folder given to verify, for people and with --all", "verify --format=human --all d", {"d/a.rules": COMMENT}, output=GOOD),
 ]

@@ -482,7 +482,6 @@ NOT_UNDERSTOOD = [
     ("events --users passwd", "error: unexpected argument '--users' found\n"),
     ("update --groups group", "error: unexpected argument '--groups' found\n"),
     ("events --format gcc", NO_ANSWER_FORMAT),
-    ("events --format=human a.rules", NO_ANSWER_FORMAT.replace("gcc", "human")),
     ("events --format=xml a.rules", NO_ANSWER_FORMAT.replace("gcc", "xml")),
     ("compare --format= a b", NO_ANSWER_FORMAT.replace("gcc", "")),
     ("compare --format=sarif a b", NO_ANSWER_FORMAT.replace("gcc", "sarif")),

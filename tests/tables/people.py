@@ -2,6 +2,7 @@
 
 What is wanted follows the reference, docs/behaviour.md; nothing here was taken from the program.
 """
+from tables.kinds.index_bytes import EMPTY
 from tables.kinds.people import BLOCKS, FILES, link_to
 from tables.kinds.row import FOLDER, PIPE, Link, Moded, Row
 
@@ -85,8 +86,8 @@ def passed(words, output, status, *unread, files, **more):
 
 PASSED = [
     passed("verify --all --format=human none.rules a.rules", GOOD, 3, ("none.rules", "no such file", FILES["no such file"]), files={"a.rules": ""}),
-    passed("update --all --format=human a.hwdb a.rules", "", 3, ("a.rules", "not a regular file", FILES["not a regular file"]),
-           files={"a.hwdb": "m\n A=1\n", "a.rules": PIPE}),
+    passed("update --all --format=human a.hwdb p.hwdb", EMPTY, 3, ("p.hwdb", "not a regular file", FILES["not a regular file"]),
+           files={"a.hwdb": "", "p.hwdb": PIPE}),
     passed("events --all --format=human -r mnt", ANSWER.replace("env ACTION", "tag t\nenv ACTION"), 3,
            (f"mnt/{RULES}/b.rules", "link to nothing: /none", link_to("/none")), (f"mnt/{RULES}/c.rules", "not a regular file", FILES["not a regular file"]),
            files={f"mnt/{RULES}/a.rules": TAGGED, f"mnt/{RULES}/b.rules": Link("/none"), f"mnt/{RULES}/c.rules": PIPE}, input=BARE),

@@ -78,7 +78,8 @@ fn tell_of_wanted<D: Disk, E: Sink>(
     error: &mut E,
 ) -> u8
     requires { IsFaultOf (D.may_answer disk.now) line.now fault.now }
-    ensures { (input : SourceState) (out : SinkState) → TellsPeople (IsSaidAt (D.may_answer disk.now) line.now) (IsFaultOf (D.may_answer disk.now) line.now) result
+    ensures { (input : SourceState) (out : SinkState) → TellsPeople (IsSaidAt (D.may_answer disk.now) line.now)
+        (IsFaultOf (D.may_answer disk.now) line.now) result
         (record { input = input; out = out; err = E.shown error.old })
         (record { input = input; out = out; err = E.shown error.new }) }
 {
@@ -145,7 +146,8 @@ pub(crate) fn fail_both<D: Disk, E: Sink>(
     error: &mut E,
 ) -> u8
     requires { IsFaultOfBoth (D.may_answer disk.now) old.now new.now fault.now }
-    ensures { (input : SourceState) (out : SinkState) → FailsFor (is_for_people old.now.format) (IsSaidOfBoth (D.may_answer disk.now) old.now new.now)
+    ensures { (input : SourceState) (out : SinkState) → FailsFor (is_for_people old.now.format)
+        (IsSaidOfBoth (D.may_answer disk.now) old.now new.now)
         (IsFaultOfBoth (D.may_answer disk.now) old.now new.now) result
         (record { input = input; out = out; err = E.shown error.old })
         (record { input = input; out = out; err = E.shown error.new }) }

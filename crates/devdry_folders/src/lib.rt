@@ -22,7 +22,8 @@ mod visiting;
 
 pub use advice::advice_at;
 pub use laws::{
-    a_path_leads_to_a_place_inside_its_root, no_file_is_reported_where_none_is_handed_on,
+    a_link_to_nothing_is_told, a_path_leads_to_a_place_inside_its_root,
+    each_reason_has_its_own_advice, no_file_is_reported_where_none_is_handed_on,
     the_file_that_counts_is_the_one_that_is_read, what_could_not_be_read_makes_the_status,
 };
 pub use reading::{

@@ -121,11 +121,12 @@ use Rattle.engine_answers.specs.Answers.{lines_with}
 use Rattle.engine_answers.specs.Items.{node_lines, item_lines}
 use Rattle.engine_answers.specs.Lines.{text_line, pair_line, run_line, block_note_line, note_line}
 use Rattle.engine_ends.specs.EventLine.{event_line}
+use Rattle.engine_sessions.specs.BlockFaults.{block_line, block_said}
 use Rattle.eval_courses.specs.Fates.{fate, fates_from, keys_reached}
 use Rattle.engine_unused.specs.Rows.{counted, with_fates}
 use Rattle.engine_unused.specs.Unused.{greatest, line_on, lines_by, unmet_text, unused_lines}
 use Rattle.example_laws.specs.Answered.{answered_by}
-use Rattle.example_laws.specs.Reported.{sourced, sourced_as_udev, explained, explained_as_udev, asked, asked_in_vain, unused_by}
+use Rattle.example_laws.specs.Reported.{sourced, sourced_as_udev, explained, explained_as_udev, asked, asked_in_vain, told_people, unused_by}
 
 -- the words by which the text of a rules file is read
 unfoldable reading_rules : ⊤
@@ -176,7 +177,7 @@ reporting = tt
 
 -- those by which an answer is written
 unfoldable writing : ⊤
-unfolding lines_with node_lines item_lines text_line pair_line run_line block_notes block_note_line note_line event_line
+unfolding lines_with node_lines item_lines text_line pair_line run_line block_notes block_note_line note_line event_line block_line block_said
 writing = tt
 
 -- those by which files are checked
@@ -188,5 +189,5 @@ checking = tt
 
 -- all of these
 unfoldable pub computed : ⊤
-unfolding digits answered_by sourced sourced_as_udev explained explained_as_udev asked asked_in_vain unused_by checking reading_rules reading_blocks reading_databases reading_texts evaluating reporting writing
+unfolding digits answered_by sourced sourced_as_udev explained explained_as_udev asked asked_in_vain told_people unused_by checking reading_rules reading_blocks reading_databases reading_texts evaluating reporting writing
 computed = tt

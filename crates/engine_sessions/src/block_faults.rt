@@ -1,5 +1,5 @@
 //! What is said about a faulty block.
-ghost use Rattle.std.specs.Prelude.{◌≡◌, Ok};
+ghost use Rattle.std.specs.Prelude.{◌≡◌, false, true};
 ghost use Rattle.engine_sessions.specs.BlockFaults.{advice_lines, block_line, block_said};
 ghost use Rattle.engine_ends.specs.Delivery.{ReportsFailure};
 

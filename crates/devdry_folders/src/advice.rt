@@ -1,7 +1,10 @@
 //! What people are told about a path that a line asks for and that can't be read.
+ghost use Rattle.std.specs.List.{list_any};
 ghost use Rattle.std.specs.Option.{option_to_list};
 ghost use Rattle.std.specs.Prelude.{◌≡◌, IfOk, option_map};
-ghost use Rattle.devdry_folders.specs.Advice.{IsAdvice, advice_if, if_about, reason_among, reason_at, reason_in, reason_in_visits, reason_met, reason_of_visit};
+ghost use Rattle.devdry_folders.specs.Advice.{IsAdvice, advice_by, if_about, is_folder, is_named_folder, reason_among, reason_at, reason_in};
+ghost use Rattle.devdry_folders.specs.Advice.{reason_in_visits, reason_met, reason_of_visit};
+ghost use Rattle.devdry_folders.specs.Unread.{advice_lines};
 
 use crate::reading::survey_for;
 use crate::reasons::{Reason, push_advice};
@@ -20,15 +23,35 @@ fn reason_met(met: &Met) -> Option<&Reason>
     }
 }
 
-/// Why what is at a path can't be read, if it can't: a folder that is named is no file.
-fn reason_at(is_named: bool, spot: &Spot) -> Option<&Reason>
-    ensures { option_map (λ reason. reason.now) result ≡ reason_at is_named spot.now }
+/// Why what is at the path of a folder can't be read, if it can't.
+fn reason_at(spot: &Spot) -> Option<&Reason>
+    ensures { option_map (λ reason. reason.now) result ≡ reason_at spot.now }
 {
     match spot {
         Spot::Unread(reason) => Some(reason),
-        Spot::Folder if is_named => Some(&Reason::NotRegular),
         _ => None,
     }
+}
+
+/// Whether a folder was listed.
+fn is_folder(spot: &Spot) -> bool
+    ensures { result ≡ is_folder spot.now }
+{
+    matches!(spot, Spot::Folder)
+}
+
+/// Whether a path is that of a folder which is named as a file.
+fn is_named_folder(path: &[u8], visit: &Visit) -> bool
+    ensures { result ≡ is_named_folder path.now visit.now }
+{
+    visit.is_named && is_folder(&visit.scan.spot) && visit.path.as_slice() == path
+}
+
+/// Whether a path is that of a folder which one of these visits is of, and which is named as a file.
+fn is_one_named(path: &[u8], visits: &[Visit]) -> bool
+    ensures { result ≡ list_any (is_named_folder path.now) visits.now }
+{
+    visits.iter().any(|visit| is_named_folder(path, visit))
 }
 
 /// Why a path can't be read, by the first of some sights that is of it and can't be.
@@ -54,8 +77,7 @@ fn if_about<'a>(path: &[u8], at: &[u8], reason: Option<&'a Reason>) -> Option<&'
 fn reason_of_visit<'a>(path: &[u8], visit: &'a Visit) -> Option<&'a Reason>
     ensures { option_map (λ reason. reason.now) result ≡ reason_of_visit path.now visit.now }
 {
-    let at = reason_at(visit.is_named, &visit.scan.spot);
-    match if_about(path, visit.path.as_slice(), at) {
+    match if_about(path, visit.path.as_slice(), reason_at(&visit.scan.spot)) {
         Some(reason) => Some(reason),
         None => reason_among(path, &visit.scan.sights),
     }
@@ -93,15 +115,25 @@ fn reason_in<'a>(path: &[u8], survey: &'a Survey) -> Option<&'a Reason>
     }
 }
 
-/// What people are told about a reason, if there is one.
-fn advice_if(alloc: Global, reason: Option<&Reason>) -> Result<Vec<u8>, AllocError>
-    ensures { IfOk result (λ advice. advice.items ≡ advice_if (option_map (λ reason. reason.now) reason.entry)) }
+/// What people are told about a reason.
+fn advice_of(alloc: Global, reason: &Reason) -> Result<Vec<u8>, AllocError>
+    ensures { IfOk result (λ advice. advice.items ≡ advice_lines reason.now) }
 {
     let mut advice = Vec::new(alloc);
-    if let Some(reason) = reason {
-        push_advice(alloc, &mut advice, reason)?;
-    }
+    push_advice(alloc, &mut advice, reason)?;
     Ok(advice)
+}
+
+/// What people are told about a reason, if there is one; without one, what they are told about a folder that is no file, if it
+/// is one.
+fn advice_by(alloc: Global, reason: Option<&Reason>, is_folder: bool) -> Result<Vec<u8>, AllocError>
+    ensures { IfOk result (λ advice. advice.items ≡ advice_by (option_map (λ reason. reason.now) reason.entry) is_folder) }
+{
+    match reason {
+        Some(reason) => advice_of(alloc, reason),
+        None if is_folder => advice_of(alloc, &Reason::NotRegular),
+        None => Ok(Vec::new(alloc)),
+    }
 }
 
 /// What people are told about a path that a line asks for and that can't be read: all that it asks for is visited once more,
@@ -115,5 +147,7 @@ pub fn advice_at<D: Disk>(
     ensures { IfOk result (λ advice. IsAdvice (D.may_answer disk.now) line.now path.now advice.items) }
 {
     let survey = survey_for(alloc, disk, line)?;
-    advice_if(alloc, reason_in(path.as_bytes(), &survey))
+    let path = path.as_bytes();
+    let is_folder = is_one_named(path, &survey.visits);
+    advice_by(alloc, reason_in(path, &survey), is_folder)
 }

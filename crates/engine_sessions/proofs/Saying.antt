@@ -1,5 +1,5 @@
 -- From the steps of a run that ends with a text about all of its input to what it serves.
-use Rattle.std.proofs.Common.{◌≡◌, ℕ, inl, inr, cond, Result, Ok, Err, List, [], ◌∷◌, ◌++◌, length, refl, ap, sym, ◌∙◌, subst, arith}
+use Rattle.std.proofs.Common.{◌≡◌, ℕ, Bool, inl, inr, cond, Result, Ok, Err, List, [], ◌∷◌, ◌++◌, length, refl, ap, sym, ◌∙◌, subst, arith}
 use Rattle.std.proofs.lemmas.Bool.{ne_eqb}
 use Rattle.std.proofs.lemmas.List.{append-nil}
 use Rattle.text_tables.specs.Texts.{Text}

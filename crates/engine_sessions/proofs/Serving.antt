@@ -1,5 +1,5 @@
 -- From the steps of a run to what it serves.
-use Rattle.std.proofs.Common.{◌≡◌, ℕ, ◌+◌, ◌≤◌, ◌<◌, ◌⊎◌, inl, inr, length, take, Option, None, Some, List, [], ◌∷◌, ◌++◌, refl, Result, Ok, Err, length-append, ap, sym, ◌∙◌, subst, arith}
+use Rattle.std.proofs.Common.{◌≡◌, ℕ, Bool, ◌+◌, ◌≤◌, ◌<◌, ◌⊎◌, inl, inr, length, take, Option, None, Some, List, [], ◌∷◌, ◌++◌, refl, Result, Ok, Err, length-append, ap, sym, ◌∙◌, subst, arith}
 use Rattle.std.proofs.lemmas.Bool.{cases_lt}
 use Rattle.std.proofs.lemmas.List.{append-nil, take-append-le}
 use Rattle.std.proofs.lemmas.Grind.{flat_map-append}

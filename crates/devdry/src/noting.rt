@@ -1,12 +1,13 @@
 //! Runs that tell about their files before they answer.
 ghost use Rattle.std.specs.Prelude.{◌≡◌, IfOk};
 ghost use Rattle.devdry.specs.Finding.{RunsFinding};
-ghost use Rattle.devdry.specs.Noting.{AreNotesOf, IsHintAt, IsNoteAt, IsRootSeen, IsThere, is_folder, note_if};
+ghost use Rattle.devdry.specs.Noting.{AreLyingFor, AreNotesOf, IsHintAt, IsNoteAt, IsRootSeen, IsThere, is_folder, note_if};
 ghost use Rattle.devdry.specs.PartialRuns.{RunsNoted};
 
 use crate::finding::serve_finding;
 use devdry_files::{Disk, Look};
-use devdry_notes::{asks_folder, asks_root, folder_note, notes_of};
+use devdry_folders::rules_lying;
+use devdry_notes::{asks_folder, asks_lying, asks_root, folder_note, notes_of};
 use engine_ends::{DeviceFault, Line, Sink, Source, hand_on};
 use std::alloc::{AllocError, Global};
 use text_bytes::{Bytes, SourceFile};
@@ -117,6 +118,17 @@ pub(crate) fn hint_at<D: Disk>(
     }
 }
 
+/// The paths of the rules files in the folders of a line's root, if it asks about them; otherwise nothing is looked at.
+fn lying_for<D: Disk>(alloc: Global, disk: &D, line: &Line<'_>) -> Result<Vec<Bytes>, AllocError>
+    ensures { IfOk result (λ lying. AreLyingFor (D.may_answer disk.now) line.now lying.items) }
+{
+    if asks_lying(line) {
+        rules_lying(alloc, disk, line.root)
+    } else {
+        Ok(Vec::new(alloc))
+    }
+}
+
 /// What there is to tell about files that were read for a line.
 pub(crate) fn notes_on<D: Disk>(
     alloc: Global,
@@ -127,5 +139,6 @@ pub(crate) fn notes_on<D: Disk>(
     ensures { IfOk result (λ notes. AreNotesOf (D.may_answer disk.now) line.now files.now notes.items) }
 {
     let there = is_root_seen(alloc, disk, line)?;
-    notes_of(alloc, line, files, there)
+    let lying = lying_for(alloc, disk, line)?;
+    notes_of(alloc, line, files, there, &lying)
 }

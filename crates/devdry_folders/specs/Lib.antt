@@ -8,5 +8,6 @@ pub mod Missing
 pub mod SightStatus
 pub mod Surveys
 pub mod Advice
+pub mod Lying
 pub mod Staying
 pub mod Laws

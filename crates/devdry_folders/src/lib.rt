@@ -10,6 +10,7 @@ mod elsewhere;
 mod files;
 mod indexes;
 mod laws;
+mod lying;
 mod meetings;
 mod missing;
 mod nothing;
@@ -26,6 +27,7 @@ pub use laws::{
     each_reason_has_its_own_advice, no_file_is_reported_where_none_is_handed_on,
     the_file_that_counts_is_the_one_that_is_read, what_could_not_be_read_makes_the_status,
 };
+pub use lying::rules_lying;
 pub use reading::{
     Listed, ReadSome, Report, least_status, list_files, read_files_that_can, read_what_can,
     report_on_files,

@@ -28,7 +28,7 @@ _devdry_words() {
 # _devdry_formats: the current word may become a format: answers have fewer.
 _devdry_formats() {
     case $command in
-        events | compare) _devdry_words plain json ;;
+        events | compare) _devdry_words plain json human ;;
         *) _devdry_words plain gcc github gitlab json sarif human ;;
     esac
 }

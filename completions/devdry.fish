@@ -26,7 +26,7 @@ complete -c devdry -n '__fish_seen_subcommand_from verify query update' -l stdin
 set -l codes V1 V2 V3 V4 V5 V6 V7 V8 V9 V10 V11 V12 V13 V14 V15 V16 V17 V18 V19 V20 V21 V22 V23 V24 V25 V26 S1 S2 S3 S4 S5 S6 H1 H2 H3 H4 H5 H6 W1 W2 W3 W4 W5 W6 W7 W8 W9 W10 W11 W12 W13 W14 W15 W16 W17 W18 W19 W20 W21 W22 W23 W24 W25 W26 W27 D1 D2 D3 D4 D5 D6 D7 D8 D9 D10 D11 D12 D13 L1 L2 L3 L4 L5
 complete -c devdry -n '__fish_seen_subcommand_from verify update query events compare' -l all -d 'Go on where a file can\'t be read, and fail where there is none'
 complete -c devdry -n '__fish_seen_subcommand_from verify update' -l format -x -a 'plain gcc github gitlab json sarif human' -d 'How messages are written'
-complete -c devdry -n '__fish_seen_subcommand_from events compare' -l format -x -a 'plain json' -d 'How answers are written'
+complete -c devdry -n '__fish_seen_subcommand_from events compare' -l format -x -a 'plain json human' -d 'How answers are written'
 complete -c devdry -n '__fish_seen_subcommand_from verify update' -l color -x -a 'auto always never' -d 'When messages for people are in colors'
 complete -c devdry -n '__fish_seen_subcommand_from verify update' -l ignore -x -a "V S H W D L I $codes comments" -d 'Leave out the messages of these codes'
 complete -c devdry -n '__fish_seen_subcommand_from compare' -a '(__fish_complete_directories)'

@@ -103,7 +103,8 @@ COLORS = [
     ("--color=never on a terminal", "verify --format=human --color=never a.rules", ["stderr"], None, COUNTED, PLAIN),
     ("--color=auto on a terminal", "verify --format=human --color=auto a.rules", ["stderr"], None, COUNTED, PAINTED),
     ("--color=auto to a pipe", "verify --format=human --color=auto a.rules", [], None, COUNTED, PLAIN),
-    ("a line that is not a message", "verify --format=human none.rules", ["stderr"], None, "", "devdry: cannot read none.rules\n"),
+    ("a line that is not a message", "verify --format=human none.rules", ["stderr"], None, "", "devdry: cannot read none.rules\n  There is no such file.\n"
+     "  = Check the path, letter by letter and from its first folder on.\n"),
 ]
 
 

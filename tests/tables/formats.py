@@ -5,6 +5,7 @@ nothing here was taken from the program. tests/read_formats.py reads the formats
 """
 from tables.kinds.index_bytes import EMPTY
 from tables.kinds.marked import FORMATS, REPORTS, gitlab_report, in_formats, messages, read_marks, sarif_log, sentence, summary, written
+from tables.kinds.people import FILES
 from tables.kinds.row import Begins, Read, Row
 
 # The example of README.md, and what each format says about it.
@@ -327,7 +328,7 @@ ROWS = [
         output="1 files checked, 0 good, 1 bad\n", messages="mnt//etc/udev/rules.d/r.rules:1:1: error: bad syntax: FOO [V1]\n",
         status=1),
     *(Row(f"an unreadable file is reported as without --format, {form}", f"verify --format {form} r.rules x.rules", {"r.rules": MISTAKES},
-          messages="devdry: cannot read x.rules\n", status=3) for form in FORMATS),
+          messages="devdry: cannot read x.rules\n" + (FILES["no such file"] if form == "human" else ""), status=3) for form in FORMATS),
     *(Row(f"unknown format, {words}", words, {"r.rules": MISTAKES}, messages=Begins(b"error: "), status=2)
       for words in ["verify --format=xml r.rules", "verify --format GCC r.rules", "update --format= r.rules", "verify --format",
                     "verify --format=gcc --format=json r.rules", "query --format=gcc m r.rules", "events --format=gcc r.rules"]),

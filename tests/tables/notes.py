@@ -4,6 +4,7 @@ What is wanted follows the reference, docs/behaviour.md; nothing here was taken 
 """
 from tables.folders import RULES
 from tables.kinds.index_bytes import EMPTY
+from tables.kinds.people import FILES
 from tables.kinds.row import Link, Row
 
 GOOD = "1 files checked, 1 good, 0 bad\n"
@@ -84,17 +85,55 @@ ROOTS = [
         messages=is_database("x.hwdb") + beside("a\\x09b")),
 ]
 
+IRREGULAR = FILES["not a regular file"]
 FOLDERS = [
-    Row("a folder given to verify, for people", "verify --format=human d", {"d/a.rules": COMMENT}, messages=is_folder("d") + "devdry: cannot read d\n", status=3),
-    Row("a folder given to update, for people", "update --format=human d/", {"d/a.hwdb": COMMENT}, messages=is_folder("d/") + "devdry: cannot read d/\n",
+    Row("a folder given to verify, for people", "verify --format=human d", {"d/a.rules": COMMENT}, messages=is_folder("d") + "devdry: cannot read d\n" + IRREGULAR, status=3),
+    Row("a folder given to update, for people", "update --format=human d/", {"d/a.hwdb": COMMENT}, messages=is_folder("d/") + "devdry: cannot read d/\n" + IRREGULAR,
         status=3),
     Row("a folder after a file, for people", ["verify", "--format=human", "a.rules", "d\n"], {"a.rules": COMMENT, "d\n/a.rules": COMMENT},
-        messages=is_folder("d\\x0A") + "devdry: cannot read d\\x0A\n", status=3),
-    Row("no file, for people", "verify --format=human d", {}, messages="devdry: cannot read d\n", status=3),
+        messages=is_folder("d\\x0A") + "devdry: cannot read d\\x0A\n" + IRREGULAR, status=3),
+    Row("no file, for people", "verify --format=human d", {}, messages="devdry: cannot read d\n" + FILES["no such file"], status=3),
     Row("a folder given to verify", "verify --lint d", {"d/a.rules": COMMENT}, messages="devdry: cannot read d\n", status=3),
-    Row("a folder that is added, for people", "verify --format=human --with d.rules", {"d.rules/a.rules": COMMENT}, messages="devdry: cannot read d.rules\n",
+    Row("a folder that is added, for people", "verify --format=human --with d.rules", {"d.rules/a.rules": COMMENT}, messages="devdry: cannot read d.rules\n" + IRREGULAR,
         status=3),
     Row("a folder given to verify, for people and with --all", "verify --format=human --all d", {"d/a.rules": COMMENT}, output=GOOD),
+]
+
+ETC = "mnt/etc/udev/rules.d"
+LIB = "mnt/usr/lib/udev/rules.d"
+TAGGED = 'TAG+="t"\n'
+
+
+def not_read(path):
+    return f"devdry: {path}: not read, though --why asks for a file of its name\n"
+
+
+def no_file(text, near=""):
+    return f"devdry: --why {text}: no such rules file{near}\n"
+
+
+LYING = [
+    Row("--why asks for a file of a root that is not read beside a FILE", "events -r mnt --why b.rules c.rules", {f"{LIB}/b.rules": TAGGED, "c.rules": TAGGED}, BARE,
+        messages=beside("mnt") + not_read(f"{LIB}/b.rules") + no_file("b.rules", ", the nearest is c.rules"), status=2),
+    Row("the same, with a line and a path", "events -r mnt --why x/b.rules:3 long-name.rules", {f"{LIB}/b.rules": TAGGED, "long-name.rules": TAGGED}, BARE,
+        messages=beside("mnt") + not_read(f"{LIB}/b.rules") + no_file("x/b.rules:3"), status=2),
+    Row("one in each folder", "events -r mnt --why b.rules long-name.rules", {f"{LIB}/b.rules": TAGGED, f"{ETC}/b.rules": TAGGED, f"{LIB}/a.rules": TAGGED,
+        "long-name.rules": TAGGED}, BARE,
+        messages=beside("mnt") + not_read(f"{ETC}/b.rules") + not_read(f"{LIB}/b.rules") + no_file("b.rules"), status=2),
+    Row("a file that is masked", "events -r mnt --why b.rules", {f"{LIB}/b.rules": TAGGED, f"{ETC}/b.rules": Link("/dev/null")}, BARE,
+        messages=not_read(f"{LIB}/b.rules") + no_file("b.rules"), status=2),
+    Row("a file that is masked by an empty one", "events -r mnt --why b.rules:1", {f"{LIB}/b.rules": TAGGED, f"{ETC}/b.rules": ""}, BARE,
+        messages=not_read(f"{LIB}/b.rules") + no_file("b.rules:1"), status=2),
+    Row("a file that hides another one is asked for", "events -r mnt --why b.rules", {f"{LIB}/b.rules": "FOO\n", f"{ETC}/b.rules": 'KERNEL=="x"\n'}, BARE,
+        "event add /d\nenv ACTION=add\nenv DEVPATH=/d\nwhy b.rules:1: KERNEL==\"x\": fails, d\nwhy b.rules:1: stops there\n\n"),
+    Row("a FILE of the name is asked for", "events -r mnt --why b.rules b.rules", {f"{LIB}/b.rules": "FOO\n", "b.rules": 'KERNEL=="x"\n'}, BARE,
+        "event add /d\nenv ACTION=add\nenv DEVPATH=/d\nwhy b.rules:1: KERNEL==\"x\": fails, d\nwhy b.rules:1: stops there\n\n", beside("mnt")),
+    Row("only names that are asked for are told", "events -r mnt --why a.rules:2 long-name.rules",
+        {f"{LIB}/a.rules": "", f"{LIB}/aa.rules": "", f"{LIB}/a.rules.bak": "", f"{LIB}/a.rules:2": "", "long-name.rules": TAGGED}, BARE,
+        messages=beside("mnt") + not_read(f"{LIB}/a.rules") + no_file("a.rules:2"), status=2),
+    Row("a name that is told escaped", ["events", "-r", "mnt", "--why", "b\n.rules", "long-name.rules"], {f"{LIB}/b\n.rules": "", "long-name.rules": TAGGED}, BARE,
+        messages=beside("mnt") + not_read(f"{LIB}/b\\x0A.rules") + no_file("b\\x0A.rules"), status=2),
+    Row("the same without --why", "events -r mnt c.rules", {f"{LIB}/b.rules": TAGGED, "c.rules": "# none\n"}, BARE, "event add /d\nenv ACTION=add\nenv DEVPATH=/d\n\n"),
 ]
 
 SPACED = 'KERNEL=="a", ENV{A}="b\u00a0c"\n'
@@ -120,4 +159,4 @@ UNSEEN = [
     Row("a database file with them", "update --lint a.hwdb", {"a.hwdb": "# \u00a0\r\n"}, output=EMPTY),
 ]
 
-ROWS = [*KINDS, *ROOTS, *FOLDERS, *UNSEEN]
+ROWS = [*KINDS, *ROOTS, *FOLDERS, *LYING, *UNSEEN]

@@ -91,7 +91,23 @@ ASKED = [
         {"d/r.rules": 'TAG+="t"\n', "e/r.rules": 'TAG+="u"\n'}, BARE,
         START + "tag t\ntag u\n" + STARTED + "why d/r.rules:1: reached its end: tag t added\n\n"),
     Row("a path to another file of that name", "events -r none --why e/r.rules d/r.rules", {"d/r.rules": 'TAG+="t"\n'}, BARE, "",
-        "devdry: --why e/r.rules: no such rules file\n", 2),
+        "devdry: --why e/r.rules: no such rules file, the nearest is d/r.rules\n", 2),
+    Row("a name near that of a file of a folder", "events -r mnt --why some/where/60-seriel.rules:3", {"mnt/etc/udev/rules.d/60-serial.rules": 'TAG+="t"\n'}, BARE, "",
+        "devdry: --why some/where/60-seriel.rules:3: no such rules file, the nearest is 60-serial.rules\n", 2),
+    Row("a name near that of a file that was named by a path", "events -r none --why R.RULE d/r.rules e/s.rules",
+        {"d/r.rules": 'TAG+="t"\n', "e/s.rules": 'TAG+="u"\n'}, BARE, "",
+        "devdry: --why R.RULE: no such rules file, the nearest is d/r.rules\n", 2),
+    Row("a name without its number", "events -r none --why disk.rules:1 10-disk.rules 20-disk.rules",
+        {"10-disk.rules": 'TAG+="t"\n', "20-disk.rules": 'TAG+="u"\n'}, BARE, "",
+        "devdry: --why disk.rules:1: no such rules file, the nearest is 10-disk.rules\n", 2),
+    Row("the name of the nearest file is escaped", ["events", "-r", "none", "--why", "a.rules", "a\tb.rules"], {"a\tb.rules": 'TAG+="t"\n'}, BARE, "",
+        "devdry: --why a.rules: no such rules file, the nearest is a\\x09b.rules\n", 2),
+    Row("four bytes are not near a name of six", "events -r none --why xyzles r.rules", {"r.rules": 'TAG+="t"\n'}, BARE, "",
+        "devdry: --why xyzles: no such rules file\n", 2),
+    Row("no file has a name of 256 bytes", ["events", "-r", "none", "--why", "r" * 256, "r" * 255], {"r" * 255: 'TAG+="t"\n'}, BARE, "",
+        f"devdry: --why {'r' * 256}: no such rules file\n", 2),
+    Row("a name of 255 bytes", ["events", "-r", "none", "--why", "r" * 254 + "s", "r" * 255], {"r" * 255: 'TAG+="t"\n'}, BARE, "",
+        f"devdry: --why {'r' * 254}s: no such rules file, the nearest is {'r' * 255}\n", 2),
     Row("the nearest rule to a line of a path", "events -r mnt --why ./r.rules:7", {"mnt/etc/udev/rules.d/r.rules": 'TAG+="t"\n'}, BARE, "",
         "devdry: --why ./r.rules:7: no such rule, the nearest is r.rules:1\n", 2),
     Row("a name that is escaped is asked about unescaped", ["events", "-r", "none", "--why", "a\tb.rules", "--why", "c\\d.rules:1", "a\tb.rules", "c\\d.rules"],
@@ -119,11 +135,12 @@ LINES = {
 MESSAGES = "r.rules:12: V2 unknown key: FOO\nbad.rules:3: V2 unknown key: FOO\n"
 
 
-def nearest(*texts, place=None):
-    """A run that is asked about these texts, the last of which selects no rule, and the nearest rule, if there is one."""
+def nearest(*texts, place=None, file=None):
+    """A run that is asked about these texts, the last of which selects no rule, and the nearest rule or file, if there is one."""
     *known, text = texts
     words = [word for known_text in texts for word in ("--why", known_text)]
     said = f"no such rule, the nearest is {place}" if place else "no such rules file"
+    said += f", the nearest is {file}" if file else ""
     shown = text.replace("\\", "\\x5C").replace("\t", "\\x09").replace("\n", "\\x0A")
     return Row(f"{' and '.join(map(repr, texts))}: {said}", ["events", "-r", "none", *words, *LINES], LINES, BARE,
                messages=f"{MESSAGES}devdry: --why {shown}: {said}\n", status=2)
@@ -148,13 +165,13 @@ UNKNOWN = [
     nearest("none.rules:1"),
     nearest("other.rules"),
     nearest("other.rules:2"),
-    nearest("r.rule"),
-    nearest("r.rules:"),
-    nearest("r.rules:x"),
-    nearest("r.rules:2x"),
-    nearest("r.rules:+2"),
-    nearest("r.rules:2:"),
-    nearest("r.rules:2:1"),
+    nearest("r.rule", file="r.rules"),
+    nearest("r.rules:", file="r.rules"),
+    nearest("r.rules:x", file="r.rules"),
+    nearest("r.rules:2x", file="r.rules"),
+    nearest("r.rules:+2", file="r.rules"),
+    nearest("r.rules:2:", file="r.rules"),
+    nearest("r.rules:2:1", file="r.rules"),
     nearest(":2"),
     nearest(""),
     nearest("a\tb\\c\n:1"),

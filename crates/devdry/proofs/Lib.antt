@@ -1,1 +1,2 @@
 pub mod ByFile
+pub mod Failing

@@ -1,6 +1,7 @@
 -- What `compare` does with two lines of `events`.
 use Rattle.std.specs.Prelude.{◌≡◌, ◌++◌, ℕ, ◌⊎◌, Bool, true, false, List, Option, max}
 use Rattle.text_bytes.specs.declared.source_file.SourceFile.{SourceFile}
+use Rattle.engine_ends.specs.Readers.{is_for_people}
 use Rattle.engine_ends.specs.declared.line.Line.{Line}
 use Rattle.engine_ends.specs.Streams.{Streams}
 use Rattle.devdry_files.specs.Answers.{Answer}
@@ -15,7 +16,8 @@ use Rattle.devdry_folders.specs.declared.reading.ReadSome.{ReadSome}
 use Rattle.devdry_folders.specs.declared.reading.Report.{Report}
 use Rattle.devdry.specs.Finding.{ComparesFinding}
 use Rattle.devdry.specs.PartialRuns.{RunsAfter}
-use Rattle.devdry.specs.Reading.{AreReadFor, FailsAt, IsFaultOf, IsRefusedToRead}
+use Rattle.devdry.specs.Failing.{FailsFor, IsSaidOfBoth}
+use Rattle.devdry.specs.Reading.{AreReadFor, IsFaultOf, IsRefusedToRead}
 
 -- the files are those that the line asks for
 pub record AreFilesFor (may : Answer → Type 0) (line : Line) (files : List SourceFile) : Type 0 where
@@ -90,7 +92,8 @@ pub record ComparesRead (may : Answer → Type 0) (Read : List SourceFile → Li
 -- what `compare` does with two lines if it ends at what can't be read
 abbrev pub ComparesWanted : (Answer → Type 0) → Line → Line → ℕ → Streams → Streams → Type 0
 ComparesWanted may old new status before now =
-    ComparesRead may (AreReadForBoth may old new) old new status before now ⊎ FailsAt (IsFaultOfBoth may old new) status before now
+    ComparesRead may (AreReadForBoth may old new) old new status before now
+    ⊎ FailsFor (is_for_people old.format) (IsSaidOfBoth may old new) (IsFaultOfBoth may old new) status before now
 
 -- what it does with two lines if it goes on after that
 abbrev pub ComparesSome : (Answer → Type 0) → Line → Line → ℕ → Streams → Streams → Type 0

@@ -4,6 +4,7 @@ pub mod Reading
 pub mod Finding
 pub mod Knowing
 pub mod Piping
+pub mod Failing
 pub mod Comparing
 pub mod Terminals
 pub mod Linking

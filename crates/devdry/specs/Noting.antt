@@ -1,15 +1,17 @@
 -- What there is to tell about files before a run.
-use Rattle.std.specs.Prelude.{◌≡◌, ℕ, Bool, true, false, if◌then◌else◌, List, [], MatchBool, string_bytes}
+use Rattle.std.specs.Prelude.{◌≡◌, ℕ, Bool, true, false, if◌then◌else◌, List, [], MatchBool}
 use Rattle.text_bytes.specs.declared.source_file.SourceFile.{SourceFile}
 use Rattle.engine_ends.specs.declared.line.Line.{Line}
 use Rattle.devdry_files.specs.Answers.{Answer}
 use Rattle.devdry_files.specs.Answers.Answer.{Looked}
+use Rattle.devdry_files.specs.Inside.{MayInside}
 use Rattle.devdry_files.specs.declared.look.Look.{Look}
 use Rattle.devdry_files.specs.declared.look.Look.TheVariants.{Folder}
-use Rattle.devdry_files.specs.declared.fault.ReadFault.{ReadFault}
-use Rattle.devdry_files.specs.declared.fault.ReadFault.TheVariants.{Memory, Path}
+use Rattle.devdry_folders.specs.Lying.{AreLying}
 use Rattle.devdry_notes.specs.Asked.{asks_folder, asks_root}
-use Rattle.devdry_notes.specs.Notes.{folder_note, notes_of}
+use Rattle.devdry_notes.specs.Lying.{asks_lying}
+use Rattle.devdry_notes.specs.Notes.{folder_note}
+use Rattle.devdry_notes.specs.Told.{notes_of}
 
 -- whether a folder was seen
 abbrev pub is_folder : Look → Bool
@@ -36,13 +38,14 @@ IsNoteAt may path note = (there : Bool) × IsThere may path there × (note ≡ n
 abbrev pub IsHintAt : (Answer → Type 0) → Line → (path hint : List ℕ) → Type 0
 IsHintAt may line path hint = MatchBool (asks_folder line path) (IsNoteAt may path hint) (hint ≡ [])
 
--- the hint on a file that could not be read
-abbrev pub IsHintOn : (Answer → Type 0) → Line → ReadFault → (hint : List ℕ) → Type 0
-IsHintOn may line (Path path) hint = IsHintAt may line (string_bytes path) hint
-IsHintOn may line Memory hint = hint ≡ []
+-- the paths of the rules files in the folders of a line's root, if it asks about them; otherwise nothing is looked at
+abbrev pub AreLyingFor : (Answer → Type 0) → Line → (paths : List (List ℕ)) → Type 0
+AreLyingFor may line paths = MatchBool (asks_lying line) (AreLying (MayInside may line.root.now) line.root.now paths) (paths ≡ [])
 
 -- the notes are all that there is to tell about the files that were read for the line
 pub record AreNotesOf (may : Answer → Type 0) (line : Line) (files : List SourceFile) (notes : List ℕ) : Type 0 where
   pub there : Bool
   pub seen : IsRootSeen may line there
-  pub notes_are : notes ≡ notes_of line files there
+  pub lying : List (List ℕ)
+  pub are_lying : AreLyingFor may line lying
+  pub notes_are : notes ≡ notes_of line files there lying

@@ -2,6 +2,7 @@
 use Rattle.std.specs.Prelude.{◌≡◌, ◌&&◌, ℕ, ◌⊎◌, Bool, List, [], MatchBool, MatchOption, Option, codes, true, false}
 use Rattle.clap.specs.Words.{fault_of, subcommand_of}
 use Rattle.text_bytes.specs.declared.source_file.SourceFile.{SourceFile}
+use Rattle.engine_ends.specs.Readers.{is_for_people}
 use Rattle.engine_ends.specs.declared.line.Line.{Line}
 use Rattle.engine_ends.specs.declared.line.LineFault.{LineFault}
 use Rattle.engine_ends.specs.declared.line.Request.{Request}
@@ -10,7 +11,6 @@ use Rattle.engine_ends.specs.Sources.{SourceState}
 use Rattle.engine_ends.specs.Streams.{Streams, outputs}
 use Rattle.devdry_files.specs.Answers.{Answer}
 use Rattle.devdry_files.specs.Answers.Answer.{Content}
-use Rattle.devdry_files.specs.declared.fault.ReadFault.{ReadFault}
 use Rattle.devdry_folders.specs.declared.reading.Report.{Report}
 use Rattle.devdry_link_checks.specs.Running.{ChecksLinks}
 use Rattle.devdry_input.specs.Beside.{MayBeside}
@@ -23,7 +23,8 @@ use Rattle.devdry_words.specs.Requests.{IsRequestOf}
 use Rattle.devdry.specs.Comparing.{ComparesLines}
 use Rattle.devdry.specs.Finding.{RunsFinding, is_events}
 use Rattle.devdry.specs.Linking.{ReadsRequest, RunsReported}
-use Rattle.devdry.specs.Noting.{AreNotesOf, IsHintOn}
+use Rattle.devdry.specs.Failing.{FailsFor, IsSaidAt}
+use Rattle.devdry.specs.Noting.{AreNotesOf}
 use Rattle.devdry.specs.Options.{DoesByFile, IsFaultAt}
 use Rattle.devdry.specs.PartialRuns.{ListsFiles, RunsAfter, RunsNoted, RunsSome}
 use Rattle.devdry.specs.Knowing.{IsFaultOfAccounts, KnowsAccounts}
@@ -46,13 +47,9 @@ pub record RunsOverFiles (may : Answer → Type 0) (line : Line) (status : ℕ) 
   pub are_read : AreReadFor may line files index
   pub runs : RunsRead may line files index status before now
 
--- Something that the line asks for could not be read, and that is reported, after a hint on it if there is one.
-pub record FailsWanted (may : Answer → Type 0) (line : Line) (status : ℕ) (before now : Streams) : Type 0 where
-  pub fault : ReadFault
-  pub is_fault : IsFaultOf may line fault
-  pub hint : List ℕ
-  pub is_hint : IsHintOn may line fault hint
-  pub fails : RunsNoted hint (FailsAt (λ f. f ≡ fault)) status before now
+-- something that the line asks for could not be read, and that is reported
+abbrev pub FailsWanted : (Answer → Type 0) → Line → ℕ → Streams → Streams → Type 0
+FailsWanted may line status before now = FailsFor (is_for_people line.format) (IsSaidAt may line) (IsFaultOf may line) status before now
 
 -- what a line that ends at what can't be read does
 abbrev pub RunsWanted : (Answer → Type 0) → Line → ℕ → Streams → Streams → Type 0

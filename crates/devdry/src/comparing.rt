@@ -3,8 +3,8 @@ ghost use Rattle.std.specs.Prelude.{IfErr, IfOk};
 ghost use Rattle.devdry.specs.Comparing.{AreFilesFor, AreReadForBoth, AreReadOfBoth, AreReported, AreReportedOnBoth, ComparesAfter, ComparesLines};
 ghost use Rattle.devdry.specs.Comparing.{ComparesSome, ComparesWanted, IsFaultOfBoth, IsFileFault};
 
+use crate::failing::fail_both;
 use crate::finding::compare_finding;
-use crate::reporting::report_read_fault;
 use crate::running::{Inputs, read_wanted};
 use devdry_files::{Disk, ReadFault, read_all, wanted};
 use devdry_folders::{ReadSome, Report, read_files_that_can, read_what_can, report_on_files};
@@ -64,7 +64,7 @@ fn compare_wanted<D: Disk, I: Source, W: Sink, E: Sink>(
 {
     match read_both(alloc, disk, old, new) {
         Ok(both) => compare_after(alloc, disk, old, new, both, input, output, error),
-        Err(fault) => report_read_fault(&fault, error),
+        Err(fault) => fail_both(alloc, disk, old, new, &fault, error),
     }
 }
 

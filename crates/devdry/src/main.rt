@@ -8,6 +8,7 @@
 ghost use Rattle.std.specs.Prelude.{◌≡◌, drop};
 
 mod comparing;
+mod failing;
 mod finding;
 mod knowing;
 mod linking;

@@ -1,16 +1,13 @@
 //! Runs that tell about their files before they answer.
 ghost use Rattle.std.specs.Prelude.{◌≡◌, IfOk};
-ghost use Rattle.engine_ends.specs.Sinks.{SinkState};
-ghost use Rattle.engine_ends.specs.Sources.{SourceState};
 ghost use Rattle.devdry.specs.Finding.{RunsFinding};
-ghost use Rattle.devdry.specs.Noting.{AreNotesOf, IsHintAt, IsHintOn, IsNoteAt, IsRootSeen, IsThere, is_folder, note_if};
+ghost use Rattle.devdry.specs.Noting.{AreLyingFor, AreNotesOf, IsHintAt, IsNoteAt, IsRootSeen, IsThere, is_folder, note_if};
 ghost use Rattle.devdry.specs.PartialRuns.{RunsNoted};
-ghost use Rattle.devdry.specs.Reading.{FailsAt};
 
 use crate::finding::serve_finding;
-use crate::reporting::report_read_fault;
-use devdry_files::{Disk, Look, ReadFault};
-use devdry_notes::{asks_folder, asks_root, folder_note, notes_of};
+use devdry_files::{Disk, Look};
+use devdry_folders::rules_lying;
+use devdry_notes::{asks_folder, asks_lying, asks_root, folder_note, notes_of};
 use engine_ends::{DeviceFault, Line, Sink, Source, hand_on};
 use std::alloc::{AllocError, Global};
 use text_bytes::{Bytes, SourceFile};
@@ -106,7 +103,7 @@ fn note_at<D: Disk>(alloc: Global, disk: &D, path: &str) -> Result<Vec<u8>, Allo
 }
 
 /// The hint on a file at a path, if a line asks whether it is a folder; otherwise nothing is looked at.
-fn hint_at<D: Disk>(
+pub(crate) fn hint_at<D: Disk>(
     alloc: Global,
     disk: &D,
     line: &Line<'_>,
@@ -121,34 +118,14 @@ fn hint_at<D: Disk>(
     }
 }
 
-/// The hint on a file that could not be read.
-pub(crate) fn hint_on<D: Disk>(
-    alloc: Global,
-    disk: &D,
-    line: &Line<'_>,
-    fault: &ReadFault,
-) -> Result<Vec<u8>, AllocError>
-    ensures { IfOk result (λ hint. IsHintOn (D.may_answer disk.now) line.now fault.now hint.items) }
+/// The paths of the rules files in the folders of a line's root, if it asks about them; otherwise nothing is looked at.
+fn lying_for<D: Disk>(alloc: Global, disk: &D, line: &Line<'_>) -> Result<Vec<Bytes>, AllocError>
+    ensures { IfOk result (λ lying. AreLyingFor (D.may_answer disk.now) line.now lying.items) }
 {
-    match fault {
-        ReadFault::Path(path) => hint_at(alloc, disk, line, path.as_str()),
-        ReadFault::Memory => Ok(Vec::new(alloc)),
-    }
-}
-
-/// Writes a hint, if there is one, and reports which file or folder could not be read, or that memory ran out.
-pub(crate) fn fail_noted<E: Sink>(hint: &[u8], fault: &ReadFault, error: &mut E) -> u8
-    ensures { (input : SourceState) (out : SinkState) → RunsNoted hint.now (FailsAt (λ f. f ≡ fault.now)) result
-        (record { input = input; out = out; err = E.shown error.old })
-        (record { input = input; out = out; err = E.shown error.new }) }
-{
-    if hint.is_empty() {
-        report_read_fault(fault, error)
+    if asks_lying(line) {
+        rules_lying(alloc, disk, line.root)
     } else {
-        match hand_on(error, hint) {
-            Ok(()) => report_read_fault(fault, error),
-            Err(DeviceFault) => 3,
-        }
+        Ok(Vec::new(alloc))
     }
 }
 
@@ -162,5 +139,6 @@ pub(crate) fn notes_on<D: Disk>(
     ensures { IfOk result (λ notes. AreNotesOf (D.may_answer disk.now) line.now files.now notes.items) }
 {
     let there = is_root_seen(alloc, disk, line)?;
-    notes_of(alloc, line, files, there)
+    let lying = lying_for(alloc, disk, line)?;
+    notes_of(alloc, line, files, there, &lying)
 }

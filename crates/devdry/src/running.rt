@@ -6,7 +6,8 @@ ghost use Rattle.devdry.specs.Reading.{AreReadFor, IsFaultOf, IsRefusedToRead};
 ghost use Rattle.devdry.specs.Runs.{DoesAfter, DoesRequest, FailsWanted, RunsAlone, RunsBy, RunsLine, RunsRead, RunsWanted, takes_blocks};
 
 use crate::comparing::run_compare;
-use crate::noting::{fail_noted, hint_on, notes_on, serve_noted};
+use crate::failing::fail_wanted;
+use crate::noting::{notes_on, serve_noted};
 use crate::partial_runs::{run_files, run_some};
 use crate::piping::run_piped;
 use crate::reporting::report_line_fault;
@@ -170,26 +171,6 @@ fn run_wanted<D: Disk, I: Source, W: Sink, E: Sink>(
     match read_wanted(alloc, disk, line) {
         Ok(inputs) => run_read(alloc, disk, line, inputs, input, output, error),
         Err(fault) => fail_wanted(alloc, disk, line, &fault, error),
-    }
-}
-
-/// Reports which of what a line asks for could not be read, after a hint on it if there is one. If memory runs out for
-/// the hint, only that is reported.
-fn fail_wanted<D: Disk, E: Sink>(
-    alloc: Global,
-    disk: &D,
-    line: &Line<'_>,
-    fault: &ReadFault,
-    error: &mut E,
-) -> u8
-    requires { IsFaultOf (D.may_answer disk.now) line.now fault.now }
-    ensures { (input : SourceState) (out : SinkState) → FailsWanted (D.may_answer disk.now) line.now result
-        (record { input = input; out = out; err = E.shown error.old })
-        (record { input = input; out = out; err = E.shown error.new }) }
-{
-    match hint_on(alloc, disk, line, fault) {
-        Ok(hint) => fail_noted(&hint, fault, error),
-        Err(_) => report_out_of_memory(error),
     }
 }
 

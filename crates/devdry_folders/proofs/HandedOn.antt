@@ -109,33 +109,33 @@ says_both : (text more : List ℕ) → says (text ++ more) ≡ (says text || say
 says_both [] more = refl
 says_both (byte ∷ text) more = refl
 
-met_is_said : (path : List ℕ) (it : Met) → says (line_on_met path it) ≡ is_unread it
-met_is_said path (met.File bytes) = refl
-met_is_said path met.OtherName = refl
-met_is_said path met.Folder = refl
-met_is_said path (met.Unread reason) = refl
+met_is_said : (for_people : Bool) (path : List ℕ) (it : Met) → says (line_on_met for_people path it) ≡ is_unread it
+met_is_said for_people path (met.File bytes) = refl
+met_is_said for_people path met.OtherName = refl
+met_is_said for_people path met.Folder = refl
+met_is_said for_people path (met.Unread reason) = refl
 
-spot_is_said : (path : List ℕ) (it : Spot) → says (line_on_spot path it) ≡ is_unread_at it
-spot_is_said path spot.Absent = refl
-spot_is_said path spot.Folder = refl
-spot_is_said path spot.File = refl
-spot_is_said path (spot.Unread reason) = refl
+spot_is_said : (for_people : Bool) (path : List ℕ) (it : Spot) → says (line_on_spot for_people path it) ≡ is_unread_at it
+spot_is_said for_people path spot.Absent = refl
+spot_is_said for_people path spot.Folder = refl
+spot_is_said for_people path spot.File = refl
+spot_is_said for_people path (spot.Unread reason) = refl
 
-sights_are_said : (sights : List Sight) → says (flat_map (λ s. line_on_met s.path s.met) sights) ≡ has_unread sights
-sights_are_said [] = refl
-sights_are_said (s ∷ sights) =
-    says_both (line_on_met s.path s.met) (flat_map (λ s. line_on_met s.path s.met) sights)
-    ∙ ap (λ b. b || says (flat_map (λ s. line_on_met s.path s.met) sights)) (met_is_said s.path s.met)
-    ∙ ap (λ b. is_unread s.met || b) (sights_are_said sights)
+sights_are_said : (for_people : Bool) (sights : List Sight) → says (flat_map (λ s. line_on_met for_people s.path s.met) sights) ≡ has_unread sights
+sights_are_said for_people [] = refl
+sights_are_said for_people (s ∷ sights) =
+    says_both (line_on_met for_people s.path s.met) (flat_map (λ s. line_on_met for_people s.path s.met) sights)
+    ∙ ap (λ b. b || says (flat_map (λ s. line_on_met for_people s.path s.met) sights)) (met_is_said for_people s.path s.met)
+    ∙ ap (λ b. is_unread s.met || b) (sights_are_said for_people sights)
 
-visits_are_said : (visits : List Visit) → says (unread_lines visits) ≡ list_any lacks_some visits
-visits_are_said [] = refl
-visits_are_said (v ∷ visits) =
-    says_both (lines_on_visit v) (unread_lines visits)
-    ∙ ap (λ b. b || says (unread_lines visits)) (says_both (line_on_spot v.path v.scan.spot) (flat_map (λ s. line_on_met s.path s.met) v.scan.sights.items))
-    ∙ ap (λ b. (b || says (flat_map (λ s. line_on_met s.path s.met) v.scan.sights.items)) || says (unread_lines visits)) (spot_is_said v.path v.scan.spot)
-    ∙ ap (λ b. (is_unread_at v.scan.spot || b) || says (unread_lines visits)) (sights_are_said v.scan.sights.items)
-    ∙ ap (λ b. lacks_some v || b) (visits_are_said visits)
+visits_are_said : (for_people : Bool) (visits : List Visit) → says (unread_lines for_people visits) ≡ list_any lacks_some visits
+visits_are_said for_people [] = refl
+visits_are_said for_people (v ∷ visits) =
+    says_both (lines_on_visit for_people v) (unread_lines for_people visits)
+    ∙ ap (λ b. b || says (unread_lines for_people visits)) (says_both (line_on_spot for_people v.path v.scan.spot) (flat_map (λ s. line_on_met for_people s.path s.met) v.scan.sights.items))
+    ∙ ap (λ b. (b || says (flat_map (λ s. line_on_met for_people s.path s.met) v.scan.sights.items)) || says (unread_lines for_people visits)) (spot_is_said for_people v.path v.scan.spot)
+    ∙ ap (λ b. (is_unread_at v.scan.spot || b) || says (unread_lines for_people visits)) (sights_are_said for_people v.scan.sights.items)
+    ∙ ap (λ b. lacks_some v || b) (visits_are_said for_people visits)
 
 -- one of two numbers
 abbrev either : Bool → ℕ → ℕ → ℕ
@@ -157,11 +157,11 @@ index_is_read (Some s) = by s.met
     by met.Folder = refl
     by (met.Unread reason) = refl
 
-all_are_said : (survey : Survey) → says (all_unread survey) ≡ lacks_any survey
-all_are_said survey =
-    says_both (unread_lines survey.visits.items) (flat_map (λ s. line_on_met s.path s.met) (option_to_list survey.index))
-    ∙ ap (λ b. b || says (flat_map (λ s. line_on_met s.path s.met) (option_to_list survey.index))) (visits_are_said survey.visits.items)
-    ∙ ap (λ b. list_any lacks_some survey.visits.items || b) (sights_are_said (option_to_list survey.index))
+all_are_said : (for_people : Bool) (survey : Survey) → says (all_unread for_people survey) ≡ lacks_any survey
+all_are_said for_people survey =
+    says_both (unread_lines for_people survey.visits.items) (flat_map (λ s. line_on_met for_people s.path s.met) (option_to_list survey.index))
+    ∙ ap (λ b. b || says (flat_map (λ s. line_on_met for_people s.path s.met) (option_to_list survey.index))) (visits_are_said for_people survey.visits.items)
+    ∙ ap (λ b. list_any lacks_some survey.visits.items || b) (sights_are_said for_people (option_to_list survey.index))
 
 needed : (kinds : List FileKind) (survey : Survey) → has_needed kinds survey ≡ passes_needed kinds survey
 needed kinds survey =
@@ -169,11 +169,11 @@ needed kinds survey =
     ∙ ap (λ b. not (length (files_among kinds survey.visits.items) == 0) || (is_one_of kinds Hwdb && b)) (index_is_read survey.index)
 
 -- the least status, by what could not be read and what is passed on
-pub status_of_all : (kinds : List FileKind) (survey : Survey) (others : List Elsewhere)
-    → least_status (all_unread survey) (cond (has_needed kinds survey) [] (nothing_lines kinds survey.visits.items others))
+pub status_of_all : (kinds : List FileKind) (for_people : Bool) (survey : Survey) (others : List Elsewhere)
+    → least_status (all_unread for_people survey) (cond (has_needed kinds survey) [] (nothing_lines kinds survey.visits.items others))
     ≡ either (lacks_any survey) 3 (either (passes_needed kinds survey) 0 1)
-status_of_all kinds survey others =
+status_of_all kinds for_people survey others =
     let missing = cond (has_needed kinds survey) [] (nothing_lines kinds survey.visits.items others) in
-    ap (λ b. either b 3 (either (length missing == 0) 0 1)) (sym (says_by_length (all_unread survey)) ∙ all_are_said survey)
+    ap (λ b. either b 3 (either (length missing == 0) 0 1)) (sym (says_by_length (all_unread for_people survey)) ∙ all_are_said for_people survey)
     ∙ ap (λ n. either (lacks_any survey) 3 n) (missing_is_said (has_needed kinds survey) kinds survey.visits.items others)
     ∙ ap (λ b. either (lacks_any survey) 3 (either b 0 1)) (needed kinds survey)

@@ -3,3 +3,4 @@ pub mod HandedOn
 pub mod Staying
 pub mod OneFile
 pub mod Adding
+pub mod OwnAdvice

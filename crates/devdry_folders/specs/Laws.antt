@@ -6,16 +6,28 @@ use Rattle.std.specs.Option.{option_to_list}
 use Rattle.text_bytes.specs.declared.source_file.FileKind.{FileKind}
 use Rattle.text_bytes.specs.declared.source_file.FileKind.TheVariants.{Hwdb}
 use Rattle.text_bytes.specs.declared.source_file.SourceFile.{SourceFile}
+use Rattle.text_tables.specs.Texts.{is_among}
 use Rattle.engine_ends.specs.Kinds.{same_kind}
 use Rattle.devdry_folders.specs.Nothing.{has_unread}
 use Rattle.devdry_folders.specs.Indexes.{index_bytes}
 use Rattle.devdry_folders.specs.Unread.{files_of, is_one_of}
+use Rattle.devdry_folders.specs.declared.reasons.Reason.{Reason}
+use Rattle.devdry_folders.specs.declared.reasons.Reason.TheVariants.{Absent, Forbidden, LinkToNothing, NotFolder, NotRegular, NotUtf8, Failed}
 use Rattle.devdry_folders.specs.declared.sights.Met.TheVariants as met
 use Rattle.devdry_folders.specs.declared.sights.Sight.{Sight}
 use Rattle.devdry_folders.specs.declared.sights.Spot.{Spot}
 use Rattle.devdry_folders.specs.declared.sights.Spot.TheVariants as spot
 use Rattle.devdry_folders.specs.declared.sights.Survey.{Survey}
 use Rattle.devdry_folders.specs.declared.sights.Visit.{Visit}
+
+-- each reason, with this target of a link
+abbrev pub all_reasons : (target : List ℕ) → List Reason
+all_reasons target = Absent ∷ Forbidden ∷ LinkToNothing target ∷ NotFolder ∷ NotRegular ∷ NotUtf8 ∷ Failed ∷ []
+
+-- whether none of these texts is empty, and no two are the same
+abbrev pub differ : List (List ℕ) → Bool
+differ [] = true
+differ (text ∷ texts) = not (length text == 0) && (not (is_among texts text) && differ texts)
 
 -- whether what is at a path can't be read
 abbrev pub is_unread_at : Spot → Bool

@@ -7,5 +7,7 @@ pub mod Indexes
 pub mod Missing
 pub mod SightStatus
 pub mod Surveys
+pub mod Advice
+pub mod Lying
 pub mod Staying
 pub mod Laws

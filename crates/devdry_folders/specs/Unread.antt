@@ -6,7 +6,7 @@ use Rattle.text_bytes.specs.Names.{newline}
 use Rattle.text_bytes.specs.declared.source_file.FileKind.{FileKind}
 use Rattle.text_bytes.specs.declared.source_file.SourceFile.{SourceFile}
 use Rattle.engine_ends.specs.Kinds.{same_kind}
-use Rattle.devdry_folders.specs.Reasons.{reason_text}
+use Rattle.devdry_folders.specs.Reasons.{advice_on, reason_text, wrong_by}
 use Rattle.devdry_folders.specs.declared.reasons.Reason.{Reason}
 use Rattle.devdry_folders.specs.declared.sights.Met.{Met}
 use Rattle.devdry_folders.specs.declared.sights.Met.TheVariants as met
@@ -20,27 +20,36 @@ use Rattle.devdry_folders.specs.declared.sights.Visit.{Visit}
 abbrev pub unread_line : List ℕ → Reason → List ℕ
 unread_line path reason = codes "devdry: cannot read " ++ escape_text path ++ codes ": " ++ reason_text reason ++ newline ∷ []
 
--- the line on what is met at a path, if it can't be read
-abbrev pub line_on_met : List ℕ → Met → List ℕ
-line_on_met path (met.Unread reason) = unread_line path reason
-line_on_met path _ = []
+-- the two lines for people on a reason: what is wrong, and what to do about it
+abbrev pub advice_lines : Reason → List ℕ
+advice_lines reason = codes "  " ++ wrong_by reason ++ codes "\n  = " ++ advice_on reason ++ newline ∷ []
 
--- the line on what is at a path, if it can't be listed
-abbrev pub line_on_spot : List ℕ → Spot → List ℕ
-line_on_spot path (spot.Unread reason) = unread_line path reason
-line_on_spot path _ = []
+-- what is said about what can't be read, for people or not
+abbrev pub unread_said : (for_people : Bool) → List ℕ → Reason → List ℕ
+unread_said for_people path reason = unread_line path reason ++ (if for_people then advice_lines reason else [])
+
+-- the lines on what is met at a path, if it can't be read
+abbrev pub line_on_met : (for_people : Bool) → List ℕ → Met → List ℕ
+line_on_met for_people path (met.Unread reason) = unread_said for_people path reason
+line_on_met for_people path _ = []
+
+-- the lines on what is at a path, if it can't be listed
+abbrev pub line_on_spot : (for_people : Bool) → List ℕ → Spot → List ℕ
+line_on_spot for_people path (spot.Unread reason) = unread_said for_people path reason
+line_on_spot for_people path _ = []
 
 -- the lines on what was met at the path of a folder: on the folder, and on what is in it
-abbrev pub lines_on_scan : List ℕ → Scan → List ℕ
-lines_on_scan path scan = line_on_spot path scan.spot ++ flat_map (λ s. line_on_met s.path s.met) scan.sights.items
+abbrev pub lines_on_scan : (for_people : Bool) → List ℕ → Scan → List ℕ
+lines_on_scan for_people path scan =
+    line_on_spot for_people path scan.spot ++ flat_map (λ s. line_on_met for_people s.path s.met) scan.sights.items
 
 -- the lines on a visit
-abbrev pub lines_on_visit : Visit → List ℕ
-lines_on_visit v = lines_on_scan v.path v.scan
+abbrev pub lines_on_visit : (for_people : Bool) → Visit → List ℕ
+lines_on_visit for_people v = lines_on_scan for_people v.path v.scan
 
 -- the lines on all that can't be read, in the order of the visits
-abbrev pub unread_lines : List Visit → List ℕ
-unread_lines visits = flat_map lines_on_visit visits
+abbrev pub unread_lines : (for_people : Bool) → List Visit → List ℕ
+unread_lines for_people visits = flat_map (lines_on_visit for_people) visits
 
 -- whether a file was read
 abbrev pub is_file : Met → Bool

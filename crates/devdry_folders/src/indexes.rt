@@ -39,17 +39,18 @@ pub(crate) fn index_sight<D: Disk>(
     }
 }
 
-/// Adds the line on an index, if it can't be read.
+/// Adds the lines on an index, for people or not, if it can't be read.
 pub(crate) fn push_on_index(
     alloc: Global,
     lines: &mut Vec<u8>,
+    for_people: bool,
     index: &Option<Sight>,
 ) -> Result<(), AllocError>
     ensures { OnOk result (lines.new.items ≡ lines.old.items
-        ++ flat_map (λ s. line_on_met s.path s.met) (option_to_list index.now)) }
+        ++ flat_map (λ s. line_on_met for_people s.path s.met) (option_to_list index.now)) }
 {
     match index {
-        Some(sight) => push_on_met(alloc, lines, sight.path.as_slice(), &sight.met),
+        Some(sight) => push_on_met(alloc, lines, for_people, sight.path.as_slice(), &sight.met),
         None => Ok(()),
     }
 }

@@ -5,10 +5,12 @@
 //! the whole report from that.
 #![tactic(auto)]
 
+mod advice;
 mod elsewhere;
 mod files;
 mod indexes;
 mod laws;
+mod lying;
 mod meetings;
 mod missing;
 mod nothing;
@@ -19,10 +21,13 @@ mod sights;
 mod unread;
 mod visiting;
 
+pub use advice::advice_at;
 pub use laws::{
-    a_path_leads_to_a_place_inside_its_root, no_file_is_reported_where_none_is_handed_on,
+    a_link_to_nothing_is_told, a_path_leads_to_a_place_inside_its_root,
+    each_reason_has_its_own_advice, no_file_is_reported_where_none_is_handed_on,
     the_file_that_counts_is_the_one_that_is_read, what_could_not_be_read_makes_the_status,
 };
+pub use lying::rules_lying;
 pub use reading::{
     Listed, ReadSome, Report, least_status, list_files, read_files_that_can, read_what_can,
     report_on_files,

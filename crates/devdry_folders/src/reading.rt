@@ -56,7 +56,11 @@ fn visits_for<D: Disk>(alloc: Global, disk: &D, line: &Line<'_>) -> Result<Vec<V
 }
 
 /// A survey of all that a line asks for; the index is looked at last.
-fn survey_for<D: Disk>(alloc: Global, disk: &D, line: &Line<'_>) -> Result<Survey, AllocError>
+pub(crate) fn survey_for<D: Disk>(
+    alloc: Global,
+    disk: &D,
+    line: &Line<'_>,
+) -> Result<Survey, AllocError>
     ensures { IfOk result (IsSurveyFor (D.may_answer disk.now) line.now) }
 {
     Ok(Survey {
@@ -90,12 +94,12 @@ pub fn least_status(unread: &[u8], missing: &[u8]) -> u8
     }
 }
 
-/// The lines on all that can't be read.
-fn all_unread(alloc: Global, survey: &Survey) -> Result<Vec<u8>, AllocError>
-    ensures { IfOk result (λ lines. lines.items ≡ all_unread survey.now) }
+/// The lines on all that can't be read, for people or not.
+fn all_unread(alloc: Global, for_people: bool, survey: &Survey) -> Result<Vec<u8>, AllocError>
+    ensures { IfOk result (λ lines. lines.items ≡ all_unread for_people survey.now) }
 {
-    let mut lines = unread_lines(alloc, &survey.visits)?;
-    push_on_index(alloc, &mut lines, &survey.index)?;
+    let mut lines = unread_lines(alloc, for_people, &survey.visits)?;
+    push_on_index(alloc, &mut lines, for_people, &survey.index)?;
     Ok(lines)
 }
 
@@ -110,7 +114,7 @@ fn reported_for<D: Disk>(
     ensures reported { IfOk result (λ r. IsReported (D.may_answer disk.now) line.now kinds.now survey.now r) }
     ensures least { IfOk result (λ r. r.least ≤ 3) }
 {
-    let mut lines = all_unread(alloc, survey)?;
+    let mut lines = all_unread(alloc, line.format.is_for_people(), survey)?;
     let mut missing = missing_lines(alloc, disk, line, kinds, survey)?;
     let least = least_status(&lines, &missing);
     lines.append(&mut missing)?;

@@ -1,15 +1,15 @@
 //! What is reported for what can't be read.
 ghost use Rattle.std.specs.Prelude.{◌≡◌, ◌++◌, IfOk, OnOk, flat_map};
-ghost use Rattle.devdry_folders.specs.Unread.{has_file, has_files, is_file, is_one_of, line_on_met, line_on_spot, lines_on_scan, unread_line, unread_lines};
+ghost use Rattle.devdry_folders.specs.Unread.{has_file, has_files, is_file, is_one_of, line_on_met, line_on_spot, lines_on_scan, unread_line, unread_lines, unread_said};
 
-use crate::reasons::{Reason, push_escaped, push_reason};
+use crate::reasons::{Reason, push_advice, push_escaped, push_reason};
 use crate::sights::{Met, Scan, Sight, Spot, Visit};
 use engine_ends::same_kind;
 use std::alloc::{AllocError, Global};
 use text_bytes::FileKind;
 
 /// Adds the line on what can't be read.
-fn push_unread(
+fn push_unread_line(
     alloc: Global,
     lines: &mut Vec<u8>,
     path: &[u8],
@@ -24,60 +24,90 @@ fn push_unread(
     Ok(())
 }
 
-/// Adds the line on what is met at a path, if it can't be read.
+/// Adds what is said about what can't be read, for people or not.
+fn push_unread(
+    alloc: Global,
+    lines: &mut Vec<u8>,
+    for_people: bool,
+    path: &[u8],
+    reason: &Reason,
+) -> Result<(), AllocError>
+    ensures { OnOk result (lines.new.items ≡ lines.old.items ++ unread_said for_people path.now reason.now) }
+{
+    push_unread_line(alloc, lines, path, reason)?;
+    if for_people {
+        push_advice(alloc, lines, reason)?;
+    }
+    Ok(())
+}
+
+/// Adds the lines on what is met at a path, if it can't be read.
 pub(crate) fn push_on_met(
     alloc: Global,
     lines: &mut Vec<u8>,
+    for_people: bool,
     path: &[u8],
     met: &Met,
 ) -> Result<(), AllocError>
-    ensures { OnOk result (lines.new.items ≡ lines.old.items ++ line_on_met path.now met.now) }
+    ensures { OnOk result (lines.new.items ≡ lines.old.items ++ line_on_met for_people path.now met.now) }
 {
     match met {
-        Met::Unread(reason) => push_unread(alloc, lines, path, reason),
+        Met::Unread(reason) => push_unread(alloc, lines, for_people, path, reason),
         _ => Ok(()),
     }
 }
 
-/// Adds the line on what is at a path, if it can't be listed.
+/// Adds the lines on what is at a path, if it can't be listed.
 fn push_on_spot(
     alloc: Global,
     lines: &mut Vec<u8>,
+    for_people: bool,
     path: &[u8],
     spot: &Spot,
 ) -> Result<(), AllocError>
-    ensures { OnOk result (lines.new.items ≡ lines.old.items ++ line_on_spot path.now spot.now) }
+    ensures { OnOk result (lines.new.items ≡ lines.old.items ++ line_on_spot for_people path.now spot.now) }
 {
     match spot {
-        Spot::Unread(reason) => push_unread(alloc, lines, path, reason),
+        Spot::Unread(reason) => push_unread(alloc, lines, for_people, path, reason),
         _ => Ok(()),
     }
 }
 
 /// Adds the lines on what was met at the path of a folder, if it, or what is in it, can't be read:
-/// `devdry: cannot read PATH: REASON`, with the path escaped.
+/// `devdry: cannot read PATH: REASON`, with the path escaped, and for people what is wrong and what to do about it.
 pub fn push_on_scan(
     alloc: Global,
     lines: &mut Vec<u8>,
+    for_people: bool,
     path: &[u8],
     scan: &Scan,
 ) -> Result<(), AllocError>
-    ensures { OnOk result (lines.new.items ≡ lines.old.items ++ lines_on_scan path.now scan.now) }
+    ensures { OnOk result (lines.new.items ≡ lines.old.items ++ lines_on_scan for_people path.now scan.now) }
 {
-    push_on_spot(alloc, lines, path, &scan.spot)?;
+    push_on_spot(alloc, lines, for_people, path, &scan.spot)?;
     for sight in &scan.sights {
-        push_on_met(alloc, lines, sight.path.as_slice(), &sight.met)?;
+        push_on_met(alloc, lines, for_people, sight.path.as_slice(), &sight.met)?;
     }
     Ok(())
 }
 
 /// The lines on all that can't be read, in the order of the visits.
-pub(crate) fn unread_lines(alloc: Global, visits: &[Visit]) -> Result<Vec<u8>, AllocError>
-    ensures { IfOk result (λ lines. lines.items ≡ unread_lines visits.now) }
+pub(crate) fn unread_lines(
+    alloc: Global,
+    for_people: bool,
+    visits: &[Visit],
+) -> Result<Vec<u8>, AllocError>
+    ensures { IfOk result (λ lines. lines.items ≡ unread_lines for_people visits.now) }
 {
     let mut lines = Vec::new(alloc);
     for visit in visits {
-        push_on_scan(alloc, &mut lines, visit.path.as_slice(), &visit.scan)?;
+        push_on_scan(
+            alloc,
+            &mut lines,
+            for_people,
+            visit.path.as_slice(),
+            &visit.scan,
+        )?;
     }
     Ok(lines)
 }

@@ -18,7 +18,7 @@ use std::alloc::{AllocError, Global};
 use text_bytes::{Bytes, FileKind};
 
 /// The path of a name in the folder at a path, whose own path may end in a slash.
-fn path_below(alloc: Global, folder: &str, name: &str) -> Result<String, AllocError>
+pub(crate) fn path_below(alloc: Global, folder: &str, name: &str) -> Result<String, AllocError>
     ensures { IfOk result (λ path. string_bytes path ≡ below folder.now name.now) }
 {
     let mut path = String::from_str(alloc, folder)?;

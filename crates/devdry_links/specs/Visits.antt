@@ -1,5 +1,5 @@
 -- The outcome of looking for .link files and drop-ins, as it comes from the answers that a disk may give.
-use Rattle.std.specs.Prelude.{◌≡◌, ◌++◌, ◌∷◌, ℕ, All, List, [], flat_map, map}
+use Rattle.std.specs.Prelude.{◌≡◌, ◌++◌, ◌∷◌, ℕ, All, List, [], false, flat_map, map}
 use Rattle.text_bytes.specs.declared.source_file.FileKind.TheVariants.{Rules}
 use Rattle.text_bytes.specs.declared.source_file.SourceFile.{SourceFile}
 use Rattle.devdry_files.specs.Answers.{Answer}
@@ -44,7 +44,7 @@ files_of visits = flat_map files_of_visit visits
 
 -- the lines on what can't be read in a folder
 abbrev pub lines_on_visit : LinkVisit → List ℕ
-lines_on_visit v = lines_on_scan v.place.path v.scan
+lines_on_visit v = lines_on_scan false v.place.path v.scan
 
 -- the lines on what can't be read, in the order of the visits
 abbrev pub unread_lines : List LinkVisit → List ℕ

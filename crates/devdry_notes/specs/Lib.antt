@@ -1,3 +1,5 @@
 pub mod Unseen
 pub mod Asked
 pub mod Notes
+pub mod Lying
+pub mod Told

@@ -87,7 +87,3 @@ root_notes line there = if asks_root line && there then note_on line.root.now to
 -- the notes on what no editor shows in files
 abbrev pub unseen_notes : Line → List SourceFile → Text
 unseen_notes line files = if asks_unseen line then flat_map (unseen_among line.profile files) files else []
-
--- all that is told about the files that were read for a line, and about its root, where a folder is there
-unfoldable pub notes_of : Line → List SourceFile → (there : Bool) → Text
-notes_of line files there = kind_notes line ++ (root_notes line there ++ unseen_notes line files)

@@ -2,17 +2,10 @@
 ghost use Rattle.std.specs.List.{list_any};
 ghost use Rattle.std.specs.Prelude.{◌≡◌, map};
 ghost use Rattle.text_tables.specs.Texts.{is_among, same_text};
-ghost use Rattle.devdry_notes.specs.Asked.{asks_folder, asks_kinds, asks_more, asks_root, asks_rules, asks_unseen, checks, is_as_udev, is_for_people, is_verify};
+ghost use Rattle.devdry_notes.specs.Asked.{asks_folder, asks_kinds, asks_more, asks_root, asks_rules, asks_unseen, checks, is_as_udev, is_verify};
 
-use engine_ends::{Format, Line, Verb};
+use engine_ends::{Line, Verb};
 use text_bytes::Profile;
-
-/// Whether messages are for people.
-fn is_for_people(format: Format) -> bool
-    ensures { result ≡ is_for_people format }
-{
-    matches!(format, Format::Human | Format::HumanInColor)
-}
 
 /// Whether rules are read as udev itself reads them.
 fn is_as_udev(profile: Profile) -> bool
@@ -58,7 +51,7 @@ pub(crate) fn asks_kinds(line: &Line<'_>) -> bool
     ensures { result ≡ asks_kinds line.now }
 {
     asks_more(line.verb, line.strict, line.lint)
-        || (checks(line.verb) && is_for_people(line.format))
+        || (checks(line.verb) && line.format.is_for_people())
 }
 
 /// Whether a path is that of one of these files.
@@ -81,7 +74,7 @@ fn is_among(paths: &[&str], path: &str) -> bool
 pub fn asks_folder(line: &Line<'_>, path: &str) -> bool
     ensures { result ≡ asks_folder line.now path.now }
 {
-    is_for_people(line.format) && is_among(&line.files, path)
+    line.format.is_for_people() && is_among(&line.files, path)
 }
 
 /// Whether a line asks about rules that belong together.

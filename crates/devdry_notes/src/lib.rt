@@ -8,6 +8,7 @@
 mod asked;
 mod laws;
 mod lines;
+mod lying;
 mod notes;
 mod unseen;
 
@@ -16,4 +17,5 @@ pub use laws::{
     another_kind_is_told, hidden_files_are_left_out, no_break_spaces_are_found, roots_are_told,
     unseen_signs_are_told_once,
 };
+pub use lying::asks_lying;
 pub use notes::{folder_note, notes_of};

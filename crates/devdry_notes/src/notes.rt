@@ -1,22 +1,29 @@
 //! What is told about files before their messages.
 ghost use Rattle.std.specs.List.{list_any};
 ghost use Rattle.std.specs.Prelude.{◌≡◌, ◌++◌, IfOk, OnOk, flat_map, map};
-ghost use Rattle.devdry_notes.specs.Notes.{first_note, folder_note, hides, kind_note, kind_notes, note_on, notes_of, other_kind, return_note, root_notes, told_of_kind, told_of_root};
+ghost use Rattle.devdry_notes.specs.Notes.{first_note, folder_note, hides, kind_note, kind_notes, note_on, other_kind, return_note, root_notes, told_of_kind, told_of_root};
 ghost use Rattle.devdry_notes.specs.Notes.{unseen_among, unseen_in, unseen_notes};
+ghost use Rattle.devdry_notes.specs.Told.{notes_of};
 
 use crate::asked::{asks_kinds, asks_root, asks_unseen};
 use crate::lines::{first_with, push_note_at};
+use crate::lying::push_lying;
 use crate::unseen::Unseen;
 use engine_ends::{Line, push_escaped};
 use std::alloc::{AllocError, Global};
-use text_bytes::{FileKind, Profile, SourceFile};
+use text_bytes::{Bytes, FileKind, Profile, SourceFile};
 
 /// What is told of a root.
 const ROOT: &[u8] =
     b": its rules are not read beside a FILE that is named: --with FILE reads FILE among them";
 
 /// Adds a note on a path.
-fn push_note(alloc: Global, notes: &mut Vec<u8>, path: &[u8], text: &[u8]) -> Result<(), AllocError>
+pub(crate) fn push_note(
+    alloc: Global,
+    notes: &mut Vec<u8>,
+    path: &[u8],
+    text: &[u8],
+) -> Result<(), AllocError>
     ensures { OnOk result (notes.new.items ≡ notes.old.items ++ note_on path.now text.now) }
 {
     notes.extend_from_slice(b"devdry: ")?;
@@ -78,7 +85,7 @@ fn hides(file: &SourceFile, other: &SourceFile) -> bool
 }
 
 /// Whether one of these files hides one.
-fn is_hidden(files: &[SourceFile], file: &SourceFile) -> bool
+pub(crate) fn is_hidden(files: &[SourceFile], file: &SourceFile) -> bool
     ensures { result ≡ list_any (hides file.now) files.now }
 {
     files.iter().any(|other| hides(file, other))
@@ -227,22 +234,25 @@ fn push_unseen_of(
     Ok(())
 }
 
-/// All that is told about the files that were read for a line, and about its root, where a folder is there: each note is a
-/// line of its own, and there are none if the line does not ask for them.
+/// All that is told about the files that were read for a line, about its root, where a folder is there, and about rules files
+/// at these paths in the folders of the root: each note is a line of its own, and there are none if the line does not ask for
+/// them.
 ///
 /// Fails if memory runs out.
-#[tactic(auto, unfolding(crate::specs::Notes::notes_of))]
+#[tactic(auto, unfolding(crate::specs::Told::notes_of))]
 pub fn notes_of(
     alloc: Global,
     line: &Line<'_>,
     files: &[SourceFile],
     there: bool,
+    lying: &[Bytes],
 ) -> Result<Vec<u8>, AllocError>
-    ensures { IfOk result (λ notes. notes.items ≡ notes_of line.now files.now there) }
+    ensures { IfOk result (λ notes. notes.items ≡ notes_of line.now files.now there lying.now) }
 {
     let mut notes = Vec::new(alloc);
     push_kinds(alloc, &mut notes, line)?;
     push_root(alloc, &mut notes, line, there)?;
+    push_lying(alloc, &mut notes, line, files, lying)?;
     push_unseen_of(alloc, &mut notes, line, files)?;
     Ok(notes)
 }

@@ -8,7 +8,7 @@ use Rattle.clap.specs.Words.{Row, Text, first_of}
 use Rattle.text_bytes.specs.Kinds.{suffix_of}
 use Rattle.text_bytes.specs.declared.source_file.FileKind.TheVariants.{Hwdb, Rules}
 use Rattle.engine_ends.specs.declared.line.Format.{Format}
-use Rattle.engine_ends.specs.declared.line.Format.TheVariants.{Plain, Json}
+use Rattle.engine_ends.specs.declared.line.Format.TheVariants.{Plain, Json, Human}
 use Rattle.engine_formats.specs.Codes.{remark_of, remarks}
 use Rattle.engine_formats.specs.Remarks.{code_of}
 use Rattle.devdry_words.specs.declared.refusals.Refusal.{Refusal}
@@ -114,6 +114,7 @@ answers_blocks name = bytes_eq name (codes "events") || bytes_eq name (codes "co
 abbrev pub is_for_answers : Format → Bool
 is_for_answers Plain = true
 is_for_answers Json = true
+is_for_answers Human = true
 is_for_answers _ = false
 
 -- answers are asked for in a format in which they can't be written, or in one that there is not
@@ -169,7 +170,7 @@ no_such_format = codes "' for '--format <FORMAT>'\n  [possible values: plain, gc
 
 -- what is said after the name of a format in which no answer can be written
 abbrev pub no_answer_format : Text
-no_answer_format = codes "' for '--format <FORMAT>'\n  [possible values: plain, json]\n\nFor more information, try '--help'.\n"
+no_answer_format = codes "' for '--format <FORMAT>'\n  [possible values: plain, json, human]\n\nFor more information, try '--help'.\n"
 
 -- what is said after the name of what is no way to ask for colors
 abbrev pub no_such_color : Text

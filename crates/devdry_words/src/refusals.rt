@@ -115,7 +115,7 @@ For more information, try '--help'.
 ";
 
 const NO_ANSWER_FORMAT: &str = "' for '--format <FORMAT>'
-  [possible values: plain, json]
+  [possible values: plain, json, human]
 
 For more information, try '--help'.
 ";
@@ -250,7 +250,7 @@ fn answers_blocks(name: &str) -> bool
 fn is_for_answers(format: Format) -> bool
     ensures { result ≡ is_for_answers format }
 {
-    matches!(format, Format::Plain | Format::Json)
+    matches!(format, Format::Plain | Format::Json | Format::Human)
 }
 
 /// Whether there is a format, and answers can be written in it.

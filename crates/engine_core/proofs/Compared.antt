@@ -2,6 +2,7 @@
 use Rattle.std.proofs.Common.{◌≡◌, ℕ, Bool, List, inl, inr, refl, subst, Result, Ok, Err}
 use Rattle.text_tables.specs.Texts.{Text}
 use Rattle.engine_ends.specs.Streams.{Streams, outputs}
+use Rattle.engine_ends.specs.Readers.{is_for_people}
 use Rattle.engine_ends.specs.declared.line.Line.{Line}
 use Rattle.engine_ends.specs.Delivery.{RunOutcome, Delivers, ReportsFailure, ReportsFaults, out_of_memory}
 use Rattle.engine_reports.specs.Openings.{OpeningValue}
@@ -25,7 +26,7 @@ use Rattle.engine_core.specs.Comparing.{ComparesBy, both_messages, compare_outco
 pub compares_serve : (old_line new_line : Line) (old_found new_found : FilesFound) (old new : Result OpeningValue RunOutcome) (status : ℕ) (before now : Streams)
     → ComparesBy old_line new_line old_found new_found old new status before now → Serves (compare_outcome old_line new_line old_found new_found old new) status before now
 compares_serve old_line new_line old_found new_found (Ok old) (Ok new) status before now r =
-    finds_serve (both_messages old.messages new.messages) (answers_as old_line.profile (differences_by old_line new_line old_found new_found old new)) status before now r
+    finds_serve (is_for_people old_line.format) (both_messages old.messages new.messages) (answers_as old_line.profile (differences_by old_line new_line old_found new_found old new)) status before now r
 compares_serve old_line new_line old_found new_found (Ok old) (Err said) status before now r = reports_serve (λ text. said) said status before now (λ text. refl) r
 compares_serve old_line new_line old_found new_found (Err said) new status before now r = reports_serve (λ text. said) said status before now (λ text. refl) r
 
@@ -75,8 +76,8 @@ reported_by both event =
     compared both.0 event (compared_answer both.1.0.0 both.1.0.1.0 (known_by both.1.0.1.1) event) (compared_answer both.1.1.0 both.1.1.1.0 (known_by both.1.1.1.1) event)
 
 pub finds_both : (line : Line) (messages said : Text) (both tables : Both) (status : ℕ) (before now : Streams)
-    → messages ≡ said → both ≡ tables → FindsAll messages (answers_as line.profile (reported_by both)) status before now
-    → FindsAll said (answers_as line.profile (reported_by tables)) status before now
+    → messages ≡ said → both ≡ tables → FindsAll (is_for_people line.format) messages (answers_as line.profile (reported_by both)) status before now
+    → FindsAll (is_for_people line.format) said (answers_as line.profile (reported_by tables)) status before now
 finds_both line messages said both tables status before now e f h =
-    subst (λ m. FindsAll m (answers_as line.profile (reported_by tables)) status before now) e
-    (subst (λ t. FindsAll messages (answers_as line.profile (reported_by t)) status before now) f h)
+    subst (λ m. FindsAll (is_for_people line.format) m (answers_as line.profile (reported_by tables)) status before now) e
+    (subst (λ t. FindsAll (is_for_people line.format) messages (answers_as line.profile (reported_by t)) status before now) f h)

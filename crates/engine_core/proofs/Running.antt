@@ -7,6 +7,7 @@ use Rattle.hwdb_lookup.specs.declared.entry.Entry.{Entry}
 use Rattle.builtin_knowledge.specs.Knowledge.{FilesFound, Known}
 use Rattle.rule_types.specs.Rules.{Rule}
 use Rattle.device_core.specs.Values.{EventValue}
+use Rattle.engine_ends.specs.Readers.{is_for_people}
 use Rattle.engine_ends.specs.declared.line.Line.{Line}
 use Rattle.engine_ends.specs.Streams.{Streams, outputs}
 use Rattle.engine_ends.specs.Delivery.{RunOutcome, Delivers, ReportsFailure, ReportsFaults, out_of_memory}
@@ -35,13 +36,13 @@ use Rattle.engine_core.specs.Outcomes.{added_of, answer_by_line, answer_with, as
 use Rattle.engine_core.specs.Runs.{AnswersSaying, RunsBy}
 use Rattle.engine_core.specs.Reported.{ReportedValue, reported_by}
 
-saying_serve : (unused : Bool) (messages : Text) (answer : EventValue → Text) (says : Text → Text) (status : ℕ) (before now : Streams) → AnswersSaying unused messages answer says status before now
-    → Serves (outcome_saying unused messages answer says) status before now
-saying_serve true messages answer says status before now r = said_serve messages answer says status before now r
-saying_serve false messages answer says status before now r = answers_serve messages answer status before now r
+saying_serve : (unused for_people : Bool) (messages : Text) (answer : EventValue → Text) (says : Text → Text) (status : ℕ) (before now : Streams) → AnswersSaying unused for_people messages answer says status before now
+    → Serves (outcome_saying unused for_people messages answer says) status before now
+saying_serve true for_people messages answer says status before now r = said_serve for_people messages answer says status before now r
+saying_serve false for_people messages answer says status before now r = answers_serve for_people messages answer status before now r
 
 runs_serve : (line : Line) (found : FilesFound) (opened : Result OpeningValue RunOutcome) (status : ℕ) (before now : Streams) → RunsBy line found opened status before now → Serves (outcome_by line found opened) status before now
-runs_serve line found (Ok opening) status before now r = saying_serve line.unused opening.messages (answer_with line found opening) (unused_of line found opening) status before now r
+runs_serve line found (Ok opening) status before now r = saying_serve line.unused (is_for_people line.format) opening.messages (answer_with line found opening) (unused_of line found opening) status before now r
 runs_serve line found (Err said) status before now r = reports_serve (λ text. said) said status before now (λ text. refl) r
 
 lookups_serve : (line : Line) (read : Result DatabaseValue RunOutcome) (status : ℕ) (before now : Streams) → LooksUpBy line read status before now → Serves (lookups_by line read) status before now
@@ -68,9 +69,9 @@ pub report_runs : (line : Line) (found : FilesFound) (begun : Result OpeningValu
 report_runs line found begun said report status before now e delivers faults is unread = rw e (record { delivers = delivers said is; faults = faults; unread = unread })
 
 -- nothing is answered
-pub stopped : (unused : Bool) (messages : Text) (answer : EventValue → Text) (says : Text → Text) (status : ℕ) (before now : Streams) → StopsBefore messages status before now → AnswersSaying unused messages answer says status before now
-stopped true messages answer says status before now s = inl s
-stopped false messages answer says status before now s = inl s
+pub stopped : (unused for_people : Bool) (messages : Text) (answer : EventValue → Text) (says : Text → Text) (status : ℕ) (before now : Streams) → StopsBefore messages status before now → AnswersSaying unused for_people messages answer says status before now
+stopped true for_people messages answer says status before now s = inl s
+stopped false for_people messages answer says status before now s = inl s
 
 -- what there is to say if events can't be answered
 pub refused_runs : (line : Line) (found : FilesFound) (refusal : Refusal) (opened : Result OpeningValue RunOutcome) (status : ℕ) (before now : Streams) → IsRefused refusal opened
@@ -80,7 +81,7 @@ refused_runs line found TooManyEntries opened status before now is delivers faul
 refused_runs line found TooManyRules opened status before now is delivers faults memory unread = rw is (record { delivers = delivers too_many_rules refl; faults = faults; unread = unread })
 refused_runs line found (Index fault) opened status before now is delivers faults memory unread = rw is (record { delivers = delivers (refused_index fault) refl; faults = faults; unread = unread })
 refused_runs line found Memory (Ok opening) status before now is delivers faults memory unread =
-    stopped line.unused opening.messages (answer_with line found opening) (unused_of line found opening) status before now (record { unread = unread; unanswered = (memory refl).1; reports = inr (memory refl).0 })
+    stopped line.unused (is_for_people line.format) opening.messages (answer_with line found opening) (unused_of line found opening) status before now (record { unread = unread; unanswered = (memory refl).1; reports = inr (memory refl).0 })
 refused_runs line found Memory (Err said) status before now is delivers faults memory unread = record { delivers = delivers said tt; faults = faults; unread = unread }
 
 -- what refuses an opening is said whatever is asked for
@@ -92,11 +93,11 @@ asked_refused Memory why opened is = tt
 
 -- events that are answered by what the line asks for are answered as it asks, and what is said is what it asks for
 answered_runs : (line : Line) (found : FilesFound) (opening : OpeningValue) (messages : Text) (answer : EventValue → Text) (says : Text → Text) (status : ℕ) (before now : Streams) → messages ≡ opening.messages → answer ≡ answer_by_line line found opening → says ≡ unused_of line found opening
-    → AnswersSaying line.unused messages (answers_as line.profile answer) says status before now → AnswersSaying line.unused opening.messages (answer_with line found opening) (unused_of line found opening) status before now
+    → AnswersSaying line.unused (is_for_people line.format) messages (answers_as line.profile answer) says status before now → AnswersSaying line.unused opening.messages (answer_with line found opening) (unused_of line found opening) status before now
 answered_runs line found opening messages answer says status before now m a u h =
-    subst (λ t. AnswersSaying line.unused t (answer_with line found opening) (unused_of line found opening) status before now) m
-    (subst (λ (f : EventValue → Text). AnswersSaying line.unused messages (answers_as line.profile f) (unused_of line found opening) status before now) a
-    (subst (λ (f : Text → Text). AnswersSaying line.unused messages (answers_as line.profile answer) f status before now) u h))
+    subst (λ t. AnswersSaying line.unused (is_for_people line.format) t (answer_with line found opening) (unused_of line found opening) status before now) m
+    (subst (λ (f : EventValue → Text). AnswersSaying line.unused (is_for_people line.format) messages (answers_as line.profile f) (unused_of line found opening) status before now) a
+    (subst (λ (f : Text → Text). AnswersSaying line.unused (is_for_people line.format) messages (answers_as line.profile answer) f status before now) u h))
 
 -- what is said by rules and what is known
 abbrev said_by : Line → List Rule → Held → Text → Text
@@ -105,7 +106,7 @@ said_by line rules held text = unused_lines (added_of line) rules (known_by held
 -- a line that asks for questions is answered with these
 pub asked_runs : (line : Line) (found : FilesFound) (opening : OpeningValue) (messages : Text) (tables : List Rule × Held) (rules : List Rule) (held : Held) (status : ℕ) (before now : Streams) → line.questions ≡ true → messages ≡ opening.messages
     → tables ≡ (opening.rules, record { links = line.links.items; files = found; entries = opening.entries }) → rules ≡ tables.0 → held ≡ tables.1
-    → AnswersSaying line.unused messages (answers_as line.profile (question_answer tables.0 (known_by tables.1))) (said_by line rules held) status before now
+    → AnswersSaying line.unused (is_for_people line.format) messages (answers_as line.profile (question_answer tables.0 (known_by tables.1))) (said_by line rules held) status before now
     → AnswersSaying line.unused opening.messages (answer_with line found opening) (unused_of line found opening) status before now
 asked_runs line found opening messages tables rules held status before now q m t r k h =
     let other : EventValue → Text = cond (asks_more line) (reported_by (reported_for line opening) (known_for line found opening)) (answer_by opening.rules (known_for line found opening)) in
@@ -116,7 +117,7 @@ asked_runs line found opening messages tables rules held status before now q m t
 -- a line that asks for more is answered with that
 pub reported_runs : (line : Line) (found : FilesFound) (opening : OpeningValue) (messages : Text) (tables : ReportedValue × Held) (rules : List Rule) (held : Held) (status : ℕ) (before now : Streams) → line.questions ≡ false → asks_more line ≡ true → messages ≡ opening.messages
     → tables ≡ (reported_for line opening, record { links = line.links.items; files = found; entries = opening.entries }) → rules ≡ tables.0.rules → held ≡ tables.1
-    → AnswersSaying line.unused messages (answers_as line.profile (reported_by tables.0 (known_by tables.1))) (said_by line rules held) status before now
+    → AnswersSaying line.unused (is_for_people line.format) messages (answers_as line.profile (reported_by tables.0 (known_by tables.1))) (said_by line rules held) status before now
     → AnswersSaying line.unused opening.messages (answer_with line found opening) (unused_of line found opening) status before now
 reported_runs line found opening messages tables rules held status before now q a m t r k h =
     let asked : EventValue → Text = question_answer opening.rules (known_for line found opening) in
@@ -131,7 +132,7 @@ reported_runs line found opening messages tables rules held status before now q 
 -- any other line is answered alone
 pub alone_runs : (line : Line) (found : FilesFound) (opening : OpeningValue) (messages : Text) (tables : List Rule × Held) (rules : List Rule) (held : Held) (status : ℕ) (before now : Streams) → line.questions ≡ false → asks_more line ≡ false → messages ≡ opening.messages
     → tables ≡ (opening.rules, record { links = line.links.items; files = found; entries = opening.entries }) → rules ≡ tables.0 → held ≡ tables.1
-    → AnswersSaying line.unused messages (answers_as line.profile (answer_by tables.0 (known_by tables.1))) (said_by line rules held) status before now
+    → AnswersSaying line.unused (is_for_people line.format) messages (answers_as line.profile (answer_by tables.0 (known_by tables.1))) (said_by line rules held) status before now
     → AnswersSaying line.unused opening.messages (answer_with line found opening) (unused_of line found opening) status before now
 alone_runs line found opening messages tables rules held status before now q a m t r k h =
     let asked : EventValue → Text = question_answer opening.rules (known_for line found opening) in
@@ -144,12 +145,12 @@ alone_runs line found opening messages tables rules held status before now q a m
     (ap (λ x. said_by line x held) r ∙ ap (said_by line tables.0) k ∙ ap (λ (t : List Rule × Held). said_by line t.0 t.1) t) h
 
 -- nothing is said after the answers, or something is
-pub unsaid : (unused : Bool) (messages : Text) (answer : EventValue → Text) (says : Text → Text) (status : ℕ) (before now : Streams) → unused ≡ false → AnswersAll messages answer status before now → AnswersSaying unused messages answer says status before now
-unsaid unused messages answer says status before now u h = subst (λ b. AnswersSaying b messages answer says status before now) (sym u) h
+pub unsaid : (unused for_people : Bool) (messages : Text) (answer : EventValue → Text) (says : Text → Text) (status : ℕ) (before now : Streams) → unused ≡ false → AnswersAll for_people messages answer status before now → AnswersSaying unused for_people messages answer says status before now
+unsaid unused for_people messages answer says status before now u h = subst (λ b. AnswersSaying b for_people messages answer says status before now) (sym u) h
 
-pub said : (unused : Bool) (messages : Text) (answer : EventValue → Text) (some says : Text → Text) (status : ℕ) (before now : Streams) → unused ≡ true → some ≡ says → SaysAll messages answer some status before now → AnswersSaying unused messages answer says status before now
-said unused messages answer some says status before now u s h =
-    subst (λ b. AnswersSaying b messages answer says status before now) (sym u) (subst (λ (f : Text → Text). SaysAll messages answer f status before now) s h)
+pub said : (unused for_people : Bool) (messages : Text) (answer : EventValue → Text) (some says : Text → Text) (status : ℕ) (before now : Streams) → unused ≡ true → some ≡ says → SaysAll for_people messages answer some status before now → AnswersSaying unused for_people messages answer says status before now
+said unused for_people messages answer some says status before now u s h =
+    subst (λ b. AnswersSaying b for_people messages answer says status before now) (sym u) (subst (λ (f : Text → Text). SaysAll for_people messages answer f status before now) s h)
 
 -- what a tally of rules says
 pub tally_says : {K : Type 0} (known : K → Known) (added : List Text) (rules : List Rule) (knowledge : K) (tally : TallyValue K) (profile : Profile)

@@ -5,6 +5,7 @@ use Rattle.text_tables.specs.Texts.{Text}
 use Rattle.index_reading.specs.declared.fault.IndexFault.{IndexFault}
 use Rattle.index_reading.specs.Contents.{Contents}
 use Rattle.builtin_knowledge.specs.Knowledge.{FilesFound}
+use Rattle.engine_ends.specs.Readers.{is_for_people}
 use Rattle.engine_ends.specs.declared.line.Line.{Line}
 use Rattle.engine_ends.specs.Streams.{Streams}
 use Rattle.engine_ends.specs.Delivery.{RunOutcome}
@@ -18,13 +19,14 @@ use Rattle.engine_sessions.specs.Tallies.{SaysAll}
 use Rattle.engine_core.specs.Outcomes.{answer_with, before_input, outcome, reads_modaliases, unused_of}
 
 -- Messages, the answers to an input after them, and what is said about all of it, if something is, step by step.
-abbrev pub AnswersSaying : Bool → (messages : Text) → (EventValue → Text) → (says : Text → Text) → ℕ → Streams → Streams → Type 0
-AnswersSaying true messages answer says status before now = SaysAll messages answer says status before now
-AnswersSaying false messages answer says status before now = AnswersAll messages answer status before now
+abbrev pub AnswersSaying : Bool → (for_people : Bool) → (messages : Text) → (EventValue → Text) → (says : Text → Text) → ℕ → Streams → Streams → Type 0
+AnswersSaying true for_people messages answer says status before now = SaysAll for_people messages answer says status before now
+AnswersSaying false for_people messages answer says status before now = AnswersAll for_people messages answer status before now
 
 -- a run of a line, by its outcome before it looks at its input
 abbrev pub RunsBy : Line → FilesFound → Result OpeningValue RunOutcome → ℕ → Streams → Streams → Type 0
-RunsBy line found (Ok opening) status before now = AnswersSaying line.unused opening.messages (answer_with line found opening) (unused_of line found opening) status before now
+RunsBy line found (Ok opening) status before now =
+    AnswersSaying line.unused (is_for_people line.format) opening.messages (answer_with line found opening) (unused_of line found opening) status before now
 RunsBy line found (Err said) status before now = Reports said status before now
 
 -- A run over the outcome of opening its index: what is written and answered is one function of the line, the files,

@@ -5,6 +5,7 @@ ghost use Rattle.engine_core.specs.Comparing.{ComparesBy, ComparesOver, both_mes
 ghost use Rattle.engine_reports.specs.Indexes.{entries_in};
 ghost use Rattle.engine_reports.specs.Openings.{OpeningValue, opening};
 ghost use Rattle.engine_reports.specs.Reports.{IsRefused, shown_rules};
+ghost use Rattle.engine_ends.specs.Readers.{is_for_people};
 ghost use Rattle.engine_sessions.specs.Findings.{FindsAll};
 ghost use Rattle.engine_sessions.specs.Sessions.{answers_as};
 
@@ -149,7 +150,7 @@ fn compare_rules<L: Lookup + Drop, M: Lookup + Drop, R: Source, W: Sink, E: Sink
     output: &mut W,
     error: &mut E,
 ) -> u8
-    ensures { FindsAll (both_messages old.messages.items new.messages.items)
+    ensures { FindsAll (is_for_people old_line.now.format) (both_messages old.messages.items new.messages.items)
         (answers_as old_line.now.profile (differences_by old_line.now new_line.now old_found.now new_found.now (shown_rules old (L.entries old_lookup))
         (shown_rules new (M.entries new_lookup)))) result
         (record { input = R.shown input.old; out = W.shown output.old; err = E.shown error.old })
@@ -165,6 +166,7 @@ fn compare_rules<L: Lookup + Drop, M: Lookup + Drop, R: Source, W: Sink, E: Sink
         Ok((messages, tables)) => find_after_messages(
             alloc,
             old_line.profile,
+            old_line.format.is_for_people(),
             &messages,
             &tables,
             input,

@@ -1,6 +1,7 @@
 //! `events`: the messages, and then the answers to the blocks of the input.
 ghost use Rattle.std.specs.Prelude.{◌≡◌, true, false, Ok, IfOk, IfErr, Some, Result};
 ghost use Rattle.engine_ends.specs.Delivery.{RunOutcome};
+ghost use Rattle.engine_ends.specs.Readers.{is_for_people};
 ghost use Rattle.engine_core.specs.Outcomes.{added_of, answer_with, asked_of, asks_more, is_json, unused_of, why_of};
 ghost use Rattle.engine_core.specs.Runs.{AnswersSaying, RunsBy};
 ghost use Rattle.engine_reports.specs.Indexes.{entries_in};
@@ -123,7 +124,7 @@ fn answer_by_rules<L: Lookup + Drop, R: Source, W: Sink, E: Sink>(
     output: &mut W,
     error: &mut E,
 ) -> u8
-    ensures { AnswersSaying line.now.unused read.messages.items (answer_with line.now found.now (shown_rules read (L.entries lookup)))
+    ensures { AnswersSaying line.now.unused (is_for_people line.now.format) read.messages.items (answer_with line.now found.now (shown_rules read (L.entries lookup)))
         (unused_of line.now found.now (shown_rules read (L.entries lookup))) result
         (record { input = R.shown input.old; out = W.shown output.old; err = E.shown error.old })
         (record { input = R.shown input.new; out = W.shown output.new; err = E.shown error.new }) }
@@ -147,7 +148,7 @@ fn ask_by_rules<L: Lookup + Drop, R: Source, W: Sink, E: Sink>(
     error: &mut E,
 ) -> u8
     requires { line.now.questions ≡ true }
-    ensures { AnswersSaying line.now.unused read.messages.items (answer_with line.now found.now (shown_rules read (L.entries lookup)))
+    ensures { AnswersSaying line.now.unused (is_for_people line.now.format) read.messages.items (answer_with line.now found.now (shown_rules read (L.entries lookup)))
         (unused_of line.now found.now (shown_rules read (L.entries lookup))) result
         (record { input = R.shown input.old; out = W.shown output.old; err = E.shown error.old })
         (record { input = R.shown input.new; out = W.shown output.new; err = E.shown error.new }) }
@@ -190,18 +191,21 @@ fn answer_and_say<A: Answering, K: Knowledge, R: Source, W: Sink, E: Sink>(
     output: &mut W,
     error: &mut E,
 ) -> u8
-    ensures { AnswersSaying line.now.unused messages.now (answers_as line.now.profile (A.answers answering.now))
+    ensures { AnswersSaying line.now.unused (is_for_people line.now.format) messages.now (answers_as line.now.profile (A.answers answering.now))
         (λ text. unused_lines (added_of line.now) rules.now (K.known knowledge.now) (events_of line.now.profile text)) result
         (record { input = R.shown input.old; out = W.shown output.old; err = E.shown error.old })
         (record { input = R.shown input.new; out = W.shown output.new; err = E.shown error.new }) }
 {
     let profile = line.profile;
+    let for_people = line.format.is_for_people();
     if !line.unused {
-        return answer_after_messages(alloc, profile, messages, answering, input, output, error);
+        return answer_after_messages(
+            alloc, profile, for_people, messages, answering, input, output, error,
+        );
     }
     match UnusedTally::new(alloc, &line.added, rules, knowledge) {
         Ok(tally) => answer_and_tally(
-            alloc, profile, messages, answering, tally, input, output, error,
+            alloc, profile, for_people, messages, answering, tally, input, output, error,
         ),
         Err(_) => report_out_of_memory(error),
     }
@@ -220,7 +224,7 @@ fn report_by_rules<L: Lookup + Drop, R: Source, W: Sink, E: Sink>(
     error: &mut E,
 ) -> u8
     requires { line.now.questions ≡ false }
-    ensures { AnswersSaying line.now.unused read.messages.items (answer_with line.now found.now (shown_rules read (L.entries lookup)))
+    ensures { AnswersSaying line.now.unused (is_for_people line.now.format) read.messages.items (answer_with line.now found.now (shown_rules read (L.entries lookup)))
         (unused_of line.now found.now (shown_rules read (L.entries lookup))) result
         (record { input = R.shown input.old; out = W.shown output.old; err = E.shown error.old })
         (record { input = R.shown input.new; out = W.shown output.new; err = E.shown error.new }) }

@@ -5,3 +5,4 @@ pub mod Passing
 pub mod Known
 pub mod Telling
 pub mod Reported
+pub mod MeantFiles

@@ -8,6 +8,7 @@ use Rattle.file_messages.specs.declared.message.Message.{Message}
 use Rattle.text_tables.specs.Texts.{Text, same_text}
 use Rattle.rule_types.specs.Rules.{Rule}
 use Rattle.engine_courses.specs.Named.{alike}
+use Rattle.engine_courses.specs.Meant.{meant_file}
 use Rattle.engine_courses.specs.Nearest.{Place, nearest}
 
 -- whether a text is the name of a place's file, or `FILE:LINE`
@@ -42,14 +43,19 @@ is_known places text = list_any (asks text) places
 abbrev pub place_text : Place → Text
 place_text place = escape_text place.0 ++ colon ∷ decimal place.1
 
--- what is missing, with the nearest place if the text's file has one
-abbrev pub missing : Option Place → Text
-missing None = codes "rules file"
-missing (Some place) = codes "rule, the nearest is " ++ place_text place
+-- the file that may be meant
+abbrev pub file_hint : Option Place → Text
+file_hint None = []
+file_hint (Some place) = codes ", the nearest is " ++ escape_text place.0
+
+-- what is missing: a rule, with the nearest place of the text's file, or such a file, with the one that may be meant
+abbrev pub missing : Option Place → (meant : Option Place) → Text
+missing None meant = codes "rules file" ++ file_hint meant
+missing (Some place) meant = codes "rule, the nearest is " ++ place_text place
 
 -- the line on a text that asks for nothing
 unfoldable pub unknown_line : List Place → Text → Text
-unknown_line places text = codes "devdry: --why " ++ escape_text text ++ codes ": no such " ++ missing (nearest text places) ++ newline ∷ []
+unknown_line places text = codes "devdry: --why " ++ escape_text text ++ codes ": no such " ++ missing (nearest text places) (meant_file text places) ++ newline ∷ []
 
 -- the line on the first text that asks for no rule and no message's place
 unfoldable pub unknown : List Text → List Message → List Rule → Option Text

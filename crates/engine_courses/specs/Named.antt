@@ -1,6 +1,9 @@
 -- What a text of `--why` and the name of a file are compared as.
-use Rattle.std.specs.Prelude.{Bool, not, ◌==◌, ◌&&◌, ◌||◌, if◌then◌else◌, is_some, position}
-use Rattle.text_bytes.specs.Names.{slash}
+use Rattle.std.specs.Prelude.{Bool, not, ◌-◌, ◌==◌, ◌&&◌, ◌||◌, if◌then◌else◌, is_some, length, position, take}
+use Rattle.std.specs.List.{suffix_len}
+use Rattle.text_bytes.specs.Names.{colon, slash}
+use Rattle.text_bytes.specs.Numbers.{is_digit}
+use Rattle.text_bytes.specs.Texts.{ends_in}
 use Rattle.text_links.specs.Kernels.{last_component}
 use Rattle.text_tables.specs.Texts.{Text}
 
@@ -17,3 +20,15 @@ is_beside_name path name = has_folder path && not (has_folder name)
 unfoldable pub alike : Text → Text → Text × Text
 alike text file =
     if is_beside_name text file || is_beside_name file text then (last_component text, last_component file) else (text, file)
+
+-- a text without the digits at its end
+abbrev pub before_digits : Text → Text
+before_digits text = take (length text - suffix_len is_digit text) text
+
+-- a text without its last byte
+abbrev pub without_last : Text → Text
+without_last text = take (length text - 1) text
+
+-- the file that a text names: what comes before `:` and digits at its end, if it ends so, or else all of it
+abbrev pub file_in : Text → Text
+file_in text = let front = before_digits text in if ends_in colon front then without_last front else text

@@ -13,6 +13,7 @@ mod answers;
 mod asked;
 mod laws;
 mod lines;
+mod meant;
 mod named;
 mod nearest;
 mod places;
@@ -24,7 +25,7 @@ mod unread;
 
 pub use answers::push_why_lines;
 pub use laws::{
-    first_unknown_is_reported, nothing_is_reported_unasked, rules_are_reported_where_asked,
+    a_file_that_may_be_meant_was_read, first_unknown_is_reported, nothing_is_reported_unasked, rules_are_reported_where_asked,
     unknown_asks_for_nothing,
 };
 pub use questions::question_answer;

@@ -1,8 +1,9 @@
 //! What is said about a text of `--why` that asks for nothing.
-ghost use Rattle.std.specs.Prelude.{◌≡◌, ◌++◌, Some, not, IfOk, OnOk, find, map, option_map};
-ghost use Rattle.engine_courses.specs.Asked.{is_known, missing, place_text, unknown, unknown_line};
+ghost use Rattle.std.specs.Prelude.{◌≡◌, ◌++◌, not, IfOk, OnOk, codes, find, map, option_map};
+ghost use Rattle.engine_courses.specs.Asked.{file_hint, is_known, missing, place_text, unknown, unknown_line};
 
 use crate::asked::is_known;
+use crate::meant::meant_file;
 use crate::nearest::nearest;
 use crate::places::{Place, places_of};
 use file_messages::Message;
@@ -22,23 +23,45 @@ fn push_place_alone(alloc: Global, line: &mut Vec<u8>, place: &Place<'_>) -> Res
 
 /// Appends that there is no such rule, with the nearest place.
 fn push_nearest(alloc: Global, line: &mut Vec<u8>, place: &Place<'_>) -> Result<(), AllocError>
-    ensures { OnOk result (line.new.items ≡ line.old.items ++ missing (Some place.now)) }
+    ensures { OnOk result (line.new.items ≡ line.old.items ++ (codes "rule, the nearest is " ++ place_text place.now)) }
 {
     line.extend_from_slice(b"rule, the nearest is ")?;
     push_place_alone(alloc, line, place)
 }
 
-/// Appends what is missing, with the nearest place if there is one.
+/// Appends the file that may be meant, if there is one.
+fn push_file_hint(
+    alloc: Global,
+    line: &mut Vec<u8>,
+    meant: Option<&Place<'_>>,
+) -> Result<(), AllocError>
+    ensures { OnOk result (line.new.items ≡ line.old.items ++ file_hint (option_map (λ p. p.now) meant.entry)) }
+{
+    match meant {
+        None => Ok(()),
+        Some(place) => {
+            line.extend_from_slice(b", the nearest is ")?;
+            line.extend_from_slice(&escape(alloc, place.file())?)
+        }
+    }
+}
+
+/// Appends what is missing: a rule, with the nearest place, or a file, with the one that may be meant.
 fn push_missing(
     alloc: Global,
     line: &mut Vec<u8>,
     nearest: Option<&Place<'_>>,
+    meant: Option<&Place<'_>>,
 ) -> Result<(), AllocError>
-    ensures { OnOk result (line.new.items ≡ line.old.items ++ missing (option_map (λ p. p.now) nearest.entry)) }
+    ensures { OnOk result (line.new.items
+        ≡ line.old.items ++ missing (option_map (λ p. p.now) nearest.entry) (option_map (λ p. p.now) meant.entry)) }
 {
     match nearest {
         Some(place) => push_nearest(alloc, line, place),
-        None => line.extend_from_slice(b"rules file"),
+        None => {
+            line.extend_from_slice(b"rules file")?;
+            push_file_hint(alloc, line, meant)
+        }
     }
 }
 
@@ -53,19 +76,25 @@ fn first_without_place<'a>(why: &[&'a str], places: &[Place<'_>]) -> Option<&'a 
 
 /// The line on a text that asks for nothing.
 #[tactic(auto, unfolding(crate::specs::Asked::unknown_line))]
-fn unknown_line(alloc: Global, places: &[Place<'_>], text: &[u8]) -> Result<Bytes, AllocError>
+fn unknown_line<'a>(
+    alloc: Global,
+    places: &'a [Place<'a>],
+    text: &[u8],
+) -> Result<Bytes, AllocError>
     ensures { IfOk result (λ line. line ≡ unknown_line places.now text.now) }
 {
     let mut line = Vec::from_slice(alloc, b"devdry: --why ")?;
     line.extend_from_slice(&escape(alloc, text)?)?;
     line.extend_from_slice(b": no such ")?;
-    push_missing(alloc, &mut line, nearest(text, places))?;
+    let meant = meant_file(alloc, text, places)?;
+    push_missing(alloc, &mut line, nearest(text, places), meant)?;
     line.push(b'\n')?;
     Ok(Bytes::new(line))
 }
 
 /// The line, with its newline, on the first text of `--why` that asks for no rule and for no message's place: that
-/// there is no such rule, with the place of that file that is nearest to it, or that there is no such rules file.
+/// there is no such rule, with the place of that file that is nearest to it, or that there is no such rules file, with
+/// the one that may be meant.
 /// There is none if each text asks for something.
 #[tactic(auto, unfolding(crate::specs::Asked::unknown))]
 pub fn first_unknown(

@@ -1,4 +1,5 @@
 pub mod Kinds
+pub mod Readers
 pub mod Folders
 pub mod Reported
 pub mod Cuts

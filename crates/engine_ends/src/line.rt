@@ -45,6 +45,18 @@ pub enum Format {
     HumanInColor,
 }
 
+impl Format {
+    ghost use Rattle.std.specs.Prelude.{◌≡◌};
+    ghost use Rattle.engine_ends.specs.Readers.{is_for_people};
+
+    /// Whether messages, and what is said about files and blocks, are for people.
+    pub fn is_for_people(self) -> bool
+        ensures { result ≡ is_for_people self }
+    {
+        matches!(self, Format::Human | Format::HumanInColor)
+    }
+}
+
 /// When messages for people are in colors.
 #[derive(Clone, Copy, PartialEq, Eq)]
 pub enum Color {
@@ -106,7 +118,8 @@ pub struct Line<'a> {
     pub checks_links: bool,
     /// Whether `fmt` only lists the files that it would change.
     pub check: bool,
-    /// How `verify` and `update` write messages, and how `events` and `compare` write answers; plain for `query`.
+    /// How `verify` and `update` write messages, how `events` and `compare` write answers, and whether what is said about
+    /// files and blocks is for people; plain for `query`.
     pub format: Format,
     /// When messages for people are in colors.
     pub color: Color,

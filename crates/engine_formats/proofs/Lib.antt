@@ -13,5 +13,5 @@ mod Placement
 mod Counted
 mod Masking
 mod Carets
-mod Nearest
+mod NearestNames
 mod MeantNames

@@ -16,7 +16,7 @@ use Rattle.file_messages.specs.declared.message.MessageKind.TheVariants.{BlankEx
 use Rattle.engine_formats.specs.Meant.{meant_as, name_in, names_for}
 use Rattle.engine_formats.specs.declared.remark.Remark.{Remark}
 use Rattle.engine_formats.specs.declared.remark.Remark.TheVariants as about
-use Rattle.engine_formats.proofs.Nearest.{nearest_one}
+use Rattle.engine_formats.proofs.NearestNames.{nearest_one}
 use Rattle.engine_formats.proofs.OneLine.{Lacks, or_parts}
 
 -- of names of which none has a newline each is on its line

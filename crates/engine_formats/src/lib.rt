@@ -43,6 +43,7 @@ pub use laws::{
     diagnostics_have_their_lines, marks_are_below_their_places, messages_are_at_their_words,
     messages_are_plain_diagnostics, style_is_a_warning, terminals_are_not_obeyed,
 };
+pub use near::nearest;
 pub use near_laws::{
     options_that_are_meant_are_known, some_unknown_names_are_found, the_nearest_name_is_found,
 };

@@ -42,12 +42,7 @@ fn farthest(word: &[u8]) -> usize
 }
 
 /// The least of a number and of the distances of names from a word.
-fn reach(
-    alloc: Global,
-    most: usize,
-    names: &[&'static [u8]],
-    word: &[u8],
-) -> Result<usize, AllocError>
+fn reach(alloc: Global, most: usize, names: &[&[u8]], word: &[u8]) -> Result<usize, AllocError>
     ensures { IfOk result (λ least. least ≡ reach most (map (λ name. name.now) names.now) word.now) }
 {
     let mut least = most;
@@ -58,12 +53,12 @@ fn reach(
 }
 
 /// The first of these names that is no farther from a word than this.
-fn first_within(
+fn first_within<'n>(
     alloc: Global,
     most: usize,
-    names: &[&'static [u8]],
+    names: &[&'n [u8]],
     word: &[u8],
-) -> Result<Option<&'static [u8]>, AllocError>
+) -> Result<Option<&'n [u8]>, AllocError>
     ensures { IfOk result (λ found. option_map (λ name. name.now) found
         ≡ find (λ name. nat_le (distance name word.now) most) (map (λ name. name.now) names.now)) }
 {
@@ -75,13 +70,19 @@ fn first_within(
     Ok(None)
 }
 
-/// The first of the names that are nearest to a word, if they are near it and none of them is the word itself.
+/// The first of the names that are nearest to a word, if they are near it and none of them is the word itself: at most
+/// one byte is put in, taken out or replaced for a word of up to three bytes, two for one of up to six, and three for a
+/// longer one, and letters in another case are the same.
+///
+/// # Errors
+///
+/// If memory is refused.
 #[tactic(auto, unfolding(crate::specs::Near::nearest))]
-pub(crate) fn nearest(
+pub fn nearest<'n>(
     alloc: Global,
-    names: &[&'static [u8]],
+    names: &[&'n [u8]],
     word: &[u8],
-) -> Result<Option<&'static [u8]>, AllocError>
+) -> Result<Option<&'n [u8]>, AllocError>
     ensures { IfOk result (λ found. option_map (λ name. name.now) found
         ≡ nearest (map (λ name. name.now) names.now) word.now) }
 {

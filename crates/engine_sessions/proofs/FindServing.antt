@@ -8,7 +8,7 @@ use Rattle.engine_ends.specs.Sinks.{BreaksOff, HandsOn, SinkState}
 use Rattle.engine_ends.specs.Streams.{Streams, outputs}
 use Rattle.engine_ends.specs.Delivery.{IsWhole, ReportsFailure, out_of_memory, write_failed}
 use Rattle.engine_sessions.specs.Turns.{joined, say_something}
-use Rattle.engine_sessions.specs.BlockFaults.{block_line}
+use Rattle.engine_sessions.specs.BlockFaults.{block_said}
 use Rattle.engine_sessions.specs.Answers.{answers_of}
 use Rattle.engine_sessions.specs.Inputs.{AnswersInput, devices_of}
 use Rattle.engine_sessions.specs.Outcomes.{answered_until, input_outcome}
@@ -20,12 +20,12 @@ use Rattle.engine_sessions.specs.declared.turning.TurnFault.TheVariants.{Read, W
 use Rattle.engine_sessions.proofs.SendLemmas.{sends_well}
 use Rattle.engine_sessions.proofs.Serving.{answers_serve, none_is, outcome_well, rest_reported, sends_output}
 
-status_under : (messages output : Text) (count : ℕ) (fault : Option BlockFault) → (answered_until messages output count fault).status ≤ 1
-status_under messages output count None = omega arith
-status_under messages output count (Some fault) = omega arith
+status_under : (for_people : Bool) (messages output : Text) (count : ℕ) (fault : Option BlockFault) → (answered_until for_people messages output count fault).status ≤ 1
+status_under for_people messages output count None = omega arith
+status_under for_people messages output count (Some fault) = omega arith
 
-outcome_under : (messages : Text) (answer : EventValue → Text) (text : Text) → (input_outcome messages answer text).status ≤ 1
-outcome_under messages answer text = let a = answers_of answer text in status_under messages (joined a.texts) (length a.texts) a.fault
+outcome_under : (for_people : Bool) (messages : Text) (answer : EventValue → Text) (text : Text) → (input_outcome for_people messages answer text).status ≤ 1
+outcome_under for_people messages answer text = let a = answers_of answer text in status_under for_people messages (joined a.texts) (length a.texts) a.fault
 
 -- a status that is not 0 stays, whatever is found
 status_stays : (status wanted : ℕ) (none : Bool) → (status ≡ 0 → ⊥) → wanted ≤ 1 → status ≡ wanted → status ≡ cond none wanted 1
@@ -35,16 +35,16 @@ status_stays status wanted false n h e = one status wanted n h e
     one : (status wanted : ℕ) → (status ≡ 0 → ⊥) → wanted ≤ 1 → status ≡ wanted → status ≡ 1
     one status wanted n h e = omega (arith, n, h, e)
 
-serves_still : (messages : Text) (answer : EventValue → Text) (status : ℕ) (before now : Streams) → (status ≡ 0 → ⊥) → Serves (input_outcome messages answer) status before now → Serves (λ text. found (input_outcome messages answer text)) status before now
-serves_still messages answer status before now n s = record {
+serves_still : (for_people : Bool) (messages : Text) (answer : EventValue → Text) (status : ℕ) (before now : Streams) → (status ≡ 0 → ⊥) → Serves (input_outcome for_people messages answer) status before now → Serves (λ text. found (input_outcome for_people messages answer text)) status before now
+serves_still for_people messages answer status before now n s = record {
   read = s.read;
   pieces = s.pieces;
   whole = λ h. let w = s.whole h in
-      let outcome = input_outcome messages answer (joined s.read) in
+      let outcome = input_outcome for_people messages answer (joined s.read) in
       record {
         output = w.output;
         messages = w.messages;
-        status_is = status_stays status outcome.status (length outcome.output == 0) n (outcome_under messages answer (joined s.read)) w.status_is;
+        status_is = status_stays status outcome.status (length outcome.output == 0) n (outcome_under for_people messages answer (joined s.read)) w.status_is;
       };
   all = λ h text e. ap found (s.all h text e);
   cut = λ h. let c = s.cut h in record { output = c.output; after = c.after; messages = c.messages; line = c.line; line_is = c.line_is; begun = c.begun; memory = c.memory };
@@ -71,10 +71,10 @@ low : (b : Bool) (status : ℕ) → status ≡ cond b 1 0 → status ≤ 1
 low true status e = omega (arith, e)
 low false status e = omega (arith, e)
 
-module _ (messages : Text) (answer : EventValue → Text) (status : ℕ) (before now : Streams) (after : SinkState) (says : HandsOn before.err messages after) where
-  found_well : (t : AnswersInput answer (Ok tt) (devices_of before) (devices_of now)) → ConcludesFinding (Ok tt) t.sent status after now.err → Serves (λ text. found (input_outcome messages answer text)) status before now
+module _ (for_people : Bool) (messages : Text) (answer : EventValue → Text) (status : ℕ) (before now : Streams) (after : SinkState) (says : HandsOn before.err messages after) where
+  found_well : (t : AnswersInput answer (Ok tt) (devices_of before) (devices_of now)) → ConcludesFinding for_people (Ok tt) t.sent status after now.err → Serves (λ text. found (input_outcome for_people messages answer text)) status before now
   found_well t c =
-      let is = ap found (outcome_well messages answer (joined t.read) t.sent t.ends.answers) in
+      let is = ap found (outcome_well for_people messages answer (joined t.read) t.sent t.ends.answers) in
       let few : status ≤ 1 = low (say_something t.sent) status c.0 in
       record {
         read = t.read;
@@ -82,7 +82,7 @@ module _ (messages : Text) (answer : EventValue → Text) (status : ℕ) (before
         whole = λ h. subst (λ o. IsWhole WritesOut o status (outputs before) (outputs now)) (sym is)
             (record { output = sends_output before.out t.after now.out t.sent t.sends t.ends.untouched; messages = rw c.1 says; status_is = c.0 ∙ after_turn (length (joined t.sent) == 0) 1 0 });
         all = λ h text e. let r = rest_reported text (joined t.read) now.input.left (sym e ∙ t.left) in
-            ap (λ x. found (input_outcome messages answer x)) (r.2 ∙ ap (λ rest. joined t.read ++ rest) (none_is now.input.left r.0 t.ends.none_left r.1) ∙ append-nil (joined t.read));
+            ap (λ x. found (input_outcome for_people messages answer x)) (r.2 ∙ ap (λ rest. joined t.read ++ rest) (none_is now.input.left r.0 t.ends.none_left r.1) ∙ append-nil (joined t.read));
         cut = λ h. absurd (omega (arith, h, few));
         failures = record {
           failed = λ e. absurd (omega (arith, e, few));
@@ -91,17 +91,17 @@ module _ (messages : Text) (answer : EventValue → Text) (status : ℕ) (before
         statuses = omega (arith, few);
       }
 
-  found_fault : (fault : TurnFault) → AnswersInput answer (Err fault) (devices_of before) (devices_of now) → Concludes (Err fault) status after now.err → (status ≡ 0 → ⊥) → Serves (λ text. found (input_outcome messages answer text)) status before now
-  found_fault fault t c n = serves_still messages answer status before now n (answers_serve messages answer status before now (inr (record { after = after; says = says; end = Err fault; answers = t; concludes = c })))
+  found_fault : (fault : TurnFault) → AnswersInput answer (Err fault) (devices_of before) (devices_of now) → Concludes for_people (Err fault) status after now.err → (status ≡ 0 → ⊥) → Serves (λ text. found (input_outcome for_people messages answer text)) status before now
+  found_fault fault t c n = serves_still for_people messages answer status before now n (answers_serve for_people messages answer status before now (inr (record { after = after; says = says; end = Err fault; answers = t; concludes = c })))
 
-  found_by : (end : Result (Unit {0}) TurnFault) (t : AnswersInput answer end (devices_of before) (devices_of now)) → ConcludesFinding end t.sent status after now.err → Serves (λ text. found (input_outcome messages answer text)) status before now
+  found_by : (end : Result (Unit {0}) TurnFault) (t : AnswersInput answer end (devices_of before) (devices_of now)) → ConcludesFinding for_people end t.sent status after now.err → Serves (λ text. found (input_outcome for_people messages answer text)) status before now
   found_by (Ok done) t c = found_well t c
   found_by (Err Read) t c = found_fault Read t c (reports_some read_failed 3 status after now.err (omega arith) c)
   found_by (Err Write) t c = found_fault Write t c (reports_some write_failed 3 status after now.err (omega arith) c)
-  found_by (Err (Session (Block number fault))) t c = found_fault (Session (Block number fault)) t c (reports_some (block_line number fault) 1 status after now.err (omega arith) c)
+  found_by (Err (Session (Block number fault))) t c = found_fault (Session (Block number fault)) t c (reports_some (block_said for_people number fault) 1 status after now.err (omega arith) c)
   found_by (Err (Session Memory)) t c = found_fault (Session Memory) t c (reports_some out_of_memory 4 status after now.err (omega arith) c)
   found_by (Err (Session Ended)) t c = absurd c
 
-pub finds_serve : (messages : Text) (answer : EventValue → Text) (status : ℕ) (before now : Streams) → FindsAll messages answer status before now → Serves (λ text. found (input_outcome messages answer text)) status before now
-finds_serve messages answer status before now (inl s) = serves_still messages answer status before now (stops_some messages status before now s) (answers_serve messages answer status before now (inl s))
-finds_serve messages answer status before now (inr b) = found_by messages answer status before now b.after b.says b.end b.answers b.concludes
+pub finds_serve : (for_people : Bool) (messages : Text) (answer : EventValue → Text) (status : ℕ) (before now : Streams) → FindsAll for_people messages answer status before now → Serves (λ text. found (input_outcome for_people messages answer text)) status before now
+finds_serve for_people messages answer status before now (inl s) = serves_still for_people messages answer status before now (stops_some messages status before now s) (answers_serve for_people messages answer status before now (inl s))
+finds_serve for_people messages answer status before now (inr b) = found_by for_people messages answer status before now b.after b.says b.end b.answers b.concludes

@@ -109,6 +109,6 @@ pub finding_used_up : {A : Type 0} (answer : EventValue → Text) (first session
 finding_used_up answer first session input now output sink finds s = record { answers = used_up answer first session input now output sink s.served; finds_is = tt }
 
 -- all is answered, and what is found is reported by the status
-pub found_after : (messages : Text) (answer : EventValue → Text) (finds : Bool) (status : ℕ) (before now : Streams) → HandsOn before.err messages now.err → AnswersFinding answer (Ok finds) (devices_of before) (devices_of now) → status ≡ cond finds 1 0
-    → FindsAll messages answer status before now
-found_after messages answer finds status before now h a e = inr (record { after = now.err; says = h; end = Ok tt; answers = a.answers; concludes = (e ∙ ap (λ b. cond b 1 0) a.finds_is, refl) })
+pub found_after : (for_people : Bool) (messages : Text) (answer : EventValue → Text) (finds : Bool) (status : ℕ) (before now : Streams) → HandsOn before.err messages now.err → AnswersFinding answer (Ok finds) (devices_of before) (devices_of now) → status ≡ cond finds 1 0
+    → FindsAll for_people messages answer status before now
+found_after for_people messages answer finds status before now h a e = inr (record { after = now.err; says = h; end = Ok tt; answers = a.answers; concludes = (e ∙ ap (λ b. cond b 1 0) a.finds_is, refl) })

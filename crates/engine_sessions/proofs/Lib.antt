@@ -12,3 +12,4 @@ pub mod Manual
 pub mod Telling
 pub mod Heard
 pub mod Saying
+pub mod OwnAdvice

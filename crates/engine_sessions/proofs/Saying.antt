@@ -1,5 +1,5 @@
 -- From the steps of a run that ends with a text about all of its input to what it serves.
-use Rattle.std.proofs.Common.{◌≡◌, ℕ, inl, inr, cond, Result, Ok, Err, List, [], ◌∷◌, ◌++◌, length, refl, ap, sym, ◌∙◌, subst, arith}
+use Rattle.std.proofs.Common.{◌≡◌, ℕ, Bool, inl, inr, cond, Result, Ok, Err, List, [], ◌∷◌, ◌++◌, length, refl, ap, sym, ◌∙◌, subst, arith}
 use Rattle.std.proofs.lemmas.Bool.{ne_eqb}
 use Rattle.std.proofs.lemmas.List.{append-nil}
 use Rattle.text_tables.specs.Texts.{Text}
@@ -9,7 +9,7 @@ use Rattle.engine_ends.specs.Sinks.{BreaksOff, HandsOn, SinkState}
 use Rattle.engine_ends.specs.Streams.{Streams, outputs}
 use Rattle.engine_ends.specs.Delivery.{IsWhole, ReportsFailure, RunOutcome, out_of_memory, write_failed}
 use Rattle.engine_sessions.specs.Turns.{Sends, joined}
-use Rattle.engine_sessions.specs.BlockFaults.{block_line}
+use Rattle.engine_sessions.specs.BlockFaults.{block_said}
 use Rattle.engine_sessions.specs.Inputs.{AnswersInput, Devices, devices_of}
 use Rattle.engine_sessions.specs.Outcomes.{input_outcome}
 use Rattle.engine_sessions.specs.Serves.{Concludes, IsCutShort, ReportsFailures, Serves, WritesOut, read_failed}
@@ -32,14 +32,14 @@ none_said text outcome n =
     ap (λ b. record { output = outcome.output ++ cond b text []; messages = outcome.messages; status = outcome.status }) (ne_eqb outcome.status 0 n)
     ∙ ap (λ o. record { output = o; messages = outcome.messages; status = outcome.status }) (append-nil outcome.output)
 
-module _ (messages : Text) (answer : EventValue → Text) (says : Text → Text) (status : ℕ) (before now : Streams) where
+module _ (for_people : Bool) (messages : Text) (answer : EventValue → Text) (says : Text → Text) (status : ℕ) (before now : Streams) where
   abbrev outcome : Text → RunOutcome
-  outcome text = with_said (says text) (input_outcome messages answer text)
+  outcome text = with_said (says text) (input_outcome for_people messages answer text)
 
-  still_is : (text : Text) → (status ≡ 0 → ⊥) → status ≡ (input_outcome messages answer text).status → outcome text ≡ input_outcome messages answer text
-  still_is text n e = none_said (says text) (input_outcome messages answer text) (λ z. n (e ∙ z))
+  still_is : (text : Text) → (status ≡ 0 → ⊥) → status ≡ (input_outcome for_people messages answer text).status → outcome text ≡ input_outcome for_people messages answer text
+  still_is text n e = none_said (says text) (input_outcome for_people messages answer text) (λ z. n (e ∙ z))
 
-  said_still : (status ≡ 0 → ⊥) → Serves (input_outcome messages answer) status before now → Serves outcome status before now
+  said_still : (status ≡ 0 → ⊥) → Serves (input_outcome for_people messages answer) status before now → Serves outcome status before now
   said_still n s = record {
     read = s.read;
     pieces = s.pieces;
@@ -47,7 +47,7 @@ module _ (messages : Text) (answer : EventValue → Text) (says : Text → Text)
     all = λ h text e. let w = s.whole h in let same = s.all h text e in
         still_is text n (w.status_is ∙ ap (λ o. o.status) (sym same)) ∙ same ∙ sym (still_is (joined s.read) n w.status_is);
     cut = λ h. let c = s.cut h in
-        let inner : RunOutcome = input_outcome messages answer (joined s.read) in
+        let inner : RunOutcome = input_outcome for_people messages answer (joined s.read) in
         record { output = begun-first before.out now.out inner.output _ c.output; after = c.after; messages = c.messages; line = c.line; line_is = c.line_is; begun = c.begun; memory = c.memory };
     failures = s.failures;
     statuses = s.statuses;
@@ -61,7 +61,7 @@ module _ (messages : Text) (answer : EventValue → Text) (says : Text → Text)
     whole_is t = record { output = joined t.sent ++ says (joined t.read); messages = messages; status = 0 }
 
     outcome_is : (t : AnswersInput answer (Ok tt) (devices_of before) (At out)) → outcome (joined t.read) ≡ whole_is t
-    outcome_is t = ap (with_said (says (joined t.read))) (outcome_well messages answer (joined t.read) t.sent t.ends.answers)
+    outcome_is t = ap (with_said (says (joined t.read))) (outcome_well for_people messages answer (joined t.read) t.sent t.ends.answers)
 
     sent_all : (t : AnswersInput answer (Ok tt) (devices_of before) (At out)) → Sends before.out t.sent out
     sent_all t = subst (λ sink. Sends before.out t.sent sink) (sym t.ends.untouched) t.sends
@@ -126,25 +126,25 @@ module _ (messages : Text) (answer : EventValue → Text) (says : Text → Text)
     said_last t (inr (inl p)) = said_broken t p.0 p.1 (three write_failed p.1)
     said_last t (inr (inr p)) = said_refused t p.0 p.1
 
-    said_fault : (fault : TurnFault) → AnswersInput answer (Err fault) (devices_of before) (At out) → now.out ≡ out → Concludes (Err fault) status after now.err → (status ≡ 0 → ⊥) → Serves outcome status before now
+    said_fault : (fault : TurnFault) → AnswersInput answer (Err fault) (devices_of before) (At out) → now.out ≡ out → Concludes for_people (Err fault) status after now.err → (status ≡ 0 → ⊥) → Serves outcome status before now
     said_fault fault t e c n =
         let all : AnswersInput answer (Err fault) (devices_of before) (devices_of now) = subst (λ sink. AnswersInput answer (Err fault) (devices_of before) (At sink)) (sym e) t in
-        said_still n (answers_serve messages answer status before now (inr (record { after = after; says = written; end = Err fault; answers = all; concludes = c })))
+        said_still n (answers_serve for_people messages answer status before now (inr (record { after = after; says = written; end = Err fault; answers = all; concludes = c })))
 
-    said_by : (end : Result (Unit {0}) TurnFault) (t : AnswersInput answer end (devices_of before) (At out)) → ConcludesSaying end (says (joined t.read)) status out now.out after now.err → Serves outcome status before now
+    said_by : (end : Result (Unit {0}) TurnFault) (t : AnswersInput answer end (devices_of before) (At out)) → ConcludesSaying for_people end (says (joined t.read)) status out now.out after now.err → Serves outcome status before now
     said_by (Ok done) t c = said_last t c
     said_by (Err Read) t c = said_fault Read t c.0 c.1 (reports_some read_failed 3 status after now.err (omega arith) c.1)
     said_by (Err Write) t c = said_fault Write t c.0 c.1 (reports_some write_failed 3 status after now.err (omega arith) c.1)
-    said_by (Err (Session (Block number fault))) t c = said_fault (Session (Block number fault)) t c.0 c.1 (reports_some (block_line number fault) 1 status after now.err (omega arith) c.1)
+    said_by (Err (Session (Block number fault))) t c = said_fault (Session (Block number fault)) t c.0 c.1 (reports_some (block_said for_people number fault) 1 status after now.err (omega arith) c.1)
     said_by (Err (Session Memory)) t c = said_fault (Session Memory) t c.0 c.1 (reports_some out_of_memory 4 status after now.err (omega arith) c.1)
     said_by (Err (Session Ended)) t c = absurd c.1
 
 -- from the steps of a run that ends with a text to what it serves
-pub said_serve : (messages : Text) (answer : EventValue → Text) (says : Text → Text) (status : ℕ) (before now : Streams) → SaysAll messages answer says status before now
-    → Serves (λ text. with_said (says text) (input_outcome messages answer text)) status before now
-said_serve messages answer says status before now (inl s) = said_still messages answer says status before now (stops_some messages status before now s) (answers_serve messages answer status before now (inl s))
-said_serve messages answer says status before now (inr b) = said_by messages answer says status before now b.after b.out b.written b.end b.answers b.concludes
+pub said_serve : (for_people : Bool) (messages : Text) (answer : EventValue → Text) (says : Text → Text) (status : ℕ) (before now : Streams) → SaysAll for_people messages answer says status before now
+    → Serves (λ text. with_said (says text) (input_outcome for_people messages answer text)) status before now
+said_serve for_people messages answer says status before now (inl s) = said_still for_people messages answer says status before now (stops_some messages status before now s) (answers_serve for_people messages answer status before now (inl s))
+said_serve for_people messages answer says status before now (inr b) = said_by for_people messages answer says status before now b.after b.out b.written b.end b.answers b.concludes
 
 -- the same, of a text that is said in another way
-pub said_as : (messages : Text) (answer : EventValue → Text) (says other : Text → Text) (status : ℕ) (before now : Streams) → says ≡ other → SaysAll messages answer says status before now → SaysAll messages answer other status before now
-said_as messages answer says other status before now e s = subst (λ (f : Text → Text). SaysAll messages answer f status before now) e s
+pub said_as : (for_people : Bool) (messages : Text) (answer : EventValue → Text) (says other : Text → Text) (status : ℕ) (before now : Streams) → says ≡ other → SaysAll for_people messages answer says status before now → SaysAll for_people messages answer other status before now
+said_as for_people messages answer says other status before now e s = subst (λ (f : Text → Text). SaysAll for_people messages answer f status before now) e s

@@ -27,10 +27,11 @@ found outcome = record { output = outcome.output; messages = outcome.messages; s
 
 -- How the answering of an input is reported if these answers are findings: as it is otherwise, except that if all is
 -- answered the status is 1 if any of them has a byte.
-abbrev pub ConcludesFinding : Result (Unit {0}) TurnFault → List Text → ℕ → SinkState → SinkState → Type 0
-ConcludesFinding (Ok done) sent status err err_now = (status ≡ (if say_something sent then 1 else 0)) × (err_now ≡ err)
-ConcludesFinding (Err fault) sent status err err_now = Concludes (Err fault) status err err_now
+abbrev pub ConcludesFinding : (for_people : Bool) → Result (Unit {0}) TurnFault → List Text → ℕ → SinkState → SinkState → Type 0
+ConcludesFinding for_people (Ok done) sent status err err_now = (status ≡ (if say_something sent then 1 else 0)) × (err_now ≡ err)
+ConcludesFinding for_people (Err fault) sent status err err_now = Concludes for_people (Err fault) status err err_now
 
 -- Messages, and the findings in an input after them, step by step.
-abbrev pub FindsAll : Text → (EventValue → Text) → ℕ → Streams → Streams → Type 0
-FindsAll messages answer status before now = StopsBefore messages status before now ⊎ AnswersAfter ConcludesFinding messages answer status before now
+abbrev pub FindsAll : (for_people : Bool) → Text → (EventValue → Text) → ℕ → Streams → Streams → Type 0
+FindsAll for_people messages answer status before now =
+    StopsBefore messages status before now ⊎ AnswersAfter (ConcludesFinding for_people) messages answer status before now

@@ -4,10 +4,11 @@ pub mod Calls
 pub mod Holding
 pub mod Known
 pub mod Answers
+pub mod BlockAdvice
+pub mod BlockFaults
 pub mod Outcomes
 pub mod Inputs
 pub mod Serves
 pub mod Findings
 pub mod Tallies
-pub mod BlockFaults
 pub mod FaultTexts

@@ -1,5 +1,5 @@
 -- What a run reads, writes and returns, by its status and step by step.
-use Rattle.std.specs.Prelude.{◌≡◌, ℕ, ◌<◌, ◌≤◌, ◌⊎◌, List, [], Some, Result, Ok, Err, codes, length}
+use Rattle.std.specs.Prelude.{◌≡◌, ℕ, ◌<◌, ◌≤◌, ◌⊎◌, Bool, List, [], Some, Result, Ok, Err, codes, length}
 use Rattle.text_tables.specs.Texts.{Text}
 use Rattle.device_core.specs.Values.{EventValue}
 use Rattle.engine_ends.specs.Reported.{followed_by}
@@ -11,7 +11,7 @@ use Rattle.engine_sessions.specs.declared.session.SessionFault.TheVariants.{Bloc
 use Rattle.engine_sessions.specs.declared.turning.TurnFault.{TurnFault}
 use Rattle.engine_sessions.specs.declared.turning.TurnFault.TheVariants.{Read, Write, Session}
 use Rattle.engine_ends.specs.Delivery.{Delivers, IsWhole, ReportsFailure, ReportsFaults, RunOutcome, out_of_memory, write_failed}
-use Rattle.engine_sessions.specs.BlockFaults.{block_line}
+use Rattle.engine_sessions.specs.BlockFaults.{block_said}
 use Rattle.engine_sessions.specs.Inputs.{AnswersInput, UsesUp, devices_of}
 
 -- the line on an input that failed
@@ -54,14 +54,14 @@ pub record Serves (outcome : Text → RunOutcome) (status : ℕ) (before now : S
   pub failures : ReportsFailures status (length read) before now
   pub statuses : status ≤ 4
 
--- How the answering of an input is reported: by nothing, or by one line and its status.
-abbrev pub Concludes : Result (Unit {0}) TurnFault → ℕ → SinkState → SinkState → Type 0
-Concludes (Ok done) status err err_now = (status ≡ 0) × (err_now ≡ err)
-Concludes (Err Read) status err err_now = ReportsFailure read_failed 3 status err err_now
-Concludes (Err Write) status err err_now = ReportsFailure write_failed 3 status err err_now
-Concludes (Err (Session (Block number fault))) status err err_now = ReportsFailure (block_line number fault) 1 status err err_now
-Concludes (Err (Session Memory)) status err err_now = ReportsFailure out_of_memory 4 status err err_now
-Concludes (Err (Session Ended)) status err err_now = ⊥
+-- How the answering of an input is reported: by nothing, or by one line and its status; a faulty block for people or not.
+abbrev pub Concludes : (for_people : Bool) → Result (Unit {0}) TurnFault → ℕ → SinkState → SinkState → Type 0
+Concludes for_people (Ok done) status err err_now = (status ≡ 0) × (err_now ≡ err)
+Concludes for_people (Err Read) status err err_now = ReportsFailure read_failed 3 status err err_now
+Concludes for_people (Err Write) status err err_now = ReportsFailure write_failed 3 status err err_now
+Concludes for_people (Err (Session (Block number fault))) status err err_now = ReportsFailure (block_said for_people number fault) 1 status err err_now
+Concludes for_people (Err (Session Memory)) status err err_now = ReportsFailure out_of_memory 4 status err err_now
+Concludes for_people (Err (Session Ended)) status err err_now = ⊥
 
 -- The messages are written, then the input is answered, and then its end is reported, in the way that is asked for.
 pub record AnswersAfter (Concluded : Result (Unit {0}) TurnFault → List Text → ℕ → SinkState → SinkState → Type 0) (messages : Text)
@@ -80,9 +80,9 @@ pub record StopsBefore (messages : Text) (status : ℕ) (before now : Streams) :
   pub reports : ((status ≡ 3) × BreaksOff before.err messages now.err) ⊎ ReportsFailure out_of_memory 4 status before.err now.err
 
 -- Messages, and the answers to an input after them, step by step.
-abbrev pub AnswersAll : Text → (EventValue → Text) → ℕ → Streams → Streams → Type 0
-AnswersAll messages answer status before now =
-    StopsBefore messages status before now ⊎ AnswersAfter (λ end sent. Concludes end) messages answer status before now
+abbrev pub AnswersAll : (for_people : Bool) → Text → (EventValue → Text) → ℕ → Streams → Streams → Type 0
+AnswersAll for_people messages answer status before now =
+    StopsBefore messages status before now ⊎ AnswersAfter (λ end sent. Concludes for_people end) messages answer status before now
 
 -- What is said about files is delivered, and no input is read.
 pub record Reports (outcome : RunOutcome) (status : ℕ) (before now : Streams) : Type 0 where

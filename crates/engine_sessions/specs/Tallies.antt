@@ -53,19 +53,19 @@ SaysLast text status out out_now err err_now =
     ⊎ ((out_now ≡ out) × ReportsFailure out_of_memory 4 status err err_now)
 
 -- How a run ends after its input: with a text, if all was answered, and otherwise as it does without one.
-abbrev pub ConcludesSaying : Result (Unit {0}) TurnFault → Text → ℕ → (out out_now err err_now : SinkState) → Type 0
-ConcludesSaying (Ok done) text status out out_now err err_now = SaysLast text status out out_now err err_now
-ConcludesSaying (Err fault) text status out out_now err err_now = (out_now ≡ out) × Concludes (Err fault) status err err_now
+abbrev pub ConcludesSaying : (for_people : Bool) → Result (Unit {0}) TurnFault → Text → ℕ → (out out_now err err_now : SinkState) → Type 0
+ConcludesSaying for_people (Ok done) text status out out_now err err_now = SaysLast text status out out_now err err_now
+ConcludesSaying for_people (Err fault) text status out out_now err err_now = (out_now ≡ out) × Concludes for_people (Err fault) status err err_now
 
 -- The messages are written, then the input is answered, and then there is what is said about all of it.
-pub record SaysAfter (messages : Text) (answer : EventValue → Text) (says : Text → Text) (status : ℕ) (before now : Streams) : Type 0 where
+pub record SaysAfter (for_people : Bool) (messages : Text) (answer : EventValue → Text) (says : Text → Text) (status : ℕ) (before now : Streams) : Type 0 where
   pub after : SinkState
   pub written : HandsOn before.err messages after
   pub end : Result (Unit {0}) TurnFault
   pub out : SinkState
   pub answers : AnswersInput answer end (devices_of before) (record { input = now.input; output = out })
-  pub concludes : ConcludesSaying end (says (joined answers.read)) status out now.out after now.err
+  pub concludes : ConcludesSaying for_people end (says (joined answers.read)) status out now.out after now.err
 
 -- Messages, the answers to an input after them, and what is said about all of it, step by step.
-abbrev pub SaysAll : Text → (EventValue → Text) → (Text → Text) → ℕ → Streams → Streams → Type 0
-SaysAll messages answer says status before now = StopsBefore messages status before now ⊎ SaysAfter messages answer says status before now
+abbrev pub SaysAll : (for_people : Bool) → Text → (EventValue → Text) → (Text → Text) → ℕ → Streams → Streams → Type 0
+SaysAll for_people messages answer says status before now = StopsBefore messages status before now ⊎ SaysAfter for_people messages answer says status before now

@@ -21,38 +21,43 @@ const WRITE_FAILED: &[u8] = b"devdry: write failed\n";
 /// Writes messages to `error`, and then answers the blocks of the input on `output`, over whose events rules are
 /// evaluated by a profile; returns the status to exit with.
 ///
-/// The status is 0; 1 if a block is faulty, which is reported on `error` after the answers to those before it; 3 if
+/// The status is 0; 1 if a block is faulty, which is reported on `error` after the answers to those before it, for people
+/// with what is wrong and what to do about it; 3 if
 /// the input or an output failed, or the input did not end within 2^48 reads; 4 if memory ran out.
 pub fn answer_after_messages<A: Answering, R: Source, W: Sink, E: Sink>(
     alloc: Global,
     profile: Profile,
+    for_people: bool,
     messages: &[u8],
     answering: &A,
     input: &mut R,
     output: &mut W,
     error: &mut E,
 ) -> u8
-    ensures serves { Serves (input_outcome messages.now (answer_of A.answers (asked_by profile answering.now))) result
+    ensures serves { Serves (input_outcome for_people messages.now (answer_of A.answers (asked_by profile answering.now))) result
         (record { input = R.shown input.old; out = W.shown output.old; err = E.shown error.old })
         (record { input = R.shown input.new; out = W.shown output.new; err = E.shown error.new }) }
-    ensures steps { AnswersAll messages.now (answer_of A.answers (asked_by profile answering.now)) result
+    ensures steps { AnswersAll for_people messages.now (answer_of A.answers (asked_by profile answering.now)) result
         (record { input = R.shown input.old; out = W.shown output.old; err = E.shown error.old })
         (record { input = R.shown input.new; out = W.shown output.new; err = E.shown error.new }) }
 {
-    answer_in_steps(alloc, profile, messages, answering, input, output, error)
+    answer_in_steps(
+        alloc, profile, for_people, messages, answering, input, output, error,
+    )
 }
 
 /// The same, step by step.
 fn answer_in_steps<A: Answering, R: Source, W: Sink, E: Sink>(
     alloc: Global,
     profile: Profile,
+    for_people: bool,
     messages: &[u8],
     answering: &A,
     input: &mut R,
     output: &mut W,
     error: &mut E,
 ) -> u8
-    ensures { AnswersAll messages.now (answer_of A.answers (asked_by profile answering.now)) result
+    ensures { AnswersAll for_people messages.now (answer_of A.answers (asked_by profile answering.now)) result
         (record { input = R.shown input.old; out = W.shown output.old; err = E.shown error.old })
         (record { input = R.shown input.new; out = W.shown output.new; err = E.shown error.new }) }
 {
@@ -61,7 +66,7 @@ fn answer_in_steps<A: Answering, R: Source, W: Sink, E: Sink>(
     }
     match answer_input(alloc, profile, answering, input, output) {
         Ok(_) => 0,
-        Err(fault) => conclude(fault, error),
+        Err(fault) => conclude(for_people, fault, error),
     }
 }
 
@@ -73,33 +78,37 @@ fn answer_in_steps<A: Answering, R: Source, W: Sink, E: Sink>(
 pub fn find_after_messages<A: Answering, R: Source, W: Sink, E: Sink>(
     alloc: Global,
     profile: Profile,
+    for_people: bool,
     messages: &[u8],
     answering: &A,
     input: &mut R,
     output: &mut W,
     error: &mut E,
 ) -> u8
-    ensures serves { Serves (λ text. found (input_outcome messages.now (answer_of A.answers (asked_by profile answering.now)) text)) result
+    ensures serves { Serves (λ text. found (input_outcome for_people messages.now (answer_of A.answers (asked_by profile answering.now)) text)) result
         (record { input = R.shown input.old; out = W.shown output.old; err = E.shown error.old })
         (record { input = R.shown input.new; out = W.shown output.new; err = E.shown error.new }) }
-    ensures steps { FindsAll messages.now (answer_of A.answers (asked_by profile answering.now)) result
+    ensures steps { FindsAll for_people messages.now (answer_of A.answers (asked_by profile answering.now)) result
         (record { input = R.shown input.old; out = W.shown output.old; err = E.shown error.old })
         (record { input = R.shown input.new; out = W.shown output.new; err = E.shown error.new }) }
 {
-    find_in_steps(alloc, profile, messages, answering, input, output, error)
+    find_in_steps(
+        alloc, profile, for_people, messages, answering, input, output, error,
+    )
 }
 
 /// The same, step by step.
 fn find_in_steps<A: Answering, R: Source, W: Sink, E: Sink>(
     alloc: Global,
     profile: Profile,
+    for_people: bool,
     messages: &[u8],
     answering: &A,
     input: &mut R,
     output: &mut W,
     error: &mut E,
 ) -> u8
-    ensures { FindsAll messages.now (answer_of A.answers (asked_by profile answering.now)) result
+    ensures { FindsAll for_people messages.now (answer_of A.answers (asked_by profile answering.now)) result
         (record { input = R.shown input.old; out = W.shown output.old; err = E.shown error.old })
         (record { input = R.shown input.new; out = W.shown output.new; err = E.shown error.new }) }
 {
@@ -109,20 +118,20 @@ fn find_in_steps<A: Answering, R: Source, W: Sink, E: Sink>(
     match answer_input(alloc, profile, answering, input, output) {
         Ok(true) => 1,
         Ok(false) => 0,
-        Err(fault) => conclude(fault, error),
+        Err(fault) => conclude(for_people, fault, error),
     }
 }
 
 /// Reports why the answering of an input stopped, and returns the status for it, or 3 if the error output failed.
-pub(crate) fn conclude<E: Sink>(fault: TurnFault, error: &mut E) -> u8
+pub(crate) fn conclude<E: Sink>(for_people: bool, fault: TurnFault, error: &mut E) -> u8
     requires { fault ≡ TurnFault.Session SessionFault.Ended → ⊥ }
-    ensures { Concludes (Err fault) result (E.shown error.old) (E.shown error.new) }
+    ensures { Concludes for_people (Err fault) result (E.shown error.old) (E.shown error.new) }
 {
     match fault {
         TurnFault::Read => report_failure(error, READ_FAILED, 3),
         TurnFault::Write => report_failure(error, WRITE_FAILED, 3),
         TurnFault::Session(SessionFault::Block(number, fault)) => {
-            report_block_fault(error, number, fault)
+            report_block_fault(error, for_people, number, fault)
         }
         TurnFault::Session(SessionFault::Memory) => report_out_of_memory(error),
         TurnFault::Session(SessionFault::Ended) => {

@@ -1,7 +1,9 @@
 //! Answers the blocks of an input one by one, and a whole input turn by turn, for any way of answering events.
 #![tactic(auto)]
 
+mod advice_laws;
 mod answering;
+mod block_advice;
 mod block_faults;
 mod faults;
 mod following;
@@ -13,6 +15,7 @@ mod session;
 mod tallying;
 mod turning;
 
+pub use advice_laws::{advice_follows_the_line, each_fault_has_its_own_advice};
 pub use answering::Answering;
 pub use following::{answer_after_messages, find_after_messages};
 pub use inputs::answer_input;

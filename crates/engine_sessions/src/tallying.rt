@@ -24,6 +24,7 @@ const WRITE_FAILED: &[u8] = b"devdry: write failed\n";
 pub fn answer_and_tally<A: Answering, T: Tally + Drop, R: Source, W: Sink, E: Sink>(
     alloc: Global,
     profile: Profile,
+    for_people: bool,
     messages: &[u8],
     answering: &A,
     tally: T,
@@ -32,15 +33,15 @@ pub fn answer_and_tally<A: Answering, T: Tally + Drop, R: Source, W: Sink, E: Si
     error: &mut E,
 ) -> u8
     ensures serves { Serves (λ text. with_said (T.says tally (events_of profile text))
-        (input_outcome messages.now (answer_of A.answers (asked_by profile answering.now)) text)) result
+        (input_outcome for_people messages.now (answer_of A.answers (asked_by profile answering.now)) text)) result
         (record { input = R.shown input.old; out = W.shown output.old; err = E.shown error.old })
         (record { input = R.shown input.new; out = W.shown output.new; err = E.shown error.new }) }
-    ensures steps { SaysAll messages.now (answer_of A.answers (asked_by profile answering.now)) (λ text. T.says tally (events_of profile text)) result
+    ensures steps { SaysAll for_people messages.now (answer_of A.answers (asked_by profile answering.now)) (λ text. T.says tally (events_of profile text)) result
         (record { input = R.shown input.old; out = W.shown output.old; err = E.shown error.old })
         (record { input = R.shown input.new; out = W.shown output.new; err = E.shown error.new }) }
 {
     tally_in_steps(
-        alloc, profile, messages, answering, tally, input, output, error,
+        alloc, profile, for_people, messages, answering, tally, input, output, error,
     )
 }
 
@@ -48,6 +49,7 @@ pub fn answer_and_tally<A: Answering, T: Tally + Drop, R: Source, W: Sink, E: Si
 fn tally_in_steps<A: Answering, T: Tally + Drop, R: Source, W: Sink, E: Sink>(
     alloc: Global,
     profile: Profile,
+    for_people: bool,
     messages: &[u8],
     answering: &A,
     tally: T,
@@ -55,7 +57,7 @@ fn tally_in_steps<A: Answering, T: Tally + Drop, R: Source, W: Sink, E: Sink>(
     output: &mut W,
     error: &mut E,
 ) -> u8
-    ensures { SaysAll messages.now (answer_of A.answers (asked_by profile answering.now)) (λ text. T.says tally (events_of profile text)) result
+    ensures { SaysAll for_people messages.now (answer_of A.answers (asked_by profile answering.now)) (λ text. T.says tally (events_of profile text)) result
         (record { input = R.shown input.old; out = W.shown output.old; err = E.shown error.old })
         (record { input = R.shown input.new; out = W.shown output.new; err = E.shown error.new }) }
 {
@@ -63,6 +65,7 @@ fn tally_in_steps<A: Answering, T: Tally + Drop, R: Source, W: Sink, E: Sink>(
         Ok(mut hearing) => tally_heard(
             alloc,
             profile,
+            for_people,
             messages,
             answering,
             &mut hearing,
@@ -78,6 +81,7 @@ fn tally_in_steps<A: Answering, T: Tally + Drop, R: Source, W: Sink, E: Sink>(
 fn tally_heard<A: Answering, T: Tally + Drop, R: Source, W: Sink, E: Sink>(
     alloc: Global,
     profile: Profile,
+    for_people: bool,
     messages: &[u8],
     answering: &A,
     hearing: &mut Hearing<T>,
@@ -85,7 +89,7 @@ fn tally_heard<A: Answering, T: Tally + Drop, R: Source, W: Sink, E: Sink>(
     output: &mut W,
     error: &mut E,
 ) -> u8
-    ensures { SaysAll messages.now (answer_of A.answers (asked_by profile answering.now))
+    ensures { SaysAll for_people messages.now (answer_of A.answers (asked_by profile answering.now))
         (λ text. T.says hearing.old.tally (events_of hearing.old.profile (hearing.old.splitter.pending ++ text))) result
         (record { input = R.shown input.old; out = W.shown output.old; err = E.shown error.old })
         (record { input = R.shown input.new; out = W.shown output.new; err = E.shown error.new }) }
@@ -95,7 +99,7 @@ fn tally_heard<A: Answering, T: Tally + Drop, R: Source, W: Sink, E: Sink>(
     }
     match answer_heard(alloc, profile, answering, hearing, input, output) {
         Ok(_) => say_last(alloc, hearing, output, error),
-        Err(fault) => conclude(fault, error),
+        Err(fault) => conclude(for_people, fault, error),
     }
 }
 

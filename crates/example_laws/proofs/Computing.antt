@@ -105,12 +105,15 @@ use Rattle.rule_remarks.specs.Rules.{file_remarks}
 use Rattle.rule_remarks.specs.Values.{value_fault}
 use Rattle.engine_reports.specs.Checks as engine_reports_checks
 use Rattle.engine_formats.specs.Codes.{remark_of}
+use Rattle.strsim.specs.Edits.{cost_at, next_row, rows}
 use Rattle.engine_formats.specs.Lines.{gcc_line, plain_line, spot_of}
+use Rattle.engine_formats.specs.Near as engine_formats_near
 use Rattle.engine_formats.specs.Remarks.{heading_parts}
 use Rattle.engine_checks.specs.Ignores.{ignores_in}
 use Rattle.engine_checks.specs.Reported.{file_reported}
 use Rattle.engine_courses.specs.Asked.{unread, unknown_line, unknown}
 use Rattle.engine_courses.specs.Named.{alike}
+use Rattle.engine_courses.specs.Meant.{meant_file}
 use Rattle.engine_courses.specs.Nearest.{least}
 use Rattle.engine_courses.specs.WhyLines.{why_line, unread_text, reported_from, why_lines}
 use Rattle.engine_courses.specs.Questions.{question_answer}
@@ -118,12 +121,13 @@ use Rattle.engine_answers.specs.Answers.{lines_with}
 use Rattle.engine_answers.specs.Items.{node_lines, item_lines}
 use Rattle.engine_answers.specs.Lines.{text_line, pair_line, run_line, block_note_line, note_line}
 use Rattle.engine_ends.specs.EventLine.{event_line}
+use Rattle.engine_sessions.specs.BlockFaults.{block_line, block_said}
 use Rattle.eval_courses.specs.Fates.{fate, fates_from, keys_reached}
 use Rattle.eval_unread.specs.Unread.{rule_unread, rules_unread}
 use Rattle.engine_unused.specs.Rows.{counted, with_fates}
 use Rattle.engine_unused.specs.Unused.{greatest, line_on, lines_by, unmet_text, unused_lines}
 use Rattle.example_laws.specs.Answered.{answered_by}
-use Rattle.example_laws.specs.Reported.{sourced, sourced_as_udev, explained, explained_as_udev, asked, asked_in_vain, unused_by}
+use Rattle.example_laws.specs.Reported.{sourced, sourced_as_udev, explained, explained_as_udev, asked, asked_in_vain, told_people, unused_by}
 
 -- the words by which the text of a rules file is read
 unfoldable reading_rules : ⊤
@@ -168,13 +172,13 @@ evaluating = tt
 unfoldable reporting : ⊤
 unfolding run_text effect ending node_items items whole_or_cut shown size_note stages_from source_of Reports property_report
     act_report walk_reports key_reports course wanted_text plain_report result_report device_report up_report
-    partial_report search_reports skipped_text message_line alike unread unknown_line unknown least why_line unread_text reported_from
+    partial_report search_reports skipped_text message_line alike unread unknown_line unknown meant_file engine_formats_near.nearest engine_formats_near.distance rows next_row cost_at least why_line unread_text reported_from
     why_lines question_answer rule_asks rules_ask fate fates_from keys_reached counted with_fates greatest line_on lines_by unmet_text unused_lines
 reporting = tt
 
 -- those by which an answer is written
 unfoldable writing : ⊤
-unfolding lines_with node_lines item_lines text_line pair_line run_line block_notes block_note_line note_line event_line
+unfolding lines_with node_lines item_lines text_line pair_line run_line block_notes block_note_line note_line event_line block_line block_said
 writing = tt
 
 -- those by which files are checked
@@ -186,5 +190,5 @@ checking = tt
 
 -- all of these
 unfoldable pub computed : ⊤
-unfolding digits answered_by sourced sourced_as_udev explained explained_as_udev asked asked_in_vain unused_by checking reading_rules reading_blocks reading_databases reading_texts evaluating reporting writing
+unfolding digits answered_by sourced sourced_as_udev explained explained_as_udev asked asked_in_vain told_people unused_by checking reading_rules reading_blocks reading_databases reading_texts evaluating reporting writing
 computed = tt

@@ -1,5 +1,5 @@
 -- What `events` answers with `--sources`, `--why` and `--questions`, and what it says with `--unused`.
-use Rattle.std.specs.Prelude.{[], ◌∷◌, ◌++◌, codes, Option}
+use Rattle.std.specs.Prelude.{[], ◌∷◌, ◌++◌, codes, true, Option}
 use Rattle.text_bytes.specs.Names.{newline}
 use Rattle.text_bytes.specs.declared.profile.Profile.{Profile}
 use Rattle.text_bytes.specs.declared.profile.Profile.TheVariants.{Manual, Udev}
@@ -13,6 +13,8 @@ use Rattle.engine_answers.specs.Answers.{answer_lines, sourced_lines}
 use Rattle.engine_courses.specs.Asked.{unknown}
 use Rattle.engine_courses.specs.WhyLines.{why_lines}
 use Rattle.engine_courses.specs.Questions.{question_answer}
+use Rattle.engine_ends.specs.Delivery.{RunOutcome}
+use Rattle.engine_sessions.specs.Outcomes.{input_outcome}
 use Rattle.engine_sessions.specs.Tallies.{events_of}
 use Rattle.engine_unused.specs.Unused.{unused_lines}
 use Rattle.example_laws.specs.Answered.{answer_to, only_entries, read_by}
@@ -63,3 +65,7 @@ asked_in_vain why rules = let read = read_by Manual rules in unknown (why ∷ []
 -- the lines that follow the answers of `events --unused`, by a profile, the text of a rules file and that of an input
 unfoldable pub unused_by : Profile → Text → Text → Text
 unused_by by rules input = unused_lines [] (read_by by rules).rules (only_entries []) (events_of by input)
+
+-- what is said with `--format=human` after messages, by the text of an input, where each event is answered with the line `a`
+unfoldable pub told_people : Text → Text → RunOutcome
+told_people messages input = input_outcome true messages (λ event. codes "a\n") input

@@ -1,6 +1,7 @@
 //! Examples of what rules and blocks say: what an event begins with, jumps, lines that are read and lines that are not.
-ghost use Rattle.std.specs.Prelude.{◌≡◌, ◌∷◌, [], codes};
+ghost use Rattle.std.specs.Prelude.{◌≡◌, ◌++◌, ◌∷◌, [], codes};
 ghost use Rattle.example_laws.specs.Answered.{answered, text};
+ghost use Rattle.example_laws.specs.Reported.{told_people};
 
 /// With no rule an answer has the links, the tags and the properties of the block, and over these what the event itself says.
 pub fn an_event_begins_with_what_its_block_says()
@@ -74,4 +75,16 @@ pub fn the_first_fault_of_a_block_is_told()
         ≡ codes "line 3: pair" }
     ensures answer { answered [] (codes "C: add\nP: /d\nQ: p")
         ≡ codes "line 3: pair" }
+{}
+
+/// Below the line on a faulty block people are told what is wrong and what to do, after the messages and the answers before it.
+pub fn people_are_told_what_is_wrong_with_a_block()
+    ensures { told_people (codes "m\n") (codes "C: add\nP: /d\n\nC: add\nP: d\n")
+        ≡ record {
+          output = codes "a\n";
+          messages = codes "m\nblock 2, line 2: path\n"
+              ++ codes "  The path does not begin with a slash, or is not that of a parent of the device above.\n"
+              ++ codes "  = Write paths as below /sys, such as P: /devices/virtual/mem/null, each parent below its child.\n";
+          status = 1;
+        } }
 {}

@@ -143,7 +143,8 @@ pub fn what_udev_leaves_out_says_why()
         ∷ codes "why r.rules:2: reached its end: env C=2 set" ∷ codes "" ∷ []) }
 {}
 
-/// If `--why` asks for a line without a rule, the nearest rule of the file is named, and of two as near the one above.
+/// If `--why` asks for a line without a rule, the nearest rule of the file is named, and of two as near the one above; if
+/// it asks for a file that is not there, the file with the nearest name is named, if one is near.
 pub fn the_nearest_rule_is_named()
     ensures above { asked_in_vain (codes "r.rules:3") (codes "\nTAG+=\"a\"\n\n\nTAG+=\"b\"\n\n\n\nTAG+=\"c\"")
         ≡ Some (codes "devdry: --why r.rules:3: no such rule, the nearest is r.rules:2\n") }
@@ -151,7 +152,9 @@ pub fn the_nearest_rule_is_named()
         ≡ Some (codes "devdry: --why r.rules:8: no such rule, the nearest is r.rules:9\n") }
     ensures as_near { asked_in_vain (codes "r.rules:7") (codes "\nTAG+=\"a\"\n\n\nTAG+=\"b\"\n\n\n\nTAG+=\"c\"")
         ≡ Some (codes "devdry: --why r.rules:7: no such rule, the nearest is r.rules:5\n") }
-    ensures file { asked_in_vain (codes "s.rules:5") (codes "\nTAG+=\"a\"") ≡ Some (codes "devdry: --why s.rules:5: no such rules file\n") }
+    ensures file { asked_in_vain (codes "other.rules:5") (codes "\nTAG+=\"a\"") ≡ Some (codes "devdry: --why other.rules:5: no such rules file\n") }
+    ensures near { asked_in_vain (codes "x/s.rule:5") (codes "\nTAG+=\"a\"")
+        ≡ Some (codes "devdry: --why x/s.rule:5: no such rules file, the nearest is r.rules\n") }
     ensures known { asked_in_vain (codes "r.rules:2") (codes "\nTAG+=\"a\"") ≡ None }
 {}
 

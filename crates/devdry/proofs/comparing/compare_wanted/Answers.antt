@@ -1,4 +1,4 @@
-use Rattle.std.proofs.Common.{inl, inr, refl}
+use Rattle.std.proofs.Common.{inl, inr}
 use Rattle.devdry.proofs.comparing.compare_wanted.Goals as goal
 
 pub returns-in-Ok : goal.returns-in-Ok
@@ -7,4 +7,4 @@ returns-in-Ok g c =
     inl (record { old_files = both.old.items; new_files = both.new.items; index = both.index; report = both.report; are_read = c.in-Ok.ensures.inputs; over = c.compare_after.ensures })
 
 pub returns-in-Err : goal.returns-in-Err
-returns-in-Err g c = inr (record { fault = c.in-Err.fault; is_fault = c.in-Err.ensures.fault; reports = c.report_read_fault.ensures; unread = refl; untouched = refl })
+returns-in-Err g c = inr (c.fail_both.ensures (g.I.Source.shown c.args.input.now) (g.W.Sink.shown c.args.output.now))

@@ -1,6 +1,6 @@
 use Rattle.std.proofs.Common.{◌≡◌, ◌<◌, true}
 use Rattle.std.proofs.lemmas.List.Elements.{All-from_recursion, recursion_from_All}
-use Rattle.engine_formats.proofs.Nearest.{least_of_all, nearest_far, nearest_known, nearest_near, nearest_one}
+use Rattle.engine_formats.proofs.NearestNames.{least_of_all, nearest_far, nearest_known, nearest_near, nearest_one}
 use Rattle.engine_formats.specs.Near.{distance, farthest}
 use Rattle.engine_formats.proofs.near_laws.the_nearest_name_is_found.Goals as goal
 

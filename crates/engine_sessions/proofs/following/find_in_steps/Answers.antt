@@ -7,12 +7,12 @@ use Rattle.engine_sessions.proofs.following.find_in_steps.Goals as goal
 pub returns-in-Ok-true : goal.returns-in-Ok-true
 returns-in-Ok-true g c =
     let says : HandsOn (g.E.Sink.shown c.args.error.now) c.args.messages.now (g.E.Sink.shown c.hand_on.new.sink) = search rules in
-    found_after c.args.messages.now (answer_of g.A.Answering.answers (asked_by c.args.profile c.args.answering.now)) true 1 _ _ says (rw c.in-Ok-true.field-0-test at c.in-Ok-true.ensures) refl
+    found_after c.args.for_people c.args.messages.now (answer_of g.A.Answering.answers (asked_by c.args.profile c.args.answering.now)) true 1 _ _ says (rw c.in-Ok-true.field-0-test at c.in-Ok-true.ensures) refl
 
 pub returns-in-Ok-false : goal.returns-in-Ok-false
 returns-in-Ok-false g c =
     let says : HandsOn (g.E.Sink.shown c.args.error.now) c.args.messages.now (g.E.Sink.shown c.hand_on.new.sink) = search rules in
-    found_after c.args.messages.now (answer_of g.A.Answering.answers (asked_by c.args.profile c.args.answering.now)) false 0 _ _ says (rw c.in-Ok-false.field-0-test at c.in-Ok-false.ensures) refl
+    found_after c.args.for_people c.args.messages.now (answer_of g.A.Answering.answers (asked_by c.args.profile c.args.answering.now)) false 0 _ _ says (rw c.in-Ok-false.field-0-test at c.in-Ok-false.ensures) refl
 
 pub returns-in-Err : goal.returns-in-Err
 returns-in-Err g c =

@@ -1,0 +1,7 @@
+use Rattle.std.proofs.Common.{◌≡◌, ◌++◌, drop, map}
+use Rattle.engine_courses.specs.Meant.{file_name}
+use Rattle.engine_courses.proofs.meant.file_names.Given as goal
+
+abbrev pub invariant-loop-place : goal.invariant-loop-place
+invariant-loop-place l =
+    map (λ name. name.now) l.names.items ++ map (λ place. file_name place.now) (drop l.place-index l.places) ≡ map (λ place. file_name place.now) l.places

@@ -22,5 +22,6 @@ pub fn the_input_is_a_file<D: Disk>(disk: &D)
 pub fn all_else_is_answered_by_the_disk<D: Disk>(disk: &D)
     ensures content { D.may_answer disk.now (Content (codes "b.rules") (codes "B"))
         → MayBeside (D.may_answer disk.now) (codes "a.rules") (codes "A") (Content (codes "b.rules") (codes "B")) }
-    ensures only { MayBeside (D.may_answer disk.now) (codes "a.rules") (codes "A") (Content (codes "b.rules") (codes "B")) → D.may_answer disk.now (Content (codes "b.rules") (codes "B")) }
+    ensures only { MayBeside (D.may_answer disk.now) (codes "a.rules") (codes "A") (Content (codes "b.rules") (codes "B"))
+        → D.may_answer disk.now (Content (codes "b.rules") (codes "B")) }
 {}

@@ -14,7 +14,8 @@ use Rattle.engine_formats.specs.Remarks.{code_of}
 use Rattle.devdry_words.specs.declared.refusals.Refusal.{Refusal}
 use Rattle.devdry_words.specs.declared.refusals.Refusal.TheVariants.{TwoDatabases, LinksAsRules, AddedToNamed, AddedToRules, AddedToIndex, TwoAnswers}
 use Rattle.devdry_words.specs.declared.refusals.Refusal.TheVariants.{LinesBesideJson, InputTwice, UnreadInput}
-use Rattle.devdry_words.specs.declared.refusals.Refusal.TheVariants.{EmptyRoot, EmptySide, NoUdev, UnknownFormat, NoAnswerFormat, UnknownColor, UnknownPart, NotRules, NotFile}
+use Rattle.devdry_words.specs.declared.refusals.Refusal.TheVariants.{EmptyRoot, EmptySide, NoUdev, UnknownFormat, NoAnswerFormat}
+use Rattle.devdry_words.specs.declared.refusals.Refusal.TheVariants.{UnknownColor, UnknownPart, NotRules, NotFile}
 use Rattle.devdry_words.specs.Lines.{class_codes, color_of, format_of, is_input}
 use Rattle.devdry_words.specs.Values.{cut_at_commas, has_value, is_empty_text, is_set, text_of, texts_of}
 
@@ -188,7 +189,8 @@ known_codes = listed (map code_of remarks)
 
 -- what is said after a part of `--ignore` that is neither a code nor a class nor the word `comments`
 abbrev pub not_ignorable : Text
-not_ignorable = codes "' for '--ignore <CODES>'\n  [possible values: " ++ known_codes ++ codes ", V, S, H, W, D, L, I, comments]\n\nFor more information, try '--help'.\n"
+not_ignorable =
+    codes "' for '--ignore <CODES>'\n  [possible values: " ++ known_codes ++ codes ", V, S, H, W, D, L, I, comments]\n\nFor more information, try '--help'.\n"
 
 -- what is said after the path of a file that `verify` may not add
 abbrev pub not_rules : Text

@@ -59,7 +59,8 @@ const LINT_RECORDS: &str = "Also tell of lines that are most likely not the ones
 const MESSAGE_FORMATS: &str =
     "How messages are written: plain, gcc, github, gitlab, json, sarif or human";
 
-const ANSWER_FORMATS: &str = "How answers are written: plain, json or human (plain, with advice on faults)";
+const ANSWER_FORMATS: &str =
+    "How answers are written: plain, json or human (plain, with advice on faults)";
 
 const EVALUATE_AS_UDEV: &str = "Read and evaluate rules as udev itself does";
 

@@ -45,16 +45,19 @@ both_messages old new = marked_text (codes "[OLD] ") old ++ marked_text (codes "
 -- evaluated by the old line's profile, and differences and faulty blocks are in its format. It is the messages about the old and then about
 -- the new rules, and for each block of the input what appears and disappears, which is a finding. If one side can't be
 -- opened, what is said about that, about the old one first.
-abbrev pub compare_outcome : (old_line new_line : Line) → (old_found new_found : FilesFound) → Result OpeningValue RunOutcome → Result OpeningValue RunOutcome → Text → RunOutcome
+abbrev pub compare_outcome : (old_line new_line : Line) → (old_found new_found : FilesFound) → (old new : Result OpeningValue RunOutcome) → Text → RunOutcome
 compare_outcome old_line new_line old_found new_found (Ok old) (Ok new) input =
-    found (input_outcome (is_for_people old_line.format) (both_messages old.messages new.messages) (answers_as old_line.profile (differences_by old_line new_line old_found new_found old new)) input)
+    found (input_outcome (is_for_people old_line.format) (both_messages old.messages new.messages)
+    (answers_as old_line.profile (differences_by old_line new_line old_found new_found old new)) input)
 compare_outcome old_line new_line old_found new_found (Ok old) (Err said) input = said
 compare_outcome old_line new_line old_found new_found (Err said) new input = said
 
 -- a comparison step by step, by the two lines, what was found and the opening of both sides
-abbrev pub ComparesBy : (old_line new_line : Line) → (old_found new_found : FilesFound) → Result OpeningValue RunOutcome → Result OpeningValue RunOutcome → ℕ → Streams → Streams → Type 0
+abbrev pub ComparesBy : (old_line new_line : Line) → (old_found new_found : FilesFound) → (old new : Result OpeningValue RunOutcome)
+    → ℕ → Streams → Streams → Type 0
 ComparesBy old_line new_line old_found new_found (Ok old) (Ok new) status before now =
-    FindsAll (is_for_people old_line.format) (both_messages old.messages new.messages) (answers_as old_line.profile (differences_by old_line new_line old_found new_found old new)) status before now
+    FindsAll (is_for_people old_line.format) (both_messages old.messages new.messages)
+    (answers_as old_line.profile (differences_by old_line new_line old_found new_found old new)) status before now
 ComparesBy old_line new_line old_found new_found (Ok old) (Err said) status before now = Reports said status before now
 ComparesBy old_line new_line old_found new_found (Err said) new status before now = Reports said status before now
 
@@ -64,5 +67,7 @@ pub record ComparesOver (old_line new_line : Line) (old_files new_files : List S
     (before now : Streams) : Type 0 where
   pub opened : Option (Result Contents IndexFault)
   pub opens : Opens index opened
-  pub serves : Serves (compare_outcome old_line new_line old_found new_found (opening old_line old_files opened) (opening new_line new_files opened)) status before now
-  pub steps : ComparesBy old_line new_line old_found new_found (opening old_line old_files opened) (opening new_line new_files opened) status before now
+  pub serves : Serves (compare_outcome old_line new_line old_found new_found (opening old_line old_files opened) (opening new_line new_files opened))
+      status before now
+  pub steps : ComparesBy old_line new_line old_found new_found (opening old_line old_files opened) (opening new_line new_files opened)
+      status before now

@@ -54,7 +54,8 @@ pub fn serve_compare<R: Source, W: Sink, E: Sink>(
 ) -> u8
     // What is written and returned is one function of the lines, the files, what was found, the index and the input; and
     // the same step by step.
-    ensures { ComparesOver old_line.now new_line.now old_files.items new_files.items old_found.now new_found.now (option_map (λ bytes. bytes.now) index.entry) result
+    ensures { ComparesOver old_line.now new_line.now old_files.items new_files.items old_found.now new_found.now
+        (option_map (λ bytes. bytes.now) index.entry) result
         (record { input = R.shown input.old; out = W.shown output.old; err = E.shown error.old })
         (record { input = R.shown input.new; out = W.shown output.new; err = E.shown error.new }) }
 {

@@ -35,8 +35,8 @@ use text_bytes::SourceFile;
 /// `events` answer from it and read no file of the database. Only `events`, and `query` with the modalias `-`, look at
 /// the input.
 ///
-/// The status is 0; 1 if `update` is strict and there is a message, if `verify` finds a bad file, if `fmt` only lists files and there is one to list, if a block is faulty,
-/// if a line of modaliases is too long, if the files hold more than they may, or if `query` or `events` is passed an
+/// The status is 0; 1 if `update` is strict and there is a message, if `verify` finds a bad file, if `fmt` only lists files and
+/// there is one to list, if a block is faulty, if a line of modaliases is too long, if the files hold more than they may, or if `query` or `events` is passed an
 /// index that fails a check; 2 if a text of `why` asks for neither a rule nor a message's place, and then no input is
 /// read; 3 if the input or an output failed, or the input did not end within 2^48 reads, and only then; 4 if memory ran
 /// out. Under 3 all was written and flushed.

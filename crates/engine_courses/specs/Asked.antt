@@ -55,7 +55,8 @@ missing (Some place) meant = codes "rule, the nearest is " ++ place_text place
 
 -- the line on a text that asks for nothing
 unfoldable pub unknown_line : List Place → Text → Text
-unknown_line places text = codes "devdry: --why " ++ escape_text text ++ codes ": no such " ++ missing (nearest text places) (meant_file text places) ++ newline ∷ []
+unknown_line places text =
+    codes "devdry: --why " ++ escape_text text ++ codes ": no such " ++ missing (nearest text places) (meant_file text places) ++ newline ∷ []
 
 -- the line on the first text that asks for no rule and no message's place
 unfoldable pub unknown : List Text → List Message → List Rule → Option Text

@@ -25,8 +25,8 @@ mod unread;
 
 pub use answers::push_why_lines;
 pub use laws::{
-    a_file_that_may_be_meant_was_read, first_unknown_is_reported, nothing_is_reported_unasked, rules_are_reported_where_asked,
-    unknown_asks_for_nothing,
+    a_file_that_may_be_meant_was_read, first_unknown_is_reported, nothing_is_reported_unasked,
+    rules_are_reported_where_asked, unknown_asks_for_nothing,
 };
 pub use questions::question_answer;
 pub use unknown::first_unknown;

@@ -22,7 +22,8 @@ pub fn an_answer_is_no_longer_than_its_weight()
     ensures files { (read profile : Profile) (files : List SourceFile) (known : Known) (block : Text) (event : EventValue)
         → block_gives block ≡ Ok event
         → length (answer (by_profile profile event) (whole_outcome (set_of_as read files).rules known (by_profile profile event)))
-        ≤ 8 * outcome_weight (whole_outcome (set_of_as read files).rules known (by_profile profile event)) + 4 * length block + 64 + most_about_a_block profile }
+        ≤ 8 * outcome_weight (whole_outcome (set_of_as read files).rules known (by_profile profile event))
+        + 4 * length block + 64 + most_about_a_block profile }
     ensures others { (profile : Profile) (block : Text) (event : EventValue) (other : Outcome) → block_gives block ≡ Ok event
         → IfSome other.priority (λ priority. unsigned_abs priority ≤ 2 ^ 31)
         → length (answer (by_profile profile event) other) ≤ 8 * outcome_weight other + 4 * length block + 64 + most_about_a_block profile }

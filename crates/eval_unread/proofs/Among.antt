@@ -1,5 +1,5 @@
 -- What is among some notes, and among more.
-use Rattle.std.proofs.Common.{◌≡◌, ◌⊎◌, inl, inr, ℕ, List, [], ◌∷◌, ◌++◌, length, append_assoc, refl, ap, sym, ◌∙◌, arith}
+use Rattle.std.proofs.Common.{◌≡◌, ◌⊎◌, inl, inr, List, [], ◌∷◌, ◌++◌, append_assoc, ap, sym, ◌∙◌}
 use Rattle.eval_state.specs.declared.notes.Note.{Note}
 use Rattle.eval_unread.specs.Laws.{IsAmong}
 

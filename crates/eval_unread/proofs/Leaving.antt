@@ -19,7 +19,7 @@ use Rattle.eval_assignments.specs.Finality.{final_key, is_settled}
 use Rattle.eval_assignments.specs.Steps.{set_step}
 use Rattle.eval_rules.specs.Idle.{is_idle}
 use Rattle.eval_rules.specs.Jumps.{is_passed, run, sought_after}
-use Rattle.eval_rules.specs.Steps.{Went, apply, before_sets}
+use Rattle.eval_rules.specs.Steps.{apply, before_sets}
 use Rattle.eval_unread.specs.Laws.{AsksFirst, IsAmong, Leaves, sought_past}
 use Rattle.eval_unread.specs.Unread.{rendered_pieces, rule_unread, rules_unread, unread_after, unread_from, unread_of}
 use Rattle.eval_unread.proofs.Among.{among_either, among_first, among_none, among_one, among_second}

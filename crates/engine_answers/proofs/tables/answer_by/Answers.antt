@@ -6,6 +6,9 @@ use Rattle.engine_answers.proofs.tables.answer_by.Goals as goal
 
 pub returns : goal.returns
 returns g c =
-    let notes = unread c.args.program.now (g.K.Knowledge.known c.args.knowledge.now) c.args.event.now in
-    let whole = c.in_ok-outcome.ensures ∙ ap (with_notes notes) c.in_ok-own.ensures in
+    let known = g.K.Knowledge.known c.args.knowledge.now in
+    let whole =
+    c.in_ok-outcome.ensures
+    ∙ ap (λ rules. with_notes (unread rules known c.args.event.now) c.in_ok-own.own) c.rules.ensures
+    ∙ ap (with_notes (unread c.args.program.now known c.args.event.now)) c.in_ok-own.ensures in
     IfOk-weaker c.answer-said.result _ _ (λ text e. e ∙ ap (answer c.args.event.now) whole) c.answer-said.ensures

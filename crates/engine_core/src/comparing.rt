@@ -159,11 +159,12 @@ fn compare_rules<L: Lookup + Drop, M: Lookup + Drop, R: Source, W: Sink, E: Sink
     let old_builtins = Builtins::new(old_lookup, &old_line.links, old_found);
     let new_builtins = Builtins::new(new_lookup, &new_line.links, new_found);
     let json = is_json(old_line.format);
+    let for_people = old_line.format.is_for_people();
     match both_tables(alloc, json, old, old_builtins, new, new_builtins) {
         Ok((messages, tables)) => find_after_messages(
             alloc,
             old_line.profile,
-            old_line.format.is_for_people(),
+            for_people,
             &messages,
             &tables,
             input,

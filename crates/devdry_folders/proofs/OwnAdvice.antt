@@ -10,6 +10,6 @@ own_sentences target = (refl, refl)
 
 pub link_is_told : unread_said true (codes "a\nb.rules") (LinkToNothing (codes "/x"))
     ≡ codes "devdry: cannot read a\\x0Ab.rules: link to nothing: /x\n"
-    ++ codes "  It is a link, and there is nothing at /x.\n"
+    ++ codes "  It is a link, and there is nothing at /x\n"
     ++ codes "  = Remove the link, or make what it leads to; a link to /dev/null masks a file.\n"
 link_is_told = refl

@@ -6,6 +6,7 @@ use Rattle.std.specs.Option.{option_to_list}
 use Rattle.text_bytes.specs.declared.source_file.FileKind.{FileKind}
 use Rattle.text_bytes.specs.declared.source_file.FileKind.TheVariants.{Hwdb}
 use Rattle.text_bytes.specs.declared.source_file.SourceFile.{SourceFile}
+use Rattle.text_bytes.specs.Texts.{is_empty}
 use Rattle.text_tables.specs.Texts.{is_among}
 use Rattle.engine_ends.specs.Kinds.{same_kind}
 use Rattle.devdry_folders.specs.Nothing.{has_unread}
@@ -27,7 +28,7 @@ all_reasons target = Absent ∷ Forbidden ∷ LinkToNothing target ∷ NotFolder
 -- whether none of these texts is empty, and no two are the same
 abbrev pub differ : List (List ℕ) → Bool
 differ [] = true
-differ (text ∷ texts) = not (length text == 0) && (not (is_among texts text) && differ texts)
+differ (text ∷ texts) = not (is_empty text) && (not (is_among texts text) && differ texts)
 
 -- whether what is at a path can't be read
 abbrev pub is_unread_at : Spot → Bool

@@ -18,7 +18,7 @@ reason_text Failed = codes "input/output error"
 abbrev pub wrong_by : Reason → List ℕ
 wrong_by Absent = codes "There is no such file."
 wrong_by Forbidden = codes "Permission is denied by the mode of the file, or of a folder on the way to it."
-wrong_by (LinkToNothing target) = codes "It is a link, and there is nothing at " ++ escape_text target ++ codes "."
+wrong_by (LinkToNothing target) = codes "It is a link, and there is nothing at " ++ escape_text target
 wrong_by NotFolder = codes "It is not a folder, and files are read from a folder here."
 wrong_by NotRegular = codes "It is not a regular file, but a folder, a pipe, a socket or a device, or it would be below a file."
 wrong_by NotUtf8 = codes "It is a folder in which a name is not UTF-8."

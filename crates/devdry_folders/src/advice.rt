@@ -2,7 +2,7 @@
 ghost use Rattle.std.specs.List.{list_any};
 ghost use Rattle.std.specs.Option.{option_to_list};
 ghost use Rattle.std.specs.Prelude.{◌≡◌, IfOk, option_map};
-ghost use Rattle.devdry_folders.specs.Advice.{IsAdvice, advice_by, if_about, is_folder, is_named_folder, reason_among, reason_at, reason_in};
+ghost use Rattle.devdry_folders.specs.Advice.{IsAdvice, advice_by, advice_in, if_about, is_folder, is_named_folder, reason_among, reason_at, reason_in};
 ghost use Rattle.devdry_folders.specs.Advice.{reason_in_visits, reason_met, reason_of_visit};
 ghost use Rattle.devdry_folders.specs.Unread.{advice_lines};
 
@@ -136,6 +136,14 @@ fn advice_by(alloc: Global, reason: Option<&Reason>, is_folder: bool) -> Result<
     }
 }
 
+/// What people are told about a path, by a survey.
+fn advice_in(alloc: Global, path: &[u8], survey: &Survey) -> Result<Vec<u8>, AllocError>
+    ensures { IfOk result (λ advice. advice.items ≡ advice_in path.now survey.now) }
+{
+    let is_folder = is_one_named(path, &survey.visits);
+    advice_by(alloc, reason_in(path, survey), is_folder)
+}
+
 /// What people are told about a path that a line asks for and that can't be read: all that it asks for is visited once more,
 /// to find out why. It is two lines, what is wrong and what to do about it, or nothing if the path can be read by now.
 pub fn advice_at<D: Disk>(
@@ -147,7 +155,5 @@ pub fn advice_at<D: Disk>(
     ensures { IfOk result (λ advice. IsAdvice (D.may_answer disk.now) line.now path.now advice.items) }
 {
     let survey = survey_for(alloc, disk, line)?;
-    let path = path.as_bytes();
-    let is_folder = is_one_named(path, &survey.visits);
-    advice_by(alloc, reason_in(path, &survey), is_folder)
+    advice_in(alloc, path.as_bytes(), &survey)
 }

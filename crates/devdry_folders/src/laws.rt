@@ -66,6 +66,6 @@ pub fn each_reason_has_its_own_advice()
 pub fn a_link_to_nothing_is_told()
     ensures { unread_said true (codes "a\nb.rules") (reasons.LinkToNothing (codes "/x"))
         ≡ codes "devdry: cannot read a\\x0Ab.rules: link to nothing: /x\n"
-        ++ codes "  It is a link, and there is nothing at /x.\n"
+        ++ codes "  It is a link, and there is nothing at /x\n"
         ++ codes "  = Remove the link, or make what it leads to; a link to /dev/null masks a file.\n" }
 {}

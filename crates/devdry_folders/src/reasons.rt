@@ -1,5 +1,5 @@
 //! Why something can't be read.
-ghost use Rattle.std.specs.Prelude.{◌≡◌, ◌++◌, OnOk, codes};
+ghost use Rattle.std.specs.Prelude.{◌≡◌, ◌++◌, OnOk};
 ghost use Rattle.devdry_folders.specs.Unread.{advice_lines};
 ghost use Rattle.text_bytes.specs.Escapes.{escape_text};
 ghost use Rattle.devdry_folders.specs.Reasons.{advice_on, reason_text, wrong_by};
@@ -60,19 +60,6 @@ pub(crate) fn push_reason(
     }
 }
 
-/// Appends that there is nothing at the target of a link.
-fn push_nothing_at(alloc: Global, text: &mut Vec<u8>, target: &[u8]) -> Result<(), AllocError>
-    ensures { OnOk result (text.new.items ≡ text.old.items ++ (codes "It is a link, and there is nothing at " ++ escape_text target.now ++ codes ".")) }
-{
-    push_escaped(
-        alloc,
-        text,
-        b"It is a link, and there is nothing at ",
-        target,
-    )?;
-    text.extend_from_slice(b".")
-}
-
 /// Appends what is wrong, in a sentence.
 fn push_wrong(alloc: Global, text: &mut Vec<u8>, reason: &Reason) -> Result<(), AllocError>
     ensures { OnOk result (text.new.items ≡ text.old.items ++ wrong_by reason.now) }
@@ -82,7 +69,12 @@ fn push_wrong(alloc: Global, text: &mut Vec<u8>, reason: &Reason) -> Result<(), 
         Reason::Forbidden => text.extend_from_slice(
             b"Permission is denied by the mode of the file, or of a folder on the way to it.",
         ),
-        Reason::LinkToNothing(target) => push_nothing_at(alloc, text, target.as_slice()),
+        Reason::LinkToNothing(target) => push_escaped(
+            alloc,
+            text,
+            b"It is a link, and there is nothing at ",
+            target.as_slice(),
+        ),
         Reason::NotFolder => text.extend_from_slice(
             b"It is not a folder, and files are read from a folder here.",
         ),

@@ -159,6 +159,7 @@ fn compare_rules<L: Lookup + Drop, M: Lookup + Drop, R: Source, W: Sink, E: Sink
 {
     let old_builtins = Builtins::new(old_lookup, &old_line.links, old_found);
     let new_builtins = Builtins::new(new_lookup, &new_line.links, new_found);
+    let for_people = old_line.format.is_for_people();
     let asked = Asked {
         json: is_json(old_line.format),
         sources: old_line.sources,
@@ -167,7 +168,7 @@ fn compare_rules<L: Lookup + Drop, M: Lookup + Drop, R: Source, W: Sink, E: Sink
         Ok((messages, tables)) => find_after_messages(
             alloc,
             old_line.profile,
-            old_line.format.is_for_people(),
+            for_people,
             &messages,
             &tables,
             input,

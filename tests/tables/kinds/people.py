@@ -49,4 +49,4 @@ FILES = {
 
 def link_to(target):
     """The same about a link to nothing, by its target, escaped."""
-    return told(f"It is a link, and there is nothing at {target}.", "Remove the link, or make what it leads to; a link to /dev/null masks a file.")
+    return told(f"It is a link, and there is nothing at {target}", "Remove the link, or make what it leads to; a link to /dev/null masks a file.")

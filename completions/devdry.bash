@@ -80,7 +80,7 @@ _devdry() {
     local options suffix
     COMPREPLY=()
     if [ "$COMP_CWORD" -eq 1 ]; then
-        _devdry_words verify query update events files compare explain help --help --version -h -V
+        _devdry_words verify query update events files compare fmt explain help --help --version -h -V
         return
     fi
     case $command in
@@ -90,9 +90,10 @@ _devdry() {
         events) suffix=.rules options='--options -r --root --with --all --format --sources --why --unused --questions --index --udev -h --help -V --version' ;;
         files) suffix='' options='--options -r --root --with -h --help -V --version' ;;
         compare) suffix='' options='--options --with --all --format --index --udev -h --help -V --version' ;;
+        fmt) suffix=.rules options='--options --check --stdin-name -h --help -V --version' ;;
         explain) suffix='' options='-h --help -V --version' ;;
         help)
-            [ "$COMP_CWORD" -gt 2 ] || _devdry_words verify query update events files compare explain help
+            [ "$COMP_CWORD" -gt 2 ] || _devdry_words verify query update events files compare fmt explain help
             return
             ;;
         *) return ;;

@@ -43,7 +43,7 @@ pub fn changed_files_are_mended_whole()
 {}
 
 /// Each joined line keeps its number and what becomes of its jump and its label; it keeps its bytes unless something
-/// was to mend in it, and then its tokens.
+/// was to mend in it, and then its tokens, without a fault.
 #[tactic(auto, using(crate::proofs::Twice::lines_stay))]
 pub fn joined_lines_say_the_same()
     ensures { (bytes : List ℕ) → Correspond IsAsItWas (landed_in bytes) (landed_in (mended bytes)) }

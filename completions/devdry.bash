@@ -80,7 +80,7 @@ _devdry() {
     local options suffix
     COMPREPLY=()
     if [ "$COMP_CWORD" -eq 1 ]; then
-        _devdry_words verify query update events files compare explain help --help --version -h -V
+        _devdry_words verify query update events files compare fmt explain help --help --version -h -V
         return
     fi
     case $command in
@@ -93,9 +93,10 @@ _devdry() {
             suffix='' options='--options --with --all --format --sources --index --udev --rules -h --help -V --version'
             case " ${COMP_WORDS[*]} " in *' --rules '*) suffix=.rules ;; esac
             ;;
+        fmt) suffix=.rules options='--options --check --stdin-name -h --help -V --version' ;;
         explain) suffix='' options='-h --help -V --version' ;;
         help)
-            [ "$COMP_CWORD" -gt 2 ] || _devdry_words verify query update events files compare explain help
+            [ "$COMP_CWORD" -gt 2 ] || _devdry_words verify query update events files compare fmt explain help
             return
             ;;
         *) return ;;

@@ -16,6 +16,7 @@ Commands:
   events   Answers the event blocks of the standard input
   files    Lists the files of the folders, and says which of them are read
   compare  Tells where two systems answer the event blocks of the standard input differently
+  fmt      Mends commas and blanks in rules files
   explain  Explains a message by its code, with a faulty file and the fixed one
   help     Print this message or the help of the given subcommand(s)
 
@@ -29,7 +30,8 @@ Status:
      --strict was given, or an event block is faulty, or a
      line of query - is too long, or there are too many rules
      or entries, or the index is refused, or compare found a
-     difference, or files, compare or --all no file
+     difference, or fmt --check a file that would change, or
+     files, compare or --all no file
   2  the command line is wrong
   3  a file, a folder, the input or an output failed
   4  out of memory
@@ -41,6 +43,7 @@ Examples:
   devdry update 20-usb.hwdb > hwdb.index
   devdry query --index hwdb.index usb:v1D6Bp0002
   devdry compare /mnt/old /mnt/new < disk.block
+  devdry fmt 60-mine.rules > mended.rules
   devdry explain V6
 """
 
@@ -251,6 +254,34 @@ Example:
 devdry-compare(1) says more.
 """
 
+FMT_HELP = """\
+Mends commas and blanks in rules files
+
+Usage: devdry fmt [OPTIONS] <FILE>...
+
+Arguments:
+  <FILE>...  Rules files to mend; -: the standard input
+
+Options:
+      --options <FILE>     File of options to put before these, one a line, as --lint or --ignore=S2
+      --check              Only list the files that would change, with status 1
+      --stdin-name <PATH>  Name of the standard input, which is the FILE -
+  -h, --help               Print help
+  -V, --version            Print version
+
+Status:
+  0  the files were mended, or with --check none would change
+  1  with --check a file would change
+  2  the command line is wrong
+  3  a file, the input or an output failed
+  4  out of memory
+
+Example:
+  devdry fmt 60-mine.rules > mended.rules
+
+devdry-fmt(1) says more.
+"""
+
 EXPLAIN_HELP = """\
 Explains a message by its code, with a faulty file and the fixed one
 
@@ -432,6 +463,7 @@ ASKED = [
     ("events --help", EVENTS_HELP),
     ("files --help", FILES_HELP),
     ("compare -h", COMPARE_HELP),
+    ("fmt --help", FMT_HELP),
     ("help explain", EXPLAIN_HELP),
     ("explain S2", EXPLAINED),
     ("explain s2", EXPLAINED),

@@ -5,3 +5,4 @@ pub mod Twice
 pub mod Silence
 pub mod Computing
 pub mod SameRules
+pub mod Respacing

@@ -1,5 +1,5 @@
 -- What is true of a rules file whose commas and blanks are mended.
-use Rattle.std.specs.Prelude.{◌≡◌, ⊤, ℕ, Bool, true, false, not, List, [], ◌∷◌, ◌++◌, filter, map, Result, Ok, Err}
+use Rattle.std.specs.Prelude.{◌≡◌, ⊤, ℕ, Bool, true, false, not, List, [], ◌∷◌, ◌++◌, filter, length, map, None, Result, Ok, Err}
 use Rattle.std.specs.List.{AllByRecursion, list_all}
 use Rattle.text_bytes.specs.Names.{newline}
 use Rattle.text_bytes.specs.declared.source_file.SourceFile.{SourceFile}
@@ -7,14 +7,18 @@ use Rattle.text_bytes.specs.declared.profile.Profile.TheVariants.{Udev}
 use Rattle.file_messages.specs.declared.message.Message.{Message}
 use Rattle.file_messages.specs.declared.message.MessageKind.{MessageKind}
 use Rattle.file_messages.specs.declared.message.MessageKind.TheVariants.{CommaExpected, BlankExpected, BlankBeforeComma}
-use Rattle.rule_tokens.specs.Grammar.{Parts, Placed}
+use Rattle.rule_tokens.specs.Grammar.{Parts, Placed, answers}
+use Rattle.rule_tokens.specs.Lines.{items_of}
 use Rattle.rule_core.specs.Drafts.{Draft}
 use Rattle.rule_core.specs.Style.{style_findings}
 use Rattle.rule_core.specs.Written.{WrittenPart, tokens_in}
 use Rattle.rule_core.specs.declared.spot.Spot.{Spot}
 use Rattle.rule_format.specs.Alike.{is_idle}
 use Rattle.rule_format.specs.Faults.{is_sound, is_style, is_to_mend, parts_read}
+use Rattle.rule_format.specs.Gaps.{is_well_spaced}
 use Rattle.rule_format.specs.Proposed.{Landed}
+use Rattle.rule_format.specs.Rewritten.{written_between}
+use Rattle.rule_format.specs.Stretches.{stretches}
 
 -- nothing is to mend in a joined line
 abbrev pub IsMended : Landed → Type 0
@@ -72,3 +76,14 @@ with_bytes f bytes = record f { bytes = bytes }
 -- messages without those on style
 abbrev pub but_style : List Message → List Message
 but_style messages = filter (λ m. not (is_style m.kind)) messages
+
+-- what is written of a joined line with these tokens if it is one line of its file
+abbrev pub respaced : List ℕ → List Placed → List ℕ
+respaced line tokens = written_between line (stretches line tokens) 0 (length line)
+
+-- What is written of a line is read as tokens to its end, which say the same as these, and its commas and blanks are as they should be.
+pub record IsRespaced (line : List ℕ) (tokens : List Placed) : Type 0 where
+  pub placed : List Placed
+  pub reads : items_of (respaced line tokens) ≡ answers placed None
+  pub same : map (λ t. t.parts) placed ≡ map (λ t. t.parts) tokens
+  pub good : is_well_spaced (respaced line tokens) placed ≡ true

@@ -1,12 +1,13 @@
 //! Laws of files that were mended, each the contract of a function with an empty body.
-ghost use Rattle.std.specs.Prelude.{◌≡◌, ◌⊎◌, ℕ, List};
+ghost use Rattle.std.specs.Prelude.{◌≡◌, ◌⊎◌, ◌∷◌, ℕ, List, None};
 ghost use Rattle.std.specs.List.{AllByRecursion};
 ghost use Rattle.text_bytes.specs.declared.profile.Profile.TheVariants.{Manual};
 ghost use Rattle.text_bytes.specs.declared.source_file.SourceFile as files;
-ghost use Rattle.rule_tokens.specs.Grammar.{Placed};
+ghost use Rattle.rule_tokens.specs.Grammar.{Placed, answers};
+ghost use Rattle.rule_tokens.specs.Lines.{items_of};
 ghost use Rattle.rule_core.specs.Rules.{file_messages, file_rules};
 ghost use Rattle.rule_format.specs.Gaps.{is_well_spaced};
-ghost use Rattle.rule_format.specs.Laws.{but_style, Correspond, IsAsItWas, IsMended, IsSilent, StaysIfIdle, is_silent, with_bytes};
+ghost use Rattle.rule_format.specs.Laws.{but_style, Correspond, IsAsItWas, IsMended, IsRespaced, IsSilent, StaysIfIdle, is_silent, with_bytes};
 ghost use Rattle.rule_format.specs.Mended.{mended};
 ghost use Rattle.rule_format.specs.Proposed.{landed_in};
 ghost use Rattle.rule_format.specs.WholeLines.{whole_lines};
@@ -43,7 +44,7 @@ pub fn changed_files_are_mended_whole()
 {}
 
 /// Each joined line keeps its number and what becomes of its jump and its label; it keeps its bytes unless something
-/// was to mend in it, and then its tokens.
+/// was to mend in it, and then its tokens, without a fault.
 #[tactic(auto, using(crate::proofs::Twice::lines_stay))]
 pub fn joined_lines_say_the_same()
     ensures { (bytes : List ℕ) → Correspond IsAsItWas (landed_in bytes) (landed_in (mended bytes)) }
@@ -65,4 +66,11 @@ pub fn rules_stay()
 #[tactic(auto, using(crate::proofs::SameRules::messages_stay))]
 pub fn other_messages_stay()
     ensures { (f : files.SourceFile) → but_style (file_messages Manual (with_bytes f (mended f.bytes))) ≡ but_style (file_messages Manual f) }
+{}
+
+/// A line that is tokens to its end still has its tokens once its commas and blanks are mended, and these are then as
+/// they should be.
+#[tactic(auto, using(crate::proofs::Respacing::lines_respaced))]
+pub fn mended_lines_keep_their_tokens()
+    ensures { (line : List ℕ) (t : Placed) (tokens : List Placed) → items_of line ≡ answers (t ∷ tokens) None → IsRespaced line (t ∷ tokens) }
 {}

@@ -20,7 +20,7 @@ pub use examples::{
 };
 pub use laws::{
     changed_files_are_mended_whole, comments_stay, files_without_such_messages_stay,
-    joined_lines_say_the_same, mended_files_stay, nothing_is_mended_twice, rules_stay,
-    what_is_reported_is_mended,
+    joined_lines_say_the_same, mended_files_stay, mended_lines_keep_their_tokens,
+    nothing_is_mended_twice, rules_stay, what_is_reported_is_mended,
 };
 pub use mending::mended_rules;

@@ -71,8 +71,8 @@ BEHIND = [
     noted("the first of them is named, in 32 bytes", ("add", "/a/d", [*PARENT, "A: n=1", f"E: {'N' * 40}=1", "Q: y", "R: 0", "E: B=2"], [late("N" * 32)])),
     noted("behind further lines of an answer, and behind constants", ("add", "/a/d", [*PARENT, "O: 2", "K: arch=x", "E: A=1"], [late("A")])),
     noted("a property before the commands, and an attribute or a tag behind them", ("add", "/a/d", ["P: /a", "E: A=1", "Q: x", "R: 0", "A: n=1", "G: t"], [])),
-    noted("a property of the device behind a command", ("add", "/a/d", ["Q: x", "R: 0", "E: A=1", "P: /a"], ["env A=1"])),
-    noted("without a parent it is the device's", ("add", "/d", ["Q: x", "R: 0", "E: A=1"], ["env A=1"])),
+    noted("a property of the device behind a command", ("add", "/a/d", ["Q: x", "R: 0", "E: Z=1", "P: /a"], ["env Z=1"])),
+    noted("without a parent it is the device's", ("add", "/d", ["Q: x", "R: 0", "E: Z=1"], ["env Z=1"])),
     noted("the commands of a device above do not count", ("add", "/a/b/d", ["P: /a/b", "Q: x", "R: 0", "E: A=1", "P: /a", "E: B=1"], [])),
     noted("a line of a stored property is none", ("add", "/a/d", [*PARENT, "B: A=1"], [])),
 ]

@@ -193,7 +193,7 @@ RULES = [
         messages="[OLD] a.rules:1: V2 unknown key: FOO\n[NEW] b.rules:1: V2 unknown key: BAR\n"),
     Row("with an index", ["compare", "--rules", "--index", "i", "a.rules", "b.rules"], {"a.rules": "# none\n", "b.rules": 'IMPORT{builtin}="hwdb abc"\n', "i": WITHOUT_FILE}, block(D),
         START + "+env K=V\n\n", status=1),
-    Row("a file that is not there", ["compare", "--rules", "a.rules", "b.rules"], {"b.rules": 'TAG+="t"\n'}, block(D), START + "+tag t\n\n", "devdry: cannot read a.rules: no such file\n", 3),
+    Row("a file that is not there", ["compare", "--rules", "a.rules", "b.rules"], {"b.rules": 'TAG+="t"\n'}, block(D), START + "+tag t\n\n", "devdry: cannot read a.rules: no such file\ndevdry: no files\n", 3),
     Row("an empty name", ["compare", "--rules", "", "b.rules"], {"b.rules": 'TAG+="t"\n'}, block(D), "",
         "error: an empty value of '<OLD>' or '<NEW>' names no folder; '/' is that of the running system\n\nFor more information, try '--help'.\n", 2),
 ]

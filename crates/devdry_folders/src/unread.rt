@@ -1,6 +1,7 @@
 //! What is reported for what can't be read.
 ghost use Rattle.std.specs.Prelude.{◌≡◌, ◌++◌, IfOk, OnOk, flat_map};
-ghost use Rattle.devdry_folders.specs.Unread.{has_file, has_files, is_file, is_one_of, line_on_met, line_on_spot, lines_on_scan, unread_line, unread_lines, unread_said};
+ghost use Rattle.devdry_folders.specs.Unread.{has_file, has_files, is_file, is_one_of, line_on_met, line_on_spot, lines_on_scan};
+ghost use Rattle.devdry_folders.specs.Unread.{unread_line, unread_lines, unread_said};
 
 use crate::reasons::{Reason, push_advice, push_escaped, push_reason};
 use crate::sights::{Met, Scan, Sight, Spot, Visit};

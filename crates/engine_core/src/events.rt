@@ -124,7 +124,8 @@ fn answer_by_rules<L: Lookup + Drop, R: Source, W: Sink, E: Sink>(
     output: &mut W,
     error: &mut E,
 ) -> u8
-    ensures { AnswersSaying line.now.unused (is_for_people line.now.format) read.messages.items (answer_with line.now found.now (shown_rules read (L.entries lookup)))
+    ensures { AnswersSaying line.now.unused (is_for_people line.now.format) read.messages.items
+        (answer_with line.now found.now (shown_rules read (L.entries lookup)))
         (unused_of line.now found.now (shown_rules read (L.entries lookup))) result
         (record { input = R.shown input.old; out = W.shown output.old; err = E.shown error.old })
         (record { input = R.shown input.new; out = W.shown output.new; err = E.shown error.new }) }
@@ -148,7 +149,8 @@ fn ask_by_rules<L: Lookup + Drop, R: Source, W: Sink, E: Sink>(
     error: &mut E,
 ) -> u8
     requires { line.now.questions ≡ true }
-    ensures { AnswersSaying line.now.unused (is_for_people line.now.format) read.messages.items (answer_with line.now found.now (shown_rules read (L.entries lookup)))
+    ensures { AnswersSaying line.now.unused (is_for_people line.now.format) read.messages.items
+        (answer_with line.now found.now (shown_rules read (L.entries lookup)))
         (unused_of line.now found.now (shown_rules read (L.entries lookup))) result
         (record { input = R.shown input.old; out = W.shown output.old; err = E.shown error.old })
         (record { input = R.shown input.new; out = W.shown output.new; err = E.shown error.new }) }
@@ -224,7 +226,8 @@ fn report_by_rules<L: Lookup + Drop, R: Source, W: Sink, E: Sink>(
     error: &mut E,
 ) -> u8
     requires { line.now.questions ≡ false }
-    ensures { AnswersSaying line.now.unused (is_for_people line.now.format) read.messages.items (answer_with line.now found.now (shown_rules read (L.entries lookup)))
+    ensures { AnswersSaying line.now.unused (is_for_people line.now.format) read.messages.items
+        (answer_with line.now found.now (shown_rules read (L.entries lookup)))
         (unused_of line.now found.now (shown_rules read (L.entries lookup))) result
         (record { input = R.shown input.old; out = W.shown output.old; err = E.shown error.old })
         (record { input = R.shown input.new; out = W.shown output.new; err = E.shown error.new }) }

@@ -1,6 +1,6 @@
 -- Rules files that a text of `--why` may ask for, and that are not read.
-use Rattle.std.specs.Prelude.{ℕ, Bool, false, not, ◌&&◌, ◌||◌, ◌==◌, if◌then◌else◌, List, [], ◌∷◌, ◌++◌, Option, Some, None, codes}
-use Rattle.std.specs.Prelude.{flat_map, map, option_and_then, vec_len}
+use Rattle.std.specs.Prelude.{Bool, true, false, not, ◌&&◌, ◌||◌, ◌==◌, if◌then◌else◌, List, [], ◌∷◌, Option, Some, None}
+use Rattle.std.specs.Prelude.{codes, flat_map, map, option_and_then, vec_len}
 use Rattle.std.specs.List.{list_any}
 use Rattle.text_bytes.specs.Names.{colon, slash}
 use Rattle.text_bytes.specs.Texts.{begins_with, following, is_empty}

@@ -1,8 +1,8 @@
 //! What is told about files before their messages.
 ghost use Rattle.std.specs.List.{list_any};
 ghost use Rattle.std.specs.Prelude.{◌≡◌, ◌++◌, IfOk, OnOk, flat_map, map};
-ghost use Rattle.devdry_notes.specs.Notes.{first_note, folder_note, hides, kind_note, kind_notes, note_on, other_kind, return_note};
-ghost use Rattle.devdry_notes.specs.Notes.{root_notes, told_of_kind, told_of_root};
+ghost use Rattle.devdry_notes.specs.Notes.{first_note, folder_note, hides, kind_note, kind_notes, note_on, other_kind};
+ghost use Rattle.devdry_notes.specs.Notes.{return_note, root_notes, told_of_kind, told_of_root};
 ghost use Rattle.devdry_notes.specs.Notes.{unseen_among, unseen_in, unseen_notes};
 ghost use Rattle.devdry_notes.specs.Told.{notes_of};
 

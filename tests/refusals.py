@@ -442,6 +442,12 @@ ROWS = [
     Row(
         "two roots compared as JSON", ["compare", "--format=json", "old", "new"], {f"old/{RULES}": 'MODE="0600"\n', f"new/{RULES}": 'TAG+="a"\n'},
         "C: add\nP: /d\n", '{"event":"add","path":"/d","gone":["mode 0600"],"come":["tag a"]}\n', status=1),
+    Row(
+        "rules files mended", ["fmt", "m.rules", "n.rules"], {"m.rules": 'TAG+="a",TAG+="b" \\\n  TAG+="c"\n', "n.rules": "# n\n"},
+        output='TAG+="a", TAG+="b", \\\n  TAG+="c"\n# n\n', each_byte=True),
+    Row(
+        "rules files that would change", ["fmt", "--check", "m.rules", "n.rules"], {"m.rules": 'TAG+="a",TAG+="b"\n', "n.rules": "# n\n"},
+        output="m.rules\n", status=1),
     Row("help", ["query", "--help"], output=None, each_byte=True),
     Row("an unknown option", ["verify", "--none"], line=None, status=2),
 ]

@@ -6,3 +6,4 @@ pub mod Silence
 pub mod Computing
 pub mod SameRules
 pub mod Respacing
+pub mod Cuts

@@ -172,10 +172,10 @@ whole_stretch line n start end comma some within =
 abbrev rest_written : List ℕ → Span → List Placed → List ℕ
 rest_written line s tokens = flat_map (written_of line 0 (length line)) (stretches_from line s tokens)
 
-no_end : (at : ℕ) (text : List ℕ) → LexesAt at text [] None → ⊥
+pub no_end : (at : ℕ) (text : List ℕ) → LexesAt at text [] None → ⊥
 no_end at text l = elim l [ ]
 
-starts_there : (at : ℕ) (text : List ℕ) (t : Placed) (tokens : List Placed) (end : Option TokenFault) → LexesAt at text (t ∷ tokens) end → t.span.start ≡ at
+pub starts_there : (at : ℕ) (text : List ℕ) (t : Placed) (tokens : List Placed) (end : Option TokenFault) → LexesAt at text (t ∷ tokens) end → t.span.start ≡ at
 starts_there at text t [] None (last rest gap here between) = here.start
 starts_there at text t tokens end (more rest gap next here between some following) = here.start
 
@@ -238,7 +238,7 @@ respaced_from line at text t (u ∷ tokens) d n (more rest gap next here ends so
         (token_before to t text rest mark (rest_written line u.span tokens) (u ∷ tokens) o refl refl (later (to + length o.own + length mark)))
 
 -- a line is read as these tokens
-lexed : (line : List ℕ) (t : Placed) (tokens : List Placed) → items_of line ≡ answers (t ∷ tokens) None → LexesAt 0 line (t ∷ tokens) None
+pub lexed : (line : List ℕ) (t : Placed) (tokens : List Placed) → items_of line ≡ answers (t ∷ tokens) None → LexesAt 0 line (t ∷ tokens) None
 unfolding items_left
 lexed line t tokens e =
     let g = given (length line + 1) 0 line (omega arith) in

@@ -1,5 +1,5 @@
 -- What is true of a rules file whose commas and blanks are mended.
-use Rattle.std.specs.Prelude.{◌≡◌, ⊤, ℕ, Bool, true, false, not, List, [], ◌∷◌, ◌++◌, filter, length, map, None, Result, Ok, Err}
+use Rattle.std.specs.Prelude.{◌≡◌, ◌≤◌, ⊤, ℕ, Bool, true, false, not, List, [], ◌∷◌, ◌++◌, filter, length, map, None, Result, Ok, Err}
 use Rattle.std.specs.List.{AllByRecursion, list_all}
 use Rattle.text_bytes.specs.Names.{newline}
 use Rattle.text_bytes.specs.declared.source_file.SourceFile.{SourceFile}
@@ -19,6 +19,7 @@ use Rattle.rule_format.specs.Gaps.{is_well_spaced}
 use Rattle.rule_format.specs.Proposed.{Landed}
 use Rattle.rule_format.specs.Rewritten.{written_between}
 use Rattle.rule_format.specs.Stretches.{stretches}
+use Rattle.rule_format.specs.declared.stretches.Stretch.{Stretch}
 
 -- nothing is to mend in a joined line
 abbrev pub IsMended : Landed → Type 0
@@ -87,3 +88,8 @@ pub record IsRespaced (line : List ℕ) (tokens : List Placed) : Type 0 where
   pub reads : items_of (respaced line tokens) ≡ answers placed None
   pub same : map (λ t. t.parts) placed ≡ map (λ t. t.parts) tokens
   pub good : is_well_spaced (respaced line tokens) placed ≡ true
+
+-- stretches in their order, from a place on, of which none is over another
+abbrev pub Rise : ℕ → List Stretch → Type 0
+Rise from [] = ⊤
+Rise from (s ∷ ss) = (from ≤ s.start) × (s.start ≤ s.end) × Rise s.end ss

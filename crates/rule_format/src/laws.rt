@@ -1,5 +1,5 @@
 //! Laws of files that were mended, each the contract of a function with an empty body.
-ghost use Rattle.std.specs.Prelude.{◌≡◌, ◌⊎◌, ◌∷◌, ℕ, List, None};
+ghost use Rattle.std.specs.Prelude.{◌≡◌, ◌≤◌, ◌⊎◌, ◌∷◌, ◌++◌, ℕ, List, None};
 ghost use Rattle.std.specs.List.{AllByRecursion};
 ghost use Rattle.text_bytes.specs.declared.profile.Profile.TheVariants.{Manual};
 ghost use Rattle.text_bytes.specs.declared.source_file.SourceFile as files;
@@ -10,6 +10,8 @@ ghost use Rattle.rule_format.specs.Gaps.{is_well_spaced};
 ghost use Rattle.rule_format.specs.Laws.{but_style, Correspond, IsAsItWas, IsMended, IsRespaced, IsSilent, StaysIfIdle, is_silent, with_bytes};
 ghost use Rattle.rule_format.specs.Mended.{mended};
 ghost use Rattle.rule_format.specs.Proposed.{landed_in};
+ghost use Rattle.rule_format.specs.Rewritten.{written_between};
+ghost use Rattle.rule_format.specs.Stretches.{stretches};
 ghost use Rattle.rule_format.specs.WholeLines.{whole_lines};
 
 /// The commas and blanks of a line are as they should be if and only if no style message is about them: not one of
@@ -73,4 +75,13 @@ pub fn other_messages_stay()
 #[tactic(auto, using(crate::proofs::Respacing::lines_respaced))]
 pub fn mended_lines_keep_their_tokens()
     ensures { (line : List ℕ) (t : Placed) (tokens : List Placed) → items_of line ≡ answers (t ∷ tokens) None → IsRespaced line (t ∷ tokens) }
+{}
+
+/// Wherever such a line is cut, what is written of its parts is what is written of it whole: so its bytes and its commas
+/// stay in their order, and none is lost where the line goes on in another line of its file.
+#[tactic(auto, using(crate::proofs::Cuts::line_cut))]
+pub fn parts_of_lines_make_the_whole()
+    ensures { (line : List ℕ) (t : Placed) (tokens : List Placed) (a b c : ℕ) → items_of line ≡ answers (t ∷ tokens) None → a ≤ b → b ≤ c
+        → written_between line (stretches line (t ∷ tokens)) a b ++ written_between line (stretches line (t ∷ tokens)) b c
+        ≡ written_between line (stretches line (t ∷ tokens)) a c }
 {}

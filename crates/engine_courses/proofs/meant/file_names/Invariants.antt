@@ -4,4 +4,4 @@ use Rattle.engine_courses.proofs.meant.file_names.Given as goal
 
 abbrev pub invariant-loop-place : goal.invariant-loop-place
 invariant-loop-place l =
-    map (λ name. name.now) l.names.items ++ map (λ place. file_name place.now) (drop l.place-index l.places) ≡ map (λ place. file_name place.now) l.places
+    map (λ name. name.now) l.names.items ++ map file_name (drop l.place-index l.places) ≡ map file_name l.places

@@ -1,5 +1,4 @@
 use Rattle.std.proofs.Common.{None, ap, ◌∙◌}
-use Rattle.eval_state.specs.Scenes.{start}
 use Rattle.eval_rules.specs.Jumps.{run}
 use Rattle.eval_rules.specs.Outcomes.{outcome_of}
 use Rattle.eval_sources.proofs.Ending.{one_outcome}
@@ -9,5 +8,4 @@ pub returns-in_ok-outcome-in-Ok-clause-outcome : goal.returns-in_ok-outcome-in-O
 returns-in_ok-outcome-in-Ok-clause-outcome g c =
     c.in_ok-outcome-in-Ok.ensures
     ∙ one_outcome _ _ c.in-Ok.ensures.scene
-    ∙ ap (λ s. outcome_of (run (g.K.Knowledge.known c.args.knowledge.now) None c.rules.result.now s)) c.in_ok-scene.ensures
-    ∙ ap (λ rs. outcome_of (run (g.K.Knowledge.known c.args.knowledge.now) None rs (start c.args.event.now))) c.rules.ensures.borrowed
+    ∙ ap (λ s. outcome_of (run (g.K.Knowledge.known c.args.knowledge.now) None c.args.rules.now s)) c.in_ok-scene.ensures

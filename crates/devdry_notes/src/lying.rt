@@ -37,11 +37,18 @@ fn may_ask(text: &[u8], name: &[u8]) -> bool
     }
 }
 
+/// Whether one of some texts may, as it stands among them.
+fn may_one_ask(texts: &[&str], name: &[u8]) -> bool
+    ensures { result ≡ list_any (λ text. may_ask text.now name.now) texts.now }
+{
+    texts.iter().any(|text| may_ask(text.as_bytes(), name))
+}
+
 /// Whether one of the texts of a line's `--why` may.
 fn is_asked(line: &Line<'_>, name: &[u8]) -> bool
     ensures { result ≡ is_asked line.now name.now }
 {
-    line.why.iter().any(|text| may_ask(text.as_bytes(), name))
+    may_one_ask(&line.why, name)
 }
 
 /// Whether a file among others is one of rules with this name, has any byte, and is hidden by none of them.
@@ -51,6 +58,13 @@ fn answers(files: &[SourceFile], name: &[u8], file: &SourceFile) -> bool
     let is_named_so = last_component(file.name.as_slice()) == name;
     (same_kind(file.kind, FileKind::Rules) & is_named_so & !file.bytes.as_slice().is_empty())
         && !is_hidden(files, file)
+}
+
+/// Whether one of some files answers to a name.
+fn is_answered(files: &[SourceFile], name: &[u8]) -> bool
+    ensures { result ≡ list_any (answers files.now name.now) files.now }
+{
+    files.iter().any(|file| answers(files, name, file))
 }
 
 /// Whether a path is that of a file among others which is read from a folder, and hidden by none of them.
@@ -78,12 +92,18 @@ fn name_in<'a>(root: &[u8], file: &SourceFile, path: &'a [u8]) -> Option<&'a [u8
     following(b"/", following(folder.as_bytes(), following(root, path)?)?)
 }
 
+/// Whether a path is that of one of some files which is read from a folder.
+fn is_one_at(root: &[u8], files: &[SourceFile], path: &[u8]) -> bool
+    ensures { result ≡ list_any (is_at root.now files.now path.now) files.now }
+{
+    files.iter().any(|file| is_at(root, files, path, file))
+}
+
 /// Whether the file at a path is read: the line names no files, and it is one of those that are read from the folders.
 fn is_read(line: &Line<'_>, files: &[SourceFile], path: &[u8]) -> bool
     ensures { result ≡ is_read line.now files.now path.now }
 {
-    let root = line.root.as_bytes();
-    !line.names_files_of(FileKind::Rules) && files.iter().any(|file| is_at(root, files, path, file))
+    !line.names_files_of(FileKind::Rules) && is_one_at(line.root.as_bytes(), files, path)
 }
 
 /// Whether a file at a path is told: a text asks for its name, no file with this name and a byte answers it, and it is not
@@ -92,8 +112,7 @@ fn is_missed(line: &Line<'_>, files: &[SourceFile], path: &[u8]) -> bool
     ensures { result ≡ is_missed line.now files.now path.now }
 {
     let name = last_component(path);
-    (is_asked(line, name) && !files.iter().any(|file| answers(files, name, file)))
-        && !is_read(line, files, path)
+    (is_asked(line, name) && !is_answered(files, name)) && !is_read(line, files, path)
 }
 
 /// Adds the note on a file at a path, if it is told.

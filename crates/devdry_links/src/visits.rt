@@ -145,7 +145,13 @@ pub(crate) fn files_of(alloc: Global, visits: Vec<LinkVisit>) -> Result<Vec<Sour
 fn push_lines(alloc: Global, visit: &LinkVisit, lines: &mut Vec<u8>) -> Result<(), AllocError>
     ensures { OnOk result (lines.new.items ≡ lines.old.items ++ lines_on_visit visit.now) }
 {
-    push_on_scan(alloc, lines, false, visit.place.path().as_bytes(), &visit.scan)
+    push_on_scan(
+        alloc,
+        lines,
+        false,
+        visit.place.path().as_bytes(),
+        &visit.scan,
+    )
 }
 
 /// Adds the lines on what can't be read, in the order of the visits.

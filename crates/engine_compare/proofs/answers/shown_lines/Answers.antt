@@ -8,5 +8,5 @@ use Rattle.engine_compare.proofs.answers.shown_lines.Goals as goal
 pub returns-clause-compared : goal.returns-clause-compared
 returns-clause-compared c =
     let all : map {A = Bor (List ℕ) × Bor (List ℕ)} {B = ShownLine} (λ l. (l.0.now, l.1.now)) c.loop-rest.lines.items ≡ shown_lines (c.args.answer.0.now, c.args.answer.1.now) =
-        all_read _ c.loop-rest.rest.now (lines c.loop-rest.others.now) _ (sym c.is_empty.ensures ∙ c.loop-rest-test.false) c.loop-rest.invariant in
+    all_read _ c.loop-rest.rest.now (lines c.loop-rest.others.now) _ (sym c.is_empty.ensures ∙ c.loop-rest-test.false) c.loop-rest.invariant in
     firsts (λ (l : Bor (List ℕ) × Bor (List ℕ)). (l.0.now, l.1.now)) c.loop-rest.lines.items ∙ ap (map line_of) all ∙ lines_shown (c.args.answer.0.now, c.args.answer.1.now)

@@ -1,5 +1,7 @@
 //! What is reported where no file was found that a run needs.
 ghost use Rattle.std.specs.Prelude.{◌≡◌, IfOk, MatchBool};
+ghost use Rattle.std.specs.List.{list_any};
+ghost use Rattle.engine_ends.specs.Kinds.{reads_folders_of};
 ghost use Rattle.devdry_folders.specs.Missing.{AreMissing, IsLineOnRoot, IsNothing, has_needed, has_own_files, looks_at_root, root_line};
 
 use crate::elsewhere::files_elsewhere;
@@ -27,15 +29,19 @@ fn has_own_files(line: &Line<'_>) -> bool
     !line.files.is_empty() || !line.added.is_empty()
 }
 
+/// Whether a line reads the folders of one of these kinds.
+fn reads_one_of(line: &Line<'_>, kinds: &[FileKind]) -> bool
+    ensures { result ≡ list_any (reads_folders_of line.now) kinds.now }
+{
+    kinds.iter().any(|kind| line.reads_folders_of(*kind))
+}
+
 /// Whether folders are read below a root that a line gives, beside files that it names or adds: then a root that is no folder
 /// is not noticed by what is missing.
 fn looks_at_root(line: &Line<'_>) -> bool
     ensures { result ≡ looks_at_root line.now }
 {
-    let kinds = line.verb.kinds_read();
-    !line.root.is_empty()
-        && has_own_files(line)
-        && kinds.iter().any(|kind| line.reads_folders_of(*kind))
+    !line.root.is_empty() && has_own_files(line) && reads_one_of(line, line.verb.kinds_read())
 }
 
 /// The line on a root that is no folder, by a look at it.

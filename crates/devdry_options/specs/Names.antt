@@ -4,8 +4,8 @@ use Rattle.text_tables.specs.Texts.{Text}
 
 -- options without a value
 unfoldable pub flag_names : List Text
-flag_names = codes "all" ∷ codes "check" ∷ codes "links" ∷ codes "lint" ∷ codes "no-style" ∷ codes "no-summary" ∷ codes "questions" ∷ codes "sources"
-    ∷ codes "strict" ∷ codes "udev" ∷ codes "unused" ∷ []
+flag_names = codes "all" ∷ codes "check" ∷ codes "links" ∷ codes "lint" ∷ codes "no-style" ∷ codes "no-summary" ∷ codes "questions"
+    ∷ codes "rules" ∷ codes "sources" ∷ codes "strict" ∷ codes "udev" ∷ codes "unused" ∷ []
 
 -- options with a value, each of which can be given once
 unfoldable pub valued_names : List Text

@@ -11,6 +11,7 @@ const FLAGS: &[&str] = &[
     "no-style",
     "no-summary",
     "questions",
+    "rules",
     "sources",
     "strict",
     "udev",

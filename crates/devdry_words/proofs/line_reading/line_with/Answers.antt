@@ -20,6 +20,7 @@ returns c = record {
   style = ap not c.is_given-6.ensures;
   lint = c.is_given_or_every.ensures;
   checks_links = c.is_given-7.ensures;
+  check = c.is_given-8.ensures;
   format = search rules;
   color = search rules;
   all = c.asks_all_of.ensures;

@@ -20,7 +20,7 @@ use eval_sources::{Sourced, SourcedCommand};
 use eval_state::Notes;
 use eval_unread::{evaluate_whole, evaluate_whole_sources};
 use json::Writer;
-use rule_types::RuleSet;
+use rule_types::{Rule, RuleSet};
 use std::alloc::{AllocError, Global};
 use text_bytes::Bytes;
 use text_json::write_told;
@@ -183,14 +183,14 @@ fn sourced_answer<'a, K: Knowledge>(
     alloc: Global,
     asks: bool,
     why: &[u8],
-    rules: &'a RuleSet,
+    rules: &'a [Rule],
     event: &'a Event<'_>,
     knowledge: &K,
 ) -> Result<Vec<u8>, AllocError>
     requires { asks ≡ ask_others rules.now }
     ensures { IfOk result (λ text. text.items ≡ value_line (sourced_object why.now rules.now (K.known knowledge.now) event.now)) }
 {
-    let found = evaluate_whole_sources(alloc, asks, rules.rules(), event, knowledge)?;
+    let found = evaluate_whole_sources(alloc, asks, rules, event, knowledge)?;
     let said = sourced_line(alloc, why, event, &found);
     drop(found);
     said
@@ -233,7 +233,7 @@ pub fn json_answer<K: Knowledge>(
     ensures { IfOk result (λ text. text ≡ json_answer sources why.now rules.now (K.known knowledge.now) event.now) }
 {
     if sources {
-        let text = sourced_answer(alloc, asks, why, rules, event, knowledge)?;
+        let text = sourced_answer(alloc, asks, why, rules.rules(), event, knowledge)?;
         Ok(Bytes::new(text))
     } else {
         let text = plain_answer(alloc, asks, why, rules, event, knowledge)?;

@@ -75,9 +75,10 @@ abbrev pub reported_by : Both → EventValue → Text
 reported_by both event =
     compared both.0 event (compared_answer both.1.0.0 both.1.0.1.0 (known_by both.1.0.1.1) event) (compared_answer both.1.1.0 both.1.1.1.0 (known_by both.1.1.1.1) event)
 
-pub finds_both : (line : Line) (messages said : Text) (both tables : Both) (status : ℕ) (before now : Streams)
-    → messages ≡ said → both ≡ tables → FindsAll (is_for_people line.format) messages (answers_as line.profile (reported_by both)) status before now
+pub finds_both : (line : Line) (for_people : Bool) (messages said : Text) (both tables : Both) (status : ℕ) (before now : Streams)
+    → for_people ≡ is_for_people line.format → messages ≡ said → both ≡ tables → FindsAll for_people messages (answers_as line.profile (reported_by both)) status before now
     → FindsAll (is_for_people line.format) said (answers_as line.profile (reported_by tables)) status before now
-finds_both line messages said both tables status before now e f h =
-    subst (λ m. FindsAll (is_for_people line.format) m (answers_as line.profile (reported_by tables)) status before now) e
-    (subst (λ t. FindsAll (is_for_people line.format) messages (answers_as line.profile (reported_by t)) status before now) f h)
+finds_both line for_people messages said both tables status before now p e f h =
+    subst (λ b. FindsAll b said (answers_as line.profile (reported_by tables)) status before now) p
+    (subst (λ m. FindsAll for_people m (answers_as line.profile (reported_by tables)) status before now) e
+    (subst (λ t. FindsAll for_people messages (answers_as line.profile (reported_by t)) status before now) f h))

@@ -93,7 +93,7 @@ asked_refused Memory why opened is = tt
 
 -- events that are answered by what the line asks for are answered as it asks, and what is said is what it asks for
 answered_runs : (line : Line) (found : FilesFound) (opening : OpeningValue) (messages : Text) (answer : EventValue → Text) (says : Text → Text) (status : ℕ) (before now : Streams) → messages ≡ opening.messages → answer ≡ answer_by_line line found opening → says ≡ unused_of line found opening
-    → AnswersSaying line.unused (is_for_people line.format) messages (answers_as line.profile answer) says status before now → AnswersSaying line.unused opening.messages (answer_with line found opening) (unused_of line found opening) status before now
+    → AnswersSaying line.unused (is_for_people line.format) messages (answers_as line.profile answer) says status before now → AnswersSaying line.unused (is_for_people line.format) opening.messages (answer_with line found opening) (unused_of line found opening) status before now
 answered_runs line found opening messages answer says status before now m a u h =
     subst (λ t. AnswersSaying line.unused (is_for_people line.format) t (answer_with line found opening) (unused_of line found opening) status before now) m
     (subst (λ (f : EventValue → Text). AnswersSaying line.unused (is_for_people line.format) messages (answers_as line.profile f) (unused_of line found opening) status before now) a
@@ -107,7 +107,7 @@ said_by line rules held text = unused_lines (added_of line) rules (known_by held
 pub asked_runs : (line : Line) (found : FilesFound) (opening : OpeningValue) (messages : Text) (tables : List Rule × Held) (rules : List Rule) (held : Held) (status : ℕ) (before now : Streams) → line.questions ≡ true → messages ≡ opening.messages
     → tables ≡ (opening.rules, record { links = line.links.items; files = found; entries = opening.entries }) → rules ≡ tables.0 → held ≡ tables.1
     → AnswersSaying line.unused (is_for_people line.format) messages (answers_as line.profile (question_answer tables.0 (known_by tables.1))) (said_by line rules held) status before now
-    → AnswersSaying line.unused opening.messages (answer_with line found opening) (unused_of line found opening) status before now
+    → AnswersSaying line.unused (is_for_people line.format) opening.messages (answer_with line found opening) (unused_of line found opening) status before now
 asked_runs line found opening messages tables rules held status before now q m t r k h =
     let other : EventValue → Text = cond (asks_more line) (reported_by (reported_for line opening) (known_for line found opening)) (answer_by opening.rules (known_for line found opening)) in
     answered_runs line found opening messages (question_answer tables.0 (known_by tables.1)) (said_by line rules held) status before now m
@@ -118,7 +118,7 @@ asked_runs line found opening messages tables rules held status before now q m t
 pub reported_runs : (line : Line) (found : FilesFound) (opening : OpeningValue) (messages : Text) (tables : ReportedValue × Held) (rules : List Rule) (held : Held) (status : ℕ) (before now : Streams) → line.questions ≡ false → asks_more line ≡ true → messages ≡ opening.messages
     → tables ≡ (reported_for line opening, record { links = line.links.items; files = found; entries = opening.entries }) → rules ≡ tables.0.rules → held ≡ tables.1
     → AnswersSaying line.unused (is_for_people line.format) messages (answers_as line.profile (reported_by tables.0 (known_by tables.1))) (said_by line rules held) status before now
-    → AnswersSaying line.unused opening.messages (answer_with line found opening) (unused_of line found opening) status before now
+    → AnswersSaying line.unused (is_for_people line.format) opening.messages (answer_with line found opening) (unused_of line found opening) status before now
 reported_runs line found opening messages tables rules held status before now q a m t r k h =
     let asked : EventValue → Text = question_answer opening.rules (known_for line found opening) in
     let more : EventValue → Text = reported_by (reported_for line opening) (known_for line found opening) in
@@ -133,7 +133,7 @@ reported_runs line found opening messages tables rules held status before now q 
 pub alone_runs : (line : Line) (found : FilesFound) (opening : OpeningValue) (messages : Text) (tables : List Rule × Held) (rules : List Rule) (held : Held) (status : ℕ) (before now : Streams) → line.questions ≡ false → asks_more line ≡ false → messages ≡ opening.messages
     → tables ≡ (opening.rules, record { links = line.links.items; files = found; entries = opening.entries }) → rules ≡ tables.0 → held ≡ tables.1
     → AnswersSaying line.unused (is_for_people line.format) messages (answers_as line.profile (answer_by tables.0 (known_by tables.1))) (said_by line rules held) status before now
-    → AnswersSaying line.unused opening.messages (answer_with line found opening) (unused_of line found opening) status before now
+    → AnswersSaying line.unused (is_for_people line.format) opening.messages (answer_with line found opening) (unused_of line found opening) status before now
 alone_runs line found opening messages tables rules held status before now q a m t r k h =
     let asked : EventValue → Text = question_answer opening.rules (known_for line found opening) in
     let more : EventValue → Text = reported_by (reported_for line opening) (known_for line found opening) in

@@ -17,5 +17,4 @@ returns-in-Ok g c =
         (c.args.old_line.now.sources, (new.rules, record { links = c.args.new_line.now.links.items; files = c.args.new_found.now; entries = new.entries })),
       ),
     ) = search rules in
-    finds_both c.args.old_line.now _ _ c.in-Ok.tables _ _ _ _ messages tables
-    (rw c.is_for_people-for_people.ensures at c.find_after_messages.ensures.steps)
+    finds_both c.args.old_line.now c.is_for_people-for_people.result _ _ c.in-Ok.tables _ _ _ _ c.is_for_people-for_people.ensures messages tables c.find_after_messages.ensures.steps

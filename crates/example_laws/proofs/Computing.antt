@@ -30,7 +30,7 @@ use Rattle.rule_core.specs.Drafts.{draft_of}
 use Rattle.rule_core.specs.Effects.{has_effect}
 use Rattle.rule_core.specs.Ends.{as_read}
 use Rattle.rule_core.specs.Rules.{set_of_as}
-use Rattle.device_core.specs.Blocks.{texts, pairs, numbers, answers, before_device, groups, device, devices, programs, event}
+use Rattle.device_core.specs.Blocks.{texts, pairs, numbers, answers, behind_in, before_device, groups, device, devices, programs, event}
 use Rattle.device_core.specs.Faults.{device_above, follows_answer, follows_command, row_fault, has_nul, line_fault, given_below, given_by, block_gives}
 use Rattle.device_core.specs.Lines.{kind_of, row_of, begins_answer}
 use Rattle.device_core.specs.Parts.{pair_of, number_below, answer_of, is_device_path, is_parent_path}
@@ -143,7 +143,7 @@ reading_rules = tt
 
 -- those by which the text of a block is read
 unfoldable reading_blocks : ⊤
-unfolding texts pairs numbers answers before_device groups device devices programs event device_above follows_answer follows_command
+unfolding texts pairs numbers answers behind_in before_device groups device devices programs event device_above follows_answer follows_command
     row_fault has_nul line_fault given_below given_by block_gives kind_of row_of begins_answer pair_of number_below
     device_core_parts.number_of answer_of is_device_path is_parent_path line_of_excess
 reading_blocks = tt

@@ -1,2 +1,2 @@
 pub mod ByFile
-pub mod Failing
+pub mod Refused

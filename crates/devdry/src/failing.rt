@@ -33,7 +33,8 @@ fn push_cannot_read(
 {
     push_escaped(alloc, said, b"devdry: cannot read ", path.as_bytes())?;
     said.push(b'\n')?;
-    said.extend_from_slice(advice)
+    said.extend_from_slice(advice)?;
+    Ok(())
 }
 
 /// What people are told about a path that a line asks for.

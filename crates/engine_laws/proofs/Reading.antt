@@ -9,7 +9,7 @@ use Rattle.text_bytes.specs.Names.{colon, newline, nul, space}
 use Rattle.text_bytes.specs.Numbers.{decimal_below}
 use Rattle.text_bytes.specs.Texts.{is_empty, split_once}
 use Rattle.text_tables.specs.Texts.{Text}
-use Rattle.device_core.specs.Blocks.{answers, before_device, device, devices, event, groups, is_kind, numbers, pairs, programs, text_in, texts}
+use Rattle.device_core.specs.Blocks.{answers, before_device, behind_in, device, devices, event, groups, is_kind, numbers, pairs, programs, text_in, texts}
 use Rattle.device_core.specs.Faults.{block_gives, device_above, fault_unless, follows_command, given_below, given_by, given_with, has_nul, is_half, is_too_deep, is_wrong_number, is_wrong_path, lacks_action, lacks_device, line_fault, row_fault, unless_faulty}
 use Rattle.device_core.specs.Lines.{Row, begins_answer, form, kind_of, row_from, row_of}
 use Rattle.device_core.specs.Parts.{answer_of, is_device_path, number_below}
@@ -310,7 +310,7 @@ unfolding line_fault has_nul row_of kind_of row_fault follows_command answer_of 
 answer_free command = refl
 
 whole : (command : Text) → given_below (four command) [] ≡ Ok (filled_event command)
-unfolding given_below devices groups before_device device event programs texts pairs numbers answers answer_of number_below decimal_below split_once
+unfolding given_below devices groups before_device behind_in device event programs texts pairs numbers answers answer_of number_below decimal_below split_once
 whole command = refl
 
 given : (command : Text) → can_be_asked command ≡ true → given_by (codes "C: add" ∷ codes "P: /d" ∷ question command ∷ codes "R: 0" ∷ []) ≡ Ok (filled_event command)

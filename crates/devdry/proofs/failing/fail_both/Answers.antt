@@ -15,8 +15,8 @@ returns-then-is_for_people g c input out =
     subst (λ b. MatchBool b (TellsPeople (IsSaidOfBoth (g.D.Disk.may_answer c.args.disk.now) c.args.old.now c.args.new.now) (IsFaultOfBoth (g.D.Disk.may_answer c.args.disk.now) c.args.old.now c.args.new.now) c.tell_of_both.result before now) (FailsAt (IsFaultOfBoth (g.D.Disk.may_answer c.args.disk.now) c.args.old.now c.args.new.now) c.tell_of_both.result before now)) (sym is)
     (c.tell_of_both.ensures input out)
 
-pub returns : goal.returns
-returns g c input out =
+pub returns-else-is_for_people : goal.returns-else-is_for_people
+returns-else-is_for_people g c input out =
     let before : Streams = record { input = input; out = out; err = g.E.Sink.shown c.args.error.now } in
     let now : Streams = record { input = input; out = out; err = g.E.Sink.shown c.report_read_fault.new.error } in
     let is : is_for_people c.args.old.now.format ≡ false = search rules in

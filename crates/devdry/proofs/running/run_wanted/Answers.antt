@@ -2,7 +2,7 @@ use Rattle.std.proofs.Common.{inl, inr, refl}
 use Rattle.engine_ends.specs.Readers.{is_for_people}
 use Rattle.devdry.specs.Failing.{IsSaidAt}
 use Rattle.devdry.specs.Reading.{IsFaultOf}
-use Rattle.devdry.proofs.Failing.{refused_fails}
+use Rattle.devdry.proofs.Refused.{refused_fails}
 use Rattle.devdry.proofs.running.run_wanted.Goals as goal
 
 pub returns-in-Ok : goal.returns-in-Ok

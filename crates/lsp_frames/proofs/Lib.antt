@@ -1,0 +1,3 @@
+pub mod HeaderEnds
+pub mod HeaderLemmas
+pub mod ItemLemmas

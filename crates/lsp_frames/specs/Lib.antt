@@ -1,0 +1,5 @@
+pub mod Framed
+pub mod Headers
+pub mod Held
+pub mod Items
+pub mod Laws

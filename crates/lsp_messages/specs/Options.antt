@@ -1,0 +1,45 @@
+-- The options that a client gives when it begins.
+use Rattle.std.specs.Prelude.{ℕ, List, [], ◌∷◌, Option, Some, None, codes, map, option_and_then, option_map}
+use Rattle.json.specs.Json.{Json, null, boolean, number, string, array, object, Items, no_items, item}
+use Rattle.json.specs.Find.{as_str, get}
+use Rattle.lsp_messages.specs.declared.options.Options.{Options}
+use Rattle.lsp_messages.specs.declared.options.Options.TheVariants.{Absent, Words, Malformed}
+
+-- options: none are given, these words are, or something else is
+pub data OptionsValue : Type 0 where
+  absent : OptionsValue
+  words : List (List ℕ) → OptionsValue
+  malformed : OptionsValue
+
+abbrev pub options_shown : Options → OptionsValue
+options_shown Absent = absent
+options_shown (Words ws) = words (map (λ w. w.now) ws.items)
+options_shown Malformed = malformed
+
+-- the strings that items are, if each is one
+abbrev pub strings_in : Items → Option (List (List ℕ))
+strings_in no_items = Some []
+strings_in (item value values) = option_and_then (λ text. option_map (λ texts. text ∷ texts) (strings_in values)) (as_str value)
+
+-- what options are by the strings that they are
+abbrev pub given_options : Option (List (List ℕ)) → OptionsValue
+given_options None = malformed
+given_options (Some texts) = words texts
+
+-- what a member `options` is
+abbrev pub options_in : Option Json → OptionsValue
+options_in None = absent
+options_in (Some null) = absent
+options_in (Some (boolean b)) = malformed
+options_in (Some (number s)) = malformed
+options_in (Some (string s)) = malformed
+options_in (Some (array js)) = given_options (strings_in js)
+options_in (Some (object ms)) = malformed
+
+-- the member that has the options
+abbrev pub options_given : Json → Option Json
+options_given params = option_and_then (get (codes "options")) (get (codes "initializationOptions") params)
+
+-- the options that a client gives
+unfoldable pub options_of : Json → OptionsValue
+options_of params = options_in (options_given params)

@@ -1,0 +1,47 @@
+-- Positions and ranges as values of JSON.
+use Rattle.std.specs.Prelude.{ℕ, ◌^◌, List, [], ◌∷◌, Option, codes, option_and_then, option_map}
+use Rattle.text_bytes.specs.Numbers.{decimal_below}
+use Rattle.json.specs.Json.{Json, string}
+use Rattle.json.specs.Find.{as_number, get}
+use Rattle.text_json.specs.Values.{number_value, object_of}
+use Rattle.lsp_texts.specs.declared.rows.Position.{Position}
+
+-- the number that a value is, if it is one of decimal digits alone and below 2^31
+abbrev pub number_of : Json → Option ℕ
+number_of value = option_and_then (decimal_below (2 ^ 31)) (as_number value)
+
+-- the number that a member is
+abbrev pub number_at : List ℕ → Json → Option ℕ
+number_at name value = option_and_then number_of (get name value)
+
+-- the position of a line and a character in it
+abbrev pub place : ℕ → ℕ → Position
+place line character = record { line = line; character = character }
+
+-- the position that a value is: its line and its character
+unfoldable pub position_of : Json → Option Position
+position_of value = option_and_then (λ line. option_map (place line) (number_at (codes "character") value)) (number_at (codes "line") value)
+
+-- the position that a member is
+abbrev pub position_at : List ℕ → Json → Option Position
+position_at name value = option_and_then position_of (get name value)
+
+-- the range that a value is: where it starts and where it ends
+unfoldable pub range_of : Json → Option (Position × Position)
+range_of value = option_and_then (λ start. option_map (λ end. (start, end)) (position_at (codes "end") value)) (position_at (codes "start") value)
+
+-- a position as a value
+unfoldable pub position_value : Position → Json
+position_value position = object_of ((codes "line", number_value position.line) ∷ (codes "character", number_value position.character) ∷ [])
+
+-- a range as a value
+unfoldable pub range_value : Position → Position → Json
+range_value start end = object_of ((codes "start", position_value start) ∷ (codes "end", position_value end) ∷ [])
+
+-- a range of a document as a value
+unfoldable pub location_value : List ℕ → Position → Position → Json
+location_value uri start end = object_of ((codes "uri", string uri) ∷ (codes "range", range_value start end) ∷ [])
+
+-- a text in place of a range, as a value
+unfoldable pub edit_value : Position → Position → List ℕ → Json
+edit_value start end text = object_of ((codes "range", range_value start end) ∷ (codes "newText", string text) ∷ [])

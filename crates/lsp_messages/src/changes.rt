@@ -1,0 +1,72 @@
+//! The changes of a document.
+ghost use Rattle.std.specs.Prelude.{◌≡◌, IfOk, Some, option_map};
+ghost use Rattle.json.specs.Value.{items_view, value_view};
+ghost use Rattle.lsp_messages.specs.Changes.{change_of, change_range, changes_in, changes_of};
+
+use crate::parameters::string_at;
+use crate::positions::range_of;
+use json::Value;
+use lsp_texts::{Change, Position};
+use std::alloc::{AllocError, Global};
+
+/// The changes that the parameters of `textDocument/didChange` have, in order: `contentChanges`. None if that is not an array,
+/// or if one of its items is not a change: each has to have a `text` that is a string, and if it has a `range` that is not
+/// null, that has to be a range.
+#[tactic(auto, unfolding(crate::specs::Changes::changes_of))]
+pub fn changes_of<'a>(
+    alloc: Global,
+    params: &Value<'a>,
+) -> Result<Option<Vec<Change<'a>>>, AllocError>
+    ensures { IfOk result (λ changes. option_map (λ cs. cs.items) changes ≡ changes_of (value_view params.now)) }
+{
+    match params.get("contentChanges") {
+        Some(Value::Array(values)) => changes_in(alloc, values),
+        _ => Ok(None),
+    }
+}
+
+/// The changes that values are.
+fn changes_in<'a>(
+    alloc: Global,
+    values: &[Value<'a>],
+) -> Result<Option<Vec<Change<'a>>>, AllocError>
+    ensures { IfOk result (λ changes. option_map (λ cs. cs.items) changes ≡ changes_in (items_view values.now)) }
+{
+    let mut changes = Vec::new(alloc);
+    for value in values {
+        match change_of(value) {
+            Some(change) => changes.push(change)?,
+            None => return Ok(None),
+        }
+    }
+    Ok(Some(changes))
+}
+
+/// The change that a value is.
+fn change_of<'a>(value: &Value<'a>) -> Option<Change<'a>>
+    ensures { result ≡ change_of (value_view value.now) }
+{
+    let text = string_at(value, "text")?;
+    let range = change_range(value.get("range"))?;
+    Some(Change::new(range, text.as_bytes()))
+}
+
+/// The range of a change: none without the member or if it is null, and otherwise it has to be a range.
+fn change_range(value: Option<&Value<'_>>) -> Option<Option<(Position, Position)>>
+    ensures { result ≡ change_range (option_map (λ v. value_view v.now) value.entry) }
+{
+    match value {
+        None => Some(None),
+        Some(value) => given_range(value),
+    }
+}
+
+/// The range that a member is, none if it is null.
+fn given_range(value: &Value<'_>) -> Option<Option<(Position, Position)>>
+    ensures { result ≡ change_range (Some (value_view value.now)) }
+{
+    if value.is_null() {
+        return Some(None);
+    }
+    Some(Some(range_of(value)?))
+}

@@ -1,0 +1,5 @@
+pub mod WriteLemmas
+pub mod TakingLemmas
+pub mod InputLemmas
+pub mod Serving
+pub mod LawLemmas

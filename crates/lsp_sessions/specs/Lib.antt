@@ -1,0 +1,5 @@
+pub mod Servers
+pub mod Outcomes
+pub mod Runs
+pub mod Taking
+pub mod Inputs

@@ -1,0 +1,25 @@
+//! What is true of sessions. Each law is the contract of a function with an empty body.
+ghost use Rattle.std.specs.Prelude.{◌≡◌, ◌≤◌, List, ◌++◌, flat_map, length, map};
+ghost use Rattle.std.specs.List.{AllByRecursion};
+ghost use Rattle.text_tables.specs.Texts.{Text};
+ghost use Rattle.lsp_frames.specs.Framed.{framed};
+ghost use Rattle.lsp_frames.specs.Items.{most_content};
+ghost use Rattle.lsp_frames.specs.declared.frames.Item.TheVariants as item;
+ghost use Rattle.lsp_sessions.specs.Servers.{IsFirstOf, acting, said_of, said_to};
+ghost use Rattle.lsp_sessions.specs.declared.replying.Exit.{Exit};
+
+use crate::replying::Replying;
+
+/// What is said to the first bytes of an input stays, however it goes on; and if the client exits in them, that is all.
+pub fn what_is_said_stays<S: Replying>()
+    ensures first { (state : S) (input later : Text) → IsFirstOf (said_of (acting S.replies S.after state) input).text
+        (said_of (acting S.replies S.after state) (input ++ later)).text }
+    ensures exit { (state : S) (input later : Text) (exit : Exit) → (said_of (acting S.replies S.after state) input).exit ≡ Some exit
+        → said_of (acting S.replies S.after state) (input ++ later) ≡ said_of (acting S.replies S.after state) input }
+{}
+
+/// Contents that are framed, one after another, are replied to in their order.
+pub fn framed_contents_are_replied_to<S: Replying>()
+    ensures { (state : S) (contents : List Text) → AllByRecursion (λ content. length content ≤ most_content) contents
+        → said_of (acting S.replies S.after state) (flat_map framed contents) ≡ said_to (acting S.replies S.after state) (map item.Content contents) }
+{}

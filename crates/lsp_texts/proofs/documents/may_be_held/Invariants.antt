@@ -1,0 +1,8 @@
+use Rattle.std.proofs.Common.{◌≡◌, ◌+◌, length}
+use Rattle.std.specs.Prelude.{sum_by}
+use Rattle.indexmap.specs.IndexMap.{values}
+use Rattle.lsp_texts.proofs.documents.may_be_held.Given as goal
+
+abbrev pub invariant-loop-document : goal.invariant-loop-document
+invariant-loop-document l =
+    l.left + sum_by (λ d. length d.text) (values l.held) ≡ 67108864 + sum_by (λ d. length d.text) l.document-iterator

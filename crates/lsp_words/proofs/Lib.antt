@@ -1,0 +1,4 @@
+pub mod Finding
+pub mod Found
+pub mod Reading
+pub mod Standing

@@ -1,0 +1,39 @@
+-- The code of a message at a place of a comment.
+use Rattle.std.specs.Prelude.{ℕ, ◌+◌, ◌-◌, Bool, false, ◌&&◌, ◌==◌, if◌then◌else◌, [], ◌∷◌, drop, length, take, Option, Some, None}
+use Rattle.std.specs.Char.{is_ascii_alphanumeric, is_ascii_digit, is_ascii_uppercase}
+use Rattle.std.specs.List.{list_all, list_any, prefix_len, suffix_len}
+use Rattle.text_bytes.specs.Names.{hash}
+use Rattle.text_bytes.specs.Texts.{begins_with, unindented}
+use Rattle.text_bytes.specs.declared.source_file.FileKind.{FileKind}
+use Rattle.text_bytes.specs.declared.source_file.FileKind.TheVariants as file
+use Rattle.text_tables.specs.Texts.{Text}
+use Rattle.lsp_words.specs.declared.codes.CodeWord.{CodeWord}
+
+-- whether a text is digits, at least one
+abbrev pub are_digits : Text → Bool
+are_digits [] = false
+are_digits (digit ∷ more) = is_ascii_digit digit && list_all is_ascii_digit more
+
+-- whether a word is written like a code: a capital letter and a number
+abbrev pub is_code : Text → Bool
+is_code [] = false
+is_code (letter ∷ digits) = is_ascii_uppercase letter && are_digits digits
+
+-- whether the end of these bytes of a row is in a comment
+abbrev pub is_comment : FileKind → Text → Bool
+is_comment file.Rules before = begins_with hash (unindented before)
+is_comment file.Hwdb before = list_any (λ b. b == hash) before
+
+-- where the word of letters and digits is that ends a text and goes on in another
+abbrev pub word_between : Text → Text → CodeWord
+word_between before after =
+    record { start = length before - suffix_len is_ascii_alphanumeric before; end = length before + prefix_len is_ascii_alphanumeric after }
+
+-- the word at a place, if it is a code in a comment
+abbrev pub code_if : FileKind → Text → Text → CodeWord → Option CodeWord
+code_if f row before word =
+    if is_comment f before && is_code (take (word.end - word.start) (drop word.start row)) then Some word else None
+
+-- the code at a place of a row
+unfoldable pub code_at : FileKind → Text → ℕ → Option CodeWord
+code_at f row at = code_if f row (take at row) (word_between (take at row) (drop at row))

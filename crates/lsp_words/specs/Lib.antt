@@ -1,0 +1,16 @@
+pub mod Classes
+pub mod Codes
+pub mod Completions
+pub mod Contexts
+pub mod Entries
+pub mod Examples
+pub mod Laws
+pub mod Meanings
+pub mod Moves
+pub mod Offered
+pub mod Scans
+pub mod Shown
+pub mod Slots
+pub mod Tables
+pub mod Tokens
+pub mod Values
